@@ -1,0 +1,3 @@
+pub mod Sig
+pub mod SigBack
+pub mod Text

@@ -1,0 +1,17 @@
+//! Values of incremental computations: what nodes hold, their types, and the names of nodes and
+//! functions.
+#![tactic(auto)]
+
+mod function;
+mod node;
+mod outcome;
+mod text;
+mod ty;
+mod value;
+
+pub use function::{FnId, FnRef, Kind, Sig};
+pub use node::{NodeId, ObsId, Part, Point};
+pub use outcome::Outcome;
+pub use text::{Text, TextFault};
+pub use ty::{Base, Ty};
+pub use value::Value;

@@ -1,0 +1,27 @@
+//! Names of nodes, of their points and of observers.
+
+/// A node of a graph. `gen_` is how many ids the graph's arena had given before this one, so no two
+/// nodes of one arena ever share an id, and `slot` is where the node stands while it lives.
+#[derive(Clone, Copy, Debug, PartialEq, Eq)]
+pub struct NodeId {
+    pub slot: usize,
+    pub gen_: u64,
+}
+
+/// An observer: how many of the same graph were made before it.
+#[derive(Clone, Copy, Debug, PartialEq, Eq)]
+pub struct ObsId(pub u32);
+
+/// A bind, an if and a join are two points each, change and main; every other node is main alone.
+#[derive(Clone, Copy, Debug, PartialEq, Eq)]
+pub enum Part {
+    Change,
+    Main,
+}
+
+/// A point of a node: what is taken from the recompute heap at once.
+#[derive(Clone, Copy, Debug, PartialEq, Eq)]
+pub struct Point {
+    pub node: NodeId,
+    pub part: Part,
+}
