@@ -1,3 +1,5 @@
+pub mod Outcome
 pub mod Sig
 pub mod SigBack
 pub mod Text
+pub mod Value

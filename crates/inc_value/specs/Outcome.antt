@@ -1,0 +1,10 @@
+-- Outcomes, and how they are printed.
+use Rattle.std.specs.Prelude.{ℕ, List, codes}
+use Rattle.inc_value.specs.Value.{printed_value}
+use Rattle.inc_value.specs.declared.outcome.Outcome.{Outcome}
+use Rattle.inc_value.specs.declared.outcome.Outcome.TheVariants.{Val, Invalid}
+
+-- an outcome as it is printed, where a Node has the name
+abbrev pub printed_outcome : List ℕ → Outcome → List ℕ
+printed_outcome name (Val v) = printed_value name v
+printed_outcome name Invalid = codes "invalid"
