@@ -2,4 +2,5 @@ pub mod Outcome
 pub mod Sig
 pub mod SigBack
 pub mod Text
+pub mod Ty
 pub mod Value

@@ -1,7 +1,8 @@
 -- Signatures as lists of types.
 use Rattle.std.specs.Prelude.{◌-◌, ◌≤◌, ◌++◌, List, length, replicate, All}
+use Rattle.inc_value.specs.Ty.{IsBase}
 use Rattle.inc_value.specs.declared.ty.Ty.{Ty}
-use Rattle.inc_value.specs.declared.ty.Ty.TheVariants.{Int, Bool, Text, Node}
+use Rattle.inc_value.specs.declared.ty.Ty.TheVariants.{Int}
 
 -- the types that a function takes, and the one that it gives
 pub record Signature : Type 0 where
@@ -11,13 +12,6 @@ pub record Signature : Type 0 where
 -- filled up with Int to the length of a stored signature
 abbrev pub padded : List Ty → List Ty
 padded tys = tys ++ replicate (64 - length tys) Int
-
--- not a node reference
-abbrev pub IsBase : Ty → Type 0
-IsBase Int = Unit {0}
-IsBase Bool = Unit {0}
-IsBase Text = Unit {0}
-IsBase (Node base) = ⊥
 
 -- what a map may have: at most nine types taken, each of them and the given one a base type
 abbrev pub IsMapSig : Signature → Type 0

@@ -1,4 +1,6 @@
 //! Names of functions, with their types.
+ghost use Rattle.std.specs.Prelude.{◌≡◌, ◌≤◌, length};
+ghost use Rattle.inc_value.specs.Sig.{padded};
 
 use crate::Ty;
 use std::marker::Model;
@@ -43,10 +45,62 @@ impl Model for Sig {
     ghost inverse_ok = { λ a h. fields_back a h };
 }
 
+impl Sig {
+    ghost use Rattle.std.specs.Prelude.{◌≡◌, ◌≤◌, ◌↔◌, length, IsTrue};
+    ghost use Rattle.inc_value.specs.Sig.{IsMapSig};
+
+    /// The types of a function that takes 1 to 64 values.
+    pub fn new(takes: &[Ty], gives: Ty) -> Sig
+        requires some { 1 ≤ length takes.now }
+        requires few { length takes.now ≤ 64 }
+        ensures { result ≡ record { takes = takes.now; gives = gives } }
+    {
+        Sig {
+            takes: filled_up(takes),
+            count: takes.len(),
+            gives,
+        }
+    }
+
+    /// The types that the function takes.
+    pub fn takes(&self) -> &[Ty]
+        ensures { result.now ≡ self.now.takes }
+    {
+        &self.takes[..self.count]
+    }
+
+    /// The type that the function gives.
+    pub fn gives(&self) -> Ty
+        ensures { result ≡ self.now.gives }
+    {
+        self.gives
+    }
+
+    /// Whether a map may have these types: at most nine taken, and each of them, and the one given,
+    /// a base type.
+    pub fn is_map(&self) -> bool
+        ensures { IsTrue result ↔ IsMapSig self.now }
+    {
+        self.takes().len() <= 9
+            && self.takes().iter().all(|ty| ty.is_base())
+            && self.gives().is_base()
+    }
+}
+
 /// A function with its types. Of a right-hand-side function the first type taken is that of the
 /// bind's left value, and the rest are its captures'.
 #[derive(Clone, Copy, Debug, PartialEq, Eq)]
 pub struct FnRef {
     pub id: FnId,
     pub sig: Sig,
+}
+
+/// The types, filled up with `Int`.
+fn filled_up(takes: &[Ty]) -> [Ty; 64]
+    requires { length takes.now ≤ 64 }
+    ensures { result ≡ padded takes.now }
+{
+    let mut all = [Ty::Int; 64];
+    all[..takes.len()].copy_from_slice(takes);
+    all
 }

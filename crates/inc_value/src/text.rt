@@ -1,7 +1,13 @@
 //! Short texts of printable ASCII.
-ghost use Rattle.std.specs.Prelude.{◌≡◌};
+ghost use Rattle.std.specs.Prelude.{◌≡◌, ◌<◌, ◌≤◌, ◌↔◌, length, Any, IfOk, OnOk, IsErrOf, IsTrue};
+ghost use Rattle.inc_value.specs.Text.{IsPrintable, IsText};
 
+use std::alloc::{AllocError, Global};
 use std::marker::Model;
+use thiserror::Error;
+
+/// The most bytes that a text may have.
+const MAX_LEN: usize = 4_096;
 
 /// A text: at most 4,096 bytes, each from 0x20 to 0x7E.
 #[derive(Debug, Drop)]
@@ -22,18 +28,98 @@ impl Model for Text {
 }
 
 /// Why bytes are no text.
-#[derive(Clone, Copy, Debug, PartialEq, Eq)]
+#[derive(Clone, Copy, Debug, PartialEq, Eq, Error)]
 pub enum TextFault {
+    /// There are more than 4,096 bytes.
+    #[error("a text has at most 4,096 bytes")]
     TooLong,
+    /// Some byte is not from 0x20 to 0x7E.
+    #[error("a text is of printable ASCII")]
     NotPrintable,
+    /// There is no memory for a copy of the bytes.
+    #[error("out of memory")]
     Memory,
 }
 
 impl Text {
+    /// A text of the bytes. Bytes that are too long are reported as such, whatever they are.
+    pub fn new(alloc: Global, bytes: &[u8]) -> Result<Text, TextFault>
+        ensures ok { IfOk result (λ t. t ≡ bytes.now) }
+        ensures text { OnOk result (IsText bytes.now) }
+        ensures too_long { IsErrOf result TextFault.TooLong ↔ (4096 < length bytes.now) }
+        ensures not_printable { IsErrOf result TextFault.NotPrintable
+            ↔ ((length bytes.now ≤ 4096) × Any (λ b. ¬ IsPrintable b) bytes.now) }
+    {
+        if bytes.len() > MAX_LEN {
+            return Err(TextFault::TooLong);
+        }
+        if bytes.iter().any(|byte| !is_printable(*byte)) {
+            return Err(TextFault::NotPrintable);
+        }
+        let bytes = Vec::from_slice(alloc, bytes).map_err(|_| TextFault::Memory)?;
+        Ok(Text { bytes })
+    }
+
     /// The bytes of the text.
     pub fn bytes(&self) -> &[u8]
         ensures { result.now ≡ self.now }
     {
         &self.bytes
+    }
+
+    /// A text of the same bytes.
+    pub fn copy(&self, alloc: Global) -> Result<Text, AllocError>
+        ensures { IfOk result (λ t. t ≡ self.now) }
+    {
+        let bytes = Vec::from_slice(alloc, &self.bytes)?;
+        Ok(Text { bytes })
+    }
+
+    /// Whether both texts have the same bytes.
+    pub fn same(&self, other: &Text) -> bool
+        ensures { IsTrue result ↔ (self.now ≡ other.now) }
+    {
+        self.bytes() == other.bytes()
+    }
+}
+
+/// Whether a text may have the byte.
+fn is_printable(byte: u8) -> bool
+    ensures { IsTrue result ↔ IsPrintable byte }
+{
+    (b' '..=b'~').contains(&byte)
+}
+
+#[cfg(test)]
+mod tests {
+    use super::*;
+    use std::test::Fail;
+
+    #[test]
+    fn tells_texts(rt: HostRuntime) -> Result<(), Fail> {
+        let alloc = rt.alloc();
+        let table = [
+            (b'a', 4_096, None),
+            (b'a', 4_097, Some(TextFault::TooLong)),
+            (b' ', 1, None),
+            (b'~', 1, None),
+            (0x0A, 1, Some(TextFault::NotPrintable)),
+            (0x7F, 1, Some(TextFault::NotPrintable)),
+            (0x0A, 4_097, Some(TextFault::TooLong)),
+        ];
+        for (byte, count, want) in table {
+            let bytes = vec![in alloc; byte; count]?;
+            let fault = Text::new(alloc, &bytes).err();
+            assert_eq!(rt; fault, want, "{count} of {byte}");
+        }
+        Ok(())
+    }
+
+    #[test]
+    fn copies_a_text(rt: HostRuntime) -> Result<(), Fail> {
+        let text = Text::new(rt.alloc(), b"spring").map_err(|_| "no text")?;
+        let copy = text.copy(rt.alloc())?;
+        assert_eq!(rt; copy.bytes(), b"spring".as_slice());
+        Ok(())
     }
 }

@@ -16,3 +16,15 @@ pub enum Ty {
     Text,
     Node(Base),
 }
+
+impl Ty {
+    ghost use Rattle.std.specs.Prelude.{◌↔◌, IsTrue};
+    ghost use Rattle.inc_value.specs.Ty.{IsBase};
+
+    /// Whether values of the type are no node references.
+    pub fn is_base(self) -> bool
+        ensures { IsTrue result ↔ IsBase self }
+    {
+        !matches!(self, Ty::Node(_))
+    }
+}
