@@ -62,9 +62,11 @@ impl Sig {
         }
     }
 
-    /// The types that the function takes.
+    /// The types that the function takes, 1 to 64.
     pub fn takes(&self) -> &[Ty]
-        ensures { result.now ≡ self.now.takes }
+        ensures value { result.now ≡ self.now.takes }
+        ensures some { 1 ≤ length self.now.takes }
+        ensures few { length self.now.takes ≤ 64 }
     {
         &self.takes[..self.count]
     }

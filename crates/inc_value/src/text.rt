@@ -62,7 +62,8 @@ impl Text {
 
     /// The bytes of the text.
     pub fn bytes(&self) -> &[u8]
-        ensures { result.now ≡ self.now }
+        ensures value { result.now ≡ self.now }
+        ensures text { IsText self.now }
     {
         &self.bytes
     }

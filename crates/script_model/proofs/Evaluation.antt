@@ -1,5 +1,5 @@
 -- What evaluation gives stays the same at every greater depth and in every state that keeps the declarations.
-use Rattle.std.proofs.Common.{◌≡◌, ◌⊎◌, inl, inr, ℕ, zero, suc, ◌+◌, ◌<◌, ◌≤◌, List, [], ◌∷◌, Option, None, Some, refl, sym, ◌∙◌, ap, arith}
+use Rattle.std.proofs.Common.{◌≡◌, inl, inr, ℕ, zero, suc, ◌+◌, ◌≤◌, List, [], ◌∷◌, Option, None, Some, refl, ◌∙◌, ap, arith}
 use Rattle.std.proofs.lemmas.Bool.{cases_lt}
 use Rattle.inc_value.specs.declared.function.FnRef.{FnRef}
 use Rattle.inc_value.specs.declared.outcome.Outcome.{Outcome}
@@ -7,6 +7,7 @@ use Rattle.inc_value.specs.declared.outcome.Outcome.TheVariants.{Val, Invalid}
 use Rattle.inc_value.specs.declared.value.Value.{Value}
 use Rattle.script_model.specs.Formula.{Formula, Formulas, Body, Entry, State, Functions, entry_at, Literal, Name, Apply, End, More, Variable, Computed}
 use Rattle.script_model.specs.Evaluate.{Gathered, Unknown, SomeInvalid, Values, joined, gathered, applied, level, body_level, name_level, value_at, Gives}
+use Rattle.script_model.specs.Laws.{EveryDepthAgrees, OneOutcome}
 
 -- where there is an answer, it stays
 abbrev pub Under : {A : Type 0} → Option A → Option A → Type 0
@@ -27,7 +28,7 @@ under_trans None b c p q = tt
 under_trans (Some x) None c p q = absurd (cc)
 under_trans (Some x) (Some y) c p q = q ∙ p
 
-joined_under : (a b : Option Outcome) (g h : Gathered) → Under a b → GathersUnder g h → GathersUnder (joined a g) (joined b h)
+pub joined_under : (a b : Option Outcome) (g h : Gathered) → Under a b → GathersUnder g h → GathersUnder (joined a g) (joined b h)
 joined_under None b g h p q = tt
 joined_under (Some Invalid) b Unknown h p q = tt
 joined_under (Some Invalid) b SomeInvalid h p q = rw (p, q) refl
@@ -36,7 +37,7 @@ joined_under (Some (Val v)) b Unknown h p q = tt
 joined_under (Some (Val v)) b SomeInvalid h p q = rw (p, q) refl
 joined_under (Some (Val v)) b (Values vs) h p q = rw (p, q) refl
 
-applied_under : (F : Functions) (f : FnRef) (g h : Gathered) → GathersUnder g h → Under (applied F f g) (applied F f h)
+pub applied_under : (F : Functions) (f : FnRef) (g h : Gathered) → GathersUnder g h → Under (applied F f g) (applied F f h)
 applied_under F f Unknown h q = tt
 applied_under F f SomeInvalid h q = rw q refl
 applied_under F f (Values vs) h q = rw q refl
@@ -145,3 +146,9 @@ gives_variable F s n e v at is = (1, rw (at, is) refl)
 pub gives_computed : (F : Functions) (s : State) (n : ℕ) (e : Entry) (f : Formula) (o : Outcome) → entry_at s n ≡ Some e → e.body ≡ Computed f → Gives F s f o → Gives F s (Name n) o
 unfolding value_at
 gives_computed F s n e f o at is g = (suc g.0, rw (at, is) g.1)
+
+pub every_depth_agrees : EveryDepthAgrees
+every_depth_agrees F s d e f o le gives = at_depth F s d e f o le gives
+
+pub gives_one_outcome : OneOutcome
+gives_one_outcome F s f o p g h = one_outcome F s g.0 h.0 f o p g.1 h.1

@@ -6,3 +6,6 @@ pub mod Need
 pub mod Settle
 pub mod Step
 pub mod Run
+pub mod Valid
+pub mod Laws
+pub mod Row

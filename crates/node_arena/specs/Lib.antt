@@ -1,0 +1,3 @@
+pub mod Arithmetic
+pub mod ArithmeticLaws
+pub mod Counts

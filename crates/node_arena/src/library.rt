@@ -1,0 +1,66 @@
+//! Functions by name.
+
+use inc_value::{FnRef, Value};
+use std::alloc::{AllocError, Global};
+
+/// Functions by name, over values of base types. Each has a value for all values of the types that
+/// it takes, and the value is the same at each call.
+pub trait Library: Drop {
+    ghost use Rattle.std.specs.Prelude.{◌≡◌, ℕ, Bool, List, Option, All, IfOk, IsTrue, Some};
+    ghost use Rattle.inc_value.specs.Sig.{IsMapSig};
+    ghost use Rattle.inc_value.specs.Value.{type_of, HaveTypes, IsProper};
+    ghost use Rattle.inc_value.specs.declared.function.FnRef.{FnRef};
+    ghost use Rattle.inc_value.specs.declared.function.Kind.TheVariants.{Map};
+    ghost use Rattle.inc_value.specs.declared.value.Value.{Value};
+    ghost use Rattle.node_arena.specs.Counts.{raised, raised_on_err};
+
+    // the function that a name stands for
+    ghost named: { Self → List ℕ → Option FnRef };
+
+    // whether a function is one of the library
+    ghost known: { Self → FnRef → Bool };
+
+    // what a function gives for its arguments
+    ghost value: { Self → FnRef → List Value → Value };
+
+    // how often `apply` was called; stays at 2 ^ 64 - 1
+    ghost calls: { Self → ℕ };
+
+    // how many of those calls found no memory; stays at 2 ^ 64 - 1
+    ghost wants: { Self → ℕ };
+
+    /// The function that the name stands for.
+    fn find(&self, name: &[u8]) -> Option<FnRef>
+        ensures { result ≡ named self.now name.now };
+
+    /// Whether the function is one of the library.
+    fn knows(&self, f: FnRef) -> bool
+        ensures { result ≡ known self.now f };
+
+    /// What the function gives for the arguments. Each call is counted, also one that finds no
+    /// memory for the value; nothing else changes.
+    fn apply(&mut self, alloc: Global, f: FnRef, args: &[Value]) -> Result<Value, AllocError>
+        requires known { IsTrue (known self.old f) }
+        requires kind { f.id.kind ≡ Map }
+        requires fit { HaveTypes args.now f.sig.takes }
+        ensures value { IfOk result (λ v. v ≡ value self.old f args.now) }
+        ensures typed { IfOk result (λ v. type_of v ≡ f.sig.gives) }
+
+        ensures calls { calls self.new ≡ raised (calls self.old) }
+        ensures wants { wants self.new ≡ raised_on_err result (wants self.old) }
+
+        ensures same_names { (name : List ℕ) → named self.new name ≡ named self.old name }
+        ensures same_known { (g : FnRef) → known self.new g ≡ known self.old g }
+        ensures same_values { (g : FnRef) (xs : List Value) → value self.new g xs ≡ value self.old g xs };
+
+    // a name stands for a map of the library
+    ghost names_maps: { (l : Self) (name : List ℕ) (f : FnRef) → named l name ≡ Some f
+        → IsTrue (known l f) × (f.id.kind ≡ Map) × IsMapSig f.sig };
+
+    // a function gives a value of the type that it says
+    ghost typed: { (l : Self) (f : FnRef) (args : List Value) → IsTrue (known l f) → f.id.kind ≡ Map
+        → All IsProper args → HaveTypes args f.sig.takes → type_of (value l f args) ≡ f.sig.gives };
+}
+
+#[cfg(test)]
+mod tests;

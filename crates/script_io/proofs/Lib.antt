@@ -1,0 +1,3 @@
+pub mod Lines
+mod Taking
+mod Writing

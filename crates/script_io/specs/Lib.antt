@@ -1,0 +1,4 @@
+pub mod Causes
+pub mod Lines
+pub mod Memory
+pub mod Bytes

@@ -1,0 +1,113 @@
+-- Every script has a run, and prints one transcript.
+use Rattle.std.proofs.Common.{◌≡◌, ℕ, ◌+◌, List, [], ◌∷◌, Some, refl, sym, ◌∙◌, ap, arith}
+use Rattle.inc_value.specs.declared.outcome.Outcome.TheVariants.{Val}
+use Rattle.script_model.specs.Choice.{Every}
+use Rattle.script_model.specs.Formula.{Observer, State, Functions}
+use Rattle.script_model.specs.Language.{Request, request_of, Stabilize, TooLong, Blank, Malformed, Asks}
+use Rattle.script_model.specs.Laws.{ValidMoment, EveryLineIsAnswered, EveryScriptRuns, OneTranscript}
+use Rattle.script_model.specs.Run.{Turn, MayCall, IsTurn, Chain, bytes_of, lines_read, transcript, IsRun}
+use Rattle.script_model.specs.Settle.{ShowAll, Settles}
+use Rattle.script_model.specs.Step.{Action, Declares, Observes, Stabilizes, Tells, Verdict, Refuse, Allow, checked, Reply, Refused, number_of, LineTooLong, NoCommand, Moment, Accepts, Follows, Answers, reply_to, Step, first_moment}
+use Rattle.script_model.specs.Valid.{ValidObserver, Valid}
+use Rattle.script_model.proofs.Needs.{declared_gives}
+use Rattle.script_model.proofs.Steps.{any_effect}
+use Rattle.script_model.proofs.Validity.{start_is_valid, steps_keep_validity}
+
+-- ---- every line has an answer
+
+all_show : (F : Functions) (s : State) → Valid s → (xs : List Observer) → Every (ValidObserver s) xs → (ys : List Observer) × ShowAll F s xs ys
+all_show F s valid [] each = ([], tt)
+all_show F s valid (x ∷ xs) each =
+    let g = declared_gives F s valid x.target each.0 in
+    let rest = all_show F s valid xs each.1 in
+    (record x { shown = Some (Val g.0) } ∷ rest.0, ((Val g.0, g.1, refl), rest.1))
+
+settles_somehow : (F : Functions) (s : State) → Valid s → (after : State) × Settles F s after
+settles_somehow F s valid =
+    let all = all_show F s valid s.observers valid.observers in
+    (record s { observers = all.0; accepted = s.accepted + 1 }, record { shown = all.1; entries = refl; accepted = refl })
+
+accepts_somehow : (F : Functions) (m : Moment) (a : Action) → Valid m.present → (after : Moment) × (replies : List Reply) × Accepts F m a after replies
+accepts_somehow F m Stabilizes valid =
+    let done = settles_somehow F m.present valid in
+    (record { settled = done.0; present = done.0 }, reply_to m.present Stabilizes ∷ [], (record { settles = done.1; settled = refl }, refl))
+accepts_somehow F m (Declares e) valid = (_, _, (refl, refl))
+accepts_somehow F m (Observes o) valid = (_, _, (refl, refl))
+accepts_somehow F m (Tells name o) valid = (_, _, (refl, refl))
+
+follows_somehow : (F : Functions) (m : Moment) (v : Verdict) → Valid m.present → (after : Moment) × (replies : List Reply) × Follows F m v after replies
+follows_somehow F m (Refuse why) valid = (m, Refused (number_of why) ∷ [], (refl, refl))
+follows_somehow F m (Allow a) valid = accepts_somehow F m a valid
+
+answers_somehow : (F : Functions) (m : Moment) (r : Request) → Valid m.present → (after : Moment) × (replies : List Reply) × Answers F m r after replies
+answers_somehow F m TooLong valid = (m, Refused (number_of LineTooLong) ∷ [], (refl, refl))
+answers_somehow F m Blank valid = (m, [], (refl, refl))
+answers_somehow F m Malformed valid = (m, Refused (number_of NoCommand) ∷ [], (refl, refl))
+answers_somehow F m (Asks c) valid = follows_somehow F m (checked F m.present c) valid
+
+pub every_line_is_answered : EveryLineIsAnswered
+every_line_is_answered F m line valid = answers_somehow F m (request_of line) valid.1
+
+-- ---- every script has a run
+
+-- no call is always allowed
+no_call : (F : Functions) (m : Moment) (r : Request) → MayCall F m r 0
+no_call F m (Asks Stabilize) = record { visits = []; distinct = tt; due = tt; enough = omega arith }
+no_call F m r = refl
+
+runs_from : (F : Functions) (lines : List (List ℕ)) (m : Moment) → ValidMoment m → (turns : List Turn) × (end : Moment) × Chain F m turns end × (lines_read turns ≡ lines)
+runs_from F [] m valid = ([], m, refl, refl)
+runs_from F (line ∷ lines) m valid =
+    let first = every_line_is_answered F m line valid in
+    let t : Turn = record { before = m; line = line; after = first.0; replies = first.1; work = 0 } in
+    let is_turn : IsTurn F t = record { leads = first.2; due = no_call F m (request_of line) } in
+    let rest = runs_from F lines first.0 (steps_keep_validity F m first.0 line first.1 valid first.2) in
+    (t ∷ rest.0, rest.1, (refl, is_turn, rest.2), ap (λ (ls : List (List ℕ)). line ∷ ls) rest.3)
+
+pub every_script_runs : EveryScriptRuns
+every_script_runs F lines = let run = runs_from F lines first_moment start_is_valid in (run.0, record { end = run.1; chain = run.2; reads = run.3 })
+
+-- ---- one transcript
+
+-- the turns begin alike, end alike and answer alike
+pub record Alike (t u : Turn) : Type 0 where
+  pub before : t.before ≡ u.before
+  pub line : t.line ≡ u.line
+  pub after : t.after ≡ u.after
+  pub replies : t.replies ≡ u.replies
+
+abbrev pub AllAlike : List Turn → List Turn → Type 0
+AllAlike [] [] = Unit {0}
+AllAlike [] (u ∷ us) = ⊥
+AllAlike (t ∷ ts) [] = ⊥
+AllAlike (t ∷ ts) (u ∷ us) = Alike t u × AllAlike ts us
+
+turns_alike : (F : Functions) (m : Moment) (t u : Turn) → t.before ≡ m → u.before ≡ m → t.line ≡ u.line → IsTurn F t → IsTurn F u → Alike t u
+turns_alike F m t u begins begins' line h k =
+    let before = begins ∙ sym begins' in
+    let leads : Step F u.before u.line t.after t.replies = rw (before, line) at h.leads in
+    let same = any_effect F u.before t.after u.after u.line t.replies u.replies leads k.leads in
+    record { before = before; line = line; after = same.0; replies = same.1 }
+
+chains_alike : (F : Functions) (m : Moment) (ts us : List Turn) (end end' : Moment) → Chain F m ts end → Chain F m us end' → lines_read ts ≡ lines_read us → AllAlike ts us
+chains_alike F m [] [] end end' h k lines = tt
+chains_alike F m [] (u ∷ us) end end' h k lines = absurd (cc)
+chains_alike F m (t ∷ ts) [] end end' h k lines = absurd (cc)
+chains_alike F m (t ∷ ts) (u ∷ us) end end' h k lines =
+    let line : t.line ≡ u.line = cc in
+    let later : lines_read ts ≡ lines_read us = cc in
+    let alike = turns_alike F m t u h.0 k.0 line h.1 k.1 in
+    let onward : Chain F u.after ts end = rw alike.after at h.2 in
+    (alike, chains_alike F u.after ts us end end' onward k.2 later)
+
+alike_print : (ts us : List Turn) → AllAlike ts us → transcript ts ≡ transcript us
+alike_print [] [] h = refl
+alike_print [] (u ∷ us) h = absurd h
+alike_print (t ∷ ts) [] h = absurd h
+alike_print (t ∷ ts) (u ∷ us) h = let first : bytes_of t ≡ bytes_of u = rw h.0.replies refl in rw (first, alike_print ts us h.1) refl
+
+pub runs_alike : (F : Functions) (lines : List (List ℕ)) (ts us : List Turn) → IsRun F lines ts → IsRun F lines us → AllAlike ts us
+runs_alike F lines ts us h k = chains_alike F first_moment ts us h.end k.end h.chain k.chain (h.reads ∙ sym k.reads)
+
+pub one_transcript : OneTranscript
+one_transcript F lines ts us h k = alike_print ts us (runs_alike F lines ts us h k)

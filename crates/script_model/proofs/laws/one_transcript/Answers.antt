@@ -1,0 +1,5 @@
+use Rattle.script_model.proofs.Runs.{one_transcript}
+use Rattle.script_model.proofs.laws.one_transcript.Goals as goal
+
+pub returns : goal.returns
+returns c = one_transcript

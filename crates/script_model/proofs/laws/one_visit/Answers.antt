@@ -1,0 +1,5 @@
+use Rattle.script_model.proofs.Types.{one_visit}
+use Rattle.script_model.proofs.laws.one_visit.Goals as goal
+
+pub returns : goal.returns
+returns c = one_visit

@@ -1,0 +1,5 @@
+use Rattle.script_model.proofs.Bound.{sum_is_one_call}
+use Rattle.script_model.proofs.laws.sum_is_one_call.Goals as goal
+
+pub returns : goal.returns
+returns c = sum_is_one_call

@@ -1,0 +1,5 @@
+use Rattle.script_model.proofs.Types.{values_have_types}
+use Rattle.script_model.proofs.laws.values_have_types.Goals as goal
+
+pub returns : goal.returns
+returns c = values_have_types
