@@ -1,0 +1,7 @@
+pub mod Library
+pub mod LibraryLaws
+pub mod Progress
+pub mod Reading
+pub mod Running
+pub mod Saying
+pub mod Usage

@@ -1,0 +1,9 @@
+-- Whether a line was refused.
+use Rattle.std.specs.Prelude.{Bool, true, false}
+use Rattle.session.specs.declared.session.Did.{Did}
+use Rattle.session.specs.declared.session.Did.TheVariants.{Blank, Accepted, Refused}
+
+abbrev pub is_refusal_said : Did → Bool
+is_refusal_said Blank = false
+is_refusal_said Accepted = false
+is_refusal_said (Refused n) = true

@@ -1,0 +1,17 @@
+mod Answering
+mod Calling
+mod Declaring
+mod Entries
+mod Filling
+mod Finding
+mod Following
+mod LanguageLaws
+mod Lists
+mod Marks
+mod Meaning
+mod Progress
+mod SameTypes
+mod Settled
+mod Showing
+mod Updating
+mod Work

@@ -1,0 +1,22 @@
+use Rattle.std.proofs.Common.{◌++◌, ◌∙◌, ◌<◌, List, ℕ, length, ap, subst}
+use Rattle.script_model.specs.Language.{TooLong}
+use Rattle.script_model.specs.Step.{Moment, Refused, printed}
+use Rattle.session.specs.declared.session.Did.TheVariants as did
+use Rattle.session.specs.Standing.{Standing}
+use Rattle.session.specs.State.{Stands}
+use Rattle.session.specs.Taken.{functions_of, Takes}
+use Rattle.session.proofs.Following.{on_ok_from, answered_too_long, taken_of, too_long_is}
+use Rattle.session.proofs.session.Session.too_long.Goals as goal
+
+pub returns-clause-taken : goal.returns-clause-taken
+returns-clause-taken g c =
+    let l = c.self.inside.library in
+    let F = functions_of (g.L.Library.named l) (g.L.Library.value l) in
+    let out = c.args.out.now.items in
+    on_ok_from c.write_refused.result c.write_refused.ensures.ok
+    (λ written. subst (λ (s : Standing g.row.L.Denot). (m : Moment) (line : List ℕ) → 4096 < length line → Stands (functions_of (g.L.Library.named s.library) (g.L.Library.value s.library)) s.kept m
+    → Takes (functions_of (g.L.Library.named s.library) (g.L.Library.value s.library)) m line c.self.inside.nodes out c.write_refused.new.out.items
+    (g.L.Library.calls s.library) (g.L.Library.calls l) (did.Refused 2))
+    c.self.view_is
+    (λ m line lt st. taken_of F m line TooLong c.self.inside.nodes out c.write_refused.new.out.items (g.L.Library.calls l) (g.L.Library.calls l) (did.Refused 2) (too_long_is line lt)
+    (answered_too_long F c.self.inside.nodes m st out c.write_refused.new.out.items (g.L.Library.calls l) (written ∙ ap (λ n. out ++ printed (Refused n)) c.number.ensures))))

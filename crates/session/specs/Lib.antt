@@ -1,0 +1,9 @@
+pub mod Answered
+pub mod Found
+pub mod Kept
+pub mod Language
+pub mod Settling
+pub mod Standing
+pub mod State
+pub mod Taken
+pub mod Verdict

@@ -1,0 +1,50 @@
+//! The lines that a session writes.
+ghost use Rattle.std.specs.Prelude.{◌≡◌, ◌++◌, OnOk, OnErr};
+ghost use Rattle.script_model.specs.Step.{Done, Refused, Shown, Stable, printed};
+
+use inc_value::Outcome;
+use std::alloc::{AllocError, Global};
+
+/// Appends the reply to an accepted command.
+pub(crate) fn write_done(out: &mut Vec<u8>) -> Result<(), AllocError>
+    ensures ok { OnOk result (out.new.items ≡ out.old.items ++ printed Done) }
+    ensures err { OnErr result (out.new.items ≡ out.old.items) }
+{
+    out.extend_from_slice(b"ok\n")
+}
+
+/// Appends the reply to a refused line.
+pub(crate) fn write_refused(alloc: Global, number: u8, out: &mut Vec<u8>) -> Result<(), AllocError>
+    ensures ok { OnOk result (out.new.items ≡ out.old.items ++ printed (Refused number)) }
+    ensures err { OnErr result (out.new.items ≡ out.old.items) }
+{
+    let line = format!(in alloc; "refused {number}\n")?;
+    out.extend_from_slice(line.as_bytes())
+}
+
+/// Appends the reply to an accepted stabilize, the `round`-th of them.
+pub(crate) fn write_stable(alloc: Global, round: u64, out: &mut Vec<u8>) -> Result<(), AllocError>
+    ensures ok { OnOk result (out.new.items ≡ out.old.items ++ printed (Stable round)) }
+    ensures err { OnErr result (out.new.items ≡ out.old.items) }
+{
+    let line = format!(in alloc; "stable {round}\n")?;
+    out.extend_from_slice(line.as_bytes())
+}
+
+/// Appends what an observer shows.
+pub(crate) fn write_shown(
+    alloc: Global,
+    observer: &[u8],
+    outcome: &Outcome,
+    out: &mut Vec<u8>,
+) -> Result<(), AllocError>
+    ensures ok { OnOk result (out.new.items ≡ out.old.items ++ printed (Shown observer.now outcome.now)) }
+    ensures err { OnErr result (out.new.items ≡ out.old.items) }
+{
+    let mut line = Vec::new(alloc);
+    line.extend_from_slice(observer)?;
+    line.extend_from_slice(b" = ")?;
+    outcome.print_into(alloc, b"", &mut line)?;
+    line.push(b'\n')?;
+    out.extend_from_slice(&line)
+}
