@@ -6,7 +6,7 @@ use Rattle.std.proofs.lemmas.Grind.{flat_map-append}
 use Rattle.script_io.specs.Lines.{HasNoNewline, EndsLine, lines_of}
 use Rattle.script_io.proofs.Lines.{lines_of-newline, lines_of-last}
 use Rattle.incr.specs.Progress.{ReadSoFar}
-use Rattle.incr.specs.Reading.{with_newline, TakeFront, AreFirst, Break, BreakAt}
+use Rattle.incr.specs.Reading.{with_newline, TakeFront, AreFirst, Break, BreakAtFault, BreakAt}
 
 -- the line that ends the part is the first one of what follows
 first_line : (line part rest after : List ℕ) → rest ≡ part ++ after → HasNoNewline line → EndsLine line part (Some after) → lines_of rest ≡ line ∷ lines_of after
@@ -73,13 +73,16 @@ broken bytes old after taken held part lines r c clear = record {
   is_left = refl;
 }
 
--- a part of a line was taken
-pub Break-so_far : (left old new : Option (List ℕ)) (taken : ℕ) (held part : List ℕ) (lines : List (List ℕ))
-    → IfSome left (λ bytes. ReadSoFar bytes old taken lines) → Consumes old (prepend_known held new) part → HasNoNewline part
-    → IfSome left (λ bytes. Break bytes new lines)
-Break-so_far None old new taken held part lines r c clear = tt
-Break-so_far (Some bytes) old None taken held part lines r c clear = absurd (stays_known old r.rest part r.is_ahead c)
-Break-so_far (Some bytes) old (Some after) taken held part lines r c clear = broken bytes old after taken held part lines r c clear
+-- a part of a line was taken, and no byte was held
+pub BreakAtFault-so_far : (left old new : Option (List ℕ)) (taken : ℕ) (held part : List ℕ) (lines : List (List ℕ))
+    → IfSome left (λ bytes. ReadSoFar bytes old taken lines) → Consumes old (prepend_known held new) part → HasNoNewline part → held ≡ []
+    → IfSome left (λ bytes. BreakAtFault bytes new lines)
+BreakAtFault-so_far None old new taken held part lines r c clear none = tt
+BreakAtFault-so_far (Some bytes) old None taken held part lines r c clear none = absurd (stays_known old r.rest part r.is_ahead c)
+BreakAtFault-so_far (Some bytes) old (Some after) taken held part lines r c clear none = record {
+  break = broken bytes old after taken held part lines r c clear;
+  none_held = none;
+}
 
 -- a part of a line was taken up to the limit, and another byte came
 pub BreakAt-so_far : (left old new : Option (List ℕ)) (taken now limit : ℕ) (held part : List ℕ) (lines : List (List ℕ))

@@ -22,7 +22,7 @@ use Rattle.incr.specs.declared.ending.Ending.TheVariants as ending
 use Rattle.incr.specs.Progress.{Place, ReadSoFar, Course, Progress}
 use Rattle.incr.specs.Running.{Outside, Ran}
 use Rattle.incr.specs.Saying.{is_refusal_said}
-use Rattle.incr.proofs.Reading.{ReadSoFar-more, AreFirst-so_far, Break-so_far, BreakAt-so_far, nothing_read}
+use Rattle.incr.proofs.Reading.{ReadSoFar-more, AreFirst-so_far, BreakAtFault-so_far, BreakAt-so_far, nothing_read}
 
 or_false : (b : Bool) → (b || false) ≡ b
 or_false true = refl
@@ -122,14 +122,14 @@ Ran-memory F limit before place left new calls p stops =
 
 -- the source failed
 pub Ran-read_fault : (F : Functions) (limit : ℕ) (before : Outside) (place : Place) (left : Option (List ℕ)) (held part : List ℕ)
-    → Progress F before place → Consumes place.ahead (prepend_known held left) part → HasNoNewline part
+    → Progress F before place → Consumes place.ahead (prepend_known held left) part → HasNoNewline part → held ≡ []
     → Ran F ending.ReadFault limit before (record { left = left; written = place.written; calls = place.calls })
-Ran-read_fault F limit before place left held part p bytes clear = record {
+Ran-read_fault F limit before place left held part p bytes clear none = record {
   turns = p.turns;
   end = p.end;
   chain = p.course.chain;
   calls = p.course.calls;
-  read = Break-so_far before.left place.ahead left place.taken held part (lines_read p.turns) p.course.read bytes clear;
+  read = BreakAtFault-so_far before.left place.ahead left place.taken held part (lines_read p.turns) p.course.read bytes clear none;
   written = p.written;
 }
 

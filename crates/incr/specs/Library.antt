@@ -18,14 +18,17 @@ add_function = record { id = record { kind = Map; number = 1 }; sig = record { t
 abbrev pub function_named : List ℕ → Option FnRef
 function_named name = if bytes_eq name (codes "add") then Some add_function else None
 
+-- a function that is a map
 abbrev pub is_map : Kind → Bool
 is_map Map = true
 is_map Rhs = false
 
+-- the type int
 abbrev pub is_int : Ty → Bool
 is_int ty.Int = true
 is_int other = false
 
+-- two integers
 abbrev pub are_two_ints : List Ty → Bool
 are_two_ints (a ∷ b ∷ []) = is_int a && is_int b
 are_two_ints other = false

@@ -32,6 +32,11 @@ pub record Break (bytes : List ℕ) (left : Option (List ℕ)) (lines : List (Li
   pub clear : HasNoNewline part
   pub is_left : prepend_known held left ≡ Some rest
 
+-- every byte that the source gave was taken, and the source has left the rest
+pub record BreakAtFault (bytes : List ℕ) (left : Option (List ℕ)) (lines : List (List ℕ)) : Type 0 where
+  pub break : Break bytes left lines
+  pub none_held : break.held ≡ []
+
 -- so many bytes were taken, and there is another one
 pub record BreakAt (limit : ℕ) (bytes : List ℕ) (left : Option (List ℕ)) (lines : List (List ℕ)) : Type 0 where
   pub break : Break bytes left lines
@@ -48,7 +53,7 @@ pub record AreAll (limit : ℕ) (bytes : List ℕ) (left : Option (List ℕ)) (l
 abbrev pub Reads : Ending → ℕ → List ℕ → Option (List ℕ) → List (List ℕ) → Type 0
 Reads Accepted limit bytes left lines = AreAll limit bytes left lines
 Reads Refused limit bytes left lines = AreAll limit bytes left lines
-Reads ReadFault limit bytes left lines = Break bytes left lines
+Reads ReadFault limit bytes left lines = BreakAtFault bytes left lines
 Reads WriteFault limit bytes left lines = AreFirst bytes lines
 Reads Memory limit bytes left lines = AreFirst bytes lines
 Reads Limit limit bytes left lines = BreakAt limit bytes left lines

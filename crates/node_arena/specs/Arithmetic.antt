@@ -29,14 +29,17 @@ abbrev pub is_map_kind : Kind → Bool
 is_map_kind Map = true
 is_map_kind Rhs = false
 
+-- the type int
 abbrev pub is_int : Ty → Bool
 is_int ty.Int = true
 is_int _ = false
 
+-- one integer
 abbrev pub is_one_int : List Ty → Bool
 is_one_int (ty.Int ∷ []) = true
 is_one_int _ = false
 
+-- two integers
 abbrev pub is_two_ints : List Ty → Bool
 is_two_ints (ty.Int ∷ ty.Int ∷ []) = true
 is_two_ints _ = false
@@ -47,10 +50,12 @@ is_function f =
     is_map_kind f.id.kind && is_int f.sig.gives
     && ((f.id.number == 1 && is_two_ints f.sig.takes) || (f.id.number == 6 && is_one_int f.sig.takes))
 
+-- the sum of two integers, and 0 of anything else
 abbrev pub sum_of : List Value → Value
 sum_of (Int a ∷ Int b ∷ []) = Int (int_wrapping_add w64 a b)
 sum_of _ = Int (pos 0)
 
+-- the negation of one integer, and 0 of anything else
 abbrev pub negation_of : List Value → Value
 negation_of (Int a ∷ []) = Int (int_wrapping_neg w64 a)
 negation_of _ = Int (pos 0)

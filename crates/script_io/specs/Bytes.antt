@@ -9,11 +9,11 @@ use Rattle.script_io.specs.declared.byte_reader.Stop.TheVariants.{End, Limit, Re
 abbrev pub stream_ahead : Stream → Option (List ℕ) → Option (List ℕ)
 stream_ahead s left = prepend_known s.held left
 
--- why there is no next byte: nothing is left, or the limit is reached and another byte came
+-- why there is no next byte: nothing is left, or the limit is reached and another byte came, or a read failed where no byte was held
 abbrev pub Stops : Stream → Option (List ℕ) → ℕ → Stop → Type 0
 Stops new after limit End = (new.held ≡ []) × IsAtEnd (stream_ahead new after)
 Stops new after limit Limit = (new.taken ≡ limit) × (0 < length new.held)
-Stops new after limit ReadFault = Unit {0}
+Stops new after limit ReadFault = new.held ≡ []
 
 -- the next byte was taken, or none was
 abbrev pub Gives : Stream → Stream → Option (List ℕ) → Option (List ℕ) → ℕ → Result ℕ Stop → Type 0

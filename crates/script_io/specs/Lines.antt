@@ -77,13 +77,18 @@ pub record IsLimit (new : Reader) (limit : ℕ) (part : List ℕ) : Type 0 where
   pub reached : new.taken ≡ limit
   pub more : 0 < length new.held
 
+-- the part taken is a piece of a line, and a read failed where no byte was held
+pub record IsFault (new : Reader) (part : List ℕ) : Type 0 where
+  pub clear : HasNoNewline part
+  pub held : new.held ≡ []
+
 -- what an answer says of the part that was taken, and of the rest
 abbrev pub Means : Reader → Option (List ℕ) → ℕ → List ℕ → Got → Type 0
 Means new rest limit part Line = IsLine new rest part
 Means new rest limit part TooLong = IsLongLine rest part
 Means new rest limit part End = IsEnd new rest part
 Means new rest limit part Limit = IsLimit new limit part
-Means new rest limit part ReadFault = HasNoNewline part
+Means new rest limit part ReadFault = IsFault new part
 
 -- a call took this part of the bytes ahead, and its answer means what it says
 pub record Takes (old new : Reader) (before after : Option (List ℕ)) (limit : ℕ) (got : Got) (part : List ℕ) : Type 0 where

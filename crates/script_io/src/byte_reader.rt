@@ -1,5 +1,5 @@
 //! The bytes of a source one after another, up to a limit.
-ghost use Rattle.std.specs.Prelude.{◌≡◌, ◌<◌, ◌≤◌, ◌+◌, [], ◌∷◌, IsTrue, length, IfOk, Ok, Err, false};
+ghost use Rattle.std.specs.Prelude.{◌≡◌, ◌<◌, ◌≤◌, ◌+◌, [], ◌∷◌, IsTrue, length, IfOk, IsErr, Ok, Err, false};
 ghost use Rattle.std.specs.Io.KnownBytes.{Keeps, IsAtEnd, prepend_known};
 ghost use Rattle.script_io.specs.Causes.{HasCause, Rose};
 ghost use Rattle.script_io.specs.Bytes.{Gives};
@@ -64,6 +64,7 @@ impl ByteReader {
         ensures ahead { Keeps (prepend_known self.old.held (S.left source.old)) (prepend_known self.new.held (S.left source.new)) }
         ensures ready { IfOk result (λ ready. IsTrue ready → 0 < length self.new.held) }
         ensures at_end { result ≡ Ok false → (self.new.held ≡ []) × IsAtEnd (S.left source.new) }
+        ensures failed { IsErr result → self.new.held ≡ [] }
         ensures taken { self.new.taken ≡ self.old.taken }
         ensures cause { HasCause (S.faults source.old) (S.faults source.new) result }
     {

@@ -21,6 +21,7 @@ joined (Some Invalid) rest = SomeInvalid
 joined (Some (Val v)) (Values values) = Values (v ∷ values)
 joined (Some (Val v)) rest = rest
 
+-- what arguments give, put together
 abbrev pub gathered : (Formula → Option Outcome) → Formulas → Gathered
 gathered part End = Values []
 gathered part (More f rest) = joined (part f) (gathered part rest)
@@ -42,6 +43,7 @@ abbrev pub body_level : (Formula → Option Outcome) → Body → Option Outcome
 body_level part (Variable v) = Some (Val v)
 body_level part (Computed f) = part f
 
+-- what a name gives, over what formulas give; none where nothing is declared there
 abbrev pub name_level : (Formula → Option Outcome) → Option Entry → Option Outcome
 name_level part None = None
 name_level part (Some e) = body_level part e.body

@@ -51,6 +51,7 @@ pub record Functions : Type 0 where
   pub named : List ℕ → Option FnRef
   pub value : FnRef → List Value → Value
 
+-- the declaration at a position
 abbrev pub entry_at : State → ℕ → Option Entry
 entry_at s n = slice_get s.entries n
 
@@ -65,6 +66,7 @@ abbrev mutual
   places_in_all End = 0
   places_in_all (More f rest) = places_in f + places_in_all rest
 
+-- a variable counts one place, a computed name those of its formula
 abbrev pub places_of_body : Body → ℕ
 places_of_body (Variable v) = 1
 places_of_body (Computed f) = places_in f

@@ -6,9 +6,11 @@ use Rattle.script_model.specs.Choice.{and_then}
 
 -- ---- bytes
 
+-- a letter of ASCII
 abbrev pub is_letter : ℕ → Bool
 is_letter b = (nat_le 65 b && nat_le b 90) || (nat_le 97 b && nat_le b 122)
 
+-- a digit of ASCII
 abbrev pub is_digit : ℕ → Bool
 is_digit b = nat_le 48 b && nat_le b 57
 
@@ -31,6 +33,7 @@ is_blank (b ∷ bytes) = if b == 32 then is_blank bytes else b == 35
 
 -- ---- pieces: the longest runs of word bytes, a run directly behind a `-`, and each other byte by itself
 
+-- a run of word bytes, such a run behind a `-`, or one other byte
 pub data Piece : Type 0 where
   Run : (word : List ℕ) → Piece
   Negative : (word : List ℕ) → Piece
@@ -50,12 +53,14 @@ onto_minus pieces = Mark 45 ∷ pieces
 abbrev pub byte_before : ℕ → List Piece → List Piece
 byte_before b pieces = if is_word_byte b then onto_run b pieces else (if b == 45 then onto_minus pieces else Mark b ∷ pieces)
 
+-- the pieces of a line
 abbrev pub pieces_of : List ℕ → List Piece
 pieces_of [] = []
 pieces_of (b ∷ bytes) = byte_before b (pieces_of bytes)
 
 -- ---- tokens
 
+-- a word, a number with or without a `-`, or a sign
 pub data Token : Type 0 where
   Word : (word : List ℕ) → Token
   Number : (negative : Bool) (digits : List ℕ) → Token
@@ -73,6 +78,7 @@ run_token (b ∷ word) =
 abbrev pub negative_token : List ℕ → Option Token
 negative_token word = if list_all is_digit word then Some (Number true word) else None
 
+-- a byte that is a sign
 abbrev pub sign_token : ℕ → Option Token
 sign_token b = if b == 40 then Some Open else (if b == 41 then Some Close else (if b == 44 then Some Comma else None))
 
@@ -87,6 +93,7 @@ piece_before (Run word) ts = token_before (run_token word) ts
 piece_before (Negative word) ts = token_before (negative_token word) ts
 piece_before (Mark b) ts = if b == 32 then ts else token_before (sign_token b) ts
 
+-- the tokens of pieces, where all can be read
 abbrev pub tokens_of_pieces : List Piece → Option (List Token)
 tokens_of_pieces [] = Some []
 tokens_of_pieces (p ∷ pieces) = piece_before p (tokens_of_pieces pieces)
@@ -123,6 +130,7 @@ pub data Argument : Type 0 where
   Constant : (value : ℤ) → Argument
   Mention : (name : List ℕ) → Argument
 
+-- a command as it is written
 pub data Command : Type 0 where
   Var : (name : List ℕ) (first : ℤ) → Command
   Let : (name function : List ℕ) (left right : Argument) → Command
@@ -130,6 +138,7 @@ pub data Command : Type 0 where
   Stabilize : Command
   Show : (observer : List ℕ) → Command
 
+-- an integer or a name
 abbrev pub argument_of : Token → Option Argument
 argument_of (Word word) = if is_name word then Some (Mention word) else None
 argument_of (Number negative digits) = and_then (integer_of negative digits) (λ z. Some (Constant z))
@@ -171,18 +180,21 @@ command_with word tokens =
     else (if bytes_eq word (codes "stabilize") then stabilize_of tokens
     else (if bytes_eq word (codes "show") then show_of tokens else None))))
 
+-- the command that tokens write; none where they write none
 abbrev pub command_of : List Token → Option Command
 command_of (Word word ∷ tokens) = command_with word tokens
 command_of tokens = None
 
 -- ---- what a line asks for
 
+-- what a line asks for: too long or malformed lines ask for nothing, blank ones for no answer
 pub data Request : Type 0 where
   TooLong : Request
   Blank : Request
   Malformed : Request
   Asks : (command : Command) → Request
 
+-- a line with a command, or without one
 abbrev pub asked : Option Command → Request
 asked None = Malformed
 asked (Some command) = Asks command
@@ -191,5 +203,6 @@ asked (Some command) = Asks command
 abbrev pub content_request : List ℕ → Request
 content_request content = if is_blank content then Blank else asked (and_then (tokens_of content) command_of)
 
+-- what a line asks for; a line has at most 4,096 bytes
 abbrev pub request_of : List ℕ → Request
 request_of line = if nat_lt 4096 (length line) then TooLong else content_request (without_return line)

@@ -12,11 +12,13 @@ pub data Item : Type 0 where
   Named : (position : ℕ) → Item
   Place : (owner : ℕ) (path : List ℕ) → Item
 
+-- the k-th argument
 abbrev pub argument_at : Formulas → ℕ → Option Formula
 argument_at End k = None
 argument_at (More f rest) zero = Some f
 argument_at (More f rest) (suc k) = argument_at rest k
 
+-- the k-th argument of an application
 abbrev pub child_at : Formula → ℕ → Option Formula
 child_at (Apply f arguments) k = argument_at arguments k
 child_at f k = None
@@ -26,6 +28,7 @@ abbrev pub part_of : Formula → List ℕ → Option Formula
 part_of f [] = Some f
 part_of f (k ∷ path) = and_then (part_of f path) (λ g. child_at g k)
 
+-- the formula of a computed name
 abbrev pub formula_of_body : Body → Option Formula
 formula_of_body (Variable v) = None
 formula_of_body (Computed f) = Some f
@@ -41,12 +44,14 @@ abbrev pub argument_places : ℕ → List ℕ → ℕ → Formulas → List Item
 argument_places owner path k End = []
 argument_places owner path k (More f rest) = Place owner (k ∷ path) ∷ argument_places owner path (suc k) rest
 
+-- a name reads its declaration, an application its arguments
 abbrev pub place_reads : ℕ → List ℕ → Option Formula → List Item
 place_reads owner path None = []
 place_reads owner path (Some (Literal v)) = []
 place_reads owner path (Some (Name n)) = Named n ∷ []
 place_reads owner path (Some (Apply f arguments)) = argument_places owner path 0 arguments
 
+-- a computed name reads the place of its whole formula
 abbrev pub name_reads : ℕ → Option Formula → List Item
 name_reads n None = []
 name_reads n (Some f) = Place n [] ∷ []
@@ -56,6 +61,7 @@ abbrev pub reads_of : State → Item → List Item
 reads_of s (Named n) = name_reads n (formula_at s n [])
 reads_of s (Place owner path) = place_reads owner path (formula_at s owner path)
 
+-- evaluating the one item uses the other directly
 abbrev pub Reads : State → Item → Item → Type 0
 Reads s i j = Among j (reads_of s i)
 
@@ -69,6 +75,7 @@ roots s = map (λ (o : Observer). Named o.target) s.observers
 abbrev pub ReachedFrom : List Item → State → Item → Type 0
 ReachedFrom starts s i = (root : Item) × Among root starts × Reaches (Reads s) root i
 
+-- reached by reads from what an observer in use looks at
 abbrev pub Needed : State → Item → Type 0
 Needed s i = ReachedFrom (roots s) s i
 
@@ -92,14 +99,17 @@ pub record Visit : Type 0 where
   pub values : List Value
   pub cost : ℕ
 
+-- the visit with these values, where all arguments give one
 abbrev pub visit_with : Item → Gathered → Option Visit
 visit_with i (Values values) = Some (record { item = i; values = values; cost = 1 })
 visit_with i g = None
 
+-- the visit of a formula at an item, evaluated within a depth
 abbrev pub formula_visit : Functions → State → ℕ → Item → Option Formula → Option Visit
 formula_visit F s d i (Some (Apply f arguments)) = visit_with i (gathered (value_at F s d) arguments)
 formula_visit F s d i f = None
 
+-- the visit of an item, evaluated within a depth; names have none
 abbrev pub visit_at : Functions → State → ℕ → Item → Option Visit
 visit_at F s d (Named n) = None
 visit_at F s d (Place owner path) = formula_visit F s d (Place owner path) (formula_at s owner path)

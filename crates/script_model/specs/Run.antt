@@ -33,18 +33,23 @@ Chain F m (t ∷ turns) end = (t.before ≡ m) × IsTurn F t × Chain F t.after 
 abbrev pub bytes_of : Turn → List ℕ
 bytes_of t = flat_map printed t.replies
 
+-- whether a turn prints a refusal
 abbrev pub is_refused : Turn → Bool
 is_refused t = list_any is_refusal t.replies
 
+-- the lines of turns
 abbrev pub lines_read : List Turn → List (List ℕ)
 lines_read turns = map (λ (t : Turn). t.line) turns
 
+-- all that turns print
 abbrev pub transcript : List Turn → List ℕ
 transcript turns = flat_map bytes_of turns
 
+-- how many calls were due in all
 abbrev pub work_of : List Turn → ℕ
 work_of turns = sum_by (λ (t : Turn). t.work) turns
 
+-- whether some line was refused
 abbrev pub any_refused : List Turn → Bool
 any_refused turns = list_any is_refused turns
 

@@ -48,12 +48,14 @@ abbrev pub find_observer : List ℕ → List Observer → Option Observer
 find_observer name [] = None
 find_observer name (o ∷ os) = if bytes_eq name o.name then Some o else find_observer name os
 
+-- the same base type
 abbrev pub same_base : Base → Base → Bool
 same_base base.Int base.Int = true
 same_base base.Bool base.Bool = true
 same_base base.Text base.Text = true
 same_base a b = false
 
+-- the same type
 abbrev pub same_ty : Ty → Ty → Bool
 same_ty ty.Int ty.Int = true
 same_ty ty.Bool ty.Bool = true
@@ -61,6 +63,7 @@ same_ty ty.Text ty.Text = true
 same_ty (ty.Node a) (ty.Node b) = same_base a b
 same_ty a b = false
 
+-- the same types, one for one
 abbrev pub same_types : List Ty → List Ty → Bool
 same_types [] [] = true
 same_types (a ∷ left) (b ∷ right) = same_ty a b && same_types left right
@@ -75,6 +78,7 @@ pub data Action : Type 0 where
   Stabilizes : Action
   Tells : (observer : List ℕ) (outcome : Outcome) → Action
 
+-- a command is refused, or does something
 pub data Verdict : Type 0 where
   Refuse : (why : Refusal) → Verdict
   Allow : (action : Action) → Verdict
@@ -103,6 +107,7 @@ pub record Typed : Type 0 where
   pub formula : Formula
   pub ty : Ty
 
+-- an integer, or a name that is declared, with its type
 abbrev pub typed_argument : State → Argument → Option Typed
 typed_argument s (Constant z) = Some (record { formula = Literal (value.Int z); ty = ty.Int })
 typed_argument s (Mention name) = and_then (find_entry name s.entries) (λ e. Some (record { formula = Name e.target; ty = e.ty }))
@@ -138,6 +143,7 @@ checked F s (Show observer) =
 
 -- ---- what is printed
 
+-- what a line is answered with
 pub data Reply : Type 0 where
   Done : Reply
   Shown : (observer : List ℕ) (outcome : Outcome) → Reply
@@ -151,6 +157,7 @@ printed (Shown observer o) = observer ++ codes " = " ++ printed_outcome [] o ++ 
 printed (Stable k) = codes "stable " ++ decimal k ++ 10 ∷ []
 printed (Refused n) = codes "refused " ++ decimal n ++ 10 ∷ []
 
+-- whether a reply is a refusal
 abbrev pub is_refusal : Reply → Bool
 is_refusal (Refused n) = true
 is_refusal reply = false
@@ -162,6 +169,7 @@ pub record Moment : Type 0 where
   pub settled : State
   pub present : State
 
+-- before the first line
 abbrev pub first_moment : Moment
 first_moment = record { settled = start; present = start }
 
@@ -172,6 +180,7 @@ effect s (Observes o) = Some (record s { observers = s.observers ++ o ∷ [] })
 effect s (Tells name o) = Some s
 effect s Stabilizes = None
 
+-- what an action is answered with
 abbrev pub reply_to : State → Action → Reply
 reply_to s (Tells name o) = Shown name o
 reply_to s Stabilizes = Stable (s.accepted + 1)
@@ -182,6 +191,7 @@ pub record Stabilized (F : Functions) (m after : Moment) : Type 0 where
   pub settles : Settles F m.present after.present
   pub settled : after.settled ≡ after.present
 
+-- an action leads from one moment to the next, with its one reply
 abbrev pub Accepts : Functions → Moment → Action → Moment → List Reply → Type 0
 Accepts F m action after replies =
     MatchOption (effect m.present action) (Stabilized F m after) (λ next. after ≡ record m { present = next }) × (replies ≡ reply_to m.present action ∷ [])
@@ -190,10 +200,12 @@ Accepts F m action after replies =
 abbrev pub Refuses : Moment → Refusal → Moment → List Reply → Type 0
 Refuses m why after replies = (after ≡ m) × (replies ≡ Refused (number_of why) ∷ [])
 
+-- a verdict leads from one moment to the next
 abbrev pub Follows : Functions → Moment → Verdict → Moment → List Reply → Type 0
 Follows F m (Refuse why) after replies = Refuses m why after replies
 Follows F m (Allow action) after replies = Accepts F m action after replies
 
+-- what a line asks for leads from one moment to the next
 abbrev pub Answers : Functions → Moment → Request → Moment → List Reply → Type 0
 Answers F m TooLong after replies = Refuses m LineTooLong after replies
 Answers F m Blank after replies = (after ≡ m) × (replies ≡ [])

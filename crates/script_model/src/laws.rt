@@ -49,7 +49,7 @@ pub fn nothing_due_after_settling()
 {}
 
 /// A worked script: `var x int 3`, `let y add(x, 4)`, `observe o y`, `stabilize` and `show o`
-/// print `ok` three times, `stable 1` and `o = 7`, and one call of `add` is made.
+/// print `ok` three times, `stable 1` and `o = 7`, and one call of `add` is due.
 pub fn sum_is_shown()
     ensures { SumIsShown }
 {}
@@ -69,12 +69,12 @@ pub fn one_transcript()
     ensures { OneTranscript }
 {}
 
-/// Every run of the worked script makes at most one call of a function.
+/// In every run of the worked script at most one call of a function is due.
 pub fn sum_is_one_call()
     ensures { SumIsOneCall }
 {}
 
-/// An item makes at most one call: the same function is never due twice for one place.
+/// An item has at most one visit: the same function is never due twice for one place.
 pub fn one_visit()
     ensures { OneVisit }
 {}

@@ -24,14 +24,17 @@ pub record Kept : Type 0 where
 
 -- ---- the state of the model that is kept
 
+-- an argument as a formula
 abbrev pub formula_of : Argument → Formula
 formula_of (argument.Constant v) = Literal v
 formula_of (argument.Node n) = Name n
 
+-- a definition as the body of a declaration
 abbrev pub body_of : Definition → Body
 body_of (Variable v) = model.Variable v
 body_of (Application function left right) = model.Computed (Apply function (More (formula_of left) (More (formula_of right) End)))
 
+-- the declaration of the n-th node
 abbrev pub entry_of : ℕ → Node → Entry
 entry_of n x = record { name = x.name; ty = x.ty; target = n; body = body_of x.definition }
 
@@ -40,9 +43,11 @@ abbrev pub entries_from : ℕ → List Node → List Entry
 entries_from n [] = []
 entries_from n (x ∷ xs) = entry_of n x ∷ entries_from (suc n) xs
 
+-- an observer of the session as the model's
 abbrev pub observer_of : Observer → model.Observer
 observer_of o = record { name = o.name; target = o.target; shown = o.shown }
 
+-- the state of the model that is kept
 abbrev pub state_of : Kept → State
 state_of k = record { entries = entries_from 0 k.nodes; observers = map observer_of k.observers; accepted = k.accepted }
 
@@ -53,12 +58,15 @@ abbrev pub value_of_definition : Definition → Option Value → Option Value
 value_of_definition (Variable v) kept = Some v
 value_of_definition (Application function left right) kept = kept
 
+-- the value that a node has
 abbrev pub value_of : Node → Option Value
 value_of x = value_of_definition x.definition x.kept
 
+-- the value that the n-th node has
 abbrev pub value_at_node : List Node → ℕ → Option Value
 value_at_node nodes n = and_then (slice_get nodes n) value_of
 
+-- the value that an argument has
 abbrev pub value_of_argument : List Node → Argument → Option Value
 value_of_argument nodes (argument.Constant v) = Some v
 value_of_argument nodes (argument.Node n) = value_at_node nodes n
@@ -80,14 +88,17 @@ pub record IsFitting (nodes : List Node) (n : ℕ) (ty : Ty) (function : FnRef) 
   pub takes : function.sig.takes ≡ left_ty ∷ right_ty ∷ []
   pub gives : function.sig.gives ≡ ty
 
+-- a variable has a value of its type, and a function fits its arguments
 abbrev pub IsSoundDefinition : List Node → ℕ → Ty → Definition → Type 0
 IsSoundDefinition nodes n ty (Variable v) = type_of v ≡ ty
 IsSoundDefinition nodes n ty (Application function left right) = IsFitting nodes n ty function left right
 
+-- a node's definition is sound, and a value that it keeps has its type
 pub record IsSoundNode (nodes : List Node) (n : ℕ) (x : Node) : Type 0 where
   pub definition : IsSoundDefinition nodes n x.ty x.definition
   pub kept : IfSome x.kept (λ v. type_of v ≡ x.ty)
 
+-- every node is sound
 abbrev pub AreSoundNodes : List Node → Type 0
 AreSoundNodes nodes = (n : ℕ) (x : Node) → slice_get nodes n ≡ Some x → IsSoundNode nodes n x
 

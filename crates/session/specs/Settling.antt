@@ -15,9 +15,11 @@ use Rattle.session.specs.Kept.{value_at_node, value_of_argument}
 
 -- ---- marks
 
+-- the n-th node is marked
 abbrev pub IsMarked : List Bool → ℕ → Type 0
 IsMarked marks n = slice_get marks n ≡ Some true
 
+-- an argument that is a node is marked
 abbrev pub IsArgumentMarked : List Bool → Argument → Type 0
 IsArgumentMarked marks (argument.Constant v) = Unit {0}
 IsArgumentMarked marks (argument.Node m) = IsMarked marks m
@@ -27,6 +29,7 @@ abbrev pub AreReadsMarked : List Bool → Definition → Type 0
 AreReadsMarked marks (Variable v) = Unit {0}
 AreReadsMarked marks (Application function left right) = IsArgumentMarked marks left × IsArgumentMarked marks right
 
+-- the marks, with that of an argument that is a node
 abbrev pub mark_of_argument : List Bool → Argument → List Bool
 mark_of_argument marks (argument.Constant v) = marks
 mark_of_argument marks (argument.Node m) = slice_set marks m true
@@ -36,10 +39,12 @@ abbrev pub marks_of_reads : List Bool → Definition → List Bool
 marks_of_reads marks (Variable v) = marks
 marks_of_reads marks (Application function left right) = mark_of_argument (mark_of_argument marks left) right
 
+-- an argument that is a node stands before the n-th one
 abbrev pub IsArgumentBelow : ℕ → Argument → Type 0
 IsArgumentBelow n (argument.Constant v) = Unit {0}
 IsArgumentBelow n (argument.Node m) = m < n
 
+-- what a definition reads stands before the n-th node
 abbrev pub AreReadsBelow : ℕ → Definition → Type 0
 AreReadsBelow n (Variable v) = Unit {0}
 AreReadsBelow n (Application function left right) = IsArgumentBelow n left × IsArgumentBelow n right

@@ -19,6 +19,7 @@ use Rattle.session.specs.Kept.{Kept, IsSoundDefinition, body_of, entry_of, formu
 
 -- ---- in the model's words
 
+-- a refusal as the model's
 abbrev pub refusal_view : Refusal → model.Refusal
 refusal_view refusal.LineTooLong = model.LineTooLong
 refusal_view refusal.NoCommand = model.NoCommand
@@ -47,6 +48,7 @@ action_view k (action.Observe o) = Allow (Observes (observer_of o))
 action_view k action.Stabilize = Allow Stabilizes
 action_view k (action.Show i) = shown_view (slice_get k.observers i)
 
+-- a verdict as the model's
 abbrev pub verdict_view : Kept → Verdict → model.Verdict
 verdict_view k (verdict.Refuse why) = Refuse (refusal_view why)
 verdict_view k (verdict.Allow does) = action_view k does
@@ -76,6 +78,7 @@ pub record Shows (k : Kept) (i : ℕ) : Type 0 where
   pub at : slice_get k.observers i ≡ Some observer
   pub shown : IsSome observer.shown
 
+-- what an action does may be done
 abbrev pub IsSoundAction : (FnRef → Bool) → Kept → Action → Type 0
 IsSoundAction known k (action.Declare x) = MayFollow known k x
 IsSoundAction known k (action.Observe o) = MayObserve k o

@@ -78,16 +78,18 @@ impl<L: Library> Session<L> {
     pub fn line(&mut self, text: &[u8], out: &mut Vec<u8>) -> Result<Did, AllocError>
         requires { self.old.lines < 2 ^ 30 }
 
-        ensures taken { IfOk result (λ how. (m : Moment) → Stands (functions_of (L.named self.old.library) (L.value self.old.library)) self.old.kept m
-            → Takes (functions_of (L.named self.old.library) (L.value self.old.library)) m text.now self.new.kept out.old.items out.new.items
+        ensures taken { let F = functions_of (L.named self.old.library) (L.value self.old.library) in
+            IfOk result (λ how. (m : Moment) → Stands F self.old.kept m
+            → Takes F m text.now self.new.kept out.old.items out.new.items
             (L.calls self.old.library) (L.calls self.new.library) how) }
         ensures lines { self.new.lines ≡ self.old.lines + 1 }
         ensures functions { functions_of (L.named self.new.library) (L.value self.new.library)
             ≡ functions_of (L.named self.old.library) (L.value self.old.library) }
 
         // Without memory only the count of lines has changed, and perhaps some functions were called.
-        ensures stopped { OnErr result ((m : Moment) → Stands (functions_of (L.named self.old.library) (L.value self.old.library)) self.old.kept m
-            → Stops (functions_of (L.named self.old.library) (L.value self.old.library)) m self.new.kept
+        ensures stopped { let F = functions_of (L.named self.old.library) (L.value self.old.library) in
+            OnErr result ((m : Moment) → Stands F self.old.kept m
+            → Stops F m self.new.kept
             (L.calls self.old.library) (L.calls self.new.library)) }
         ensures unwritten { OnErr result (out.new.items ≡ out.old.items) }
     {
@@ -104,9 +106,10 @@ impl<L: Library> Session<L> {
     pub fn too_long(&mut self, out: &mut Vec<u8>) -> Result<(), AllocError>
         requires { self.old.lines < 2 ^ 30 }
 
-        ensures taken { OnOk result ((m : Moment) (line : List ℕ) → 4096 < length line
-            → Stands (functions_of (L.named self.old.library) (L.value self.old.library)) self.old.kept m
-            → Takes (functions_of (L.named self.old.library) (L.value self.old.library)) m line self.new.kept out.old.items out.new.items
+        ensures taken { let F = functions_of (L.named self.old.library) (L.value self.old.library) in
+            OnOk result ((m : Moment) (line : List ℕ) → 4096 < length line
+            → Stands F self.old.kept m
+            → Takes F m line self.new.kept out.old.items out.new.items
             (L.calls self.old.library) (L.calls self.new.library) (Refused 2)) }
         ensures lines { self.new.lines ≡ self.old.lines + 1 }
         ensures library { self.new.library ≡ self.old.library }
@@ -124,12 +127,14 @@ impl<L: Library> Session<L> {
         &self.library
     }
 
+    /// The library, given back.
     pub fn into_library(self) -> L
         ensures { result ≡ self.library }
     {
         self.library
     }
 
+    /// How many lines were taken so far, also those that were skipped as too long or found no memory.
     pub fn lines_taken(&self) -> u64
         ensures { result ≡ self.now.lines }
     {
@@ -140,11 +145,13 @@ impl<L: Library> Session<L> {
     fn stabilize(&mut self, out: &mut Vec<u8>) -> Result<Did, AllocError>
         requires { self.old.kept.accepted < self.old.lines }
 
-        ensures done { IfOk result (λ how. (m : Moment) → Stands (functions_of (L.named self.old.library) (L.value self.old.library)) self.old.kept m
-            → IsDone (functions_of (L.named self.old.library) (L.value self.old.library)) m Stabilizes self.new.kept out.old.items out.new.items
+        ensures done { let F = functions_of (L.named self.old.library) (L.value self.old.library) in
+            IfOk result (λ how. (m : Moment) → Stands F self.old.kept m
+            → IsDone F m Stabilizes self.new.kept out.old.items out.new.items
             (L.calls self.old.library) (L.calls self.new.library) how) }
-        ensures stopped { OnErr result ((m : Moment) → Stands (functions_of (L.named self.old.library) (L.value self.old.library)) self.old.kept m
-            → Stops (functions_of (L.named self.old.library) (L.value self.old.library)) m self.new.kept
+        ensures stopped { let F = functions_of (L.named self.old.library) (L.value self.old.library) in
+            OnErr result ((m : Moment) → Stands F self.old.kept m
+            → Stops F m self.new.kept
             (L.calls self.old.library) (L.calls self.new.library)) }
         ensures extended { OnErr result (out.new.items ≡ out.old.items) }
         ensures lines { self.new.lines ≡ self.old.lines }
@@ -161,11 +168,13 @@ impl<L: Library> Session<L> {
     fn take(&mut self, text: &[u8], out: &mut Vec<u8>) -> Result<Did, AllocError>
         requires { self.old.kept.accepted < self.old.lines }
 
-        ensures answered { IfOk result (λ how. (m : Moment) → Stands (functions_of (L.named self.old.library) (L.value self.old.library)) self.old.kept m
-            → IsAnswered (functions_of (L.named self.old.library) (L.value self.old.library)) m (request_of text.now) self.new.kept out.old.items out.new.items
+        ensures answered { let F = functions_of (L.named self.old.library) (L.value self.old.library) in
+            IfOk result (λ how. (m : Moment) → Stands F self.old.kept m
+            → IsAnswered F m (request_of text.now) self.new.kept out.old.items out.new.items
             (L.calls self.old.library) (L.calls self.new.library) how) }
-        ensures stopped { OnErr result ((m : Moment) → Stands (functions_of (L.named self.old.library) (L.value self.old.library)) self.old.kept m
-            → Stops (functions_of (L.named self.old.library) (L.value self.old.library)) m self.new.kept
+        ensures stopped { let F = functions_of (L.named self.old.library) (L.value self.old.library) in
+            OnErr result ((m : Moment) → Stands F self.old.kept m
+            → Stops F m self.new.kept
             (L.calls self.old.library) (L.calls self.new.library)) }
         ensures extended { OnErr result (Extends out.old.items out.new.items) }
         ensures lines { self.new.lines ≡ self.old.lines }
@@ -184,11 +193,13 @@ impl<L: Library> Session<L> {
     fn carry_out(&mut self, command: &Command<'_>, out: &mut Vec<u8>) -> Result<Did, AllocError>
         requires { self.old.kept.accepted < self.old.lines }
 
-        ensures answered { IfOk result (λ how. (m : Moment) → Stands (functions_of (L.named self.old.library) (L.value self.old.library)) self.old.kept m
-            → IsAnswered (functions_of (L.named self.old.library) (L.value self.old.library)) m (Asks (command_view command.now)) self.new.kept out.old.items out.new.items
+        ensures answered { let F = functions_of (L.named self.old.library) (L.value self.old.library) in
+            IfOk result (λ how. (m : Moment) → Stands F self.old.kept m
+            → IsAnswered F m (Asks (command_view command.now)) self.new.kept out.old.items out.new.items
             (L.calls self.old.library) (L.calls self.new.library) how) }
-        ensures stopped { OnErr result ((m : Moment) → Stands (functions_of (L.named self.old.library) (L.value self.old.library)) self.old.kept m
-            → Stops (functions_of (L.named self.old.library) (L.value self.old.library)) m self.new.kept
+        ensures stopped { let F = functions_of (L.named self.old.library) (L.value self.old.library) in
+            OnErr result ((m : Moment) → Stands F self.old.kept m
+            → Stops F m self.new.kept
             (L.calls self.old.library) (L.calls self.new.library)) }
         ensures extended { OnErr result (Extends out.old.items out.new.items) }
         ensures lines { self.new.lines ≡ self.old.lines }
@@ -206,12 +217,14 @@ impl<L: Library> Session<L> {
         requires count { self.old.kept.accepted < self.old.lines }
         requires sound { IsSoundAction (L.known self.old.library) self.old.kept action }
 
-        ensures done { IfOk result (λ how. (m : Moment) (a : AnAction) → Stands (functions_of (L.named self.old.library) (L.value self.old.library)) self.old.kept m
+        ensures done { let F = functions_of (L.named self.old.library) (L.value self.old.library) in
+            IfOk result (λ how. (m : Moment) (a : AnAction) → Stands F self.old.kept m
             → action_view self.old.kept action ≡ Allow a
-            → IsDone (functions_of (L.named self.old.library) (L.value self.old.library)) m a self.new.kept out.old.items out.new.items
+            → IsDone F m a self.new.kept out.old.items out.new.items
             (L.calls self.old.library) (L.calls self.new.library) how) }
-        ensures stopped { OnErr result ((m : Moment) → Stands (functions_of (L.named self.old.library) (L.value self.old.library)) self.old.kept m
-            → Stops (functions_of (L.named self.old.library) (L.value self.old.library)) m self.new.kept
+        ensures stopped { let F = functions_of (L.named self.old.library) (L.value self.old.library) in
+            OnErr result ((m : Moment) → Stands F self.old.kept m
+            → Stops F m self.new.kept
             (L.calls self.old.library) (L.calls self.new.library)) }
         ensures extended { OnErr result (Extends out.old.items out.new.items) }
         ensures lines { self.new.lines ≡ self.old.lines }

@@ -57,4 +57,4 @@ returns-in-Limit-clause-ends g c = λ before p.
 pub returns-in-ReadFault-clause-ends : goal.returns-in-ReadFault-clause-ends
 returns-in-ReadFault-clause-ends g c = λ before p.
     let t = c.in-ReadFault.ensures.takes in
-    Ran-read_fault _ _ before _ _ _ _ p t.1.bytes t.1.meaning
+    Ran-read_fault _ _ before _ _ _ _ p t.1.bytes t.1.meaning.clear t.1.meaning.held
