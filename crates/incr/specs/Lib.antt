@@ -1,5 +1,3 @@
-pub mod Library
-pub mod LibraryLaws
 pub mod Progress
 pub mod Reading
 pub mod Running

@@ -4,17 +4,16 @@
 
 mod drive;
 mod ending;
-mod std_library;
 #[cfg(test)]
 mod tests;
 mod top;
 
-use crate::std_library::StdLib;
 use script_io::{StdSink, StdSource, Word};
 use std::alloc::AllocError;
 use std::env;
 use std::io::ErrorKind;
 use std::process::ExitCode;
+use std_library::StdLib;
 
 /// The status where no memory is found for what `main` makes itself.
 const NO_MEMORY: u8 = 5;

@@ -1,10 +1,10 @@
 //! What no clause says: transcripts from outside, faults in mid-stream, and each call once.
 use crate::drive::drive;
-use crate::std_library::StdLib;
 use crate::top::top;
 use script_io::{MemSink, MemSource, Word};
 use std::alloc::{AllocError, Global};
 use std::test::Fail;
+use std_library::StdLib;
 
 const SCRIPT: &str = "var x int 3\nlet y add(x, 4)\nobserve o y\nstabilize\nshow o\n";
 

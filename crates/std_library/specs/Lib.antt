@@ -1,0 +1,3 @@
+pub mod Calls
+pub mod Functions
+pub mod FunctionLaws

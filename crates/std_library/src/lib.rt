@@ -1,0 +1,8 @@
+//! The standard library: the functions that scripts may use, by name.
+#![tactic(auto)]
+
+mod function;
+mod std_lib;
+
+pub use function::Function;
+pub use std_lib::StdLib;
