@@ -1,9 +1,10 @@
 #!/usr/bin/env python3
-"""Compares the program with the reference model, on scripts that are written at random.
+"""Compares the programs with the reference model, on scripts that are written at random.
 
 Each script is run whole, in small pieces and line by line. The model judges the transcript, the status
 must fit it, and the three runs must agree. In the last two the answers to the lines that are complete
-must come before more is written.
+must come before more is written. The profiling program must print the same lines, and the model judges
+the calls that it tells for each stabilize.
 """
 
 import argparse
@@ -18,18 +19,23 @@ from pathlib import Path
 REPOSITORY = Path(__file__).resolve().parent.parent
 PATIENCE = 20                # seconds for an answer
 LONGEST_LINE = 4096          # bytes, without the newline
+DEEPEST = 100                # the model refuses what is 128 deep, which the program does not yet
 EDGES = (-(2**63), 2**63 - 1)
 
-NAMES = (b"a b c x y o x1 _ A Z_9 add var let show ok stable refused observe stabilize run sub gather"
+NAMES = (b"a b c x y o x1 _ A Z_9 add var let set show ok stable refused observe stabilize run sub gather"
          b" xx xy x10 aaaaaaaaaaaaaaaaaaaaaaaaaaaaaaab aaaaaaaaaaaaaaaaaaaaaaaaaaaaaaac").split()
 RESERVED = (b"if then else bind in join fold from at steps now freeze when after every true false"
             b" int bool text node").split()
 NUMBERS = b"0 1 -1 2 7 -0 007 -000 4294967296 -4294967297".split() + [b"%d" % edge for edge in EDGES] * 2
-NO_NUMBERS = b'+1 --1 - 1x 0x10 1_000 1.5 1e3 true "3" &x 3ns -3s 99999999999999999999999 \xd9\xa3'.split() + [
-    b"%d" % (EDGES[0] - 1), b"%d" % (EDGES[1] + 1)]
+TEXTS = [b'""', b'"a"', b'"a \\"b\\" \\\\"', b'"# ~ ( )"', b'"' + b"t" * 300 + b'"']
+NO_LITERALS = (b'+1 --1 - 1x 0x10 1_000 1.5 1e3 &x 3ns -3s 99999999999999999999999 "open "\\n" "\x7f" true1'
+               b" \xd9\xa3").split() + [b"%d" % (EDGES[0] - 1), b"%d" % (EDGES[1] + 1)]
 BYTES = b" ,()-_019azAZ\n\r\t\x00#\"\\=&[]{}:@\x7f\x80\xff"
 SEPARATORS = (b"", b"", b" ", b"   ", b"\t", b"\r")
 ENDS = (b"\r", b"\r\r", b" \r", b"\r ", b" #", b" x", b"(", b"\x00")
+FUNCTIONS = {b"add": (b"int", (b"int", b"int")), b"neg": (b"int", (b"int",)),
+             b"pick": (b"int", (b"bool", b"int", b"int")), b"lt": (b"bool", (b"int", b"int"))}
+TYPES = (b"int", b"bool", b"text")
 
 
 class Disagreement(Exception):
@@ -42,31 +48,74 @@ class Generator:
     def __init__(self, chance):
         self.chance = chance
         self.names = chance.sample(NAMES, chance.randint(3, len(NAMES))) + [chance.choice(RESERVED)]
-        self.nodes, self.observers = [], []
+        self.nodes, self.observers = {}, []         # nodes: name to type, depth and whether it is a variable
 
     def name(self, known):
         """Mostly one of the known names."""
-        return self.chance.choice(known if known and self.chance.random() < 0.9 else self.names)
+        known = list(known)
+        return self.chance.choice(known if known and self.chance.random() < 0.93 else self.names)
 
     def new_name(self, known):
-        """Mostly a name that is not known, which is known from now on."""
+        """Mostly a name that is not known."""
         unused = [name for name in self.names if name not in known]
-        known.append(self.chance.choice(unused) if unused and self.chance.random() < 0.9 else self.name(known))
-        return known[-1]
+        return self.chance.choice(unused) if unused and self.chance.random() < 0.93 else self.name(known)
+
+    def literal(self, ty):
+        """Mostly a literal of the type."""
+        if self.chance.random() < 0.04:
+            return self.chance.choice(NO_LITERALS)
+        if self.chance.random() < 0.03:
+            ty = self.chance.choice(TYPES)
+        return self.chance.choice({b"int": NUMBERS, b"bool": (b"true", b"false"), b"text": TEXTS}[ty])
+
+    def formula(self, ty, room):
+        """The words of a formula, mostly of the type, and how deep it is."""
+        known = [name for name, (of, depth, _) in self.nodes.items() if of == ty and depth < DEEPEST]
+        functions = [name for name, (gives, _) in FUNCTIONS.items() if gives == ty]
+        draw = self.chance.random()
+        if functions and room > 0 and draw < 0.6:
+            function = self.chance.choice(functions)
+            parts = [self.formula(takes, room - 1) for takes in FUNCTIONS[function][1]]
+            if self.chance.random() < 0.03:
+                parts = parts * 2 if self.chance.random() < 0.5 else parts[1:]
+            if self.chance.random() < 0.02:
+                function = self.name(self.names)
+            words = [function, b"("]
+            for number, part in enumerate(parts):
+                words += ([b","] if number else []) + part[0]
+            return words + [b")"], 1 + max([part[1] for part in parts], default=0)
+        if draw < 0.85 and known or draw < 0.62:
+            name = self.name(known)
+            return [name], self.nodes.get(name, (ty, 0, False))[1]
+        return [self.literal(ty)], 0
+
+    def deep(self):
+        """An application as deep as a line may nest, or a little more or less."""
+        levels = self.chance.choice((1, 63, 64, 64, 65, 66, 200))
+        return [b"neg("] * levels + [self.literal(b"int")] + [b")"] * self.chance.choice((levels, levels, levels - 1))
 
     def words(self):
-        """The words and signs of a line of one of the five forms."""
-        form = self.chance.choices(("var", "let", "observe", "stabilize", "show"), (3, 5, 3, 3, 5))[0]
-        number = self.chance.choice(NUMBERS if self.chance.random() < 0.93 else NO_NUMBERS)
+        """The words and signs of a line of one of the six forms."""
+        form = self.chance.choices(("var", "set", "let", "observe", "stabilize", "show"), (3, 4, 5, 3, 4, 5))[0]
         if form == "var":
-            ty = b"int" if self.chance.random() < 0.97 else self.name([b"bool", b"text"])
-            return [b"var", self.new_name(self.nodes), ty, number]
+            ty, name = self.chance.choice(TYPES), self.new_name(self.nodes)
+            self.nodes.setdefault(name, (ty, 0, True))
+            return [b"var", name, ty, self.literal(ty)]
+        if form == "set":
+            variables = [name for name, (_, _, variable) in self.nodes.items() if variable]
+            name = self.name(variables if self.chance.random() < 0.9 else self.nodes)
+            return [b"set", name, self.literal(self.nodes.get(name, (b"int",))[0])]
         if form == "let":
-            first, second = [self.name(self.nodes + [number]) for _ in range(2)]
-            function = b"add" if self.chance.random() < 0.97 else self.name(self.nodes)
-            return [b"let", self.new_name(self.nodes), function, b"(", first, b",", second, b")"]
+            ty, name = self.chance.choices(TYPES, (5, 2, 1))[0], self.new_name(self.nodes)
+            words, depth = self.formula(ty, self.chance.randint(0, 4))
+            if self.chance.random() < 0.02:
+                words, depth = self.deep(), DEEPEST
+            self.nodes.setdefault(name, (ty, depth, False))
+            return [b"let", name] + words
         if form == "observe":
-            return [b"observe", self.new_name(self.observers), self.name(self.nodes)]
+            name = self.new_name(self.observers)
+            self.observers.append(name)
+            return [b"observe", name, self.name(self.nodes)]
         return [b"stabilize"] if form == "stabilize" else [b"show", self.name(self.observers)]
 
     def line(self):
@@ -88,7 +137,8 @@ class Generator:
         length = LONGEST_LINE + self.chance.choice((-1, 0, 0, 1, 1, 2, 900))
         start, filling, end = self.chance.choice((
             (line, b" ", b""), (line, b" ", b"\r"), (line, b" ", b"x"), (b"#", b"\xfe", b""),
-            (b"var ", b"n", b" int 5"), (b"show ", b"n", b""), (b"var " + self.name([]) + b" int ", b"0", b"9")))
+            (b"var ", b"n", b" int 5"), (b"show ", b"n", b""), (b"var " + self.name([]) + b" int ", b"0", b"9"),
+            (b"var " + self.name([]) + b' text "', b"t", b'"'), (b"let y ", b"(", b"")))
         return start + filling * (length - len(start) - len(end)) + end
 
     def script(self):
@@ -112,7 +162,7 @@ def spoiled(chance):
 
 def noise(chance):
     """Random bytes: any, those of scripts, or words of scripts."""
-    words = NAMES + RESERVED + NUMBERS + NO_NUMBERS + [b"(", b")", b",", b"add(", b"\n", b"\r\n"] * 9
+    words = NAMES + RESERVED + NUMBERS + NO_LITERALS + [b"(", b")", b",", b"add(", b"[", b"\n", b"\r\n"] * 9
     size = chance.choice((1, 10, 100, 1000, 5000))
     known = bytes(chance.choices(BYTES, k=size))
     return chance.choice((chance.randbytes(size), known, b" ".join(chance.choices(words, k=size // 5))))
@@ -120,9 +170,33 @@ def noise(chance):
 
 def long_script(chance):
     """Sums of sums, of which each is about the double of the one before it."""
-    count, back = chance.randint(100, 300), chance.randint(1, 4)
+    count, back = chance.randint(20, DEEPEST), chance.randint(1, 4)
     lets = [b"let d%d add(d%d, d%d)" % (i, i - 1, max(0, i - chance.randint(1, back))) for i in range(1, count)]
-    return b"\n".join([b"var d0 int 3", *lets, b"observe o d%d" % (count - 1), b"stabilize", b"show o"])
+    return b"\n".join([b"var d0 int 3", *lets, b"observe o d%d" % (count - 1), b"stabilize", b"show o",
+                       b"set d0 3", b"stabilize", b"set d0 4", b"stabilize", b"show o"])
+
+
+def without_later_forms(script):
+    """The script without the lines that the model takes at this stage and the program does not yet."""
+    return b"\n".join([line for line in script.split(b"\n") if not re.match(rb" *unobserve\b", line)])
+
+
+def profiled(profile, script, transcript):
+    """The calls of each stabilize, by the profiling program, whose other lines must be the transcript."""
+    run = subprocess.run([profile, "run"], input=script, stdout=subprocess.PIPE, timeout=PATIENCE)
+    lines, calls, awaited = [], [], False
+    for line in run.stdout.splitlines(keepends=True):
+        told = re.fullmatch(rb"calls ([0-9]+)\n", line) if awaited else None
+        if awaited and not told:
+            raise Disagreement("no calls are told after a stabilize: %r" % run.stdout)
+        if told:
+            calls.append(int(told[1]))
+        else:
+            lines.append(line)
+        awaited = not told and re.fullmatch(rb"stable [0-9]+\n", line) is not None
+    if b"".join(lines) != transcript or awaited:
+        raise Disagreement("the profile has other lines: %r" % run.stdout)
+    return calls
 
 
 def run_by_pieces(program, pieces, printed):
@@ -148,11 +222,13 @@ def run_by_pieces(program, pieces, printed):
     return run.returncode, transcript
 
 
-def compare(program, judge, chance, script, through):
+def compare(programs, judge, chance, script, through):
     """Runs the script in each way, and raises a `Disagreement` where the model does not allow what comes."""
+    program, profile = programs
     whole = subprocess.run([program, "run"], input=script, stdout=subprocess.PIPE, timeout=PATIENCE)
-    told = "status %d, transcript %r" % (whole.returncode, whole.stdout)
-    verdict = judge(script, whole.stdout, through)
+    calls = profiled(profile, script, whole.stdout) if profile else None
+    told = "status %d, transcript %r, calls %s" % (whole.returncode, whole.stdout, calls)
+    verdict = judge(script, whole.stdout, through, calls)
     if not verdict.ok:
         raise Disagreement("%s: line %d of the script, %d of the transcript, where one of %s may stand; %s" % (
             verdict.message, verdict.script_line, verdict.transcript_line, list(verdict.allowed), told))
@@ -168,8 +244,10 @@ def compare(program, judge, chance, script, through):
 def main():
     parser = argparse.ArgumentParser(description=__doc__)
     parser.add_argument("model", type=Path, help="the folder of the reference model")
-    parser.add_argument("--program", default=REPOSITORY / "incr", help="default: incr of this repository")
-    parser.add_argument("--through", type=int, default=1, help="the model's stage of the language (default 1)")
+    parser.add_argument("--program", default=REPOSITORY / "crates/incr/out/incr", help="default: incr of this repository")
+    parser.add_argument("--profile", default=REPOSITORY / "crates/incr_profile/out/incr_profile",
+                        help="default: incr_profile of this repository; an empty word for none")
+    parser.add_argument("--through", type=int, default=2, help="the model's stage of the language (default 2)")
     parser.add_argument("--seed", type=int, default=1)
     parser.add_argument("--first", type=int, default=0, help="the number of the first script (default 0)")
     parser.add_argument("--count", type=int, default=600, help="how many scripts (default 600)")
@@ -180,10 +258,10 @@ def main():
     for number in range(options.first, options.first + options.count):
         chance = random.Random("%d/%d" % (options.seed, number))
         script = (Generator(chance).script, lambda: spoiled(chance),
-                  lambda: fuzz.script(options.seed, number, 60, options.through),
-                  lambda: long_script(chance) if number % 100 == 3 else noise(chance))[number % 4]()
+                  lambda: without_later_forms(fuzz.script(options.seed, number, 60, options.through)),
+                  lambda: long_script(chance) if number % 20 == 3 else noise(chance))[number % 4]()
         try:
-            compare(options.program, judge.judge, chance, script, options.through)
+            compare((options.program, options.profile), judge.judge, chance, script, options.through)
         except (Disagreement, subprocess.TimeoutExpired) as fault:
             failed += 1
             if failed == 1:

@@ -6,23 +6,23 @@ use Rattle.std.proofs.lemmas.Grind.{flat_map-append}
 use Rattle.std.proofs.lemmas.List.{map-append}
 use Rattle.std.proofs.lemmas.List.Folds.{list_any-append}
 use Rattle.std.proofs.lemmas.List.Sums.{sum_by-append}
-use Rattle.std.proofs.Math.Seq.{take-append-add}
 use Rattle.std.specs.Io.KnownBytes.{prepend_known, Consumes, Appends}
 use Rattle.std.specs.List.{list_any}
+use Rattle.script_io.proofs.Reading.{ReadSoFar-more, AreFirst-so_far, BreakAtFault-so_far, BreakAt-so_far, nothing_read}
 use Rattle.script_io.specs.Lines.{HasNoNewline, EndsLine}
+use Rattle.script_io.specs.Reading.{ReadSoFar}
+use Rattle.script_io.specs.declared.ending.Ending.TheVariants as ending
 use Rattle.script_model.specs.Formula.{Functions}
 use Rattle.script_model.specs.Run.{Turn, IsTurn, Chain, bytes_of, is_refused, lines_read, transcript, any_refused}
 use Rattle.script_model.specs.Step.{Moment, Reply, is_refusal, first_moment}
-use Rattle.session.specs.declared.session.Did.{Did}
-use Rattle.session.specs.declared.session.Did.TheVariants as did
+use Rattle.session.specs.declared.answer.Did.{Did}
+use Rattle.session.specs.declared.answer.Did.TheVariants as did
 use Rattle.session.specs.Kept.{Kept}
 use Rattle.session.specs.State.{Stands}
 use Rattle.session.specs.Taken.{Says, Takes, Stops}
-use Rattle.incr.specs.declared.ending.Ending.TheVariants as ending
-use Rattle.incr.specs.Progress.{Place, ReadSoFar, Course, Progress}
+use Rattle.incr.specs.Progress.{Place, Course, Progress}
 use Rattle.incr.specs.Running.{Outside, Ran}
 use Rattle.incr.specs.Saying.{is_refusal_said}
-use Rattle.incr.proofs.Reading.{ReadSoFar-more, AreFirst-so_far, BreakAtFault-so_far, BreakAt-so_far, nothing_read}
 
 or_false : (b : Bool) → (b || false) ≡ b
 or_false true = refl
@@ -84,7 +84,7 @@ Progress-more F before place new line part buffer appended how p takes bytes cou
 pub Ran-write_fault : (F : Functions) (limit : ℕ) (before : Outside) (place new : Place) (left : Option (List ℕ)) (line part buffer appended : List ℕ) (how : Did)
     → Progress F before place → ((m : Moment) → Stands F place.kept m → Takes F m line new.kept buffer appended place.calls new.calls how)
     → Consumes place.ahead new.ahead part → new.taken ≡ place.taken + length part → HasNoNewline line → EndsLine line part new.ahead
-    → new.refused ≡ (place.refused || is_refusal_said how) → buffer ≡ [] → ((n : ℕ) × Appends place.written new.written (take n appended))
+    → new.refused ≡ (place.refused || is_refusal_said how) → buffer ≡ [] → ((n : ℕ) × (n < length appended) × Appends place.written new.written (take n appended))
     → Ran F ending.WriteFault limit before (record { left = left; written = new.written; calls = new.calls })
 Ran-write_fault F limit before place new left line part buffer appended how p takes bytes count clear ends said empty written =
     let t = takes p.end p.course.stands in
@@ -96,13 +96,15 @@ Ran-write_fault F limit before place new left line part buffer appended how p ta
       chain = c.chain;
       calls = c.calls;
       read = AreFirst-so_far before.left new.ahead new.taken (lines_read (p.turns ++ t.turn ∷ [])) c.read;
-      written = (
-        length (transcript p.turns) + written.0,
-        subst (Appends before.written new.written)
-            (sym (ap (take (length (transcript p.turns) + written.0)) (transcript-more p.turns t.turn) ∙ take-append-add (transcript p.turns) (bytes_of t.turn) written.0))
-            (Appends-trans before.written place.written new.written (transcript p.turns) (take written.0 (bytes_of t.turn)) p.written
-            (subst (λ l. Appends place.written new.written (take written.0 l)) same written.1)),
-      );
+      written = record {
+        earlier = p.turns;
+        last = t.turn;
+        are = refl;
+        count = written.0;
+        short = subst (λ l. written.0 < length l) same written.1;
+        appended = Appends-trans before.written place.written new.written (transcript p.turns) (take written.0 (bytes_of t.turn)) p.written
+            (subst (λ l. Appends place.written new.written (take written.0 l)) same written.2);
+      };
     }
 
 -- no memory for a line

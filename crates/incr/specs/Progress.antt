@@ -1,12 +1,12 @@
 -- A run after some of its lines.
-use Rattle.std.specs.Prelude.{◌≡◌, ◌≤◌, ℕ, ◌+◌, Bool, List, length, Option, Some, IfSome}
+use Rattle.std.specs.Prelude.{◌≡◌, ◌≤◌, ℕ, ◌+◌, Bool, List, Option, IfSome}
 use Rattle.std.specs.Io.KnownBytes.{Appends}
+use Rattle.script_io.specs.Reading.{ReadSoFar}
 use Rattle.script_model.specs.Formula.{Functions}
 use Rattle.script_model.specs.Run.{Turn, Chain, lines_read, transcript, work_of, any_refused}
 use Rattle.script_model.specs.Step.{Moment, first_moment}
 use Rattle.session.specs.Kept.{Kept}
 use Rattle.session.specs.State.{Stands}
-use Rattle.incr.specs.Reading.{TakeFront}
 use Rattle.incr.specs.Running.{Outside}
 
 -- how far a run has come: the bytes that are not yet taken, where the source tells them, how many were taken, what the
@@ -18,14 +18,6 @@ pub record Place : Type 0 where
   pub kept : Kept
   pub calls : ℕ
   pub refused : Bool
-
--- the lines so far take the front of the bytes
-pub record ReadSoFar (bytes : List ℕ) (ahead : Option (List ℕ)) (taken : ℕ) (lines : List (List ℕ)) : Type 0 where
-  pub front : List ℕ
-  pub rest : List ℕ
-  pub is_ahead : ahead ≡ Some rest
-  pub count : taken ≡ length front
-  pub first : TakeFront bytes lines front rest
 
 -- the turns lead to a moment that the session stands for, over the lines so far
 pub record Course (F : Functions) (before : Outside) (place : Place) (turns : List Turn) (end : Moment) : Type 0 where

@@ -1,13 +1,13 @@
 -- Runs of the program over a script.
-use Rattle.std.specs.Prelude.{◌≡◌, ◌≤◌, ℕ, ◌+◌, true, false, List, take, Option, IfSome}
+use Rattle.std.specs.Prelude.{◌≡◌, ◌<◌, ◌≤◌, ℕ, ◌+◌, true, false, List, [], ◌∷◌, ◌++◌, length, take, Option, IfSome}
 use Rattle.std.specs.Io.KnownBytes.{Appends}
 use Rattle.script_model.specs.Formula.{Functions}
 use Rattle.script_model.specs.Need.{WithinWork}
-use Rattle.script_model.specs.Run.{Turn, Chain, lines_read, transcript, work_of, any_refused}
+use Rattle.script_model.specs.Run.{Turn, Chain, bytes_of, lines_read, transcript, work_of, any_refused}
 use Rattle.script_model.specs.Step.{Moment, first_moment}
-use Rattle.incr.specs.declared.ending.Ending.{Ending}
-use Rattle.incr.specs.declared.ending.Ending.TheVariants.{Accepted, Refused, ReadFault, WriteFault, Memory, Limit}
-use Rattle.incr.specs.Reading.{Reads}
+use Rattle.script_io.specs.Endings.{Reads, number_of}
+use Rattle.script_io.specs.declared.ending.Ending.{Ending}
+use Rattle.script_io.specs.declared.ending.Ending.TheVariants.{Accepted, Refused, WriteFault, Memory}
 
 -- what is outside a run: the bytes that the source has left and those that the sink was given, where they tell them,
 -- and how many functions of the library were called
@@ -16,25 +16,26 @@ pub record Outside : Type 0 where
   pub written : Option (List ℕ)
   pub calls : ℕ
 
--- the status of an ending
-abbrev pub number_of : Ending → ℕ
-number_of Accepted = 0
-number_of Refused = 1
-number_of ReadFault = 3
-number_of WriteFault = 4
-number_of Memory = 5
-number_of Limit = 6
-
 -- no more functions were called than were due; where no memory was found, no more than were due at the moment that was reached too
 abbrev pub CallsAreDue : Functions → Ending → Moment → ℕ → ℕ → Type 0
 CallsAreDue F Memory end due calls = (extra : ℕ) × WithinWork F end.settled end.present extra × (calls ≤ due + extra)
 CallsAreDue F ending end due calls = calls ≤ due
 
--- the transcript was written, and the run is accepted exactly where it holds no refusal; a sink that failed has a front of the transcript
+-- all that the turns before the last one print was written, and a front of what the last one prints, but not all of it
+pub record IsCutInLast (before after : Option (List ℕ)) (turns : List Turn) : Type 0 where
+  pub earlier : List Turn
+  pub last : Turn
+  pub are : turns ≡ earlier ++ last ∷ []
+  pub count : ℕ
+  pub short : count < length (bytes_of last)
+  pub appended : Appends before after (transcript earlier ++ take count (bytes_of last))
+
+-- the transcript was written, and the run is accepted exactly where it holds no refusal; a sink that failed has all but an end of
+-- what the last line prints
 abbrev pub Writes : Ending → Option (List ℕ) → Option (List ℕ) → List Turn → Type 0
 Writes Accepted before after turns = Appends before after (transcript turns) × (any_refused turns ≡ false)
 Writes Refused before after turns = Appends before after (transcript turns) × (any_refused turns ≡ true)
-Writes WriteFault before after turns = (n : ℕ) × Appends before after (take n (transcript turns))
+Writes WriteFault before after turns = IsCutInLast before after turns
 Writes ending before after turns = Appends before after (transcript turns)
 
 -- one run of the model from the first moment on: over the lines that were read, with the transcript that was written and the calls that were due
@@ -51,7 +52,3 @@ pub record RanTo (F : Functions) (status limit : ℕ) (before after : Outside) :
   pub ending : Ending
   pub is_status : status ≡ number_of ending
   pub ran : Ran F ending limit before after
-
--- the status is that of an ending
-abbrev pub IsStatus : ℕ → Type 0
-IsStatus n = (ending : Ending) × (n ≡ number_of ending)

@@ -1,7 +1,7 @@
 -- Whether a line was refused.
 use Rattle.std.specs.Prelude.{Bool, true, false}
-use Rattle.session.specs.declared.session.Did.{Did}
-use Rattle.session.specs.declared.session.Did.TheVariants.{Blank, Accepted, Refused}
+use Rattle.session.specs.declared.answer.Did.{Did}
+use Rattle.session.specs.declared.answer.Did.TheVariants.{Blank, Accepted, Refused}
 
 -- whether a line was refused
 abbrev pub is_refusal_said : Did → Bool

@@ -1,17 +1,16 @@
 //! Runs over the lines of a source.
-ghost use Rattle.std.specs.Prelude.{◌≡◌, ◌⊎◌, ℕ, ◌+◌, ◌^◌, ◌<◌, ◌≤◌, false, true, List, [], length, take, Ok, IfOk, IfErr, OnOk, OnErr, IfSome, Err, ◌||◌};
-ghost use Rattle.std.specs.Io.KnownBytes.{Appends};
-ghost use Rattle.script_io.specs.Causes.{HasCause, Rose};
+ghost use Rattle.std.specs.Prelude.{◌≡◌, ◌⊎◌, ◌^◌, ◌<◌, ◌≤◌, false, true, [], length, Ok, IfOk, IfErr, OnOk, IfSome, Err};
+ghost use Rattle.script_io.specs.Causes.{Rose};
+ghost use Rattle.script_io.specs.Endings.{IsStatus};
 ghost use Rattle.script_io.specs.Lines.{ahead};
-ghost use Rattle.session.specs.Taken.{functions_of};
-ghost use Rattle.incr.specs.declared.ending.Ending.TheVariants as ending;
+ghost use Rattle.script_model.specs.Formula.{functions_of};
+ghost use Rattle.script_io.specs.declared.ending.Ending.TheVariants as ending;
 ghost use Rattle.incr.specs.Progress.{Progress};
-ghost use Rattle.incr.specs.Running.{Outside, Ran, RanTo, IsStatus};
+ghost use Rattle.incr.specs.Running.{Outside, Ran, RanTo};
 ghost use Rattle.incr.specs.Saying.{is_refusal_said};
 
-use crate::ending::Ending;
 use node_arena::Library;
-use script_io::{Failed, Got, LineReader, Sink, Source, write_whole};
+use script_io::{Ending, Got, LineReader, Sink, Source, deliver};
 use session::{Did, Session};
 use std::alloc::{AllocError, Global};
 
@@ -23,18 +22,6 @@ fn is_refused(did: Did) -> bool
         Did::Blank | Did::Accepted => false,
         Did::Refused(_) => true,
     }
-}
-
-/// Writes all that the buffer holds, and clears it.
-fn deliver<K: Sink>(out: &mut K, buffer: &mut Vec<u8>) -> Result<(), Failed>
-    ensures ok { OnOk result (Appends (K.written out.old) (K.written out.new) buffer.old.items) }
-    ensures cleared { OnOk result (buffer.new.items ≡ []) }
-    ensures prefix { OnErr result ((n : ℕ) × Appends (K.written out.old) (K.written out.new) (take n buffer.old.items)) }
-    ensures cause { HasCause (K.faults out.old) (K.faults out.new) result }
-{
-    write_whole(out, buffer)?;
-    buffer.clear();
-    Ok(())
 }
 
 /// Takes the next line of the source, and writes what it prints. The answer is whether a line was

@@ -3,36 +3,17 @@
 #![tactic(auto)]
 
 mod drive;
-mod ending;
 #[cfg(test)]
 mod tests;
 mod top;
 
-use script_io::{StdSink, StdSource, Word};
+use script_io::{StdSink, StdSource, words};
 use std::alloc::AllocError;
-use std::env;
-use std::io::ErrorKind;
 use std::process::ExitCode;
 use std_library::StdLib;
 
 /// The status where no memory is found for what `main` makes itself.
 const NO_MEMORY: u8 = 5;
-
-/// The words of the command line, of which the first is the program's name. There are none where the
-/// system does not tell them, or one is not UTF-8.
-fn words(rt: &HostRuntime) -> Result<Vec<Word>, AllocError> {
-    let mut words = Vec::new(rt.alloc());
-    match env::args(rt) {
-        Ok(args) => {
-            for arg in args {
-                words.push(Word::new(arg))?;
-            }
-        }
-        Err(error) if error.kind() == ErrorKind::OutOfMemory => return Err(AllocError),
-        Err(_) => {}
-    }
-    Ok(words)
-}
 
 fn main(rt: HostRuntime) -> ExitCode {
     let words = match words(&rt) {

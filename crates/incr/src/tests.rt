@@ -2,6 +2,7 @@
 use crate::drive::drive;
 use crate::top::top;
 use script_io::{MemSink, MemSource, Word};
+use session::{Did, Session};
 use std::alloc::{AllocError, Global};
 use std::test::Fail;
 use std_library::StdLib;
@@ -49,13 +50,54 @@ fn scripts(rt: HostRuntime) -> Result<(), Fail> {
     };
     let narrow = Outside { room: 4, ..usual };
     let short = Outside { limit: 12, ..usual };
-    let unstable = "var x int 3\nlet y add(x, 4)\nobserve o y\nshow o\n";
-    let unknown = "var x int 3\nlet y add(q, 1)\nset x 4";
     let rows = [
         ("", usual, "", 0, 0),
         (SCRIPT, usual, "ok\nok\nok\nstable 1\no = 7\n", 0, 1),
-        (unstable, usual, "ok\nok\nok\nrefused 13\n", 1, 0),
-        (unknown, usual, "ok\nrefused 1\nrefused 1\n", 1, 0),
+        (
+            "var x int 3\nlet y add(x, 4)\nobserve o y\nshow o\n",
+            usual,
+            "ok\nok\nok\nrefused 13\n",
+            1,
+            0,
+        ),
+        (
+            "var x int 3\nlet y add(x, 4)\nobserve o y\nstabilize\nshow o\n\
+             set x 5\nshow o\nstabilize\nshow o\n",
+            usual,
+            "ok\nok\nok\nstable 1\no = 7\nok\no = 7\nstable 2\no = 9\n",
+            0,
+            2,
+        ),
+        (
+            "var x int 2\nlet a neg(x)\nlet b neg(x)\nlet c add(a, b)\nobserve o c\nstabilize\n\
+             set x 3\nstabilize\nshow o\n",
+            usual,
+            "ok\nok\nok\nok\nok\nstable 1\nok\nstable 2\no = -6\n",
+            0,
+            6,
+        ),
+        (
+            "var x int 3\nlet y add(x, 4)\nobserve o y\nstabilize\nshow o\nset x 3\nstabilize\n",
+            usual,
+            "ok\nok\nok\nstable 1\no = 7\nok\nstable 2\n",
+            0,
+            1,
+        ),
+        (
+            "var x int 3\nlet p lt(0, x)\nlet q pick(p, 1, 2)\nobserve o q\nstabilize\nset x 5\n\
+             stabilize\nshow o\n",
+            usual,
+            "ok\nok\nok\nok\nstable 1\nok\nstable 2\no = 1\n",
+            0,
+            3,
+        ),
+        (
+            "var t text \"a\\\"b\"\nlet u t\nset u \"\\\\\"\nobserve o u\nstabilize\nshow o",
+            usual,
+            "ok\nok\nok\nok\nstable 1\no = \"\\\\\"\n",
+            0,
+            0,
+        ),
         (SCRIPT, second_read_fails, "ok\nok\n", 3, 0),
         (SCRIPT, narrow, "ok\no", 4, 0),
         (SCRIPT, short, "ok\n", 6, 0),
@@ -99,5 +141,122 @@ fn command_lines(rt: HostRuntime) -> Result<(), Fail> {
         assert_eq!(rt; sink.written(), output.as_bytes(), "at {texts:?}");
         assert_eq!(rt; got, status, "at {texts:?}");
     }
+    Ok(())
+}
+
+/// A line with a text between others, so many times.
+fn repeated(
+    alloc: Global,
+    front: &str,
+    text: &str,
+    count: usize,
+    back: &str,
+) -> Result<String, AllocError> {
+    let mut line = front.to_string(alloc)?;
+    for _ in 0..count {
+        line.push_str(text)?;
+    }
+    line.push_str(back)?;
+    Ok(line)
+}
+
+/// `let NAME neg(neg(..neg(x)..))`, so many levels deep.
+fn nested(alloc: Global, front: &str, levels: usize) -> Result<String, AllocError> {
+    let opened = repeated(alloc, front, "neg(", levels, "x")?;
+    repeated(alloc, &opened, ")", levels, "")
+}
+
+#[test]
+fn lines_are_answered(rt: HostRuntime) -> Result<(), Fail> {
+    let alloc = rt.alloc();
+    let long = repeated(alloc, "", "a", 4_097, "")?;
+    let as_long_as_may_be = repeated(alloc, "", "a", 4_096, "")?;
+    let deep = nested(alloc, "let w ", 64)?;
+    let too_deep = nested(alloc, "let v ", 65)?;
+    let rows: [(&str, &str); 30] = [
+        ("var x int 1", "ok\n"),
+        ("let x 2", "refused 3\n"),
+        ("let y q", "refused 4\n"),
+        ("let y foo(x)", "refused 5\n"),
+        ("let y add(x, true)", "refused 6\n"),
+        ("let y add(x)", "refused 6\n"),
+        ("let y add()", "refused 1\n"),
+        ("let y neg(x)", "ok\n"),
+        ("set y 2", "refused 7\n"),
+        ("observe o x", "ok\n"),
+        ("observe o y", "refused 12\n"),
+        ("show o", "refused 13\n"),
+        ("show q", "refused 11\n"),
+        (&deep, "ok\n"),
+        (&too_deep, "refused 25\n"),
+        ("# note", ""),
+        ("", ""),
+        ("  \r", ""),
+        (&long, "refused 2\n"),
+        (&as_long_as_may_be, "refused 1\n"),
+        ("let x foo(true, q)", "refused 3\n"),
+        ("let z add(foo(q), true)", "refused 4\n"),
+        ("let z foo(add(true))", "refused 5\n"),
+        ("observe o none", "refused 12\n"),
+        ("set none true", "refused 4\n"),
+        ("set y true", "refused 7\n"),
+        ("set x true", "refused 6\n"),
+        ("var x int true", "refused 3\n"),
+        ("var z int 9223372036854775808", "refused 1\n"),
+        ("stabilize", "stable 1\n"),
+    ];
+    let mut script = String::new(alloc);
+    let mut output = String::new(alloc);
+    for (line, answer) in rows {
+        script.push_str(line)?;
+        script.push_str("\n")?;
+        output.push_str(answer)?;
+    }
+    let mut source = MemSource::new(alloc, script.as_bytes().to_vec(alloc)?, 64, Vec::new(alloc))?;
+    let mut sink = MemSink::new(alloc, 1000, Vec::new(alloc))?;
+    let (got, library) = drive(alloc, &mut source, &mut sink, StdLib::new(), 100_000);
+    assert_eq!(rt; sink.written(), output.as_bytes());
+    assert_eq!(rt; got, 1);
+    assert_eq!(rt; library.calls(), 0);
+    Ok(())
+}
+
+#[test]
+fn last_line_without_newline(rt: HostRuntime) -> Result<(), Fail> {
+    let alloc = rt.alloc();
+    let script = repeated(
+        alloc,
+        "var x int 9223372036854775807\nlet y add(x, 1)\nobserve o y\nstabilize\n",
+        "a",
+        4_097,
+        "\nshow o",
+    )?;
+    let mut source = MemSource::new(alloc, script.as_bytes().to_vec(alloc)?, 7, Vec::new(alloc))?;
+    let mut sink = MemSink::new(alloc, 1000, Vec::new(alloc))?;
+    let (got, _) = drive(alloc, &mut source, &mut sink, StdLib::new(), 100_000);
+    assert_eq!(rt;
+        sink.written(),
+        b"ok\nok\nok\nstable 1\nrefused 2\no = -9223372036854775808\n".as_slice()
+    );
+    assert_eq!(rt; got, 1);
+    Ok(())
+}
+
+#[test]
+fn sessions_take_lines(rt: HostRuntime) -> Result<(), Fail> {
+    let alloc = rt.alloc();
+    let mut session = Session::new(alloc, StdLib::new()).map_err(|_| "no session")?;
+    let mut out = Vec::new(alloc);
+    assert_eq!(rt; session.line(b"# note", &mut out)?, Did::Blank);
+    assert_eq!(rt; session.line(b"stabilize", &mut out)?, Did::Accepted);
+    assert_eq!(rt; session.line(b"stabilise", &mut out)?, Did::Refused(1));
+    session.too_long(&mut out)?;
+    assert_eq!(rt;
+        out.as_slice(),
+        b"stable 1\nrefused 1\nrefused 2\n".as_slice()
+    );
+    assert_eq!(rt; session.lines_taken(), 4);
+    assert_eq!(rt; session.library().calls(), 0);
+    assert_eq!(rt; session.into_library().wants(), 0);
     Ok(())
 }

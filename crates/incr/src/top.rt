@@ -1,31 +1,21 @@
 //! The words of the command line, and what they ask for.
-ghost use Rattle.std.specs.Prelude.{◌≡◌, ◌⊎◌, ◌↔◌, ℕ, ◌<◌, ◌≤◌, IsTrue, IfSome, length};
+ghost use Rattle.std.specs.Prelude.{◌≡◌, ◌⊎◌, ◌<◌, ◌≤◌, IfSome, length};
 ghost use Rattle.script_io.specs.Causes.{Rose};
-ghost use Rattle.session.specs.Taken.{functions_of};
-ghost use Rattle.incr.specs.Running.{Outside, RanTo};
-ghost use Rattle.incr.specs.Usage.{IsRunWords, TellsUsage, IsTopStatus};
+ghost use Rattle.script_io.specs.CommandLine.{IsRunWords, TellsUsage, IsTopStatus};
+ghost use Rattle.script_model.specs.Formula.{functions_of};
+ghost use Rattle.incr.specs.Running.{RanTo};
+ghost use Rattle.incr.specs.Usage.{usage_line};
 
 use crate::drive::drive;
 use node_arena::Library;
-use script_io::{Failed, Sink, Source, Word, write_whole};
+use script_io::{Sink, Source, Word, is_run, tell_usage};
 use std::alloc::Global;
-use std::convert::AsStr;
 
 /// The most bytes that a script may have.
 const LONGEST_SCRIPT: u64 = 1_073_741_824;
 
 /// What is written where the words ask for nothing.
 const USAGE: &[u8] = b"usage: incr run | incr gen STEPS SEED\n";
-
-/// Whether the words are the program's name and `run`.
-fn is_run(words: &[Word]) -> bool
-    ensures { IsTrue result ↔ IsRunWords words.now }
-{
-    match words {
-        [_, word] => word.as_str() == "run",
-        _ => false,
-    }
-}
 
 /// Does what the words of the command line ask for, of which the first is the program's name. `run` runs
 /// the script of the source, as `drive` does, of at most 1,073,741,824 bytes. For other words the usage
@@ -41,7 +31,7 @@ pub fn top<S: Source, K: Sink, L: Library>(
     ensures run { IsRunWords words.now.items → RanTo (functions_of (L.named lib) (L.value lib)) result.0 1073741824
         (record { left = S.left src.old; written = K.written out.old; calls = L.calls lib })
         (record { left = S.left src.new; written = K.written out.new; calls = L.calls result.1 }) }
-    ensures usage { (IsRunWords words.now.items → ⊥) → TellsUsage result.0 (K.written out.old) (K.written out.new) }
+    ensures usage { (IsRunWords words.now.items → ⊥) → TellsUsage usage_line result.0 (K.written out.old) (K.written out.new) }
     ensures unread { (IsRunWords words.now.items → ⊥) → src.new ≡ src.old }
     ensures library { (IsRunWords words.now.items → ⊥) → result.1 ≡ lib }
     ensures statuses { IsTopStatus result.0 }
@@ -57,8 +47,5 @@ pub fn top<S: Source, K: Sink, L: Library>(
     if is_run(words) {
         return drive(alloc, src, out, lib, LONGEST_SCRIPT);
     }
-    match write_whole(out, USAGE) {
-        Ok(()) => (2, lib),
-        Err(Failed) => (4, lib),
-    }
+    (tell_usage(out, USAGE), lib)
 }

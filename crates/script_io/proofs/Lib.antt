@@ -1,3 +1,6 @@
+pub mod CommandLine
+pub mod Endings
 pub mod Lines
+pub mod Reading
 mod Taking
 mod Writing

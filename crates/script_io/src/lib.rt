@@ -1,8 +1,10 @@
 //! Where scripts come from and where transcripts go: sources and sinks of bytes, in memory and over
-//! the standard streams, the lines of a source, and the words of a command line.
+//! the standard streams, the lines of a source, how runs over them end, and the words of a command line.
 #![tactic(auto)]
 
 mod byte_reader;
+mod command_line;
+mod ending;
 mod laws;
 mod line_reader;
 mod memory;
@@ -13,10 +15,12 @@ mod standard;
 mod tests;
 mod word;
 
+pub use command_line::{is_run, tell_usage, words};
+pub use ending::Ending;
 pub use laws::{last_line_ends_at_end, lines_end_at_newlines};
 pub use line_reader::{Got, LineReader};
 pub use memory::{MemSink, MemSource, SureSink, SureSource};
-pub use sink::{Sink, write_whole};
+pub use sink::{Sink, deliver, write_whole};
 pub use source::{Failed, Source};
 pub use standard::{StdSink, StdSource};
 pub use word::Word;

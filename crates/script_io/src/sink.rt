@@ -1,5 +1,5 @@
 //! Sinks of bytes.
-ghost use Rattle.std.specs.Prelude.{ℕ, ◌<◌, ◌≤◌, List, Option, length, take, IfOk, OnOk, OnErr};
+ghost use Rattle.std.specs.Prelude.{◌≡◌, ℕ, ◌<◌, List, [], Option, length, take, IfOk, OnOk, OnErr};
 ghost use Rattle.std.specs.Io.{WritesAtMost};
 ghost use Rattle.std.specs.Io.KnownBytes.{Appends, WriteAppends};
 ghost use Rattle.script_io.specs.Causes.{HasCause};
@@ -27,12 +27,24 @@ pub trait Sink {
 /// fails; the front of the bytes is written then.
 pub fn write_whole<K: Sink>(out: &mut K, bytes: &[u8]) -> Result<(), Failed>
     ensures ok { OnOk result (Appends (K.written out.old) (K.written out.new) bytes.now) }
-    ensures prefix { OnErr result ((n : ℕ) × (n ≤ length bytes.now) × Appends (K.written out.old) (K.written out.new) (take n bytes.now)) }
+    ensures prefix { OnErr result ((n : ℕ) × (n < length bytes.now) × Appends (K.written out.old) (K.written out.new) (take n bytes.now)) }
     ensures cause { HasCause (K.faults out.old) (K.faults out.new) result }
 {
     let mut done = 0;
     while done < bytes.len() {
         done += out.write(&bytes[done..])?;
     }
+    Ok(())
+}
+
+/// Writes all that the buffer holds, and clears it.
+pub fn deliver<K: Sink>(out: &mut K, buffer: &mut Vec<u8>) -> Result<(), Failed>
+    ensures ok { OnOk result (Appends (K.written out.old) (K.written out.new) buffer.old.items) }
+    ensures cleared { OnOk result (buffer.new.items ≡ []) }
+    ensures prefix { OnErr result ((n : ℕ) × (n < length buffer.old.items) × Appends (K.written out.old) (K.written out.new) (take n buffer.old.items)) }
+    ensures cause { HasCause (K.faults out.old) (K.faults out.new) result }
+{
+    write_whole(out, buffer)?;
+    buffer.clear();
     Ok(())
 }

@@ -153,8 +153,22 @@ fn streams_fail_and_go_on(rt: HostRuntime) -> Result<(), Fail> {
 }
 
 #[test]
-fn words(rt: HostRuntime) -> Result<(), Fail> {
-    let word = Word::new(String::from_str(rt.alloc(), "run")?);
-    assert_eq!(rt; word.as_str(), "run");
+fn command_lines(rt: HostRuntime) -> Result<(), Fail> {
+    let alloc = rt.alloc();
+    let mut words = Vec::new(alloc);
+    for text in ["incr", "run"] {
+        assert_eq!(rt; is_run(&words), false, "before {text}");
+        let word = Word::new(String::from_str(alloc, text)?);
+        assert_eq!(rt; word.as_str(), text);
+        words.push(word)?;
+    }
+    assert_eq!(rt; is_run(&words), true);
+    let mut sink = MemSink::new(alloc, 8, Vec::new(alloc))?;
+    assert_eq!(rt; tell_usage(&mut sink, b"usage\n"), 2);
+    assert_eq!(rt; tell_usage(&mut sink, b"usage\n"), 4);
+    assert_eq!(rt; sink.written(), b"usage\nus".as_slice());
+    let mut buffer = b"ab".to_vec(alloc)?;
+    assert_eq!(rt; deliver(&mut SureSink::new(), &mut buffer), Ok(()));
+    assert_eq!(rt; buffer.len(), 0);
     Ok(())
 }

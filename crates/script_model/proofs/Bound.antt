@@ -86,12 +86,12 @@ alike_within F add (a ∷ b ∷ []) m end h chain = absurd h.1.1
 alike_within F add (a ∷ b ∷ c ∷ []) m end h chain = absurd h.1.1.1
 alike_within F add (a ∷ b ∷ c ∷ d ∷ []) m end h chain = absurd h.1.1.1.1
 alike_within F add (a ∷ b ∷ c ∷ d ∷ e ∷ []) m end h chain =
-    let first : a.work ≡ 0 = rw (← h.0.line) at chain.1.due in
-    let second : b.work ≡ 0 = rw (← h.1.0.line) at chain.2.1.due in
-    let third : c.work ≡ 0 = rw (← h.1.1.0.line) at chain.2.2.1.due in
-    let calls : WithinWork F start (observed add) d.work = rw (← h.1.1.1.0.line, ← h.1.1.1.0.before) at chain.2.2.2.1.due in
+    let first : a.work ≡ 0 = rw (← h.0.request) at chain.1.due in
+    let second : b.work ≡ 0 = rw (← h.1.0.request) at chain.2.1.due in
+    let third : c.work ≡ 0 = rw (← h.1.1.0.request) at chain.2.2.1.due in
+    let calls : WithinWork F start (observed add) d.work = rw (← h.1.1.1.0.request, ← h.1.1.1.0.before) at chain.2.2.2.1.due in
     let few : d.work ≤ 1 = at_most_one F add d.work calls in
-    let last : e.work ≡ 0 = rw (← h.1.1.1.1.0.line) at chain.2.2.2.2.1.due in
+    let last : e.work ≡ 0 = rw (← h.1.1.1.1.0.request) at chain.2.2.2.2.1.due in
     omega arith
 alike_within F add (a ∷ b ∷ c ∷ d ∷ e ∷ f ∷ ts) m end h chain = absurd h.1.1.1.1.1
 

@@ -3,13 +3,16 @@ use Rattle.std.proofs.Common.{◌≡◌, ℕ, ◌+◌, List, [], ◌∷◌, Some
 use Rattle.inc_value.specs.declared.outcome.Outcome.TheVariants.{Val}
 use Rattle.script_model.specs.Choice.{Every}
 use Rattle.script_model.specs.Formula.{Observer, State, Functions}
-use Rattle.script_model.specs.Language.{Request, request_of, Stabilize, TooLong, Blank, Malformed, Asks}
+use Rattle.script_model.specs.Check.{check_of, names_of}
+use Rattle.script_model.specs.Grammar.{Stabilize}
 use Rattle.script_model.specs.Laws.{ValidMoment, EveryLineIsAnswered, EveryScriptRuns, OneTranscript}
+use Rattle.script_model.specs.Request.{Request, TooLong, Blank, Malformed, TooDeep, Asks, IsRequest}
 use Rattle.script_model.specs.Run.{Turn, MayCall, IsTurn, Chain, bytes_of, lines_read, transcript, IsRun}
 use Rattle.script_model.specs.Settle.{ShowAll, Settles}
-use Rattle.script_model.specs.Step.{Action, Declares, Observes, Stabilizes, Tells, Verdict, Refuse, Allow, checked, Reply, Refused, number_of, LineTooLong, NoCommand, Moment, Accepts, Follows, Answers, reply_to, Step, first_moment}
+use Rattle.script_model.specs.Step.{Action, Declares, Assigns, Observes, Stabilizes, Tells, Verdict, Refuse, Allow, after_check, Reply, Refused, number_of, LineTooLong, NoCommand, LineTooDeep, Moment, Accepts, Follows, Answers, reply_to, first_moment}
 use Rattle.script_model.specs.Valid.{ValidObserver, Valid}
 use Rattle.script_model.proofs.Needs.{declared_gives}
+use Rattle.script_model.proofs.Requests.{every_line_asks, one_request}
 use Rattle.script_model.proofs.Steps.{any_effect}
 use Rattle.script_model.proofs.Validity.{start_is_valid, steps_keep_validity}
 
@@ -32,6 +35,7 @@ accepts_somehow F m Stabilizes valid =
     let done = settles_somehow F m.present valid in
     (record { settled = done.0; present = done.0 }, reply_to m.present Stabilizes ∷ [], (record { settles = done.1; settled = refl }, refl))
 accepts_somehow F m (Declares e) valid = (_, _, (refl, refl))
+accepts_somehow F m (Assigns n v) valid = (_, _, (refl, refl))
 accepts_somehow F m (Observes o) valid = (_, _, (refl, refl))
 accepts_somehow F m (Tells name o) valid = (_, _, (refl, refl))
 
@@ -43,10 +47,14 @@ answers_somehow : (F : Functions) (m : Moment) (r : Request) → Valid m.present
 answers_somehow F m TooLong valid = (m, Refused (number_of LineTooLong) ∷ [], (refl, refl))
 answers_somehow F m Blank valid = (m, [], (refl, refl))
 answers_somehow F m Malformed valid = (m, Refused (number_of NoCommand) ∷ [], (refl, refl))
-answers_somehow F m (Asks c) valid = follows_somehow F m (checked F m.present c) valid
+answers_somehow F m TooDeep valid = (m, Refused (number_of LineTooDeep) ∷ [], (refl, refl))
+answers_somehow F m (Asks l) valid = follows_somehow F m (after_check m.present (check_of F (names_of m.present) l)) valid
 
 pub every_line_is_answered : EveryLineIsAnswered
-every_line_is_answered F m line valid = answers_somehow F m (request_of line) valid.1
+every_line_is_answered F m line valid =
+    let asks = every_line_asks line in
+    let done = answers_somehow F m asks.0 valid.1 in
+    (done.0, done.1, (asks.0, asks.1, done.2))
 
 -- ---- every script has a run
 
@@ -59,9 +67,10 @@ runs_from : (F : Functions) (lines : List (List ℕ)) (m : Moment) → ValidMome
 runs_from F [] m valid = ([], m, refl, refl)
 runs_from F (line ∷ lines) m valid =
     let first = every_line_is_answered F m line valid in
-    let t : Turn = record { before = m; line = line; after = first.0; replies = first.1; work = 0 } in
-    let is_turn : IsTurn F t = record { leads = first.2; due = no_call F m (request_of line) } in
-    let rest = runs_from F lines first.0 (steps_keep_validity F m first.0 line first.1 valid first.2) in
+    let how = first.2 in
+    let t : Turn = record { before = m; line = line; request = how.0; after = first.0; replies = first.1; work = 0 } in
+    let is_turn : IsTurn F t = record { asks = how.1; answers = how.2; due = no_call F m how.0 } in
+    let rest = runs_from F lines first.0 (steps_keep_validity F m first.0 line first.1 valid how) in
     (t ∷ rest.0, rest.1, (refl, is_turn, rest.2), ap (λ (ls : List (List ℕ)). line ∷ ls) rest.3)
 
 pub every_script_runs : EveryScriptRuns
@@ -73,6 +82,7 @@ every_script_runs F lines = let run = runs_from F lines first_moment start_is_va
 pub record Alike (t u : Turn) : Type 0 where
   pub before : t.before ≡ u.before
   pub line : t.line ≡ u.line
+  pub request : t.request ≡ u.request
   pub after : t.after ≡ u.after
   pub replies : t.replies ≡ u.replies
 
@@ -85,9 +95,11 @@ AllAlike (t ∷ ts) (u ∷ us) = Alike t u × AllAlike ts us
 turns_alike : (F : Functions) (m : Moment) (t u : Turn) → t.before ≡ m → u.before ≡ m → t.line ≡ u.line → IsTurn F t → IsTurn F u → Alike t u
 turns_alike F m t u begins begins' line h k =
     let before = begins ∙ sym begins' in
-    let leads : Step F u.before u.line t.after t.replies = rw (before, line) at h.leads in
-    let same = any_effect F u.before t.after u.after u.line t.replies u.replies leads k.leads in
-    record { before = before; line = line; after = same.0; replies = same.1 }
+    let asks : IsRequest u.line t.request = rw line at h.asks in
+    let answers : Answers F u.before t.request t.after t.replies = rw before at h.answers in
+    let request = one_request u.line t.request u.request asks k.asks in
+    let same = any_effect F u.before t.after u.after u.line t.replies u.replies (t.request, asks, answers) (u.request, k.asks, k.answers) in
+    record { before = before; line = line; request = request; after = same.0; replies = same.1 }
 
 chains_alike : (F : Functions) (m : Moment) (ts us : List Turn) (end end' : Moment) → Chain F m ts end → Chain F m us end' → lines_read ts ≡ lines_read us → AllAlike ts us
 chains_alike F m [] [] end end' h k lines = tt

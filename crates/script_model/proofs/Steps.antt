@@ -1,21 +1,26 @@
 -- Refusals change nothing, and a line has one effect.
-use Rattle.std.proofs.Common.{◌≡◌, ℕ, Bool, true, false, List, [], ◌∷◌, Option, None, Some, refl, sym, ◌∙◌, ap, not, is_some}
+use Rattle.std.proofs.Common.{◌≡◌, ℕ, Bool, true, false, List, [], ◌∷◌, Option, None, Some, refl, sym, ◌∙◌, ap, not, is_some, length, slice_get}
 use Rattle.std.specs.List.{list_any}
 use Rattle.inc_value.specs.declared.outcome.Outcome.{Outcome}
-use Rattle.inc_value.specs.declared.ty.Ty.TheVariants as ty
+use Rattle.inc_value.specs.Ty.{same_ty}
 use Rattle.inc_value.specs.declared.ty.Ty.{Ty}
-use Rattle.inc_value.specs.declared.value.Value.TheVariants as value
-use Rattle.script_model.specs.Formula.{Body, Observer, State, Functions, Name, Apply, End, More, Variable, Computed}
-use Rattle.script_model.specs.Language.{Command, Request, request_of, Var, Let, Observe, Stabilize, Show, TooLong, Blank, Malformed, Asks}
+use Rattle.script_model.specs.Check as check
+use Rattle.script_model.specs.Check.{Reason, Checked, Names, Declare, Assign, Observe, Stabilize, Show, find_declared, is_in_use, is_variable, has_names, has_functions, typed, check_of, names_of, ObserverUnknown, NameTaken, NameUnknown, FunctionUnknown, IllTyped, NotVariable, ObserverTaken, type_of_literal, type_of_base, value_of_literal, target_of_formula}
+use Rattle.script_model.specs.Formula.{Body, Observer, State, Functions, Name, Variable, Computed}
+use Rattle.script_model.specs.Grammar as grammar
+use Rattle.script_model.specs.Grammar.{Line}
 use Rattle.script_model.specs.Laws.{RefusalsChangeNothing, OneEffect, SettlesOneWay}
+use Rattle.script_model.specs.Request.{Request, TooLong, Blank, Malformed, TooDeep, Asks}
 use Rattle.script_model.specs.Settle.{ShowAll}
-use Rattle.script_model.specs.Step.{Refusal, Action, Declares, Observes, Stabilizes, Tells, Verdict, Refuse, Allow, refused_if, needs, checked, declared, has_too_many, typed_argument, fits, find_entry, find_observer, TooManyPlaces, NameTaken, ObserverTaken, NameUnknown, ObserverUnknown, FunctionUnknown, IllTyped, NotStabilized, Reply, is_refusal, Moment, Stabilized, Follows, Answers, Step, reply_to}
+use Rattle.script_model.specs.Step.{Refusal, Because, Action, Declares, Assigns, Observes, Stabilizes, Tells, Verdict, Refuse, Allow, refused_if, needs, action_of, after_check, has_too_many, find_observer, TooManyPlaces, NotStabilized, Reply, is_refusal, Moment, Stabilized, Follows, Answers, Step, reply_to}
 use Rattle.script_model.proofs.Evaluation.{one_outcome}
+use Rattle.script_model.proofs.Requests.{one_request}
 
 -- ---- refusals
 
 accepted_reply : (s : State) (a : Action) → is_refusal (reply_to s a) ≡ false
 accepted_reply s (Declares e) = refl
+accepted_reply s (Assigns n v) = refl
 accepted_reply s (Observes o) = refl
 accepted_reply s Stabilizes = refl
 accepted_reply s (Tells name o) = refl
@@ -32,10 +37,11 @@ refused_answers : (F : Functions) (m after : Moment) (r : Request) (replies : Li
 refused_answers F m after TooLong replies h refused = h.0
 refused_answers F m after Blank replies h refused = h.0
 refused_answers F m after Malformed replies h refused = h.0
-refused_answers F m after (Asks c) replies h refused = refused_follows F m after (checked F m.present c) replies h refused
+refused_answers F m after TooDeep replies h refused = h.0
+refused_answers F m after (Asks l) replies h refused = refused_follows F m after (after_check m.present (check_of F (names_of m.present) l)) replies h refused
 
 pub refusals_change_nothing : RefusalsChangeNothing
-refusals_change_nothing F m after line replies step refused = refused_answers F m after (request_of line) replies step refused
+refusals_change_nothing F m after line replies step refused = refused_answers F m after step.0 replies step.2 refused
 
 -- ---- one effect
 
@@ -52,21 +58,45 @@ plain_needs : {A : Type 0} (o : Option A) (why : Refusal) (next : A → Verdict)
 plain_needs None why next plain = tt
 plain_needs (Some x) why next plain = plain x
 
-plain_declared : (s : State) (name : List ℕ) (t : Ty) (body : Body) → IsPlain (declared s name t body)
-plain_declared s name t body = plain_unless (has_too_many s body) TooManyPlaces _ tt
+-- not what a `stabilize` comes to
+record IsPlainCheck (s : State) (checked : Checked) : Type 0 where
+  plain : IsPlain (after_check s checked)
 
-plain_checked : (F : Functions) (s : State) (c : Command) → (c ≡ Stabilize → ⊥) → IsPlain (checked F s c)
-plain_checked F s (Var name first) other = plain_unless (is_some (find_entry name s.entries)) NameTaken _ (plain_declared s name ty.Int (Variable (value.Int first)))
-plain_checked F s (Let name function left right) other =
-    plain_unless (is_some (find_entry name s.entries)) NameTaken _ (
-    plain_needs (typed_argument s left) NameUnknown _ (λ a.
-    plain_needs (typed_argument s right) NameUnknown _ (λ b.
-    plain_needs (F.named function) FunctionUnknown _ (λ f.
-    plain_unless (not (fits f a.ty b.ty)) IllTyped _ (plain_declared s name f.sig.gives (Computed (Apply f (More a.formula (More b.formula End)))))))))
-plain_checked F s (Observe observer name) other =
-    plain_unless (is_some (find_observer observer s.observers)) ObserverTaken _ (plain_needs (find_entry name s.entries) NameUnknown _ (λ e. tt))
-plain_checked F s Stabilize other = other refl
-plain_checked F s (Show observer) other = plain_needs (find_observer observer s.observers) ObserverUnknown _ (λ x. plain_needs x.shown NotStabilized _ (λ o. tt))
+plain_declare : (s : State) (name : List ℕ) (t : Ty) (body : Body) (target : ℕ) → IsPlain (action_of s (Declare name t body target))
+plain_declare s name t body target = plain_unless (has_too_many s body) TooManyPlaces _ tt
+
+plain_show : (s : State) (observer : List ℕ) → IsPlain (action_of s (Show observer))
+plain_show s observer = plain_needs (find_observer observer s.observers) (Because ObserverUnknown) _ (λ x. plain_needs x.shown NotStabilized _ (λ o. tt))
+
+checked_unless : (s : State) (b : Bool) (why : Reason) (c : Checked) → IsPlainCheck s c → IsPlainCheck s (check.refused_if b why c)
+checked_unless s true why c plain = record { plain = tt }
+checked_unless s false why c plain = plain
+
+checked_needs : {A : Type 0} (s : State) (o : Option A) (why : Reason) (next : A → Checked) → ((x : A) → IsPlainCheck s (next x)) → IsPlainCheck s (check.needs o why next)
+checked_needs s None why next plain = record { plain = tt }
+checked_needs s (Some x) why next plain = plain x
+
+plain_checked : (F : Functions) (s : State) (names : Names) (l : Line) → (l ≡ grammar.Stabilize → ⊥) → IsPlainCheck s (check_of F names l)
+plain_checked F s names (grammar.Var name base first) other =
+    checked_unless s (is_some (find_declared name names.declared)) NameTaken _ (
+    checked_unless s (not (same_ty (type_of_literal first) (type_of_base base))) IllTyped _ (
+    record { plain = plain_declare s name (type_of_base base) (Variable (value_of_literal first)) (length names.declared) }))
+plain_checked F s names (grammar.Set name value) other =
+    checked_needs s (find_declared name names.declared) NameUnknown _ (λ d.
+    checked_unless s (not (is_variable (slice_get names.declared d.target))) NotVariable _ (
+    checked_unless s (not (same_ty (type_of_literal value) d.ty)) IllTyped (check.Allow (Assign d.target (value_of_literal value))) (record { plain = tt })))
+plain_checked F s names (grammar.Let name formula) other =
+    checked_unless s (is_some (find_declared name names.declared)) NameTaken _ (
+    checked_unless s (not (has_names names formula)) NameUnknown _ (
+    checked_unless s (not (has_functions F formula)) FunctionUnknown _ (
+    checked_needs s (typed F names formula) IllTyped _ (λ t.
+    record { plain = plain_declare s name t.ty (Computed t.formula) (target_of_formula (length names.declared) t.formula) }))))
+plain_checked F s names (grammar.Observe observer name) other =
+    checked_unless s (is_in_use observer names.observers) ObserverTaken _ (
+    checked_needs s (find_declared name names.declared) NameUnknown (λ d. check.Allow (Observe observer d.target)) (λ d. record { plain = tt }))
+plain_checked F s names grammar.Stabilize other = absurd (other refl)
+plain_checked F s names (grammar.Show observer) other =
+    checked_unless s (not (is_in_use observer names.observers)) ObserverUnknown _ (record { plain = plain_show s observer })
 
 abbrev Same : Moment → Moment → List Reply → List Reply → Type 0
 Same a b rs qs = (a ≡ b) × (rs ≡ qs)
@@ -74,19 +104,24 @@ Same a b rs qs = (a ≡ b) × (rs ≡ qs)
 one_follows : (F : Functions) (m a b : Moment) (v : Verdict) (rs qs : List Reply) → IsPlain v → Follows F m v a rs → Follows F m v b qs → Same a b rs qs
 one_follows F m a b (Refuse why) rs qs plain h k = (h.0 ∙ sym k.0, h.1 ∙ sym k.1)
 one_follows F m a b (Allow (Declares e)) rs qs plain h k = (h.0 ∙ sym k.0, h.1 ∙ sym k.1)
+one_follows F m a b (Allow (Assigns n v)) rs qs plain h k = (h.0 ∙ sym k.0, h.1 ∙ sym k.1)
 one_follows F m a b (Allow (Observes o)) rs qs plain h k = (h.0 ∙ sym k.0, h.1 ∙ sym k.1)
 one_follows F m a b (Allow Stabilizes) rs qs plain h k = absurd plain
 one_follows F m a b (Allow (Tells name o)) rs qs plain h k = (h.0 ∙ sym k.0, h.1 ∙ sym k.1)
 
-one_answers : (F : Functions) (m a b : Moment) (r : Request) (rs qs : List Reply) → (r ≡ Asks Stabilize → ⊥) → Answers F m r a rs → Answers F m r b qs → Same a b rs qs
+one_answers : (F : Functions) (m a b : Moment) (r : Request) (rs qs : List Reply) → (r ≡ Asks grammar.Stabilize → ⊥) → Answers F m r a rs → Answers F m r b qs → Same a b rs qs
 one_answers F m a b TooLong rs qs other h k = (h.0 ∙ sym k.0, h.1 ∙ sym k.1)
 one_answers F m a b Blank rs qs other h k = (h.0 ∙ sym k.0, h.1 ∙ sym k.1)
 one_answers F m a b Malformed rs qs other h k = (h.0 ∙ sym k.0, h.1 ∙ sym k.1)
-one_answers F m a b (Asks c) rs qs other h k =
-    one_follows F m a b (checked F m.present c) rs qs (plain_checked F m.present c (λ is. other (ap Asks is))) h k
+one_answers F m a b TooDeep rs qs other h k = (h.0 ∙ sym k.0, h.1 ∙ sym k.1)
+one_answers F m a b (Asks l) rs qs other h k =
+    one_follows F m a b (after_check m.present (check_of F (names_of m.present) l)) rs qs
+    (plain_checked F m.present (names_of m.present) l (λ is. other (ap (λ x. Asks x) is))).plain h k
 
 pub one_effect : OneEffect
-one_effect F m a b line rs qs other h k = one_answers F m a b (request_of line) rs qs other h k
+one_effect F m a b line rs qs other h k =
+    let same = one_request line k.0 h.0 k.1 h.1 in
+    one_answers F m a b h.0 rs qs (λ is. other (rw is at h.1)) h.2 (rw same at k.2)
 
 -- ---- one way to settle
 
@@ -116,9 +151,11 @@ stabilizes_one_way F m a b h k =
     λ i. record { settled = settled i; present = present i }
 
 any_answers : (F : Functions) (m a b : Moment) (r : Request) (rs qs : List Reply) → Answers F m r a rs → Answers F m r b qs → Same a b rs qs
-any_answers F m a b (Asks Stabilize) rs qs h k = (stabilizes_one_way F m a b h.0 k.0, h.1 ∙ sym k.1)
+any_answers F m a b (Asks grammar.Stabilize) rs qs h k = (stabilizes_one_way F m a b h.0 k.0, h.1 ∙ sym k.1)
 any_answers F m a b r rs qs h k = one_answers F m a b r rs qs (λ is. cc) h k
 
 -- a stabilize too has one effect
 pub any_effect : (F : Functions) (m a b : Moment) (line : List ℕ) (rs qs : List Reply) → Step F m line a rs → Step F m line b qs → (a ≡ b) × (rs ≡ qs)
-any_effect F m a b line rs qs h k = any_answers F m a b (request_of line) rs qs h k
+any_effect F m a b line rs qs h k =
+    let same = one_request line k.0 h.0 k.1 h.1 in
+    any_answers F m a b h.0 rs qs h.2 (rw same at k.2)

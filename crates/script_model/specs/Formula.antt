@@ -51,6 +51,10 @@ pub record Functions : Type 0 where
   pub named : List ℕ → Option FnRef
   pub value : FnRef → List Value → Value
 
+-- the functions of a library, by what its names stand for and what they give
+abbrev pub functions_of : (List ℕ → Option FnRef) → (FnRef → List Value → Value) → Functions
+functions_of named value = record { named = named; value = value }
+
 -- the declaration at a position
 abbrev pub entry_at : State → ℕ → Option Entry
 entry_at s n = slice_get s.entries n

@@ -9,8 +9,9 @@ use Rattle.inc_value.specs.declared.value.Value.{Value}
 use Rattle.script_model.specs.Choice.{Reaches}
 use Rattle.script_model.specs.Formula.{Formula, Formulas, Entry, State, Functions, entry_at, Name, Apply}
 use Rattle.script_model.specs.Evaluate.{value_at, Gives}
-use Rattle.script_model.specs.Language.{request_of, Stabilize, Asks}
+use Rattle.script_model.specs.Grammar.{Stabilize}
 use Rattle.script_model.specs.Need.{Item, Named, Place, formula_at, Reads, Needed, Visit, IsVisit, WithinWork}
+use Rattle.script_model.specs.Request.{Request, Asks, IsRequest}
 use Rattle.script_model.specs.Run.{Turn, IsRun, transcript}
 use Rattle.script_model.specs.Settle.{Settles}
 use Rattle.script_model.specs.Step.{Moment, Reply, Step, is_refusal, first_moment}
@@ -24,6 +25,14 @@ EveryDepthAgrees = (F : Functions) (s : State) (d e : ℕ) (f : Formula) (o : Ou
 abbrev pub OneOutcome : Type 0
 OneOutcome = (F : Functions) (s : State) (f : Formula) (o p : Outcome) → Gives F s f o → Gives F s f p → o ≡ p
 
+-- a line asks for one thing
+abbrev pub OneRequest : Type 0
+OneRequest = (line : List ℕ) (a b : Request) → IsRequest line a → IsRequest line b → a ≡ b
+
+-- every line asks for something
+abbrev pub EveryLineAsks : Type 0
+EveryLineAsks = (line : List ℕ) → (request : Request) × IsRequest line request
+
 -- a line that is answered by a refusal leaves everything as it was
 abbrev pub RefusalsChangeNothing : Type 0
 RefusalsChangeNothing =
@@ -32,7 +41,7 @@ RefusalsChangeNothing =
 -- a line that isn't a stabilize leads to one moment, with one answer
 abbrev pub OneEffect : Type 0
 OneEffect =
-    (F : Functions) (m a b : Moment) (line : List ℕ) (rs qs : List Reply) → (request_of line ≡ Asks Stabilize → ⊥)
+    (F : Functions) (m a b : Moment) (line : List ℕ) (rs qs : List Reply) → (IsRequest line (Asks Stabilize) → ⊥)
     → Step F m line a rs → Step F m line b qs → (a ≡ b) × (rs ≡ qs)
 
 -- a stabilize leaves one state

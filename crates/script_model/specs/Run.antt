@@ -2,14 +2,16 @@
 use Rattle.std.specs.Prelude.{◌≡◌, ℕ, Bool, List, [], ◌∷◌, map}
 use Rattle.std.specs.List.{sum_by, flat_map, list_any}
 use Rattle.script_model.specs.Formula.{Functions}
-use Rattle.script_model.specs.Language.{Request, request_of, Stabilize, Asks}
+use Rattle.script_model.specs.Grammar.{Stabilize}
 use Rattle.script_model.specs.Need.{WithinWork}
-use Rattle.script_model.specs.Step.{Moment, Reply, Step, printed, is_refusal, first_moment}
+use Rattle.script_model.specs.Request.{Request, Asks, IsRequest}
+use Rattle.script_model.specs.Step.{Moment, Reply, Answers, printed, is_refusal, first_moment}
 
--- one line, with what it led to and how many calls of functions were due
+-- one line, with what it asks for, what it led to and how many calls of functions were due
 pub record Turn : Type 0 where
   pub before : Moment
   pub line : List ℕ
+  pub request : Request
   pub after : Moment
   pub replies : List Reply
   pub work : ℕ
@@ -21,8 +23,9 @@ MayCall F m request calls = calls ≡ 0
 
 -- the line leads where the turn says
 pub record IsTurn (F : Functions) (t : Turn) : Type 0 where
-  pub leads : Step F t.before t.line t.after t.replies
-  pub due : MayCall F t.before (request_of t.line) t.work
+  pub asks : IsRequest t.line t.request
+  pub answers : Answers F t.before t.request t.after t.replies
+  pub due : MayCall F t.before t.request t.work
 
 -- turns one after the other
 abbrev pub Chain : Functions → Moment → List Turn → Moment → Type 0

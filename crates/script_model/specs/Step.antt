@@ -1,18 +1,14 @@
 -- One line of a script: what it is refused with, what it changes, and what it prints.
-use Rattle.std.specs.Prelude.{◌≡◌, ℕ, ◌+◌, Bool, true, false, not, ◌&&◌, nat_lt, if◌then◌else◌, List, [], ◌∷◌, ◌++◌, length, codes, Option, None, Some, MatchOption, is_some}
+use Rattle.std.specs.Prelude.{◌≡◌, ℕ, zero, suc, ◌+◌, Bool, true, false, nat_lt, if◌then◌else◌, List, [], ◌∷◌, ◌++◌, codes, Option, None, Some, MatchOption}
 use Rattle.std.specs.Fmt.{decimal}
 use Rattle.std.specs.Str.{bytes_eq}
-use Rattle.inc_value.specs.declared.function.FnRef.{FnRef}
 use Rattle.inc_value.specs.declared.outcome.Outcome.{Outcome}
-use Rattle.inc_value.specs.declared.ty.Base.TheVariants as base
-use Rattle.inc_value.specs.declared.ty.Base.{Base}
-use Rattle.inc_value.specs.declared.ty.Ty.TheVariants as ty
-use Rattle.inc_value.specs.declared.ty.Ty.{Ty}
-use Rattle.inc_value.specs.declared.value.Value.TheVariants as value
+use Rattle.inc_value.specs.declared.value.Value.{Value}
 use Rattle.inc_value.specs.Outcome.{printed_outcome}
-use Rattle.script_model.specs.Choice.{and_then}
-use Rattle.script_model.specs.Formula.{Formula, Body, Entry, Observer, State, Functions, start, places_of, places_of_body, Literal, Name, Apply, End, More, Variable, Computed}
-use Rattle.script_model.specs.Language.{Argument, Command, Request, request_of, Constant, Mention, Var, Let, Observe, Stabilize, Show, TooLong, Blank, Malformed, Asks}
+use Rattle.script_model.specs.Check as check
+use Rattle.script_model.specs.Check.{Reason, Checked, Command, ObserverUnknown, reason_number, check_of, names_of, Declare, Assign, Observe, Stabilize, Show}
+use Rattle.script_model.specs.Formula.{Body, Entry, Observer, State, Functions, start, places_of, places_of_body, Variable}
+use Rattle.script_model.specs.Request.{Request, TooLong, Blank, Malformed, TooDeep, Asks, IsRequest}
 use Rattle.script_model.specs.Settle.{Settles}
 
 -- ---- refusals
@@ -21,59 +17,26 @@ use Rattle.script_model.specs.Settle.{Settles}
 pub data Refusal : Type 0 where
   LineTooLong : Refusal
   NoCommand : Refusal
-  NameTaken : Refusal
-  ObserverTaken : Refusal
-  NameUnknown : Refusal
-  ObserverUnknown : Refusal
-  FunctionUnknown : Refusal
-  IllTyped : Refusal
+  LineTooDeep : Refusal
+  Because : (why : Reason) → Refusal
   NotStabilized : Refusal
   TooManyPlaces : Refusal
 
--- the number that is printed: over these forms 1 stands for all that isn't told apart yet
+-- the number that is printed
 abbrev pub number_of : Refusal → ℕ
+number_of NoCommand = 1
 number_of LineTooLong = 2
+number_of (Because why) = reason_number why
 number_of NotStabilized = 13
-number_of why = 1
-
--- ---- looking up
-
--- the first declaration of a name
-abbrev pub find_entry : List ℕ → List Entry → Option Entry
-find_entry name [] = None
-find_entry name (e ∷ es) = if bytes_eq name e.name then Some e else find_entry name es
-
--- the observer in use of a name
-abbrev pub find_observer : List ℕ → List Observer → Option Observer
-find_observer name [] = None
-find_observer name (o ∷ os) = if bytes_eq name o.name then Some o else find_observer name os
-
--- the same base type
-abbrev pub same_base : Base → Base → Bool
-same_base base.Int base.Int = true
-same_base base.Bool base.Bool = true
-same_base base.Text base.Text = true
-same_base a b = false
-
--- the same type
-abbrev pub same_ty : Ty → Ty → Bool
-same_ty ty.Int ty.Int = true
-same_ty ty.Bool ty.Bool = true
-same_ty ty.Text ty.Text = true
-same_ty (ty.Node a) (ty.Node b) = same_base a b
-same_ty a b = false
-
--- the same types, one for one
-abbrev pub same_types : List Ty → List Ty → Bool
-same_types [] [] = true
-same_types (a ∷ left) (b ∷ right) = same_ty a b && same_types left right
-same_types left right = false
+number_of TooManyPlaces = 19
+number_of LineTooDeep = 25
 
 -- ---- what a command comes to
 
 -- what an accepted command does
 pub data Action : Type 0 where
   Declares : (entry : Entry) → Action
+  Assigns : (target : ℕ) (value : Value) → Action
   Observes : (observer : Observer) → Action
   Stabilizes : Action
   Tells : (observer : List ℕ) (outcome : Outcome) → Action
@@ -93,53 +56,32 @@ abbrev pub needs : {A : Type 0} → Option A → Refusal → (A → Verdict) →
 needs None why verdict = Refuse why
 needs (Some x) why verdict = verdict x
 
+-- the observer in use of a name
+abbrev pub find_observer : List ℕ → List Observer → Option Observer
+find_observer name [] = None
+find_observer name (o ∷ os) = if bytes_eq name o.name then Some o else find_observer name os
+
 -- a script has at most 1,048,575 places
 abbrev pub has_too_many : State → Body → Bool
 has_too_many s body = nat_lt 1048575 (places_of s + places_of_body body)
 
--- a new declaration, which is its own target
-abbrev pub declared : State → List ℕ → Ty → Body → Verdict
-declared s name t body =
-    refused_if (has_too_many s body) TooManyPlaces (Allow (Declares (record { name = name; ty = t; target = length s.entries; body = body })))
-
--- an argument with its type
-pub record Typed : Type 0 where
-  pub formula : Formula
-  pub ty : Ty
-
--- an integer, or a name that is declared, with its type
-abbrev pub typed_argument : State → Argument → Option Typed
-typed_argument s (Constant z) = Some (record { formula = Literal (value.Int z); ty = ty.Int })
-typed_argument s (Mention name) = and_then (find_entry name s.entries) (λ e. Some (record { formula = Name e.target; ty = e.ty }))
-
--- a function of two arguments of these types that gives an int
-abbrev pub fits : FnRef → Ty → Ty → Bool
-fits f a b = same_types f.sig.takes (a ∷ b ∷ []) && same_ty f.sig.gives ty.Int
-
--- a function of two arguments
-abbrev pub applied_to : State → List ℕ → FnRef → Typed → Typed → Verdict
-applied_to s name f a b =
-    refused_if (not (fits f a.ty b.ty)) IllTyped (declared s name f.sig.gives (Computed (Apply f (More a.formula (More b.formula End)))))
-
--- what a command comes to: the first refusal whose condition holds, or what it does
-abbrev pub checked : Functions → State → Command → Verdict
-checked F s (Var name first) =
-    refused_if (is_some (find_entry name s.entries)) NameTaken (declared s name ty.Int (Variable (value.Int first)))
-checked F s (Let name function left right) =
-    refused_if (is_some (find_entry name s.entries)) NameTaken (
-    needs (typed_argument s left) NameUnknown (λ a.
-    needs (typed_argument s right) NameUnknown (λ b.
-    needs (F.named function) FunctionUnknown (λ f.
-    applied_to s name f a b))))
-checked F s (Observe observer name) =
-    refused_if (is_some (find_observer observer s.observers)) ObserverTaken (
-    needs (find_entry name s.entries) NameUnknown (λ e.
-    Allow (Observes (record { name = observer; target = e.target; shown = None }))))
-checked F s Stabilize = Allow Stabilizes
-checked F s (Show observer) =
-    needs (find_observer observer s.observers) ObserverUnknown (λ x.
+-- what a command does whose names, functions and types fit: a declaration needs room for its places, and an observer
+-- shows what the last stabilize gave it
+abbrev pub action_of : State → Command → Verdict
+action_of s (Declare name ty body target) =
+    refused_if (has_too_many s body) TooManyPlaces (Allow (Declares (record { name = name; ty = ty; target = target; body = body })))
+action_of s (Assign target value) = Allow (Assigns target value)
+action_of s (Observe observer target) = Allow (Observes (record { name = observer; target = target; shown = None }))
+action_of s Stabilize = Allow Stabilizes
+action_of s (Show observer) =
+    needs (find_observer observer s.observers) (Because ObserverUnknown) (λ x.
     needs x.shown NotStabilized (λ o.
     Allow (Tells x.name o)))
+
+-- what follows where names, functions and types were looked at
+abbrev pub after_check : State → Checked → Verdict
+after_check s (check.Refuse why) = Refuse (Because why)
+after_check s (check.Allow command) = action_of s command
 
 -- ---- what is printed
 
@@ -173,9 +115,16 @@ pub record Moment : Type 0 where
 abbrev pub first_moment : Moment
 first_moment = record { settled = start; present = start }
 
+-- the declarations, with another value of the variable at a position
+abbrev pub with_value : List Entry → ℕ → Value → List Entry
+with_value [] n v = []
+with_value (e ∷ es) zero v = record e { body = Variable v } ∷ es
+with_value (e ∷ es) (suc n) v = e ∷ with_value es n v
+
 -- the one state that an action leaves; none for a stabilize, which has a definition of its own
 abbrev pub effect : State → Action → Option State
 effect s (Declares e) = Some (record s { entries = s.entries ++ e ∷ [] })
+effect s (Assigns target v) = Some (record s { entries = with_value s.entries target v })
 effect s (Observes o) = Some (record s { observers = s.observers ++ o ∷ [] })
 effect s (Tells name o) = Some s
 effect s Stabilizes = None
@@ -210,8 +159,9 @@ abbrev pub Answers : Functions → Moment → Request → Moment → List Reply 
 Answers F m TooLong after replies = Refuses m LineTooLong after replies
 Answers F m Blank after replies = (after ≡ m) × (replies ≡ [])
 Answers F m Malformed after replies = Refuses m NoCommand after replies
-Answers F m (Asks command) after replies = Follows F m (checked F m.present command) after replies
+Answers F m TooDeep after replies = Refuses m LineTooDeep after replies
+Answers F m (Asks line) after replies = Follows F m (after_check m.present (check_of F (names_of m.present) line)) after replies
 
 -- a line leads from one moment to the next, and prints these replies
 abbrev pub Step : Functions → Moment → List ℕ → Moment → List Reply → Type 0
-Step F m line after replies = Answers F m (request_of line) after replies
+Step F m bytes after replies = (request : Request) × IsRequest bytes request × Answers F m request after replies

@@ -2,15 +2,17 @@
 use Rattle.std.specs.Prelude.{◌≡◌, ℕ, ◌<◌, ◌≤◌, List, [], ◌∷◌, length, Some}
 use Rattle.inc_value.specs.Value.{type_of}
 use Rattle.inc_value.specs.declared.ty.Ty.{Ty}
+use Rattle.script_model.specs.Check.{target_of_body}
 use Rattle.script_model.specs.Choice.{Every}
 use Rattle.script_model.specs.Formula.{Formula, Formulas, Body, Entry, Observer, State, entry_at, places_of, Literal, Name, Apply, End, More, Variable, Computed}
 
--- an earlier declaration of this type stands at the position
+-- an earlier declaration of this type stands at the position, which is its own target
 pub record NameHasType (s : State) (below position : ℕ) (ty : Ty) : Type 0 where
   pub entry : Entry
   pub earlier : position < below
   pub stands : entry_at s position ≡ Some entry
   pub typed : entry.ty ≡ ty
+  pub own : entry.target ≡ position
 
 abbrev mutual
   -- in the declaration at position n a formula has this type
@@ -31,10 +33,11 @@ abbrev pub BodyHasType : State → ℕ → Body → Ty → Type 0
 BodyHasType s n (Variable v) t = type_of v ≡ t
 BodyHasType s n (Computed f) t = HasType s n f t
 
--- a declaration that may stand at position n: well typed, and its own target
+-- a declaration that may stand at position n: well typed, and its target is that of the name that its whole formula is, or
+-- itself
 pub record ValidEntry (s : State) (n : ℕ) (e : Entry) : Type 0 where
   pub typed : BodyHasType s n e.body e.ty
-  pub own : e.target ≡ n
+  pub target_is : e.target ≡ target_of_body n e.body
 
 -- an observer of a name that is declared
 abbrev pub ValidObserver : State → Observer → Type 0

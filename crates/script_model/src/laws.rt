@@ -1,6 +1,8 @@
 //! Laws of the definitions. Each function does nothing: its contract is the law.
-ghost use Rattle.script_model.specs.Laws.{EveryDepthAgrees, OneOutcome, RefusalsChangeNothing, OneEffect, SettlesOneWay, NeededGives, StartIsValid, StepsKeepValidity, NothingDueAfterSettling, EveryLineIsAnswered, EveryScriptRuns, OneTranscript, OneVisit, ValuesHaveTypes, CallsAreTyped, ReadsSuffice};
+ghost use Rattle.script_model.specs.Laws.{EveryDepthAgrees, OneOutcome, RefusalsChangeNothing, OneEffect, SettlesOneWay, NeededGives, StartIsValid, StepsKeepValidity, NothingDueAfterSettling, EveryLineIsAnswered, EveryScriptRuns, OneTranscript, OneRequest, EveryLineAsks, OneVisit, ValuesHaveTypes, CallsAreTyped, ReadsSuffice};
+ghost use Rattle.script_model.specs.GrammarLaws.{OneWriting, OneCommand, CommandsAreShallow, CommandsAreWellFormed, DeepLinesAreWellFormed};
 ghost use Rattle.script_model.specs.Row.{SumIsShown, SumIsOneCall};
+ghost use Rattle.script_model.specs.TokenLaws.{OneSpelling};
 
 /// What a formula gives within a depth it gives within every greater one.
 pub fn every_depth_agrees()
@@ -94,4 +96,44 @@ pub fn calls_are_typed()
 /// other.
 pub fn reads_suffice()
     ensures { ReadsSuffice }
+{}
+
+/// The bytes of a line spell at most one list of tokens.
+pub fn one_spelling()
+    ensures { OneSpelling }
+{}
+
+/// The tokens of a line write at most one command.
+pub fn one_writing()
+    ensures { OneWriting }
+{}
+
+/// The bytes of a line are at most one command.
+pub fn one_command()
+    ensures { OneCommand }
+{}
+
+/// No line is a command and nested too deep.
+pub fn commands_are_shallow()
+    ensures { CommandsAreShallow }
+{}
+
+/// No line is a command and malformed.
+pub fn commands_are_well_formed()
+    ensures { CommandsAreWellFormed }
+{}
+
+/// No line is nested too deep and malformed.
+pub fn deep_lines_are_well_formed()
+    ensures { DeepLinesAreWellFormed }
+{}
+
+/// A line asks for one thing at most.
+pub fn one_request()
+    ensures { OneRequest }
+{}
+
+/// Every line asks for something: it is too long, blank, malformed, nested too deep, or a command.
+pub fn every_line_asks()
+    ensures { EveryLineAsks }
 {}

@@ -1,208 +1,175 @@
--- What is done with a line is what the model says of it.
-use Rattle.std.proofs.Common.{◌≡◌, ◌⊎◌, inl, inr, ℕ, ◌+◌, List, [], ◌∷◌, ◌++◌, length, map, Option, None, Some, IsSome, refl, sym, ◌∙◌, ap, subst, arith}
-use Rattle.std.specs.List.{slice_get, flat_map}
-use Rattle.std.proofs.lemmas.List.{append-nil, map-append}
-use Rattle.inc_value.specs.declared.function.FnRef.{FnRef}
-use Rattle.inc_value.specs.declared.outcome.Outcome.{Outcome}
-use Rattle.inc_value.specs.declared.outcome.Outcome.TheVariants.{Val}
-use Rattle.inc_value.specs.declared.value.Value.{Value}
-use Rattle.script_model.specs.Evaluate.{Gives}
-use Rattle.script_model.specs.Formula.{Entry, State, Functions, Name, entry_at}
-use Rattle.script_model.specs.Step.{Moment, Declares, Observes, Stabilizes, Tells, Reply, Done, Shown, Stable, printed, first_moment}
-use Rattle.script_model.proofs.Evaluation.{Extends, Under, under_refl, gives_extends, gives_variable}
-use Rattle.session.specs.declared.node.Definition.TheVariants.{Variable, Application}
-use Rattle.session.specs.declared.node.Definition.{Definition}
-use Rattle.session.specs.declared.node.Node.{Node}
-use Rattle.session.specs.declared.node.Observer.{Observer}
-use Rattle.session.specs.declared.session.Did.TheVariants as did
-use Rattle.session.specs.Answered.{IsUpdated, IsPartlyUpdated, IsDone}
-use Rattle.session.specs.Kept.{Kept, AreSoundNodes, value_of, value_at_node, body_of, entry_of, entries_from, observer_of, state_of}
-use Rattle.session.specs.Settling.{shown_with}
+-- From what a command leads to, to what the line is answered with.
+use Rattle.std.proofs.Common.{◌≡◌, ℕ, Bool, true, false, List, [], ◌∷◌, ◌++◌, not, is_some, length, slice_get, Option, None, Some, refl, sym, ◌∙◌, ap, subst, arith}
+use Rattle.inc_value.specs.Ty.{same_ty}
+use Rattle.script_model.specs.Check as check
+use Rattle.script_model.specs.Check.{Reason, Checked, Command, Names, Declare, Assign, Observe, Stabilize, Show, find_declared, is_in_use, is_variable, has_names, has_functions, typed, check_of, names_of, reason_number, target_of_formula, type_of_base, type_of_literal, value_of_literal, NameTaken, NameUnknown, FunctionUnknown, IllTyped, NotVariable, ObserverTaken, ObserverUnknown}
+use Rattle.script_model.specs.Formula as model
+use Rattle.script_model.specs.Formula.{Functions}
+use Rattle.script_model.specs.Grammar as grammar
+use Rattle.script_model.specs.Grammar.{Line}
+use Rattle.script_model.specs.Request.{Request, TooLong, Blank, Malformed, TooDeep, Asks, IsRequest}
+use Rattle.script_model.specs.Run.{MayCall}
+use Rattle.script_model.specs.Step.{Moment, Refused, Follows, Answers, after_check, printed}
+use Rattle.session.specs.Answered.{IsFollowed, IsAnswered, MayAct}
+use Rattle.session.specs.Kept.{Kept}
 use Rattle.session.specs.State.{Stands}
-use Rattle.session.specs.Taken.{functions_of, Stops}
-use Rattle.session.proofs.Calling.{value_at_place}
-use Rattle.session.proofs.Entries.{entries-push, entry_at_node}
-use Rattle.session.proofs.Lists.{get_append_left, get_push, get_pushed}
-use Rattle.session.proofs.Meaning.{with_nodes, stands_filled}
-use Rattle.session.proofs.Settled.{settles, settled, stands_settled}
-use Rattle.session.proofs.Showing.{shown_values}
-use Rattle.session.proofs.Work.{work_done}
+use Rattle.session.specs.Taken.{Takes}
+use Rattle.session.specs.declared.answer.Did.{Did}
+use Rattle.session.specs.declared.answer.Did.TheVariants as did
+use Rattle.session.proofs.Following.{appended_one}
 
-pub functions_same : (named named' : List ℕ → Option FnRef) (value value' : FnRef → List Value → Value) → ((name : List ℕ) → named' name ≡ named name)
-    → ((f : FnRef) (xs : List Value) → value' f xs ≡ value f xs) → functions_of named' value' ≡ functions_of named value
-functions_same named named' value value' n v = λ i. record { named = λ name. n name i; value = λ f xs. v f xs i }
+-- ---- only `stabilize` comes to a stabilize
 
--- at first nothing is kept and nothing was done
-pub stands_first : (F : Functions) → Stands F (record { nodes = []; observers = []; accepted = 0; places = 0 }) first_moment
-stands_first F = record { present = refl; right = λ n v e. absurd (cc); ran = λ n needed. absurd needed.1 }
+abbrev IsOtherCommand : Command → Type 0
+IsOtherCommand Stabilize = ⊥
+IsOtherCommand command = Unit {0}
 
--- ---- actions
+abbrev IsOtherChecked : Checked → Type 0
+IsOtherChecked (check.Refuse why) = Unit {0}
+IsOtherChecked (check.Allow command) = IsOtherCommand command
 
-pub one_reply : (written : List ℕ) (r : Reply) → written ++ printed r ≡ written ++ flat_map printed (r ∷ [])
-one_reply written r = ap (λ l. written ++ l) (sym (append-nil (printed r)))
+record IsOther (checked : Checked) : Type 0 where
+  other : IsOtherChecked checked
 
-module _ (F : Functions) (k : Kept) (m : Moment) (st : Stands F k m) where
-  abbrev declared_kept : Node → ℕ → Kept
-  declared_kept x places = record k { nodes = k.nodes ++ x ∷ []; places = places }
+other_unless : (b : Bool) (why : Reason) (c : Checked) → IsOther c → IsOther (check.refused_if b why c)
+other_unless true why c other = record { other = tt }
+other_unless false why c other = other
 
-  abbrev declared_moment : Node → Moment
-  declared_moment x = record m { present = record m.present { entries = m.present.entries ++ entry_of (length k.nodes) x ∷ [] } }
+other_needs : {A : Type 0} (o : Option A) (why : Reason) (next : A → Checked) → ((x : A) → IsOther (next x)) → IsOther (check.needs o why next)
+other_needs None why next other = record { other = tt }
+other_needs (Some x) why next other = other x
 
-  declared_state : (x : Node) (places : ℕ) → record m.present { entries = m.present.entries ++ entry_of (length k.nodes) x ∷ [] } ≡ state_of (declared_kept x places)
-  declared_state x places =
-      let zero_more : length k.nodes ≡ 0 + length k.nodes = omega arith in
-      let entries : entries_from 0 k.nodes ++ entry_of (length k.nodes) x ∷ [] ≡ entries_from 0 (k.nodes ++ x ∷ []) =
-      ap (λ j. entries_from 0 k.nodes ++ entry_of j x ∷ []) zero_more ∙ sym (entries-push 0 k.nodes x) in
-      ap (λ (s : State). let r : State = record s { entries = s.entries ++ entry_of (length k.nodes) x ∷ [] } in r) st.present
-      ∙ ap (λ es. let r : State = record { entries = es; observers = map observer_of k.observers; accepted = k.accepted } in r) entries
+abbrev IsOtherLine : Line → Type 0
+IsOtherLine grammar.Stabilize = ⊥
+IsOtherLine l = Unit {0}
 
-  entries_grow : (x : Node) (places : ℕ) → Extends (state_of k) (state_of (declared_kept x places))
-  entries_grow x places j = under_grown (entry_at (state_of k) j) refl
-    where
-      grown_at : (e : Entry) → entry_at (state_of k) j ≡ Some e → entry_at (state_of (declared_kept x places)) j ≡ Some e
-      grown_at e at = rw (entries-push 0 k.nodes x) (get_append_left (entries_from 0 k.nodes) (entry_of (0 + length k.nodes) x ∷ []) j e at)
+other_checked : (F : Functions) (names : Names) (l : Line) → IsOtherLine l → IsOther (check_of F names l)
+other_checked F names (grammar.Var name base first) other =
+    other_unless (is_some (find_declared name names.declared)) NameTaken _ (
+    other_unless (not (same_ty (type_of_literal first) (type_of_base base))) IllTyped (check.Allow (Declare name (type_of_base base) (model.Variable (value_of_literal first)) (length names.declared))) (record { other = tt }))
+other_checked F names (grammar.Set name value) other =
+    other_needs (find_declared name names.declared) NameUnknown _ (λ d.
+    other_unless (not (is_variable (slice_get names.declared d.target))) NotVariable _ (
+    other_unless (not (same_ty (type_of_literal value) d.ty)) IllTyped (check.Allow (Assign d.target (value_of_literal value))) (record { other = tt })))
+other_checked F names (grammar.Let name formula) other =
+    other_unless (is_some (find_declared name names.declared)) NameTaken _ (
+    other_unless (not (has_names names formula)) NameUnknown _ (
+    other_unless (not (has_functions F formula)) FunctionUnknown _ (
+    other_needs (typed F names formula) IllTyped (λ t. check.Allow (Declare name t.ty (model.Computed t.formula) (target_of_formula (length names.declared) t.formula))) (λ t. record { other = tt }))))
+other_checked F names (grammar.Observe observer name) other =
+    other_unless (is_in_use observer names.observers) ObserverTaken _ (
+    other_needs (find_declared name names.declared) NameUnknown (λ d. check.Allow (Observe observer d.target)) (λ d. record { other = tt }))
+other_checked F names grammar.Stabilize other = absurd other
+other_checked F names (grammar.Show observer) other = other_unless (not (is_in_use observer names.observers)) ObserverUnknown (check.Allow (Show observer)) (record { other = tt })
 
-      under_grown : (o : Option Entry) → entry_at (state_of k) j ≡ o → Under o (entry_at (state_of (declared_kept x places)) j)
-      under_grown None e = tt
-      under_grown (Some e) at = grown_at e at
+-- a command that isn't a stabilize calls nothing
+no_calls : (F : Functions) (m : Moment) (c : Command) (calls : ℕ) → IsOtherCommand c → MayAct F m c calls → calls ≡ 0
+no_calls F m (Declare name t body target) calls other due = due
+no_calls F m (Assign target value) calls other due = due
+no_calls F m (Observe observer target) calls other due = due
+no_calls F m Stabilize calls other due = absurd other
+no_calls F m (Show observer) calls other due = due
 
-  new_value : (x : Node) (v : Value) (d : Definition) → x.kept ≡ None → x.definition ≡ d → value_of x ≡ Some v → d ≡ Variable v
-  new_value x v (Variable w) none is e = let same : value_of x ≡ Some w = rw is refl in let eq : w ≡ v = cc in ap Variable eq
-  new_value x v (Application f l r) none is e = let same : value_of x ≡ x.kept = rw is refl in absurd (cc)
+due_of_other : (F : Functions) (m : Moment) (l : Line) (c : Command) (calls : ℕ) → IsOtherLine l → check_of F (names_of m.present) l ≡ check.Allow c → MayAct F m c calls → calls ≡ 0
+due_of_other F m l c calls line allowed due =
+    let other : IsOtherCommand c = subst IsOtherChecked allowed (other_checked F (names_of m.present) l line).other in
+    no_calls F m c calls other due
 
-  value_before : (x : Node) (n : ℕ) (v : Value) → value_at_node (k.nodes ++ x ∷ []) n ≡ Some v → (value_at_node k.nodes n ≡ Some v) ⊎ ((n ≡ length k.nodes) × (value_of x ≡ Some v))
-  value_before x n v e = by_place (slice_get (k.nodes ++ x ∷ []) n) refl
-    where
-      by_place : (o : Option Node) → slice_get (k.nodes ++ x ∷ []) n ≡ o → (value_at_node k.nodes n ≡ Some v) ⊎ ((n ≡ length k.nodes) × (value_of x ≡ Some v))
-      by_place None at = let gone : value_at_node (k.nodes ++ x ∷ []) n ≡ None = rw at refl in absurd (cc)
-      by_place (Some y) at =
-          let is : value_of y ≡ Some v = sym (value_at_place (k.nodes ++ x ∷ []) n y at) ∙ e in
-          elim (get_push k.nodes x n y at) [
-            | inl old ↦ inl (value_at_place k.nodes n y old ∙ is)
-            | inr new ↦ inr (new.0, ap value_of new.1 ∙ is)
-          ]
+due_of_line : (F : Functions) (m : Moment) (l : Line) (c : Command) (calls : ℕ) → check_of F (names_of m.present) l ≡ check.Allow c → MayAct F m c calls → MayCall F m (Asks l) calls
+due_of_line F m grammar.Stabilize c calls allowed due =
+    let same : c ≡ Stabilize = cc in
+    subst (λ x. MayAct F m x calls) same due
+due_of_line F m (grammar.Var name base first) c calls allowed due = due_of_other F m (grammar.Var name base first) c calls tt allowed due
+due_of_line F m (grammar.Set name value) c calls allowed due = due_of_other F m (grammar.Set name value) c calls tt allowed due
+due_of_line F m (grammar.Let name formula) c calls allowed due = due_of_other F m (grammar.Let name formula) c calls tt allowed due
+due_of_line F m (grammar.Observe observer name) c calls allowed due = due_of_other F m (grammar.Observe observer name) c calls tt allowed due
+due_of_line F m (grammar.Show observer) c calls allowed due = due_of_other F m (grammar.Show observer) c calls tt allowed due
 
-  value_after : (x : Node) (n : ℕ) → IsSome (value_at_node k.nodes n) → IsSome (value_at_node (k.nodes ++ x ∷ []) n)
-  value_after x n s = by_place (slice_get k.nodes n) refl
-    where
-      by_place : (o : Option Node) → slice_get k.nodes n ≡ o → IsSome (value_at_node (k.nodes ++ x ∷ []) n)
-      by_place None at = let gone : value_at_node k.nodes n ≡ None = rw at refl in absurd (let none = subst IsSome gone s in cc)
-      by_place (Some y) at =
-          let still = get_append_left k.nodes (x ∷ []) n y at in
-          subst IsSome (value_at_place k.nodes n y at ∙ sym (value_at_place (k.nodes ++ x ∷ []) n y still)) s
+-- ---- lines
 
-  declared_right : (x : Node) (places : ℕ) → x.kept ≡ None → (n : ℕ) (v : Value) → value_at_node (k.nodes ++ x ∷ []) n ≡ Some v → Gives F (state_of (declared_kept x places)) (Name n) (Val v)
-  declared_right x places none n v e = elim (value_before x n v e) [
-    | inl old ↦ gives_extends F (state_of k) (state_of (declared_kept x places)) (Name n) (Val v) (entries_grow x places) (st.right n v old)
-    | inr new ↦
-        let is : x.definition ≡ Variable v = new_value x v x.definition none refl new.1 in
-        let at : slice_get (k.nodes ++ x ∷ []) n ≡ Some x = subst (λ j. slice_get (k.nodes ++ x ∷ []) j ≡ Some x) (sym new.0) (get_pushed k.nodes x) in
-        gives_variable F (state_of (declared_kept x places)) n (entry_of n x) v (entry_at_node (declared_kept x places) n x at) (ap body_of is)
-  ]
+pub answered_followed : (F : Functions) (k new : Kept) (m : Moment) (l : Line) (c : Command) (written appended : List ℕ) (called calls : ℕ) (how : Did) → Stands F k m
+    → check_of F k.names l ≡ check.Allow c → IsFollowed F m c new written appended called calls how → IsAnswered F m (Asks l) new written appended called calls how
+answered_followed F k new m l c written appended called calls how st allowed h =
+    let there : check_of F (names_of m.present) l ≡ check.Allow c = ap (λ (n : Names). check_of F n l) (sym st.names) ∙ allowed in
+    record {
+      after = h.after;
+      replies = h.replies;
+      answers = subst (λ x. Follows F m (after_check m.present x) h.after h.replies) (sym there) h.follows;
+      work = h.work;
+      due = due_of_line F m l c h.work there h.due;
+      stands = h.stands;
+      printed_are = h.printed_are;
+      within = h.within;
+      says = h.says;
+    }
 
-  -- a declaration
-  pub stands_declared : (x : Node) (places : ℕ) → x.kept ≡ None → Stands F (declared_kept x places) (declared_moment x)
-  stands_declared x places none = record {
-    present = declared_state x places;
-    right = declared_right x places none;
-    ran = λ n needed. value_after x n (st.ran n needed);
-  }
+-- a refusal of the line that changes nothing
+refused_with : (F : Functions) (k : Kept) (m : Moment) (r : Request) (n : ℕ) (written appended : List ℕ) (calls : ℕ) → Stands F k m → Answers F m r m (Refused n ∷ []) → MayCall F m r 0
+    → appended ≡ written ++ printed (Refused n) → IsAnswered F m r k written appended calls calls (did.Refused n)
+refused_with F k m r n written appended calls st answers due print = record {
+  after = m;
+  replies = Refused n ∷ [];
+  answers = answers;
+  work = 0;
+  due = due;
+  stands = st;
+  printed_are = appended_one written appended (Refused n) print;
+  within = omega arith;
+  says = refl;
+}
 
-  pub done_declared : (x : Node) (places : ℕ) (written appended : List ℕ) (calls : ℕ) → x.kept ≡ None → appended ≡ written ++ printed Done
-      → IsDone F m (Declares (entry_of (length k.nodes) x)) (declared_kept x places) written appended calls calls did.Accepted
-  done_declared x places written appended calls none e = record {
-    after = declared_moment x;
-    replies = Done ∷ [];
-    accepts = (refl, refl);
-    work = 0;
-    due = refl;
-    stands = stands_declared x places none;
-    printed_are = e ∙ one_reply written Done;
-    within = omega arith;
-    says = (Done, refl, refl);
-  }
+pub answered_refused : (F : Functions) (k : Kept) (m : Moment) (l : Line) (why : Reason) (n : ℕ) (written appended : List ℕ) (calls : ℕ) → Stands F k m
+    → check_of F k.names l ≡ check.Refuse why → reason_number why ≡ n → appended ≡ written ++ printed (Refused n) → IsAnswered F m (Asks l) k written appended calls calls (did.Refused n)
+answered_refused F k m l why n written appended calls st refused number print =
+    let there : check_of F (names_of m.present) l ≡ check.Refuse why = ap (λ (x : Names). check_of F x l) (sym st.names) ∙ refused in
+    refused_with F k m (Asks l) n written appended calls st
+    (subst (λ x. Follows F m (after_check m.present x) m (Refused n ∷ [])) (sym there) (refl, ap (λ j. Refused j ∷ []) (sym number)))
+    (no_call l) print
+  where
+    no_call : (l : Line) → MayCall F m (Asks l) 0
+    no_call grammar.Stabilize = record { visits = []; distinct = tt; due = tt; enough = omega arith }
+    no_call (grammar.Var name base first) = refl
+    no_call (grammar.Set name value) = refl
+    no_call (grammar.Let name formula) = refl
+    no_call (grammar.Observe observer name) = refl
+    no_call (grammar.Show observer) = refl
 
-  -- an observer
-  abbrev observed_kept : Observer → Kept
-  observed_kept o = record k { observers = k.observers ++ o ∷ [] }
+pub answered_too_long : (F : Functions) (k : Kept) (m : Moment) (written appended : List ℕ) (calls : ℕ) → Stands F k m → appended ≡ written ++ printed (Refused 2) → IsAnswered F m TooLong k written appended calls calls (did.Refused 2)
+answered_too_long F k m written appended calls st print = refused_with F k m TooLong 2 written appended calls st (refl, refl) refl print
 
-  abbrev observed_moment : Observer → Moment
-  observed_moment o = record m { present = record m.present { observers = m.present.observers ++ observer_of o ∷ [] } }
+pub answered_malformed : (F : Functions) (k : Kept) (m : Moment) (written appended : List ℕ) (calls : ℕ) → Stands F k m → appended ≡ written ++ printed (Refused 1) → IsAnswered F m Malformed k written appended calls calls (did.Refused 1)
+answered_malformed F k m written appended calls st print = refused_with F k m Malformed 1 written appended calls st (refl, refl) refl print
 
-  pub stands_observed : (o : Observer) → Stands F (observed_kept o) (observed_moment o)
-  stands_observed o = record {
-    present = ap (λ (s : State). let r : State = record s { observers = s.observers ++ observer_of o ∷ [] } in r) st.present
-        ∙ ap (λ os. let r : State = record { entries = entries_from 0 k.nodes; observers = os; accepted = k.accepted } in r) (sym (map-append observer_of k.observers (o ∷ [])));
-    right = λ n v e. gives_extends F (state_of k) (state_of (observed_kept o)) (Name n) (Val v) (λ j. under_refl (entry_at (state_of k) j)) (st.right n v e);
-    ran = st.ran;
-  }
+pub answered_too_deep : (F : Functions) (k : Kept) (m : Moment) (written appended : List ℕ) (calls : ℕ) → Stands F k m → appended ≡ written ++ printed (Refused 25) → IsAnswered F m TooDeep k written appended calls calls (did.Refused 25)
+answered_too_deep F k m written appended calls st print = refused_with F k m TooDeep 25 written appended calls st (refl, refl) refl print
 
-  pub done_observed : (o : Observer) (written appended : List ℕ) (calls : ℕ) → appended ≡ written ++ printed Done → IsDone F m (Observes (observer_of o)) (observed_kept o) written appended calls calls did.Accepted
-  done_observed o written appended calls e = record {
-    after = observed_moment o;
-    replies = Done ∷ [];
-    accepts = (refl, refl);
-    work = 0;
-    due = refl;
-    stands = stands_observed o;
-    printed_are = e ∙ one_reply written Done;
-    within = omega arith;
-    says = (Done, refl, refl);
-  }
+pub answered_blank : (F : Functions) (k : Kept) (m : Moment) (written appended : List ℕ) (calls : ℕ) → Stands F k m → appended ≡ written → IsAnswered F m Blank k written appended calls calls did.Blank
+answered_blank F k m written appended calls st same = record {
+  after = m;
+  replies = [];
+  answers = (refl, refl);
+  work = 0;
+  due = refl;
+  stands = st;
+  printed_are = same ∙ sym (nothing_after written);
+  within = omega arith;
+  says = refl;
+}
+  where
+    nothing_after : (xs : List ℕ) → xs ++ [] ≡ xs
+    nothing_after [] = refl
+    nothing_after (x ∷ xs) = ap (λ l. x ∷ l) (nothing_after xs)
 
-  -- a look at an observer
-  pub done_shown : (name : List ℕ) (o : Outcome) (written appended : List ℕ) (calls : ℕ) → appended ≡ written ++ printed (Shown name o) → IsDone F m (Tells name o) k written appended calls calls did.Accepted
-  done_shown name o written appended calls e = record {
-    after = m;
-    replies = Shown name o ∷ [];
-    accepts = (refl, refl);
-    work = 0;
-    due = refl;
-    stands = st;
-    printed_are = e ∙ one_reply written (Shown name o);
-    within = omega arith;
-    says = (Shown name o, refl, refl);
-  }
-
-  -- a stabilize
-  pub done_stabilized : (up : Kept) (values : List Value) (written appended : List ℕ) (called calls : ℕ) → IsUpdated F.value k up called calls values → AreSoundNodes up.nodes → up ≡ with_nodes k up.nodes
-      → appended ≡ written ++ printed (Stable (k.accepted + 1)) → IsDone F m Stabilizes (record up { observers = shown_with up.observers values; accepted = up.accepted + 1 }) written appended called calls did.Accepted
-  done_stabilized up values written appended called calls u sound same e =
-      let os = shown_with k.observers values in
-      let shows = shown_values up.nodes k.observers values u.values_are in
-      let round : m.present.accepted + 1 ≡ k.accepted + 1 = ap (λ (s : State). s.accepted + 1) st.present in
-      let done = stands_settled F k m st u.marks up.nodes called calls u.calls sound u.needed u.all os shows in
-      let kept = ap (λ (p : Kept). let r : Kept = record p { observers = shown_with p.observers values; accepted = p.accepted + 1 } in r) same in
-      record {
-        after = settled F k m st u.marks up.nodes called calls u.calls sound u.needed u.all os shows;
-        replies = Stable (m.present.accepted + 1) ∷ [];
-        accepts = (record { settles = settles F k m st u.marks up.nodes called calls u.calls sound u.needed u.all os shows; settled = refl }, refl);
-        work = length u.calls.called;
-        due = work_done F k m st u.marks up.nodes called calls u.calls sound u.needed.only;
-        stands = subst (λ p. Stands F p (settled F k m st u.marks up.nodes called calls u.calls sound u.needed u.all os shows)) (sym kept) done;
-        printed_are = e ∙ ap (λ j. written ++ printed (Stable j)) (sym round) ∙ one_reply written (Stable (m.present.accepted + 1));
-        within = u.calls.within;
-        says = (Stable (m.present.accepted + 1), refl, refl);
-      }
-
-  -- a stabilize that found no memory
-  pub stops_partly : (up : Kept) (called calls : ℕ) → IsPartlyUpdated F.value k up called calls → AreSoundNodes up.nodes → up ≡ with_nodes k up.nodes → Stops F m up called calls
-  stops_partly up called calls u sound same = record {
-    stands = subst (λ p. Stands F p m) (sym same) (stands_filled F k m st u.marks up.nodes called calls u.calls sound);
-    work = length u.calls.called;
-    due = work_done F k m st u.marks up.nodes called calls u.calls sound u.only;
-    within = u.calls.within;
-  }
-
-  -- what found no memory before anything was done
-  pub stops_idle : (calls : ℕ) → Stops F m k calls calls
-  stops_idle calls = record {
-    stands = st;
-    work = 0;
-    due = record { visits = []; distinct = tt; due = tt; enough = omega arith };
-    within = omega arith;
-  }
-
--- what brought every used node up to date did so in part
-pub partly_of : (value : FnRef → List Value → Value) (old new : Kept) (before after : ℕ) (values : List Value) → IsUpdated value old new before after values → IsPartlyUpdated value old new before after
-partly_of value old new before after values u = record { marks = u.marks; only = u.needed.only; calls = u.calls }
+-- what was answered is a turn of the model
+pub taken_of : (F : Functions) (m : Moment) (line : List ℕ) (r : Request) (new : Kept) (written appended : List ℕ) (called calls : ℕ) (how : Did) → IsRequest line r
+    → IsAnswered F m r new written appended called calls how → Takes F m line new written appended called calls how
+taken_of F m line r new written appended called calls how asks h = record {
+  turn = record { before = m; line = line; request = r; after = h.after; replies = h.replies; work = h.work };
+  from = refl;
+  over = refl;
+  is_turn = record { asks = asks; answers = h.answers; due = h.due };
+  stands = h.stands;
+  printed = h.printed_are;
+  within = h.within;
+  says = h.says;
+}

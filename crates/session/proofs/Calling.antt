@@ -1,107 +1,58 @@
--- Facts for the calls of functions.
-use Rattle.std.proofs.Common.{◌≡◌, ℕ, ◌<◌, false, List, [], ◌∷◌, length, get_or, Option, None, Some, IsSome, IfSome, is_some, Result, Ok, Err, OnErr, refl, sym, ◌∙◌, ap, subst}
+-- The call of one place's function.
+use Rattle.std.proofs.Common.{◌≡◌, ℕ, ◌<◌, List, length, map, get_or, Option, None, Some, option_copied, refl, sym, ◌∙◌, ap}
 use Rattle.std.specs.List.{slice_get}
-use Rattle.inc_value.specs.declared.function.FnRef.{FnRef}
-use Rattle.inc_value.specs.declared.ty.Ty.{Ty}
-use Rattle.inc_value.specs.declared.value.Value.{Value}
+use Rattle.std.specs.Option.{option_or}
+use denote.Bor.{Bor}
 use Rattle.inc_value.specs.Value.{type_of}
-use Rattle.session.specs.declared.node.Argument.TheVariants as argument
-use Rattle.session.specs.declared.node.Argument.{Argument}
-use Rattle.session.specs.declared.node.Definition.TheVariants.{Variable, Application}
-use Rattle.session.specs.declared.node.Definition.{Definition}
-use Rattle.session.specs.declared.node.Node.{Node}
-use Rattle.session.specs.Kept.{AreSoundNodes, IsSoundDefinition, IsFitting, HasType, value_of_definition, value_of, value_at_node, value_of_argument}
-use Rattle.session.specs.Settling.{IsReady, IsResult, HasTypeOf}
+use Rattle.inc_value.specs.declared.function.FnRef.{FnRef}
+use Rattle.inc_value.specs.declared.value.Value.{Value}
+use Rattle.session.specs.Calling.{HaveValues, IsDue, IsDueAt, IsCallOf, IsCallAt}
+use Rattle.session.specs.LastCall.{LastCall}
+use Rattle.session.specs.Places.{last_at, values_at, AreSoundPlaces, AreTypedCalls, IsFittingAt}
+use Rattle.session.specs.Settling.{IsCurrent, later, merged}
+use Rattle.session.specs.declared.place.Place.{Place}
+use Rattle.session.specs.declared.place.Place.TheVariants.{Application}
 use Rattle.session.proofs.Lists.{get_read}
+use Rattle.session.proofs.Merging.{last_kept}
+use Rattle.session.proofs.Values.{have_values, values_typed}
 
-pub on_err_of : {T E P : Type 0} (r : Result T E) → P → OnErr r P
-on_err_of (Ok x) p = tt
-on_err_of (Err e) p = p
+-- ---- last calls
 
-pub is_none : {A : Type 0} (o : Option A) → is_some o ≡ false → o ≡ None
-is_none None e = refl
-is_none (Some x) e = absurd (cc)
+pub copied_or : (a b : Option (Bor LastCall)) → option_copied (option_or a b) ≡ later (option_copied b) (option_copied a)
+copied_or None b = refl
+copied_or (Some x) b = refl
 
--- what a node's value is, by its place
-pub value_at_place : (nodes : List Node) (n : ℕ) (x : Node) → slice_get nodes n ≡ Some x → value_at_node nodes n ≡ value_of x
-value_at_place nodes n x at = rw at refl
+pub call_read : (last : List (Option LastCall)) (i : ℕ) (o : Option LastCall) → i < length last → o ≡ get_or last i o → last_at last i ≡ o
+call_read last i o lt is = rw (get_read last i o lt is) refl
 
-pub value_of_application : (x : Node) (f : FnRef) (l r : Argument) → x.definition ≡ Application f l r → value_of x ≡ x.kept
-value_of_application x f l r is = rw is refl
+module _ (places : List Place) (last fresh : List (Option LastCall)) (arguments : List ℕ) (lt : length fresh < length last) where
+  pub current_by : (call : LastCall) → last_at last (length fresh) ≡ Some call → values_at places (merged last fresh) arguments ≡ Some call.arguments
+      → IsCurrent places (merged last fresh) (length fresh) arguments
+  current_by call is same = record { call = call; call_is = last_kept last fresh (length fresh) lt refl ∙ is; values_are = same }
 
-pub value_of_variable : (x : Node) (v : Value) → x.definition ≡ Variable v → value_of x ≡ Some v
-value_of_variable x v is = rw is refl
+  pub due_by : HaveValues places (merged last fresh) arguments
+      → ((call : LastCall) → last_at last (length fresh) ≡ Some call → values_at places (merged last fresh) arguments ≡ Some call.arguments → ⊥)
+      → IsDue places last (merged last fresh) (length fresh) arguments
+  due_by has other =
+      let vs = have_values places (merged last fresh) arguments has in
+      record { values = vs.0; values_are = vs.1; others_before = λ call is same. other call is (vs.1 ∙ ap (λ (us : List Value). Some us) (sym same)) }
 
-typed_by : (nodes : List Node) (n : ℕ) (t : Ty) (d : Definition) (kept : Option Value) (v : Value) → IsSoundDefinition nodes n t d → IfSome kept (λ w. type_of w ≡ t)
-    → value_of_definition d kept ≡ Some v → type_of v ≡ t
-typed_by nodes n t (Variable w) kept v def k is = let same : w ≡ v = cc in subst (λ u. type_of u ≡ t) same def
-typed_by nodes n t (Application f l r) None v def k is = absurd (cc)
-typed_by nodes n t (Application f l r) (Some w) v def k is = let same : w ≡ v = cc in subst (λ u. type_of u ≡ t) same k
+-- ---- a function and its arguments
 
--- a value has the type of its node
-pub value_typed : (nodes : List Node) (m : ℕ) (y : Node) (v : Value) → AreSoundNodes nodes → slice_get nodes m ≡ Some y → value_at_node nodes m ≡ Some v → type_of v ≡ y.ty
-value_typed nodes m y v sound at is = let s = sound m y at in typed_by nodes m y.ty y.definition y.kept v s.definition s.kept (sym (value_at_place nodes m y at) ∙ is)
+module _ (places : List Place) (i : ℕ) (f : FnRef) (arguments : List ℕ) (stands : slice_get places i ≡ Some (Application f arguments)) where
+  pub fitting : AreSoundPlaces places → IsFittingAt places i f arguments
+  fitting sound = sound i (Application f arguments) stands
 
-pub argument_typed : (nodes : List Node) (n : ℕ) (a : Argument) (t : Ty) (v : Value) → AreSoundNodes nodes → HasType nodes n a t → value_of_argument nodes a ≡ Some v → type_of v ≡ t
-argument_typed nodes n (argument.Constant w) t v sound h is = let same : w ≡ v = cc in subst (λ u. type_of u ≡ t) same h
-argument_typed nodes n (argument.Node m) t v sound h is = value_typed nodes m h.1 v sound h.2 is ∙ h.3
+  pub fit : (now : List (Option LastCall)) (vs : List Value) → AreSoundPlaces places → AreTypedCalls places now → values_at places now arguments ≡ Some vs → map type_of vs ≡ f.sig.takes
+  fit now vs sound typed are =
+      let found = values_typed places now arguments vs typed are in
+      let wanted = (fitting sound).takes in
+      cc (found, wanted)
 
-module _ (nodes : List Node) (n : ℕ) (x : Node) (lt : n < length nodes) (is : x ≡ get_or nodes n x) where
-  pub stands : slice_get nodes n ≡ Some x
-  stands = get_read nodes n x lt is
+  pub due_at : (old now : List (Option LastCall)) → IsDue places old now i arguments → IsDueAt places old now i
+  due_at old now due = record { function = f; arguments = arguments; stands = stands; due = due }
 
-  pub variable_done : (v : Value) → (get_or nodes n x).definition ≡ Variable v → IsSome (value_at_node nodes n)
-  variable_done v d =
-      let def : x.definition ≡ Variable v = subst (λ (y : Node). y.definition ≡ Variable v) (sym is) d in
-      rw (value_at_place nodes n x stands, value_of_variable x v def) refl
-
-  module _ (f : FnRef) (l r : Argument) (d : (get_or nodes n x).definition ≡ Application f l r) where
-    pub defined : x.definition ≡ Application f l r
-    defined = subst (λ (y : Node). y.definition ≡ Application f l r) (sym is) d
-
-    pub fitting : AreSoundNodes nodes → IsFitting nodes n x.ty f l r
-    fitting sound = subst (λ e. IsSoundDefinition nodes n x.ty e) defined (sound n x stands).definition
-
-    pub without_value : (y : Node) → y ≡ get_or nodes n y → is_some (get_or nodes n y).kept ≡ false → value_at_node nodes n ≡ None
-    without_value y is_y none =
-        let at_y = get_read nodes n y lt is_y in
-        let same : Some x ≡ Some y = sym stands ∙ at_y in
-        let eq : x ≡ y = cc in
-        let kept : is_some y.kept ≡ false = subst (λ (z : Node). is_some z.kept ≡ false) (sym is_y) none in
-        let kept_x : x.kept ≡ None = is_none x.kept (subst (λ (z : Node). is_some z.kept ≡ false) (sym eq) kept) in
-        value_at_place nodes n x stands ∙ value_of_application x f l r defined ∙ kept_x
-
-    pub ready : (a b : Value) → value_of_argument nodes l ≡ Some a → value_of_argument nodes r ≡ Some b → IsReady nodes n
-    ready a b has_a has_b = record {
-      node = x;
-      at = stands;
-      function = f;
-      left = l;
-      right = r;
-      is = defined;
-      left_value = a;
-      right_value = b;
-      has_left = has_a;
-      has_right = has_b;
-    }
-
-    -- the copies of the arguments' values fit the function
-    pub fit : (a b u v : Value) → AreSoundNodes nodes → value_of_argument nodes l ≡ Some a → value_of_argument nodes r ≡ Some b → u ≡ a → v ≡ b
-        → type_of u ∷ type_of v ∷ [] ≡ f.sig.takes
-    fit a b u v sound has_a has_b e_a e_b =
-        let h = fitting sound in
-        let first : type_of u ≡ h.left_ty = ap type_of e_a ∙ argument_typed nodes n l h.left_ty a sound h.left_fits has_a in
-        let second : type_of v ≡ h.right_ty = ap type_of e_b ∙ argument_typed nodes n r h.right_ty b sound h.right_fits has_b in
-        rw (first, second) (sym h.takes)
-
-    -- what the function gives, on these copies
-    pub result_of : (value : FnRef → List Value → Value) (a b u v w : Value) → value_of_argument nodes l ≡ Some a → value_of_argument nodes r ≡ Some b → u ≡ a → v ≡ b
-        → w ≡ value f (u ∷ v ∷ []) → IsResult value nodes n w
-    unfolding ready
-    result_of value a b u v w has_a has_b e_a e_b e = (ready u v (rw e_a has_a) (rw e_b has_b), e)
-
-    pub has_type : (v : Value) → AreSoundNodes nodes → type_of v ≡ f.sig.gives → HasTypeOf nodes n v
-    has_type v sound t = λ y at_y.
-        let same : Some x ≡ Some y = sym stands ∙ at_y in
-        let eq : x ≡ y = cc in
-        t ∙ (fitting sound).gives ∙ ap (λ (z : Node). z.ty) eq
+  pub call_at : (value : FnRef → List Value → Value) (old now : List (Option LastCall)) (call : LastCall) → IsDue places old now i arguments → IsCallOf value places now f arguments call
+      → IsCallAt value places old now i call
+  unfolding due_at
+  call_at value old now call due is = record { due = due_at old now due; call_is = is }

@@ -1,62 +1,141 @@
--- What is kept stays sound where a node is declared.
-use Rattle.std.proofs.Common.{◌≡◌, inl, inr, ℕ, ◌+◌, ◌≤◌, List, [], ◌∷◌, ◌++◌, length, None, refl, ap, arith}
-use Rattle.std.proofs.lemmas.Bool.{le-ltb}
-use Rattle.std.proofs.lemmas.List.{length-append}
-use Rattle.std.proofs.lemmas.List.Sums.{sum_by-append}
-use Rattle.std.specs.List.{sum_by}
+-- What a session keeps still stands for the state of a script after a declaration, an assignment or an observer.
+use Rattle.std.proofs.Common.{◌≡◌, ℕ, zero, suc, Bool, true, false, List, [], ◌∷◌, ◌++◌, length, map, Option, None, Some, IsTrue, refl, sym, ◌∙◌, ap, subst}
+use Rattle.std.proofs.lemmas.List.{map-append}
+use Rattle.std.proofs.lemmas.Option.{get_or_from_slice_get, slice_get-map}
+use Rattle.std.specs.List.{slice_get}
+use Rattle.std.specs.Option.{option_map}
+use Rattle.std.specs.Prelude.{slice_index}
+use Rattle.inc_value.specs.Value.{type_of}
+use Rattle.inc_value.specs.declared.function.FnRef.{FnRef}
 use Rattle.inc_value.specs.declared.ty.Ty.{Ty}
-use Rattle.script_model.specs.Formula.{Entry, places_of, places_of_body}
-use Rattle.script_model.specs.Step.{Allow, Declares, declared}
-use Rattle.session.specs.declared.node.Argument.TheVariants as argument
-use Rattle.session.specs.declared.node.Argument.{Argument}
-use Rattle.session.specs.declared.node.Definition.TheVariants.{Variable, Application}
-use Rattle.session.specs.declared.node.Definition.{Definition}
-use Rattle.session.specs.declared.node.Node.{Node}
-use Rattle.session.specs.Kept.{Kept, AreSoundNodes, IsSound, IsSoundNode, IsSoundDefinition, HasType, body_of, entries_from, entry_of, state_of}
-use Rattle.session.proofs.Entries.{entries-push, length-entries}
-use Rattle.session.proofs.Lists.{get_append_left, get_push}
+use Rattle.inc_value.specs.declared.value.Value.{Value}
+use Rattle.formula_lang.specs.Fits.{AssignmentFits, BodyFits}
+use Rattle.script_model.specs.Check.{Declared, is_variable, declared_of, kind_of_body, target_of_body}
+use Rattle.script_model.specs.Step.{with_value}
+use Rattle.script_model.specs.Formula.{Body, Entry, Observer, State, entry_at, Variable, Computed}
+use Rattle.script_model.specs.Need.{Item, Named, Place}
+use Rattle.session.specs.Declaring.{with_assignment, with_declaration}
+use Rattle.session.specs.Kept.{Kept}
+use Rattle.session.specs.Laying.{items_in_body}
+use Rattle.session.specs.Represents.{HasRoot, PlaceIs, Represents}
+use Rattle.session.specs.declared.place.Place.TheVariants as place
+use Rattle.session.specs.declared.place.Place.{Place as APlace}
+use Rattle.session.proofs.Assigning.{assigned_represents}
+use Rattle.session.proofs.FittingNames.{names_own}
+use Rattle.session.proofs.Representing.{StillStands, declared_represents, still_place, still_root, with_entry}
 
-type_pushed : (xs : List Node) (y : Node) (n : ℕ) (a : Argument) (t : Ty) → HasType xs n a t → HasType (xs ++ y ∷ []) n a t
-type_pushed xs y n (argument.Constant v) t h = h
-type_pushed xs y n (argument.Node m) t h = (h.0, h.1, get_append_left xs (y ∷ []) m h.1 h.2, h.3)
+-- ---- states with the same declarations
 
-definition_pushed : (xs : List Node) (y : Node) (n : ℕ) (t : Ty) (d : Definition) → IsSoundDefinition xs n t d → IsSoundDefinition (xs ++ y ∷ []) n t d
-definition_pushed xs y n t (Variable v) h = h
-definition_pushed xs y n t (Application f l r) h = record {
-  kind = h.kind;
-  left_ty = h.left_ty;
-  right_ty = h.right_ty;
-  left_fits = type_pushed xs y n l h.left_ty h.left_fits;
-  right_fits = type_pushed xs y n r h.right_ty h.right_fits;
-  takes = h.takes;
-  gives = h.gives;
-}
+module _ (entries : List Entry) (old_observers new_observers : List Observer) (old_accepted new_accepted : ℕ) (roots : List ℕ) (places : List APlace) (items : List Item) where
+  abbrev before : State
+  before = record { entries = entries; observers = old_observers; accepted = old_accepted }
 
-nodes_pushed : (xs : List Node) (y : Node) → AreSoundNodes xs → y.kept ≡ None → IsSoundDefinition xs (length xs) y.ty y.definition → AreSoundNodes (xs ++ y ∷ [])
-nodes_pushed xs y sound none def = λ n x at. elim (get_push xs y n x at) [
-  | inl old ↦ let s = sound n x old in record { definition = definition_pushed xs y n x.ty x.definition s.definition; kept = s.kept }
-  | inr new ↦
-      let here : IsSoundNode (xs ++ y ∷ []) (length xs) y = record { definition = definition_pushed xs y (length xs) y.ty y.definition def; kept = rw none tt } in
-      rw (new.0, ← new.1) here
-]
+  abbrev after : State
+  after = record { entries = entries; observers = new_observers; accepted = new_accepted }
 
-abbrev pub with_node : Kept → Node → Kept
-with_node k x = record k { nodes = k.nodes ++ x ∷ []; places = k.places + places_of_body (body_of x.definition) }
+  still : StillStands before after roots roots items items
+  still = record {
+    formulas = λ owner path f is. is;
+    own = λ n h. record { entry = h.entry; stands = h.stands; own = h.own };
+    roots = λ n j at. at;
+    items = λ i item at. at;
+  }
 
-pub sound_declared : (k : Kept) (x : Node) → IsSound k → x.kept ≡ None → IsSoundDefinition k.nodes (length k.nodes) x.ty x.definition
-    → k.places + places_of_body (body_of x.definition) ≤ 1048575 → IsSound (with_node k x)
-sound_declared k x sound none def few =
-    let places = λ (e : Entry). places_of_body e.body in
-    let last = entry_of (0 + length k.nodes) x in
-    let pushed : sum_by places (entries_from 0 (k.nodes ++ x ∷ [])) ≡ sum_by places (entries_from 0 k.nodes ++ last ∷ []) = ap (sum_by places) (entries-push 0 k.nodes x) in
-    record {
-      nodes = nodes_pushed k.nodes x sound.nodes none def;
-      targets = λ i o at. omega (arith, length-append k.nodes (x ∷ []), sound.targets i o at);
-      places = omega (arith, pushed, sum_by-append places (entries_from 0 k.nodes) (last ∷ []), sound.places);
-      few = few;
-    }
+  place_same : (item : Item) (x : APlace) → PlaceIs before roots items item x → PlaceIs after roots items item x
+  place_same (Place owner path) x h = still_place before after roots roots items items still owner path x h
+  place_same (Named n) (place.Literal v) h = absurd h
+  place_same (Named n) (place.Variable v) h = h
+  place_same (Named n) (place.Application function js) h = absurd h
 
--- what a declaration comes to where the places stay few enough
-pub declared_where_few : (k : Kept) (x : Node) → places_of (state_of k) + places_of_body (body_of x.definition) ≤ 1048575
-    → Allow (Declares (entry_of (length k.nodes) x)) ≡ declared (state_of k) x.name x.ty (body_of x.definition)
-declared_where_few k x few = rw (le-ltb 1048575 (places_of (state_of k) + places_of_body (body_of x.definition)) few, length-entries 0 k.nodes) refl
+  root_same : (n : ℕ) (e : Entry) → HasRoot before roots items n e.body → HasRoot after roots items n e.body
+  root_same n e h = record { root = h.root; root_at = h.root_at; root_is = still_root before after roots roots items items still n e.body h.root h.root_is }
+
+  -- what stands for the declarations of a state doesn't depend on its observers
+  pub same_declarations : Represents before roots places items → Represents after roots places items
+  same_declarations rep = record {
+    one_item_each = rep.one_item_each;
+    items_are = λ i item x at there. place_same item x (rep.items_are i item x at there);
+    distinct = rep.distinct;
+    owners = rep.owners;
+    one_root_each = rep.one_root_each;
+    roots_are = λ n e at. root_same n e (rep.roots_are n e at);
+    targets_are = rep.targets_are;
+    count = rep.count;
+  }
+
+-- ---- the names of a state
+
+named_entry : (s : State) (ds : List Declared) → ds ≡ map declared_of s.entries → (i : ℕ) (d : Declared) → slice_get ds i ≡ Some d → (e : Entry) × (entry_at s i ≡ Some e) × (e.target ≡ d.target)
+named_entry s ds named i d at =
+    by_entry (entry_at s i) refl (sym (slice_get-map declared_of s.entries i) ∙ ap (λ l. slice_get l i) (sym named) ∙ at)
+  where
+    by_entry : (o : Option Entry) → entry_at s i ≡ o → option_map declared_of o ≡ Some d → (e : Entry) × (entry_at s i ≡ Some e) × (e.target ≡ d.target)
+    by_entry None there is = absurd (cc)
+    by_entry (Some e) there is = let same : declared_of e ≡ d = cc in (e, there, ap (λ (x : Declared). x.target) same)
+
+-- a declaration by `var` has a variable
+record IsVariableAt (s : State) (n : ℕ) : Type 0 where
+  entry : Entry
+  stands : entry_at s n ≡ Some entry
+  present : Value
+  is : entry.body ≡ Variable present
+
+variable_at : (s : State) (ds : List Declared) → ds ≡ map declared_of s.entries → (n : ℕ) → IsTrue (is_variable (slice_get ds n)) → IsVariableAt s n
+variable_at s ds named n is =
+    by_entry (entry_at s n) refl (subst (λ o. IsTrue (is_variable o)) (ap (λ l. slice_get l n) named ∙ slice_get-map declared_of s.entries n) is)
+  where
+    by_body : (e : Entry) (body : Body) → entry_at s n ≡ Some e → e.body ≡ body → IsTrue (is_variable (Some (declared_of e))) → IsVariableAt s n
+    by_body e (Variable v) at body_is true_is = record { entry = e; stands = at; present = v; is = body_is }
+    by_body e (Computed f) at body_is true_is =
+        let no : false ≡ true = subst (λ b. IsTrue (is_variable (Some (record { name = e.name; ty = e.ty; kind = kind_of_body b; target = e.target })))) body_is true_is in
+        absurd (cc)
+
+    by_entry : (o : Option Entry) → entry_at s n ≡ o → IsTrue (is_variable (option_map declared_of o)) → IsVariableAt s n
+    by_entry None at true_is = absurd (cc)
+    by_entry (Some e) at true_is = by_body e e.body at refl true_is
+
+-- another value leaves the names
+names_valued : (es : List Entry) (n : ℕ) (v : Value) (e : Entry) (u : Value) → slice_get es n ≡ Some e → e.body ≡ Variable u → map declared_of (with_value es n v) ≡ map declared_of es
+names_valued [] n v e u at is = refl
+names_valued (x ∷ es) zero v e u at is =
+    let same : x ≡ e = cc in
+    let kind : kind_of_body (Variable v) ≡ kind_of_body x.body = sym (ap kind_of_body (ap (λ (y : Entry). y.body) same ∙ is)) in
+    ap (λ k. record { name = x.name; ty = x.ty; kind = k; target = x.target } ∷ map declared_of es) kind
+names_valued (x ∷ es) (suc n) v e u at is = ap (λ l. declared_of x ∷ l) (names_valued es n v e u at is)
+
+-- ---- what is kept
+
+module _ (known : FnRef → Bool) (k : Kept) (s : State) (items : List Item) (named : k.names.declared ≡ map declared_of s.entries) (rep : Represents s k.roots k.places items) where
+  module _ (name : List ℕ) (ty : Ty) (body : Body) (target : ℕ) (fits : BodyFits known k.names body ty) (target_is : target ≡ target_of_body (length k.roots) body) where
+    -- the declaration in the model
+    abbrev pub declared_entry : Entry
+    declared_entry = record { name = name; ty = ty; target = target; body = body }
+
+    pub declaration_followed : Represents (with_entry s declared_entry) (with_declaration k name ty body target).roots (with_declaration k name ty body target).places (items ++ items_in_body (length s.entries) body)
+    declaration_followed =
+        let own = names_own known k.names s k.roots k.places items rep (named_entry s k.names.declared named) body ty fits in
+        let same : target_of_body (length s.entries) body ≡ target = sym (target_is ∙ ap (λ n. target_of_body n body) rep.one_root_each) in
+        subst (λ n. Represents (with_entry s (record { name = name; ty = ty; target = n; body = body })) (with_declaration k name ty body target).roots (with_declaration k name ty body target).places (items ++ items_in_body (length s.entries) body))
+        same (declared_represents s k.roots k.places items rep name ty body own)
+
+    pub declaration_named : (with_declaration k name ty body target).names.declared ≡ map declared_of (with_entry s declared_entry).entries
+    declaration_named = ap (λ l. l ++ declared_of declared_entry ∷ []) named ∙ sym (map-append declared_of s.entries (declared_entry ∷ []))
+
+  module _ (target : ℕ) (v : Value) (fits : AssignmentFits k.names target (type_of v)) where
+    -- the model's state with the value
+    abbrev pub assigned_state : State
+    assigned_state = record s { entries = with_value s.entries target v }
+
+    the_variable : IsVariableAt s target
+    the_variable = variable_at s k.names.declared named target fits.variable
+
+    pub assignment_followed : Represents assigned_state (with_assignment k target v).roots (with_assignment k target v).places items
+    assignment_followed =
+        let h = the_variable in
+        let has = rep.roots_are target h.entry h.stands in
+        let root : slice_index k.roots target ≡ has.root = get_or_from_slice_get k.roots target has.root 0 has.root_at in
+        let there : slice_get k.roots target ≡ Some (slice_index k.roots target) = rw root has.root_at in
+        assigned_represents s k.roots k.places items rep target h.entry h.present v h.stands h.is (slice_index k.roots target) there
+
+    pub assignment_named : (with_assignment k target v).names.declared ≡ map declared_of assigned_state.entries
+    assignment_named = named ∙ sym (names_valued s.entries target v the_variable.entry the_variable.present the_variable.stands the_variable.is)

@@ -1,247 +1,219 @@
--- From what was done to what a line's turn says.
-use Rattle.std.proofs.Common.{◌≡◌, ℕ, ◌<◌, Bool, true, false, List, [], ◌∷◌, ◌++◌, length, Option, None, Some, nat_lt, not, is_some, IsSome, Result, Ok, Err, IfOk, OnOk, OnErr, refl, sym, ◌∙◌, ap, subst, arith}
-use Rattle.std.proofs.lemmas.Bool.{lt-ltb}
-use Rattle.std.proofs.lemmas.List.{append-nil}
-use Rattle.inc_value.specs.declared.function.FnRef.{FnRef}
+-- What commands that are carried out or refused lead to: observing, showing, stabilizing.
+use Rattle.std.proofs.Common.{◌≡◌, ◌⊎◌, inl, inr, ℕ, zero, suc, ◌+◌, ◌<◌, Bool, true, false, cond, List, [], ◌∷◌, ◌++◌, length, map, slice_get, Option, None, Some, refl, sym, ◌∙◌, ap, subst, append-nil, arith}
+use Rattle.std.proofs.lemmas.List.{map-append}
+use Rattle.std.proofs.lemmas.Slice.Eq.{bytes_eq-Decides}
+use Rattle.std.specs.List.{flat_map}
+use Rattle.std.specs.Str.{bytes_eq}
 use Rattle.inc_value.specs.declared.outcome.Outcome.{Outcome}
-use Rattle.inc_value.specs.declared.ty.Ty.TheVariants as ty
-use Rattle.inc_value.specs.declared.ty.Ty.{Ty}
-use Rattle.inc_value.specs.declared.value.Value.TheVariants as value
-use Rattle.script_model.specs.Formula.{State, Functions, Body, Entry, Variable, Computed, Apply, More, End}
+use Rattle.inc_value.specs.declared.value.Value.{Value}
+use Rattle.script_model.specs.Check.{Names, Observe, Show, Stabilize, names_of}
 use Rattle.script_model.specs.Formula as model
-use Rattle.script_model.specs.Language.{Argument, Command, Request, Asks, TooLong, Blank, Malformed, request_of, Var, Let, Observe, Stabilize, Show}
-use Rattle.script_model.specs.Run.{MayCall}
-use Rattle.script_model.specs.Step.{Moment, Action, Verdict, Refuse, Allow, Declares, Observes, Stabilizes, Tells, Refused, Done, printed, number_of, Refusal, NameTaken, NameUnknown, FunctionUnknown, IllTyped, TooManyPlaces, ObserverTaken, ObserverUnknown, NotStabilized, refused_if, needs, declared, has_too_many, find_entry, find_observer, Typed, typed_argument, applied_to, fits, checked, Follows, Answers}
-use Rattle.session.specs.declared.session.Did.TheVariants as did
-use Rattle.session.specs.declared.session.Did.{Did}
-use Rattle.session.specs.Answered.{MayAct, IsDone, IsAnswered}
-use Rattle.session.specs.declared.node.Node.{Node}
-use Rattle.session.specs.declared.node.Observer.{Observer}
-use Rattle.session.specs.Kept.{Kept, state_of, entry_of, observer_of}
-use Rattle.session.specs.declared.check.Action.TheVariants as session_action
-use Rattle.session.specs.declared.check.Action.{Action as SessionAction}
+use Rattle.script_model.specs.Formula.{Functions, State}
+use Rattle.script_model.specs.Need.{WithinWork}
+use Rattle.script_model.specs.Step.{Moment, Reply, Done, Stable, Shown, Refused, NotStabilized, printed, find_observer, Follows, action_of, Refuse, Allow, Tells}
+use Rattle.session.specs.Answered.{IsFollowed}
+use Rattle.session.specs.Declaring.{with_observer}
+use Rattle.session.specs.Kept.{Kept, IsSound}
+use Rattle.session.specs.LastCall.{LastCall}
+use Rattle.session.specs.Settling.{IsUpdate, IsPartOfUpdate, shown_with}
+use Rattle.session.specs.Standing.{observers_of, settled_state}
 use Rattle.session.specs.State.{Stands}
-use Rattle.session.specs.Verdict.{IsSoundAction, action_view}
-use Rattle.session.specs.Taken.{Takes}
-use Rattle.session.proofs.Answering.{one_reply, done_declared, done_observed}
+use Rattle.session.specs.Taken.{Stops}
+use Rattle.session.specs.declared.answer.Did.TheVariants as did
+use Rattle.session.specs.declared.place.Observer.{Observer}
+use Rattle.session.proofs.Extended.{same_represents}
+use Rattle.session.proofs.Updated.{update_settles, part_is_due}
 
--- ---- only the command `stabilize` comes to a stabilize
+-- ---- lines that call nothing
 
-abbrev IsNoStabilize : Verdict → Type 0
-IsNoStabilize (Refuse why) = Unit {0}
-IsNoStabilize (Allow Stabilizes) = ⊥
-IsNoStabilize (Allow action) = Unit {0}
+-- nothing is always due
+no_work : (F : Functions) (a b : State) → WithinWork F a b 0
+no_work F a b = record { visits = []; distinct = tt; due = tt; enough = omega arith }
 
-refused_or : (b : Bool) (why : Refusal) (v : Verdict) → IsNoStabilize v → IsNoStabilize (refused_if b why v)
-refused_or true why v h = tt
-refused_or false why v h = h
+pub stops_idle : (F : Functions) (k : Kept) (m : Moment) (calls : ℕ) → Stands F k m → Stops F m k calls calls
+stops_idle F k m calls st = record { stands = st; work = 0; due = no_work F m.settled m.present; within = omega arith }
 
-needs_or : {A : Type 0} (o : Option A) (why : Refusal) (f : A → Verdict) → ((x : A) → IsNoStabilize (f x)) → IsNoStabilize (needs o why f)
-needs_or None why f h = tt
-needs_or (Some x) why f h = h x
+-- one reply's bytes
+pub one_reply : (r : Reply) → flat_map printed (r ∷ []) ≡ printed r
+one_reply r = append-nil (printed r)
 
-declared_none : (s : State) (name : List ℕ) (t : Ty) (body : Body) → IsNoStabilize (declared s name t body)
-declared_none s name t body =
-    refused_or (has_too_many s body) TooManyPlaces (Allow (Declares (record { name = name; ty = t; target = length s.entries; body = body }))) tt
+pub appended_one : (written appended : List ℕ) (r : Reply) → appended ≡ written ++ printed r → appended ≡ written ++ flat_map printed (r ∷ [])
+appended_one written appended r h = h ∙ ap (λ l. written ++ l) (sym (one_reply r))
 
-applied_none : (s : State) (name : List ℕ) (f : FnRef) (a b : Typed) → IsNoStabilize (applied_to s name f a b)
-applied_none s name f a b =
-    let body = Computed (Apply f (More a.formula (More b.formula End))) in
-    refused_or (not (fits f a.ty b.ty)) IllTyped (declared s name f.sig.gives body) (declared_none s name f.sig.gives body)
+-- ---- observing
 
-let_none : (F : Functions) (s : State) (name function : List ℕ) (left right : Argument) → IsNoStabilize (checked F s (Let name function left right))
-let_none F s name function left right =
-    let applied = λ (a b : Typed). needs (F.named function) FunctionUnknown (λ f. applied_to s name f a b) in
-    let second = λ (a : Typed). needs (typed_argument s right) NameUnknown (applied a) in
-    refused_or (is_some (find_entry name s.entries)) NameTaken (needs (typed_argument s left) NameUnknown second)
-    (needs_or (typed_argument s left) NameUnknown second (λ a.
-    needs_or (typed_argument s right) NameUnknown (applied a) (λ b.
-    needs_or (F.named function) FunctionUnknown (λ f. applied_to s name f a b) (λ f. applied_none s name f a b))))
+abbrev new_observer : List ℕ → ℕ → model.Observer
+new_observer name target = record { name = name; target = target; shown = None }
 
-checked_none : (F : Functions) (s : State) (c : Command) → (c ≡ Stabilize → ⊥) → IsNoStabilize (checked F s c)
-checked_none F s (Var name first) ne =
-    let body = Variable (value.Int first) in
-    refused_or (is_some (find_entry name s.entries)) NameTaken (declared s name ty.Int body) (declared_none s name ty.Int body)
-checked_none F s (Let name function left right) ne = let_none F s name function left right
-checked_none F s (Observe observer name) ne =
-    let does = λ (e : Entry). Allow (Observes (record { name = observer; target = e.target; shown = None })) in
-    refused_or (is_some (find_observer observer s.observers)) ObserverTaken (needs (find_entry name s.entries) NameUnknown does) (needs_or (find_entry name s.entries) NameUnknown does (λ e. tt))
-checked_none F s Stabilize ne = absurd (ne refl)
-checked_none F s (Show observer) ne =
-    let tells = λ (x : model.Observer). needs x.shown NotStabilized (λ o. Allow (Tells x.name o)) in
-    needs_or (find_observer observer s.observers) ObserverUnknown tells (λ x. needs_or x.shown NotStabilized (λ o. Allow (Tells x.name o)) (λ o. tt))
+abbrev fresh : ℕ → Observer
+fresh target = record { target = target; shown = None }
 
-may_none : (F : Functions) (m : Moment) (a : Action) (n : ℕ) → IsNoStabilize (Allow a) → MayAct F m a n → n ≡ 0
-may_none F m (Declares e) n h may = may
-may_none F m (Observes o) n h may = may
-may_none F m Stabilizes n h may = absurd h
-may_none F m (Tells name o) n h may = may
+observers-more : (names : List (List ℕ)) (os : List Observer) (name : List ℕ) (target : ℕ) → length os ≡ length names
+    → observers_of (names ++ name ∷ []) (os ++ fresh target ∷ []) ≡ observers_of names os ++ new_observer name target ∷ []
+observers-more [] [] name target e = refl
+observers-more [] (o ∷ os) name target e = absurd (omega arith)
+observers-more (n ∷ ns) [] name target e = absurd (omega arith)
+observers-more (n ∷ ns) (o ∷ os) name target e = ap (λ rest. record { name = n; target = o.target; shown = o.shown } ∷ rest) (observers-more ns os name target (omega arith))
 
-pub may_call : (F : Functions) (m : Moment) (s : State) (c : Command) (a : Action) (n : ℕ) → checked F s c ≡ Allow a → MayAct F m a n → MayCall F m (Asks c) n
-may_call F m s (Var name first) a n e may = may_none F m a n (subst IsNoStabilize e (checked_none F s (Var name first) (λ q. cc))) may
-may_call F m s (Let name function left right) a n e may = may_none F m a n (subst IsNoStabilize e (checked_none F s (Let name function left right) (λ q. cc))) may
-may_call F m s (Observe observer name) a n e may = may_none F m a n (subst IsNoStabilize e (checked_none F s (Observe observer name) (λ q. cc))) may
-may_call F m s Stabilize a n e may = let same : a ≡ Stabilizes = cc in subst (λ b. MayAct F m b n) same may
-may_call F m s (Show observer) a n e may = may_none F m a n (subst IsNoStabilize e (checked_none F s (Show observer) (λ q. cc))) may
+-- the state with an observer more
+abbrev pub observed_state : State → List ℕ → ℕ → State
+observed_state s name target = record s { observers = s.observers ++ new_observer name target ∷ [] }
 
-idle_call : (F : Functions) (m : Moment) (c : Command) (why : Refusal) → checked F m.present c ≡ Refuse why → MayCall F m (Asks c) 0
-idle_call F m (Var name first) why e = refl
-idle_call F m (Let name function left right) why e = refl
-idle_call F m (Observe observer name) why e = refl
-idle_call F m Stabilize why e = absurd (cc)
-idle_call F m (Show observer) why e = refl
+names_observing : (s : State) (name : List ℕ) (target : ℕ) → record (names_of s) { observers = (names_of s).observers ++ name ∷ [] } ≡ names_of (observed_state s name target)
+names_observing s name target =
+    ap (λ (os : List (List ℕ)). record (names_of s) { observers = os }) (sym (map-append (λ (o : model.Observer). o.name) s.observers (new_observer name target ∷ [])))
 
--- ---- what was done answers the command
-
-module _ (F : Functions) (k : Kept) (m : Moment) (st : Stands F k m) where
-  -- what was allowed was done
-  pub answered_allowed : (c : Command) (a : Action) (v : Verdict) (new : Kept) (written appended : List ℕ) (called calls : ℕ) (how : Did) → v ≡ checked F (state_of k) c → v ≡ Allow a
-      → IsDone F m a new written appended called calls how → IsAnswered F m (Asks c) new written appended called calls how
-  answered_allowed c a v new written appended called calls how e is d =
-      let at_state : checked F (state_of k) c ≡ Allow a = sym e ∙ is in
-      let at_moment : checked F m.present c ≡ Allow a = ap (λ s. checked F s c) st.present ∙ at_state in
-      record {
-        after = d.after;
-        replies = d.replies;
-        answers = subst (λ w. Follows F m w d.after d.replies) (sym at_moment) d.accepts;
-        work = d.work;
-        due = may_call F m (state_of k) c a d.work at_state d.due;
-        stands = d.stands;
-        printed_are = d.printed_are;
-        within = d.within;
-        says = d.says;
-      }
-
-  -- what is refused changes nothing
-  pub answered_refused : (c : Command) (why : Refusal) (v : Verdict) (written appended : List ℕ) (calls : ℕ) → v ≡ checked F (state_of k) c → v ≡ Refuse why
-      → appended ≡ written ++ printed (Refused (number_of why)) → IsAnswered F m (Asks c) k written appended calls calls (did.Refused (number_of why))
-  answered_refused c why v written appended calls e is p =
-      let at_moment : checked F m.present c ≡ Refuse why = ap (λ s. checked F s c) st.present ∙ sym e ∙ is in
-      record {
-        after = m;
-        replies = Refused (number_of why) ∷ [];
-        answers = subst (λ w. Follows F m w m (Refused (number_of why) ∷ [])) (sym at_moment) (refl, refl);
-        work = 0;
-        due = idle_call F m c why at_moment;
-        stands = st;
-        printed_are = p ∙ one_reply written (Refused (number_of why));
-        within = omega arith;
-        says = refl;
-      }
-
-  pub answered_too_long : (written appended : List ℕ) (calls : ℕ) → appended ≡ written ++ printed (Refused 2) → IsAnswered F m TooLong k written appended calls calls (did.Refused 2)
-  answered_too_long written appended calls p = record {
-    after = m;
-    replies = Refused 2 ∷ [];
-    answers = (refl, refl);
-    work = 0;
-    due = refl;
-    stands = st;
-    printed_are = p ∙ one_reply written (Refused 2);
-    within = omega arith;
-    says = refl;
-  }
-
-  pub answered_malformed : (written appended : List ℕ) (calls : ℕ) → appended ≡ written ++ printed (Refused 1) → IsAnswered F m Malformed k written appended calls calls (did.Refused 1)
-  answered_malformed written appended calls p = record {
-    after = m;
-    replies = Refused 1 ∷ [];
-    answers = (refl, refl);
-    work = 0;
-    due = refl;
-    stands = st;
-    printed_are = p ∙ one_reply written (Refused 1);
-    within = omega arith;
-    says = refl;
-  }
-
-  pub answered_blank : (written : List ℕ) (calls : ℕ) → IsAnswered F m Blank k written written calls calls did.Blank
-  answered_blank written calls = record {
-    after = m;
-    replies = [];
-    answers = (refl, refl);
-    work = 0;
-    due = refl;
-    stands = st;
-    printed_are = sym (append-nil written);
-    within = omega arith;
-    says = refl;
-  }
-
--- a line whose request was answered was taken
-pub taken_of : (F : Functions) (m : Moment) (line : List ℕ) (request : Request) (new : Kept) (written appended : List ℕ) (called calls : ℕ) (how : Did) → request ≡ request_of line
-    → IsAnswered F m request new written appended called calls how → Takes F m line new written appended called calls how
-taken_of F m line request new written appended called calls how e a = record {
-  turn = record { before = m; line = line; after = a.after; replies = a.replies; work = a.work };
-  from = refl;
-  over = refl;
-  is_turn = record {
-    leads = subst (λ r. Answers F m r a.after a.replies) e a.answers;
-    due = subst (λ r. MayCall F m r a.work) e a.due;
-  };
-  stands = a.stands;
-  printed = a.printed_are;
-  within = a.within;
-  says = a.says;
+observing_stands : (F : Functions) (k : Kept) (m : Moment) (name : List ℕ) (target : ℕ) → Stands F k m → IsSound k
+    → Stands F (with_observer k name target) (record m { present = observed_state m.present name target })
+observing_stands F k m name target st sound = record {
+  names = ap (λ (n : Names). record n { observers = n.observers ++ name ∷ [] }) st.names ∙ names_observing m.present name target;
+  observers = ap (λ os. os ++ new_observer name target ∷ []) st.observers ∙ sym (observers-more k.names.observers k.observers name target sound.one_observer_each);
+  accepted = st.accepted;
+  items = st.items;
+  represents = same_represents m.present (observed_state m.present name target) k.roots k.places st.items refl st.represents;
+  right = st.right;
+  ran = st.ran;
 }
 
-pub too_long_is : (line : List ℕ) → 4096 < length line → TooLong ≡ request_of line
-too_long_is line lt = let long : nat_lt 4096 (length line) ≡ true = lt-ltb 4096 (length line) lt in rw long refl
+pub followed_observe : (F : Functions) (k new : Kept) (m : Moment) (name : List ℕ) (target calls : ℕ) (written appended : List ℕ) → Stands F k m → IsSound k
+    → new ≡ with_observer k name target → appended ≡ written ++ printed Done → IsFollowed F m (Observe name target) new written appended calls calls did.Accepted
+followed_observe F k new m name target calls written appended st sound is print = record {
+  after = record m { present = observed_state m.present name target };
+  replies = Done ∷ [];
+  follows = (refl, refl);
+  work = 0;
+  due = refl;
+  stands = subst (λ (x : Kept). Stands F x (record m { present = observed_state m.present name target })) (sym is) (observing_stands F k m name target st sound);
+  printed_are = appended_one written appended Done print;
+  within = omega arith;
+  says = (Done, refl, refl);
+}
 
--- ---- at results
+-- ---- showing
 
--- what holds of how a line was taken, where the call says how at its Ok
-pub ok_with : {E A : Type 0} (r : Result Did E) (how : Did) (P : Did → Type 0) → IfOk r (λ h. h ≡ how) → OnOk r A → (A → P how) → IfOk r P
-ok_with (Ok h) how P is a f = subst P (sym is) (f a)
-ok_with (Err e) how P is a f = tt
-
-pub ok_with_both : {E A B : Type 0} (r : Result Did E) (how : Did) (P : Did → Type 0) → IfOk r (λ h. h ≡ how) → OnOk r A → OnOk r B → (A → B → P how) → IfOk r P
-ok_with_both (Ok h) how P is a b f = subst P (sym is) (f a b)
-ok_with_both (Err e) how P is a b f = tt
-
-pub ok_from : {T E : Type 0} (r : Result T E) (P Q : T → Type 0) → IfOk r P → ((x : T) → P x → Q x) → IfOk r Q
-ok_from (Ok x) P Q p f = f x p
-ok_from (Err e) P Q p f = tt
-
-pub err_from : {T E P Q : Type 0} (r : Result T E) → OnErr r P → (P → Q) → OnErr r Q
-err_from (Ok x) p f = tt
-err_from (Err e) p f = f p
-
-module _ (F : Functions) (k : Kept) (m : Moment) (st : Stands F k m) where
-  pub performed_declare : (x : Node) (places : ℕ) (a : Action) (v : Verdict) (new : Kept) (written appended : List ℕ) (called calls : ℕ) → x.kept ≡ None → new ≡ record k { nodes = k.nodes ++ x ∷ []; places = places }
-      → appended ≡ written ++ printed Done → calls ≡ called → v ≡ Allow (Declares (entry_of (length k.nodes) x)) → v ≡ Allow a → IsDone F m a new written appended called calls did.Accepted
-  performed_declare x places a v new written appended called calls none e_new e_out e_calls is e =
-      let same : Declares (entry_of (length k.nodes) x) ≡ a = cc (is, e) in
-      subst (λ b. IsDone F m b new written appended called calls did.Accepted) same
-      (subst (λ p. IsDone F m (Declares (entry_of (length k.nodes) x)) p written appended called calls did.Accepted) (sym e_new)
-      (subst (λ n. IsDone F m (Declares (entry_of (length k.nodes) x)) (record k { nodes = k.nodes ++ x ∷ []; places = places }) written appended called n did.Accepted) (sym e_calls)
-      (done_declared F k m st x places written appended called none e_out)))
-
-  pub performed_observe : (o : Observer) (a : Action) (v : Verdict) (new : Kept) (written appended : List ℕ) (called calls : ℕ) → new ≡ record k { observers = k.observers ++ o ∷ [] }
-      → appended ≡ written ++ printed Done → calls ≡ called → v ≡ Allow (Observes (observer_of o)) → v ≡ Allow a → IsDone F m a new written appended called calls did.Accepted
-  performed_observe o a v new written appended called calls e_new e_out e_calls is e =
-      let same : Observes (observer_of o) ≡ a = cc (is, e) in
-      subst (λ b. IsDone F m b new written appended called calls did.Accepted) same
-      (subst (λ p. IsDone F m (Observes (observer_of o)) p written appended called calls did.Accepted) (sym e_new)
-      (subst (λ n. IsDone F m (Observes (observer_of o)) (record k { observers = k.observers ++ o ∷ [] }) written appended called n did.Accepted) (sym e_calls)
-      (done_observed F k m st o written appended called e_out)))
-
--- an action that may be done is allowed
-pub may_be_done : (known : FnRef → Bool) (k : Kept) (action : SessionAction) → IsSoundAction known k action → (a : Action) × (action_view k action ≡ Allow a)
-may_be_done known k (session_action.Declare x) s = (Declares (entry_of (length k.nodes) x), refl)
-may_be_done known k (session_action.Observe o) s = (Observes (observer_of o), refl)
-may_be_done known k session_action.Stabilize s = (Stabilizes, refl)
-may_be_done known k (session_action.Show i) s = shown_one s.observer.shown refl
+-- the observer of a name, by the first place where the name stands
+find_by_place : (names : List (List ℕ)) (os : List Observer) (i : ℕ) (name : List ℕ) (o : Observer) → slice_get names i ≡ Some name
+    → ((j : ℕ) → j < i → slice_get names j ≡ Some name → ⊥) → slice_get os i ≡ Some o
+    → find_observer name (observers_of names os) ≡ Some (record { name = name; target = o.target; shown = o.shown })
+find_by_place [] os i name o at first there = absurd (cc)
+find_by_place (n ∷ ns) [] i name o at first there = absurd (cc)
+find_by_place (n ∷ ns) (p ∷ os) zero name o at first there =
+    let same_name : n ≡ name = cc in
+    let same : p ≡ o = cc in
+    let test : bytes_eq name n ≡ true = (bytes_eq-Decides name n).1 (sym same_name) in
+    rw (test, same_name, same) refl
+find_by_place (n ∷ ns) (p ∷ os) (suc i) name o at first there = go (bytes_eq name n) refl (find_by_place ns os i name o at (λ j h e. first (suc j) (omega arith) e) there)
   where
-    shown_one : (o : Option Outcome) → s.observer.shown ≡ o → (a : Action) × (action_view k (session_action.Show i) ≡ Allow a)
-    shown_one None e = absurd (let none = subst IsSome e s.shown in cc)
-    shown_one (Some outcome) e = (Tells s.observer.name outcome, rw (s.at, e) refl)
+    go : (b : Bool) → bytes_eq name n ≡ b → find_observer name (observers_of ns os) ≡ Some (record { name = name; target = o.target; shown = o.shown })
+        → cond b (Some (record { name = n; target = p.target; shown = p.shown })) (find_observer name (observers_of ns os)) ≡ Some (record { name = name; target = o.target; shown = o.shown })
+    go true is rest = let same : name ≡ n = (bytes_eq-Decides name n).0 is in absurd (first 0 (omega arith) (ap (λ x. Some x) (sym same)))
+    go false is rest = rest
 
-pub answered_performed : (F : Functions) (k : Kept) (m : Moment) (st : Stands F k m) (c : Command) (v w : Verdict) (new : Kept) (written appended : List ℕ) (called calls : ℕ) (how : Did) → v ≡ checked F (state_of k) c → v ≡ w
-    → (a : Action) × (w ≡ Allow a) → ((a : Action) → w ≡ Allow a → IsDone F m a new written appended called calls how) → IsAnswered F m (Asks c) new written appended called calls how
-answered_performed F k m st c v w new written appended called calls how e is a done =
-    answered_allowed F k m st c a.0 v new written appended called calls how e (is ∙ a.1) (done a.0 a.1)
+-- where an observer shows what
+pub record IsShownAt (k : Kept) (name : List ℕ) (shown : Option Outcome) : Type 0 where
+  pub place : ℕ
+  pub named : slice_get k.names.observers place ≡ Some name
+  pub first : (j : ℕ) → j < place → slice_get k.names.observers j ≡ Some name → ⊥
+  pub observer : Observer
+  pub at : slice_get k.observers place ≡ Some observer
+  pub shows : observer.shown ≡ shown
 
-pub on_ok_from : {T E A B : Type 0} (r : Result T E) → OnOk r A → (A → B) → OnOk r B
-on_ok_from (Ok x) a f = f a
-on_ok_from (Err e) a f = tt
+found_there : (F : Functions) (k : Kept) (m : Moment) (name : List ℕ) (shown : Option Outcome) → Stands F k m → (h : IsShownAt k name shown)
+    → find_observer name m.present.observers ≡ Some (record { name = name; target = h.observer.target; shown = shown })
+found_there F k m name shown st h =
+    ap (find_observer name) st.observers ∙ find_by_place k.names.observers k.observers h.place name h.observer h.named h.first h.at
+    ∙ ap (λ s. Some (record { name = name; target = h.observer.target; shown = s })) h.shows
+
+pub followed_show : (F : Functions) (k : Kept) (m : Moment) (name : List ℕ) (o : Outcome) (calls : ℕ) (written appended : List ℕ) → Stands F k m
+    → IsShownAt k name (Some o) → appended ≡ written ++ printed (Shown name o) → IsFollowed F m (Show name) k written appended calls calls did.Accepted
+followed_show F k m name o calls written appended st h print = record {
+  after = m;
+  replies = Shown name o ∷ [];
+  follows = let found = found_there F k m name (Some o) st h in
+      let allowed : action_of m.present (Show name) ≡ Allow (Tells name o) = rw found refl in
+      subst (λ v. Follows F m v m (Shown name o ∷ [])) (sym allowed) (refl, refl);
+  work = 0;
+  due = refl;
+  stands = st;
+  printed_are = appended_one written appended (Shown name o) print;
+  within = omega arith;
+  says = (Shown name o, refl, refl);
+}
+
+pub refused_show : (F : Functions) (k : Kept) (m : Moment) (name : List ℕ) (calls : ℕ) (written appended : List ℕ) → Stands F k m
+    → IsShownAt k name None → appended ≡ written ++ printed (Refused 13) → IsFollowed F m (Show name) k written appended calls calls (did.Refused 13)
+refused_show F k m name calls written appended st h print = record {
+  after = m;
+  replies = Refused 13 ∷ [];
+  follows = let found = found_there F k m name None st h in
+      let refused : action_of m.present (Show name) ≡ Refuse NotStabilized = rw found refl in
+      subst (λ v. Follows F m v m (Refused 13 ∷ [])) (sym refused) (refl, refl);
+  work = 0;
+  due = refl;
+  stands = st;
+  printed_are = appended_one written appended (Refused 13) print;
+  within = omega arith;
+  says = refl;
+}
+
+-- ---- stabilizing
+
+-- what is kept after a stabilize
+abbrev pub kept_settled : Kept → List (Option LastCall) → List Value → Kept
+kept_settled k new values = record k { last = new; observers = shown_with k.observers values; accepted = k.accepted + 1 }
+
+names-shown : (names : List (List ℕ)) (os : List Observer) (vs : List Value)
+    → map (λ (o : model.Observer). o.name) (observers_of names (shown_with os vs)) ≡ map (λ (o : model.Observer). o.name) (observers_of names os)
+names-shown [] os vs = refl
+names-shown (n ∷ ns) [] vs = refl
+names-shown (n ∷ ns) (o ∷ os) [] = refl
+names-shown (n ∷ ns) (o ∷ os) (v ∷ vs) = ap (λ rest. n ∷ rest) (names-shown ns os vs)
+
+names_settled : (s : State) (names : List (List ℕ)) (os : List Observer) (vs : List Value) → s.observers ≡ observers_of names os → names_of s ≡ names_of (settled_state s names os vs)
+names_settled s names os vs is =
+    let same : map (λ (o : model.Observer). o.name) s.observers ≡ map (λ (o : model.Observer). o.name) (observers_of names (shown_with os vs)) =
+    ap (map (λ (o : model.Observer). o.name)) is ∙ sym (names-shown names os vs) in
+    ap (λ (ns : List (List ℕ)). record (names_of s) { observers = ns }) same
+
+pub followed_stabilize : (F : Functions) (k now : Kept) (m : Moment) (new : List (Option LastCall)) (values : List Value) (called calls : ℕ) (written appended : List ℕ) → Stands F k m → IsSound k
+    → IsUpdate F.value k.places k.roots k.observers k.last new called calls values → now ≡ kept_settled k new values → appended ≡ written ++ printed (Stable (k.accepted + 1))
+    → IsFollowed F m Stabilize now written appended called calls did.Accepted
+followed_stabilize F k now m new values called calls written appended st sound update is print =
+    let settled = update_settles F m.settled m.present k.roots k.places st.items st.represents sound.places k.names.observers k.observers sound.one_observer_each st.observers k.last new st.ran st.right called calls values sound.targets update in
+    let after = settled_state m.present k.names.observers k.observers values in
+    let same_count : printed (Stable (k.accepted + 1)) ≡ printed (Stable (m.present.accepted + 1)) = ap (λ n. printed (Stable (n + 1))) (sym st.accepted) in
+    record {
+      after = record { settled = after; present = after };
+      replies = Stable (m.present.accepted + 1) ∷ [];
+      follows = (record { settles = settled.settles; settled = refl }, refl);
+      work = settled.work;
+      due = settled.due;
+      stands = subst (λ (x : Kept). Stands F x (record { settled = after; present = after })) (sym is) (record {
+        names = st.names ∙ names_settled m.present k.names.observers k.observers values st.observers;
+        observers = refl;
+        accepted = ap (λ n. n + 1) st.accepted;
+        items = st.items;
+        represents = settled.represents;
+        right = settled.right;
+        ran = settled.ran;
+      });
+      printed_are = appended_one written appended (Stable (m.present.accepted + 1)) (print ∙ ap (λ l. written ++ l) same_count);
+      within = settled.within;
+      says = (Stable (m.present.accepted + 1), refl, refl);
+    }
+
+pub stops_partly : (F : Functions) (k : Kept) (m : Moment) (called calls : ℕ) → Stands F k m → IsSound k → IsPartOfUpdate F.value k.places k.roots k.observers k.last called calls → Stops F m k called calls
+stops_partly F k m called calls st sound part =
+    let due = part_is_due F m.settled m.present k.roots k.places st.items st.represents sound.places k.names.observers k.observers sound.one_observer_each st.observers k.last st.ran st.right called calls part in
+    record { stands = st; work = due.0; due = due.1; within = due.2 }
+
+-- an update that was found and not taken over
+pub part_of_update : (F : Functions) (k : Kept) (new : List (Option LastCall)) (values : List Value) (called calls : ℕ) → IsUpdate F.value k.places k.roots k.observers k.last new called calls values
+    → IsPartOfUpdate F.value k.places k.roots k.observers k.last called calls
+part_of_update F k new values called calls update = record { marks = update.marks; needed = update.needed; new = new; calls = update.calls }
+
+-- a stabilize that found no memory on its way, or not even for a beginning
+pub stops_on_the_way : (F : Functions) (k : Kept) (m : Moment) (called calls : ℕ) → Stands F k m → IsSound k
+    → IsPartOfUpdate F.value k.places k.roots k.observers k.last called calls ⊎ (calls ≡ called) → Stops F m k called calls
+stops_on_the_way F k m called calls st sound (inl part) = stops_partly F k m called calls st sound part
+stops_on_the_way F k m called calls st sound (inr same) = subst (λ n. Stops F m k called n) (sym same) (stops_idle F k m called st)

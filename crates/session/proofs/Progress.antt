@@ -1,168 +1,249 @@
--- The calls of the functions of needed nodes, one node after the other.
-use Rattle.std.proofs.Common.{◌≡◌, inl, inr, ℕ, ◌+◌, ◌<◌, ◌≤◌, Bool, List, [], ◌∷◌, length, set, Option, None, Some, IsSome, refl, sym, ◌∙◌, subst, arith, length-set}
+-- The calls of the functions of needed places, one place after the other.
+use Rattle.std.proofs.Common.{◌≡◌, inl, inr, ℕ, ◌+◌, ◌<◌, ◌≤◌, Bool, true, List, [], ◌∷◌, ◌++◌, length, set, Option, None, Some, IsSome, IfSome, IfNone, IsTrue, refl, sym, ◌∙◌, ap, subst, arith, length-set}
 use Rattle.std.specs.List.{slice_get}
 use Rattle.std.proofs.lemmas.Bool.{cases_eq}
+use Rattle.std.proofs.lemmas.Option.{slice_get_within}
 use Rattle.inc_value.specs.declared.function.FnRef.{FnRef}
 use Rattle.inc_value.specs.declared.value.Value.{Value}
-use Rattle.script_model.specs.Choice.{Every, Among}
-use Rattle.session.specs.declared.node.Argument.TheVariants as argument
-use Rattle.session.specs.declared.node.Argument.{Argument}
-use Rattle.session.specs.declared.node.Definition.TheVariants.{Variable, Application}
-use Rattle.session.specs.declared.node.Definition.{Definition}
-use Rattle.session.specs.declared.node.Node.{Node}
-use Rattle.session.specs.Kept.{AreSoundNodes, IsSoundDefinition, HasType, value_at_node, value_of_argument}
-use Rattle.session.specs.Settling.{IsMarked, IsArgumentMarked, AreReadsMarked, AreClosed, AreKnown, IsReady, IsReadyOrDone, IsResult, IsCalled, HasTypeOf, Fills, Calls}
-use Rattle.session.proofs.Calling.{value_at_place, value_of_variable}
-use Rattle.session.proofs.Filling.{fills_refl, fills_trans, fills_set, sound_set, known_fills, closed_fills, Grows, grows_set, result_grows, called_grows, value_set_same, value_set_other, with_kept}
+use Rattle.script_model.specs.Choice.{and_then, Among, NoRepeats, Every}
+use Rattle.session.specs.Calling.{HaveTargetValues, IsReady, IsCurrentAt, IsDueAt, IsCallAt}
+use Rattle.session.specs.Kept.{AreTargets}
+use Rattle.session.specs.LastCall.{LastCall}
+use Rattle.session.specs.Places.{last_at, value_at, values_at, AreSoundPlaces, AreTypedCalls, AreRightCalls, WasCalled}
+use Rattle.session.specs.Settling.{IsMarked, ReadsPlace, AreNeeded, IsCurrent, AreCurrentBelow, IsMade, Calls, merged}
+use Rattle.session.specs.declared.place.Observer.{Observer}
+use Rattle.session.specs.declared.place.Place.{Place}
+use Rattle.session.specs.declared.place.Place.TheVariants.{Literal, Variable, Application}
+use Rattle.session.proofs.Lists.{at_place, every_among, every_weaker, every_by}
+use Rattle.session.proofs.Merging.{push_none, push_some, last_set_same, last_set_other}
+use Rattle.session.proofs.Values.{values_set}
 
--- the nodes before the n-th have been gone over
-pub record IsUnderway (value : FnRef → List Value → Value) (known : FnRef → Bool) (marks : List Bool) (old now : List Node) (n before after : ℕ) : Type 0 where
-  pub calls : Calls value marks old now before after
-  pub below : Every (λ m. m < n) calls.called
-  pub done : (m : ℕ) → m < n → IsMarked marks m → IsSome (value_at_node now m)
-  pub sound : AreSoundNodes now
-  pub all_known : AreKnown known now
-  pub closed : AreClosed now marks
+-- the places before the i-th have been gone over
+pub record IsUnderway (value : FnRef → List Value → Value) (marks : List Bool) (places : List Place) (old now : List (Option LastCall)) (i before after : ℕ) : Type 0 where
   pub size : length now ≡ length old
+  pub typed : AreTypedCalls places now
+  pub right : AreRightCalls value places old → AreRightCalls value places now
+  pub current : AreCurrentBelow i marks places now
+  pub made : List ℕ
+  pub each : Every (IsMade i marks places old now) made
+  pub below : Every (λ j. j < i) made
+  pub distinct : NoRepeats made
+  pub within : after ≤ before + length made
 
-pub underway_start : (value : FnRef → List Value → Value) (known : FnRef → Bool) (marks : List Bool) (nodes : List Node) (count : ℕ) → AreSoundNodes nodes → AreKnown known nodes → AreClosed nodes marks
-    → IsUnderway value known marks nodes nodes 0 count count
-underway_start value known marks nodes count sound k closed = record {
-  calls = record { fills = fills_refl nodes; keeps = λ m v e. e; fresh = λ m v e. inl e; called = []; each = tt; distinct = tt; within = omega arith };
+pub underway_start : (value : FnRef → List Value → Value) (marks : List Bool) (places : List Place) (old now : List (Option LastCall)) (count : ℕ) → now ≡ old → AreTypedCalls places old
+    → IsUnderway value marks places old now 0 count count
+underway_start value marks places old now count same typed = record {
+  size = ap length same;
+  typed = subst (λ l. AreTypedCalls places l) (sym same) typed;
+  right = λ r. subst (λ l. AreRightCalls value places l) (sym same) r;
+  current = λ i f js lt m at. absurd (omega arith);
+  made = [];
+  each = tt;
   below = tt;
-  done = λ m lt marked. absurd (omega arith);
-  sound = sound;
-  all_known = k;
-  closed = closed;
-  size = refl;
+  distinct = tt;
+  within = omega arith;
 }
-
-every_weaker : {A : Type 0} (P Q : A → Type 0) (xs : List A) → ((x : A) → P x → Q x) → Every P xs → Every Q xs
-every_weaker P Q [] f e = tt
-every_weaker P Q (x ∷ xs) f e = (f x e.0, every_weaker P Q xs f e.1)
 
 not_below : (n : ℕ) (xs : List ℕ) → Every (λ m. m < n) xs → Among n xs → ⊥
 not_below n [] e a = a
 not_below n (x ∷ xs) e (inl same) = omega (arith, same, e.0)
 not_below n (x ∷ xs) e (inr more) = not_below n xs e.1 more
 
-module _ (value : FnRef → List Value → Value) (known : FnRef → Bool) (marks : List Bool) (old now : List Node) (n before after : ℕ) (u : IsUnderway value known marks old now n before after) where
-  -- a node without a mark, or with a value, is passed over
-  pub underway_past : (IsMarked marks n → IsSome (value_at_node now n)) → IsUnderway value known marks old now (n + 1) before after
-  underway_past here = record {
-    calls = u.calls;
-    below = every_weaker (λ m. m < n) (λ m. m < n + 1) u.calls.called (λ m lt. omega arith) u.below;
-    done = λ m lt marked. elim (cases_eq n m) [ inl e ↦ subst (λ k. IsSome (value_at_node now k)) e (here (subst (λ k. IsMarked marks k) (sym e) marked)) | inr ne ↦ u.done m (omega arith) marked ];
-    sound = u.sound;
-    all_known = u.all_known;
-    closed = u.closed;
+-- a marked place has a value, once its function is current
+pub marked_has : (n : ℕ) (marks : List Bool) (places : List Place) (now : List (Option LastCall)) (j : ℕ) → AreCurrentBelow n marks places now → j < n → j < length places → IsMarked marks j
+    → IsSome (value_at places now j)
+marked_has n marks places now j current lt within m = let x = at_place places j within in by_place x.0 x.1
+  where
+    by_place : (x : Place) → slice_get places j ≡ Some x → IsSome (value_at places now j)
+    by_place (Literal v) at = rw at refl
+    by_place (Variable v) at = rw at refl
+    by_place (Application f js) at = let c = current j f js lt m at in rw (at, c.call_is) refl
+
+-- ---- one place
+
+module _ (value : FnRef → List Value → Value) (marks : List Bool) (places : List Place) (old now : List (Option LastCall)) (i before after : ℕ) (u : IsUnderway value marks places old now i before after) where
+  pub calls_made : Calls value marks places old now before after
+  calls_made = record {
     size = u.size;
+    typed = u.typed;
+    right = u.right;
+    reached = i;
+    current = u.current;
+    made = u.made;
+    each = u.each;
+    distinct = u.distinct;
+    within = u.within;
   }
 
-  argument_has : (a : Argument) (t : _) → HasType now n a t → IsArgumentMarked marks a → (v : Value) × (value_of_argument now a ≡ Some v)
-  argument_has (argument.Constant v) t h m = (v, refl)
-  argument_has (argument.Node k) t h m = some_of (value_at_node now k) (u.done k h.0 m)
-    where
-      some_of : (o : Option Value) → IsSome o → (v : Value) × (o ≡ Some v)
-      some_of None s = absurd (cc)
-      some_of (Some v) s = (v, refl)
+  -- the arguments at a marked place have values
+  pub ready_at : AreSoundPlaces places → ((m n : ℕ) → IsMarked marks m → ReadsPlace places m n → IsMarked marks n) → IsMarked marks i → IsReady places now i
+  ready_at sound closed m = λ f js at. every_by (λ j. IsSome (value_at places now j)) js (λ j a.
+      let earlier = every_among (λ k. k < i) js j (sound i (Application f js) at).earlier a in
+      let within : j < length places = omega (arith, slice_get_within places i (Application f js) at) in
+      marked_has i marks places now j u.current earlier within (closed i j m (record { function = f; arguments = js; stands = at; reads = a })))
 
-  ready_by : (x : Node) (d : Definition) → slice_get now n ≡ Some x → x.definition ≡ d → AreReadsMarked marks d → IsSoundDefinition now n x.ty d → IsReadyOrDone now n
-  ready_by x (Variable v) at is m s = inl (rw (value_at_place now n x at, value_of_variable x v is) refl)
-  ready_by x (Application f l r) at is m s =
-      let a = argument_has l s.left_ty s.left_fits m.0 in
-      let b = argument_has r s.right_ty s.right_fits m.1 in
-      inr (record { node = x; at = at; function = f; left = l; right = r; is = is; left_value = a.0; right_value = b.0; has_left = a.1; has_right = b.1 })
+  made_later : (j : ℕ) → IsMade i marks places old now j → IsMade (i + 1) marks places old now j
+  made_later j c = record {
+    within_reach = omega (arith, c.within_reach);
+    marked = c.marked;
+    function = c.function;
+    arguments = c.arguments;
+    stands = c.stands;
+    values = c.values;
+    values_are = c.values_are;
+    others_before = c.others_before;
+  }
 
-  -- what a marked node reads has values
-  pub ready_at : (x : Node) → slice_get now n ≡ Some x → IsMarked marks n → IsReadyOrDone now n
-  ready_at x at m = ready_by x x.definition at refl (u.closed n x at m) (u.sound n x at).definition
+  -- a place without a mark, or with a function that is current, is passed over
+  pub underway_past : (after' : ℕ) → after' ≡ after → (IsMarked marks i → IsCurrentAt places now i) → IsUnderway value marks places old now (i + 1) before after'
+  underway_past after' e here = record {
+    size = u.size;
+    typed = u.typed;
+    right = u.right;
+    current = λ j f js lt m at. elim (cases_eq i j) [
+      | inl same ↦ subst (λ k. IsCurrent places now k js) same (here (subst (λ k. IsMarked marks k) (sym same) m) f js (subst (λ k. slice_get places k ≡ Some (Application f js)) (sym same) at))
+      | inr ne ↦ u.current j f js (omega arith) m at
+    ];
+    made = u.made;
+    each = every_weaker (IsMade i marks places old now) (IsMade (i + 1) marks places old now) u.made made_later u.each;
+    below = every_weaker (λ j. j < i) (λ j. j < i + 1) u.made (λ j lt. omega arith) u.below;
+    distinct = u.distinct;
+    within = omega (arith, u.within);
+  }
+
+  made_here : (reached : ℕ) → i ≤ reached → IsMarked marks i → IsDueAt places old now i → IsMade reached marks places old now i
+  made_here reached le m d = record {
+    within_reach = le;
+    marked = m;
+    function = d.function;
+    arguments = d.arguments;
+    stands = d.stands;
+    values = d.due.values;
+    values_are = d.due.values_are;
+    others_before = d.due.others_before;
+  }
 
   -- a call that found no memory
-  pub underway_failed : (after' : ℕ) → IsMarked marks n → value_at_node now n ≡ None → IsReady now n → after' ≤ after + 1 → Calls value marks old now before after'
-  underway_failed after' marked none ready le = record {
-    fills = u.calls.fills;
-    keeps = u.calls.keeps;
-    fresh = u.calls.fresh;
-    called = n ∷ u.calls.called;
-    each = (record { marked = marked; had_none = had_none; ready = ready }, u.calls.each);
-    distinct = (not_below n u.calls.called u.below, u.calls.distinct);
-    within = omega (arith, u.calls.within);
+  pub underway_failed : (after' : ℕ) → IsMarked marks i → IsDueAt places old now i → after' ≤ after + 1 → Calls value marks places old now before after'
+  underway_failed after' m due le = record {
+    size = u.size;
+    typed = u.typed;
+    right = u.right;
+    reached = i;
+    current = u.current;
+    made = i ∷ u.made;
+    each = (made_here i (omega arith) m due, u.each);
+    distinct = (not_below i u.made u.below, u.distinct);
+    within = omega (arith, u.within);
   }
-    where
-      had_none : value_at_node old n ≡ None
-      had_none = none_before (value_at_node old n) refl
-        where
-          none_before : (o : Option Value) → value_at_node old n ≡ o → o ≡ None
-          none_before None e = refl
-          none_before (Some v) e = let at = u.calls.keeps n v e in absurd (cc)
 
-  -- a call that gave the node its value
-  pub underway_called : (after' : ℕ) (x : Node) (v : Value) → IsMarked marks n → slice_get now n ≡ Some x → value_at_node now n ≡ None → IsResult value now n v → HasTypeOf now n v
-      → after' ≤ after + 1 → IsUnderway value known marks old (set now n (with_kept x v)) (n + 1) before after'
-  unfolding underway_failed
-  underway_called after' x v marked at none result typed le =
-      let next : List Node = set now n (with_kept x v) in
-      let step : Fills now next = fills_set now n x v at in
-      let grows : Grows now next = grows_set now n (with_kept x v) none in
-      let failed = underway_failed after' marked none result.0 le in
-      let r = result.0 in
-      let eq : Some r.node ≡ Some x = sym r.at ∙ at in
-      let same : r.node ≡ x = cc in
-      let is : x.definition ≡ Application r.function r.left r.right = subst (λ (z : Node). z.definition ≡ Application r.function r.left r.right) same r.is in
-      let here : value_at_node next n ≡ Some v = value_set_same now n x v r.function r.left r.right at is in
-      record {
-        calls = record {
-          fills = fills_trans old now next u.calls.fills step;
-          keeps = λ m w e. grows m w (u.calls.keeps m w e);
-          fresh = λ m w e. elim (cases_eq n m) [
-            | inl at_n ↦
-                let both : Some v ≡ Some w = sym here ∙ subst (λ k. value_at_node next k ≡ Some w) (sym at_n) e in
-                let is_v : v ≡ w = cc in
-                inr (subst (λ k. IsResult value next k w) at_n (subst (λ z. IsResult value next n z) is_v (result_grows value now next n v step grows result)))
-            | inr ne ↦ elim (u.calls.fresh m w (sym (value_set_other now n m (with_kept x v) ne) ∙ e)) [
-              | inl was ↦ inl was
-              | inr derived ↦ inr (result_grows value now next m w step grows derived)
-            ]
-          ];
-          called = failed.called;
-          each = every_weaker (IsCalled marks old now) (IsCalled marks old next) failed.called (λ m c. called_grows marks old now next m step grows c) failed.each;
-          distinct = failed.distinct;
-          within = failed.within;
-        };
-        below = (omega arith, every_weaker (λ m. m < n) (λ m. m < n + 1) u.calls.called (λ m lt. omega arith) u.below);
-        done = λ m lt m_marked. elim (cases_eq n m) [
-          | inl e ↦ subst (λ k. IsSome (value_at_node next k)) e (rw here refl)
-          | inr ne ↦ rw (value_set_other now n m (with_kept x v) ne) (u.done m (omega arith) m_marked)
-        ];
-        sound = sound_set now n x v u.sound at typed;
-        all_known = known_fills known now next step u.all_known;
-        closed = closed_fills now next marks step u.closed;
-        size = length-set now n (with_kept x v) ∙ u.size;
-      }
+  -- a call that gave a value
+  module _ (sound : AreSoundPlaces places) (call : LastCall) (room : i < length now) (m : IsMarked marks i) (c : IsCallAt value places old now i call) where
+    abbrev next : List (Option LastCall)
+    next = set now i (Some call)
 
--- ---- over functions that are the same one by one
+    here : last_at next i ≡ Some call
+    here = last_set_same now i (Some call) room
 
-pub result_same : (value value' : FnRef → List Value → Value) (nodes : List Node) (n : ℕ) (v : Value) → ((f : FnRef) (xs : List Value) → value' f xs ≡ value f xs)
-    → IsResult value' nodes n v → IsResult value nodes n v
-result_same value value' nodes n v same r = (r.0, r.1 ∙ same r.0.function (r.0.left_value ∷ r.0.right_value ∷ []))
+    there : (j : ℕ) (w : LastCall) → (i ≡ j → ⊥) → last_at next j ≡ Some w → last_at now j ≡ Some w
+    there j w ne e = sym (last_set_other now i j (Some call) ne) ∙ e
 
-pub known_same : (known known' : FnRef → Bool) (nodes : List Node) → ((f : FnRef) → known' f ≡ known f) → AreKnown known nodes → AreKnown known' nodes
-known_same known known' nodes same k = λ n x f l r at is. rw (same f) (k n x f l r at is)
+    -- the values of the arguments at this place and earlier ones stay
+    values_stay : (j : ℕ) (f : FnRef) (js : List ℕ) → j < i + 1 → slice_get places j ≡ Some (Application f js) → values_at places next js ≡ values_at places now js
+    values_stay j f js lt at = values_set places now i (Some call) js (every_weaker (λ k. k < j) (λ k. k < i) js (λ k less. omega arith) (sound j (Application f js) at).earlier)
 
-pub underway_known : (value : FnRef → List Value → Value) (known known' : FnRef → Bool) (marks : List Bool) (old now : List Node) (n before after : ℕ) → ((f : FnRef) → known' f ≡ known f)
-    → IsUnderway value known marks old now n before after → IsUnderway value known' marks old now n before after
-underway_known value known known' marks old now n before after same u = record {
-  calls = u.calls;
-  below = u.below;
-  done = u.done;
-  sound = u.sound;
-  all_known = known_same known known' now same u.all_known;
-  closed = u.closed;
-  size = u.size;
+    made_stays : (j : ℕ) → j < i + 1 → IsMade (i + 1) marks places old now j → IsMade (i + 1) marks places old next j
+    made_stays j lt d = record {
+      within_reach = d.within_reach;
+      marked = d.marked;
+      function = d.function;
+      arguments = d.arguments;
+      stands = d.stands;
+      values = d.values;
+      values_are = values_stay j d.function d.arguments lt d.stands ∙ d.values_are;
+      others_before = d.others_before;
+    }
+
+    each_stays : (js : List ℕ) → Every (λ j. j < i) js → Every (IsMade i marks places old now) js → Every (IsMade (i + 1) marks places old next) js
+    each_stays [] below each = tt
+    each_stays (j ∷ js) below each = (made_stays j (omega (arith, below.0)) (made_later j each.0), each_stays js below.1 each.1)
+
+    -- the function at this place
+    function_is : (j : ℕ) (f : FnRef) (w : LastCall) → i ≡ j → WasCalled places next j f w → (f ≡ c.due.function) × (w ≡ call)
+    function_is j f w same was =
+        let at : Some (Application f was.arguments) ≡ Some (Application c.due.function c.due.arguments) = sym was.stands ∙ subst (λ k. slice_get places k ≡ Some (Application c.due.function c.due.arguments)) same c.due.stands in
+        let is : Some w ≡ Some call = sym was.call_is ∙ subst (λ k. last_at next k ≡ Some call) same here in
+        (cc, cc)
+
+    was_before : (j : ℕ) (f : FnRef) (w : LastCall) → (i ≡ j → ⊥) → WasCalled places next j f w → WasCalled places now j f w
+    was_before j f w ne was = record { arguments = was.arguments; stands = was.stands; call_is = there j w ne was.call_is }
+
+    pub underway_called : (after' : ℕ) → after' ≤ after + 1 → IsUnderway value marks places old next (i + 1) before after'
+    underway_called after' le = record {
+      size = length-set now i (Some call) ∙ u.size;
+      typed = λ j f w was. elim (cases_eq i j) [
+        | inl same ↦ let is = function_is j f w same was in rw (is.0, is.1) c.call_is.typed
+        | inr ne ↦ u.typed j f w (was_before j f w ne was)
+      ];
+      right = λ r j f w was. elim (cases_eq i j) [
+        | inl same ↦ let is = function_is j f w same was in rw (is.0, is.1) c.call_is.value_is
+        | inr ne ↦ u.right r j f w (was_before j f w ne was)
+      ];
+      current = λ j f js lt marked at. elim (cases_eq i j) [
+        | inl same ↦
+            let at_i = subst (λ k. slice_get places k ≡ Some (Application f js)) (sym same) at in
+            let both : Some (Application c.due.function c.due.arguments) ≡ Some (Application f js) = sym c.due.stands ∙ at_i in
+            let args : c.due.arguments ≡ js = cc in
+            subst (λ k. IsCurrent places next k js) same (record {
+              call = call;
+              call_is = here;
+              values_are = values_stay i f js (omega arith) at_i ∙ subst (λ ks. values_at places now ks ≡ Some call.arguments) args c.call_is.arguments_are;
+            })
+        | inr ne ↦
+            let is = u.current j f js (omega arith) marked at in
+            record { call = is.call; call_is = last_set_other now i j (Some call) ne ∙ is.call_is; values_are = values_stay j f js lt at ∙ is.values_are }
+      ];
+      made = i ∷ u.made;
+      each = (made_stays i (omega arith) (made_here (i + 1) (omega arith) m c.due), each_stays u.made u.below u.each);
+      below = (omega arith, every_weaker (λ j. j < i) (λ j. j < i + 1) u.made (λ j lt. omega arith) u.below);
+      distinct = (not_below i u.made u.below, u.distinct);
+      within = omega (arith, u.within);
+    }
+
+-- ---- a turn of the loop
+
+pub call_same : (value value' : FnRef → List Value → Value) (places : List Place) (old now : List (Option LastCall)) (i : ℕ) (call : LastCall) → ((f : FnRef) (xs : List Value) → value' f xs ≡ value f xs)
+    → IsCallAt value' places old now i call → IsCallAt value places old now i call
+call_same value value' places old now i call same c = record {
+  due = c.due;
+  call_is = record { arguments_are = c.call_is.arguments_are; value_is = c.call_is.value_is ∙ same c.due.function call.arguments; typed = c.call_is.typed };
 }
 
--- nothing was called
-pub underway_idle : (value : FnRef → List Value → Value) (known : FnRef → Bool) (marks : List Bool) (old now : List Node) (n before after after' : ℕ) → after' ≡ after
-    → IsUnderway value known marks old now n before after → IsUnderway value known marks old now n before after'
-underway_idle value known marks old now n before after after' e u = subst (λ k. IsUnderway value known marks old now n before k) (sym e) u
+-- the next place, by what its call left
+pub underway_next : (value value' : FnRef → List Value → Value) (marks : List Bool) (places : List Place) (old fresh : List (Option LastCall)) (i before after after' : ℕ) (mark : Bool) (call : Option LastCall)
+    → IsUnderway value marks places old (merged old fresh) i before after → ((f : FnRef) (xs : List Value) → value' f xs ≡ value f xs) → AreSoundPlaces places → i < length old → length fresh ≡ i
+    → slice_get marks i ≡ Some mark → after' ≤ after + 1 → IfNone call (after' ≡ after) → IfNone call (IsTrue mark → IsCurrentAt places (merged old fresh) (length fresh)) → IfSome call (λ c. IsTrue mark)
+    → IfSome call (λ c. IsCallAt value' places old (merged old fresh) (length fresh) c) → IsUnderway value marks places old (merged old (fresh ++ call ∷ [])) (i + 1) before after'
+underway_next value value' marks places old fresh i before after after' mark None u same sound room size is le idle current marked called =
+    let here : IsMarked marks i → IsCurrentAt places (merged old fresh) i = λ m.
+    let both : Some mark ≡ Some true = sym is ∙ m in
+    let t : mark ≡ true = cc in
+    subst (λ k. IsCurrentAt places (merged old fresh) k) size (current t) in
+    subst (λ l. IsUnderway value marks places old l (i + 1) before after') (sym (push_none old fresh)) (underway_past value marks places old (merged old fresh) i before after u after' idle here)
+underway_next value value' marks places old fresh i before after after' mark (Some c) u same sound room size is le idle current marked called =
+    let m : IsMarked marks i = is ∙ ap (λ (b : Bool). Some b) marked in
+    let at = subst (λ k. IsCallAt value' places old (merged old fresh) k c) size called in
+    let next = underway_called value marks places old (merged old fresh) i before after u sound c (omega (arith, u.size)) m (call_same value value' places old (merged old fresh) i c same at) after' le in
+    let pushed = push_some old fresh c (omega arith) ∙ ap (λ k. set (merged old fresh) k (Some c)) size in
+    subst (λ l. IsUnderway value marks places old l (i + 1) before after') (sym pushed) next
+
+-- ---- what observers look at
+
+pub targets_have : (places : List Place) (roots : List ℕ) (observers : List Observer) (marks : List Bool) (now : List (Option LastCall)) → AreNeeded places roots observers marks
+    → AreCurrentBelow (length places) marks places now → Every (λ j. j < length places) roots → AreTargets (length roots) observers → HaveTargetValues roots places now observers
+targets_have places roots observers marks now needed current within targets =
+    every_by (λ (o : Observer). IsSome (and_then (slice_get roots o.target) (value_at places now))) observers (λ o a.
+    let root = at_place roots o.target (every_among (λ (p : Observer). p.target < length roots) observers o targets a) in
+    let marked = needed.roots_are root.0 (record { observer = o; is_one = a; root = root.1 }) in
+    let lt : root.0 < length places = omega (arith, slice_get_within marks root.0 true marked, needed.size) in
+    rw (root.1) (marked_has (length places) marks places now root.0 current lt lt marked))

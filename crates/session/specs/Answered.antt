@@ -1,49 +1,29 @@
 -- What a session does on the way through a line.
-use Rattle.std.specs.Prelude.{◌≡◌, ◌≤◌, ◌+◌, ℕ, List, ◌++◌, Bool, IsSome}
+use Rattle.std.specs.Prelude.{◌≡◌, ◌≤◌, ◌+◌, ℕ, List, ◌++◌}
 use Rattle.std.specs.List.{flat_map}
-use Rattle.inc_value.specs.declared.function.FnRef.{FnRef}
-use Rattle.inc_value.specs.declared.value.Value.{Value}
+use Rattle.script_model.specs.Check.{Command, Stabilize}
 use Rattle.script_model.specs.Formula.{Functions}
-use Rattle.script_model.specs.Language.{Request}
 use Rattle.script_model.specs.Need.{WithinWork}
+use Rattle.script_model.specs.Request.{Request}
 use Rattle.script_model.specs.Run.{MayCall}
-use Rattle.script_model.specs.Step.{Moment, Action, Reply, Stabilizes, Accepts, Answers, printed}
-use Rattle.session.specs.declared.session.Did.{Did}
-use Rattle.session.specs.Kept.{Kept, value_at_node}
-use Rattle.session.specs.Settling.{IsMarked, IsUsed, AreNeeded, Calls, AreTargetValues}
+use Rattle.script_model.specs.Step.{Moment, Reply, Follows, Answers, action_of, printed}
+use Rattle.session.specs.declared.answer.Did.{Did}
+use Rattle.session.specs.Kept.{Kept}
 use Rattle.session.specs.State.{Stands}
 use Rattle.session.specs.Taken.{Says}
 
--- ---- bringing the nodes up to date
-
--- functions were called, for used nodes alone
-pub record IsPartlyUpdated (value : FnRef → List Value → Value) (old new : Kept) (before after : ℕ) : Type 0 where
-  pub marks : List Bool
-  pub only : (n : ℕ) → IsMarked marks n → IsUsed old.nodes old.observers n
-  pub calls : Calls value marks old.nodes new.nodes before after
-
--- every used node has its value, and these values are those of the observers' nodes
-pub record IsUpdated (value : FnRef → List Value → Value) (old new : Kept) (before after : ℕ) (values : List Value) : Type 0 where
-  pub marks : List Bool
-  pub needed : AreNeeded old.nodes old.observers marks
-  pub calls : Calls value marks old.nodes new.nodes before after
-  pub all : (n : ℕ) → IsMarked marks n → IsSome (value_at_node new.nodes n)
-  pub values_are : AreTargetValues new.nodes old.observers values
-
--- ---- actions and requests
-
 -- only a stabilize may call functions, as many as are due
-abbrev pub MayAct : Functions → Moment → Action → ℕ → Type 0
-MayAct F m Stabilizes calls = WithinWork F m.settled m.present calls
-MayAct F m action calls = calls ≡ 0
+abbrev pub MayAct : Functions → Moment → Command → ℕ → Type 0
+MayAct F m Stabilize calls = WithinWork F m.settled m.present calls
+MayAct F m command calls = calls ≡ 0
 
--- an action was done, and its reply written
-pub record IsDone (F : Functions) (m : Moment) (action : Action) (new : Kept) (written appended : List ℕ) (called calls : ℕ) (how : Did) : Type 0 where
+-- a command was carried out or refused, and its reply written
+pub record IsFollowed (F : Functions) (m : Moment) (command : Command) (new : Kept) (written appended : List ℕ) (called calls : ℕ) (how : Did) : Type 0 where
   pub after : Moment
   pub replies : List Reply
-  pub accepts : Accepts F m action after replies
+  pub follows : Follows F m (action_of m.present command) after replies
   pub work : ℕ
-  pub due : MayAct F m action work
+  pub due : MayAct F m command work
   pub stands : Stands F new after
   pub printed_are : appended ≡ written ++ flat_map printed replies
   pub within : calls ≤ called + work

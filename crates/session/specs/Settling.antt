@@ -1,149 +1,131 @@
--- What a stabilize does to the nodes: which are needed, and which functions are called.
-use Rattle.std.specs.Prelude.{◌≡◌, ◌⊎◌, ◌<◌, ◌≤◌, ◌+◌, ℕ, Bool, true, List, [], ◌∷◌, length, Some, None, IsSome, IsTrue, slice_get, slice_set}
+-- What a stabilize does to the places: which are needed, and which functions are called.
+use Rattle.std.specs.Prelude.{◌≡◌, ◌<◌, ◌≤◌, ◌+◌, ℕ, Bool, true, List, [], ◌∷◌, length, Option, None, Some, IsTrue, slice_get}
 use Rattle.inc_value.specs.declared.function.FnRef.{FnRef}
 use Rattle.inc_value.specs.declared.outcome.Outcome.TheVariants.{Val}
 use Rattle.inc_value.specs.declared.value.Value.{Value}
-use Rattle.inc_value.specs.Value.{type_of}
-use Rattle.script_model.specs.Choice.{NoRepeats, Every}
-use Rattle.session.specs.declared.node.Argument.TheVariants as argument
-use Rattle.session.specs.declared.node.Argument.{Argument}
-use Rattle.session.specs.declared.node.Definition.TheVariants.{Variable, Application}
-use Rattle.session.specs.declared.node.Definition.{Definition}
-use Rattle.session.specs.declared.node.Node.{Node}
-use Rattle.session.specs.declared.node.Observer.{Observer}
-use Rattle.session.specs.Kept.{value_at_node, value_of_argument}
+use Rattle.script_model.specs.Choice.{and_then, Among, NoRepeats, Every, Reaches}
+use Rattle.session.specs.LastCall.{LastCall}
+use Rattle.session.specs.Places.{last_at, value_at, values_at, AreTypedCalls, AreRightCalls}
+use Rattle.session.specs.declared.place.Observer.{Observer}
+use Rattle.session.specs.declared.place.Place.{Place}
+use Rattle.session.specs.declared.place.Place.TheVariants.{Application}
 
--- ---- marks
+-- ---- need
 
--- the n-th node is marked
+-- the i-th place is marked
 abbrev pub IsMarked : List Bool → ℕ → Type 0
-IsMarked marks n = slice_get marks n ≡ Some true
+IsMarked marks i = slice_get marks i ≡ Some true
 
--- an argument that is a node is marked
-abbrev pub IsArgumentMarked : List Bool → Argument → Type 0
-IsArgumentMarked marks (argument.Constant v) = Unit {0}
-IsArgumentMarked marks (argument.Node m) = IsMarked marks m
+-- the function at the one place reads the other
+pub record ReadsPlace (places : List Place) (i j : ℕ) : Type 0 where
+  pub function : FnRef
+  pub arguments : List ℕ
+  pub stands : slice_get places i ≡ Some (Application function arguments)
+  pub reads : Among j arguments
 
--- what a node reads is marked
-abbrev pub AreReadsMarked : List Bool → Definition → Type 0
-AreReadsMarked marks (Variable v) = Unit {0}
-AreReadsMarked marks (Application function left right) = IsArgumentMarked marks left × IsArgumentMarked marks right
+-- an observer looks at the root of its target
+pub record IsLookedAt (roots : List ℕ) (observers : List Observer) (i : ℕ) : Type 0 where
+  pub observer : Observer
+  pub is_one : Among observer observers
+  pub root : slice_get roots observer.target ≡ Some i
 
--- the marks, with that of an argument that is a node
-abbrev pub mark_of_argument : List Bool → Argument → List Bool
-mark_of_argument marks (argument.Constant v) = marks
-mark_of_argument marks (argument.Node m) = slice_set marks m true
+-- reached by reads from a place that an observer looks at
+pub record IsUsed (places : List Place) (roots : List ℕ) (observers : List Observer) (i : ℕ) : Type 0 where
+  pub root : ℕ
+  pub looked_at : IsLookedAt roots observers root
+  pub reached : Reaches (ReadsPlace places) root i
 
--- the marks, with those of what a node reads
-abbrev pub marks_of_reads : List Bool → Definition → List Bool
-marks_of_reads marks (Variable v) = marks
-marks_of_reads marks (Application function left right) = mark_of_argument (mark_of_argument marks left) right
-
--- an argument that is a node stands before the n-th one
-abbrev pub IsArgumentBelow : ℕ → Argument → Type 0
-IsArgumentBelow n (argument.Constant v) = Unit {0}
-IsArgumentBelow n (argument.Node m) = m < n
-
--- what a definition reads stands before the n-th node
-abbrev pub AreReadsBelow : ℕ → Definition → Type 0
-AreReadsBelow n (Variable v) = Unit {0}
-AreReadsBelow n (Application function left right) = IsArgumentBelow n left × IsArgumentBelow n right
-
--- the marks are closed: what a marked node reads is marked
-abbrev pub AreClosed : List Node → List Bool → Type 0
-AreClosed nodes marks = (n : ℕ) (x : Node) → slice_get nodes n ≡ Some x → IsMarked marks n → AreReadsMarked marks x.definition
-
--- an observer looks at the node, or a used node reads it
-pub data IsUsed (nodes : List Node) (observers : List Observer) : ℕ → Type 0 where
-  looked_at : {n : ℕ} (i : ℕ) (o : Observer) → slice_get observers i ≡ Some o → o.target ≡ n → IsUsed nodes observers n
-  read_left : {n m : ℕ} (x : Node) (function : FnRef) (right : Argument) → IsUsed nodes observers m → slice_get nodes m ≡ Some x
-      → x.definition ≡ Application function (argument.Node n) right → IsUsed nodes observers n
-  read_right : {n m : ℕ} (x : Node) (function : FnRef) (left : Argument) → IsUsed nodes observers m → slice_get nodes m ≡ Some x
-      → x.definition ≡ Application function left (argument.Node n) → IsUsed nodes observers n
-
--- one mark for each node, true exactly for what is used
-pub record AreNeeded (nodes : List Node) (observers : List Observer) (marks : List Bool) : Type 0 where
-  pub size : length marks ≡ length nodes
-  pub targets : (i : ℕ) (o : Observer) → slice_get observers i ≡ Some o → IsMarked marks o.target
-  pub closed : AreClosed nodes marks
-  pub only : (n : ℕ) → IsMarked marks n → IsUsed nodes observers n
+-- one mark for each place, true exactly for those that are used
+pub record AreNeeded (places : List Place) (roots : List ℕ) (observers : List Observer) (marks : List Bool) : Type 0 where
+  pub size : length marks ≡ length places
+  pub roots_are : (i : ℕ) → IsLookedAt roots observers i → IsMarked marks i
+  pub closed : (i j : ℕ) → IsMarked marks i → ReadsPlace places i j → IsMarked marks j
+  pub only : (i : ℕ) → IsMarked marks i → IsUsed places roots observers i
 
 -- ---- calls
 
--- the functions of the nodes are known
-abbrev pub AreKnown : (FnRef → Bool) → List Node → Type 0
-AreKnown known nodes = (n : ℕ) (x : Node) (function : FnRef) (left right : Argument)
-    → slice_get nodes n ≡ Some x → x.definition ≡ Application function left right → IsTrue (known function)
+-- the functions of the places are known
+abbrev pub AreKnown : (FnRef → Bool) → List Place → Type 0
+AreKnown known places = (i : ℕ) (function : FnRef) (arguments : List ℕ) → slice_get places i ≡ Some (Application function arguments) → IsTrue (known function)
 
--- a function whose arguments have values
-pub record IsReady (nodes : List Node) (n : ℕ) : Type 0 where
-  pub node : Node
-  pub at : slice_get nodes n ≡ Some node
+-- the function of a place was last called with the values that its arguments have
+pub record IsCurrent (places : List Place) (last : List (Option LastCall)) (i : ℕ) (arguments : List ℕ) : Type 0 where
+  pub call : LastCall
+  pub call_is : last_at last i ≡ Some call
+  pub values_are : values_at places last arguments ≡ Some call.arguments
+
+-- the functions of marked places before the n-th are current
+abbrev pub AreCurrentBelow : ℕ → List Bool → List Place → List (Option LastCall) → Type 0
+AreCurrentBelow n marks places last = (i : ℕ) (function : FnRef) (arguments : List ℕ) → i < n → IsMarked marks i
+    → slice_get places i ≡ Some (Application function arguments) → IsCurrent places last i arguments
+
+-- the later call, where there is one
+abbrev pub later : Option LastCall → Option LastCall → Option LastCall
+later old None = old
+later old (Some call) = Some call
+
+-- the last calls, where some were made since
+abbrev pub merged : List (Option LastCall) → List (Option LastCall) → List (Option LastCall)
+merged [] fresh = []
+merged (old ∷ last) [] = old ∷ last
+merged (old ∷ last) (call ∷ fresh) = later old call ∷ merged last fresh
+
+-- a call that was made: at a marked place, with the values that its arguments have now, and not with those of the call before
+pub record IsMade (reached : ℕ) (marks : List Bool) (places : List Place) (old new : List (Option LastCall)) (i : ℕ) : Type 0 where
+  pub within_reach : i ≤ reached
+  pub marked : IsMarked marks i
   pub function : FnRef
-  pub left : Argument
-  pub right : Argument
-  pub is : node.definition ≡ Application function left right
-  pub left_value : Value
-  pub right_value : Value
-  pub has_left : value_of_argument nodes left ≡ Some left_value
-  pub has_right : value_of_argument nodes right ≡ Some right_value
+  pub arguments : List ℕ
+  pub stands : slice_get places i ≡ Some (Application function arguments)
+  pub values : List Value
+  pub values_are : values_at places new arguments ≡ Some values
+  pub others_before : (call : LastCall) → last_at old i ≡ Some call → call.arguments ≡ values → ⊥
 
--- a node whose function, if it has one and wasn't called, can be called
-abbrev pub IsReadyOrDone : List Node → ℕ → Type 0
-IsReadyOrDone nodes n = IsSome (value_at_node nodes n) ⊎ IsReady nodes n
+-- calls of functions in the order of the places, from the old last calls to the new ones: the marked places before the one that
+-- was reached are current, what functions gave is what they give, and no more of them were called than the list has, each at
+-- another place
+pub record Calls (value : FnRef → List Value → Value) (marks : List Bool) (places : List Place) (old new : List (Option LastCall)) (before after : ℕ) : Type 0 where
+  pub size : length new ≡ length old
+  pub typed : AreTypedCalls places new
+  pub right : AreRightCalls value places old → AreRightCalls value places new
+  pub reached : ℕ
+  pub current : AreCurrentBelow reached marks places new
+  pub made : List ℕ
+  pub each : Every (IsMade reached marks places old new) made
+  pub distinct : NoRepeats made
+  pub within : after ≤ before + length made
 
--- the value has the type of the n-th node
-abbrev pub HasTypeOf : List Node → ℕ → Value → Type 0
-HasTypeOf nodes n v = (x : Node) → slice_get nodes n ≡ Some x → type_of v ≡ x.ty
+-- ---- what observers show
 
--- what the function of a node gives
-abbrev pub IsResult : (FnRef → List Value → Value) → List Node → ℕ → Value → Type 0
-IsResult value nodes n v = (r : IsReady nodes n) × (v ≡ value r.function (r.left_value ∷ r.right_value ∷ []))
+-- the values are those of the observers' roots, one for one
+abbrev pub AreTargetValues : List ℕ → List Place → List (Option LastCall) → List Observer → List Value → Type 0
+AreTargetValues roots places last [] [] = Unit {0}
+AreTargetValues roots places last [] (v ∷ vs) = ⊥
+AreTargetValues roots places last (o ∷ os) [] = ⊥
+AreTargetValues roots places last (o ∷ os) (v ∷ vs) =
+    (and_then (slice_get roots o.target) (value_at places last) ≡ Some v) × AreTargetValues roots places last os vs
 
--- a function that was called: its node was marked and had no value, and its arguments have theirs
-pub record IsCalled (marks : List Bool) (old new : List Node) (n : ℕ) : Type 0 where
-  pub marked : IsMarked marks n
-  pub had_none : value_at_node old n ≡ None
-  pub ready : IsReady new n
-
--- the nodes are the same, but that more of them have values
-abbrev pub Fills : List Node → List Node → Type 0
-Fills [] [] = Unit {0}
-Fills [] (y ∷ ys) = ⊥
-Fills (x ∷ xs) [] = ⊥
-Fills (x ∷ xs) (y ∷ ys) = (y ≡ record x { kept = y.kept }) × Fills xs ys
-
--- what calling functions left: values only came in, each new one is what the node's function gives, and no more functions
--- were called than the list has, each for another node
-pub record Calls (value : FnRef → List Value → Value) (marks : List Bool) (old new : List Node) (before after : ℕ) : Type 0 where
-  pub fills : Fills old new
-  pub keeps : (n : ℕ) (v : Value) → value_at_node old n ≡ Some v → value_at_node new n ≡ Some v
-  pub fresh : (n : ℕ) (v : Value) → value_at_node new n ≡ Some v → (value_at_node old n ≡ Some v) ⊎ IsResult value new n v
-  pub called : List ℕ
-  pub each : Every (IsCalled marks old new) called
-  pub distinct : NoRepeats called
-  pub within : after ≤ before + length called
-
--- each observer shows the value that its node has
-abbrev pub ShowsValues : List Node → List Observer → List Observer → Type 0
-ShowsValues nodes [] [] = Unit {0}
-ShowsValues nodes [] (y ∷ ys) = ⊥
-ShowsValues nodes (x ∷ xs) [] = ⊥
-ShowsValues nodes (x ∷ xs) (y ∷ ys) = ((v : Value) × (value_at_node nodes x.target ≡ Some v) × (y ≡ record x { shown = Some (Val v) })) × ShowsValues nodes xs ys
-
--- each observer's node has a value
-abbrev pub HaveValues : List Node → List Observer → Type 0
-HaveValues nodes observers = (i : ℕ) (o : Observer) → slice_get observers i ≡ Some o → IsSome (value_at_node nodes o.target)
-
--- the values are those of the observers' nodes, one for one
-abbrev pub AreTargetValues : List Node → List Observer → List Value → Type 0
-AreTargetValues nodes [] [] = Unit {0}
-AreTargetValues nodes [] (v ∷ vs) = ⊥
-AreTargetValues nodes (o ∷ os) [] = ⊥
-AreTargetValues nodes (o ∷ os) (v ∷ vs) = (value_at_node nodes o.target ≡ Some v) × AreTargetValues nodes os vs
-
--- the observers, each showing the value at its place
+-- the observers, each showing the value at its place in the list
 abbrev pub shown_with : List Observer → List Value → List Observer
 shown_with [] values = []
 shown_with (x ∷ xs) [] = x ∷ xs
 shown_with (x ∷ xs) (v ∷ vs) = record x { shown = Some (Val v) } ∷ shown_with xs vs
+
+-- ---- a whole stabilize
+
+-- what a stabilize found: new last calls under which every used place is current, and the values of the observers
+pub record IsUpdate (value : FnRef → List Value → Value) (places : List Place) (roots : List ℕ) (observers : List Observer) (old new : List (Option LastCall))
+    (before after : ℕ) (values : List Value) : Type 0 where
+  pub marks : List Bool
+  pub needed : AreNeeded places roots observers marks
+  pub calls : Calls value marks places old new before after
+  pub current : AreCurrentBelow (length places) marks places new
+  pub values_are : AreTargetValues roots places new observers values
+
+-- functions were called, for used places alone
+pub record IsPartOfUpdate (value : FnRef → List Value → Value) (places : List Place) (roots : List ℕ) (observers : List Observer) (old : List (Option LastCall))
+    (before after : ℕ) : Type 0 where
+  pub marks : List Bool
+  pub needed : AreNeeded places roots observers marks
+  pub new : List (Option LastCall)
+  pub calls : Calls value marks places old new before after

@@ -1,16 +1,22 @@
 -- Which moments of a script a session stands for.
-use Rattle.std.specs.Prelude.{◌≡◌, ℕ, [], Some, IsSome}
-use Rattle.inc_value.specs.declared.outcome.Outcome.TheVariants.{Val}
-use Rattle.inc_value.specs.declared.value.Value.{Value}
-use Rattle.script_model.specs.Evaluate.{Gives}
-use Rattle.script_model.specs.Formula.{Functions, Name}
-use Rattle.script_model.specs.Need.{Needed, Place}
+use Rattle.std.specs.Prelude.{◌≡◌, List}
+use Rattle.script_model.specs.Check.{names_of}
+use Rattle.script_model.specs.Formula.{Functions}
+use Rattle.script_model.specs.Need.{Item}
 use Rattle.script_model.specs.Step.{Moment}
-use Rattle.session.specs.Kept.{Kept, state_of, value_at_node}
+use Rattle.session.specs.Kept.{Kept}
+use Rattle.session.specs.Places.{AreRightCalls}
+use Rattle.session.specs.Represents.{Represents}
+use Rattle.session.specs.Standing.{RanAll, observers_of}
 
--- what is kept stands for a moment of a script: the present state is that of the nodes, each value that a node has is the
--- one that its name gives there, and each application that was needed at the last accepted stabilize has its value
+-- what is kept stands for a moment of a script: names, observers and count are those of the present state, the places stand for
+-- it, each last call gave what its function gives, and each call that was needed at the last accepted stabilize was the last
+-- one of its place
 pub record Stands (F : Functions) (k : Kept) (m : Moment) : Type 0 where
-  pub present : m.present ≡ state_of k
-  pub right : (n : ℕ) (v : Value) → value_at_node k.nodes n ≡ Some v → Gives F (state_of k) (Name n) (Val v)
-  pub ran : (n : ℕ) → Needed m.settled (Place n []) → IsSome (value_at_node k.nodes n)
+  pub names : k.names ≡ names_of m.present
+  pub observers : m.present.observers ≡ observers_of k.names.observers k.observers
+  pub accepted : m.present.accepted ≡ k.accepted
+  pub items : List Item
+  pub represents : Represents m.present k.roots k.places items
+  pub right : AreRightCalls F.value k.places k.last
+  pub ran : RanAll F m.settled items k.last

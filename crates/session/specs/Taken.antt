@@ -1,19 +1,13 @@
 -- What taking a line does.
-use Rattle.std.specs.Prelude.{◌≡◌, ◌≤◌, ◌+◌, ℕ, false, List, [], ◌∷◌, ◌++◌, Option}
-use Rattle.inc_value.specs.declared.function.FnRef.{FnRef}
-use Rattle.inc_value.specs.declared.value.Value.{Value}
+use Rattle.std.specs.Prelude.{◌≡◌, ◌≤◌, ◌+◌, ℕ, false, List, [], ◌∷◌, ◌++◌}
 use Rattle.script_model.specs.Formula.{Functions}
 use Rattle.script_model.specs.Need.{WithinWork}
 use Rattle.script_model.specs.Run.{Turn, IsTurn, bytes_of}
 use Rattle.script_model.specs.Step.{Moment, Reply, Refused, is_refusal}
-use Rattle.session.specs.declared.session.Did.TheVariants as did
-use Rattle.session.specs.declared.session.Did.{Did}
+use Rattle.session.specs.declared.answer.Did.TheVariants as did
+use Rattle.session.specs.declared.answer.Did.{Did}
 use Rattle.session.specs.Kept.{Kept}
 use Rattle.session.specs.State.{Stands}
-
--- the functions of a library, by what its names stand for and what they give
-abbrev pub functions_of : (List ℕ → Option FnRef) → (FnRef → List Value → Value) → Functions
-functions_of named value = record { named = named; value = value }
 
 -- how a line was taken, by what it prints
 abbrev pub Says : Did → List Reply → Type 0

@@ -1,112 +1,153 @@
-//! Calls of the functions of needed nodes.
-ghost use Rattle.std.specs.Prelude.{◌≡◌, ◌≤◌, ◌<◌, ◌+◌, ℕ, List, Some, None, length, IsSome, IfOk, OnOk, OnErr, IfSome, IfNone, slice_get};
+//! Calls of the functions of needed places.
+ghost use Rattle.std.specs.Prelude.{◌≡◌, ◌≤◌, ◌<◌, ◌+◌, ℕ, false, List, Option, Some, length, IsTrue, IfOk, OnErr, IfSome, IfNone, slice_get};
 ghost use Rattle.inc_value.specs.declared.function.FnRef.{FnRef};
 ghost use Rattle.inc_value.specs.declared.value.Value.{Value as AValue};
-ghost use Rattle.session.specs.Kept.{AreSoundNodes, value_at_node, value_of_argument};
-ghost use Rattle.session.specs.Settling.{AreKnown, AreClosed, IsMarked, IsReadyOrDone, IsReady, IsResult, HasTypeOf, Calls};
+ghost use Rattle.session.specs.Calling.{HaveValues, IsReady, IsCurrentAt, IsDue, IsDueAt, IsCallAt};
+ghost use Rattle.session.specs.LastCall.{LastCall};
+ghost use Rattle.session.specs.Places.{AreSoundPlaces, AreTypedCalls};
+ghost use Rattle.session.specs.declared.place.Place.TheVariants.{Application};
+ghost use Rattle.session.specs.Settling.{AreKnown, AreCurrentBelow, Calls, IsCurrent, IsMarked, ReadsPlace, merged};
 
-use crate::node::{Argument, Definition, Node};
-use inc_value::Value;
+use crate::place::{Call, Place};
+use crate::value::{are_values, copy_values};
+use inc_value::FnRef;
 use node_arena::Library;
 use std::alloc::{AllocError, Global};
 
-/// Calls the function of each marked node that has no value yet, in the order of the nodes, so that
-/// every marked node has its value.
+/// Calls the function of each marked place whose last call had other arguments, in the order of the
+/// places. The answer has these calls, each at its place.
 pub(crate) fn call_needed<L: Library>(
     alloc: Global,
     library: &mut L,
-    list: &mut Vec<Node>,
+    places: &[Place],
+    last: &[Option<Call>],
     marks: &[bool],
-) -> Result<(), AllocError>
-    requires size { length marks.now ≡ length list.old.items }
-    requires sound { AreSoundNodes list.old.items }
-    requires known { AreKnown (L.known library.old) list.old.items }
-    requires closed { AreClosed list.old.items marks.now }
+) -> Result<Vec<Option<Call>>, AllocError>
+    requires marks { length marks.now ≡ length places.now }
+    requires one_call_each { length last.now ≡ length places.now }
+    requires sound { AreSoundPlaces places.now }
+    requires typed { AreTypedCalls places.now last.now }
+    requires known { AreKnown (L.known library.old) places.now }
+    requires closed { (i j : ℕ) → IsMarked marks.now i → ReadsPlace places.now i j → IsMarked marks.now j }
 
-    ensures calls { Calls (L.value library.old) marks.now list.old.items list.new.items (L.calls library.old) (L.calls library.new) }
-    ensures all { OnOk result ((n : ℕ) → IsMarked marks.now n → IsSome (value_at_node list.new.items n)) }
-    ensures sound { AreSoundNodes list.new.items }
-    ensures known { AreKnown (L.known library.new) list.new.items }
+    ensures calls { IfOk result (λ fresh. Calls (L.value library.old) marks.now places.now last.now (merged last.now fresh.items) (L.calls library.old) (L.calls library.new)) }
+    ensures current { IfOk result (λ fresh. AreCurrentBelow (length places.now) marks.now places.now (merged last.now fresh.items)) }
+    ensures size { IfOk result (λ fresh. length fresh.items ≡ length places.now) }
+    ensures stopped { OnErr result ((new : List (Option LastCall)) × Calls (L.value library.old) marks.now places.now last.now new (L.calls library.old) (L.calls library.new)) }
+    ensures known { (f : FnRef) → L.known library.new f ≡ L.known library.old f }
     ensures same_names { (name : List ℕ) → L.named library.new name ≡ L.named library.old name }
     ensures same_values { (f : FnRef) (xs : List AValue) → L.value library.new f xs ≡ L.value library.old f xs }
 {
-    for n in 0..list.len() {
-        if !marks[n] {
-            continue;
-        }
-        let Some(value) = call_node(alloc, library, list, n)? else {
-            continue;
-        };
-        list[n].kept = Some(value);
+    let mut fresh = Vec::new(alloc);
+    for i in 0..places.len() {
+        let call = call_marked(alloc, library, places, last, &fresh, marks[i])?;
+        fresh.push(call)?;
     }
-    Ok(())
+    Ok(fresh)
 }
 
-/// Calls the function of a node, unless the node has its value.
-fn call_node<L: Library>(
+/// Calls the function of the place after the fresh calls, if the place is marked and its function
+/// was last called with other arguments.
+fn call_marked<L: Library>(
     alloc: Global,
     library: &mut L,
-    list: &[Node],
-    n: usize,
-) -> Result<Option<Value>, AllocError>
-    requires within { n < length list.now }
-    requires sound { AreSoundNodes list.now }
-    requires known { AreKnown (L.known library.old) list.now }
-    requires ready { IsReadyOrDone list.now n }
+    places: &[Place],
+    last: &[Option<Call>],
+    fresh: &[Option<Call>],
+    mark: bool,
+) -> Result<Option<Call>, AllocError>
+    requires within { length fresh.now < length places.now }
+    requires one_call_each { length last.now ≡ length places.now }
+    requires sound { AreSoundPlaces places.now }
+    requires typed { AreTypedCalls places.now (merged last.now fresh.now) }
+    requires known { AreKnown (L.known library.old) places.now }
+    requires ready { IsTrue mark → IsReady places.now (merged last.now fresh.now) (length fresh.now) }
 
-    ensures done { IfOk result (λ r. IfNone r (IsSome (value_at_node list.now n) × (library.new ≡ library.old))) }
-    ensures called { IfOk result (λ r. IfSome r (λ v. (value_at_node list.now n ≡ None) × IsResult (L.value library.old) list.now n v)) }
-    ensures typed { IfOk result (λ r. IfSome r (λ v. HasTypeOf list.now n v)) }
-    ensures failed { OnErr result ((value_at_node list.now n ≡ None) × IsReady list.now n) }
+    ensures same { IfOk result (λ r. IfNone r (L.calls library.new ≡ L.calls library.old)) }
+    ensures current { IfOk result (λ r. IfNone r (IsTrue mark → IsCurrentAt places.now (merged last.now fresh.now) (length fresh.now))) }
+    ensures marked { IfOk result (λ r. IfSome r (λ c. IsTrue mark)) }
+    ensures called { IfOk result (λ r. IfSome r (λ c. IsCallAt (L.value library.old) places.now last.now (merged last.now fresh.now) (length fresh.now) c)) }
+    ensures failed { OnErr result (IsTrue mark × IsDueAt places.now last.now (merged last.now fresh.now) (length fresh.now)) }
     ensures calls { L.calls library.new ≤ L.calls library.old + 1 }
-    ensures same_names { (name : List ℕ) → L.named library.new name ≡ L.named library.old name }
     ensures same_known { (f : FnRef) → L.known library.new f ≡ L.known library.old f }
+    ensures same_names { (name : List ℕ) → L.named library.new name ≡ L.named library.old name }
     ensures same_values { (f : FnRef) (xs : List AValue) → L.value library.new f xs ≡ L.value library.old f xs }
 {
-    match &list[n].definition {
-        Definition::Variable(_) => Ok(None),
-        Definition::Application {
+    if !mark {
+        return Ok(None);
+    }
+    match &places[fresh.len()] {
+        Place::Literal(_) | Place::Variable(_) => Ok(None),
+        Place::Application {
             function,
-            left,
-            right,
-        } => {
-            if list[n].kept.is_some() {
-                return Ok(None);
-            }
-            let arguments = [
-                value_of_argument(list, left).copy(alloc)?,
-                value_of_argument(list, right).copy(alloc)?,
-            ];
-            Ok(Some(library.apply(alloc, *function, &arguments)?))
-        }
+            arguments,
+        } => call_application(
+            alloc,
+            library,
+            places,
+            last,
+            fresh,
+            *function,
+            arguments.places(),
+        ),
     }
 }
 
-/// The value of an argument that has one.
-fn value_of_argument<'a>(list: &'a [Node], argument: &'a Argument) -> &'a Value
-    requires { IsSome (value_of_argument list.now argument.now) }
-    ensures { value_of_argument list.now argument.now ≡ Some result.now }
+/// Calls the function of the place after the fresh calls, which has these arguments, unless it was
+/// last called with their values.
+fn call_application<L: Library>(
+    alloc: Global,
+    library: &mut L,
+    places: &[Place],
+    last: &[Option<Call>],
+    fresh: &[Option<Call>],
+    function: FnRef,
+    arguments: &[usize],
+) -> Result<Option<Call>, AllocError>
+    requires stands { slice_get places.now (length fresh.now) ≡ Some (Application function arguments.now) }
+    requires one_call_each { length last.now ≡ length places.now }
+    requires sound { AreSoundPlaces places.now }
+    requires typed { AreTypedCalls places.now (merged last.now fresh.now) }
+    requires known { IsTrue (L.known library.old function) }
+    requires ready { IsReady places.now (merged last.now fresh.now) (length fresh.now) }
+
+    ensures same { IfOk result (λ r. IfNone r (L.calls library.new ≡ L.calls library.old)) }
+    ensures current { IfOk result (λ r. IfNone r (IsCurrentAt places.now (merged last.now fresh.now) (length fresh.now))) }
+    ensures called { IfOk result (λ r. IfSome r (λ c. IsCallAt (L.value library.old) places.now last.now (merged last.now fresh.now) (length fresh.now) c)) }
+    ensures failed { OnErr result (IsDueAt places.now last.now (merged last.now fresh.now) (length fresh.now)) }
+    ensures calls { L.calls library.new ≤ L.calls library.old + 1 }
+    ensures same_known { (f : FnRef) → L.known library.new f ≡ L.known library.old f }
+    ensures same_names { (name : List ℕ) → L.named library.new name ≡ L.named library.old name }
+    ensures same_values { (f : FnRef) (xs : List AValue) → L.value library.new f xs ≡ L.value library.old f xs }
 {
-    match argument {
-        Argument::Constant(value) => value,
-        Argument::Node(node) => value_of_node(list, *node),
+    if is_current(places, last, fresh, arguments) {
+        return Ok(None);
     }
+    let values = copy_values(alloc, places, last, fresh, arguments)?;
+    let value = library.apply(alloc, function, &values)?;
+    Ok(Some(Call {
+        arguments: values,
+        value,
+    }))
 }
 
-/// The value of a node that has one.
-pub(crate) fn value_of_node(list: &[Node], n: usize) -> &Value
-    requires { IsSome (value_at_node list.now n) }
-    ensures { value_at_node list.now n ≡ Some result.now }
+/// Whether the function of the place after the fresh calls, which has these arguments, was last
+/// called with their values.
+fn is_current(
+    places: &[Place],
+    last: &[Option<Call>],
+    fresh: &[Option<Call>],
+    arguments: &[usize],
+) -> bool
+    requires within { length fresh.now < length places.now }
+    requires one_call_each { length last.now ≡ length places.now }
+    requires has { HaveValues places.now (merged last.now fresh.now) arguments.now }
+
+    ensures current { IsTrue result → IsCurrent places.now (merged last.now fresh.now) (length fresh.now) arguments.now }
+    ensures due { result ≡ false → IsDue places.now last.now (merged last.now fresh.now) (length fresh.now) arguments.now }
 {
-    match &list[n] {
-        Node {
-            definition: Definition::Variable(value),
-            ..
-        } => value,
-        Node {
-            kept: Some(value),
-            ..
-        } => value,
-        _ => unreachable!(),
+    match &last[fresh.len()] {
+        Some(call) => are_values(places, last, fresh, arguments, &call.arguments),
+        None => false,
     }
 }

@@ -1,16 +1,19 @@
 //! A session: it takes the lines of a script one after the other and writes what each of them prints.
 #![tactic(auto)]
 
+mod answer;
 mod call;
-mod check;
-mod language;
-mod name;
+mod lay;
 mod need;
-mod node;
-mod nodes;
+mod place;
 mod refusal;
 mod reply;
+mod request;
+mod script;
 mod session;
 mod show;
+mod update;
+mod value;
 
-pub use session::{Did, Session};
+pub use answer::Did;
+pub use session::Session;

@@ -1,50 +1,55 @@
-//! Which nodes are needed.
-ghost use Rattle.std.specs.Prelude.{◌≡◌, length, IfOk};
-ghost use Rattle.session.specs.Kept.{AreSoundNodes, AreTargets};
-ghost use Rattle.session.specs.Settling.{AreNeeded, AreReadsBelow, IsArgumentBelow, mark_of_argument, marks_of_reads};
+//! Which places are needed.
+ghost use Rattle.std.specs.Prelude.{◌≡◌, ◌<◌, length, IfOk};
+ghost use Rattle.script_model.specs.Choice.{Every};
+ghost use Rattle.session.specs.Kept.{AreTargets};
+ghost use Rattle.session.specs.Marking.{AreReadsBelow, marks_with, marks_of_reads};
+ghost use Rattle.session.specs.Places.{AreSoundPlaces};
+ghost use Rattle.session.specs.Settling.{AreNeeded};
 
-use crate::node::{Argument, Definition, Node, Observer};
+use crate::place::{Observer, Place};
 use std::alloc::{AllocError, Global};
 
-/// Marks the nodes that are needed: those that observers look at, and those that these read.
-pub(crate) fn needed_nodes(
+/// Marks the places that are needed: the roots that observers look at, and what these read.
+pub(crate) fn needed_places(
     alloc: Global,
-    list: &[Node],
+    places: &[Place],
+    roots: &[usize],
     observers: &[Observer],
 ) -> Result<Vec<bool>, AllocError>
-    requires sound { AreSoundNodes list.now }
-    requires targets { AreTargets (length list.now) observers.now }
-    ensures { IfOk result (λ marks. AreNeeded list.now observers.now marks.items) }
+    requires sound { AreSoundPlaces places.now }
+    requires roots { Every (λ j. j < length places.now) roots.now }
+    requires targets { AreTargets (length roots.now) observers.now }
+    ensures { IfOk result (λ marks. AreNeeded places.now roots.now observers.now marks.items) }
 {
-    let mut marks = vec![in alloc; false; list.len()]?;
+    let mut marks = vec![in alloc; false; places.len()]?;
     for observer in observers {
-        marks[observer.target] = true;
+        marks[roots[observer.target]] = true;
     }
-    let mut n = list.len();
-    while n > 0 {
-        n -= 1;
-        if marks[n] {
-            mark_reads(&mut marks, &list[n].definition);
+    let mut i = places.len();
+    while i > 0 {
+        i -= 1;
+        if marks[i] {
+            mark_reads(&mut marks, &places[i]);
         }
     }
     Ok(marks)
 }
 
-fn mark_reads(marks: &mut Vec<bool>, definition: &Definition)
-    requires { AreReadsBelow (length marks.old.items) definition.now }
-    ensures { marks.new.items ≡ marks_of_reads marks.old.items definition.now }
+/// Marks what a place reads.
+fn mark_reads(marks: &mut Vec<bool>, place: &Place)
+    requires { AreReadsBelow (length marks.old.items) place.now }
+    ensures { marks.new.items ≡ marks_of_reads marks.old.items place.now }
 {
-    if let Definition::Application { left, right, .. } = definition {
-        mark_argument(marks, left);
-        mark_argument(marks, right);
+    if let Place::Application { arguments, .. } = place {
+        mark_all(marks, arguments.places());
     }
 }
 
-fn mark_argument(marks: &mut Vec<bool>, argument: &Argument)
-    requires { IsArgumentBelow (length marks.old.items) argument.now }
-    ensures { marks.new.items ≡ mark_of_argument marks.old.items argument.now }
+fn mark_all(marks: &mut Vec<bool>, places: &[usize])
+    requires { Every (λ j. j < length marks.old.items) places.now }
+    ensures { marks.new.items ≡ marks_with marks.old.items places.now }
 {
-    if let Argument::Node(node) = argument {
-        marks[*node] = true;
+    for place in places {
+        marks[*place] = true;
     }
 }

@@ -1,32 +1,30 @@
 //! Why lines are refused.
 ghost use Rattle.std.specs.Prelude.{◌≡◌};
 ghost use Rattle.script_model.specs.Step.{number_of};
-ghost use Rattle.session.specs.Verdict.{refusal_view};
+ghost use Rattle.session.specs.RefusalView.{refusal_view};
 
-/// Why a line is refused.
+/// Why a line is refused before its command is looked at, or after its names, functions and types
+/// were found to fit.
 #[derive(Clone, Copy, Debug, PartialEq, Eq)]
 pub(crate) enum Refusal {
-    LineTooLong,
     NoCommand,
-    NameTaken,
-    ObserverTaken,
-    NameUnknown,
-    ObserverUnknown,
-    FunctionUnknown,
-    IllTyped,
+    LineTooLong,
     NotStabilized,
     TooManyPlaces,
+    LineTooDeep,
 }
 
 impl Refusal {
-    /// The number that is printed. For now 1 stands for all that isn't told apart yet.
+    /// The number that is printed.
     pub(crate) fn number(self) -> u8
         ensures { result ≡ number_of (refusal_view self) }
     {
         match self {
+            Refusal::NoCommand => 1,
             Refusal::LineTooLong => 2,
             Refusal::NotStabilized => 13,
-            _ => 1,
+            Refusal::TooManyPlaces => 19,
+            Refusal::LineTooDeep => 25,
         }
     }
 }

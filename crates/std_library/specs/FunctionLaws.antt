@@ -6,7 +6,7 @@ use Rattle.std.proofs.Common.{refl, sym, ◌∙◌, ap, subst, lit≤}
 use Rattle.std.proofs.lemmas.Bool.Decides.{when_true, Decides-eqb}
 use Rattle.std.proofs.lemmas.List.Elements.{All-cons, All-nil}
 use Rattle.inc_value.specs.Sig.{IsMapSig, Signature}
-use Rattle.inc_value.specs.Ty.{IsBase}
+use Rattle.inc_value.specs.Ty.{IsBase, same_base, same_ty}
 use Rattle.inc_value.specs.Value.{type_of}
 use Rattle.inc_value.specs.declared.function.FnRef.{FnRef}
 use Rattle.inc_value.specs.declared.function.Kind.{Kind}
@@ -17,7 +17,7 @@ use Rattle.inc_value.specs.declared.ty.Ty.{Ty}
 use Rattle.inc_value.specs.declared.ty.Ty.TheVariants as ty
 use Rattle.inc_value.specs.declared.value.Value.{Value}
 use Rattle.inc_value.specs.declared.value.Value.TheVariants as value
-use Rattle.std_library.specs.Functions.{reference_of, named, known, known_as, given, given_by, function_named, function_numbered, sig_of, number_of, value_of, value_in, refers_to, same_type, same_base, same_signature, is_map}
+use Rattle.std_library.specs.Functions.{reference_of, named, known, known_as, given, given_by, function_named, function_numbered, sig_of, number_of, value_of, value_in, refers_to, same_signature, is_map}
 use Rattle.std_library.specs.declared.function.Function.{Function}
 use Rattle.std_library.specs.declared.function.Function.TheVariants.{Add, Neg, Pick, Lt}
 
@@ -61,7 +61,7 @@ node_from_test : (a b : Base) (t : Bool) → MatchBool t (a ≡ b) (Unit {0}) �
 node_from_test a b true h = ap ty.Node h
 node_from_test a b false h = tt
 
-type_from_test : (a b : Ty) → MatchBool (same_type a b) (a ≡ b) (Unit {0})
+type_from_test : (a b : Ty) → MatchBool (same_ty a b) (a ≡ b) (Unit {0})
 type_from_test ty.Int ty.Int = refl
 type_from_test ty.Bool ty.Bool = refl
 type_from_test ty.Text ty.Text = refl
@@ -73,15 +73,15 @@ base_same base.Int = refl
 base_same base.Bool = refl
 base_same base.Text = refl
 
-type_same : (t : Ty) → same_type t t ≡ true
+type_same : (t : Ty) → same_ty t t ≡ true
 type_same ty.Int = refl
 type_same ty.Bool = refl
 type_same ty.Text = refl
 type_same (ty.Node to) = base_same to
 
-type_decides : (a b : Ty) → Decides (same_type a b) (a ≡ b)
+type_decides : (a b : Ty) → Decides (same_ty a b) (a ≡ b)
 type_decides a b =
-    let P : Ty → Type 0 = λ t. same_type a t ≡ true in
+    let P : Ty → Type 0 = λ t. same_ty a t ≡ true in
     (λ e. when_true (a ≡ b) (Unit {0}) e (type_from_test a b), λ e. subst P e (type_same a))
 
 map_from_test : (k : Kind) → is_map k ≡ true → k ≡ Map

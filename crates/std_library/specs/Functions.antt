@@ -5,11 +5,10 @@ use Rattle.std.specs.Int.{w64, int_wrapping_add, int_wrapping_neg}
 use Rattle.std.specs.List.{find}
 use Rattle.std.specs.Str.{bytes_eq}
 use Rattle.inc_value.specs.Sig.{Signature}
+use Rattle.inc_value.specs.Ty.{same_ty}
 use Rattle.inc_value.specs.declared.function.FnRef.{FnRef}
 use Rattle.inc_value.specs.declared.function.Kind.{Kind}
 use Rattle.inc_value.specs.declared.function.Kind.TheVariants.{Map, Rhs}
-use Rattle.inc_value.specs.declared.ty.Base.{Base}
-use Rattle.inc_value.specs.declared.ty.Base.TheVariants as base
 use Rattle.inc_value.specs.declared.ty.Ty.{Ty}
 use Rattle.inc_value.specs.declared.ty.Ty.TheVariants as ty
 use Rattle.inc_value.specs.declared.value.Value.{Value}
@@ -78,24 +77,9 @@ abbrev pub is_map : Kind → Bool
 is_map Map = true
 is_map Rhs = false
 
--- whether two base types are equal
-abbrev pub same_base : Base → Base → Bool
-same_base base.Int base.Int = true
-same_base base.Bool base.Bool = true
-same_base base.Text base.Text = true
-same_base _ _ = false
-
--- whether two types are equal
-abbrev pub same_type : Ty → Ty → Bool
-same_type ty.Int ty.Int = true
-same_type ty.Bool ty.Bool = true
-same_type ty.Text ty.Text = true
-same_type (ty.Node a) (ty.Node b) = same_base a b
-same_type _ _ = false
-
 -- whether two signatures take the same types, one for one, and give the same one
 abbrev pub same_signature : Signature → Signature → Bool
-same_signature s t = pointwise same_type s.takes t.takes && same_type s.gives t.gives
+same_signature s t = pointwise same_ty s.takes t.takes && same_ty s.gives t.gives
 
 -- whether a reference is exactly that of a function
 abbrev pub refers_to : FnRef → Function → Bool

@@ -1,5 +1,5 @@
 use Rattle.std.proofs.Common.{◌≡◌, ◌⊎◌, ◌∙◌, sym, subst}
-use Rattle.incr.proofs.Endings.{limit-kept, limit-passed, is_read_fault, is_write_fault}
+use Rattle.script_io.proofs.Endings.{limit-kept, limit-passed, is_read_fault, is_write_fault}
 use Rattle.incr.proofs.drive.drive.Goals as goal
 
 pub returns : goal.returns
@@ -10,8 +10,8 @@ returns g c =
     record {
       ran = record { ending = ending; is_status = status; ran = run.ran };
       statuses = (ending, status);
-      limit_kept = λ h. limit-kept _ ending _ _ _ run.ran (subst (λ n. (n ≡ 0) ⊎ (n ≡ 1)) status h);
-      limit_passed = λ h. limit-passed _ ending _ _ _ run.ran (sym status ∙ h);
+      limit_kept = λ h. limit-kept ending _ _ _ _ run.ran.read (subst (λ n. (n ≡ 0) ⊎ (n ≡ 1)) status h);
+      limit_passed = λ h. limit-passed ending _ _ _ _ run.ran.read (sym status ∙ h);
       functions = run.functions;
       source_later = run.source_later;
       sink_later = run.sink_later;

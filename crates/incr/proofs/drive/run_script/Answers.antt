@@ -1,5 +1,5 @@
 use Rattle.std.proofs.Common.{ap, refl, arith}
-use Rattle.session.specs.Taken.{functions_of}
+use Rattle.script_model.specs.Formula.{functions_of}
 use Rattle.script_io.specs.Lines.{Reader}
 use Rattle.incr.proofs.Running.{Ran-nothing, Progress-start}
 use Rattle.incr.proofs.drive.run_script.Goals as goal

@@ -1,7 +1,7 @@
 -- The lines so far made a run of the model, and none of the counts of faults fell.
 use Rattle.std.proofs.Common.{◌≡◌, ◌≤◌, ◌-◌, false, []}
 use Rattle.script_io.specs.Lines.{ahead}
-use Rattle.session.specs.Taken.{functions_of}
+use Rattle.script_model.specs.Formula.{functions_of}
 use Rattle.incr.specs.Progress.{Progress}
 use Rattle.incr.proofs.drive.run_script.Given as goal
 

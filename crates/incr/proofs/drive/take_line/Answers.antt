@@ -1,7 +1,7 @@
 use Rattle.std.proofs.Common.{◌||◌, true, ap, refl}
 use Rattle.std.specs.Io.KnownBytes.{prepend_known}
 use Rattle.incr.specs.Saying.{is_refusal_said}
-use Rattle.incr.specs.declared.ending.Ending.TheVariants as ending
+use Rattle.script_io.specs.declared.ending.Ending.TheVariants as ending
 use Rattle.incr.proofs.Running.{IfErr-made, Progress-more, Ran-write_fault, Ran-memory, Ran-read_fault, Ran-limit, or_true}
 use Rattle.incr.proofs.drive.take_line.Goals as goal
 

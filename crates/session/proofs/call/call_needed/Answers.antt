@@ -1,88 +1,83 @@
-use Rattle.std.proofs.Common.{◌≡◌, ◌<◌, length, true, false, None, IsSome, IfSome, IfNone, sym, ◌∙◌, ap, arith, subst, refl}
-use Rattle.std.proofs.lemmas.Option.{get_or_from_slice_get, slice_get_within}
-use Rattle.session.specs.Kept.{AreSoundNodes, value_at_node}
-use Rattle.session.specs.Settling.{IsMarked, IsReadyOrDone, IsReady, IsResult, HasTypeOf}
-use Rattle.session.proofs.Lists.{get_read, get_read_default, at_place}
-use Rattle.session.proofs.Progress.{underway_start, underway_past, ready_at, underway_failed, underway_called, result_same, underway_known, underway_idle}
+use Rattle.std.proofs.Common.{◌<◌, ◌+◌, false, List, length, get_or, Option, Some, IsTrue, IfNone, IfSome, refl, sym, ◌∙◌, ap, subst, arith}
+use Rattle.std.proofs.lemmas.List.{length_push}
+use Rattle.std.proofs.lemmas.Option.{slice_get-get_or}
+use Rattle.session.specs.Calling.{IsReady, IsCurrentAt, IsDueAt, IsCallAt}
+use Rattle.session.specs.LastCall.{LastCall}
+use Rattle.session.specs.Places.{AreTypedCalls}
+use Rattle.session.specs.Settling.{IsMarked, merged}
+use Rattle.session.proofs.Failing.{on_err_of}
+use Rattle.session.proofs.Merging.{merged_none}
+use Rattle.session.proofs.Progress.{underway_start, underway_next, underway_failed, calls_made, ready_at}
 use Rattle.session.proofs.call.call_needed.Goals as goal
 
-pub loop-n-init : goal.loop-n-init
-loop-n-init g c = record {
-  underway = underway_start (g.L.Library.value c.args.library.now) (g.L.Library.known c.args.library.now) c.args.marks.now c.args.list.now.items (g.L.Library.calls c.args.library.now)
-      c.requires.sound c.requires.known c.requires.closed;
+pub loop-i-init : goal.loop-i-init
+loop-i-init g c = record {
+  underway = underway_start (g.L.Library.value c.args.library.now) c.args.marks.now c.args.places.now c.args.last.now (merged c.args.last.now c.new-fresh.result.items) (g.L.Library.calls c.args.library.now)
+      (ap (λ xs. merged c.args.last.now xs) c.new-fresh.ensures.items ∙ merged_none c.args.last.now) c.requires.typed;
+  size = ap (λ (xs : List (Option LastCall)). length xs) c.new-fresh.ensures.items;
+  same_known = λ f. refl;
   same_names = λ name. refl;
   same_values = λ f xs. refl;
 }
 
-pub loop-n-preserved-then-not-marks-n : goal.loop-n-preserved-then-not-marks-n
-loop-n-preserved-then-not-marks-n g c = record {
-  underway = underway_past _ _ _ _ _ c.loop-n.n _ _ c.loop-n.invariant.underway
-      (λ (m : IsMarked c.args.marks.now c.loop-n.n). let e = get_or_from_slice_get c.args.marks.now c.loop-n.n true false m in absurd (cc (e, c.if-not-marks-n.true)));
-  same_names = c.loop-n.invariant.same_names;
-  same_values = c.loop-n.invariant.same_values;
-}
+pub call_marked-requires-clause-typed : goal.call_marked-requires-clause-typed
+call_marked-requires-clause-typed g c = subst (λ xs. AreTypedCalls c.args.places.now (merged c.args.last.now xs)) (sym c.deref.ensures.value) c.loop-i.invariant.underway.typed
 
-pub call_node-requires-clause-sound : goal.call_node-requires-clause-sound
-call_node-requires-clause-sound g c = subst AreSoundNodes (sym c.deref.ensures.value) c.loop-n.invariant.underway.sound
+pub call_marked-requires-clause-ready : goal.call_marked-requires-clause-ready
+call_marked-requires-clause-ready g c =
+    λ t.
+    let i = c.loop-i.i in
+    let room : i < length c.args.marks.now = omega (arith, c.loop-i-test.true, c.requires.marks) in
+    let marked : IsMarked c.args.marks.now i = slice_get-get_or c.args.marks.now i false room ∙ ap (λ b. Some b) t in
+    let ready = ready_at _ _ _ _ _ i _ _ c.loop-i.invariant.underway c.requires.sound c.requires.closed marked in
+    subst (λ xs. IsReady c.args.places.now (merged c.args.last.now xs) (length xs)) (sym c.deref.ensures.value)
+    (subst (λ k. IsReady c.args.places.now (merged c.args.last.now c.loop-i.fresh.items) k) (sym c.loop-i.invariant.size) ready)
 
-pub call_node-requires-clause-ready : goal.call_node-requires-clause-ready
-call_node-requires-clause-ready g c =
-    let u = c.loop-n.invariant.underway in
-    let lt : c.loop-n.n < length c.loop-n.list.items = omega (arith, u.size, c.len-n-end.ensures, c.args.list.now.ok.0) in
-    let room : c.loop-n.n < length c.args.marks.now = omega (arith, u.size, c.requires.size) in
-    let marked : IsMarked c.args.marks.now c.loop-n.n = get_read_default c.args.marks.now c.loop-n.n false true room c.if-not-marks-n.false in
-    let x = at_place c.loop-n.list.items c.loop-n.n lt in
-    subst (λ xs. IsReadyOrDone xs c.loop-n.n) (sym c.deref.ensures.value) (ready_at _ _ _ _ _ c.loop-n.n _ _ u x.0 x.1 marked)
+pub returns-in_err-call-clause-stopped : goal.returns-in_err-call-clause-stopped
+returns-in_err-call-clause-stopped g c =
+    let i = c.loop-i.i in
+    let failed = c.in_err-call.ensures.failed in
+    let room : i < length c.args.marks.now = omega (arith, c.loop-i-test.true, c.requires.marks) in
+    let marked : IsMarked c.args.marks.now i = slice_get-get_or c.args.marks.now i false room ∙ ap (λ b. Some b) failed.0 in
+    let due = subst (λ k. IsDueAt c.args.places.now c.args.last.now (merged c.args.last.now c.loop-i.fresh.items) k) c.loop-i.invariant.size
+    (subst (λ xs. IsDueAt c.args.places.now c.args.last.now (merged c.args.last.now xs) (length xs)) c.deref.ensures.value failed.1) in
+    let calls = underway_failed _ _ _ _ _ i _ _ c.loop-i.invariant.underway (g.L.Library.calls c.call_marked.new.library) marked due c.in_err-call.ensures.calls in
+    on_err_of c.from_residual.result (merged c.args.last.now c.loop-i.fresh.items, calls)
 
-pub returns-in_err-value-clause-calls : goal.returns-in_err-value-clause-calls
-returns-in_err-value-clause-calls g c =
-    let u = c.loop-n.invariant.underway in
-    let room : c.loop-n.n < length c.args.marks.now = omega (arith, u.size, c.requires.size, c.len-n-end.ensures, c.args.list.now.ok.0) in
-    let marked : IsMarked c.args.marks.now c.loop-n.n = get_read_default c.args.marks.now c.loop-n.n false true room c.if-not-marks-n.false in
-    let failed = c.in_err-value.ensures.failed in
-    let none = subst (λ xs. value_at_node xs c.loop-n.n ≡ None) c.deref.ensures.value failed.0 in
-    let ready = subst (λ xs. IsReady xs c.loop-n.n) c.deref.ensures.value failed.1 in
-    underway_failed _ _ _ _ _ c.loop-n.n _ _ u (g.L.Library.calls c.call_node.new.library) marked none ready c.in_err-value.ensures.calls
+pub returns-in_err-push-clause-stopped : goal.returns-in_err-push-clause-stopped
+returns-in_err-push-clause-stopped g c =
+    let i = c.loop-i.i in
+    let said = c.in_ok-call.ensures in
+    let call = c.in_ok-call.call in
+    let places = c.args.places.now in
+    let last = c.args.last.now in
+    let mark = get_or c.args.marks.now i false in
+    let room : i < length c.args.marks.now = omega (arith, c.loop-i-test.true, c.requires.marks) in
+    let current = subst (λ xs. IfNone call (IsTrue mark → IsCurrentAt places (merged last xs) (length xs))) c.deref.ensures.value said.current in
+    let called = subst (λ xs. IfSome call (λ w. IsCallAt (g.L.Library.value c.loop-i.library) places last (merged last xs) (length xs) w)) c.deref.ensures.value said.called in
+    let next = underway_next (g.L.Library.value c.args.library.now) (g.L.Library.value c.loop-i.library) c.args.marks.now places last c.loop-i.fresh.items i (g.L.Library.calls c.args.library.now)
+    (g.L.Library.calls c.loop-i.library) (g.L.Library.calls c.call_marked.new.library) mark call c.loop-i.invariant.underway c.loop-i.invariant.same_values c.requires.sound
+    (omega (arith, c.loop-i-test.true, c.requires.one_call_each)) c.loop-i.invariant.size (slice_get-get_or c.args.marks.now i false room) said.calls said.same current said.marked called in
+    on_err_of c.from_residual-in_err-push.result (_, calls_made _ _ _ _ _ _ _ _ next)
 
-pub loop-n-preserved-in_default : goal.loop-n-preserved-in_default
-loop-n-preserved-in_default g c =
-    let u = c.loop-n.invariant.underway in
-    let said = c.in_ok-value.ensures in
-    let done = subst (λ o. IfNone o (IsSome (value_at_node c.deref.result.now c.loop-n.n) × (c.call_node.new.library ≡ c.loop-n.library))) c.in_default.is said.done in
-    let has = subst (λ xs. IsSome (value_at_node xs c.loop-n.n)) c.deref.ensures.value done.0 in
-    let past = underway_past _ _ _ _ _ c.loop-n.n _ _ u (λ m. has) in
-    let known = underway_known _ (g.L.Library.known c.loop-n.library) (g.L.Library.known c.call_node.new.library) _ _ _ _ _ _ said.same_known past in
+pub loop-i-preserved : goal.loop-i-preserved
+loop-i-preserved g c =
+    let i = c.loop-i.i in
+    let said = c.in_ok-call.ensures in
+    let call = c.in_ok-call.call in
+    let places = c.args.places.now in
+    let last = c.args.last.now in
+    let mark = get_or c.args.marks.now i false in
+    let room : i < length c.args.marks.now = omega (arith, c.loop-i-test.true, c.requires.marks) in
+    let current = subst (λ xs. IfNone call (IsTrue mark → IsCurrentAt places (merged last xs) (length xs))) c.deref.ensures.value said.current in
+    let called = subst (λ xs. IfSome call (λ w. IsCallAt (g.L.Library.value c.loop-i.library) places last (merged last xs) (length xs) w)) c.deref.ensures.value said.called in
+    let next = underway_next (g.L.Library.value c.args.library.now) (g.L.Library.value c.loop-i.library) c.args.marks.now places last c.loop-i.fresh.items i (g.L.Library.calls c.args.library.now)
+    (g.L.Library.calls c.loop-i.library) (g.L.Library.calls c.call_marked.new.library) mark call c.loop-i.invariant.underway c.loop-i.invariant.same_values c.requires.sound
+    (omega (arith, c.loop-i-test.true, c.requires.one_call_each)) c.loop-i.invariant.size (slice_get-get_or c.args.marks.now i false room) said.calls said.same current said.marked called in
     record {
-      underway = underway_idle _ _ _ _ _ _ _ _ (g.L.Library.calls c.call_node.new.library) (ap g.L.Library.calls done.1) known;
-      same_names = λ name. said.same_names name ∙ c.loop-n.invariant.same_names name;
-      same_values = λ f xs. said.same_values f xs ∙ c.loop-n.invariant.same_values f xs;
+      underway = rw (c.in_ok-push.ensures.items) next;
+      size = ap (λ (xs : List (Option LastCall)). length xs) c.in_ok-push.ensures.items ∙ length_push c.loop-i.fresh.items call ∙ ap (λ k. k + 1) c.loop-i.invariant.size;
+      same_known = λ f. said.same_known f ∙ c.loop-i.invariant.same_known f;
+      same_names = λ name. said.same_names name ∙ c.loop-i.invariant.same_names name;
+      same_values = λ f xs. said.same_values f xs ∙ c.loop-i.invariant.same_values f xs;
     }
-
-pub loop-n-preserved : goal.loop-n-preserved
-loop-n-preserved g c =
-    let u = c.loop-n.invariant.underway in
-    let said = c.in_ok-value.ensures in
-    let n = c.loop-n.n in
-    let v = c.in-Some.value in
-    let lt : n < length c.loop-n.list.items = omega (arith, u.size, c.len-n-end.ensures, c.args.list.now.ok.0) in
-    let room : n < length c.args.marks.now = omega (arith, u.size, c.requires.size) in
-    let marked : IsMarked c.args.marks.now n = get_read_default c.args.marks.now n false true room c.if-not-marks-n.false in
-    let at = get_read c.loop-n.list.items n c.index_mut.result.now lt c.index_mut.ensures.value in
-    let called = subst (λ o. IfSome o (λ w. (value_at_node c.deref.result.now n ≡ None) × IsResult (g.L.Library.value c.loop-n.library) c.deref.result.now n w)) c.in-Some.is said.called in
-    let typed = subst (λ o. IfSome o (λ w. HasTypeOf c.deref.result.now n w)) c.in-Some.is said.typed in
-    let none = subst (λ xs. value_at_node xs n ≡ None) c.deref.ensures.value called.0 in
-    let result = subst (λ xs. IsResult (g.L.Library.value c.loop-n.library) xs n v) c.deref.ensures.value called.1 in
-    let result_first = result_same (g.L.Library.value c.args.library.now) (g.L.Library.value c.loop-n.library) c.loop-n.list.items n v c.loop-n.invariant.same_values result in
-    let has_type = subst (λ xs. HasTypeOf xs n v) c.deref.ensures.value typed in
-    let next = underway_called _ _ _ _ _ n _ _ u (g.L.Library.calls c.call_node.new.library) c.index_mut.result.now v marked at none result_first has_type said.calls in
-    record {
-      underway = underway_known _ (g.L.Library.known c.loop-n.library) (g.L.Library.known c.call_node.new.library) _ _ _ _ _ _ said.same_known next;
-      same_names = λ name. said.same_names name ∙ c.loop-n.invariant.same_names name;
-      same_values = λ f xs. said.same_values f xs ∙ c.loop-n.invariant.same_values f xs;
-    }
-
-pub returns-clause-all : goal.returns-clause-all
-returns-clause-all g c =
-    λ n marked.
-    let u = c.loop-n.invariant.underway in
-    u.done n (omega (arith, slice_get_within c.args.marks.now n true marked, c.requires.size, c.loop-n-test.false, c.len-n-end.ensures, c.args.list.now.ok.0)) marked

@@ -1,11 +1,13 @@
-use Rattle.std.proofs.Common.{◌++◌, ◌∙◌, ◌<◌, List, ℕ, length, ap, subst}
-use Rattle.script_model.specs.Language.{TooLong}
+use Rattle.std.proofs.Common.{ℕ, ◌<◌, ◌++◌, ◌∙◌, List, length, ap, subst}
+use Rattle.script_model.specs.Formula.{functions_of}
+use Rattle.script_model.specs.Request.{TooLong}
 use Rattle.script_model.specs.Step.{Moment, Refused, printed}
-use Rattle.session.specs.declared.session.Did.TheVariants as did
-use Rattle.session.specs.Standing.{Standing}
+use Rattle.session.specs.declared.answer.Did.TheVariants as did
+use Rattle.session.specs.Session.{Standing}
 use Rattle.session.specs.State.{Stands}
-use Rattle.session.specs.Taken.{functions_of, Takes}
-use Rattle.session.proofs.Following.{on_ok_from, answered_too_long, taken_of, too_long_is}
+use Rattle.session.specs.Taken.{Takes}
+use Rattle.session.proofs.Answering.{answered_too_long, taken_of}
+use Rattle.session.proofs.Failing.{on_ok_from}
 use Rattle.session.proofs.session.Session.too_long.Goals as goal
 
 pub returns-clause-taken : goal.returns-clause-taken
@@ -15,8 +17,8 @@ returns-clause-taken g c =
     let out = c.args.out.now.items in
     on_ok_from c.write_refused.result c.write_refused.ensures.ok
     (λ written. subst (λ (s : Standing g.row.L.Denot). (m : Moment) (line : List ℕ) → 4096 < length line → Stands (functions_of (g.L.Library.named s.library) (g.L.Library.value s.library)) s.kept m
-    → Takes (functions_of (g.L.Library.named s.library) (g.L.Library.value s.library)) m line c.self.inside.nodes out c.write_refused.new.out.items
+    → Takes (functions_of (g.L.Library.named s.library) (g.L.Library.value s.library)) m line c.self.inside.script out c.write_refused.new.out.items
     (g.L.Library.calls s.library) (g.L.Library.calls l) (did.Refused 2))
     c.self.view_is
-    (λ m line lt st. taken_of F m line TooLong c.self.inside.nodes out c.write_refused.new.out.items (g.L.Library.calls l) (g.L.Library.calls l) (did.Refused 2) (too_long_is line lt)
-    (answered_too_long F c.self.inside.nodes m st out c.write_refused.new.out.items (g.L.Library.calls l) (written ∙ ap (λ n. out ++ printed (Refused n)) c.number.ensures))))
+    (λ m line long st. taken_of F m line TooLong c.self.inside.script out c.write_refused.new.out.items (g.L.Library.calls l) (g.L.Library.calls l) (did.Refused 2) long
+    (answered_too_long F c.self.inside.script m out c.write_refused.new.out.items (g.L.Library.calls l) st (written ∙ ap (λ n. out ++ printed (Refused n)) c.number.ensures))))

@@ -1,0 +1,6 @@
+mod Fitting
+mod Listing
+mod Numbers
+mod Steps
+mod Texts
+mod TypedArguments

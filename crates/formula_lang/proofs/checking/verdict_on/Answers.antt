@@ -1,0 +1,14 @@
+use Rattle.script_model.specs.Formula.{functions_of}
+use Rattle.formula_lang.proofs.checking.verdict_on.Goals as goal
+
+pub returns-in-Var : goal.returns-in-Var
+returns-in-Var g c = rw c.in-Var.is (c.variable.ensures (functions_of (g.L.Library.named c.args.library.now) (g.L.Library.value c.args.library.now)))
+
+pub returns-in-Set : goal.returns-in-Set
+returns-in-Set g c = rw c.in-Set.is (c.assignment.ensures (functions_of (g.L.Library.named c.args.library.now) (g.L.Library.value c.args.library.now)))
+
+pub returns-in-Observe : goal.returns-in-Observe
+returns-in-Observe g c = rw c.in-Observe.is (c.observation.ensures (functions_of (g.L.Library.named c.args.library.now) (g.L.Library.value c.args.library.now)))
+
+pub returns-in-Show : goal.returns-in-Show
+returns-in-Show g c = rw c.in-Show.is (c.showing.ensures (functions_of (g.L.Library.named c.args.library.now) (g.L.Library.value c.args.library.now)))

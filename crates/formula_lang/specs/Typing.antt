@@ -1,0 +1,21 @@
+-- Typed formulas as the model of scripts sees them.
+use Rattle.std.specs.Prelude.{ℕ, List, map, Option, Some}
+use Rattle.inc_value.specs.declared.function.FnRef.{FnRef}
+use Rattle.inc_value.specs.declared.value.Value.{Value}
+use Rattle.script_model.specs.Check as model
+use Rattle.script_model.specs.Choice.{and_then}
+use Rattle.script_model.specs.Formula as formula
+use Rattle.script_model.specs.Formula.{Functions}
+use Rattle.formula_lang.specs.CommandView.{formula_view, formulas_of}
+use Rattle.formula_lang.specs.declared.typing.TypedFormula.{TypedFormula}
+use Rattle.formula_lang.specs.declared.typing.TypedFormulas.{TypedFormulas}
+
+abbrev pub typed_view : TypedFormula → model.TypedFormula
+typed_view t = record { formula = formula_view t.formula; ty = t.ty }
+
+abbrev pub typed_each_view : TypedFormulas → model.TypedFormulas
+typed_each_view ts = record { formulas = formulas_of (map formula_view ts.formulas.items); tys = ts.tys.items }
+
+-- a name's declaration as a formula
+abbrev pub named_formula : Option model.Declared → Option model.TypedFormula
+named_formula found = and_then found (λ d. Some (record { formula = formula.Name d.target; ty = d.ty }))

@@ -1,0 +1,6 @@
+-- The usage line.
+use Rattle.std.specs.Prelude.{ℕ, List, codes}
+
+-- what is written where the words ask for nothing
+abbrev pub usage_line : List ℕ
+usage_line = codes "usage: incr_profile run\n"

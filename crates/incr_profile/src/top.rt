@@ -1,0 +1,50 @@
+//! The words of the command line, and what they ask for.
+ghost use Rattle.std.specs.Prelude.{◌≡◌, ◌⊎◌, ◌<◌, ◌≤◌, IfSome, length};
+ghost use Rattle.script_io.specs.Causes.{Rose};
+ghost use Rattle.script_io.specs.CommandLine.{IsRunWords, TellsUsage, IsTopStatus};
+ghost use Rattle.incr_profile.specs.Counts.{standard};
+ghost use Rattle.incr_profile.specs.Running.{ProfiledTo};
+ghost use Rattle.incr_profile.specs.Usage.{usage_line};
+
+use crate::profile::profile;
+use script_io::{Sink, Source, Word, is_run, tell_usage};
+use std::alloc::Global;
+use std_library::StdLib;
+
+/// The most bytes that a script may have.
+const LONGEST_SCRIPT: u64 = 1_073_741_824;
+
+/// What is written where the words ask for nothing.
+const USAGE: &[u8] = b"usage: incr_profile run\n";
+
+/// Does what the words of the command line ask for, of which the first is the program's name. `run` runs
+/// the script of the source, as `profile` does, of at most 1,073,741,824 bytes. For other words the usage
+/// line is written, nothing is read, and the status is 2, or 4 where the sink fails. The answer is the
+/// status, and the library.
+pub fn top<S: Source, K: Sink>(
+    alloc: Global,
+    words: &Vec<Word>,
+    src: &mut S,
+    out: &mut K,
+    lib: StdLib,
+) -> (u8, StdLib)
+    ensures run { IsRunWords words.now.items → ProfiledTo standard result.0 1073741824
+        (record { left = S.left src.old; written = K.written out.old; calls = lib.calls })
+        (record { left = S.left src.new; written = K.written out.new; calls = result.1.calls }) }
+    ensures usage { (IsRunWords words.now.items → ⊥) → TellsUsage usage_line result.0 (K.written out.old) (K.written out.new) }
+    ensures unread { (IsRunWords words.now.items → ⊥) → src.new ≡ src.old }
+    ensures library { (IsRunWords words.now.items → ⊥) → result.1 ≡ lib }
+    ensures statuses { IsTopStatus result.0 }
+    ensures refused_words { result.0 ≡ 2 → IsRunWords words.now.items → ⊥ }
+    ensures limit_kept { (result.0 ≡ 0) ⊎ (result.0 ≡ 1) → IfSome (S.left src.old) (λ bytes. length bytes ≤ 1073741824) }
+    ensures limit_passed { result.0 ≡ 6 → IfSome (S.left src.old) (λ bytes. 1073741824 < length bytes) }
+    ensures source_later { S.faults src.old ≤ S.faults src.new }
+    ensures sink_later { K.faults out.old ≤ K.faults out.new }
+    ensures source_fault { result.0 ≡ 3 → Rose (S.faults src.old) (S.faults src.new) }
+    ensures sink_fault { result.0 ≡ 4 → Rose (K.faults out.old) (K.faults out.new) }
+{
+    if is_run(words) {
+        return profile(alloc, src, out, lib, LONGEST_SCRIPT);
+    }
+    (tell_usage(out, USAGE), lib)
+}

@@ -1,0 +1,5 @@
+use Rattle.script_model.proofs.Requests.{every_line_asks}
+use Rattle.script_model.proofs.laws.every_line_asks.Goals as goal
+
+pub returns : goal.returns
+returns c = every_line_asks

@@ -1,0 +1,11 @@
+-- Why lines are refused, as the model of scripts sees it.
+use Rattle.script_model.specs.Step as model
+use Rattle.session.specs.declared.refusal.Refusal.{Refusal}
+use Rattle.session.specs.declared.refusal.Refusal.TheVariants as refusal
+
+abbrev pub refusal_view : Refusal → model.Refusal
+refusal_view refusal.NoCommand = model.NoCommand
+refusal_view refusal.LineTooLong = model.LineTooLong
+refusal_view refusal.NotStabilized = model.NotStabilized
+refusal_view refusal.TooManyPlaces = model.TooManyPlaces
+refusal_view refusal.LineTooDeep = model.LineTooDeep

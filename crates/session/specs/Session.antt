@@ -1,0 +1,9 @@
+-- A session as its callers see it.
+use Rattle.std.specs.Prelude.{ℕ}
+use Rattle.session.specs.Kept.{Kept}
+
+-- the library, what is kept, and how many lines were taken
+pub record Standing (L : Type 0) : Type 0 where
+  pub library : L
+  pub kept : Kept
+  pub lines : ℕ
