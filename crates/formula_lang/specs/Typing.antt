@@ -1,7 +1,5 @@
 -- Typed formulas as the model of scripts sees them.
-use Rattle.std.specs.Prelude.{ℕ, List, map, Option, Some}
-use Rattle.inc_value.specs.declared.function.FnRef.{FnRef}
-use Rattle.inc_value.specs.declared.value.Value.{Value}
+use Rattle.std.specs.Prelude.{map, Option, Some}
 use Rattle.script_model.specs.Check as model
 use Rattle.script_model.specs.Choice.{and_then}
 use Rattle.script_model.specs.Formula as formula

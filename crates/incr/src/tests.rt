@@ -37,6 +37,64 @@ fn words(alloc: Global, texts: &[&str]) -> Result<Vec<Word>, AllocError> {
 #[test]
 fn scripts(rt: HostRuntime) -> Result<(), Fail> {
     let alloc = rt.alloc();
+    let rows = [
+        ("", "", 0, 0),
+        (SCRIPT, "ok\nok\nok\nstable 1\no = 7\n", 0, 1),
+        (
+            "var x int 3\nlet y add(x, 4)\nobserve o y\nshow o\n",
+            "ok\nok\nok\nrefused 13\n",
+            1,
+            0,
+        ),
+        (
+            "var x int 3\nlet y add(x, 4)\nobserve o y\nstabilize\nshow o\n\
+             set x 5\nshow o\nstabilize\nshow o\n",
+            "ok\nok\nok\nstable 1\no = 7\nok\no = 7\nstable 2\no = 9\n",
+            0,
+            2,
+        ),
+        (
+            "var x int 2\nlet a neg(x)\nlet b neg(x)\nlet c add(a, b)\nobserve o c\nstabilize\n\
+             set x 3\nstabilize\nshow o\n",
+            "ok\nok\nok\nok\nok\nstable 1\nok\nstable 2\no = -6\n",
+            0,
+            6,
+        ),
+        (
+            "var x int 3\nlet y add(x, 4)\nobserve o y\nstabilize\nshow o\nset x 3\nstabilize\n",
+            "ok\nok\nok\nstable 1\no = 7\nok\nstable 2\n",
+            0,
+            1,
+        ),
+        (
+            "var x int 3\nlet p lt(0, x)\nlet q pick(p, 1, 2)\nobserve o q\nstabilize\nset x 5\n\
+             stabilize\nshow o\n",
+            "ok\nok\nok\nok\nstable 1\nok\nstable 2\no = 1\n",
+            0,
+            3,
+        ),
+        (
+            "var t text \"a\\\"b\"\nlet u t\nset u \"\\\\\"\nobserve o u\nstabilize\nshow o",
+            "ok\nok\nok\nok\nstable 1\no = \"\\\\\"\n",
+            0,
+            0,
+        ),
+    ];
+    for (script, output, status, calls) in rows {
+        let bytes = script.as_bytes().to_vec(alloc)?;
+        let mut source = MemSource::new(alloc, bytes, 5, Vec::new(alloc))?;
+        let mut sink = MemSink::new(alloc, 1000, Vec::new(alloc))?;
+        let (got, library) = drive(alloc, &mut source, &mut sink, StdLib::new(), 1000);
+        assert_eq!(rt; sink.written(), output.as_bytes(), "at {script:?}");
+        assert_eq!(rt; got, status, "at {script:?}");
+        assert_eq!(rt; library.calls(), calls, "at {script:?}");
+    }
+    Ok(())
+}
+
+#[test]
+fn runs_that_are_cut_off(rt: HostRuntime) -> Result<(), Fail> {
+    let alloc = rt.alloc();
     let usual = Outside {
         limit: 1000,
         piece: 5,
@@ -51,67 +109,19 @@ fn scripts(rt: HostRuntime) -> Result<(), Fail> {
     let narrow = Outside { room: 4, ..usual };
     let short = Outside { limit: 12, ..usual };
     let rows = [
-        ("", usual, "", 0, 0),
-        (SCRIPT, usual, "ok\nok\nok\nstable 1\no = 7\n", 0, 1),
-        (
-            "var x int 3\nlet y add(x, 4)\nobserve o y\nshow o\n",
-            usual,
-            "ok\nok\nok\nrefused 13\n",
-            1,
-            0,
-        ),
-        (
-            "var x int 3\nlet y add(x, 4)\nobserve o y\nstabilize\nshow o\n\
-             set x 5\nshow o\nstabilize\nshow o\n",
-            usual,
-            "ok\nok\nok\nstable 1\no = 7\nok\no = 7\nstable 2\no = 9\n",
-            0,
-            2,
-        ),
-        (
-            "var x int 2\nlet a neg(x)\nlet b neg(x)\nlet c add(a, b)\nobserve o c\nstabilize\n\
-             set x 3\nstabilize\nshow o\n",
-            usual,
-            "ok\nok\nok\nok\nok\nstable 1\nok\nstable 2\no = -6\n",
-            0,
-            6,
-        ),
-        (
-            "var x int 3\nlet y add(x, 4)\nobserve o y\nstabilize\nshow o\nset x 3\nstabilize\n",
-            usual,
-            "ok\nok\nok\nstable 1\no = 7\nok\nstable 2\n",
-            0,
-            1,
-        ),
-        (
-            "var x int 3\nlet p lt(0, x)\nlet q pick(p, 1, 2)\nobserve o q\nstabilize\nset x 5\n\
-             stabilize\nshow o\n",
-            usual,
-            "ok\nok\nok\nok\nstable 1\nok\nstable 2\no = 1\n",
-            0,
-            3,
-        ),
-        (
-            "var t text \"a\\\"b\"\nlet u t\nset u \"\\\\\"\nobserve o u\nstabilize\nshow o",
-            usual,
-            "ok\nok\nok\nok\nstable 1\no = \"\\\\\"\n",
-            0,
-            0,
-        ),
-        (SCRIPT, second_read_fails, "ok\nok\n", 3, 0),
-        (SCRIPT, narrow, "ok\no", 4, 0),
-        (SCRIPT, short, "ok\n", 6, 0),
-        ("var x int 3\n", short, "ok\n", 0, 0),
+        (SCRIPT, second_read_fails, "ok\nok\n", 3),
+        (SCRIPT, narrow, "ok\no", 4),
+        (SCRIPT, short, "ok\n", 6),
+        ("var x int 3\n", short, "ok\n", 0),
     ];
-    for (script, outside, output, status, calls) in rows {
+    for (script, outside, output, status) in rows {
         let bytes = script.as_bytes().to_vec(alloc)?;
         let fails = [outside.failing_read].as_slice().to_vec(alloc)?;
         let mut source = MemSource::new(alloc, bytes, outside.piece, fails)?;
         let mut sink = MemSink::new(alloc, outside.room, Vec::new(alloc))?;
-        let (got, library) = drive(alloc, &mut source, &mut sink, StdLib::new(), outside.limit);
+        let (got, _) = drive(alloc, &mut source, &mut sink, StdLib::new(), outside.limit);
         assert_eq!(rt; sink.written(), output.as_bytes(), "at {script:?}");
         assert_eq!(rt; got, status, "at {script:?}");
-        assert_eq!(rt; library.calls(), calls, "at {script:?}");
     }
     Ok(())
 }
