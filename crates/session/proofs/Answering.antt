@@ -137,29 +137,6 @@ answered_refused F k m l why n written appended calls st refused number print =
 pub answered_too_long : (F : Functions) (k : Kept) (m : Moment) (written appended : List ℕ) (calls : ℕ) → Stands F k m → appended ≡ written ++ printed (Refused 2) → IsAnswered F m TooLong k written appended calls calls (did.Refused 2)
 answered_too_long F k m written appended calls st print = refused_with F k m TooLong 2 written appended calls st (refl, refl) refl print
 
-pub answered_malformed : (F : Functions) (k : Kept) (m : Moment) (written appended : List ℕ) (calls : ℕ) → Stands F k m → appended ≡ written ++ printed (Refused 1) → IsAnswered F m Malformed k written appended calls calls (did.Refused 1)
-answered_malformed F k m written appended calls st print = refused_with F k m Malformed 1 written appended calls st (refl, refl) refl print
-
-pub answered_too_deep : (F : Functions) (k : Kept) (m : Moment) (written appended : List ℕ) (calls : ℕ) → Stands F k m → appended ≡ written ++ printed (Refused 25) → IsAnswered F m TooDeep k written appended calls calls (did.Refused 25)
-answered_too_deep F k m written appended calls st print = refused_with F k m TooDeep 25 written appended calls st (refl, refl) refl print
-
-pub answered_blank : (F : Functions) (k : Kept) (m : Moment) (written appended : List ℕ) (calls : ℕ) → Stands F k m → appended ≡ written → IsAnswered F m Blank k written appended calls calls did.Blank
-answered_blank F k m written appended calls st same = record {
-  after = m;
-  replies = [];
-  answers = (refl, refl);
-  work = 0;
-  due = refl;
-  stands = st;
-  printed_are = same ∙ sym (nothing_after written);
-  within = omega arith;
-  says = refl;
-}
-  where
-    nothing_after : (xs : List ℕ) → xs ++ [] ≡ xs
-    nothing_after [] = refl
-    nothing_after (x ∷ xs) = ap (λ l. x ∷ l) (nothing_after xs)
-
 -- what was answered is a turn of the model
 pub taken_of : (F : Functions) (m : Moment) (line : List ℕ) (r : Request) (new : Kept) (written appended : List ℕ) (called calls : ℕ) (how : Did) → IsRequest line r
     → IsAnswered F m r new written appended called calls how → Takes F m line new written appended called calls how

@@ -12,8 +12,8 @@ use Rattle.script_model.specs.Check.{target_of_body}
 use Rattle.session.specs.Represents.{HasRoot, IsOwn, PlaceIs, Represents, RootIs, owner_of}
 use Rattle.session.specs.declared.place.Place.TheVariants as place
 use Rattle.session.specs.declared.place.Place.{Place as APlace}
+use Rattle.session.proofs.Lists.{every_weaker}
 use Rattle.session.proofs.Representing.{StillStands, still_place, still_root}
-use Rattle.session.proofs.Rows.{every_weaker}
 
 -- an entry with another value
 abbrev pub valued : Entry → Value → Entry

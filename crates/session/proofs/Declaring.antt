@@ -24,45 +24,6 @@ use Rattle.session.proofs.Assigning.{assigned_represents}
 use Rattle.session.proofs.FittingNames.{names_own}
 use Rattle.session.proofs.Representing.{StillStands, declared_represents, still_place, still_root, with_entry}
 
--- ---- states with the same declarations
-
-module _ (entries : List Entry) (old_observers new_observers : List Observer) (old_accepted new_accepted : ℕ) (roots : List ℕ) (places : List APlace) (items : List Item) where
-  abbrev before : State
-  before = record { entries = entries; observers = old_observers; accepted = old_accepted }
-
-  abbrev after : State
-  after = record { entries = entries; observers = new_observers; accepted = new_accepted }
-
-  still : StillStands before after roots roots items items
-  still = record {
-    formulas = λ owner path f is. is;
-    own = λ n h. record { entry = h.entry; stands = h.stands; own = h.own };
-    roots = λ n j at. at;
-    items = λ i item at. at;
-  }
-
-  place_same : (item : Item) (x : APlace) → PlaceIs before roots items item x → PlaceIs after roots items item x
-  place_same (Place owner path) x h = still_place before after roots roots items items still owner path x h
-  place_same (Named n) (place.Literal v) h = absurd h
-  place_same (Named n) (place.Variable v) h = h
-  place_same (Named n) (place.Application function js) h = absurd h
-
-  root_same : (n : ℕ) (e : Entry) → HasRoot before roots items n e.body → HasRoot after roots items n e.body
-  root_same n e h = record { root = h.root; root_at = h.root_at; root_is = still_root before after roots roots items items still n e.body h.root h.root_is }
-
-  -- what stands for the declarations of a state doesn't depend on its observers
-  pub same_declarations : Represents before roots places items → Represents after roots places items
-  same_declarations rep = record {
-    one_item_each = rep.one_item_each;
-    items_are = λ i item x at there. place_same item x (rep.items_are i item x at there);
-    distinct = rep.distinct;
-    owners = rep.owners;
-    one_root_each = rep.one_root_each;
-    roots_are = λ n e at. root_same n e (rep.roots_are n e at);
-    targets_are = rep.targets_are;
-    count = rep.count;
-  }
-
 -- ---- the names of a state
 
 named_entry : (s : State) (ds : List Declared) → ds ≡ map declared_of s.entries → (i : ℕ) (d : Declared) → slice_get ds i ≡ Some d → (e : Entry) × (entry_at s i ≡ Some e) × (e.target ≡ d.target)

@@ -19,7 +19,7 @@ use Rattle.session.specs.Settling.{IsMarked, ReadsPlace, AreCurrentBelow}
 use Rattle.session.specs.Standing.{ItemGives}
 use Rattle.session.specs.declared.place.Place.{Place}
 use Rattle.session.specs.declared.place.Place.TheVariants.{Literal, Variable, Application}
-use Rattle.session.proofs.Needed.{every_among}
+use Rattle.session.proofs.Lists.{every_among}
 use Rattle.session.proofs.Standing.{there_too, argument_part, whole_of, IsApplication, application_item, OwnItem, own_root_item}
 
 -- the place of a value
@@ -116,7 +116,7 @@ module _ (F : Functions) (s : State) (roots : List ℕ) (places : List Place) (i
         let fits = sound i (Application f js) stands in (
           a,
           each_gives a.owner a.path f a.formulas js i a.formula_is
-              (λ j among. (every_among (λ (m : ℕ). m < i) j js fits.earlier among, closed i j marked (record { function = f; arguments = js; stands = stands; reads = among })))
+              (λ j among. (every_among (λ (m : ℕ). m < i) js j fits.earlier among, closed i j marked (record { function = f; arguments = js; stands = stands; reads = among })))
               gives 0 a.formulas vs (λ m. ap (λ k. argument_at a.formulas k) (from_zero m)) a.arguments_stand is,
         )
       where

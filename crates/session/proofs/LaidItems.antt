@@ -10,7 +10,8 @@ use Rattle.script_model.specs.Need.{Item, Place, argument_at, child_at, formula_
 use Rattle.session.specs.Laying.{EveryName, EveryNameOfAll, items_in, items_in_each, laid, laid_each}
 use Rattle.session.specs.Represents.{IsOwn, PlaceIs, StandEach, StandsAt}
 use Rattle.session.specs.declared.place.Place.TheVariants.{Application}
-use Rattle.session.proofs.Rows.{SideBySide, StandFrom, StandOnce, every_append, every_weaker, get_append_behind, once_append, once_one, side_append, stand_split}
+use Rattle.session.proofs.Lists.{every_weaker}
+use Rattle.session.proofs.Rows.{SideBySide, StandFrom, StandOnce, every_append, get_append_behind, once_append, once_one, side_append, stand_split}
 
 -- ---- how many
 

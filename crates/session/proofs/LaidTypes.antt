@@ -15,7 +15,8 @@ use Rattle.session.specs.Laying.{laid, laid_body, laid_each}
 use Rattle.session.specs.Places.{IsSoundPlace, type_at, type_of_place, types_at}
 use Rattle.session.specs.declared.place.Place.TheVariants as place
 use Rattle.session.specs.declared.place.Place.{Place}
-use Rattle.session.proofs.Rows.{StandFrom, every_at, every_weaker, stand_split}
+use Rattle.session.proofs.Lists.{every_at, every_weaker}
+use Rattle.session.proofs.Rows.{StandFrom, stand_split}
 
 -- ---- types stay where places stay
 

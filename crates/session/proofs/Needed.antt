@@ -14,6 +14,7 @@ use Rattle.session.specs.Standing.{HaveTargets, HasMarkedPlace}
 use Rattle.session.specs.declared.place.Observer.{Observer}
 use Rattle.session.specs.declared.place.Place.{Place}
 use Rattle.session.specs.declared.place.Place.TheVariants.{Application}
+use Rattle.session.proofs.Lists.{every_among}
 use Rattle.session.proofs.Standing.{there_too, argument_part, whole_of, application_item, place_applies, argument_at_place, argument_of_item, OwnItem, own_root_item}
 
 -- ---- lists
@@ -27,11 +28,6 @@ pub among_mapped : {A B : Type 0} (f : A → B) (y : B) (xs : List A) → Among 
 among_mapped f y [] among = absurd among
 among_mapped f y (x ∷ xs) (inl same) = (x, inl refl, same)
 among_mapped f y (x ∷ xs) (inr later) = let a = among_mapped f y xs later in (a.0, inr a.1, a.2)
-
-pub every_among : {A : Type 0} (P : A → Type 0) (x : A) (xs : List A) → Every P xs → Among x xs → P x
-every_among P x [] all among = absurd among
-every_among P x (y ∷ ys) all (inl same) = subst P (sym same) all.0
-every_among P x (y ∷ ys) all (inr later) = every_among P x ys all.1 later
 
 pub within_there : {A : Type 0} (xs : List A) (k : ℕ) → k < length xs → (x : A) × (slice_get xs k ≡ Some x)
 within_there [] k lt = absurd (omega arith)
@@ -173,7 +169,7 @@ module _ (s : State) (roots : List ℕ) (places : List Place) (items : List Item
       let found = among_mapped (λ (p : model.Observer). Named p.target) i s.observers among in
       let looked = subst (λ (ts : List ℕ). Among found.0.target ts) (sym targets) (among_map (λ (p : model.Observer). p.target) found.0 s.observers found.1) in
       let mine = among_mapped (λ (p : Observer). p.target) found.0.target observers looked in
-      let lt : mine.0.target < length roots = every_among (λ (o : Observer). o.target < length roots) mine.0 observers within mine.1 in
+      let lt : mine.0.target < length roots = every_among (λ (o : Observer). o.target < length roots) observers mine.0 within mine.1 in
       let there = within_there roots mine.0.target lt in
       let is : i ≡ Named mine.0.target = found.2 ∙ ap (λ (n : ℕ). Named n) mine.2 in
       rw is (there.0, there.1, needed.roots_are there.0 (record { observer = mine.0; is_one = mine.1; root = there.1 }))

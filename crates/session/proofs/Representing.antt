@@ -18,8 +18,8 @@ use Rattle.session.specs.Standing.{RanAll, WasRun}
 use Rattle.session.specs.declared.place.Place.TheVariants as place
 use Rattle.session.specs.declared.place.Place.{Place as APlace}
 use Rattle.session.proofs.LaidItems.{IsRead, IsWithin, items_count, items_once, items_within, places_are, places_count, root_stands}
-use Rattle.session.proofs.Lists.{get_append_left, get_push, get_pushed}
-use Rattle.session.proofs.Rows.{SideBySide, StandFrom, StandOnce, every_append, every_weaker, get_append, get_append_behind, get_append_within, once_append, once_one, side_at, stand_behind}
+use Rattle.session.proofs.Lists.{every_weaker, get_append_left, get_push, get_pushed}
+use Rattle.session.proofs.Rows.{SideBySide, StandFrom, StandOnce, every_append, get_append, get_append_behind, get_append_within, once_append, once_one, side_at, stand_behind}
 
 -- ---- what stays
 

@@ -4,6 +4,7 @@ use Rattle.std.proofs.Math.Seq.{take-append_seam}
 use Rattle.std.proofs.lemmas.List.{length-append}
 use Rattle.std.proofs.lemmas.Option.{slice_get_within}
 use Rattle.std.specs.List.{slice_get}
+use Rattle.session.proofs.Lists.{every_at}
 use Rattle.script_model.specs.Choice.{Every}
 
 -- ---- elements by their places
@@ -34,18 +35,9 @@ get_append (y ∷ xs) ys (suc i) x at = elim (get_append xs ys i x at) [
 
 -- ---- every element
 
-pub every_at : {A : Type 0} (P : A → Type 0) (xs : List A) (i : ℕ) (x : A) → Every P xs → slice_get xs i ≡ Some x → P x
-every_at P [] i x all at = absurd (cc)
-every_at P (y ∷ xs) zero x all at = let same : y ≡ x = cc in subst P same all.0
-every_at P (y ∷ xs) (suc i) x all at = every_at P xs i x all.1 at
-
 pub every_append : {A : Type 0} (P : A → Type 0) (xs ys : List A) → Every P xs → Every P ys → Every P (xs ++ ys)
 every_append P [] ys xs_all ys_all = ys_all
 every_append P (x ∷ xs) ys xs_all ys_all = (xs_all.0, every_append P xs ys xs_all.1 ys_all)
-
-pub every_weaker : {A : Type 0} (P Q : A → Type 0) (xs : List A) → ((x : A) → P x → Q x) → Every P xs → Every Q xs
-every_weaker P Q [] step all = tt
-every_weaker P Q (x ∷ xs) step all = (step x all.0, every_weaker P Q xs step all.1)
 
 -- ---- a list inside another
 

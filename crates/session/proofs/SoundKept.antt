@@ -20,9 +20,9 @@ use Rattle.session.specs.declared.place.Observer.{Observer}
 use Rattle.session.specs.declared.place.Place.TheVariants as place
 use Rattle.session.specs.declared.place.Place.{Place}
 use Rattle.session.proofs.LaidTypes.{AreKept, AreTypesKept, IsTypedRoot, body_sound, body_typed, name_typed, sound_at, sound_kept, type_kept}
-use Rattle.session.proofs.Lists.{get_append_left, get_pushed}
+use Rattle.session.proofs.Lists.{every_at, every_weaker, get_append_left, get_pushed}
 use Rattle.session.proofs.Representing.{places_count_body}
-use Rattle.session.proofs.Rows.{every_append, every_at, every_weaker, get_append, get_append_within, stand_behind}
+use Rattle.session.proofs.Rows.{every_append, get_append, get_append_within, stand_behind}
 
 -- ---- calls
 

@@ -3,8 +3,8 @@ use Rattle.script_model.specs.Check.{Declared}
 use Rattle.session.specs.Kept.{Kept, IsTypedName}
 use Rattle.session.specs.Places.{AreTypedCalls}
 use Rattle.session.specs.Settling.{merged, shown_with}
+use Rattle.session.proofs.Lists.{every_weaker}
 use Rattle.session.proofs.Merging.{length-merged}
-use Rattle.session.proofs.Rows.{every_weaker}
 use Rattle.session.proofs.Showing.{length-shown, shown_targets}
 use Rattle.session.proofs.script.Script.accept.Goals as goal
 
