@@ -1,1 +1,2 @@
 pub mod SameTypes
+pub mod Walk

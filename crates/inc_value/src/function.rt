@@ -7,7 +7,7 @@ use std::marker::Model;
 
 /// What a function makes: a value of its arguments, or the right-hand side of a bind.
 #[derive(Clone, Copy, Debug, PartialEq, Eq)]
-pub enum Kind {
+pub enum FnKind {
     Map,
     Rhs,
 }
@@ -15,7 +15,7 @@ pub enum Kind {
 /// A function of one library.
 #[derive(Clone, Copy, Debug, PartialEq, Eq)]
 pub struct FnId {
-    pub kind: Kind,
+    pub kind: FnKind,
     pub number: u64,
 }
 

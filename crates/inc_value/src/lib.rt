@@ -9,7 +9,7 @@ mod text;
 mod ty;
 mod value;
 
-pub use function::{FnId, FnRef, Kind, Sig};
+pub use function::{FnId, FnKind, FnRef, Sig};
 pub use node::{NodeId, ObsId, Part, Point};
 pub use outcome::Outcome;
 pub use text::{Text, TextFault};

@@ -2,7 +2,7 @@
 
 /// A node of a graph. `gen_` is how many ids the graph's arena had given before this one, so no two
 /// nodes of one arena ever share an id, and `slot` is where the node stands while it lives.
-#[derive(Clone, Copy, Debug, PartialEq, Eq)]
+#[derive(Clone, Copy, Debug, Default, PartialEq, Eq)]
 pub struct NodeId {
     pub slot: usize,
     pub gen_: u64,

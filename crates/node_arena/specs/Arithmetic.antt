@@ -3,8 +3,8 @@ use Rattle.std.specs.Prelude.{ℕ, Bool, true, false, ◌&&◌, ◌||◌, ◌==�
 use Rattle.std.specs.Cmp.Lexicographic.{pointwise}
 use Rattle.std.specs.Int.{w64, int_wrapping_add, int_wrapping_neg}
 use Rattle.inc_value.specs.declared.function.FnRef.{FnRef}
-use Rattle.inc_value.specs.declared.function.Kind.{Kind}
-use Rattle.inc_value.specs.declared.function.Kind.TheVariants.{Map, Rhs}
+use Rattle.inc_value.specs.declared.function.FnKind.{FnKind}
+use Rattle.inc_value.specs.declared.function.FnKind.TheVariants.{Map, Rhs}
 use Rattle.inc_value.specs.declared.ty.Ty.{Ty}
 use Rattle.inc_value.specs.declared.ty.Ty.TheVariants as ty
 use Rattle.inc_value.specs.declared.value.Value.{Value}
@@ -25,7 +25,7 @@ function_named name =
     else (if pointwise nat_eq name (codes "neg") then Some neg_function else None)
 
 -- one function and no other
-abbrev pub is_map_kind : Kind → Bool
+abbrev pub is_map_kind : FnKind → Bool
 is_map_kind Map = true
 is_map_kind Rhs = false
 

@@ -6,11 +6,12 @@ use std::alloc::{AllocError, Global};
 /// Functions by name, over values of base types. Each has a value for all values of the types that
 /// it takes, and the value is the same at each call.
 pub trait Library: Drop {
-    ghost use Rattle.std.specs.Prelude.{◌≡◌, ℕ, Bool, List, Option, All, IfOk, IsTrue, Some};
+    ghost use Rattle.std.specs.Prelude.{◌≡◌, ◌≤◌, ℕ, Bool, List, Option, All, IfOk, IsTrue, Some};
     ghost use Rattle.inc_value.specs.Sig.{IsMapSig};
+    ghost use Rattle.inc_value.specs.Ty.{IsBase};
     ghost use Rattle.inc_value.specs.Value.{type_of, HaveTypes, IsProper};
     ghost use Rattle.inc_value.specs.declared.function.FnRef.{FnRef};
-    ghost use Rattle.inc_value.specs.declared.function.Kind.TheVariants.{Map};
+    ghost use Rattle.inc_value.specs.declared.function.FnKind.TheVariants.{Map};
     ghost use Rattle.inc_value.specs.declared.value.Value.{Value};
     ghost use Rattle.node_arena.specs.Counts.{raised, raised_on_err};
 
@@ -38,28 +39,41 @@ pub trait Library: Drop {
         ensures { result ≡ known self.now f };
 
     /// What the function gives for the arguments. Each call is counted, also one that finds no
-    /// memory for the value; nothing else changes.
+    /// memory for the value. Names and values stay, and no function is forgotten.
     fn apply(&mut self, alloc: Global, f: FnRef, args: &[Value]) -> Result<Value, AllocError>
         requires known { IsTrue (known self.old f) }
         requires kind { f.id.kind ≡ Map }
         requires fit { HaveTypes args.now f.sig.takes }
         ensures value { IfOk result (λ v. v ≡ value self.old f args.now) }
         ensures typed { IfOk result (λ v. type_of v ≡ f.sig.gives) }
+        ensures proper { IfOk result IsProper }
 
         ensures calls { calls self.new ≡ raised (calls self.old) }
+        ensures calls_grow { calls self.old ≤ calls self.new }
         ensures wants { wants self.new ≡ raised_on_err result (wants self.old) }
 
         ensures same_names { (name : List ℕ) → named self.new name ≡ named self.old name }
-        ensures same_known { (g : FnRef) → known self.new g ≡ known self.old g }
+        ensures keeps_known { (g : FnRef) → IsTrue (known self.old g) → IsTrue (known self.new g) }
         ensures same_values { (g : FnRef) (xs : List Value) → value self.new g xs ≡ value self.old g xs };
 
     // a name stands for a map of the library
     ghost names_maps: { (l : Self) (name : List ℕ) (f : FnRef) → named l name ≡ Some f
         → IsTrue (known l f) × (f.id.kind ≡ Map) × IsMapSig f.sig };
 
-    // a function gives a value of the type that it says
+    // a map of the library has the types of a map
+    ghost known_maps: { (l : Self) (f : FnRef) → IsTrue (known l f) → f.id.kind ≡ Map → IsMapSig f.sig };
+
+    // of values of the types that it takes, a map gives a value of the type that it says
     ghost typed: { (l : Self) (f : FnRef) (args : List Value) → IsTrue (known l f) → f.id.kind ≡ Map
         → All IsProper args → HaveTypes args f.sig.takes → type_of (value l f args) ≡ f.sig.gives };
+
+    // of values of the types that it takes, a map gives a value that a program can hold
+    ghost proper: { (l : Self) (f : FnRef) (args : List Value) → IsTrue (known l f) → f.id.kind ≡ Map
+        → All IsProper args → HaveTypes args f.sig.takes → IsProper (value l f args) };
+
+    // whatever its arguments, a map gives no reference to a node
+    ghost no_reference: { (l : Self) (f : FnRef) (args : List Value) → IsTrue (known l f) → f.id.kind ≡ Map
+        → IsBase (type_of (value l f args)) };
 }
 
 #[cfg(test)]

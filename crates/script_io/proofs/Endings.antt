@@ -17,7 +17,7 @@ break_beyond limit (Some bytes) after lines h =
     let whole = ap length b.taken.split in
     let reached = h.reached in
     let more = h.more in
-    omega (arith, whole, reached, more, length-append b.front b.part, length-append b.part b.rest, length-append b.front (b.part ++ b.rest))
+    omega (arith, whole, reached, more, length-append b.front b.part, length-append b.part (b.held ++ b.rest), length-append b.held b.rest, length-append b.front (b.part ++ (b.held ++ b.rest)))
 
 -- a whole input is within the limit
 pub limit-kept : (ending : Ending) (limit : ℕ) (left after : Option (List ℕ)) (lines : List (List ℕ)) → IfSome left (λ bytes. Reads ending limit bytes after lines)

@@ -1,5 +1,5 @@
--- Counts of faults: a call answers an error only where its count rose.
-use Rattle.std.specs.Prelude.{ℕ, ◌+◌, ◌-◌, ◌^◌, ◌≤◌, min, Result, OnErr}
+-- Counts of faults: a call answers an error exactly where its count rose.
+use Rattle.std.specs.Prelude.{◌≡◌, ℕ, ◌+◌, ◌-◌, ◌^◌, ◌≤◌, min, Result, OnOk, OnErr}
 
 -- one more, up to the last value of a count
 abbrev pub raised : ℕ → ℕ
@@ -9,7 +9,8 @@ raised count = min (count + 1) (2 ^ 64 - 1)
 abbrev pub Rose : ℕ → ℕ → Type 0
 Rose before now = raised before ≤ now
 
--- the count never falls, and rose where the call failed
+-- the count never falls, rose where the call failed, and stayed where it did not
 pub record HasCause {T E : Type 0} (before now : ℕ) (result : Result T E) : Type 0 where
   pub later : before ≤ now
   pub failed : OnErr result (Rose before now)
+  pub unfailed : OnOk result (now ≡ before)

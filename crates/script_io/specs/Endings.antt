@@ -17,11 +17,11 @@ number_of Limit = 6
 abbrev pub IsStatus : ℕ → Type 0
 IsStatus n = (ending : Ending) × (n ≡ number_of ending)
 
--- the lines that were read of the bytes, by how the run ended
+-- the lines that were read of the bytes, by how the run ended; where no memory was found, with the line that found none, if there was one
 abbrev pub Reads : Ending → ℕ → List ℕ → Option (List ℕ) → List (List ℕ) → Type 0
 Reads Accepted limit bytes left lines = AreAll limit bytes left lines
 Reads Refused limit bytes left lines = AreAll limit bytes left lines
-Reads ReadFault limit bytes left lines = BreakAtFault bytes left lines
-Reads WriteFault limit bytes left lines = AreFirst bytes lines
-Reads Memory limit bytes left lines = AreFirst bytes lines
+Reads ReadFault limit bytes left lines = BreakAtFault limit bytes left lines
+Reads WriteFault limit bytes left lines = AreFirst limit bytes left lines
+Reads Memory limit bytes left lines = AreFirst limit bytes left lines
 Reads Limit limit bytes left lines = BreakAt limit bytes left lines

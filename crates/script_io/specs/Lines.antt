@@ -1,5 +1,6 @@
 -- The lines of bytes, and what a reader of lines takes.
 use Rattle.std.specs.Prelude.{◌≡◌, ◌≢◌, ◌⊎◌, ℕ, ◌+◌, ◌<◌, ◌≤◌, ◌==◌, Bool, true, false, List, [], ◌∷◌, ◌++◌, length, Option}
+use Rattle.std.specs.List.{Contains}
 use Rattle.std.specs.Io.KnownBytes.{prepend_known, Consumes, IsAtEnd}
 use Rattle.script_io.specs.declared.line_reader.Got.{Got}
 use Rattle.script_io.specs.declared.line_reader.Got.TheVariants.{Line, TooLong, End, Limit, ReadFault}
@@ -90,11 +91,16 @@ Means new rest limit part End = IsEnd new rest part
 Means new rest limit part Limit = IsLimit new limit part
 Means new rest limit part ReadFault = IsFault new part
 
--- a call took this part of the bytes ahead, and its answer means what it says
+-- what is held tells the answer: a newline is held, or more bytes than may be taken
+abbrev pub HoldsEnough : Reader → ℕ → Type 0
+HoldsEnough r limit = Contains r.held 10 ⊎ (limit < r.taken + length r.held)
+
+-- a call took this part of the bytes ahead, and its answer means what it says; where enough was held, the part came off what was held
 pub record Takes (old new : Reader) (before after : Option (List ℕ)) (limit : ℕ) (got : Got) (part : List ℕ) : Type 0 where
   pub bytes : Consumes (ahead old before) (ahead new after) part
   pub count : new.taken ≡ old.taken + length part
   pub meaning : Means new (ahead new after) limit part got
+  pub from_held : HoldsEnough old limit → old.held ≡ part ++ new.held
 
 -- whether the reader must not be asked again after this answer
 abbrev pub is_last : Got → Bool

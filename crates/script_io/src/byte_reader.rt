@@ -1,8 +1,8 @@
 //! The bytes of a source one after another, up to a limit.
-ghost use Rattle.std.specs.Prelude.{◌≡◌, ◌<◌, ◌≤◌, ◌+◌, [], ◌∷◌, IsTrue, length, IfOk, IsErr, Ok, Err, false};
+ghost use Rattle.std.specs.Prelude.{◌≡◌, ◌≢◌, ◌<◌, ◌≤◌, ◌+◌, [], ◌∷◌, IsTrue, length, IfOk, IsErr, Ok, Err, false, true};
 ghost use Rattle.std.specs.Io.KnownBytes.{Keeps, IsAtEnd, prepend_known};
 ghost use Rattle.script_io.specs.Causes.{HasCause, Rose};
-ghost use Rattle.script_io.specs.Bytes.{Gives};
+ghost use Rattle.script_io.specs.Bytes.{Gives, TakesHeld, AreOfferedWhole};
 
 use crate::{Failed, Source};
 use std::alloc::{AllocError, Global};
@@ -66,7 +66,10 @@ impl ByteReader {
         ensures at_end { result ≡ Ok false → (self.new.held ≡ []) × IsAtEnd (S.left source.new) }
         ensures failed { IsErr result → self.new.held ≡ [] }
         ensures taken { self.new.taken ≡ self.old.taken }
+        ensures unread { 0 < length self.old.held → (source.new ≡ source.old) × (self.new.held ≡ self.old.held) × (result ≡ Ok true) }
+        ensures few { length self.new.held ≤ 4096 }
         ensures cause { HasCause (S.faults source.old) (S.faults source.new) result }
+        ensures offered { AreOfferedWhole (S.offered source.old) (S.offered source.new) }
     {
         if self.start < self.end {
             return Ok(true);
@@ -83,8 +86,13 @@ impl ByteReader {
         requires within { self.old.taken ≤ limit }
         ensures gives { Gives self.old self.new (S.left source.old) (S.left source.new) limit result }
         ensures within { self.new.taken ≤ limit }
+        ensures unread { 0 < length self.old.held → source.new ≡ source.old }
+        ensures from_held { 0 < length self.old.held → TakesHeld self.old self.new result }
+        ensures few { length self.new.held ≤ 4096 }
         ensures later { S.faults source.old ≤ S.faults source.new }
         ensures fault { result ≡ Err Stop.ReadFault → Rose (S.faults source.old) (S.faults source.new) }
+        ensures unfailed { result ≢ Err Stop.ReadFault → S.faults source.new ≡ S.faults source.old }
+        ensures offered { AreOfferedWhole (S.offered source.old) (S.offered source.new) }
     {
         match self.is_ready(source) {
             Ok(true) => {}

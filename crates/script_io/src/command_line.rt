@@ -1,28 +1,34 @@
 //! The words of the command line, and the usage line.
-ghost use Rattle.std.specs.Prelude.{◌≡◌, ◌↔◌, ◌≤◌, IsTrue};
+ghost use Rattle.std.specs.Prelude.{◌≡◌, ◌≢◌, ◌↔◌, ◌≤◌, IsTrue, IfOk, map, string_bytes};
+ghost use Rattle.std.specs.Vec.Iter.{into_iter_items};
 ghost use Rattle.script_io.specs.Causes.{Rose};
 ghost use Rattle.script_io.specs.CommandLine.{IsRunWords, TellsUsage, IsTopStatus};
 
 use crate::{Failed, Sink, Word, write_whole};
-use std::alloc::AllocError;
+use std::alloc::{AllocError, Global};
 use std::convert::AsStr;
 use std::env;
 use std::io::ErrorKind;
 
+/// The words that the system tells, one for one and in order.
+fn words_of(alloc: Global, args: env::Args) -> Result<Vec<Word>, AllocError>
+    ensures words { IfOk result (λ words. words.items ≡ map string_bytes (into_iter_items args)) }
+{
+    let mut words = Vec::new(alloc);
+    for arg in args {
+        words.push(Word::new(arg))?;
+    }
+    Ok(words)
+}
+
 /// The words of the command line, of which the first is the program's name. There are none where the
 /// system does not tell them, or one is not UTF-8.
 pub fn words(rt: &HostRuntime) -> Result<Vec<Word>, AllocError> {
-    let mut words = Vec::new(rt.alloc());
     match env::args(rt) {
-        Ok(args) => {
-            for arg in args {
-                words.push(Word::new(arg))?;
-            }
-        }
-        Err(error) if error.kind() == ErrorKind::OutOfMemory => return Err(AllocError),
-        Err(_) => {}
+        Ok(args) => words_of(rt.alloc(), args),
+        Err(error) if error.kind() == ErrorKind::OutOfMemory => Err(AllocError),
+        Err(_) => Ok(Vec::new(rt.alloc())),
     }
-    Ok(words)
 }
 
 /// Whether the words are the program's name and `run`.
@@ -41,6 +47,7 @@ pub fn tell_usage<K: Sink>(out: &mut K, usage: &[u8]) -> u8
     ensures statuses { IsTopStatus result }
     ensures later { K.faults out.old ≤ K.faults out.new }
     ensures fault { result ≡ 4 → Rose (K.faults out.old) (K.faults out.new) }
+    ensures unfailed { result ≢ 4 → K.faults out.new ≡ K.faults out.old }
 {
     match write_whole(out, usage) {
         Ok(()) => 2,

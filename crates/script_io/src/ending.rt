@@ -1,5 +1,4 @@
 //! How runs end.
-use crate::Failed;
 use std::alloc::AllocError;
 
 /// How a run ended.
@@ -63,17 +62,5 @@ impl From<AllocError> for Ending {
 
     fn from(_error: AllocError) -> Ending {
         Ending::Memory
-    }
-}
-
-/// A call of the sink failed. A failed call of the source comes as an answer of the reader of lines.
-impl From<Failed> for Ending {
-    ghost use Rattle.std.specs.Prelude.{◌≡◌};
-    ghost use Rattle.script_io.specs.declared.ending.Ending.TheVariants.{WriteFault};
-
-    ghost from_gives = { λ _ e. e ≡ WriteFault };
-
-    fn from(_error: Failed) -> Ending {
-        Ending::WriteFault
     }
 }

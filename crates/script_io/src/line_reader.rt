@@ -1,7 +1,8 @@
 //! The lines of a source.
-ghost use Rattle.std.specs.Prelude.{◌≡◌, ◌⊎◌, ℕ, ◌+◌, ◌<◌, ◌≤◌, List, [], ◌∷◌, ◌++◌, length, take, false, vec_capacity, IfOk};
+ghost use Rattle.std.specs.Prelude.{◌≡◌, ◌≢◌, ◌⊎◌, ℕ, ◌+◌, ◌<◌, ◌≤◌, List, [], ◌∷◌, ◌++◌, length, take, false, vec_capacity, IfOk};
+ghost use Rattle.script_io.specs.Bytes.{AreOfferedWhole};
 ghost use Rattle.script_io.specs.Causes.{Rose};
-ghost use Rattle.script_io.specs.Lines.{Takes, fresh, is_last};
+ghost use Rattle.script_io.specs.Lines.{Takes, HoldsEnough, fresh, is_last};
 
 use crate::Source;
 use crate::byte_reader::{ByteReader, Stop};
@@ -51,16 +52,15 @@ impl Model for LineReader {
     ghost invariant = { λ r. 4096 ≤ vec_capacity r.line };
 }
 
-/// Puts a byte at the end of a line that is not full.
+/// Puts a byte at the end of a line, where it isn't full.
 fn push_within(line: &mut Vec<u8>, byte: u8)
+    requires short { length line.old.items ≤ 4096 }
     requires room { 4096 ≤ vec_capacity line.old }
     ensures items { line.new.items ≡ take 4096 (line.old.items ++ byte ∷ []) }
     ensures capacity { vec_capacity line.new ≡ vec_capacity line.old }
 {
     if line.len() < LONGEST {
         line.push_reserved(byte);
-    } else {
-        line.truncate(LONGEST);
     }
 }
 
@@ -68,6 +68,7 @@ fn push_within(line: &mut Vec<u8>, byte: u8)
 fn whole(line: &mut Vec<u8>, length: u64) -> Got
     ensures line { length ≤ 4096 → (result ≡ Got.Line) × (line.new.items ≡ line.old.items) }
     ensures too_long { 4096 < length → (result ≡ Got.TooLong) × (line.new.items ≡ []) }
+    ensures open { is_last result ≡ false }
     ensures capacity { vec_capacity line.new ≡ vec_capacity line.old }
 {
     if length <= LONGEST as u64 {
@@ -112,6 +113,9 @@ impl LineReader {
 
     /// Takes the next line of the source, as long as at most `limit` bytes are taken in all. After
     /// `End`, `Limit` and `ReadFault` the reader must not be asked again. It takes no memory.
+    ///
+    /// Nothing is read while a newline is held, or more bytes than may be taken, and each read is
+    /// offered room for 4,096 bytes. Only `ReadFault` tells a failed read, and no read is made after it.
     pub fn next<S: Source>(&mut self, src: &mut S, limit: u64) -> Got
         requires within { self.old.taken ≤ limit }
         requires open { self.old.ended ≡ false }
@@ -119,8 +123,12 @@ impl LineReader {
         ensures within { self.new.taken ≤ limit }
         ensures grows { result ≡ Got.Line → self.old.taken < self.new.taken }
         ensures grows_too_long { result ≡ Got.TooLong → self.old.taken < self.new.taken }
-        ensures fault { result ≡ Got.ReadFault → Rose (S.faults src.old) (S.faults src.new) }
+        ensures unread { HoldsEnough self.old limit → src.new ≡ src.old }
+        ensures few { length self.new.held ≤ 4096 }
+        ensures offered { AreOfferedWhole (S.offered src.old) (S.offered src.new) }
         ensures later { S.faults src.old ≤ S.faults src.new }
+        ensures fault { result ≡ Got.ReadFault → Rose (S.faults src.old) (S.faults src.new) }
+        ensures unfailed { result ≢ Got.ReadFault → S.faults src.new ≡ S.faults src.old }
         ensures ended { self.new.ended ≡ is_last result }
         ensures cleared { (result ≡ Got.Line) ⊎ (self.new.line ≡ []) }
     {

@@ -37,10 +37,11 @@ pub fn write_whole<K: Sink>(out: &mut K, bytes: &[u8]) -> Result<(), Failed>
     Ok(())
 }
 
-/// Writes all that the buffer holds, and clears it.
+/// Writes all that the buffer holds, and clears it. On `Failed` it holds what it held.
 pub fn deliver<K: Sink>(out: &mut K, buffer: &mut Vec<u8>) -> Result<(), Failed>
     ensures ok { OnOk result (Appends (K.written out.old) (K.written out.new) buffer.old.items) }
     ensures cleared { OnOk result (buffer.new.items ≡ []) }
+    ensures kept { OnErr result (buffer.new.items ≡ buffer.old.items) }
     ensures prefix { OnErr result ((n : ℕ) × (n < length buffer.old.items) × Appends (K.written out.old) (K.written out.new) (take n buffer.old.items)) }
     ensures cause { HasCause (K.faults out.old) (K.faults out.new) result }
 {

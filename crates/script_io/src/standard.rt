@@ -1,7 +1,7 @@
 //! The standard streams as a source and a sink.
-ghost use Rattle.std.specs.Prelude.{◌≡◌, ◌<◌, None, IfOk, IsErr, length, is_ok, if◌then◌else◌};
+ghost use Rattle.std.specs.Prelude.{◌≡◌, ℕ, ◌<◌, ◌≤◌, None, IfOk, OnErr, IsErr, length, take, is_ok, if◌then◌else◌};
 ghost use Rattle.std.specs.Io.{ReadsAtMost, WritesAtMost};
-ghost use Rattle.std.specs.Io.KnownBytes.{ReadConsumes, WriteAppends};
+ghost use Rattle.std.specs.Io.KnownBytes.{Appends, ReadConsumes, WriteAppends};
 ghost use Rattle.script_io.specs.Causes.{HasCause, raised};
 
 use crate::{Failed, Sink, Source};
@@ -57,7 +57,8 @@ impl<R: Read> Source for StdSource<R> {
 
 /// A sink over a writer of std, as standard output (`rt.stdout()`). Each call makes one write and
 /// flushes it. It counts each error of the writer, and each call that took nothing of a piece that
-/// isn't empty, and doesn't tell what was written.
+/// isn't empty. As a sink it doesn't tell what was written: a writer that fails to flush may have taken
+/// bytes in that call. What its calls pass on to the writer their own clauses tell.
 #[derive(Drop)]
 pub struct StdSink<W> {
     inner: W,
@@ -83,6 +84,7 @@ impl<W: Write> StdSink<W> {
     /// Counts a fault.
     fn fail(&mut self) -> Result<usize, Failed>
         ensures failed { IsErr result }
+        ensures writer { self.new.0 ≡ self.old.0 }
         ensures faults { self.new.1 ≡ raised self.old.1 }
         ensures cause { HasCause self.old.1 self.new.1 result }
     {
@@ -102,6 +104,10 @@ impl<W: Write> Sink for StdSink<W> {
         ensures bytes { WriteAppends None None result buf.now }
         ensures cause { HasCause self.old.1 self.new.1 result }
         ensures faults { self.new.1 ≡ (if is_ok result then self.old.1 else raised self.old.1) }
+
+        // The writer was given just the bytes that are counted, and by a failed call a front of the piece.
+        ensures passed { IfOk result (λ n. Appends (W.contents self.old.0) (W.contents self.new.0) (take n buf.now)) }
+        ensures front { OnErr result ((n : ℕ) × (n ≤ length buf.now) × Appends (W.contents self.old.0) (W.contents self.new.0) (take n buf.now)) }
     {
         let count = match self.inner.write(buf) {
             Ok(count) => count,

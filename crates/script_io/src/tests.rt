@@ -99,7 +99,110 @@ fn a_sink_in_memory_is_full_or_fails_where_told(rt: HostRuntime) -> Result<(), F
     assert_eq!(rt; write_whole(&mut sink, b"de"), Err(Failed));
     assert_eq!(rt; sink.write(b""), Ok(0));
     assert_eq!(rt; sink.written(), b"abcd".as_slice());
+    let mut roomy = MemSink::new(alloc, 8, vec![in alloc; 2]?)?;
+    for (piece, want) in [("ab", Ok(2)), ("c", Err(Failed)), ("d", Ok(1))] {
+        assert_eq!(rt; roomy.write(piece.as_bytes()), want, "{piece}");
+    }
+    assert_eq!(rt; roomy.written(), b"abd".as_slice());
     assert_eq!(rt; write_whole(&mut SureSink::new(), b"abc"), Ok(()));
+    Ok(())
+}
+
+/// A source that notes the room that each of its first reads was offered, and how many reads were made.
+#[derive(Drop)]
+struct Noting {
+    inner: MemSource,
+    rooms: [usize; 4],
+    reads: usize,
+}
+
+impl Source for Noting {
+    ghost use Rattle.std.specs.Prelude.{Some};
+
+    ghost left = { λ s. Some s.inner.left };
+
+    ghost faults = { λ s. s.inner.faults };
+
+    fn read(&mut self, buf: &mut [u8]) -> Result<usize, Failed> {
+        if self.reads < self.rooms.len() {
+            self.rooms[self.reads] = buf.len();
+            self.reads += 1;
+        }
+        self.inner.read(buf)
+    }
+}
+
+#[test]
+fn a_line_that_is_held_is_answered_before_the_next_read(rt: HostRuntime) -> Result<(), Fail> {
+    let alloc = rt.alloc();
+    let inner = MemSource::new(alloc, b"a\nb\nc".to_vec(alloc)?, 4, Vec::new(alloc))?;
+    let mut source = Noting {
+        inner,
+        rooms: [0; 4],
+        reads: 0,
+    };
+    let mut reader = LineReader::new(alloc)?;
+    for (want, reads) in [
+        (Got::Line, 1),
+        (Got::Line, 1),
+        (Got::Line, 3),
+        (Got::End, 4),
+    ] {
+        if reader.is_ended() || reader.taken() > 100 {
+            break;
+        }
+        assert_eq!(rt; reader.next(&mut source, 100), want);
+        assert_eq!(rt; source.reads, reads);
+    }
+    assert_eq!(rt; reader.is_ended(), true);
+    assert_eq!(rt; source.rooms, [4096; 4]);
+    Ok(())
+}
+
+/// A writer that takes a byte a call, and fails one of its calls.
+#[derive(Drop)]
+struct Drip {
+    bytes: Vec<u8>,
+    calls: u8,
+    fails: u8,
+}
+
+impl io::Write for Drip {
+    fn write(&mut self, buf: &[u8]) -> io::Result<usize> {
+        self.calls = self.calls.saturating_add(1);
+        if self.calls == self.fails {
+            return Err(io::Error::from(io::ErrorKind::Other));
+        }
+        let piece = &buf[..buf.len().min(1)];
+        match self.bytes.extend_from_slice(piece) {
+            Ok(()) => Ok(piece.len()),
+            Err(error) => Err(io::Error::from(error)),
+        }
+    }
+
+    fn flush(&mut self) -> io::Result<()> {
+        Ok(())
+    }
+}
+
+#[test]
+fn a_writer_may_take_a_byte_a_call(rt: HostRuntime) -> Result<(), Fail> {
+    let alloc = rt.alloc();
+    for (fails, want, passed, calls) in [
+        (0, Ok(()), "abc", 3),
+        (1, Err(Failed), "", 1),
+        (3, Err(Failed), "ab", 3),
+    ] {
+        let mut drip = Drip {
+            bytes: Vec::new(alloc),
+            calls: 0,
+            fails,
+        };
+        let got = write_whole(&mut StdSink::new(&mut drip), b"abc");
+        assert_eq!(rt; got, want, "{fails}");
+        assert_eq!(rt; drip.bytes.as_slice(), passed.as_bytes(), "{fails}");
+        assert_eq!(rt; drip.calls, calls, "{fails}");
+    }
     Ok(())
 }
 
@@ -168,6 +271,8 @@ fn command_lines(rt: HostRuntime) -> Result<(), Fail> {
     assert_eq!(rt; tell_usage(&mut sink, b"usage\n"), 4);
     assert_eq!(rt; sink.written(), b"usage\nus".as_slice());
     let mut buffer = b"ab".to_vec(alloc)?;
+    assert_eq!(rt; deliver(&mut sink, &mut buffer), Err(Failed));
+    assert_eq!(rt; buffer.as_slice(), b"ab".as_slice());
     assert_eq!(rt; deliver(&mut SureSink::new(), &mut buffer), Ok(()));
     assert_eq!(rt; buffer.len(), 0);
     Ok(())

@@ -1,16 +1,19 @@
 -- Each name stands for a known map of base types, and a known function gives what its type says.
-use Rattle.std.specs.Prelude.{◌≡◌, ℕ, Bool, true, false, ◌&&◌, ◌==◌, List, [], ◌∷◌, Option, None, Some, option_map, IsTrue, IfSome, All}
+use Rattle.std.specs.Prelude.{◌≡◌, ℕ, Bool, true, false, ◌&&◌, ◌==◌, List, [], ◌∷◌, Option, None, Some, option_map, IsTrue, IfSome, All, ℤ, pos, FitsSigned, if◌then◌else◌}
 use Rattle.std.specs.Bool.{MatchBool, Decides}
 use Rattle.std.specs.Cmp.Lexicographic.{pointwise_decides}
+use Rattle.std.specs.Int.{w64}
 use Rattle.std.proofs.Common.{refl, sym, ◌∙◌, ap, subst, lit≤}
 use Rattle.std.proofs.lemmas.Bool.Decides.{when_true, Decides-eqb}
+use Rattle.std.proofs.lemmas.Int.{wrapping_add_is, wrapping_neg_is, SFits-int_wrap}
 use Rattle.std.proofs.lemmas.List.Elements.{All-cons, All-nil}
 use Rattle.inc_value.specs.Sig.{IsMapSig, Signature}
+use Rattle.inc_value.specs.Text.{IsPrintable}
 use Rattle.inc_value.specs.Ty.{IsBase, same_base, same_ty}
-use Rattle.inc_value.specs.Value.{type_of}
+use Rattle.inc_value.specs.Value.{type_of, IsProper}
 use Rattle.inc_value.specs.declared.function.FnRef.{FnRef}
-use Rattle.inc_value.specs.declared.function.Kind.{Kind}
-use Rattle.inc_value.specs.declared.function.Kind.TheVariants.{Map, Rhs}
+use Rattle.inc_value.specs.declared.function.FnKind.{FnKind}
+use Rattle.inc_value.specs.declared.function.FnKind.TheVariants.{Map, Rhs}
 use Rattle.inc_value.specs.declared.ty.Base.{Base}
 use Rattle.inc_value.specs.declared.ty.Base.TheVariants as base
 use Rattle.inc_value.specs.declared.ty.Ty.{Ty}
@@ -84,7 +87,7 @@ type_decides a b =
     let P : Ty → Type 0 = λ t. same_ty a t ≡ true in
     (λ e. when_true (a ≡ b) (Unit {0}) e (type_from_test a b), λ e. subst P e (type_same a))
 
-map_from_test : (k : Kind) → is_map k ≡ true → k ≡ Map
+map_from_test : (k : FnKind) → is_map k ≡ true → k ≡ Map
 map_from_test Map h = refl
 map_from_test Rhs h = absurd cc
 
@@ -140,6 +143,57 @@ given_by_is_typed None f args h = absurd cc
 given_by_is_typed (Some function) f args h =
     value_is_typed function args ∙ sym (ap (λ (g : FnRef). g.sig.gives) (reference_from_test f function h))
 
+-- a known function gives the type that the function of its number gives
+pub gives_by_number : (f : FnRef) (function : Function) → IsTrue (known f) → function_numbered f.id.number ≡ Some function
+    → (sig_of function).gives ≡ f.sig.gives
+gives_by_number f function h is =
+    let same : f ≡ reference_of function = reference_from_test f function (subst (λ o. IsTrue (known_as f o)) is h) in
+    sym (ap (λ (g : FnRef). g.sig.gives) same)
+
 -- a known function gives a value of the type that it says
 pub given_is_typed : (f : FnRef) (args : List Value) → IsTrue (known f) → type_of (given f args) ≡ f.sig.gives
 given_is_typed f args h = given_by_is_typed (function_numbered f.id.number) f args h
+
+known_as_is_map : (o : Option Function) (f : FnRef) → IsTrue (known_as f o) → IsMapSig f.sig
+known_as_is_map None f h = absurd cc
+known_as_is_map (Some function) f h =
+    subst (λ (g : FnRef). IsMapSig g.sig) (sym (reference_from_test f function h)) (reference_is_map function).2
+
+-- a known function has the types of a map
+pub known_is_map : (f : FnRef) → IsTrue (known f) → IsMapSig f.sig
+known_is_map f h = known_as_is_map (function_numbered f.id.number) f h
+
+-- whatever its arguments, a known function gives no reference to a node
+pub given_is_base : (f : FnRef) (args : List Value) → IsTrue (known f) → IsBase (type_of (given f args))
+given_is_base f args h = subst IsBase (sym (given_is_typed f args h)) (known_is_map f h).2
+
+zero_is_proper : IsProper (value.Int (pos 0))
+zero_is_proper = record { sfits = lit≤ tt }
+
+value_in_is_proper : (t : Ty) → IsProper (value_in t)
+value_in_is_proper ty.Int = zero_is_proper
+value_in_is_proper ty.Bool = tt
+value_in_is_proper ty.Text = (lit≤ tt, All-nil IsPrintable)
+value_in_is_proper (ty.Node to) = tt
+
+picked_is_proper : (first : Bool) (a b : ℤ) → FitsSigned w64 a → FitsSigned w64 b → IsProper (value.Int (if first then a else b))
+picked_is_proper true a b fits_a fits_b = fits_a
+picked_is_proper false a b fits_a fits_b = fits_b
+
+value_is_proper : (function : Function) (args : List Value) → All IsProper args → IsProper (value_of function args)
+value_is_proper Add (value.Int a ∷ value.Int b ∷ []) all =
+    rw (wrapping_add_is w64 a b (all 0 (value.Int a) (lit≤ tt)) (all 1 (value.Int a) (lit≤ tt))) (SFits-int_wrap w64 _)
+value_is_proper Neg (value.Int a ∷ []) all =
+    rw (wrapping_neg_is w64 a (all 0 (value.Int a) (lit≤ tt))) (SFits-int_wrap w64 _)
+value_is_proper Pick (value.Bool first ∷ value.Int a ∷ value.Int b ∷ []) all =
+    picked_is_proper first a b (all 1 (value.Int a) (lit≤ tt)) (all 2 (value.Int a) (lit≤ tt))
+value_is_proper Lt (value.Int a ∷ value.Int b ∷ []) all = tt
+value_is_proper function _ all = value_in_is_proper (sig_of function).gives
+
+given_by_is_proper : (o : Option Function) (args : List Value) → All IsProper args → IsProper (given_by o args)
+given_by_is_proper None args all = zero_is_proper
+given_by_is_proper (Some function) args all = value_is_proper function args all
+
+-- of values that a program can hold, a function gives such a value
+pub given_is_proper : (f : FnRef) (args : List Value) → All IsProper args → IsProper (given f args)
+given_is_proper f args all = given_by_is_proper (function_numbered f.id.number) args all

@@ -7,8 +7,8 @@ use Rattle.std.specs.Str.{bytes_eq}
 use Rattle.inc_value.specs.Sig.{Signature}
 use Rattle.inc_value.specs.Ty.{same_ty}
 use Rattle.inc_value.specs.declared.function.FnRef.{FnRef}
-use Rattle.inc_value.specs.declared.function.Kind.{Kind}
-use Rattle.inc_value.specs.declared.function.Kind.TheVariants.{Map, Rhs}
+use Rattle.inc_value.specs.declared.function.FnKind.{FnKind}
+use Rattle.inc_value.specs.declared.function.FnKind.TheVariants.{Map, Rhs}
 use Rattle.inc_value.specs.declared.ty.Ty.{Ty}
 use Rattle.inc_value.specs.declared.ty.Ty.TheVariants as ty
 use Rattle.inc_value.specs.declared.value.Value.{Value}
@@ -73,7 +73,7 @@ abbrev pub named : List ℕ → Option FnRef
 named name = option_map reference_of (function_named name)
 
 -- whether a kind is that of maps
-abbrev pub is_map : Kind → Bool
+abbrev pub is_map : FnKind → Bool
 is_map Map = true
 is_map Rhs = false
 

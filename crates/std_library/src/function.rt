@@ -1,9 +1,9 @@
 //! The functions of the standard library, with their names, numbers, types and values.
 ghost use Rattle.std.specs.Prelude.{◌≡◌, ◌≢◌, ◌==◌, ◌↔◌, IfOk, IsOk, IsTrue, Some};
 ghost use Rattle.std.specs.Str.{bytes_eq};
-ghost use Rattle.inc_value.specs.Value.{HaveTypes};
+ghost use Rattle.inc_value.specs.Value.{type_of, HaveTypes, IsProper};
 
-use inc_value::{FnId, FnRef, Kind, Sig, Ty, Value};
+use inc_value::{FnId, FnKind, FnRef, Sig, Ty, Value};
 use std::alloc::{AllocError, Global};
 
 /// A function of the standard library. Integers have 64 bits and wrap.
@@ -74,7 +74,7 @@ impl Function {
     {
         FnRef {
             id: FnId {
-                kind: Kind::Map,
+                kind: FnKind::Map,
                 number: self.number(),
             },
             sig: self.sig(),
@@ -128,6 +128,8 @@ impl Function {
     pub fn apply(self, _alloc: Global, args: &[Value]) -> Result<Value, AllocError>
         requires fit { HaveTypes args.now (sig_of self).takes }
         ensures value { IfOk result (λ v. v ≡ value_of self args.now) }
+        ensures typed { IfOk result (λ v. type_of v ≡ (sig_of self).gives) }
+        ensures proper { IfOk result IsProper }
         ensures scalar { (sig_of self).gives ≢ Ty.Text → IsOk result }
     {
         Ok(match (self, args) {

@@ -2,7 +2,7 @@
 ghost use Rattle.std.specs.Prelude.{◌≡◌};
 
 use crate::Function;
-use inc_value::{FnRef, Value};
+use inc_value::{FnRef, Ty, Value};
 use node_arena::Library;
 use std::alloc::{AllocError, Global};
 use std::marker::Model;
@@ -46,8 +46,11 @@ impl StdLib {
 }
 
 impl Library for StdLib {
+    ghost use Rattle.std.specs.Prelude.{◌≡◌, ◌≢◌, ◌≤◌, IfOk, IsOk, IsTrue};
+    ghost use Rattle.inc_value.specs.Value.{type_of, HaveTypes, IsProper};
+    ghost use Rattle.node_arena.specs.Counts.{raised, raised_on_err};
     ghost use Rattle.std_library.specs.Functions.{named, known, given};
-    ghost use Rattle.std_library.specs.FunctionLaws.{named_is_map, given_is_typed};
+    ghost use Rattle.std_library.specs.FunctionLaws.{given_is_base, given_is_proper, given_is_typed, known_is_map, named_is_map};
 
     ghost named = { λ _ name. named name };
 
@@ -70,7 +73,24 @@ impl Library for StdLib {
         }
     }
 
-    fn apply(&mut self, alloc: Global, f: FnRef, args: &[Value]) -> Result<Value, AllocError> {
+    /// What the function gives for the arguments. Only a text needs memory. Each call is counted,
+    /// also one that finds no memory.
+    ///
+    /// # Errors
+    ///
+    /// [`AllocError`] where there is no memory for the value.
+    #[tactic(auto, using(crate::specs::FunctionLaws::gives_by_number))]
+    fn apply(&mut self, alloc: Global, f: FnRef, args: &[Value]) -> Result<Value, AllocError>
+        requires known { IsTrue (known f) }
+        requires fit { HaveTypes args.now f.sig.takes }
+        ensures value { IfOk result (λ v. v ≡ given f args.now) }
+        ensures typed { IfOk result (λ v. type_of v ≡ f.sig.gives) }
+        ensures proper { IfOk result IsProper }
+        ensures scalar { f.sig.gives ≢ Ty.Text → IsOk result }
+        ensures calls { self.new.calls ≡ raised self.old.calls }
+        ensures calls_grow { self.old.calls ≤ self.new.calls }
+        ensures wants { self.new.wants ≡ raised_on_err result self.old.wants }
+    {
         self.calls = self.calls.saturating_add(1);
         let Some(function) = Function::numbered(f.id.number) else {
             unreachable!()
@@ -84,7 +104,13 @@ impl Library for StdLib {
 
     ghost names_maps = { λ _ name f e. named_is_map name f e };
 
+    ghost known_maps = { λ _ f known kind. known_is_map f known };
+
     ghost typed = { λ _ f args known kind proper fit. given_is_typed f args known };
+
+    ghost proper = { λ _ f args known kind proper fit. given_is_proper f args proper };
+
+    ghost no_reference = { λ _ f args known kind. given_is_base f args known };
 }
 
 #[cfg(test)]

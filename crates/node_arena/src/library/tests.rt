@@ -3,7 +3,7 @@ ghost use Rattle.std.specs.Prelude.{◌≡◌, ◌∷◌, [], IfOk, IfSome, Some
 ghost use Rattle.inc_value.specs.declared.function.FnRef.{FnRef};
 
 use super::*;
-use inc_value::{FnId, Kind, Sig, Ty};
+use inc_value::{FnId, FnKind, Sig, Ty};
 use std::test::Fail;
 
 /// `add` and `neg` of integers, wrapping at 64 bits.
@@ -14,7 +14,7 @@ struct Arithmetic {
 
 impl Library for Arithmetic {
     ghost use Rattle.node_arena.specs.Arithmetic.{function_named, is_function, value_of};
-    ghost use Rattle.node_arena.specs.ArithmeticLaws.{named_is_map, value_is_given};
+    ghost use Rattle.node_arena.specs.ArithmeticLaws.{known_is_map, named_is_map, value_is_base, value_is_given, value_is_proper};
 
     ghost named = { λ _ name. function_named name };
 
@@ -34,7 +34,7 @@ impl Library for Arithmetic {
         };
         Some(FnRef {
             id: FnId {
-                kind: Kind::Map,
+                kind: FnKind::Map,
                 number,
             },
             sig: Sig::new(takes, Ty::Int),
@@ -43,7 +43,7 @@ impl Library for Arithmetic {
 
     fn knows(&self, f: FnRef) -> bool {
         let takes = f.sig.takes();
-        f.id.kind == Kind::Map
+        f.id.kind == FnKind::Map
             && f.sig.gives() == Ty::Int
             && matches!(
                 (f.id.number, takes),
@@ -63,7 +63,13 @@ impl Library for Arithmetic {
 
     ghost names_maps = { λ _ name f e. named_is_map name f e };
 
+    ghost known_maps = { λ _ f known kind. known_is_map f known };
+
     ghost typed = { λ _ f args known kind proper fit. value_is_given f args known };
+
+    ghost proper = { λ _ f args known kind proper fit. value_is_proper f args proper };
+
+    ghost no_reference = { λ _ f args known kind. value_is_base f args };
 }
 
 /// The sum of two integers by the library's `add`, where it has one of two integers.

@@ -1,6 +1,6 @@
 //! The library against values from outside.
 use super::*;
-use inc_value::{Kind, Ty};
+use inc_value::{FnKind, Ty};
 use std::test::Fail;
 
 #[test]
@@ -65,7 +65,7 @@ fn call(
     let Some(f) = library.find(name) else {
         return Ok(None);
     };
-    if !library.knows(f) || f.id.kind != Kind::Map {
+    if !library.knows(f) || f.id.kind != FnKind::Map {
         return Ok(None);
     }
     match (f.sig.takes(), args) {

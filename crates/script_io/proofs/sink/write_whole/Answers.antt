@@ -1,4 +1,4 @@
-use Rattle.std.proofs.Common.{arith, length-drop}
+use Rattle.std.proofs.Common.{◌∙◌, arith, length-drop}
 use Rattle.std.proofs.lemmas.List.{take_rest}
 use Rattle.script_io.proofs.Writing.{Appends-plus}
 use Rattle.script_io.proofs.sink.write_whole.Goals as goal
@@ -9,5 +9,5 @@ loop-done-preserved g c =
     record {
       within = let n = rw (take_rest, length-drop) at e.bound in omega arith;
       appended = Appends-plus _ _ _ _ _ _ (omega arith) c.loop-done.invariant.appended (rw take_rest at e.bytes);
-      later = omega (arith, e.cause.later);
+      unfailed = e.cause.unfailed ∙ c.loop-done.invariant.unfailed;
     }
