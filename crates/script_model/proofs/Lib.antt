@@ -1,16 +1,35 @@
+pub mod Commands
+pub mod Effects
 pub mod Evaluation
-mod Steps
-mod Needs
-mod Validity
-mod Work
-mod Row
-mod Requests
-mod Runs
-mod Bound
-mod Types
-mod Agreement
-pub mod Levels
-pub mod Outcomes
-pub mod Parsing
+pub mod Falls
+pub mod Growing
+pub mod Proper
+pub mod Settling
+pub mod Spelling
+pub mod Steps
+pub mod Typing
+pub mod ValidRow
+pub mod Validity
 pub mod TokenLaws
 pub mod Written
+pub mod Requests
+pub mod Places
+pub mod TypedValues
+pub mod TypedCalls
+pub mod NeededStands
+pub mod NeededGives
+pub mod Libraries
+pub mod Work
+pub mod Found
+pub mod Asked
+pub mod SumRow
+pub mod Runs
+pub mod SumBound
+pub mod BindRow
+pub mod CycleRow
+pub mod HeightRow
+pub mod GrabRow
+pub mod Visits
+pub mod Agreement
+pub mod Forgetting
+pub mod Transcripts

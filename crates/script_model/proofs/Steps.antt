@@ -1,161 +1,175 @@
 -- Refusals change nothing, and a line has one effect.
-use Rattle.std.proofs.Common.{◌≡◌, ℕ, Bool, true, false, List, [], ◌∷◌, Option, None, Some, refl, sym, ◌∙◌, ap, not, is_some, length, slice_get}
-use Rattle.std.specs.List.{list_any}
-use Rattle.inc_value.specs.declared.outcome.Outcome.{Outcome}
-use Rattle.inc_value.specs.Ty.{same_ty}
+use Rattle.std.proofs.Common.{◌≡◌, ℕ, Bool, true, false, List, [], ◌∷◌, Option, None, Some, refl, sym, ◌∙◌, ap, cond}
 use Rattle.inc_value.specs.declared.ty.Ty.{Ty}
-use Rattle.script_model.specs.Check as check
-use Rattle.script_model.specs.Check.{Reason, Checked, Names, Declare, Assign, Observe, Stabilize, Show, find_declared, is_in_use, is_variable, has_names, has_functions, typed, check_of, names_of, ObserverUnknown, NameTaken, NameUnknown, FunctionUnknown, IllTyped, NotVariable, ObserverTaken, type_of_literal, type_of_base, value_of_literal, target_of_formula}
-use Rattle.script_model.specs.Formula.{Body, Observer, State, Functions, Name, Variable, Computed}
+use Rattle.inc_value.specs.Ty.{same_ty}
+use Rattle.inc_value.specs.Choice.{and_then}
+use Rattle.script_model.specs.Values.{Outcome}
+use Rattle.script_model.specs.Formula.{State, Meanings}
 use Rattle.script_model.specs.Grammar as grammar
 use Rattle.script_model.specs.Grammar.{Line}
-use Rattle.script_model.specs.Laws.{RefusalsChangeNothing, OneEffect, SettlesOneWay}
+use Rattle.script_model.specs.Check as check
+use Rattle.script_model.specs.Check.{Names, Command, Kind, Declared, Reason, SessionBroken, command_of, names_of, kind_of, find_declared, literal_of_type, typed_top, expert_of, link_of, where_same, first_that}
+use Rattle.script_model.specs.Laws.{OneRequest, RefusalsChangeNothing, RefusedStabilizesBreak, OneEffect}
 use Rattle.script_model.specs.Request.{Request, TooLong, Blank, Malformed, TooDeep, Asks}
-use Rattle.script_model.specs.Settle.{ShowAll}
-use Rattle.script_model.specs.Step.{Refusal, Because, Action, Declares, Assigns, Observes, Stabilizes, Tells, Verdict, Refuse, Allow, refused_if, needs, action_of, after_check, has_too_many, find_observer, TooManyPlaces, NotStabilized, Reply, is_refusal, Moment, Stabilized, Follows, Answers, Step, reply_to}
-use Rattle.script_model.proofs.Evaluation.{one_outcome}
-use Rattle.script_model.proofs.Requests.{one_request}
+use Rattle.script_model.specs.Step.{Refusal, LineTooLong, NoCommand, LineTooDeep, Cycle, Height, breaks, number_of, Verdict, Refuse, Settle, Act, Reply, Refused, Moment, Stabilizes, settles, by_cycle, by_height, Acts, Follows, Answers, allowed, verdict_for, verdict_of, refusal_for, holds, order, reply_to, shows, shown_by}
 
 -- ---- refusals
 
-accepted_reply : (s : State) (a : Action) → is_refusal (reply_to s a) ≡ false
-accepted_reply s (Declares e) = refl
-accepted_reply s (Assigns n v) = refl
-accepted_reply s (Observes o) = refl
-accepted_reply s Stabilizes = refl
-accepted_reply s (Tells name o) = refl
+shown_is_no_refusal : (observer : List ℕ) (o : Option Outcome) (why : Refusal) → shows observer o ≡ Refused why → ⊥
+shown_is_no_refusal observer None why is = cc
+shown_is_no_refusal observer (Some o) why is = cc
 
--- an accepted command is answered by no refusal
-no_refusal : (s : State) (a : Action) (replies : List Reply) → replies ≡ reply_to s a ∷ [] → list_any is_refusal replies ≡ false
-no_refusal s a replies is = rw (is, accepted_reply s a) refl
+no_refusal : (s : State) (c : Command) (why : Refusal) → reply_to s c ≡ Refused why → ⊥
+no_refusal s (check.Show observer) why is = shown_is_no_refusal observer (shown_by s observer) why is
+no_refusal s c why is = cc
 
-refused_follows : (F : Functions) (m after : Moment) (v : Verdict) (replies : List Reply) → Follows F m v after replies → list_any is_refusal replies ≡ true → after ≡ m
-refused_follows F m after (Refuse why) replies h refused = h.0
-refused_follows F m after (Allow a) replies h refused = let none = no_refusal m.present a replies h.1 in absurd (cc)
+-- what a refusal does: nothing, or it breaks a session that wasn't broken
+record Refused-leads (F : Meanings) (m after : Moment) (why : Refusal) : Type 0 where
+  nothing : breaks why ≡ false → after ≡ m
+  broken : breaks why ≡ true → after ≡ record m { broken = Some (number_of why) }
 
-refused_answers : (F : Functions) (m after : Moment) (r : Request) (replies : List Reply) → Answers F m r after replies → list_any is_refusal replies ≡ true → after ≡ m
-refused_answers F m after TooLong replies h refused = h.0
-refused_answers F m after Blank replies h refused = h.0
-refused_answers F m after Malformed replies h refused = h.0
-refused_answers F m after TooDeep replies h refused = h.0
-refused_answers F m after (Asks l) replies h refused = refused_follows F m after (after_check m.present (check_of F (names_of m.present) l)) replies h refused
+plainly : (F : Meanings) (m after : Moment) (why : Refusal) (r : Refusal) (rest : List Reply) → breaks r ≡ false → after ≡ m → Refused why ∷ rest ≡ Refused r ∷ [] → Refused-leads F m after why
+plainly F m after why r rest plain same is = record { nothing = λ h. same; broken = λ h. let e : why ≡ r = cc in absurd (let f : breaks why ≡ false = rw e plain in cc) }
+
+reason_is_plain : (m : Moment) (r : Reason) → breaks (refusal_for m r) ≡ false
+reason_is_plain m SessionBroken = refl
+reason_is_plain m r = refl
+
+stabilize_leads : (F : Meanings) (m after : Moment) (why : Refusal) (rest : List Reply) → Stabilizes F m after (Refused why ∷ rest) → Refused-leads F m after why
+stabilize_leads F m after why rest (settles notices free s settled unbroken is) = absurd (cc)
+stabilize_leads F m after why rest (by_cycle targets n judged cycle among met leads is) =
+    let e : why ≡ Cycle targets = cc in
+    record { nothing = λ h. absurd (let f : breaks why ≡ true = rw e refl in cc); broken = λ h. rw e leads }
+stabilize_leads F m after why rest (by_height target i judged met deep printed leads is) =
+    let e : why ≡ Height target = cc in
+    record { nothing = λ h. absurd (let f : breaks why ≡ true = rw e refl in cc); broken = λ h. rw e leads }
+
+act_leads : (F : Meanings) (m after : Moment) (why : Refusal) (rest : List Reply) (c : Command) → Acts m c after (Refused why ∷ rest) → Refused-leads F m after why
+act_leads F m after why rest c h = let is = h.1 in absurd (no_refusal m.present c why (cc))
+
+-- a verdict that is reached
+follow_leads : (F : Meanings) (m after : Moment) (why : Refusal) (rest : List Reply) (v : Verdict) → ((r : Refusal) → v ≡ Refuse r → breaks r ≡ false) → Follows F m v after (Refused why ∷ rest) → Refused-leads F m after why
+follow_leads F m after why rest (Refuse r) plain h = plainly F m after why r rest (plain r refl) h.0 h.1
+follow_leads F m after why rest Settle plain h = stabilize_leads F m after why rest h
+follow_leads F m after why rest (Act c) plain h = act_leads F m after why rest c h
+
+allowed_is_plain : (c : Option Command) (r : Refusal) → allowed c ≡ Refuse r → breaks r ≡ false
+allowed_is_plain None r is = let e : r ≡ NoCommand = cc in rw e refl
+allowed_is_plain (Some check.Stabilize) r is = absurd (cc)
+allowed_is_plain (Some c) r is = absurd (cc)
+
+pub verdict_is_plain : (m : Moment) (c : Option Command) (why : Option Reason) (r : Refusal) → verdict_for m c why ≡ Refuse r → breaks r ≡ false
+verdict_is_plain m c None r is = allowed_is_plain c r is
+verdict_is_plain m c (Some why) r is = let e : r ≡ refusal_for m why = cc in rw e (reason_is_plain m why)
+
+answer_leads : (F : Meanings) (m after : Moment) (why : Refusal) (rest : List Reply) (request : Request) → Answers F m request after (Refused why ∷ rest) → Refused-leads F m after why
+answer_leads F m after why rest TooLong h = plainly F m after why LineTooLong rest refl h.0 h.1
+answer_leads F m after why rest Blank h = let is = h.1 in absurd (cc)
+answer_leads F m after why rest Malformed h = plainly F m after why NoCommand rest refl h.0 h.1
+answer_leads F m after why rest TooDeep h = plainly F m after why LineTooDeep rest refl h.0 h.1
+answer_leads F m after why rest (Asks l) h = follow_leads F m after why rest (verdict_of F m l) (verdict_is_plain m (command_of F (names_of m.present) l) (first_that (holds F m l) order)) h
 
 pub refusals_change_nothing : RefusalsChangeNothing
-refusals_change_nothing F m after line replies step refused = refused_answers F m after step.0 replies step.2 refused
+refusals_change_nothing F m after line why rest step plain = (answer_leads F m after why rest step.0 step.2).nothing plain
 
 -- ---- one effect
 
--- not the verdict of a stabilize
-abbrev IsPlain : Verdict → Type 0
-IsPlain (Allow Stabilizes) = ⊥
-IsPlain v = Unit {0}
+-- no command of the kind
+abbrev pub Never : Option Command → Type 0
+Never (Some check.Stabilize) = ⊥
+Never c = Unit {0}
 
-plain_unless : (b : Bool) (why : Refusal) (v : Verdict) → IsPlain v → IsPlain (refused_if b why v)
-plain_unless true why v plain = tt
-plain_unless false why v plain = plain
+never_then : {A : Type 0} (o : Option A) (next : A → Option Command) → ((x : A) → Never (next x)) → Never (and_then o next)
+never_then None next h = tt
+never_then (Some x) next h = h x
 
-plain_needs : {A : Type 0} (o : Option A) (why : Refusal) (next : A → Verdict) → ((x : A) → IsPlain (next x)) → IsPlain (needs o why next)
-plain_needs None why next plain = tt
-plain_needs (Some x) why next plain = plain x
+never_same : (a b : Ty) (c : Command) → Never (Some c) → Never (where_same a b (Some c))
+never_same a b c h = go (same_ty a b)
+  where
+    go : (same : Bool) → Never (cond same (Some c) None)
+    go true = h
+    go false = tt
 
--- not what a `stabilize` comes to
-record IsPlainCheck (s : State) (checked : Checked) : Type 0 where
-  plain : IsPlain (after_check s checked)
+never_link : (k : Option Kind) (e : ℕ) (d : Declared) → Never (link_of k e d)
+never_link None e d = tt
+never_link (Some (check.Expert t)) e d = never_same d.ty t (check.Link e d.target) tt
+never_link (Some k) e d = tt
 
-plain_declare : (s : State) (name : List ℕ) (t : Ty) (body : Body) (target : ℕ) → IsPlain (action_of s (Declare name t body target))
-plain_declare s name t body target = plain_unless (has_too_many s body) TooManyPlaces _ tt
-
-plain_show : (s : State) (observer : List ℕ) → IsPlain (action_of s (Show observer))
-plain_show s observer = plain_needs (find_observer observer s.observers) (Because ObserverUnknown) _ (λ x. plain_needs x.shown NotStabilized _ (λ o. tt))
-
-checked_unless : (s : State) (b : Bool) (why : Reason) (c : Checked) → IsPlainCheck s c → IsPlainCheck s (check.refused_if b why c)
-checked_unless s true why c plain = record { plain = tt }
-checked_unless s false why c plain = plain
-
-checked_needs : {A : Type 0} (s : State) (o : Option A) (why : Reason) (next : A → Checked) → ((x : A) → IsPlainCheck s (next x)) → IsPlainCheck s (check.needs o why next)
-checked_needs s None why next plain = record { plain = tt }
-checked_needs s (Some x) why next plain = plain x
-
-plain_checked : (F : Functions) (s : State) (names : Names) (l : Line) → (l ≡ grammar.Stabilize → ⊥) → IsPlainCheck s (check_of F names l)
-plain_checked F s names (grammar.Var name base first) other =
-    checked_unless s (is_some (find_declared name names.declared)) NameTaken _ (
-    checked_unless s (not (same_ty (type_of_literal first) (type_of_base base))) IllTyped _ (
-    record { plain = plain_declare s name (type_of_base base) (Variable (value_of_literal first)) (length names.declared) }))
-plain_checked F s names (grammar.Set name value) other =
-    checked_needs s (find_declared name names.declared) NameUnknown _ (λ d.
-    checked_unless s (not (is_variable (slice_get names.declared d.target))) NotVariable _ (
-    checked_unless s (not (same_ty (type_of_literal value) d.ty)) IllTyped (check.Allow (Assign d.target (value_of_literal value))) (record { plain = tt })))
-plain_checked F s names (grammar.Let name formula) other =
-    checked_unless s (is_some (find_declared name names.declared)) NameTaken _ (
-    checked_unless s (not (has_names names formula)) NameUnknown _ (
-    checked_unless s (not (has_functions F formula)) FunctionUnknown _ (
-    checked_needs s (typed F names formula) IllTyped _ (λ t.
-    record { plain = plain_declare s name t.ty (Computed t.formula) (target_of_formula (length names.declared) t.formula) }))))
-plain_checked F s names (grammar.Observe observer name) other =
-    checked_unless s (is_in_use observer names.observers) ObserverTaken _ (
-    checked_needs s (find_declared name names.declared) NameUnknown (λ d. check.Allow (Observe observer d.target)) (λ d. record { plain = tt }))
-plain_checked F s names grammar.Stabilize other = absurd (other refl)
-plain_checked F s names (grammar.Show observer) other =
-    checked_unless s (not (is_in_use observer names.observers)) ObserverUnknown _ (record { plain = plain_show s observer })
+pub only_stabilize : (F : Meanings) (names : Names) (l : Line) → (l ≡ grammar.Stabilize → ⊥) → Never (command_of F names l)
+only_stabilize F names (grammar.Var name t first) other = never_then (literal_of_type names t first) _ (λ v. tt)
+only_stabilize F names (grammar.Set name literal) other = never_then (find_declared names name) _ (λ d. never_then (literal_of_type names d.ty literal) (λ v. Some (check.Assign d.target v)) (λ v. tt))
+only_stabilize F names (grammar.Let name tree) other = never_then (typed_top F names tree) _ (λ t. tt)
+only_stabilize F names (grammar.Expert name function first) other = never_then (F.named function) _ (λ f. never_then (expert_of names first f) (λ t. Some (check.Declare name t.ty t.body)) (λ t. tt))
+only_stabilize F names (grammar.Link expert name) other =
+    never_then (find_declared names expert) _ (λ e. never_then (find_declared names name) (λ d. link_of (kind_of names expert) e.target d) (λ d. never_link (kind_of names expert) e.target d))
+only_stabilize F names (grammar.Unlink expert name) other = never_then (find_declared names expert) _ (λ e. never_then (find_declared names name) (λ d. Some (check.Unlink e.target d.target)) (λ d. tt))
+only_stabilize F names (grammar.Stale expert) other = never_then (find_declared names expert) _ (λ e. tt)
+only_stabilize F names (grammar.Grab name bind) other = never_then (find_declared names bind) _ (λ e. tt)
+only_stabilize F names (grammar.Observe observer name) other = never_then (find_declared names name) _ (λ e. tt)
+only_stabilize F names (grammar.Unobserve observer) other = tt
+only_stabilize F names (grammar.Watch observer) other = tt
+only_stabilize F names (grammar.Show observer) other = tt
+only_stabilize F names (grammar.Advance span) other = tt
+only_stabilize F names (grammar.AdvanceTo time) other = tt
+only_stabilize F names grammar.Stabilize other = absurd (other refl)
 
 abbrev Same : Moment → Moment → List Reply → List Reply → Type 0
 Same a b rs qs = (a ≡ b) × (rs ≡ qs)
 
-one_follows : (F : Functions) (m a b : Moment) (v : Verdict) (rs qs : List Reply) → IsPlain v → Follows F m v a rs → Follows F m v b qs → Same a b rs qs
-one_follows F m a b (Refuse why) rs qs plain h k = (h.0 ∙ sym k.0, h.1 ∙ sym k.1)
-one_follows F m a b (Allow (Declares e)) rs qs plain h k = (h.0 ∙ sym k.0, h.1 ∙ sym k.1)
-one_follows F m a b (Allow (Assigns n v)) rs qs plain h k = (h.0 ∙ sym k.0, h.1 ∙ sym k.1)
-one_follows F m a b (Allow (Observes o)) rs qs plain h k = (h.0 ∙ sym k.0, h.1 ∙ sym k.1)
-one_follows F m a b (Allow Stabilizes) rs qs plain h k = absurd plain
-one_follows F m a b (Allow (Tells name o)) rs qs plain h k = (h.0 ∙ sym k.0, h.1 ∙ sym k.1)
+-- not the verdict of a stabilize
+abbrev pub IsPlain : Verdict → Type 0
+IsPlain Settle = ⊥
+IsPlain v = Unit {0}
 
-one_answers : (F : Functions) (m a b : Moment) (r : Request) (rs qs : List Reply) → (r ≡ Asks grammar.Stabilize → ⊥) → Answers F m r a rs → Answers F m r b qs → Same a b rs qs
+plain_allowed : (c : Option Command) → Never c → IsPlain (allowed c)
+plain_allowed None h = tt
+plain_allowed (Some check.Stabilize) h = absurd h
+plain_allowed (Some c) h = tt
+
+pub plain_verdict : (m : Moment) (c : Option Command) (why : Option Reason) → Never c → IsPlain (verdict_for m c why)
+plain_verdict m c None h = plain_allowed c h
+plain_verdict m c (Some why) h = tt
+
+one_follows : (F : Meanings) (m a b : Moment) (v : Verdict) (rs qs : List Reply) → IsPlain v → Follows F m v a rs → Follows F m v b qs → Same a b rs qs
+one_follows F m a b (Refuse why) rs qs plain h k = (h.0 ∙ sym k.0, h.1 ∙ sym k.1)
+one_follows F m a b Settle rs qs plain h k = absurd plain
+one_follows F m a b (Act c) rs qs plain h k = (h.0 ∙ sym k.0, h.1 ∙ sym k.1)
+
+one_answers : (F : Meanings) (m a b : Moment) (r : Request) (rs qs : List Reply) → (r ≡ Asks grammar.Stabilize → ⊥) → Answers F m r a rs → Answers F m r b qs → Same a b rs qs
 one_answers F m a b TooLong rs qs other h k = (h.0 ∙ sym k.0, h.1 ∙ sym k.1)
 one_answers F m a b Blank rs qs other h k = (h.0 ∙ sym k.0, h.1 ∙ sym k.1)
 one_answers F m a b Malformed rs qs other h k = (h.0 ∙ sym k.0, h.1 ∙ sym k.1)
 one_answers F m a b TooDeep rs qs other h k = (h.0 ∙ sym k.0, h.1 ∙ sym k.1)
 one_answers F m a b (Asks l) rs qs other h k =
-    one_follows F m a b (after_check m.present (check_of F (names_of m.present) l)) rs qs
-    (plain_checked F m.present (names_of m.present) l (λ is. other (ap (λ x. Asks x) is))).plain h k
+    one_follows F m a b (verdict_of F m l) rs qs
+    (plain_verdict m (command_of F (names_of m.present) l) (first_that (holds F m l) order) (only_stabilize F (names_of m.present) l (λ is. other (ap (λ x. Asks x) is)))) h k
 
-pub one_effect : OneEffect
-one_effect F m a b line rs qs other h k =
+pub one_effect : OneRequest → OneEffect
+one_effect one_request F m a b line rs qs other h k =
     let same = one_request line k.0 h.0 k.1 h.1 in
     one_answers F m a b h.0 rs qs (λ is. other (rw is at h.1)) h.2 (rw same at k.2)
 
--- ---- one way to settle
+-- ---- a refused stabilize breaks
 
-one_showing : (F : Functions) (s : State) (xs ys zs : List Observer) → ShowAll F s xs ys → ShowAll F s xs zs → ys ≡ zs
-one_showing F s [] [] [] h k = refl
-one_showing F s [] [] (z ∷ zs) h k = absurd k
-one_showing F s [] (y ∷ ys) zs h k = absurd h
-one_showing F s (x ∷ xs) [] zs h k = absurd h
-one_showing F s (x ∷ xs) (y ∷ ys) [] h k = absurd k
-one_showing F s (x ∷ xs) (y ∷ ys) (z ∷ zs) h k =
-    let rest = one_showing F s xs ys zs h.1 k.1 in
-    let same : h.0.0 ≡ k.0.0 = one_outcome F s h.0.1.0 k.0.1.0 (Name x.target) h.0.0 k.0.0 h.0.1.1 k.0.1.1 in
-    let first : y ≡ z = h.0.2 ∙ ap (λ (o : Outcome). record x { shown = Some o }) same ∙ sym k.0.2 in
-    cc
+broken_first : (F : Meanings) (m : Moment) (l : Line) (b : Option ℕ) → m.broken ≡ b → verdict_of F m l ≡ Settle → m.broken ≡ None
+broken_first F m l None none is = none
+broken_first F m l (Some k) some is = absurd (let e = rw some at is in cc)
 
-pub settles_one_way : SettlesOneWay
-settles_one_way F s a b h k =
-    let observers = one_showing F s s.observers a.observers b.observers h.shown k.shown in
-    let entries = h.entries ∙ sym k.entries in
-    let accepted = h.accepted ∙ sym k.accepted in
-    λ i. record { entries = entries i; observers = observers i; accepted = accepted i }
+breaking_follows : (F : Meanings) (m after : Moment) (why : Refusal) (rest : List Reply) (v : Verdict) → ((r : Refusal) → v ≡ Refuse r → breaks r ≡ false) → breaks why ≡ true
+    → Follows F m v after (Refused why ∷ rest) → v ≡ Settle
+breaking_follows F m after why rest (Refuse r) plain breaking h = let is = h.1 in let e : why ≡ r = cc in let f = plain r refl in absurd (let g : breaks why ≡ false = rw e f in cc)
+breaking_follows F m after why rest Settle plain breaking h = refl
+breaking_follows F m after why rest (Act c) plain breaking h = let is = h.1 in absurd (no_refusal m.present c why (cc))
 
-stabilizes_one_way : (F : Functions) (m a b : Moment) → Stabilized F m a → Stabilized F m b → a ≡ b
-stabilizes_one_way F m a b h k =
-    let present = settles_one_way F m.present a.present b.present h.settles k.settles in
-    let settled = h.settled ∙ present ∙ sym k.settled in
-    λ i. record { settled = settled i; present = present i }
+breaking_answers : (F : Meanings) (m after : Moment) (why : Refusal) (rest : List Reply) (request : Request) → breaks why ≡ true → Answers F m request after (Refused why ∷ rest) → m.broken ≡ None
+breaking_answers F m after why rest TooLong breaking h = let is = h.1 in let e : why ≡ LineTooLong = cc in absurd (let g : breaks why ≡ false = rw e refl in cc)
+breaking_answers F m after why rest Blank breaking h = let is = h.1 in absurd (cc)
+breaking_answers F m after why rest Malformed breaking h = let is = h.1 in let e : why ≡ NoCommand = cc in absurd (let g : breaks why ≡ false = rw e refl in cc)
+breaking_answers F m after why rest TooDeep breaking h = let is = h.1 in let e : why ≡ LineTooDeep = cc in absurd (let g : breaks why ≡ false = rw e refl in cc)
+breaking_answers F m after why rest (Asks l) breaking h =
+    broken_first F m l m.broken refl
+    (breaking_follows F m after why rest (verdict_of F m l) (verdict_is_plain m (command_of F (names_of m.present) l) (first_that (holds F m l) order)) breaking h)
 
-any_answers : (F : Functions) (m a b : Moment) (r : Request) (rs qs : List Reply) → Answers F m r a rs → Answers F m r b qs → Same a b rs qs
-any_answers F m a b (Asks grammar.Stabilize) rs qs h k = (stabilizes_one_way F m a b h.0 k.0, h.1 ∙ sym k.1)
-any_answers F m a b r rs qs h k = one_answers F m a b r rs qs (λ is. cc) h k
-
--- a stabilize too has one effect
-pub any_effect : (F : Functions) (m a b : Moment) (line : List ℕ) (rs qs : List Reply) → Step F m line a rs → Step F m line b qs → (a ≡ b) × (rs ≡ qs)
-any_effect F m a b line rs qs h k =
-    let same = one_request line k.0 h.0 k.1 h.1 in
-    any_answers F m a b h.0 rs qs h.2 (rw same at k.2)
+pub refused_stabilizes_break : RefusedStabilizesBreak
+refused_stabilizes_break F m after line why rest step breaking =
+    (breaking_answers F m after why rest step.0 breaking step.2, (answer_leads F m after why rest step.0 step.2).broken breaking)

@@ -1,455 +1,324 @@
 -- Every line keeps the states valid.
-use Rattle.std.proofs.Common.{◌≡◌, ◌⊎◌, inl, inr, ℕ, zero, suc, ◌+◌, ◌<◌, ◌≤◌, Bool, true, false, not, cond, List, [], ◌∷◌, ◌++◌, length, map, slice_get, if◌then◌else◌, Option, None, Some, is_some, refl, sym, ◌∙◌, ap, subst, arith}
-use Rattle.std.proofs.lemmas.Bool.{ltb-false}
-use Rattle.std.proofs.lemmas.List.{length-append}
-use Rattle.std.proofs.lemmas.List.Sums.{sum_by-append, sum_by-cons}
-use Rattle.std.proofs.lemmas.Option.{slice_get_within}
-use Rattle.std.specs.List.{sum_by}
-use Rattle.std.specs.Str.{bytes_eq}
-use Rattle.inc_value.proofs.SameTypes.{ty_true, types_true}
-use Rattle.inc_value.specs.Ty.{same_ty, same_types}
-use Rattle.inc_value.specs.Value.{type_of}
+use Rattle.std.proofs.Common.{◌≡◌, ℕ, zero, suc, ◌+◌, ◌<◌, ◌^◌, true, false, not, cond, List, [], ◌∷◌, length, slice_get, Option, None, Some, refl, sym, subst, arith}
+use Rattle.std.specs.Prelude as std
+use Rattle.std.specs.Prelude.{nat_lt, nat_le, nat_eq, is_none, is_some, unwrap_or}
+use Rattle.std.specs.List.{list_any}
+use Rattle.std.proofs.lemmas.Bool.{ltb-false, leb-false, ltb-true}
 use Rattle.inc_value.specs.declared.function.FnRef.{FnRef}
+use Rattle.inc_value.specs.declared.ty.Ty.TheVariants as ty
 use Rattle.inc_value.specs.declared.ty.Ty.{Ty}
-use Rattle.inc_value.specs.declared.value.Value.{Value}
+use Rattle.inc_value.proofs.SameTypes.{types_true}
+use Rattle.inc_value.specs.Ty.{same_types}
 use Rattle.script_model.specs.Check as check
-use Rattle.script_model.specs.Check.{Reason, Checked, Command, Declared, Names, TypedFormula, TypedFormulas, Declare, Assign, Observe, Stabilize, Show, find_declared, is_in_use, is_variable, typed, typed_each, applied, before, check_of, names_of, declared_of, kind_of_body, target_of_formula, target_of_body, has_names, has_functions, type_of_base, type_of_literal, value_of_literal, ObserverUnknown, NameTaken, NameUnknown, FunctionUnknown, IllTyped, NotVariable, ObserverTaken}
-use Rattle.script_model.specs.Choice.{and_then, Every}
-use Rattle.script_model.specs.Formula.{Formula, Formulas, Body, Entry, Observer, State, Functions, entry_at, places_of, places_of_body, start, Literal, Name, Apply, End, More, Variable, Computed}
+use Rattle.script_model.specs.Check.{Kind, Command, Declared, TypedBody, TypedFormula, Reason, Declare, Assign, Link, Unlink, Stale, Take, Observe, Unobserve, Watch, Show, Advance, Stabilize, SessionBroken, NotVariable, NotBind, TimeTooLarge, TimesNotRising, SpanIsZero, BackInTime, TooManyLinks, TooManyPlaces, find_declared, kind_of, is_variable, is_bind, is_against, literal_of_type, typed, typed_top, expert_of, element_of, link_of, command_of, names_of, declared_of, kind_of_body, first_that, body_as, where_same, line_order}
+use Rattle.inc_value.specs.Choice.{and_then, Every}
+use Rattle.script_model.specs.Values.{Value}
+use Rattle.script_model.specs.Formula as model
+use Rattle.script_model.specs.Formula.{Formula, Body, Entry, State, Meanings, start, entry_at, places_of, places_of_body, links_of, links_at, nothing_kept}
 use Rattle.script_model.specs.Grammar as grammar
-use Rattle.script_model.specs.Grammar.{Line, Tree, Trees}
-use Rattle.script_model.specs.Laws.{ValidMoment, StartIsValid, StepsKeepValidity}
-use Rattle.script_model.specs.Request.{Request, TooLong, Blank, Malformed, TooDeep, Asks}
-use Rattle.script_model.specs.Settle.{ShowAll, Settles}
-use Rattle.script_model.specs.Step.{Refusal, Because, Action, Declares, Assigns, Observes, Stabilizes, Tells, Verdict, Refuse, Allow, refused_if, needs, after_check, has_too_many, with_value, find_observer, TooManyPlaces, NotStabilized, Reply, Moment, Accepts, Follows, Answers}
-use Rattle.script_model.specs.Valid.{NameHasType, HasType, ArgumentsHaveTypes, BodyHasType, ValidEntry, ValidObserver, Valid}
+use Rattle.script_model.specs.Grammar.{Line, Tree, Literal, Time}
+use Rattle.script_model.specs.Laws.{ValidMoment, StartIsValid, StepsKeepValidity, LinesKeepValidity, HaltsKeepValidity, RunsAreValid}
+use Rattle.script_model.specs.Request.{Request, TooLong, Blank, Malformed, TooDeep, Asks, IsRequest}
+use Rattle.script_model.specs.Run.{Turn, Chain, unchanged, accepted, broken}
+use Rattle.script_model.specs.Step.{Moment, Reply, Stable, first_moment, Stabilizes, settles, by_cycle, by_height, Follows, Answers, allowed, verdict_for, verdict_of, holds, order, is_barred, effect}
+use Rattle.script_model.specs.Valid.{NameHasType, HasType, BuiltFits, BodyHasType, Valid, KeepToTypes}
+use Rattle.script_model.proofs.Proper.{ProperLine, ProperLiteral, ProperTree, ProperTime, line_proper}
+use Rattle.script_model.proofs.Typing.{then_some, cond_some, same_some, some_is, either_false, none_first, not_false, get-declared, found_has, literal_of_has, folds_over, formula_has}
+use Rattle.script_model.proofs.Effects.{plain_declares_valid}
+use Rattle.script_model.proofs.Commands.{assigns_valid, links_valid, unlinks_valid, stales_valid, takes_valid, observes_valid, unobserves_valid, watches_valid, advances_valid}
+use Rattle.script_model.proofs.Settling.{settles_valid}
 
--- ---- types last
+-- ---- no reason stands against a line
 
--- a declaration of the same type and target
-record StillStands (s : State) (n : ℕ) (e : Entry) : Type 0 where
-  entry : Entry
-  stands : entry_at s n ≡ Some entry
-  same_ty_is : entry.ty ≡ e.ty
-  same_target_is : entry.target ≡ e.target
-
--- a state whose first declarations have the same types and targets
-abbrev Keeps : State → State → Type 0
-Keeps s s' = (n : ℕ) (e : Entry) → entry_at s n ≡ Some e → StillStands s' n e
-
-name_lasts : (s s' : State) (n m : ℕ) (t : Ty) (h : NameHasType s n m t) → StillStands s' m h.entry → NameHasType s' n m t
-name_lasts s s' n m t h still = record {
-  entry = still.entry;
-  earlier = h.earlier;
-  stands = still.stands;
-  typed = still.same_ty_is ∙ h.typed;
-  own = still.same_target_is ∙ h.own;
-}
-
-mutual
-  type_lasts : (s s' : State) → Keeps s s' → (n : ℕ) (f : Formula) (t : Ty) → HasType s n f t → HasType s' n f t
-  type_lasts s s' keeps n (Literal v) t h = h
-  type_lasts s s' keeps n (Name m) t h = name_lasts s s' n m t h (keeps m h.entry h.stands)
-  type_lasts s s' keeps n (Apply f arguments) t h = (types_last s s' keeps n arguments f.sig.takes h.0, h.1)
-
-  types_last : (s s' : State) → Keeps s s' → (n : ℕ) (fs : Formulas) (tys : List Ty) → ArgumentsHaveTypes s n fs tys → ArgumentsHaveTypes s' n fs tys
-  types_last s s' keeps n End [] h = tt
-  types_last s s' keeps n End (t ∷ tys) h = absurd h
-  types_last s s' keeps n (More f rest) [] h = absurd h
-  types_last s s' keeps n (More f rest) (t ∷ tys) h = (type_lasts s s' keeps n f t h.0, types_last s s' keeps n rest tys h.1)
-
-body_lasts : (s s' : State) → Keeps s s' → (n : ℕ) (b : Body) (t : Ty) → BodyHasType s n b t → BodyHasType s' n b t
-body_lasts s s' keeps n (Variable v) t h = h
-body_lasts s s' keeps n (Computed f) t h = type_lasts s s' keeps n f t h
-
-entry_lasts : (s s' : State) → Keeps s s' → (n : ℕ) (e : Entry) → ValidEntry s n e → ValidEntry s' n e
-entry_lasts s s' keeps n e h = record { typed = body_lasts s s' keeps n e.body e.ty h.typed; target_is = h.target_is }
-
-keeps_all : (s s' : State) → ((n : ℕ) (e : Entry) → entry_at s n ≡ Some e → entry_at s' n ≡ Some e) → Keeps s s'
-keeps_all s s' same n e is = record { entry = e; stands = same n e is; same_ty_is = refl; same_target_is = refl }
-
-every_lasts : {A : Type 0} (P Q : A → Type 0) → ((x : A) → P x → Q x) → (xs : List A) → Every P xs → Every Q xs
-every_lasts P Q more [] h = tt
-every_lasts P Q more (x ∷ xs) h = (more x h.0, every_lasts P Q more xs h.1)
-
-every_with : {A : Type 0} (P : A → Type 0) (xs : List A) (x : A) → Every P xs → P x → Every P (xs ++ x ∷ [])
-every_with P [] x h p = (p, tt)
-every_with P (y ∷ ys) x h p = (h.0, every_with P ys x h.1 p)
-
--- ---- names
-
--- a declared name stands somewhere
-found_at : (name : List ℕ) (es : List Entry) (d : Declared) → find_declared name (map declared_of es) ≡ Some d → (n : ℕ) × (e : Entry) × (slice_get es n ≡ Some e) × (d ≡ declared_of e)
-found_at name [] d found = absurd (cc)
-found_at name (x ∷ es) d found = go (bytes_eq name x.name) found (found_at name es d)
+none_at : (test : Reason → std.Bool) (rs : List Reason) → first_that test rs ≡ None → (k : ℕ) (r : Reason) → slice_get rs k ≡ Some r → test r ≡ false
+none_at test [] none k r at = absurd (cc)
+none_at test (x ∷ rs) none k r at = go (test x) refl none k at (none_at test rs)
   where
-    go : (b : Bool) → cond b (Some (declared_of x)) (find_declared name (map declared_of es)) ≡ Some d
-        → (find_declared name (map declared_of es) ≡ Some d → (n : ℕ) × (e : Entry) × (slice_get es n ≡ Some e) × (d ≡ declared_of e))
-        → (n : ℕ) × (e : Entry) × (slice_get (x ∷ es) n ≡ Some e) × (d ≡ declared_of e)
-    go true is later = (zero, x, refl, cc)
-    go false is later = let rest = later is in (suc rest.0, rest.1, rest.2, rest.3)
+    go : (b : std.Bool) → test x ≡ b → cond b (Some x) (first_that test rs) ≡ None → (k : ℕ) → slice_get (x ∷ rs) k ≡ Some r
+        → (first_that test rs ≡ None → (j : ℕ) (q : Reason) → slice_get rs j ≡ Some q → test q ≡ false) → test r ≡ false
+    go true is none k at rest = absurd (cc)
+    go false is none zero at rest = let same = some_is x r at in rw (← same) is
+    go false is none (suc j) at rest = rest none j r at
 
-length-declared : (es : List Entry) → length (map declared_of es) ≡ length es
-length-declared [] = refl
-length-declared (e ∷ es) = ap suc (length-declared es)
+-- of the reasons that validity rests on
+record Unopposed (F : Meanings) (s : State) (l : Line) (c : Command) : Type 0 where
+  variable : is_against F (names_of s) l NotVariable ≡ false
+  bind : is_against F (names_of s) l NotBind ≡ false
+  times : is_against F (names_of s) l TimeTooLarge ≡ false
+  rising : is_against F (names_of s) l TimesNotRising ≡ false
+  spans : is_against F (names_of s) l SpanIsZero ≡ false
+  forward : is_against F (names_of s) l BackInTime ≡ false
+  links : is_barred s c TooManyLinks ≡ false
+  places : is_barred s c TooManyPlaces ≡ false
 
-get-declared : (es : List Entry) (n : ℕ) (e : Entry) → slice_get es n ≡ Some e → slice_get (map declared_of es) n ≡ Some (declared_of e)
-get-declared [] n e is = absurd (cc)
-get-declared (x ∷ es) zero e is = let same : x ≡ e = cc in ap (λ y. Some (declared_of y)) same
-get-declared (x ∷ es) (suc n) e is = get-declared es n e is
-
--- what stands in a list that is as long
-within_longer : {s : State} {n k : ℕ} {t : Ty} (m : ℕ) → NameHasType s n m t → n ≤ k → NameHasType s k m t
-within_longer m h longer = record { entry = h.entry; earlier = omega (arith, h.earlier); stands = h.stands; typed = h.typed; own = h.own }
-
--- the target of a name is its own target, and has the type of the name
-target_has : (s : State) (n : ℕ) (e : Entry) (b : Body) → e.body ≡ b → entry_at s n ≡ Some e → ValidEntry s n e → NameHasType s (length s.entries) e.target e.ty
-target_has s n e (Variable v) body stands valid =
-    let own : e.target ≡ n = valid.target_is ∙ rw body refl in
-    let within = slice_get_within s.entries n e stands in
-    record { entry = e; earlier = rw own within; stands = ap (entry_at s) own ∙ stands; typed = refl; own = refl }
-target_has s n e (Computed (Literal v)) body stands valid =
-    let own : e.target ≡ n = valid.target_is ∙ rw body refl in
-    let within = slice_get_within s.entries n e stands in
-    record { entry = e; earlier = rw own within; stands = ap (entry_at s) own ∙ stands; typed = refl; own = refl }
-target_has s n e (Computed (Name m)) body stands valid =
-    let other : e.target ≡ m = valid.target_is ∙ rw body refl in
-    let named : NameHasType s n m e.ty = rw body at valid.typed in
-    let within = slice_get_within s.entries n e stands in
-    rw other (within_longer m named (omega (arith, within)))
-target_has s n e (Computed (Apply f fs)) body stands valid =
-    let own : e.target ≡ n = valid.target_is ∙ rw body refl in
-    let within = slice_get_within s.entries n e stands in
-    record { entry = e; earlier = rw own within; stands = ap (entry_at s) own ∙ stands; typed = refl; own = refl }
-
-found_has : (s : State) → Valid s → (name : List ℕ) (d : Declared) → find_declared name (map declared_of s.entries) ≡ Some d → NameHasType s (length s.entries) d.target d.ty
-found_has s valid name d found =
-    let there = found_at name s.entries d found in
-    rw there.3 (target_has s there.0 there.1 there.1.body refl there.2 (valid.entries there.0 there.1 there.2))
-
--- ---- formulas
-
-literal_typed : (literal : grammar.Literal) → type_of (value_of_literal literal) ≡ type_of_literal literal
-literal_typed (grammar.Integer z) = refl
-literal_typed (grammar.Truth b) = refl
-literal_typed (grammar.Quoted content) = refl
-
-module _ (F : Functions) (s : State) (valid : Valid s) where
-  abbrev Typed : TypedFormula → Type 0
-  Typed t = HasType s (length s.entries) t.formula t.ty
-
-  abbrev AllTyped : TypedFormulas → Type 0
-  AllTyped ts = ArgumentsHaveTypes s (length s.entries) ts.formulas ts.tys
-
-  applied_typed : (f : FnRef) (ts : TypedFormulas) (t : TypedFormula) → AllTyped ts → applied f ts ≡ Some t → Typed t
-  applied_typed f ts t all is = go (same_types f.sig.takes ts.tys) refl is
-    where
-      go : (b : Bool) → same_types f.sig.takes ts.tys ≡ b → (if b then Some (record { formula = Apply f ts.formulas; ty = f.sig.gives }) else None) ≡ Some t → Typed t
-      go true same e =
-          let takes : ts.tys ≡ f.sig.takes = sym (types_true f.sig.takes ts.tys same) in
-          let whole : record { formula = Apply f ts.formulas; ty = f.sig.gives } ≡ t = cc in
-          subst Typed whole (subst (λ tys. ArgumentsHaveTypes s (length s.entries) ts.formulas tys) takes all, refl)
-      go false same e = absurd (cc)
-
-  mentioned_typed : (name : List ℕ) (found : Option Declared) (t : TypedFormula) → find_declared name (map declared_of s.entries) ≡ found
-      → and_then found (λ d. Some (record { formula = Name d.target; ty = d.ty })) ≡ Some t → Typed t
-  mentioned_typed name None t is e = absurd (cc)
-  mentioned_typed name (Some d) t is e =
-      let whole : record { formula = Name d.target; ty = d.ty } ≡ t = cc in
-      subst Typed whole (found_has s valid name d is)
-
-  call_typed : (found : Option FnRef) (each : Option TypedFormulas) (t : TypedFormula) → ((ts : TypedFormulas) → each ≡ Some ts → AllTyped ts)
-      → and_then found (λ f. and_then each (λ ts. applied f ts)) ≡ Some t → Typed t
-  call_typed None each t all e = absurd (cc)
-  call_typed (Some f) None t all e = absurd (cc)
-  call_typed (Some f) (Some ts) t all e = applied_typed f ts t (all ts refl) e
-
-  more_typed : (first : Option TypedFormula) (rest : Option TypedFormulas) (ts : TypedFormulas) → ((t : TypedFormula) → first ≡ Some t → Typed t)
-      → ((us : TypedFormulas) → rest ≡ Some us → AllTyped us) → and_then first (λ t. and_then rest (λ us. Some (before t us))) ≡ Some ts → AllTyped ts
-  more_typed None rest ts one others e = absurd (cc)
-  more_typed (Some t) None ts one others e = absurd (cc)
-  more_typed (Some t) (Some us) ts one others e =
-      let whole : before t us ≡ ts = cc in
-      subst AllTyped whole (one t refl, others us refl)
-
-  mutual
-    formula_typed : (tree : Tree) (t : TypedFormula) → typed F (names_of s) tree ≡ Some t → Typed t
-    formula_typed (grammar.Written literal) t e =
-        let whole : record { formula = Literal (value_of_literal literal); ty = type_of_literal literal } ≡ t = cc in
-        subst Typed whole (literal_typed literal)
-    formula_typed (grammar.Mention name) t e = mentioned_typed name (find_declared name (map declared_of s.entries)) t refl e
-    formula_typed (grammar.Call function arguments) t e = call_typed (F.named function) (typed_each F (names_of s) arguments) t (formulas_typed arguments) e
-
-    formulas_typed : (trees : Trees) (ts : TypedFormulas) → typed_each F (names_of s) trees ≡ Some ts → AllTyped ts
-    formulas_typed grammar.End ts e =
-        let whole : record { formulas = End; tys = [] } ≡ ts = cc in
-        subst AllTyped whole tt
-    formulas_typed (grammar.More first rest) ts e = more_typed (typed F (names_of s) first) (typed_each F (names_of s) rest) ts (formula_typed first) (formulas_typed rest) e
-
--- ---- what a command that is allowed does
-
--- a declaration that may be the next one
-record MayFollow (s : State) (e : Entry) : Type 0 where
-  valid : ValidEntry s (length s.entries) e
-  room : places_of s + places_of_body e.body ≤ 1048575
-
--- a variable that may have the value
-record MayHave (s : State) (n : ℕ) (v : Value) : Type 0 where
-  entry : Entry
-  stands : entry_at s n ≡ Some entry
-  present : Value
-  body : entry.body ≡ Variable present
-  typed : type_of v ≡ entry.ty
-
--- what is declared may be the next, what is set may have the value, and what is observed is declared
-abbrev Sound : State → Verdict → Type 0
-Sound s (Allow (Declares e)) = MayFollow s e
-Sound s (Allow (Assigns n v)) = MayHave s n v
-Sound s (Allow (Observes o)) = ValidObserver s o
-Sound s v = Unit {0}
-
-record CheckedSound (s : State) (checked : Checked) : Type 0 where
-  sound : Sound s (after_check s checked)
-
-sound_unless : (s : State) (b : Bool) (why : Refusal) (v : Verdict) → (b ≡ false → Sound s v) → Sound s (refused_if b why v)
-sound_unless s true why v sound = tt
-sound_unless s false why v sound = sound refl
-
-sound_needs : {A : Type 0} (s : State) (o : Option A) (why : Refusal) (next : A → Verdict) → ((x : A) → o ≡ Some x → Sound s (next x)) → Sound s (needs o why next)
-sound_needs s None why next sound = tt
-sound_needs s (Some x) why next sound = sound x refl
-
-checked_unless : (s : State) (b : Bool) (why : Reason) (c : Checked) → (b ≡ false → CheckedSound s c) → CheckedSound s (check.refused_if b why c)
-checked_unless s true why c sound = record { sound = tt }
-checked_unless s false why c sound = sound refl
-
-checked_needs : {A : Type 0} (s : State) (o : Option A) (why : Reason) (next : A → Checked) → ((x : A) → o ≡ Some x → CheckedSound s (next x)) → CheckedSound s (check.needs o why next)
-checked_needs s None why next sound = record { sound = tt }
-checked_needs s (Some x) why next sound = sound x refl
-
-declare_sound : (s : State) (name : List ℕ) (t : Ty) (body : Body) (target : ℕ) → BodyHasType s (length s.entries) body t → target ≡ target_of_body (length s.entries) body
-    → CheckedSound s (check.Allow (Declare name t body target))
-declare_sound s name t body target typed is = record {
-  sound = sound_unless s (has_too_many s body) TooManyPlaces _ (λ few. record {
-    valid = record { typed = typed; target_is = is };
-    room = ltb-false 1048575 (places_of s + places_of_body body) few;
-  });
+unopposed : (F : Meanings) (m : Moment) (l : Line) (c : Command) → command_of F (names_of m.present) l ≡ Some c
+    → first_that (holds F m l) order ≡ None → Unopposed F m.present l c
+unopposed F m l c is none = record {
+  variable = (either_false _ _ (none_at (holds F m l) order none 7 NotVariable refl)).0;
+  bind = (either_false _ _ (none_at (holds F m l) order none 8 NotBind refl)).0;
+  times = (either_false _ _ (none_at (holds F m l) order none 11 TimeTooLarge refl)).0;
+  rising = (either_false _ _ (none_at (holds F m l) order none 12 TimesNotRising refl)).0;
+  spans = (either_false _ _ (none_at (holds F m l) order none 13 SpanIsZero refl)).0;
+  forward = (either_false _ _ (none_at (holds F m l) order none 14 BackInTime refl)).0;
+  links = rw is at (none_at (holds F m l) order none 18 TooManyLinks refl);
+  places = rw is at (none_at (holds F m l) order none 19 TooManyPlaces refl);
 }
 
-show_sound : (s : State) (observer : List ℕ) → CheckedSound s (check.Allow (Show observer))
-show_sound s observer = record {
-  sound = sound_needs s (find_observer observer s.observers) (Because ObserverUnknown) _ (λ x found. sound_needs s x.shown NotStabilized _ (λ o shown. tt));
-}
+module _ (F : Meanings) (s : State) (valid : Valid F s) where
+  -- where the next declaration will stand
+  abbrev here : ℕ
+  here = length s.entries
 
-not_false : (b : Bool) → not b ≡ false → b ≡ true
-not_false true is = refl
-not_false false is = absurd (cc)
+  -- ---- what a `let` and an expert declare
 
--- a declaration that the test passes is a variable
-is_declared_variable : (b : Body) (d : Declared) → d.kind ≡ kind_of_body b → is_variable (Some d) ≡ true → (v : Value) × (b ≡ Variable v)
-is_declared_variable (Variable v) d kind is = (v, refl)
-is_declared_variable (Computed f) d kind is = let no = rw kind at is in absurd (cc)
+  -- a body with its type, which is no grab
+  record MayStand (t : TypedBody) : Type 0 where
+    typed : BodyHasType F s here t.body t.ty
+    plain : (bind : ℕ) (v : Value) → t.body ≡ model.Grab bind v true → ⊥
 
-assign_sound : (s : State) → Valid s → (name : List ℕ) (literal : grammar.Literal) (d : Declared) → find_declared name (map declared_of s.entries) ≡ Some d
-    → is_variable (slice_get (map declared_of s.entries) d.target) ≡ true → same_ty (type_of_literal literal) d.ty ≡ true → CheckedSound s (check.Allow (Assign d.target (value_of_literal literal)))
-assign_sound s valid name literal d found variable same =
-    let has = found_has s valid name d found in
-    let there = get-declared s.entries d.target has.entry has.stands in
-    let is = is_declared_variable has.entry.body (declared_of has.entry) refl (rw there at variable) in
-    record {
-      sound = record {
-        entry = has.entry;
-        stands = has.stands;
-        present = is.0;
-        body = is.1;
-        typed = literal_typed literal ∙ ty_true _ _ same ∙ sym has.typed;
-      };
-    }
+  stand_as : (body : Body) (u : Ty) (t : TypedBody) → MayStand (record { body = body; ty = u }) → body_as body u ≡ Some t → MayStand t
+  stand_as body u t may e = subst MayStand (some_is (record { body = body; ty = u }) t e) may
 
-same_target : (s : State) (f : Formula) → target_of_formula (length (map declared_of s.entries)) f ≡ target_of_body (length s.entries) (Computed f)
-same_target s f = ap (λ n. target_of_formula n f) (length-declared s.entries)
+  nothing_built : (f : Formula) → BuiltFits F s here f nothing_kept
+  nothing_built (model.Bind left body) = λ o is. absurd (cc)
+  nothing_built f = refl
 
-checked_sound : (F : Functions) (s : State) → Valid s → (l : Line) → CheckedSound s (check_of F (names_of s) l)
-checked_sound F s valid (grammar.Var name base first) =
-    checked_unless s (is_some (find_declared name (map declared_of s.entries))) NameTaken _ (λ free.
-    checked_unless s (not (same_ty (type_of_literal first) (type_of_base base))) IllTyped _ (λ same.
-    declare_sound s name (type_of_base base) (Variable (value_of_literal first)) (length (map declared_of s.entries))
-    (literal_typed first ∙ ty_true (type_of_literal first) (type_of_base base) (not_false (same_ty (type_of_literal first) (type_of_base base)) same)) (length-declared s.entries)))
-checked_sound F s valid (grammar.Set name literal) =
-    checked_needs s (find_declared name (map declared_of s.entries)) NameUnknown _ (λ d found.
-    checked_unless s (not (is_variable (slice_get (map declared_of s.entries) d.target))) NotVariable _ (λ variable.
-    checked_unless s (not (same_ty (type_of_literal literal) d.ty)) IllTyped _ (λ same.
-    assign_sound s valid name literal d found (not_false (is_variable (slice_get (map declared_of s.entries) d.target)) variable) (not_false (same_ty (type_of_literal literal) d.ty) same))))
-checked_sound F s valid (grammar.Let name tree) =
-    checked_unless s (is_some (find_declared name (map declared_of s.entries))) NameTaken _ (λ free.
-    checked_unless s (not (has_names (names_of s) tree)) NameUnknown _ (λ named.
-    checked_unless s (not (has_functions F tree)) FunctionUnknown _ (λ have.
-    checked_needs s (typed F (names_of s) tree) IllTyped _ (λ t is.
-    declare_sound s name t.ty (Computed t.formula) (target_of_formula (length (map declared_of s.entries)) t.formula) (formula_typed F s valid tree t is) (same_target s t.formula)))))
-checked_sound F s valid (grammar.Observe observer name) =
-    checked_unless s (is_in_use observer (names_of s).observers) ObserverTaken _ (λ free.
-    checked_needs s (find_declared name (map declared_of s.entries)) NameUnknown (λ d. check.Allow (Observe observer d.target)) (λ d found.
-    record { sound = (found_has s valid name d found).earlier }))
-checked_sound F s valid grammar.Stabilize = record { sound = tt }
-checked_sound F s valid (grammar.Show observer) =
-    checked_unless s (not (is_in_use observer (names_of s).observers)) ObserverUnknown _ (λ used. show_sound s observer)
+  plain_stands : (tree : Tree) (t : TypedBody) → ProperTree tree → list_any check.has_falling_times (check.trees_in tree) ≡ false
+      → and_then (typed F (names_of s) [] tree) (λ f. body_as (model.Computed f.formula nothing_kept) f.ty) ≡ Some t → MayStand t
+  plain_stands tree t proper rise e =
+      let f = then_some (typed F (names_of s) [] tree) _ t e in
+      let has = formula_has F s valid [] tree f.0 proper rise f.1 in
+      stand_as (model.Computed f.0.formula nothing_kept) f.0.ty t
+      (record { typed = (has, nothing_built f.0.formula); plain = λ bind v is. absurd (cc) }) f.2
 
--- ---- states
+  frozen_stands : (c : TypedFormula) (predicate : List ℕ) (f : FnRef) (t : TypedBody) → F.named predicate ≡ Some f
+      → HasType F s here [] c.formula c.ty → check.frozen_when c f ≡ Some t → MayStand t
+  frozen_stands c predicate f t named has e =
+      let frozen = body_as (model.Freeze c.formula f None) c.ty in
+      let takes = cond_some (same_types f.sig.takes (c.ty ∷ [])) (where_same f.sig.gives ty.Bool frozen) t e in
+      let gives = same_some f.sig.gives ty.Bool frozen t takes.1 in
+      stand_as (model.Freeze c.formula f None) c.ty t (record {
+        typed = (has, (predicate, named), types_true f.sig.takes (c.ty ∷ []) takes.0, gives.0, λ v is. absurd (cc));
+        plain = λ bind v is. absurd (cc);
+      }) gives.1
 
-get_front : (es : List Entry) (e x : Entry) (n : ℕ) → slice_get es n ≡ Some x → slice_get (es ++ e ∷ []) n ≡ Some x
-get_front [] e x n is = absurd (cc)
-get_front (y ∷ es) e x zero is = is
-get_front (y ∷ es) e x (suc n) is = get_front es e x n is
+  positive : (n : ℕ) → nat_eq n 0 ≡ false → 0 < n
+  positive zero other = absurd (cc)
+  positive (suc n) other = omega arith
 
--- one of the front, or the last
-get_either : (es : List Entry) (e x : Entry) (n : ℕ) → slice_get (es ++ e ∷ []) n ≡ Some x → (slice_get es n ≡ Some x) ⊎ ((n ≡ length es) × (x ≡ e))
-get_either [] e x zero is = inr (refl, cc)
-get_either [] e x (suc n) is = absurd (cc)
-get_either (y ∷ es) e x zero is = inl is
-get_either (y ∷ es) e x (suc n) is = elim (get_either es e x n is) [
-  | inl front ↦ inl front
-  | inr last ↦ let same : suc n ≡ suc (length es) = ap suc last.0 in inr (same, last.1)
-]
+  clocks_stand : (name : List ℕ) (span : Time) (t : TypedBody) (c : Command)
+      → Unopposed F s (grammar.Let name (grammar.Every span)) c → typed_top F (names_of s) (grammar.Every span) ≡ Some t → MayStand t
+  clocks_stand name None t c free e = let no = free.times in absurd (cc)
+  clocks_stand name (Some span) t c free e =
+      let more = positive span (either_false (nat_eq span 0) false free.spans).0 in
+      stand_as (model.Every s.now span) ty.Int t (record { typed = (refl, more, omega arith); plain = λ bind v is. absurd (cc) }) e
 
-abbrev with_entry : State → Entry → State
-with_entry s e = record s { entries = s.entries ++ e ∷ [] }
+  let_stands : (name : List ℕ) (tree : Tree) (t : TypedBody) (c : Command) → ProperTree tree
+      → Unopposed F s (grammar.Let name tree) c → typed_top F (names_of s) tree ≡ Some t → MayStand t
+  let_stands name (grammar.Freeze child predicate) t c proper free e =
+      let f = then_some (typed F (names_of s) [] child) _ t e in
+      let g = then_some (F.named predicate) _ t f.2 in
+      frozen_stands f.0 predicate g.0 t g.1 (formula_has F s valid [] child f.0 proper free.rising f.1) g.2
+  let_stands name (grammar.After span) t c proper free e =
+      stand_as (model.After (s.now + unwrap_or span 0)) ty.Bool t (record { typed = refl; plain = λ bind v is. absurd (cc) }) e
+  let_stands name (grammar.Every span) t c proper free e = clocks_stand name span t c free e
+  let_stands name tree t c proper free e = plain_stands tree t proper free.rising e
 
-declares_valid : (s : State) (e : Entry) → Valid s → MayFollow s e → Valid (with_entry s e)
-declares_valid s e valid new = record { entries = each; observers = every_lasts _ _ still s.observers valid.observers; places = room }
-  where
-    keeps : Keeps s (with_entry s e)
-    keeps = keeps_all s (with_entry s e) (λ n x is. get_front s.entries e x n is)
+  expert_stands : (function : List ℕ) (f : FnRef) (first : Literal) (t : TypedBody) → F.named function ≡ Some f
+      → ProperLiteral first → expert_of (names_of s) first f ≡ Some t → MayStand t
+  expert_stands function f first t named proper e =
+      let element = then_some (element_of f f.sig.takes) _ t e in
+      let begins = then_some (literal_of_type (names_of s) f.sig.gives first) _ t element.2 in
+      stand_as (model.Expert f begins.0 [] 0) f.sig.gives t (record {
+        typed = (
+          element.0,
+          (function, named),
+          folds_over F s valid f f.sig.takes element.0 refl element.1,
+          literal_of_has F s valid f.sig.gives first begins.0 proper begins.1,
+          tt,
+          omega arith,
+        );
+        plain = λ bind v is. absurd (cc);
+      }) begins.2
 
-    room : places_of (with_entry s e) ≤ 1048575
-    room = omega (arith, sum_by-append (λ (x : Entry). places_of_body x.body) s.entries (e ∷ []), new.room)
+  declare_valid : (name : List ℕ) (t : TypedBody) → MayStand t → is_barred s (Declare name t.ty t.body) TooManyPlaces ≡ false
+      → Valid F (effect s (Declare name t.ty t.body))
+  declare_valid name t may few =
+      plain_declares_valid F s name t.ty t.body valid may.plain may.typed (ltb-false 1048575 (places_of s + places_of_body t.body) few)
 
-    still : (o : Observer) → ValidObserver s o → ValidObserver (with_entry s e) o
-    still o below = omega (arith, length-append s.entries (e ∷ []))
+  -- ---- how names were declared
 
-    each : (n : ℕ) (x : Entry) → entry_at (with_entry s e) n ≡ Some x → ValidEntry (with_entry s e) n x
-    each n x is = elim (get_either s.entries e x n is) [
-      | inl front ↦ entry_lasts s (with_entry s e) keeps n x (valid.entries n x front)
-      | inr last ↦ rw (last.0, last.1) (entry_lasts s (with_entry s e) keeps (length s.entries) e new.valid)
-    ]
+  kind_there : (name : List ℕ) (d : Declared) (e : Entry) → find_declared (names_of s) name ≡ Some d
+      → entry_at s d.target ≡ Some e → kind_of (names_of s) name ≡ Some (kind_of_body e.body)
+  kind_there name d e found stands = rw (found, get-declared s.entries d.target e stands) refl
 
--- one with its value, or another one as it was
-get_set : (es : List Entry) (n : ℕ) (v : Value) (m : ℕ) (x : Entry) → slice_get (with_value es n v) m ≡ Some x
-    → (slice_get es m ≡ Some x) ⊎ ((m ≡ n) × (e : Entry) × (slice_get es n ≡ Some e) × (x ≡ record e { body = Variable v }))
-get_set [] n v m x is = absurd (cc)
-get_set (e ∷ es) zero v zero x is = inr (refl, e, refl, cc)
-get_set (e ∷ es) zero v (suc m) x is = inl is
-get_set (e ∷ es) (suc n) v zero x is = inl is
-get_set (e ∷ es) (suc n) v (suc m) x is = elim (get_set es n v m x is) [
-  | inl other ↦ inl other
-  | inr there ↦ inr (ap suc there.0, there.1, there.2, there.3)
-]
+  variable_is : (b : Body) → is_variable (Some (kind_of_body b)) ≡ true → (v : Value) × (b ≡ model.Variable v)
+  variable_is (model.Variable v) is = (v, refl)
+  variable_is (model.Computed (model.Bind left body) kept) is = absurd (cc)
+  variable_is b is = absurd (cc)
 
--- every declaration keeps its type and target
-set_keeps : (es : List Entry) (n : ℕ) (v : Value) (m : ℕ) (e : Entry) → slice_get es m ≡ Some e
-    → (x : Entry) × (slice_get (with_value es n v) m ≡ Some x) × (x.ty ≡ e.ty) × (x.target ≡ e.target)
-set_keeps [] n v m e is = absurd (cc)
-set_keeps (y ∷ es) zero v zero e is = let same : y ≡ e = cc in (record y { body = Variable v }, refl, ap (λ (x : Entry). x.ty) same, ap (λ (x : Entry). x.target) same)
-set_keeps (y ∷ es) zero v (suc m) e is = (e, is, refl, refl)
-set_keeps (y ∷ es) (suc n) v zero e is = (e, is, refl, refl)
-set_keeps (y ∷ es) (suc n) v (suc m) e is = set_keeps es n v m e is
+  bind_is : (k : Kind) → is_bind (Some k) ≡ true → k ≡ check.Bind
+  bind_is check.Bind is = refl
+  bind_is k is = absurd (cc)
 
-length-with_value : (es : List Entry) (n : ℕ) (v : Value) → length (with_value es n v) ≡ length es
-length-with_value [] n v = refl
-length-with_value (e ∷ es) zero v = refl
-length-with_value (e ∷ es) (suc n) v = ap suc (length-with_value es n v)
+  only_one : {A : Type 0} (p : A → std.Bool) (x : A) → list_any (λ y. not (p y)) (x ∷ []) ≡ false → p x ≡ true
+  only_one p x e = not_false (p x) (none_first (λ y. not (p y)) x [] e).0
 
--- a variable counts one place, whatever its value
-abbrev places_in_entry : Entry → ℕ
-places_in_entry e = places_of_body e.body
+  -- ---- what each command changes
 
-places_stay : (es : List Entry) (n : ℕ) (v w : Value) (e : Entry) → slice_get es n ≡ Some e → e.body ≡ Variable w → sum_by places_in_entry (with_value es n v) ≡ sum_by places_in_entry es
-places_stay [] n v w e is body = absurd (cc)
-places_stay (y ∷ es) zero v w e is body =
-    let same : y ≡ e = cc in
-    let one : 1 ≡ places_of_body y.body = rw (same, body) refl in
-    sum_by-cons places_in_entry (record y { body = Variable v }) es ∙ ap (λ k. k + sum_by places_in_entry es) one ∙ sym (sum_by-cons places_in_entry y es)
-places_stay (y ∷ es) (suc n) v w e is body =
-    sum_by-cons places_in_entry y (with_value es n v) ∙ ap (λ k. places_in_entry y + k) (places_stay es n v w e is body) ∙ sym (sum_by-cons places_in_entry y es)
+  -- where the command is the one that a line comes to
+  as_command : (l : Line) (d c : Command) → Some d ≡ Some c → Unopposed F s l c → (Unopposed F s l d → Valid F (effect s d)) → Valid F (effect s c)
+  as_command l d c e free may = let same = some_is d c e in subst (λ x. Valid F (effect s x)) same (may (subst (Unopposed F s l) (sym same) free))
 
-abbrev with_set : State → ℕ → Value → State
-with_set s n v = record s { entries = with_value s.entries n v }
+  links_there : (n : ℕ) (e : Entry) → entry_at s n ≡ Some e → links_at s n ≡ links_of e.body
+  links_there n e stands = rw (links_at, stands) refl
 
-assigns_valid : (s : State) (n : ℕ) (v : Value) → Valid s → MayHave s n v → Valid (with_set s n v)
-assigns_valid s n v valid may = record {
-  entries = each;
-  observers = subst (λ k. Every (λ (o : Observer). o.target < k) s.observers) (sym (length-with_value s.entries n v)) valid.observers;
-  places = rw (places_stay s.entries n v may.present may.entry may.stands may.body) valid.places;
-}
-  where
-    keeps : Keeps s (with_set s n v)
-    keeps m e is = let still = set_keeps s.entries n v m e is in record { entry = still.0; stands = still.1; same_ty_is = still.2; same_target_is = still.3 }
+  link_valid : (n : ℕ) (k : Kind) (e : Entry) (d : Declared) (l : Line) (c : Command) → entry_at s n ≡ Some e
+      → kind_of_body e.body ≡ k → NameHasType s here d.target d.ty
+      → link_of (Some k) n d ≡ Some c → Unopposed F s l c → Valid F (effect s c)
+  link_valid n (check.Expert t) e d l c stands kind named is free =
+      let same = same_some d.ty t (Some (Link n d.target)) c is in
+      as_command l (Link n d.target) c same.1 free (λ may.
+      let few : nat_le 4096 (length (links_at s n)) ≡ false = may.links in
+      links_valid F s valid n d.target t e stands kind (subst (λ u. NameHasType s here d.target u) same.0 named)
+      (leb-false 4096 (length (links_of e.body)) (rw (links_there n e stands) at few)))
+  link_valid n k e d l c stands kind named is free = absurd (cc)
 
-    set_entry : (e : Entry) → slice_get s.entries n ≡ Some e → ValidEntry (with_set s n v) n (record e { body = Variable v })
-    set_entry e is =
-        let same : may.entry ≡ e = cc in
-        let valid_entry = valid.entries n may.entry may.stands in
-        let own : may.entry.target ≡ n = valid_entry.target_is ∙ rw may.body refl in
-        rw (← same) (record { typed = may.typed; target_is = own })
+  advance_valid : (span : Time) (c : Command) → Some (Advance (s.now + unwrap_or span 0)) ≡ Some c
+      → Unopposed F s (grammar.Advance span) c → Valid F (effect s c)
+  advance_valid None c is free = let no = free.times in absurd (cc)
+  advance_valid (Some span) c is free =
+      as_command (grammar.Advance (Some span)) (Advance (s.now + span)) c is free
+      (λ may. advances_valid F s valid (s.now + span) (omega arith)
+      (ltb-true (s.now + span) (2 ^ 63) (not_false _ (either_false _ false free.times).0)))
 
-    each : (m : ℕ) (x : Entry) → entry_at (with_set s n v) m ≡ Some x → ValidEntry (with_set s n v) m x
-    each m x is = elim (get_set s.entries n v m x is) [
-      | inl other ↦ entry_lasts s (with_set s n v) keeps m x (valid.entries m x other)
-      | inr there ↦ rw (there.0, there.3) (set_entry there.1 there.2)
-    ]
+  advance_to_valid : (time : Time) (c : Command) → ProperTime time → Some (Advance (unwrap_or time 0)) ≡ Some c
+      → Unopposed F s (grammar.AdvanceTo time) c → Valid F (effect s c)
+  advance_to_valid None c proper is free = let no = free.times in absurd (cc)
+  advance_to_valid (Some time) c proper is free =
+      as_command (grammar.AdvanceTo (Some time)) (Advance time) c is free
+      (λ may. advances_valid F s valid time (ltb-false time s.now may.forward) proper)
 
-observes_valid : (s : State) (o : Observer) → Valid s → ValidObserver s o → Valid (record s { observers = s.observers ++ o ∷ [] })
-observes_valid s o valid new = record {
-  entries = λ n e is. entry_lasts s (record s { observers = s.observers ++ o ∷ [] }) (keeps_all s (record s { observers = s.observers ++ o ∷ [] }) (λ m x there. there)) n e (valid.entries n e is);
-  observers = every_with _ s.observers o valid.observers new;
-  places = valid.places;
-}
-
--- an observer that shows its outcome looks at the same declaration
-showing_valid : (F : Functions) (s : State) (P : ℕ → Type 0) (xs ys : List Observer) → ShowAll F s xs ys → Every (λ (o : Observer). P o.target) xs → Every (λ (o : Observer). P o.target) ys
-showing_valid F s P [] [] h every = tt
-showing_valid F s P [] (y ∷ ys) h every = absurd h
-showing_valid F s P (x ∷ xs) [] h every = absurd h
-showing_valid F s P (x ∷ xs) (y ∷ ys) h every =
-    let same : x.target ≡ y.target = sym (ap (λ (o : Observer). o.target) h.0.2) in
-    (rw same at every.0, showing_valid F s P xs ys h.1 every.1)
-
-settles_valid : (F : Functions) (s after : State) → Settles F s after → Valid s → Valid after
-settles_valid F s after h valid =
-    let keeps : Keeps s after = keeps_all s after (λ n e is. rw h.entries is) in
-    record {
-      entries = λ n e is. entry_lasts s after keeps n e (valid.entries n e (rw h.entries at is));
-      observers = showing_valid F s (λ n. n < length after.entries) s.observers after.observers h.shown (rw (← h.entries) at valid.observers);
-      places = rw h.entries valid.places;
-    }
+  effect_valid : (l : Line) (c : Command) → ProperLine l → command_of F (names_of s) l ≡ Some c → Unopposed F s l c → Valid F (effect s c)
+  effect_valid (grammar.Var name t first) c proper is free =
+      let v = then_some (literal_of_type (names_of s) t first) _ c is in
+      let may : MayStand (record { body = model.Variable v.0; ty = t }) = record {
+        typed = literal_of_has F s valid t first v.0
+            proper v.1;
+        plain = λ bind w is. absurd (cc);
+      } in
+      as_command (grammar.Var name t first) (Declare name t (model.Variable v.0)) c v.2 free
+      (λ free. declare_valid name (record { body = model.Variable v.0; ty = t }) may free.places)
+  effect_valid (grammar.Set name literal) c proper is free =
+      let d = then_some (find_declared (names_of s) name) _ c is in
+      let v = then_some (literal_of_type (names_of s) d.0.ty literal) _ c d.2 in
+      let named = found_has F s valid name d.0 d.1 in
+      let variable = variable_is named.entry.body
+      (rw (kind_there name d.0 named.entry d.1 named.stands) at (only_one (λ name. is_variable (kind_of (names_of s) name))
+      name free.variable)) in
+      as_command (grammar.Set name literal) (Assign d.0.target v.0) c v.2 free (λ may.
+      assigns_valid F s valid d.0.target v.0 variable.0 named.entry named.stands variable.1
+      (rw named.typed (literal_of_has F s valid d.0.ty literal v.0 proper v.1)))
+  effect_valid (grammar.Let name tree) c proper is free =
+      let t = then_some (typed_top F (names_of s) tree) _ c is in
+      as_command (grammar.Let name tree) (Declare name t.0.ty t.0.body) c t.2 free
+      (λ may. declare_valid name t.0 (let_stands name tree t.0 c proper free t.1) may.places)
+  effect_valid (grammar.Expert name function first) c proper is free =
+      let f = then_some (F.named function) _ c is in
+      let t = then_some (expert_of (names_of s) first f.0) _ c f.2 in
+      as_command (grammar.Expert name function first) (Declare name t.0.ty t.0.body) c t.2 free
+      (λ may. declare_valid name t.0 (expert_stands function f.0 first t.0 f.1 proper t.1) may.places)
+  effect_valid (grammar.Link expert name) c proper is free =
+      let e = then_some (find_declared (names_of s) expert) _ c is in
+      let d = then_some (find_declared (names_of s) name) _ c e.2 in
+      let at_expert = found_has F s valid expert e.0 e.1 in
+      link_valid e.0.target (kind_of_body at_expert.entry.body) at_expert.entry d.0 (grammar.Link expert name) c
+      at_expert.stands refl (found_has F s valid name d.0 d.1)
+      (subst (λ k. link_of k e.0.target d.0 ≡ Some c) (kind_there expert e.0 at_expert.entry e.1 at_expert.stands) d.2) free
+  effect_valid (grammar.Unlink expert name) c proper is free =
+      let e = then_some (find_declared (names_of s) expert) _ c is in
+      let d = then_some (find_declared (names_of s) name) _ c e.2 in
+      as_command (grammar.Unlink expert name) (Unlink e.0.target d.0.target) c d.2 free (λ may. unlinks_valid F s valid e.0.target d.0.target)
+  effect_valid (grammar.Stale expert) c proper is free =
+      let e = then_some (find_declared (names_of s) expert) _ c is in
+      as_command (grammar.Stale expert) (Stale e.0.target) c e.2 free (λ may. stales_valid F s valid e.0.target)
+  effect_valid (grammar.Grab name bind) c proper is free =
+      let b = then_some (find_declared (names_of s) bind) _ c is in
+      let named = found_has F s valid bind b.0 b.1 in
+      let kind = bind_is (kind_of_body named.entry.body) (rw
+      (kind_there bind b.0 named.entry b.1 named.stands) at (only_one (λ name. is_bind (kind_of (names_of s) name)) bind free.bind)) in
+      as_command (grammar.Grab name bind) (Take name b.0.ty b.0.target) c b.2 free (λ may.
+      takes_valid F s valid name b.0.ty b.0.target named.entry named.stands named.own named.typed kind)
+  effect_valid (grammar.Observe observer name) c proper is free =
+      let d = then_some (find_declared (names_of s) name) _ c is in
+      as_command (grammar.Observe observer name) (Observe observer d.0.target) c d.2 free
+      (λ may. observes_valid F s valid observer d.0.target d.0.ty (found_has F s valid name d.0 d.1))
+  effect_valid (grammar.Unobserve observer) c proper is free =
+      as_command (grammar.Unobserve observer) (Unobserve observer) c is free (λ may. unobserves_valid F s valid observer)
+  effect_valid (grammar.Watch observer) c proper is free =
+      as_command (grammar.Watch observer) (Watch observer) c is free (λ may. watches_valid F s valid observer)
+  effect_valid (grammar.Show observer) c proper is free = as_command (grammar.Show observer) (Show observer) c is free (λ may. valid)
+  effect_valid (grammar.Advance span) c proper is free = advance_valid span c is free
+  effect_valid (grammar.AdvanceTo time) c proper is free = advance_to_valid time c proper is free
+  effect_valid grammar.Stabilize c proper is free = as_command grammar.Stabilize Stabilize c is free (λ may. valid)
 
 -- ---- lines
 
-accepts_valid : (F : Functions) (m after : Moment) (a : Action) (replies : List Reply) → ValidMoment m → Sound m.present (Allow a) → Accepts F m a after replies → ValidMoment after
-accepts_valid F m after (Declares e) replies valid sound h = rw h.0 (valid.0, declares_valid m.present e valid.1 sound)
-accepts_valid F m after (Assigns n v) replies valid sound h = rw h.0 (valid.0, assigns_valid m.present n v valid.1 sound)
-accepts_valid F m after (Observes o) replies valid sound h = rw h.0 (valid.0, observes_valid m.present o valid.1 sound)
-accepts_valid F m after Stabilizes replies valid sound h =
-    let present = settles_valid F m.present after.present h.0.settles valid.1 in
-    (rw h.0.settled present, present)
-accepts_valid F m after (Tells name o) replies valid sound h = rw h.0 valid
+module _ (F : Meanings) (keep : KeepToTypes F) (m after : Moment) (replies : List Reply) (valid : ValidMoment F m) where
+  stabilizes_valid : Stabilizes F m after replies → ValidMoment F after
+  stabilizes_valid (settles notices free s settled unbroken is) =
+      let present = settles_valid F m.settled m.present after.present notices keep valid.1 s in
+      (rw settled present, present)
+  stabilizes_valid (by_cycle targets n judged cycle among met leads is) = rw leads valid
+  stabilizes_valid (by_height target i judged met deep printed leads is) = rw leads valid
 
-follows_valid : (F : Functions) (m after : Moment) (v : Verdict) (replies : List Reply) → ValidMoment m → Sound m.present v → Follows F m v after replies → ValidMoment after
-follows_valid F m after (Refuse why) replies valid sound h = rw h.0 valid
-follows_valid F m after (Allow a) replies valid sound h = accepts_valid F m after a replies valid sound h
+  allowed_valid : (c : Command) → Valid F (effect m.present c) → Follows F m (allowed (Some c)) after replies → ValidMoment F after
+  allowed_valid Stabilize present h = stabilizes_valid h
+  allowed_valid c present h = rw h.0 (valid.0, present)
 
-answers_valid : (F : Functions) (m after : Moment) (r : Request) (replies : List Reply) → ValidMoment m → Answers F m r after replies → ValidMoment after
-answers_valid F m after TooLong replies valid h = rw h.0 valid
-answers_valid F m after Blank replies valid h = rw h.0 valid
-answers_valid F m after Malformed replies valid h = rw h.0 valid
-answers_valid F m after TooDeep replies valid h = rw h.0 valid
-answers_valid F m after (Asks l) replies valid h =
-    follows_valid F m after (after_check m.present (check_of F (names_of m.present) l)) replies valid (checked_sound F m.present valid.1 l).sound h
+  line_valid : (l : Line) → ProperLine l → Follows F m (verdict_of F m l) after replies → ValidMoment F after
+  line_valid l proper h = go (command_of F (names_of m.present) l) refl (first_that (holds F m l) order) refl h
+    where
+      go : (c : Option Command) → command_of F (names_of m.present) l ≡ c → (why : Option Reason)
+          → first_that (holds F m l) order ≡ why → Follows F m (verdict_for m c why) after replies → ValidMoment F after
+      go c is (Some why) first h = rw h.0 valid
+      go None is None first h = rw h.0 valid
+      go (Some c) is None first h = allowed_valid c (effect_valid F m.present valid.1 l c proper is (unopposed F m l c is first)) h
+
+  answers_valid : (bytes : List ℕ) (r : Request) → IsRequest bytes r → Answers F m r after replies → ValidMoment F after
+  answers_valid bytes TooLong asks h = rw h.0 valid
+  answers_valid bytes Blank asks h = rw h.0 valid
+  answers_valid bytes Malformed asks h = rw h.0 valid
+  answers_valid bytes TooDeep asks h = rw h.0 valid
+  answers_valid bytes (Asks l) asks h = line_valid l (line_proper _ l asks.1.1.line) h
 
 pub steps_keep_validity : StepsKeepValidity
-steps_keep_validity F m after line replies valid h = answers_valid F m after h.0 replies valid h.2
+steps_keep_validity F m after line replies keep valid h = answers_valid F keep m after replies valid line h.0 h.1 h.2
 
-nothing_valid : Valid start
-nothing_valid = record { entries = λ n e is. absurd (cc); observers = tt; places = omega arith }
+pub lines_keep_validity : LinesKeepValidity
+lines_keep_validity F m after bytes l replies keep valid line h = line_valid F keep m after replies valid l (line_proper bytes l line) h
+
+pub halts_keep_validity : HaltsKeepValidity
+halts_keep_validity F m after line calls keep valid (unchanged same none) = rw same valid
+halts_keep_validity F m after line calls keep valid (accepted k replies asks answers due) =
+    answers_valid F keep m after (Stable k ∷ replies) valid _ (Asks grammar.Stabilize) asks answers
+halts_keep_validity F m after line calls keep valid (broken asks unbroken is few) = rw is valid
+
+-- ---- runs
+
+nothing_valid : (F : Meanings) → Valid F start
+nothing_valid F = record { entries = λ n e is. absurd (cc); observers = tt; now = omega arith; places = omega arith }
 
 pub start_is_valid : StartIsValid
-start_is_valid = (nothing_valid, nothing_valid)
+start_is_valid F = (nothing_valid F, nothing_valid F)
+
+chain_valid : (F : Meanings) → KeepToTypes F → (m end : Moment) (turns : List Turn) → ValidMoment F m → Chain F m turns end
+    → Every (λ (t : Turn). ValidMoment F t.before × ValidMoment F t.after) turns
+chain_valid F keep m end [] valid h = tt
+chain_valid F keep m end (t ∷ turns) valid h =
+    let before : ValidMoment F t.before = rw h.0 valid in
+    let after = answers_valid F keep t.before t.after t.replies before t.line t.request h.1.asks h.1.answers in
+    ((before, after), chain_valid F keep t.after end turns after h.2)
+
+pub runs_are_valid : RunsAreValid
+runs_are_valid F lines turns keep run = chain_valid F keep first_moment run.end turns (start_is_valid F) run.chain

@@ -1,28 +1,25 @@
 -- Where nothing changed no call is due.
-use Rattle.std.proofs.Common.{◌≡◌, ℕ, ◌≤◌, List, [], ◌∷◌, refl, arith}
-use Rattle.script_model.specs.Choice.{Every, Reaches, here, step}
-use Rattle.script_model.specs.Formula.{State, Functions}
+use Rattle.std.proofs.Common.{◌≡◌, List, [], ◌∷◌, refl, arith}
+use Rattle.inc_value.specs.Choice.{Every, Reaches, here, step}
+use Rattle.script_model.specs.Formula.{State, Meanings}
 use Rattle.script_model.specs.Laws.{NothingDueAfterSettling}
-use Rattle.script_model.specs.Need.{Item, Needed, Met, from_root, from_held, Visit, IsDue, WithinWork}
+use Rattle.script_model.specs.Need.{Item, Reads, Needed, Met, from_root, from_held, Visit, IsDue}
 
-reaches_on : {A : Type 0} {R : A → A → Type 0} (a b c : A) → Reaches R a b → Reaches R b c → Reaches R a c
-reaches_on a b c here more = more
-reaches_on a b c (step {b = x} first rest) more = step first (reaches_on x b c rest more)
+reaches_on : (F : Meanings) (s : State) (a b c : Item) → Reaches (Reads F s) a b → Reaches (Reads F s) b c → Reaches (Reads F s) a c
+reaches_on F s a b c here more = more
+reaches_on F s a b c (step {b = x} r on) more = step r (reaches_on F s x b c on more)
 
-met_needed : (s : State) (i : Item) → Met s s i → Needed s i
-met_needed s i (from_root needed) = needed
-met_needed s i (from_held {h = h} held more) = (held.root, held.is_still, reaches_on held.root h i held.reached more)
+-- what is met was needed before
+met_was_needed : (F : Meanings) (s : State) (i : Item) → Met F s s i → Needed F s i
+met_was_needed F s i (from_root needed) = needed
+met_was_needed F s i (from_held {h = h} held stands on) = (held.root, held.was, reaches_on F s held.root h i held.reached on)
 
-none_due : (F : Functions) (s : State) (vs : List Visit) → Every (IsDue F s s) vs → vs ≡ []
+none_due : (F : Meanings) (s : State) (vs : List Visit) → Every (IsDue F s s) vs → vs ≡ []
 none_due F s [] due = refl
-none_due F s (v ∷ vs) due = absurd (due.0.fresh due.0.visit (met_needed s v.item due.0.met))
-
-nothing_within : (F : Functions) (before now : State) (calls : ℕ) → before ≡ now → WithinWork F before now calls → calls ≡ 0
-nothing_within F before now calls same work =
-    let still : WithinWork F now now calls = rw same at work in
-    let none = none_due F now still.visits still.due in
-    let few : calls ≤ 0 = rw none at still.enough in
-    omega arith
+none_due F s (v ∷ vs) due = absurd (due.0.fresh due.0.visit (met_was_needed F s v.item due.0.met))
 
 pub nothing_due_after_settling : NothingDueAfterSettling
-nothing_due_after_settling F m calls same work = nothing_within F m.settled m.present calls same work
+nothing_due_after_settling F s calls within =
+    let none = none_due F s within.visits within.due in
+    let few = rw none at within.enough in
+    omega (arith, few)

@@ -1,114 +1,169 @@
 -- Laws of the definitions: what holds of every script, whatever runs it.
-use Rattle.std.specs.Prelude.{◌≡◌, ℕ, ◌≤◌, true, List, Some}
-use Rattle.std.specs.List.{list_any}
-use Rattle.inc_value.specs.Value.{type_of, HaveTypes}
-use Rattle.inc_value.specs.declared.function.FnRef.{FnRef}
-use Rattle.inc_value.specs.declared.outcome.Outcome.{Outcome}
-use Rattle.inc_value.specs.declared.outcome.Outcome.TheVariants.{Val}
-use Rattle.inc_value.specs.declared.value.Value.{Value}
-use Rattle.script_model.specs.Choice.{Reaches}
-use Rattle.script_model.specs.Formula.{Formula, Formulas, Entry, State, Functions, entry_at, Name, Apply}
-use Rattle.script_model.specs.Evaluate.{value_at, Gives}
-use Rattle.script_model.specs.Grammar.{Stabilize}
-use Rattle.script_model.specs.Need.{Item, Named, Place, formula_at, Reads, Needed, Visit, IsVisit, WithinWork}
+use Rattle.std.specs.Prelude.{◌≡◌, ℕ, ◌≤◌, true, false, List, ◌∷◌, None, Some, length, Option, [], map}
+use Rattle.inc_value.specs.Choice.{Every, Reaches}
+use Rattle.script_model.specs.Values.{Value, Outcome, Bool}
+use Rattle.inc_value.specs.declared.ty.Ty.{Ty}
+use Rattle.script_model.specs.Formula.{Formula, Entry, State, Meanings, entry_at, meanings_of, Name}
+use Rattle.script_model.specs.Evaluate.{value_at, Gives, NameGives}
+use Rattle.script_model.specs.Grammar.{Line, IsLine, Stabilize, Grab}
+use Rattle.script_model.specs.Need.{Item, Named, Needed, ItemGives, WithinWork, Met, Visit, IsVisit, Edge, Inside, Place, Reads}
+use Rattle.script_model.specs.Blocked.{OnCycle, Holds}
+use Rattle.script_model.specs.Valid.{HasType, BoundsFit, OutcomeHasType, Valid, KeepToTypes, LibraryKeepsToTypes}
 use Rattle.script_model.specs.Request.{Request, Asks, IsRequest}
-use Rattle.script_model.specs.Run.{Turn, IsRun, transcript}
-use Rattle.script_model.specs.Settle.{Settles}
-use Rattle.script_model.specs.Step.{Moment, Reply, Step, is_refusal, first_moment}
-use Rattle.script_model.specs.Valid.{Valid}
+use Rattle.script_model.specs.Run.{Turn, IsRun, Halts, IsTurn, transcript}
+use Rattle.script_model.specs.Step.{Moment, Reply, Refusal, Refused, Step, breaks, number_of, first_moment, Follows, verdict_of}
+use Rattle.inc_value.specs.declared.function.FnRef.{FnRef}
+use Rattle.inc_value.specs.declared.value.Value as engine
+use Rattle.script_model.specs.Calls.{IsTyped, calls_of}
 
 -- what a formula gives within a depth it gives within every greater one
 abbrev pub EveryDepthAgrees : Type 0
-EveryDepthAgrees = (F : Functions) (s : State) (d e : ℕ) (f : Formula) (o : Outcome) → d ≤ e → value_at F s d f ≡ Some o → value_at F s e f ≡ Some o
+EveryDepthAgrees = (F : Meanings) (s : State) (d e : ℕ) (E : List Value) (f : Formula) (o : Outcome) → d ≤ e → value_at F s d E f ≡ Some o → value_at F s e E f ≡ Some o
 
 -- a formula gives at most one outcome
 abbrev pub OneOutcome : Type 0
-OneOutcome = (F : Functions) (s : State) (f : Formula) (o p : Outcome) → Gives F s f o → Gives F s f p → o ≡ p
+OneOutcome = (F : Meanings) (s : State) (E : List Value) (f : Formula) (o p : Outcome) → Gives F s E f o → Gives F s E f p → o ≡ p
 
 -- a line asks for one thing
 abbrev pub OneRequest : Type 0
 OneRequest = (line : List ℕ) (a b : Request) → IsRequest line a → IsRequest line b → a ≡ b
 
--- every line asks for something
-abbrev pub EveryLineAsks : Type 0
-EveryLineAsks = (line : List ℕ) → (request : Request) × IsRequest line request
-
--- a line that is answered by a refusal leaves everything as it was
+-- a refusal changes nothing, but for those of a stabilize that met a cycle or was too deep
 abbrev pub RefusalsChangeNothing : Type 0
 RefusalsChangeNothing =
-    (F : Functions) (m after : Moment) (line : List ℕ) (replies : List Reply) → Step F m line after replies → list_any is_refusal replies ≡ true → after ≡ m
+    (F : Meanings) (m after : Moment) (line : List ℕ) (why : Refusal) (rest : List Reply) → Step F m line after (Refused why ∷ rest) → breaks why ≡ false → after ≡ m
+
+-- and those keep all but that the session is broken, by their number
+abbrev pub RefusedStabilizesBreak : Type 0
+RefusedStabilizesBreak =
+    (F : Meanings) (m after : Moment) (line : List ℕ) (why : Refusal) (rest : List Reply) → Step F m line after (Refused why ∷ rest) → breaks why ≡ true
+    → (m.broken ≡ None) × (after ≡ record m { broken = Some (number_of why) })
 
 -- a line that isn't a stabilize leads to one moment, with one answer
 abbrev pub OneEffect : Type 0
 OneEffect =
-    (F : Functions) (m a b : Moment) (line : List ℕ) (rs qs : List Reply) → (IsRequest line (Asks Stabilize) → ⊥)
+    (F : Meanings) (m a b : Moment) (line : List ℕ) (rs qs : List Reply) → (IsRequest line (Asks Stabilize) → ⊥)
     → Step F m line a rs → Step F m line b qs → (a ≡ b) × (rs ≡ qs)
 
--- a stabilize leaves one state
-abbrev pub SettlesOneWay : Type 0
-SettlesOneWay = (F : Functions) (s a b : State) → Settles F s a → Settles F s b → a ≡ b
-
--- an item of the state gives a value
-abbrev pub ItemGives : Functions → State → Item → Type 0
-ItemGives F s (Named n) = (v : Value) × Gives F s (Name n) (Val v)
-ItemGives F s (Place owner path) = (f : Formula) × (v : Value) × (formula_at s owner path ≡ Some f) × Gives F s f (Val v)
-
--- in a valid state whatever is needed gives a value
+-- in a valid state where nothing that is needed is on a cycle, whatever is needed gives an outcome
 abbrev pub NeededGives : Type 0
-NeededGives = (F : Functions) (s : State) (i : Item) → Valid s → Needed s i → ItemGives F s i
-
--- both states of a moment are valid
-abbrev pub ValidMoment : Moment → Type 0
-ValidMoment m = Valid m.settled × Valid m.present
-
--- a script begins valid
-abbrev pub StartIsValid : Type 0
-StartIsValid = ValidMoment first_moment
-
--- every line keeps both states valid
-abbrev pub StepsKeepValidity : Type 0
-StepsKeepValidity =
-    (F : Functions) (m after : Moment) (line : List ℕ) (replies : List Reply) → ValidMoment m → Step F m line after replies → ValidMoment after
+NeededGives =
+    (F : Meanings) (s : State) → KeepToTypes F → Valid F s → ((n : ℕ) → Needed F s (Named n) → OnCycle F s n → ⊥)
+    → (i : Item) → Needed F s i → (o : Outcome) × ItemGives F s i o
 
 -- where nothing changed since the last accepted stabilize, no call is due
 abbrev pub NothingDueAfterSettling : Type 0
-NothingDueAfterSettling = (F : Functions) (m : Moment) (calls : ℕ) → m.settled ≡ m.present → WithinWork F m.settled m.present calls → calls ≡ 0
+NothingDueAfterSettling = (F : Meanings) (s : State) (calls : ℕ) → WithinWork F s s calls → calls ≡ 0
 
--- where both states are valid, every line has an answer
-abbrev pub EveryLineIsAnswered : Type 0
-EveryLineIsAnswered =
-    (F : Functions) (m : Moment) (line : List ℕ) → ValidMoment m → (after : Moment) × (replies : List Reply) × Step F m line after replies
+-- every line asks for something: it is too long, blank, malformed or nested too deep, or it is a command of today's forms
+abbrev pub EveryLineAsks : Type 0
+EveryLineAsks = (line : List ℕ) → (request : Request) × IsRequest line request
 
--- every script has a run
-abbrev pub EveryScriptRuns : Type 0
-EveryScriptRuns = (F : Functions) (lines : List (List ℕ)) → (turns : List Turn) × IsRun F lines turns
+-- a line that isn't a stabilize makes no call
+abbrev pub OnlyStabilizesCall : Type 0
+OnlyStabilizesCall = (F : Meanings) (t : Turn) → (IsRequest t.line (Asks Stabilize) → ⊥) → IsTurn F t → t.work ≡ 0
 
--- the same lines print the same bytes
-abbrev pub OneTranscript : Type 0
-OneTranscript = (F : Functions) (lines : List (List ℕ)) (ts us : List Turn) → IsRun F lines ts → IsRun F lines us → transcript ts ≡ transcript us
-
--- an item makes at most one call
+-- an item makes one visit at most, at one state
 abbrev pub OneVisit : Type 0
-OneVisit = (F : Functions) (s : State) (v w : Visit) → IsVisit F s v → IsVisit F s w → v.item ≡ w.item → v ≡ w
+OneVisit = (F : Meanings) (s : State) (v w : Visit) → IsVisit F s v → IsVisit F s w → v.item ≡ w.item → v ≡ w
 
--- of values of the types that it takes each function gives a value of its type
-abbrev pub KeepToTypes : Functions → Type 0
-KeepToTypes F = (f : FnRef) (values : List Value) → HaveTypes values f.sig.takes → type_of (F.value f values) ≡ f.sig.gives
+-- an edge, whatever the value
+abbrev pub bare : Edge → Edge
+bare (Inside v) = Inside (Bool true)
+bare edge = edge
 
--- what a declaration gives in a valid state is a value of its type
-abbrev pub ValuesHaveTypes : Type 0
-ValuesHaveTypes =
-    (F : Functions) (s : State) (n : ℕ) (e : Entry) (o : Outcome) → KeepToTypes F → Valid s → entry_at s n ≡ Some e → Gives F s (Name n) o
-    → (v : Value) × (o ≡ Val v) × (type_of v ≡ e.ty)
+-- a place that is met has one list of values of the binds round it
+abbrev pub MeetsOnce : Type 0
+MeetsOnce =
+    (F : Meanings) (before s : State) (owner : ℕ) (p q : List Edge) → Met F before s (Place owner p) → Met F before s (Place owner q)
+    → map bare p ≡ map bare q → p ≡ q
 
--- a function is called with values of the types that it takes
-abbrev pub CallsAreTyped : Type 0
-CallsAreTyped =
-    (F : Functions) (s : State) (owner : ℕ) (path : List ℕ) (f : FnRef) (arguments : Formulas) (v : Visit) → KeepToTypes F → Valid s
-    → formula_at s owner path ≡ Some (Apply f arguments) → v.item ≡ Place owner path → IsVisit F s v → HaveTypes v.values f.sig.takes
+-- the states have the same declaration wherever one is reached, or holds what is reached
+abbrev pub AgreeFrom : Meanings → State → State → Item → Type 0
+AgreeFrom F s other i = (j : Item) (n : ℕ) → Reaches (Reads F s) i j → Holds n j → entry_at other n ≡ entry_at s n
 
--- what a declaration gives depends on the declarations that are reached by reads, and on no other
+-- what a declaration gives depends on what is reached from it by reads, and on the clock
 abbrev pub ReadsSuffice : Type 0
 ReadsSuffice =
-    (F : Functions) (s s' : State) (n : ℕ) (o : Outcome) → ((m : ℕ) → Reaches (Reads s) (Named n) (Named m) → entry_at s' m ≡ entry_at s m)
-    → Gives F s (Name n) o → Gives F s' (Name n) o
+    (F : Meanings) (s other : State) (n : ℕ) (o : Outcome) → other.now ≡ s.now → AgreeFrom F s other (Named n) → Gives F s [] (Name n) o
+    → Gives F other [] (Name n) o
+
+-- in a valid state what a formula of a type gives is Invalid or a value of the type, where the binds round it have theirs
+abbrev pub ValuesHaveTypes : Type 0
+ValuesHaveTypes =
+    (F : Meanings) (s : State) → KeepToTypes F → Valid F s → (n : ℕ) (E : List Value) (bounds : List Ty) (f : Formula) (t : Ty) (o : Outcome)
+    → BoundsFit s E bounds → HasType F s n bounds f t → Gives F s E f o → OutcomeHasType s o t
+
+-- in a valid state what a declaration gives is Invalid or a value of its type
+abbrev pub DeclarationsHaveTypes : Type 0
+DeclarationsHaveTypes =
+    (F : Meanings) (s : State) → KeepToTypes F → Valid F s → (n : ℕ) (e : Entry) (o : Outcome) → entry_at s n ≡ Some e → NameGives F s n o
+    → OutcomeHasType s o e.ty
+
+-- in a valid state each call that a visit of what is met makes is given proper values of the types that its function takes
+abbrev pub CallsAreTyped : Type 0
+CallsAreTyped =
+    (F : Meanings) (before s : State) → KeepToTypes F → Valid F s → (v : Visit) → IsVisit F s v → Met F before s v.item
+    → Every IsTyped (calls_of F s v)
+
+-- a visit counts the calls that it makes
+abbrev pub VisitsCountCalls : Type 0
+VisitsCountCalls = (F : Meanings) (s : State) (v : Visit) → IsVisit F s v → v.cost ≡ length (calls_of F s v)
+
+-- functions of a library that keep to their types do so as the model has them
+abbrev pub LibrariesKeepToTypes : Type 0
+LibrariesKeepToTypes =
+    (named : List ℕ → Option FnRef) (value : FnRef → List engine.Value → engine.Value) → LibraryKeepsToTypes named value → KeepToTypes (meanings_of named value)
+
+-- both states of a moment are valid
+abbrev pub ValidMoment : Meanings → Moment → Type 0
+ValidMoment F m = Valid F m.settled × Valid F m.present
+
+-- a script begins valid
+abbrev pub StartIsValid : Type 0
+StartIsValid = (F : Meanings) → ValidMoment F first_moment
+
+-- every line keeps both states valid, where the functions keep to their types
+abbrev pub StepsKeepValidity : Type 0
+StepsKeepValidity =
+    (F : Meanings) (m after : Moment) (line : List ℕ) (replies : List Reply) → KeepToTypes F → ValidMoment F m → Step F m line after replies
+    → ValidMoment F after
+
+-- so does what any line of the whole grammar comes to, also one of a form that isn't here yet
+abbrev pub LinesKeepValidity : Type 0
+LinesKeepValidity =
+    (F : Meanings) (m after : Moment) (bytes : List ℕ) (line : Line) (replies : List Reply) → KeepToTypes F → ValidMoment F m → IsLine bytes line
+    → Follows F m (verdict_of F m line) after replies → ValidMoment F after
+
+-- so does a line that finds no memory
+abbrev pub HaltsKeepValidity : Type 0
+HaltsKeepValidity =
+    (F : Meanings) (m after : Moment) (line : List ℕ) (calls : ℕ) → KeepToTypes F → ValidMoment F m → Halts F m line after calls
+    → ValidMoment F after
+
+-- in a run all moments are valid
+abbrev pub RunsAreValid : Type 0
+RunsAreValid =
+    (F : Meanings) (lines : List (List ℕ)) (turns : List Turn) → KeepToTypes F → IsRun F lines turns
+    → Every (λ (t : Turn). ValidMoment F t.before × ValidMoment F t.after) turns
+
+-- the turn ends unbroken: it refused no stabilize
+abbrev pub IsUnbroken : Turn → Type 0
+IsUnbroken t = t.after.broken ≡ None
+
+-- the turn grabs no bind
+abbrev pub GrabsNothing : Turn → Type 0
+GrabsNothing t = (name bind : List ℕ) → t.request ≡ Asks (Grab name bind) → ⊥
+
+-- the same lines print the same bytes, where no stabilize was refused and no bind is grabbed. Otherwise these choices are
+-- free: which of the names and cycles in the way is told, whether a stabilize is refused where only what isn't needed is in
+-- the way, and what a bind that is met and not needed was last built for
+abbrev pub OneTranscript : Type 0
+OneTranscript =
+    (F : Meanings) (lines : List (List ℕ)) (ts us : List Turn) → IsRun F lines ts → IsRun F lines us → Every IsUnbroken ts → Every IsUnbroken us
+    → Every GrabsNothing ts
+    → transcript ts ≡ transcript us
+
+-- the same lines print the same bytes, as long as those forms alone are read that are read today
+abbrev pub OneTranscriptToday : Type 0
+OneTranscriptToday = (F : Meanings) (lines : List (List ℕ)) (ts us : List Turn) → IsRun F lines ts → IsRun F lines us → transcript ts ≡ transcript us

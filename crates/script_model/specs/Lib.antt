@@ -1,5 +1,8 @@
+pub mod Valid
+pub mod Blocked
+pub mod Calls
 pub mod Check
-pub mod Choice
+pub mod Depth
 pub mod Evaluate
 pub mod Formula
 pub mod Grammar
@@ -16,4 +19,4 @@ pub mod Settle
 pub mod Step
 pub mod TokenLaws
 pub mod Tokens
-pub mod Valid
+pub mod Values

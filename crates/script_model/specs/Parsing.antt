@@ -1,170 +1,222 @@
 -- Tokens read from the front: at most one command, and by the grammar the only one that they can be.
-use Rattle.std.specs.Prelude.{ℕ, zero, suc, Bool, true, false, ◌&&◌, nat_le, if◌then◌else◌, List, [], ◌∷◌, ◌++◌, length, codes, Option, None, Some}
-use Rattle.std.specs.List.{list_all}
+use Rattle.std.specs.Prelude.{ℕ, zero, suc, ◌*◌, Bool, true, false, nat_le, nat_eq, if◌then◌else◌, List, [], ◌∷◌, ◌++◌, length, codes, Option, None, Some}
 use Rattle.std.specs.Str.{bytes_eq}
 use Rattle.inc_value.specs.declared.ty.Base.TheVariants as base
 use Rattle.inc_value.specs.declared.ty.Base.{Base}
-use Rattle.script_model.specs.Choice.{and_then}
-use Rattle.script_model.specs.Grammar.{Literal, Integer, Truth, Quoted, Tree, Written, Mention, Call, Trees, End, More, Line, Var, Set, Let, Observe, Stabilize, Show}
-use Rattle.script_model.specs.Language.{is_name, integer_of}
-use Rattle.script_model.specs.Tokens.{Token, Word, Number, Text, Punctuation, Open, Close, Comma}
+use Rattle.inc_value.specs.declared.ty.Ty.TheVariants as ty
+use Rattle.inc_value.specs.declared.ty.Ty.{Ty}
+use Rattle.inc_value.specs.Choice.{and_then}
+use Rattle.script_model.specs.Grammar as grammar
+use Rattle.script_model.specs.Grammar.{Literal, Integer, Truth, Quoted, Referred, Tree, Trees, TimedLiteral, Line, time_of, unit_scale}
+use Rattle.script_model.specs.Language.{is_name, integer_of, number_from}
+use Rattle.script_model.specs.Tokens as token
+use Rattle.script_model.specs.Tokens.{Token, Word, Number, Text, Punctuation, Open, Close, OpenBracket, CloseBracket, Comma, Colon, Equals, Ampersand}
 
--- ---- words
+-- ---- reading in turn
 
-abbrev pub word_in : Token → Option (List ℕ)
-word_in (Word word) = Some word
-word_in token = None
+-- what is read at the front, with what is left behind it
+abbrev pub Read : Type 0 → Type 0
+Read A = Option (A × List Token)
 
--- the name that a token is
-abbrev pub name_in : Token → Option (List ℕ)
-name_in (Word word) = if is_name word then Some word else None
-name_in token = None
+-- what is read at the front and then at the front of what is left
+abbrev pub then_read : {A B : Type 0} → Read A → (A → List Token → Read B) → Read B
+then_read None next = None
+then_read (Some p) next = next p.0 p.1
 
--- ---- literals
+abbrev pub read : {A : Type 0} → A → List Token → Read A
+read x rest = Some (x, rest)
 
-abbrev pub is_printable : ℕ → Bool
-is_printable b = nat_le 32 b && nat_le b 126
+-- the one token, where it passes the test
+abbrev pub expect : {A : Type 0} → (Token → Bool) → List Token → (List Token → Read A) → Read A
+expect test [] next = None
+expect test (t ∷ rest) next = if test t then next rest else None
 
--- at most 4,096 printable bytes
-abbrev pub is_text : List ℕ → Bool
-is_text content = nat_le (length content) 4096 && list_all is_printable content
+abbrev pub is_word : List ℕ → Token → Bool
+is_word w (Word v) = bytes_eq w v
+is_word w t = false
 
-abbrev pub truth_in : List ℕ → Option Literal
-truth_in word = if bytes_eq word (codes "true") then Some (Truth true) else (if bytes_eq word (codes "false") then Some (Truth false) else None)
+abbrev pub is_sign : ℕ → Token → Bool
+is_sign b (Punctuation s) = nat_eq b (token.sign_byte s)
+is_sign b t = false
 
--- the literal that a token is, where a text has to pass the test
-abbrev pub literal_in : (List ℕ → Bool) → Token → Option Literal
-literal_in test (Word word) = truth_in word
-literal_in test (Number negative digits) = and_then (integer_of negative digits) (λ z. Some (Integer z))
-literal_in test (Text content) = if test content then Some (Quoted content) else None
-literal_in test token = None
+-- ---- names, times, types and literals
+
+abbrev pub name_front : List Token → Read (List ℕ)
+name_front (Word w ∷ rest) = if is_name w then read w rest else None
+name_front tokens = None
+
+abbrev pub time_front : List Token → Read grammar.Time
+time_front (token.Time digits unit ∷ rest) = read (time_of (number_from 0 digits * unit_scale unit)) rest
+time_front (Number false digits ∷ rest) = read (time_of (number_from 0 digits)) rest
+time_front tokens = None
+
+abbrev pub base_named : List ℕ → Option Base
+base_named w =
+    if bytes_eq w (codes "int") then Some base.Int
+    else (if bytes_eq w (codes "bool") then Some base.Bool
+    else (if bytes_eq w (codes "text") then Some base.Text else None))
+
+abbrev pub base_front : List Token → Read Base
+base_front (Word w ∷ rest) = and_then (base_named w) (λ b. read b rest)
+base_front tokens = None
+
+abbrev pub type_of_base : Base → Ty
+type_of_base base.Int = ty.Int
+type_of_base base.Bool = ty.Bool
+type_of_base base.Text = ty.Text
+
+abbrev pub type_front : List Token → Read Ty
+type_front (Word w ∷ rest) = if bytes_eq w (codes "node") then then_read (base_front rest) (λ b left. read (ty.Node b) left) else and_then (base_named w) (λ b. read (type_of_base b) rest)
+type_front tokens = None
+
+abbrev pub literal_front : List Token → Read Literal
+literal_front (Word w ∷ rest) = if bytes_eq w (codes "true") then read (Truth true) rest else (if bytes_eq w (codes "false") then read (Truth false) rest else None)
+literal_front (Number negative digits ∷ rest) = and_then (integer_of negative digits) (λ z. read (Integer z) rest)
+literal_front (Text content ∷ rest) = if nat_le (length content) 4096 then read (Quoted content) rest else None
+literal_front (Punctuation Ampersand ∷ rest) = then_read (name_front rest) (λ name left. read (Referred name) left)
+literal_front tokens = None
+
+-- ---- lists
+
+-- what stands behind an element: the end, or a comma and what follows it
+abbrev pub behind_element : {A : Type 0} → (List A → List Token → Read (List A)) → ℕ → List A → List Token → Read (List A)
+behind_element next end found [] = None
+behind_element next end found (t ∷ rest) = if is_sign end t then read found rest else (if is_sign 44 t then next found rest else None)
+
+-- one or more, with commas between them, up to a sign that is taken too; at most n, behind those that are found
+unfoldable pub list_front : {A : Type 0} → (List Token → Read A) → ℕ → ℕ → List A → List Token → Read (List A)
+list_front part end zero found tokens = None
+list_front part end (suc n) found tokens = then_read (part tokens) (λ x rest. behind_element (list_front part end n) end (found ++ x ∷ []) rest)
+
+-- how many tokens there are
+abbrev pub tally : List Token → ℕ
+tally [] = zero
+tally (t ∷ tokens) = suc (tally tokens)
+
+-- what is read, or else what is read in another way
+abbrev pub or_read : {A : Type 0} → Read A → Read A → Read A
+or_read None other = other
+or_read (Some p) other = Some p
+
+-- nothing, or one or more
+abbrev pub any_front : {A : Type 0} → (List Token → Read A) → ℕ → List Token → Read (List A)
+any_front part end tokens = or_read (list_front part end (tally tokens) [] tokens) (expect (is_sign end) tokens (λ rest. read [] rest))
+
+-- `TIME : LITERAL`
+abbrev pub step_front : List Token → Read TimedLiteral
+step_front tokens = then_read (time_front tokens) (λ time rest. expect (is_sign 58) rest (λ rest. then_read (literal_front rest) (λ literal left. read (record { time = time; literal = literal }) left)))
 
 -- ---- formulas
 
 -- trees in a row
 abbrev pub trees_of : List Tree → Trees
-trees_of [] = End
-trees_of (t ∷ ts) = More t (trees_of ts)
+trees_of [] = grammar.End
+trees_of (t ∷ ts) = grammar.More t (trees_of ts)
 
-abbrev pub is_open : Token → Bool
-is_open (Punctuation Open) = true
-is_open token = false
+-- over what reads a formula: each form behind its first word
+module _ (part : List Token → Read Tree) where
+  abbrev pub if_front : List Token → Read Tree
+  if_front tokens =
+      then_read (part tokens) (λ test rest. expect (is_word (codes "then")) rest (λ rest. then_read (part rest) (λ a rest. expect (is_word (codes "else")) rest (λ rest.
+      then_read (part rest) (λ b rest. read (grammar.If test a b) rest)))))
 
-abbrev pub is_close : Token → Bool
-is_close (Punctuation Close) = true
-is_close token = false
+  abbrev pub bind_front : List Token → Read Tree
+  bind_front tokens =
+      then_read (name_front tokens) (λ variable rest. expect (is_sign 61) rest (λ rest. then_read (part rest) (λ left rest. expect (is_word (codes "in")) rest (λ rest.
+      then_read (part rest) (λ body rest. read (grammar.Bind variable left body) rest)))))
 
-abbrev pub is_comma : Token → Bool
-is_comma (Punctuation Comma) = true
-is_comma token = false
+  abbrev pub join_front : List Token → Read Tree
+  join_front tokens = expect (is_sign 40) tokens (λ rest. then_read (part rest) (λ child rest. expect (is_sign 41) rest (λ rest. read (grammar.Join child) rest)))
 
--- the tokens behind the first, where it passes the test
-abbrev pub behind : (Token → Bool) → List Token → Option (List Token)
-behind test [] = None
-behind test (token ∷ rest) = if test token then Some rest else None
+  abbrev pub fold_front : List Token → Read Tree
+  fold_front tokens =
+      then_read (name_front tokens) (λ function rest. expect (is_word (codes "from")) rest (λ rest. then_read (literal_front rest) (λ first rest. expect (is_sign 91) rest (λ rest.
+      then_read (any_front part 93 rest) (λ elements rest. read (grammar.Fold function first (trees_of elements)) rest)))))
 
--- what stands behind an argument: the end of the arguments, or a comma and what follows it
-abbrev pub after_argument : (List Token → Option (List Tree × List Token)) → List Tree → Option (List Token) → Option (List Token) → Option (List Tree × List Token)
-after_argument next done (Some rest) comma = Some (done, rest)
-after_argument next done None (Some rest) = next rest
-after_argument next done None None = None
+  abbrev pub steps_front : List Token → Read Tree
+  steps_front tokens =
+      then_read (literal_front tokens) (λ first rest. expect (is_sign 91) rest (λ rest. then_read (any_front step_front 93 rest) (λ steps rest. read (grammar.Steps first steps) rest)))
 
-abbrev pub behind_argument : (List Token → Option (List Tree × List Token)) → List Tree → List Token → Option (List Tree × List Token)
-behind_argument next done tokens = after_argument next done (behind is_close tokens) (behind is_comma tokens)
+  abbrev pub freeze_front : List Token → Read Tree
+  freeze_front tokens =
+      then_read (part tokens) (λ child rest. expect (is_word (codes "when")) rest (λ rest. then_read (name_front rest) (λ predicate rest. read (grammar.Freeze child predicate) rest)))
 
--- at most n arguments behind those that are done, and the tokens behind their `)`
-unfoldable pub arguments_in : (List Token → Option (Tree × List Token)) → ℕ → List Tree → List Token → Option (List Tree × List Token)
-arguments_in part zero done tokens = None
-arguments_in part (suc n) done tokens = and_then (part tokens) (λ p. behind_argument (arguments_in part n (done ++ p.0 ∷ [])) (done ++ p.0 ∷ []) p.1)
+  -- a name alone, or a function of one to nine formulas
+  abbrev pub named_front : List ℕ → List Token → Read Tree
+  named_front w (Punctuation Open ∷ rest) = then_read (list_front part 41 9 [] rest) (λ arguments left. read (grammar.Call w (trees_of arguments)) left)
+  named_front w tokens = read (grammar.Mention w) tokens
 
--- a function with the arguments behind its `(`
-abbrev pub call_of : List ℕ → Option (List Tree × List Token) → Option (Tree × List Token)
-call_of word found = and_then found (λ p. Some (Call word (trees_of p.0), p.1))
+  abbrev pub written_front : List Token → Read Tree
+  written_front tokens = then_read (literal_front tokens) (λ literal rest. read (grammar.Written literal) rest)
 
--- a name alone, or a function
-abbrev pub named_with : (List Token → Option (List Tree × List Token)) → List ℕ → List Token → Option (List Token) → Option (Tree × List Token)
-named_with inside word tokens (Some rest) = call_of word (inside rest)
-named_with inside word tokens None = Some (Mention word, tokens)
+  -- the formula that begins with a word
+  abbrev pub word_front : List ℕ → List Token → Read Tree
+  word_front w rest =
+      if is_name w then named_front w rest
+      else (if bytes_eq w (codes "if") then if_front rest
+      else (if bytes_eq w (codes "bind") then bind_front rest
+      else (if bytes_eq w (codes "join") then join_front rest
+      else (if bytes_eq w (codes "fold") then fold_front rest
+      else (if bytes_eq w (codes "at") then then_read (time_front rest) (λ time left. read (grammar.At time) left)
+      else (if bytes_eq w (codes "now") then read grammar.Now rest
+      else (if bytes_eq w (codes "steps") then steps_front rest
+      else (if bytes_eq w (codes "freeze") then freeze_front rest
+      else (if bytes_eq w (codes "after") then then_read (time_front rest) (λ time left. read (grammar.After time) left)
+      else (if bytes_eq w (codes "every") then then_read (time_front rest) (λ time left. read (grammar.Every time) left)
+      else written_front (Word w ∷ rest)))))))))))
 
-abbrev pub named_in : (List Token → Option (List Tree × List Token)) → List ℕ → List Token → Option (Tree × List Token)
-named_in inside word tokens = named_with inside word tokens (behind is_open tokens)
+  abbrev pub formula_front : List Token → Read Tree
+  formula_front (Word w ∷ rest) = word_front w rest
+  formula_front tokens = written_front tokens
 
-abbrev pub literal_before : Option Literal → List Token → Option (Tree × List Token)
-literal_before literal rest = and_then literal (λ l. Some (Written l, rest))
-
-abbrev pub formula_with : (Token → Option Literal) → (List Token → Option (List Tree × List Token)) → Token → List Token → Option (List ℕ) → Option (Tree × List Token)
-formula_with literal inside token rest (Some word) = named_in inside word rest
-formula_with literal inside token rest None = literal_before (literal token) rest
-
--- the formula at the front, and the tokens behind it
-abbrev pub formula_in : (Token → Option Literal) → (List Token → Option (List Tree × List Token)) → List Token → Option (Tree × List Token)
-formula_in literal inside [] = None
-formula_in literal inside (token ∷ rest) = formula_with literal inside token rest (name_in token)
-
--- what stands behind a `(`, up to its `)`, where up to d may be open
-unfoldable pub inside_of : (Token → Option Literal) → ℕ → List Token → Option (List Tree × List Token)
-inside_of literal zero rest = None
-inside_of literal (suc d) rest = arguments_in (formula_in literal (inside_of literal d)) 9 [] rest
+-- the formula at the front, of at most n formulas within one another
+unfoldable pub formula_read : ℕ → List Token → Read Tree
+formula_read zero tokens = None
+formula_read (suc n) tokens = formula_front (formula_read n) tokens
 
 -- ---- commands
 
-abbrev pub base_named : List ℕ → Option Base
-base_named word =
-    if bytes_eq word (codes "int") then Some base.Int
-    else (if bytes_eq word (codes "bool") then Some base.Bool
-    else (if bytes_eq word (codes "text") then Some base.Text else None))
+-- what is read, where nothing is left
+abbrev pub whole : {A B : Type 0} → Read A → (A → B) → Option B
+whole None make = None
+whole (Some (x, [])) make = Some (make x)
+whole (Some (x, t ∷ rest)) make = None
 
--- the base type that a token names
-abbrev pub base_in : Token → Option Base
-base_in (Word word) = base_named word
-base_in token = None
+-- one name, two names
+abbrev pub one_name : (List ℕ → Line) → List Token → Option Line
+one_name make tokens = whole (name_front tokens) make
 
--- `var NAME BASE LITERAL`, behind its first word
-abbrev pub var_in : (Token → Option Literal) → List Token → Option Line
-var_in literal (name ∷ word ∷ token ∷ []) = and_then (name_in name) (λ n. and_then (base_in word) (λ b. and_then (literal token) (λ l. Some (Var n b l))))
-var_in literal tokens = None
+abbrev pub two_names : (List ℕ → List ℕ → Line) → List Token → Option Line
+two_names make tokens = and_then (name_front tokens) (λ p. whole (name_front p.1) (make p.0))
 
--- `set NAME LITERAL`
-abbrev pub set_in : (Token → Option Literal) → List Token → Option Line
-set_in literal (name ∷ token ∷ []) = and_then (name_in name) (λ n. and_then (literal token) (λ l. Some (Set n l)))
-set_in literal tokens = None
+abbrev pub var_read : List Token → Option Line
+var_read tokens = and_then (name_front tokens) (λ n. and_then (type_front n.1) (λ t. whole (literal_front t.1) (grammar.Var n.0 t.0)))
 
--- a formula that nothing follows
-abbrev pub whole_of : Option (Tree × List Token) → Option Tree
-whole_of (Some (t, [])) = Some t
-whole_of found = None
-
--- `let NAME FORMULA`
-abbrev pub let_in : (List Token → Option (Tree × List Token)) → List Token → Option Line
-let_in formula [] = None
-let_in formula (name ∷ rest) = and_then (name_in name) (λ n. and_then (whole_of (formula rest)) (λ t. Some (Let n t)))
-
--- `observe NAME NAME`
-abbrev pub observe_in : List Token → Option Line
-observe_in (observer ∷ name ∷ []) = and_then (name_in observer) (λ o. and_then (name_in name) (λ n. Some (Observe o n)))
-observe_in tokens = None
-
--- `stabilize`
-abbrev pub stabilize_in : List Token → Option Line
-stabilize_in [] = Some Stabilize
-stabilize_in tokens = None
-
--- `show NAME`
-abbrev pub show_in : List Token → Option Line
-show_in (observer ∷ []) = and_then (name_in observer) (λ o. Some (Show o))
-show_in tokens = None
+abbrev pub expert_read : List Token → Option Line
+expert_read tokens =
+    and_then (name_front tokens) (λ n. whole (expect (is_word (codes "fold")) n.1 (λ rest. then_read (name_front rest) (λ function rest. expect (is_word (codes "from")) rest (λ rest.
+    then_read (literal_front rest) (λ first rest. read (grammar.Expert n.0 function first) rest))))) (λ l. l))
 
 -- by the word that a command begins with
-abbrev pub command_with : (Token → Option Literal) → ℕ → List ℕ → List Token → Option Line
-command_with literal d word tokens =
-    if bytes_eq word (codes "var") then var_in literal tokens
-    else (if bytes_eq word (codes "set") then set_in literal tokens
-    else (if bytes_eq word (codes "let") then let_in (formula_in literal (inside_of literal d)) tokens
-    else (if bytes_eq word (codes "observe") then observe_in tokens
-    else (if bytes_eq word (codes "stabilize") then stabilize_in tokens
-    else (if bytes_eq word (codes "show") then show_in tokens else None)))))
+abbrev pub command_with : List ℕ → List Token → Option Line
+command_with w tokens =
+    if bytes_eq w (codes "var") then var_read tokens
+    else (if bytes_eq w (codes "set") then and_then (name_front tokens) (λ n. whole (literal_front n.1) (grammar.Set n.0))
+    else (if bytes_eq w (codes "let") then and_then (name_front tokens) (λ n. whole (formula_read (suc (tally n.1)) n.1) (grammar.Let n.0))
+    else (if bytes_eq w (codes "expert") then expert_read tokens
+    else (if bytes_eq w (codes "link") then two_names grammar.Link tokens
+    else (if bytes_eq w (codes "unlink") then two_names grammar.Unlink tokens
+    else (if bytes_eq w (codes "stale") then one_name grammar.Stale tokens
+    else (if bytes_eq w (codes "grab") then two_names grammar.Grab tokens
+    else (if bytes_eq w (codes "observe") then two_names grammar.Observe tokens
+    else (if bytes_eq w (codes "unobserve") then one_name grammar.Unobserve tokens
+    else (if bytes_eq w (codes "watch") then one_name grammar.Watch tokens
+    else (if bytes_eq w (codes "show") then one_name grammar.Show tokens
+    else (if bytes_eq w (codes "advance") then whole (time_front tokens) grammar.Advance
+    else (if bytes_eq w (codes "stabilize") then whole (read (codes "") tokens) (λ w. grammar.Stabilize) else None)))))))))))))
 
--- the command that all of the tokens are, where up to d `(` may be open
-abbrev pub command_in : (Token → Option Literal) → ℕ → List Token → Option Line
-command_in literal d [] = None
-command_in literal d (token ∷ tokens) = and_then (word_in token) (λ w. command_with literal d w tokens)
+-- the command that all of the tokens are
+abbrev pub command_read : List Token → Option Line
+command_read (Word w ∷ tokens) = command_with w tokens
+command_read (token.AdvanceTo ∷ tokens) = whole (time_front tokens) grammar.AdvanceTo
+command_read tokens = None

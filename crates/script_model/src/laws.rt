@@ -1,8 +1,8 @@
 //! Laws of the definitions. Each function does nothing: its contract is the law.
-ghost use Rattle.script_model.specs.Laws.{EveryDepthAgrees, OneOutcome, RefusalsChangeNothing, OneEffect, SettlesOneWay, NeededGives, StartIsValid, StepsKeepValidity, NothingDueAfterSettling, EveryLineIsAnswered, EveryScriptRuns, OneTranscript, OneRequest, EveryLineAsks, OneVisit, ValuesHaveTypes, CallsAreTyped, ReadsSuffice};
-ghost use Rattle.script_model.specs.GrammarLaws.{OneWriting, OneCommand, CommandsAreShallow, CommandsAreWellFormed, DeepLinesAreWellFormed};
-ghost use Rattle.script_model.specs.Row.{SumIsShown, SumIsOneCall};
+ghost use Rattle.script_model.specs.GrammarLaws.{OneWriting, OneCommand, CommandsAreShallow, CommandsAreWellFormed, DeepLinesAreWellFormed, WhatIsReadIsWritten};
+ghost use Rattle.script_model.specs.Laws.{NothingDueAfterSettling, EveryDepthAgrees, OneOutcome, RefusalsChangeNothing, RefusedStabilizesBreak, OneRequest, OneEffect, StartIsValid, StepsKeepValidity, LinesKeepValidity, HaltsKeepValidity, RunsAreValid, ValuesHaveTypes, DeclarationsHaveTypes, CallsAreTyped, VisitsCountCalls, NeededGives, LibrariesKeepToTypes, EveryLineAsks, OnlyStabilizesCall, OneVisit, MeetsOnce, ReadsSuffice, OneTranscript, OneTranscriptToday};
 ghost use Rattle.script_model.specs.TokenLaws.{OneSpelling};
+ghost use Rattle.script_model.specs.Row.{SumIsShown, SumIsOneCall, BindIsShown, BindIsOneCall, NameIsOnCycle, GrabDies, ChainIsTooDeep, GrabStateIsValid};
 
 /// What a formula gives within a depth it gives within every greater one.
 pub fn every_depth_agrees()
@@ -14,88 +14,24 @@ pub fn one_outcome()
     ensures { OneOutcome }
 {}
 
-/// A line that is answered by a refusal changes nothing.
+/// A refusal changes nothing, but for those of a stabilize that met a cycle or was too deep.
 pub fn refusals_change_nothing()
     ensures { RefusalsChangeNothing }
+{}
+
+/// A stabilize that met a cycle or was too deep breaks the session and changes nothing else.
+pub fn refused_stabilizes_break()
+    ensures { RefusedStabilizesBreak }
+{}
+
+/// A line asks for one thing at most.
+pub fn one_request()
+    ensures { OneRequest }
 {}
 
 /// A line that asks for no stabilize leads to one moment, with one answer.
 pub fn one_effect()
     ensures { OneEffect }
-{}
-
-/// An accepted stabilize leaves one state.
-pub fn settles_one_way()
-    ensures { SettlesOneWay }
-{}
-
-/// In a valid state whatever is needed gives a value: a name, or the formula that stands at a
-/// place.
-pub fn needed_gives()
-    ensures { NeededGives }
-{}
-
-/// A script begins in a valid state.
-pub fn start_is_valid()
-    ensures { StartIsValid }
-{}
-
-/// Every line of a script keeps the present state valid, and the last settled one.
-pub fn steps_keep_validity()
-    ensures { StepsKeepValidity }
-{}
-
-/// Where nothing changed since the last accepted stabilize, no call of a function is due.
-pub fn nothing_due_after_settling()
-    ensures { NothingDueAfterSettling }
-{}
-
-/// A worked script: `var x int 3`, `let y add(x, 4)`, `observe o y`, `stabilize` and `show o`
-/// print `ok` three times, `stable 1` and `o = 7`, and one call of `add` is due.
-pub fn sum_is_shown()
-    ensures { SumIsShown }
-{}
-
-/// In a valid state every line has an answer: a stabilize always can be accepted.
-pub fn every_line_is_answered()
-    ensures { EveryLineIsAnswered }
-{}
-
-/// Every script has a run.
-pub fn every_script_runs()
-    ensures { EveryScriptRuns }
-{}
-
-/// The same lines print the same bytes.
-pub fn one_transcript()
-    ensures { OneTranscript }
-{}
-
-/// In every run of the worked script at most one call of a function is due.
-pub fn sum_is_one_call()
-    ensures { SumIsOneCall }
-{}
-
-/// An item has at most one visit: the same function is never due twice for one place.
-pub fn one_visit()
-    ensures { OneVisit }
-{}
-
-/// Where functions keep to their types, what a declaration of a valid state gives is a value of
-/// its type.
-pub fn values_have_types()
-    ensures { ValuesHaveTypes }
-{}
-
-/// Where functions keep to their types, each one is called with values of the types that it takes.
-pub fn calls_are_typed()
-    ensures { CallsAreTyped }
-{}
-
-/// What a declaration gives depends on the declarations that are reached by reads, and on no
-/// other.
-pub fn reads_suffice()
-    ensures { ReadsSuffice }
 {}
 
 /// The bytes of a line spell at most one list of tokens.
@@ -128,12 +64,146 @@ pub fn deep_lines_are_well_formed()
     ensures { DeepLinesAreWellFormed }
 {}
 
-/// A line asks for one thing at most.
-pub fn one_request()
-    ensures { OneRequest }
+/// Where nothing changed since the last accepted stabilize, no call of a function is due.
+pub fn nothing_due_after_settling()
+    ensures { NothingDueAfterSettling }
 {}
 
-/// Every line asks for something: it is too long, blank, malformed, nested too deep, or a command.
+/// The reader gives a command, with nothing left, exactly where the tokens write it.
+pub fn what_is_read_is_written()
+    ensures { WhatIsReadIsWritten }
+{}
+
+/// Every line asks for something: it is too long, blank, malformed or nested too deep, or it is a
+/// command of today's forms.
 pub fn every_line_asks()
     ensures { EveryLineAsks }
+{}
+
+/// A line that asks for no stabilize makes no call of a function.
+pub fn only_stabilizes_call()
+    ensures { OnlyStabilizesCall }
+{}
+
+/// The five lines of the worked script print these bytes, with one call due.
+pub fn sum_is_shown()
+    ensures { SumIsShown }
+{}
+
+/// In no run of them more calls than one are due.
+pub fn sum_is_one_call()
+    ensures { SumIsOneCall }
+{}
+
+/// A bind is built anew where its left side changed: nine lines print these bytes, with one call due
+/// in each of two stabilizes.
+pub fn bind_is_shown()
+    ensures { BindIsShown }
+{}
+
+/// In the second of them no more calls than one are due.
+pub fn bind_is_one_call()
+    ensures { BindIsOneCall }
+{}
+
+/// Five lines make a name that reads itself, and a stabilize meets it.
+pub fn name_is_on_cycle()
+    ensures { NameIsOnCycle }
+{}
+
+/// A grab dies in the stabilize that builds its bind anew, and an observer tells it.
+pub fn grab_dies()
+    ensures { GrabDies }
+{}
+
+/// The last of 130 names, each of which reads the one before, is too deep.
+pub fn chain_is_too_deep()
+    ensures { ChainIsTooDeep }
+{}
+
+/// An item makes one visit at most, at one state.
+pub fn one_visit()
+    ensures { OneVisit }
+{}
+
+/// A place that is met has one list of values of the binds round it.
+pub fn meets_once()
+    ensures { MeetsOnce }
+{}
+
+/// What a declaration gives depends on what is reached from it by reads, and on the clock.
+pub fn reads_suffice()
+    ensures { ReadsSuffice }
+{}
+
+/// In a valid state what a formula of a type gives is Invalid or a value of the type.
+pub fn values_have_types()
+    ensures { ValuesHaveTypes }
+{}
+
+/// In a valid state what a declaration gives is Invalid or a value of its type.
+pub fn declarations_have_types()
+    ensures { DeclarationsHaveTypes }
+{}
+
+/// In a valid state each call that a visit of what is met makes is given values of the types that its function takes.
+pub fn calls_are_typed()
+    ensures { CallsAreTyped }
+{}
+
+/// A visit counts the calls that it makes.
+pub fn visits_count_calls()
+    ensures { VisitsCountCalls }
+{}
+
+/// In a valid state where no name that is needed is on a cycle, whatever is needed gives an outcome.
+pub fn needed_gives()
+    ensures { NeededGives }
+{}
+
+/// Functions of a library that keep to their types do so as the model has them.
+pub fn libraries_keep_to_types()
+    ensures { LibrariesKeepToTypes }
+{}
+
+/// A script begins valid.
+pub fn start_is_valid()
+    ensures { StartIsValid }
+{}
+
+/// Where the functions keep to their types, every line keeps the settled and the present state
+/// valid.
+pub fn steps_keep_validity()
+    ensures { StepsKeepValidity }
+{}
+
+/// So does what any line of the whole grammar comes to, also one of a form that isn't here yet.
+pub fn lines_keep_validity()
+    ensures { LinesKeepValidity }
+{}
+
+/// So does a line that finds no memory.
+pub fn halts_keep_validity()
+    ensures { HaltsKeepValidity }
+{}
+
+/// In a run all states are valid.
+pub fn runs_are_valid()
+    ensures { RunsAreValid }
+{}
+
+/// A state with a bind, a live grab of it, a reference to that, a join and a watched observer is
+/// valid.
+pub fn grab_state_is_valid()
+    ensures { GrabStateIsValid }
+{}
+
+/// The same lines print the same bytes, where no stabilize was refused and no bind is grabbed.
+pub fn one_transcript()
+    ensures { OneTranscript }
+{}
+
+/// The same lines print the same bytes, as long as no other forms are read than today.
+pub fn one_transcript_today()
+    ensures { OneTranscriptToday }
 {}

@@ -1,4 +1,4 @@
-use Rattle.script_model.proofs.Runs.{one_transcript}
+use Rattle.script_model.proofs.Transcripts.{one_transcript}
 use Rattle.script_model.proofs.laws.one_transcript.Goals as goal
 
 pub returns : goal.returns

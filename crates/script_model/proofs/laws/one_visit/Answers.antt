@@ -1,4 +1,4 @@
-use Rattle.script_model.proofs.Types.{one_visit}
+use Rattle.script_model.proofs.Visits.{one_visit}
 use Rattle.script_model.proofs.laws.one_visit.Goals as goal
 
 pub returns : goal.returns

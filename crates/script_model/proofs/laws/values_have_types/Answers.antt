@@ -1,4 +1,4 @@
-use Rattle.script_model.proofs.Types.{values_have_types}
+use Rattle.script_model.proofs.TypedValues.{values_have_types}
 use Rattle.script_model.proofs.laws.values_have_types.Goals as goal
 
 pub returns : goal.returns

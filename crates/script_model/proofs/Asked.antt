@@ -1,0 +1,129 @@
+-- Every line asks for something: what its tokens are read as.
+use Rattle.std.proofs.Common.{◌≡◌, ℕ, ◌≤◌, Bool, true, false, cond, ltb, List, [], length, inl, inr, Option, None, Some, refl, arith}
+use Rattle.std.proofs.lemmas.Bool.{ltb-true, ltb-false}
+use Rattle.script_model.specs.Grammar.{Line, IsLine, WriteNothing, is_here}
+use Rattle.script_model.specs.GrammarLaws.{WhatIsReadIsWritten}
+use Rattle.script_model.specs.Language.{without_return, is_blank}
+use Rattle.script_model.specs.Laws.{EveryLineAsks}
+use Rattle.script_model.specs.Parsing.{command_read}
+use Rattle.script_model.specs.Request.{Request, TooLong, Blank, Malformed, TooDeep, Asks, ContentAsks, IsRequest}
+use Rattle.script_model.specs.Tokens.{Token, AreSpelled, is_too_deep}
+use Rattle.script_model.proofs.Found.{command_found}
+use Rattle.script_model.proofs.Spelling.{tokens_within, ReadsAs, reads_on, spelled}
+use Rattle.script_model.proofs.TokenLaws.{read_start}
+use Rattle.script_model.proofs.Written.{command_written}
+
+pub what_is_read_is_written : WhatIsReadIsWritten
+what_is_read_is_written c tokens = (command_found tokens c, command_written c tokens)
+
+-- ---- what a line of these tokens asks for
+
+abbrev command_or_not : Bool → Line → Request
+command_or_not true c = Asks c
+command_or_not false c = Malformed
+
+abbrev line_read : Option Line → Request
+line_read None = Malformed
+line_read (Some c) = command_or_not (is_here c) c
+
+abbrev level_read : Bool → List Token → Request
+level_read true tokens = TooDeep
+level_read false tokens = line_read (command_read tokens)
+
+abbrev tokens_read : Option (List Token) → Request
+tokens_read None = Malformed
+tokens_read (Some tokens) = level_read (is_too_deep 0 0 tokens) tokens
+
+abbrev content_read : List ℕ → Request
+content_read content = cond (is_blank content) Blank (tokens_read (tokens_within (length content) content))
+
+abbrev request_read : List ℕ → Request
+request_read line = cond (ltb 4096 (length line)) TooLong (content_read (without_return line))
+
+-- ---- and that it does
+
+none_writes : (tokens : List Token) → command_read tokens ≡ None → WriteNothing tokens
+none_writes tokens is c writes here = let read = command_written c tokens writes in absurd (cc)
+
+other_writes : (tokens : List Token) (d : Line) → command_read tokens ≡ Some d → is_here d ≡ false → WriteNothing tokens
+other_writes tokens d is other c writes here = absurd (go d c is (command_written c tokens writes) other here)
+  where
+    go : (d c : Line) → command_read tokens ≡ Some d → command_read tokens ≡ Some c → is_here d ≡ false → is_here c ≡ true → ⊥
+    go d c e h other here = let same : d ≡ c = cc in let both = rw same at other in absurd (cc)
+
+here_asks : (content : List ℕ) (tokens : List Token) (c : Line) (here : Bool) → is_here c ≡ here → is_blank content ≡ false
+    → AreSpelled tokens content → is_too_deep 0 0 tokens ≡ false
+    → command_read tokens ≡ Some c → ContentAsks content (command_or_not here c)
+here_asks content tokens c true here some spelled shallow is = (
+  some,
+  record {
+    line = record { tokens = tokens; spelled = spelled; level = λ deep. absurd (cc); writes = command_found tokens c is };
+    here = here;
+  },
+)
+here_asks content tokens c false here some spelled shallow is = (some, inr (tokens, spelled, (λ deep. absurd (cc)), other_writes tokens c is here))
+
+line_asks : (content : List ℕ) (tokens : List Token) (c : Option Line) → is_blank content ≡ false → AreSpelled tokens content
+    → is_too_deep 0 0 tokens ≡ false
+    → command_read tokens ≡ c → ContentAsks content (line_read c)
+line_asks content tokens None some spelled shallow is = (some, inr (tokens, spelled, (λ deep. absurd (cc)), none_writes tokens is))
+line_asks content tokens (Some c) some spelled shallow is = here_asks content tokens c (is_here c) refl some spelled shallow is
+
+level_asks : (content : List ℕ) (tokens : List Token) (deep : Bool) → is_blank content ≡ false → AreSpelled tokens content
+    → is_too_deep 0 0 tokens ≡ deep → ContentAsks content (level_read deep tokens)
+level_asks content tokens true some spelled is = (some, record { tokens = tokens; spelled = spelled; level = is })
+level_asks content tokens false some spelled is = line_asks content tokens (command_read tokens) some spelled is refl
+
+tokens_ask : (content : List ℕ) (tokens : Option (List Token)) → is_blank content ≡ false → ReadsAs content [] tokens
+    → ContentAsks content (tokens_read tokens)
+tokens_ask content None some reads = (some, inl reads)
+tokens_ask content (Some tokens) some reads = level_asks content tokens (is_too_deep 0 0 tokens) some reads refl
+
+content_asks : (content : List ℕ) → ContentAsks content (content_read content)
+content_asks content = go (is_blank content) refl
+  where
+    go : (blank : Bool) → is_blank content ≡ blank → ContentAsks content (cond blank Blank (tokens_read (tokens_within (length content) content)))
+    go true is = is
+    go false is =
+        tokens_ask content (tokens_within (length content) content) is
+        (reads_on (length content) content [] content (omega arith) (read_start content))
+
+short_asks : (line : List ℕ) (r : Request) → length line ≤ 4096 → ContentAsks (without_return line) r → IsRequest line r
+short_asks line TooLong short h = absurd h
+short_asks line Blank short h = (short, h)
+short_asks line Malformed short h = (short, h)
+short_asks line TooDeep short h = (short, h)
+short_asks line (Asks c) short h = (short, h)
+
+-- what is read is what the line asks for
+pub is_request_read : (line : List ℕ) → IsRequest line (request_read line)
+is_request_read line = go (ltb 4096 (length line)) refl
+  where
+    go : (long : Bool) → ltb 4096 (length line) ≡ long → IsRequest line (cond long TooLong (content_read (without_return line)))
+    go true is = ltb-true 4096 (length line) is
+    go false is = short_asks line (content_read (without_return line)) (ltb-false 4096 (length line) is) (content_asks (without_return line))
+
+pub every_line_asks : EveryLineAsks
+every_line_asks line = (request_read line, is_request_read line)
+
+-- ---- the line of the whole grammar
+
+abbrev line_at : Option (List Token) → Option Line
+line_at None = None
+line_at (Some tokens) = cond (is_too_deep 0 0 tokens) None (command_read tokens)
+
+-- the line that bytes are read as
+abbrev pub line_of : List ℕ → Option Line
+line_of bytes = line_at (tokens_within (length bytes) bytes)
+
+pub is_line : (bytes : List ℕ) (c : Line) → line_of bytes ≡ Some c → IsLine bytes c
+is_line bytes c is = go (tokens_within (length bytes) bytes) refl is
+  where
+    shallow : (tokens : List Token) (deep : Bool) → is_too_deep 0 0 tokens ≡ deep → AreSpelled tokens bytes
+        → cond deep None (command_read tokens) ≡ Some c → IsLine bytes c
+    shallow tokens true deep spells is = absurd (cc)
+    shallow tokens false deep spells is = record { tokens = tokens; spelled = spells; level = λ h. absurd (cc); writes = command_found tokens c is }
+
+    go : (found : Option (List Token)) → tokens_within (length bytes) bytes ≡ found → line_at found ≡ Some c → IsLine bytes c
+    go None e is = absurd (cc)
+    go (Some tokens) e is = shallow tokens (is_too_deep 0 0 tokens) refl (spelled bytes tokens e) is

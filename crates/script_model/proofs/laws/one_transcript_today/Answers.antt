@@ -1,0 +1,5 @@
+use Rattle.script_model.proofs.Transcripts.{one_transcript_today}
+use Rattle.script_model.proofs.laws.one_transcript_today.Goals as goal
+
+pub returns : goal.returns
+returns c = one_transcript_today
