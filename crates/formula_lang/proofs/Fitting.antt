@@ -1,48 +1,84 @@
 -- What is allowed fits together.
-use Rattle.std.proofs.Common.{◌≡◌, ℕ, zero, suc, ◌≤◌, Bool, true, false, not, ◌&&◌, cond, if◌then◌else◌, List, [], ◌∷◌, length, Option, None, Some, is_some, refl, sym, ◌∙◌, subst, arith}
+use Rattle.std.proofs.Common.{◌≡◌, ℕ, zero, suc, ◌≤◌, Bool, true, false, not, ◌||◌, cond, List, [], ◌∷◌, length, Option, None, Some, is_some, inl, inr, refl, sym, ◌∙◌, subst, arith}
 use Rattle.std.proofs.lemmas.Option.{slice_get_within}
 use Rattle.std.specs.List.{slice_get}
 use Rattle.std.specs.Str.{bytes_eq}
 use Rattle.inc_value.proofs.SameTypes.{ty_true, types_true}
-use Rattle.inc_value.specs.Ty.{same_ty, same_types}
-use Rattle.inc_value.specs.Value.{type_of}
+use Rattle.inc_value.specs.Ty.{IsBase, same_ty, same_types}
 use Rattle.inc_value.specs.declared.function.FnRef.{FnRef}
-use Rattle.inc_value.specs.declared.ty.Base.{Base}
 use Rattle.inc_value.specs.declared.ty.Ty.{Ty}
-use Rattle.script_model.specs.Check.{Command, Declare, Assign, Observe, Stabilize, Show, Allow, Declared, Names, TypedFormula, TypedFormulas, find_declared, is_in_use, is_variable, typed, typed_each, applied, before, check_of, refused_if, needs, has_names, has_functions, target_of_formula, type_of_base, type_of_literal, value_of_literal, NameTaken, NameUnknown, FunctionUnknown, IllTyped, NotVariable, ObserverTaken, ObserverUnknown}
-use Rattle.script_model.specs.Choice.{and_then}
+use Rattle.script_model.specs.Check.{Command, Declare, Assign, Observe, Stabilize, Show, Declared, Names, Reason, NameTaken, ObserverTaken, NotVariable, ObserverUnknown, TypedFormula, TypedFormulas, TypedValue, first_named, find_declared, is_among, is_variable, kind_of, typed, typed_each, typed_as, typed_literal, literal_of_type, where_same, applied, before, command_of, body_as, target_of_body, first_that, is_against, line_order}
+use Rattle.inc_value.specs.Choice.{and_then}
 use Rattle.script_model.specs.Formula as model
-use Rattle.script_model.specs.Formula.{Formula, Functions}
+use Rattle.script_model.specs.Formula.{Formula, Meanings, nothing_kept}
 use Rattle.script_model.specs.Grammar as grammar
-use Rattle.script_model.specs.Grammar.{Line, Literal, Tree, Trees, Integer, Truth, Quoted, Written, Mention, Call, End, More}
+use Rattle.script_model.specs.Grammar.{Line, Literal, Tree, Trees, Integer, Truth, Quoted, Written, Mention, Call, End, More, is_plain, are_plain, is_plain_literal}
+use Rattle.script_model.specs.Values.{Value, type_of}
 use Rattle.formula_lang.specs.Fits.{NameFits, FunctionFits, FormulaFits, ArgumentsFit, FitsNames}
 use Rattle.formula_lang.specs.NamesView.{AreEarlier}
+use Rattle.formula_lang.proofs.Plainness.{both_true, is_plain_line, plain_top}
+use Rattle.formula_lang.proofs.Table.{none_holds}
 
--- ---- what the tests of types say
+-- ---- what tests say
 
-both_true : (a b : Bool) → (a && b) ≡ true → (a ≡ true) × (b ≡ true)
-both_true true true is = (refl, refl)
-both_true true false is = absurd (cc)
-both_true false b is = absurd (cc)
+or_false : (b : Bool) → (b || false) ≡ false → b ≡ false
+or_false true e = absurd (cc)
+or_false false e = refl
 
-literal_typed : (literal : Literal) → type_of (value_of_literal literal) ≡ type_of_literal literal
-literal_typed (Integer z) = refl
-literal_typed (Truth b) = refl
-literal_typed (Quoted content) = refl
+not_false : (b : Bool) → not b ≡ false → b ≡ true
+not_false true e = refl
+not_false false e = absurd (cc)
+
+none_found : {A : Type 0} (o : Option A) → is_some o ≡ false → o ≡ None
+none_found None e = refl
+none_found (Some x) e = absurd (cc)
+
+some_is : {A : Type 0} (x y : A) → Some x ≡ Some y → x ≡ y
+some_is x y e = cc
+
+-- ---- literals
+
+typed_value_fits : (names : Names) (literal : Literal) (v : TypedValue) → is_plain_literal literal ≡ true → typed_literal names literal ≡ Some v
+    → (type_of v.value ≡ v.ty) × IsBase v.ty
+typed_value_fits names (Integer z) v plain e =
+    let whole = some_is _ v e in subst (λ (x : TypedValue). (type_of x.value ≡ x.ty) × IsBase x.ty) whole (refl, tt)
+typed_value_fits names (Truth b) v plain e =
+    let whole = some_is _ v e in subst (λ (x : TypedValue). (type_of x.value ≡ x.ty) × IsBase x.ty) whole (refl, tt)
+typed_value_fits names (Quoted content) v plain e =
+    let whole = some_is _ v e in subst (λ (x : TypedValue). (type_of x.value ≡ x.ty) × IsBase x.ty) whole (refl, tt)
+typed_value_fits names _ v plain e = absurd (cc)
+
+literal_fits : (names : Names) (t : Ty) (literal : Literal) (v : Value) → is_plain_literal literal ≡ true
+    → literal_of_type names t literal ≡ Some v → (type_of v ≡ t) × IsBase t
+literal_fits names t literal v plain e = go (typed_literal names literal) (λ x is. typed_value_fits names literal x plain is) e
+  where
+    same : (x : TypedValue) (b : Bool) → same_ty x.ty t ≡ b → (type_of x.value ≡ x.ty) × IsBase x.ty → cond b (Some x.value) None ≡ Some v
+        → (type_of v ≡ t) × IsBase t
+    same x true is fits e =
+        let value : x.value ≡ v = some_is x.value v e in
+        let of_type : x.ty ≡ t = ty_true x.ty t is in
+        (subst (λ w. type_of w ≡ t) value (fits.0 ∙ of_type), subst IsBase of_type fits.1)
+    same x false is fits e = absurd (cc)
+
+    go : (o : Option TypedValue) → ((x : TypedValue) → o ≡ Some x → (type_of x.value ≡ x.ty) × IsBase x.ty)
+        → and_then o (λ x. where_same x.ty t (Some x.value)) ≡ Some v → (type_of v ≡ t) × IsBase t
+    go None fits e = absurd (cc)
+    go (Some x) fits e = same x (same_ty x.ty t) refl (fits x refl) e
 
 -- ---- names
 
 -- what is found stands in the list
-find_stands : (name : List ℕ) (ds : List Declared) (d : Declared) → find_declared name ds ≡ Some d → (i : ℕ) × (slice_get ds i ≡ Some d)
+find_stands : (name : List ℕ) (ds : List Declared) (d : Declared) → first_named name ds ≡ Some d → (i : ℕ) × (slice_get ds i ≡ Some d)
 find_stands name [] d found = absurd (cc)
 find_stands name (x ∷ xs) d found = go (bytes_eq name x.name) found (find_stands name xs d)
   where
-    go : (b : Bool) → cond b (Some x) (find_declared name xs) ≡ Some d → (find_declared name xs ≡ Some d → (i : ℕ) × (slice_get xs i ≡ Some d)) → (i : ℕ) × (slice_get (x ∷ xs) i ≡ Some d)
+    go : (b : Bool) → cond b (Some x) (first_named name xs) ≡ Some d → (first_named name xs ≡ Some d → (i : ℕ) × (slice_get xs i ≡ Some d))
+        → (i : ℕ) × (slice_get (x ∷ xs) i ≡ Some d)
     go true is rest = (zero, is)
     go false is rest = let there = rest is in (suc there.0, there.1)
 
 module _ (names : Names) (earlier : AreEarlier names.declared) where
-  name_fits : (name : List ℕ) (d : Declared) → find_declared name names.declared ≡ Some d → NameFits names d.target d.ty
+  name_fits : (name : List ℕ) (d : Declared) → find_declared names name ≡ Some d → NameFits names d.target d.ty
   name_fits name d found =
       let there = find_stands name names.declared d found in
       record {
@@ -56,7 +92,7 @@ module _ (names : Names) (earlier : AreEarlier names.declared) where
 
 -- ---- formulas
 
-module _ (F : Functions) (known : FnRef → Bool) (names : Names) (earlier : AreEarlier names.declared)
+module _ (F : Meanings) (known : FnRef → Bool) (names : Names) (earlier : AreEarlier names.declared)
     (maps : (name : List ℕ) (f : FnRef) → F.named name ≡ Some f → FunctionFits known f) where
   abbrev Fits : TypedFormula → Type 0
   Fits t = FormulaFits known names t.formula t.ty
@@ -67,19 +103,23 @@ module _ (F : Functions) (known : FnRef → Bool) (names : Names) (earlier : Are
   applied_fits : (f : FnRef) (ts : TypedFormulas) (t : TypedFormula) → FunctionFits known f → AllFit ts → applied f ts ≡ Some t → Fits t
   applied_fits f ts t function all is = go (same_types f.sig.takes ts.tys) refl is
     where
-      go : (b : Bool) → same_types f.sig.takes ts.tys ≡ b → (if b then Some (record { formula = model.Apply f ts.formulas; ty = f.sig.gives }) else None) ≡ Some t → Fits t
+      go : (b : Bool) → same_types f.sig.takes ts.tys ≡ b → cond b (typed_as (model.Apply f ts.formulas) f.sig.gives) None ≡ Some t → Fits t
       go true same e =
           let takes : ts.tys ≡ f.sig.takes = sym (types_true f.sig.takes ts.tys same) in
-          let whole : record { formula = model.Apply f ts.formulas; ty = f.sig.gives } ≡ t = cc in
+          let whole = some_is _ t e in
           subst Fits whole (function, subst (λ tys. ArgumentsFit known names ts.formulas tys) takes all, refl)
       go false same e = absurd (cc)
 
-  mentioned_fits : (name : List ℕ) (found : Option Declared) (t : TypedFormula) → find_declared name names.declared ≡ found
-      → and_then found (λ d. Some (record { formula = model.Name d.target; ty = d.ty })) ≡ Some t → Fits t
+  written_fits : (literal : Literal) (o : Option TypedValue) (t : TypedFormula)
+      → ((x : TypedValue) → o ≡ Some x → (type_of x.value ≡ x.ty) × IsBase x.ty)
+      → and_then o (λ v. typed_as (model.Literal v.value) v.ty) ≡ Some t → Fits t
+  written_fits literal None t fits e = absurd (cc)
+  written_fits literal (Some x) t fits e = subst Fits (some_is _ t e) (fits x refl)
+
+  mentioned_fits : (name : List ℕ) (found : Option Declared) (t : TypedFormula) → find_declared names name ≡ found
+      → and_then found (λ d. typed_as (model.Name d.target) d.ty) ≡ Some t → Fits t
   mentioned_fits name None t is e = absurd (cc)
-  mentioned_fits name (Some d) t is e =
-      let whole : record { formula = model.Name d.target; ty = d.ty } ≡ t = cc in
-      subst Fits whole (name_fits names earlier name d is)
+  mentioned_fits name (Some d) t is e = subst Fits (some_is _ t e) (name_fits names earlier name d is)
 
   call_fits : (name : List ℕ) (found : Option FnRef) (each : Option TypedFormulas) (t : TypedFormula) → F.named name ≡ found
       → ((ts : TypedFormulas) → each ≡ Some ts → AllFit ts) → and_then found (λ f. and_then each (λ ts. applied f ts)) ≡ Some t → Fits t
@@ -91,90 +131,104 @@ module _ (F : Functions) (known : FnRef → Bool) (names : Names) (earlier : Are
       → ((us : TypedFormulas) → rest ≡ Some us → AllFit us) → and_then first (λ t. and_then rest (λ us. Some (before t us))) ≡ Some ts → AllFit ts
   more_fit None rest ts one others e = absurd (cc)
   more_fit (Some t) None ts one others e = absurd (cc)
-  more_fit (Some t) (Some us) ts one others e =
-      let whole : before t us ≡ ts = cc in
-      subst AllFit whole (one t refl, others us refl)
+  more_fit (Some t) (Some us) ts one others e = subst AllFit (some_is (before t us) ts e) (one t refl, others us refl)
 
   mutual
-    typed_fits : (tree : Tree) (t : TypedFormula) → typed F names tree ≡ Some t → Fits t
-    typed_fits (Written literal) t e =
-        let whole : record { formula = model.Literal (value_of_literal literal); ty = type_of_literal literal } ≡ t = cc in
-        subst Fits whole (literal_typed literal)
-    typed_fits (Mention name) t e = mentioned_fits name (find_declared name names.declared) t refl e
-    typed_fits (Call function arguments) t e = call_fits function (F.named function) (typed_each F names arguments) t refl (typed_each_fit arguments) e
+    typed_fits : (tree : Tree) → is_plain tree ≡ true → (t : TypedFormula) → typed F names [] tree ≡ Some t → Fits t
+    typed_fits (Written literal) plain t e = written_fits literal (typed_literal names literal) t
+        (λ x is. typed_value_fits names literal x plain is) e
+    typed_fits (Mention name) plain t e = mentioned_fits name (find_declared names name) t refl e
+    typed_fits (Call function arguments) plain t e =
+        call_fits function (F.named function) (typed_each F names [] arguments) t refl (typed_each_fit arguments plain) e
+    typed_fits _ plain t e = absurd (cc)
 
-    typed_each_fit : (trees : Trees) (ts : TypedFormulas) → typed_each F names trees ≡ Some ts → AllFit ts
-    typed_each_fit End ts e =
-        let whole : record { formulas = model.End; tys = [] } ≡ ts = cc in
-        subst AllFit whole tt
-    typed_each_fit (More first rest) ts e = more_fit (typed F names first) (typed_each F names rest) ts (typed_fits first) (typed_each_fit rest) e
+    typed_each_fit : (trees : Trees) → are_plain trees ≡ true → (ts : TypedFormulas) → typed_each F names [] trees ≡ Some ts → AllFit ts
+    typed_each_fit End plain ts e = subst AllFit (some_is _ ts e) tt
+    typed_each_fit (More first rest) plain ts e =
+        let both = both_true (is_plain first) (are_plain rest) plain in
+        more_fit (typed F names [] first) (typed_each F names [] rest) ts (typed_fits first both.0) (typed_each_fit rest both.1) e
 
   -- ---- commands
 
-  target_fits : (formula : Formula) (t : Ty) → FormulaFits known names formula t → target_of_formula (length names.declared) formula ≤ length names.declared
+  abbrev Stands : Line → Reason → Bool
+  Stands l = is_against F names l
+
+  target_fits : (formula : Formula) (t : Ty) → FormulaFits known names formula t
+      → target_of_body (length names.declared) (model.Computed formula nothing_kept) ≤ length names.declared
   target_fits (model.Literal v) t h = omega arith
   target_fits (model.Name n) t h = omega (arith, h.earlier)
   target_fits (model.Apply f arguments) t h = omega arith
+  target_fits _ t h = absurd h
 
-  var_fits : (name : List ℕ) (base : Base) (first : Literal) (found : Option Declared) (same : Bool) (c : Command) → find_declared name names.declared ≡ found
-      → same_ty (type_of_literal first) (type_of_base base) ≡ same
-      → refused_if (is_some found) NameTaken (refused_if (not same) IllTyped (Allow (Declare name (type_of_base base) (model.Variable (value_of_literal first)) (length names.declared)))) ≡ Allow c
-      → FitsNames known names c
-  var_fits name base first (Some d) same c is fit e = absurd (cc)
-  var_fits name base first None false c is fit e = absurd (cc)
-  var_fits name base first None true c is fit e =
-      let whole : Declare name (type_of_base base) (model.Variable (value_of_literal first)) (length names.declared) ≡ c = cc in
-      subst (FitsNames known names) whole (record { fresh = is; body_fits = literal_typed first ∙ ty_true _ _ fit; earlier = omega arith; target_is = refl })
+  fresh : (name : List ℕ) → (is_some (find_declared names name) || false) ≡ false → first_named name names.declared ≡ None
+  fresh name e = none_found (first_named name names.declared) (or_false (is_some (find_declared names name)) e)
 
-  set_fits : (name : List ℕ) (literal : Literal) (found : Option Declared) (c : Command) → find_declared name names.declared ≡ found
-      → needs found NameUnknown (λ d. refused_if (not (is_variable (slice_get names.declared d.target))) NotVariable (
-      refused_if (not (same_ty (type_of_literal literal) d.ty)) IllTyped (Allow (Assign d.target (value_of_literal literal))))) ≡ Allow c
+  var_fits : (name : List ℕ) (t : Ty) (first : Literal) (o : Option Value) (c : Command) → first_named name names.declared ≡ None
+      → ((v : Value) → o ≡ Some v → (type_of v ≡ t) × IsBase t) → and_then o (λ v. Some (Declare name t (model.Variable v))) ≡ Some c
       → FitsNames known names c
-  set_fits name literal None c is e = absurd (cc)
-  set_fits name literal (Some d) c is e = go (is_variable (slice_get names.declared d.target)) refl (same_ty (type_of_literal literal) d.ty) refl e
+  var_fits name t first None c none fits e = absurd (cc)
+  var_fits name t first (Some v) c none fits e =
+      subst (FitsNames known names) (some_is (Declare name t (model.Variable v)) c e)
+      (record { fresh = none; body_fits = fits v refl; earlier = omega arith })
+
+  set_fits : (name : List ℕ) (literal : Literal) (found : Option Declared) (c : Command) → find_declared names name ≡ found
+      → is_plain_literal literal ≡ true
+      → is_variable (and_then found (λ d. and_then (slice_get names.declared d.target) (λ t. Some t.kind))) ≡ true
+      → and_then found (λ d. and_then (literal_of_type names d.ty literal) (λ v. Some (Assign d.target v))) ≡ Some c → FitsNames known names c
+  set_fits name literal None c is plain variable e = absurd (cc)
+  set_fits name literal (Some d) c is plain variable e =
+      go (literal_of_type names d.ty literal) (λ v at. literal_fits names d.ty literal v plain at) e
     where
-      go : (variable : Bool) → is_variable (slice_get names.declared d.target) ≡ variable → (same : Bool) → same_ty (type_of_literal literal) d.ty ≡ same
-          → refused_if (not variable) NotVariable (refused_if (not same) IllTyped (Allow (Assign d.target (value_of_literal literal)))) ≡ Allow c → FitsNames known names c
-      go false kind same fit h = absurd (cc)
-      go true kind false fit h = absurd (cc)
-      go true kind true fit h =
-          let whole : Assign d.target (value_of_literal literal) ≡ c = cc in
-          let of_type : d.ty ≡ type_of (value_of_literal literal) = sym (literal_typed literal ∙ ty_true _ _ fit) in
-          subst (FitsNames known names) whole (record { name = subst (λ t. NameFits names d.target t) of_type (name_fits names earlier name d is); variable = kind })
+      go : (o : Option Value) → ((v : Value) → o ≡ Some v → (type_of v ≡ d.ty) × IsBase d.ty)
+          → and_then o (λ v. Some (Assign d.target v)) ≡ Some c → FitsNames known names c
+      go None fits e = absurd (cc)
+      go (Some v) fits e =
+          let of_type : d.ty ≡ type_of v = sym (fits v refl).0 in
+          subst (FitsNames known names) (some_is (Assign d.target v) c e) (record {
+            name = subst (λ t. NameFits names d.target t) of_type (name_fits names earlier name d is);
+            base = subst IsBase of_type (fits v refl).1;
+            variable = variable;
+          })
 
-  let_fits : (name : List ℕ) (tree : Tree) (found : Option Declared) (named have : Bool) (c : Command) → find_declared name names.declared ≡ found
-      → refused_if (is_some found) NameTaken (refused_if (not named) NameUnknown (refused_if (not have) FunctionUnknown (
-      needs (typed F names tree) IllTyped (λ t. Allow (Declare name t.ty (model.Computed t.formula) (target_of_formula (length names.declared) t.formula)))))) ≡ Allow c
+  let_fits : (name : List ℕ) (tree : Tree) (result : Option TypedFormula) (c : Command) → first_named name names.declared ≡ None
+      → ((t : TypedFormula) → result ≡ Some t → Fits t)
+      → and_then (and_then result (λ t. body_as (model.Computed t.formula nothing_kept) t.ty)) (λ t. Some (Declare name t.ty t.body)) ≡ Some c
       → FitsNames known names c
-  let_fits name tree (Some d) named have c is e = absurd (cc)
-  let_fits name tree None false have c is e = absurd (cc)
-  let_fits name tree None true false c is e = absurd (cc)
-  let_fits name tree None true true c is e = go (typed F names tree) (typed_fits tree) e
-    where
-      go : (result : Option TypedFormula) → ((t : TypedFormula) → result ≡ Some t → Fits t)
-          → needs result IllTyped (λ t. Allow (Declare name t.ty (model.Computed t.formula) (target_of_formula (length names.declared) t.formula))) ≡ Allow c → FitsNames known names c
-      go None all h = absurd (cc)
-      go (Some t) all h =
-          let whole : Declare name t.ty (model.Computed t.formula) (target_of_formula (length names.declared) t.formula) ≡ c = cc in
-          subst (FitsNames known names) whole (record { fresh = is; body_fits = all t refl; earlier = target_fits t.formula t.ty (all t refl); target_is = refl })
+  let_fits name tree None c none all e = absurd (cc)
+  let_fits name tree (Some t) c none all e =
+      subst (FitsNames known names) (some_is (Declare name t.ty (model.Computed t.formula nothing_kept)) c e)
+      (record { fresh = none; body_fits = (all t refl, refl); earlier = target_fits t.formula t.ty (all t refl) })
 
-  observe_fits : (observer name : List ℕ) (used : Bool) (found : Option Declared) (c : Command) → is_in_use observer names.observers ≡ used → find_declared name names.declared ≡ found
-      → refused_if used ObserverTaken (needs found NameUnknown (λ d. Allow (Observe observer d.target))) ≡ Allow c → FitsNames known names c
-  observe_fits observer name true found c used is e = absurd (cc)
-  observe_fits observer name false None c used is e = absurd (cc)
-  observe_fits observer name false (Some d) c used is e =
-      let whole : Observe observer d.target ≡ c = cc in
-      subst (FitsNames known names) whole (record { fresh = used; earlier = (name_fits names earlier name d is).earlier })
+  observe_fits : (observer name : List ℕ) (found : Option Declared) (c : Command) → find_declared names name ≡ found
+      → is_among names.observers observer ≡ false
+      → and_then found (λ d. Some (Observe observer d.target)) ≡ Some c → FitsNames known names c
+  observe_fits observer name None c is unused e = absurd (cc)
+  observe_fits observer name (Some d) c is unused e =
+      subst (FitsNames known names) (some_is (Observe observer d.target) c e)
+      (record { fresh = unused; earlier = (name_fits names earlier name d is).earlier })
 
-  show_fits : (observer : List ℕ) (used : Bool) (c : Command) → is_in_use observer names.observers ≡ used
-      → refused_if (not used) ObserverUnknown (Allow (Show observer)) ≡ Allow c → FitsNames known names c
-  show_fits observer false c is e = absurd (cc)
-  show_fits observer true c is e = let whole : Show observer ≡ c = cc in subst (FitsNames known names) whole is
-
-  pub check_fits : (l : Line) (c : Command) → check_of F names l ≡ Allow c → FitsNames known names c
-  check_fits (grammar.Var name base first) c e = var_fits name base first (find_declared name names.declared) (same_ty (type_of_literal first) (type_of_base base)) c refl refl e
-  check_fits (grammar.Set name literal) c e = set_fits name literal (find_declared name names.declared) c refl e
-  check_fits (grammar.Let name tree) c e = let_fits name tree (find_declared name names.declared) (has_names names tree) (has_functions F tree) c refl e
-  check_fits (grammar.Observe observer name) c e = observe_fits observer name (is_in_use observer names.observers) (find_declared name names.declared) c refl refl e
-  check_fits grammar.Stabilize c e = let whole : Stabilize ≡ c = cc in subst (FitsNames known names) whole tt
-  check_fits (grammar.Show observer) c e = show_fits observer (is_in_use observer names.observers) c refl e
+  pub check_fits : (l : Line) (c : Command) → is_plain_line l ≡ true → first_that (Stands l) line_order ≡ None → command_of F names l ≡ Some c
+      → FitsNames known names c
+  check_fits (grammar.Var name t first) c plain none e =
+      let taken = none_holds (Stands (grammar.Var name t first)) line_order NameTaken none (inl refl) in
+      var_fits name t first (literal_of_type names t first) c (fresh name taken) (λ v at. literal_fits names t first v plain at) e
+  check_fits (grammar.Set name literal) c plain none e =
+      let other = none_holds (Stands (grammar.Set name literal)) line_order NotVariable none (inr (inr (inr (inr (inr (inr (inl refl))))))) in
+      let variable : is_variable (kind_of names name) ≡ true =
+      not_false (is_variable (kind_of names name)) (or_false (not (is_variable (kind_of names name))) other) in
+      set_fits name literal (find_declared names name) c refl plain variable e
+  check_fits (grammar.Let name tree) c plain none e =
+      let taken = none_holds (Stands (grammar.Let name tree)) line_order NameTaken none (inl refl) in
+      let top = plain_top F names tree plain in
+      let allowed : and_then (and_then (typed F names [] tree) (λ t. body_as (model.Computed t.formula nothing_kept) t.ty))
+      (λ t. Some (Declare name t.ty t.body)) ≡ Some c = rw (← top) e in
+      let_fits name tree (typed F names [] tree) c (fresh name taken) (typed_fits tree plain) allowed
+  check_fits (grammar.Observe observer name) c plain none e =
+      let taken = none_holds (Stands (grammar.Observe observer name)) line_order ObserverTaken none (inr (inl refl)) in
+      observe_fits observer name (find_declared names name) c refl (or_false (is_among names.observers observer) taken) e
+  check_fits grammar.Stabilize c plain none e = subst (FitsNames known names) (some_is Stabilize c e) tt
+  check_fits (grammar.Show observer) c plain none e =
+      let unknown = none_holds (Stands (grammar.Show observer)) line_order ObserverUnknown none (inr (inr (inr (inl refl)))) in
+      subst (FitsNames known names) (some_is (Show observer) c e)
+      (not_false (is_among names.observers observer) (or_false (not (is_among names.observers observer)) unknown))
+  check_fits _ c plain none e = absurd (cc)

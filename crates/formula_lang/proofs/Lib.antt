@@ -1,6 +1,9 @@
+mod Commands
 mod Fitting
 mod Listing
 mod Numbers
+mod Plain
+mod Plainness
 mod Steps
-mod Texts
+mod Table
 mod TypedArguments

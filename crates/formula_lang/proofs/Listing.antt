@@ -3,14 +3,15 @@ use Rattle.std.proofs.Common.{◌≡◌, ℕ, zero, suc, ◌+◌, ◌≤◌, ◌
 use Rattle.std.proofs.lemmas.Iterator.Adapters.{position_from-zero}
 use Rattle.std.proofs.lemmas.List.{map-append}
 use Rattle.std.proofs.lemmas.Slice.Eq.{bytes_eq-Decides}
-use Rattle.std.specs.List.{list_any, position, position_from, slice_get}
+use Rattle.std.specs.List.{list_any, position, position_from, slice_get, swap_remove}
+use Rattle.std.specs.Option.{option_map_or}
 use Rattle.std.specs.Map.{keys_of, values_of}
-use Rattle.std.specs.Set.{remove_key}
 use Rattle.std.specs.Str.{bytes_eq}
-use Rattle.indexmap.specs.IndexMap.{insert_entry}
+use Rattle.indexmap.proofs.SetLemmas.{map-swap_remove}
+use Rattle.indexmap.specs.IndexMap.{insert_entry, swap_remove_by}
 use Rattle.script_model.specs.Check as model
-use Rattle.script_model.specs.Check.{find_declared}
-use Rattle.script_model.specs.Choice.{Every, and_then}
+use Rattle.script_model.specs.Check.{first_named}
+use Rattle.inc_value.specs.Choice.{Every, and_then}
 use Rattle.formula_lang.specs.declared.names.Declared.{Declared}
 use Rattle.formula_lang.specs.NamesView.{AreEarlier, AreKept, declared_in, declared_view}
 
@@ -24,26 +25,18 @@ module _ {K : Type 0} (bytes_of : K → List ℕ) (name : List ℕ) where
   list_any-named [] = refl
   list_any-named (k ∷ ks) = ap (λ b. bytes_eq name (bytes_of k) || b) (list_any-named ks)
 
-  pub remove_key-named : (ks : List K) → map bytes_of (remove_key is_named ks) ≡ remove_key (bytes_eq name) (map bytes_of ks)
-  remove_key-named [] = refl
-  remove_key-named (k ∷ ks) = go (bytes_eq name (bytes_of k)) (remove_key-named ks)
-    where
-      go : (b : Bool) → map bytes_of (remove_key is_named ks) ≡ remove_key (bytes_eq name) (map bytes_of ks)
-          → map bytes_of (cond b ks (k ∷ remove_key is_named ks)) ≡ cond b (map bytes_of ks) (bytes_of k ∷ remove_key (bytes_eq name) (map bytes_of ks))
-      go true rest = refl
-      go false rest = ap (λ l. bytes_of k ∷ l) rest
-
 -- ---- entries
 
 -- a new name goes last
-module _ {K : Type 0} (bytes_of : K → List ℕ) (eq : K → K → Bool) (same : (x y : K) → eq x y ≡ bytes_eq (bytes_of x) (bytes_of y)) (k : K) (v : Declared) where
-  pub insert_entry-fresh : (es : List (K × Declared)) → Every (λ e. bytes_of e.0 ≡ e.1.name) es → find_declared (bytes_of k) (declared_in es) ≡ None
+module _ {K : Type 0} (bytes_of : K → List ℕ) (eq : K → K → Bool) (same : (x y : K) → eq x y ≡ bytes_eq (bytes_of x) (bytes_of y)) (k : K)
+    (v : Declared) where
+  pub insert_entry-fresh : (es : List (K × Declared)) → Every (λ e. bytes_of e.0 ≡ e.1.name) es → first_named (bytes_of k) (declared_in es) ≡ None
       → insert_entry eq es k v ≡ es ++ (k, v) ∷ []
   insert_entry-fresh [] keys fresh = refl
   insert_entry-fresh (e ∷ es) keys fresh = go (bytes_eq (bytes_of k) e.1.name) refl fresh (insert_entry-fresh es keys.1)
     where
-      go : (b : Bool) → bytes_eq (bytes_of k) e.1.name ≡ b → cond b (Some (declared_view e.1)) (find_declared (bytes_of k) (declared_in es)) ≡ None
-          → (find_declared (bytes_of k) (declared_in es) ≡ None → insert_entry eq es k v ≡ es ++ (k, v) ∷ [])
+      go : (b : Bool) → bytes_eq (bytes_of k) e.1.name ≡ b → cond b (Some (declared_view e.1)) (first_named (bytes_of k) (declared_in es)) ≡ None
+          → (first_named (bytes_of k) (declared_in es) ≡ None → insert_entry eq es k v ≡ es ++ (k, v) ∷ [])
           → insert_entry eq (e ∷ es) k v ≡ e ∷ (es ++ (k, v) ∷ [])
       go true is none rest = absurd (cc)
       go false is none rest =
@@ -51,7 +44,8 @@ module _ {K : Type 0} (bytes_of : K → List ℕ) (eq : K → K → Bool) (same 
           rw other (ap (λ l. e ∷ l) (rest none))
 
 -- what stands in a list with one more at its end
-pushed : {A : Type 0} (xs : List A) (y : A) (i : ℕ) (x : A) → slice_get (xs ++ y ∷ []) i ≡ Some x → (slice_get xs i ≡ Some x) ⊎ ((i ≡ length xs) × (x ≡ y))
+pushed : {A : Type 0} (xs : List A) (y : A) (i : ℕ) (x : A) → slice_get (xs ++ y ∷ []) i ≡ Some x
+    → (slice_get xs i ≡ Some x) ⊎ ((i ≡ length xs) × (x ≡ y))
 pushed [] y zero x at = inr (refl, cc)
 pushed [] y (suc i) x at = absurd (cc)
 pushed (z ∷ zs) y zero x at = inl at
@@ -59,9 +53,14 @@ pushed (z ∷ zs) y (suc i) x at = elim (pushed zs y i x at) [ inl h ↦ inl h |
 
 AreEarlier-push : (ds : List model.Declared) (d : model.Declared) → AreEarlier ds → d.target ≤ length ds → AreEarlier (ds ++ d ∷ [])
 AreEarlier-push ds d all last = λ i x at.
-    elim (pushed ds d i x at) [ inl h ↦ all i x h | inr h ↦ (let same : x.target ≡ d.target = ap (λ (e : model.Declared). e.target) h.1 in omega (arith, h.0)) ]
+    elim (pushed ds d i x at) [
+      | inl h ↦ all i x h
+      | inr h
+          ↦ (let same : x.target ≡ d.target = ap (λ (e : model.Declared). e.target) h.1 in omega (arith, h.0))
+    ]
 
-declared_in-push : {K : Type 0} (es : List (K × Declared)) (k : K) (v : Declared) → declared_in (es ++ (k, v) ∷ []) ≡ declared_in es ++ declared_view v ∷ []
+declared_in-push : {K : Type 0} (es : List (K × Declared)) (k : K) (v : Declared)
+    → declared_in (es ++ (k, v) ∷ []) ≡ declared_in es ++ declared_view v ∷ []
 declared_in-push [] k v = refl
 declared_in-push (e ∷ es) k v = ap (λ l. declared_view e.1 ∷ l) (declared_in-push es k v)
 
@@ -73,10 +72,12 @@ pub length-declared_in : {K : Type 0} (es : List (K × Declared)) → length (de
 length-declared_in [] = refl
 length-declared_in (e ∷ es) = ap suc (length-declared_in es)
 
-module _ {K : Type 0} (bytes_of : K → List ℕ) (eq : K → K → Bool) (same : (x y : K) → eq x y ≡ bytes_eq (bytes_of x) (bytes_of y)) (k : K) (v : Declared) (es new : List (K × Declared))
-    (kept : AreKept bytes_of es) (fresh : find_declared v.name (declared_in es) ≡ None) (named : bytes_of k ≡ v.name) (is : new ≡ insert_entry eq es k v) where
+module _ {K : Type 0} (bytes_of : K → List ℕ) (eq : K → K → Bool) (same : (x y : K) → eq x y ≡ bytes_eq (bytes_of x) (bytes_of y)) (k : K)
+    (v : Declared) (es new : List (K × Declared))
+    (kept : AreKept bytes_of es) (fresh : first_named v.name (declared_in es) ≡ None) (named : bytes_of k ≡ v.name)
+    (is : new ≡ insert_entry eq es k v) where
   pub declared_pushed : new ≡ es ++ (k, v) ∷ []
-  declared_pushed = is ∙ insert_entry-fresh bytes_of eq same k v es kept.keys (ap (λ n. find_declared n (declared_in es)) named ∙ fresh)
+  declared_pushed = is ∙ insert_entry-fresh bytes_of eq same k v es kept.keys (ap (λ n. first_named n (declared_in es)) named ∙ fresh)
 
   pub kept_after : v.target ≤ length (declared_in es) → AreKept bytes_of new
   kept_after earlier = rw declared_pushed (record {
@@ -93,13 +94,14 @@ module _ {K : Type 0} (bytes_of : K → List ℕ) (eq : K → K → Bool) (same 
 record IsLocated {K : Type 0} (name : List ℕ) (s : ℕ) (es : List (K × Declared)) (n : ℕ) : Type 0 where
   offset : ℕ
   is : n ≡ s + offset
-  found : find_declared name (declared_in es) ≡ slice_get (declared_in es) offset
+  found : first_named name (declared_in es) ≡ slice_get (declared_in es) offset
 
 abbrev Locates : {K : Type 0} → List ℕ → ℕ → List (K × Declared) → Option ℕ → Type 0
-Locates name s es r = MatchOption r (find_declared name (declared_in es) ≡ None) (λ n. IsLocated name s es n)
+Locates name s es r = MatchOption r (first_named name (declared_in es) ≡ None) (λ n. IsLocated name s es n)
 
 module _ {K : Type 0} (bytes_of : K → List ℕ) (name : List ℕ) where
-  located : (es : List (K × Declared)) (s t : ℕ) → t ≡ s → Every (λ e. bytes_of e.0 ≡ e.1.name) es → Locates name s es (position_from (is_named bytes_of name) t (keys_of es))
+  located : (es : List (K × Declared)) (s t : ℕ) → t ≡ s → Every (λ e. bytes_of e.0 ≡ e.1.name) es
+      → Locates name s es (position_from (is_named bytes_of name) t (keys_of es))
   located [] s t e keys = refl
   located (x ∷ xs) s t e keys = go (bytes_eq name (bytes_of x.0)) refl (located xs (suc s) (t + 1) (omega arith) keys.1)
     where
@@ -114,12 +116,14 @@ module _ {K : Type 0} (bytes_of : K → List ℕ) (name : List ℕ) where
           record { offset = zero; is = omega (arith, e); found = rw named refl }
       go false match rest = later (position_from (is_named bytes_of name) (t + 1) (keys_of xs)) (sym (ap (bytes_eq name) keys.0) ∙ match) rest
 
-  from_start : (es : List (K × Declared)) (r : Option ℕ) → Locates name 0 es r → find_declared name (declared_in es) ≡ and_then r (slice_get (declared_in es))
+  from_start : (es : List (K × Declared)) (r : Option ℕ) → Locates name 0 es r
+      → first_named name (declared_in es) ≡ and_then r (slice_get (declared_in es))
   from_start es None h = h
   from_start es (Some n) h = let same : h.offset ≡ n = omega (arith, h.is) in rw (← same) h.found
 
-  pub found_at : (es : List (K × Declared)) (r : Option ℕ) → Every (λ e. bytes_of e.0 ≡ e.1.name) es → r ≡ position (is_named bytes_of name) (keys_of es)
-      → find_declared name (declared_in es) ≡ and_then r (slice_get (declared_in es))
+  pub found_at : (es : List (K × Declared)) (r : Option ℕ) → Every (λ e. bytes_of e.0 ≡ e.1.name) es
+      → r ≡ position (is_named bytes_of name) (keys_of es)
+      → first_named name (declared_in es) ≡ and_then r (slice_get (declared_in es))
   found_at es r keys e =
       let first = located es 0 0 refl keys in
       let there : r ≡ position_from (is_named bytes_of name) 0 (keys_of es) = e ∙ position_from-zero (is_named bytes_of name) (keys_of es) in
@@ -141,7 +145,8 @@ placed : (name : List ℕ) (names : List (List ℕ)) (s t : ℕ) → t ≡ s →
 placed name [] s t e = refl
 placed name (x ∷ xs) s t e = go (bytes_eq name x) refl (placed name xs (suc s) (t + 1) (omega arith))
   where
-    not_before : (offset : ℕ) → bytes_eq name x ≡ false → ((k : ℕ) → k < offset → slice_get xs k ≢ Some name) → (k : ℕ) → k < suc offset → slice_get (x ∷ xs) k ≢ Some name
+    not_before : (offset : ℕ) → bytes_eq name x ≡ false → ((k : ℕ) → k < offset → slice_get xs k ≢ Some name) → (k : ℕ) → k < suc offset
+        → slice_get (x ∷ xs) k ≢ Some name
     not_before offset other first zero below = λ at. let passes = (bytes_eq-Decides name x).1 (cc) in absurd (cc)
     not_before offset other first (suc k) below = first k (omega arith)
 
@@ -151,7 +156,12 @@ placed name (x ∷ xs) s t e = go (bytes_eq name x) refl (placed name xs (suc s)
 
     go : (b : Bool) → bytes_eq name x ≡ b → Places name (suc s) xs (position_from (bytes_eq name) (t + 1) xs)
         → Places name s (x ∷ xs) (cond b (Some t) (position_from (bytes_eq name) (t + 1) xs))
-    go true same rest = record { offset = zero; is = omega (arith, e); found = ap Some (sym ((bytes_eq-Decides name x).0 same)); first = λ k below. absurd (omega (arith, below)) }
+    go true same rest = record {
+      offset = zero;
+      is = omega (arith, e);
+      found = ap Some (sym ((bytes_eq-Decides name x).0 same));
+      first = λ k below. absurd (omega (arith, below));
+    }
     go false other rest = later (position_from (bytes_eq name) (t + 1) xs) other rest
 
 module _ {K : Type 0} (bytes_of : K → List ℕ) (name : List ℕ) where
@@ -159,36 +169,56 @@ module _ {K : Type 0} (bytes_of : K → List ℕ) (name : List ℕ) where
   position_from-named [] t = refl
   position_from-named (k ∷ ks) t = ap (cond (bytes_eq name (bytes_of k)) (Some t)) (position_from-named ks (t + 1))
 
+  -- the same keys are left where the last takes a name's place
+  pub swap_remove-named : (ks : List K) → map bytes_of (swap_remove_by (is_named bytes_of name) ks) ≡ swap_remove_by (bytes_eq name) (map bytes_of ks)
+  swap_remove-named [] = refl
+  swap_remove-named (k ∷ ks) = rw (← same) (go (position (is_named bytes_of name) (k ∷ ks)))
+    where
+      same : position (is_named bytes_of name) (k ∷ ks) ≡ position (bytes_eq name) (map bytes_of (k ∷ ks))
+      same = position_from-zero (is_named bytes_of name) (k ∷ ks) ∙ position_from-named (k ∷ ks) 0
+          ∙ sym (position_from-zero (bytes_eq name) (map bytes_of (k ∷ ks)))
+
+      go : (r : Option ℕ) → map bytes_of (option_map_or (λ i. swap_remove (k ∷ ks) i k) r (k ∷ ks)) ≡ option_map_or
+          (λ i. swap_remove (map bytes_of (k ∷ ks)) i (bytes_of k)) r (map bytes_of (k ∷ ks))
+      go None = refl
+      go (Some i) = map-swap_remove bytes_of (k ∷ ks) i k (omega arith)
+
   -- what a look-up among the keys says of their names
   pub placed_at : (ks : List K) (r : Option ℕ) → r ≡ position (is_named bytes_of name) ks → Places name 0 (map bytes_of ks) r
   placed_at ks r e =
-      let there : r ≡ position_from (bytes_eq name) 0 (map bytes_of ks) = e ∙ position_from-zero (is_named bytes_of name) ks ∙ position_from-named ks 0 in
+      let there : r ≡ position_from (bytes_eq name) 0 (map bytes_of ks) = e ∙ position_from-zero (is_named bytes_of name) ks
+      ∙ position_from-named ks 0 in
       rw there (placed name (map bytes_of ks) 0 0 refl)
 
   pub found_observer : (ks : List K) (r : Option ℕ) → r ≡ position (is_named bytes_of name) ks
       → MatchOption r (list_any (bytes_eq name) (map bytes_of ks) ≡ false) (λ i. slice_get (map bytes_of ks) i ≡ Some name)
   found_observer ks r e = go r (placed_at ks r e)
     where
-      go : (r : Option ℕ) → Places name 0 (map bytes_of ks) r → MatchOption r (list_any (bytes_eq name) (map bytes_of ks) ≡ false) (λ i. slice_get (map bytes_of ks) i ≡ Some name)
+      go : (r : Option ℕ) → Places name 0 (map bytes_of ks) r
+          → MatchOption r (list_any (bytes_eq name) (map bytes_of ks) ≡ false) (λ i. slice_get (map bytes_of ks) i ≡ Some name)
       go None h = h
       go (Some i) h = let same : i ≡ h.offset = omega (arith, h.is) in rw same h.found
 
-  pub first_observer : (ks : List K) (r : Option ℕ) → r ≡ position (is_named bytes_of name) ks → IfSome r (λ i. (k : ℕ) → k < i → slice_get (map bytes_of ks) k ≢ Some name)
+  pub first_observer : (ks : List K) (r : Option ℕ) → r ≡ position (is_named bytes_of name) ks
+      → IfSome r (λ i. (k : ℕ) → k < i → slice_get (map bytes_of ks) k ≢ Some name)
   first_observer ks r e = go r (placed_at ks r e)
     where
       go : (r : Option ℕ) → Places name 0 (map bytes_of ks) r → IfSome r (λ i. (k : ℕ) → k < i → slice_get (map bytes_of ks) k ≢ Some name)
       go None h = tt
       go (Some i) h = λ k below. h.first k (omega (arith, h.is, below))
 
-pub observed : {K : Type 0} (bytes_of : K → List ℕ) (k : K) (name : List ℕ) (ks : List K) → bytes_of k ≡ name → list_any (bytes_eq name) (map bytes_of ks) ≡ false
+pub observed : {K : Type 0} (bytes_of : K → List ℕ) (k : K) (name : List ℕ) (ks : List K) → bytes_of k ≡ name
+    → list_any (bytes_eq name) (map bytes_of ks) ≡ false
     → map bytes_of (if list_any (is_named bytes_of (bytes_of k)) ks then ks else ks ++ k ∷ []) ≡ map bytes_of ks ++ name ∷ []
 observed bytes_of k name ks named free =
-    let none : list_any (is_named bytes_of (bytes_of k)) ks ≡ false = list_any-named bytes_of (bytes_of k) ks ∙ ap (λ n. list_any (bytes_eq n) (map bytes_of ks)) named ∙ free in
+    let none : list_any (is_named bytes_of (bytes_of k)) ks ≡ false = list_any-named bytes_of (bytes_of k) ks
+    ∙ ap (λ n. list_any (bytes_eq n) (map bytes_of ks)) named ∙ free in
     rw none (map-append bytes_of ks (k ∷ []) ∙ ap (λ n. map bytes_of ks ++ n ∷ []) named)
 
 -- ---- one entry
 
-pub shown_at : {K : Type 0} (es : List (K × Declared)) (i : ℕ) (v : Declared) → slice_get (values_of es) i ≡ Some v → slice_get (declared_in es) i ≡ Some (declared_view v)
+pub shown_at : {K : Type 0} (es : List (K × Declared)) (i : ℕ) (v : Declared) → slice_get (values_of es) i ≡ Some v
+    → slice_get (declared_in es) i ≡ Some (declared_view v)
 shown_at [] i v at = absurd (cc)
 shown_at (e ∷ es) zero v at = let same : e.1 ≡ v = cc in ap (λ x. Some (declared_view x)) same
 shown_at (e ∷ es) (suc i) v at = shown_at es i v at

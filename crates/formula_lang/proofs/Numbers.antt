@@ -14,7 +14,8 @@ number_from-grows (d ∷ digits) n = omega (arith, number_from-grows digits (10 
 
 -- a number is no less than its first digits
 pub number_from-front : (digits : List ℕ) (n i : ℕ) → i < length digits → 10 * n + (get_or digits i 0 - 48) ≤ number_from n (drop i digits)
-number_from-front digits n i h = rw (at_drop_more (number_from n) digits i 0 h) (number_from-grows (drop (i + 1) digits) (10 * n + (get_or digits i 0 - 48)))
+number_from-front digits n i h = rw (at_drop_more (number_from n) digits i 0 h)
+    (number_from-grows (drop (i + 1) digits) (10 * n + (get_or digits i 0 - 48)))
 
 bytes_eq-sym : (xs ys : List ℕ) → bytes_eq xs ys ≡ bytes_eq ys xs
 bytes_eq-sym xs ys =
@@ -23,6 +24,7 @@ bytes_eq-sym xs ys =
     same_from_decides (bytes_eq xs ys) (bytes_eq ys xs) there (λ e. sym (back.0 e), λ e. back.1 (sym e))
 
 -- a word among others, whichever side `==` has it on
-pub list_any-bytes_eq : (word : List ℕ) (words : List (Bor (List ℕ))) → list_any (λ w. bytes_eq w.now word) words ≡ list_any (bytes_eq word) (map (λ w. w.now) words)
+pub list_any-bytes_eq : (word : List ℕ) (words : List (Bor (List ℕ)))
+    → list_any (λ w. bytes_eq w.now word) words ≡ list_any (bytes_eq word) (map (λ w. w.now) words)
 list_any-bytes_eq word [] = refl
 list_any-bytes_eq word (w ∷ words) = rw (bytes_eq-sym w.now word, list_any-bytes_eq word words) refl

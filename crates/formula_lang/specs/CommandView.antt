@@ -2,14 +2,25 @@
 use Rattle.std.specs.Prelude.{List, [], ◌∷◌}
 use Rattle.script_model.specs.Check as model
 use Rattle.script_model.specs.Formula as formula
-use Rattle.formula_lang.specs.declared.command.Body.TheVariants as body
-use Rattle.formula_lang.specs.declared.command.Body.{Body}
+use Rattle.script_model.specs.Formula.{nothing_kept}
+use Rattle.script_model.specs.Values as value
 use Rattle.formula_lang.specs.declared.command.Command.TheVariants as command
 use Rattle.formula_lang.specs.declared.command.Command.{Command}
+use Rattle.formula_lang.specs.declared.command.Constant.TheVariants as constant
+use Rattle.formula_lang.specs.declared.command.Constant.{Constant}
+use Rattle.formula_lang.specs.declared.command.Declaration.TheVariants as declaration
+use Rattle.formula_lang.specs.declared.command.Declaration.{Declaration}
 use Rattle.formula_lang.specs.declared.command.Formula.TheFolds.{fold-Formula}
 use Rattle.formula_lang.specs.declared.command.Formula.TheOpen as level
 use Rattle.formula_lang.specs.declared.command.Formula.TheOpen.{Formula-F}
 use Rattle.formula_lang.specs.declared.command.Formula.{Formula}
+
+-- a constant as a value
+abbrev pub constant_view : Constant → value.Value
+constant_view (constant.Int number) = value.Int number
+constant_view (constant.Bool truth) = value.Bool truth
+constant_view (constant.Text bytes) = value.Text bytes
+constant_view (constant.Reference target base) = value.Reference target base
 
 -- formulas in a row
 abbrev pub formulas_of : List formula.Formula → formula.Formulas
@@ -18,7 +29,7 @@ formulas_of (f ∷ fs) = formula.More f (formulas_of fs)
 
 -- one level of a formula, with the views of its parts in their places
 abbrev pub formula_level : Formula-F formula.Formula → formula.Formula
-formula_level (level.Literal value) = formula.Literal value
+formula_level (level.Literal value) = formula.Literal (constant_view value)
 formula_level (level.Name position) = formula.Name position
 formula_level (level.Apply function arguments) = formula.Apply function (formulas_of arguments.items)
 
@@ -26,14 +37,15 @@ formula_level (level.Apply function arguments) = formula.Apply function (formula
 abbrev pub formula_view : Formula → formula.Formula
 formula_view = fold-Formula formula.Formula formula_level
 
-abbrev pub body_view : Body → formula.Body
-body_view (body.Variable value) = formula.Variable value
-body_view (body.Computed f) = formula.Computed (formula_view f)
+-- what is declared, with nothing kept of it yet
+abbrev pub body_view : Declaration → formula.Body
+body_view (declaration.Variable value) = formula.Variable (constant_view value)
+body_view (declaration.Computed f) = formula.Computed (formula_view f) nothing_kept
 
 -- a command with its positions
 abbrev pub command_view : Command → model.Command
-command_view (command.Declare name ty body target) = model.Declare name ty (body_view body) target
-command_view (command.Assign target value) = model.Assign target value
+command_view (command.Declare name ty body) = model.Declare name ty (body_view body)
+command_view (command.Assign target value) = model.Assign target (constant_view value)
 command_view (command.Observe observer target) = model.Observe observer target
 command_view command.Stabilize = model.Stabilize
 command_view (command.Show observer) = model.Show observer

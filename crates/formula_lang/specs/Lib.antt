@@ -1,7 +1,9 @@
 pub mod CommandView
 pub mod Fits
 pub mod NamesView
+pub mod Plain
 pub mod Reading
+pub mod Rows
 pub mod TreeView
 pub mod Typing
 pub mod Verdict

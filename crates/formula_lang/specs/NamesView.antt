@@ -1,7 +1,7 @@
 -- Declared names as the model of scripts sees them.
 use Rattle.std.specs.Prelude.{◌≡◌, ◌≤◌, ℕ, List, map, Some, slice_get}
 use Rattle.script_model.specs.Check as model
-use Rattle.script_model.specs.Choice.{Every}
+use Rattle.inc_value.specs.Choice.{Every}
 use Rattle.formula_lang.specs.declared.names.Declared.{Declared}
 use Rattle.formula_lang.specs.declared.names.Kind.TheVariants as kind
 use Rattle.formula_lang.specs.declared.names.Kind.{Kind}
@@ -10,7 +10,7 @@ abbrev pub kind_view : Kind → model.Kind
 kind_view kind.Var = model.Variable
 kind_view kind.Let = model.Computed
 kind_view kind.Bind = model.Bind
-kind_view kind.Expert = model.Expert
+kind_view (kind.Expert takes) = model.Expert takes
 kind_view kind.Grab = model.Grab
 
 abbrev pub declared_view : Declared → model.Declared

@@ -11,8 +11,8 @@ use Rattle.formula_lang.specs.declared.tree.Tree.TheOpen.{Tree-F}
 
 -- one level of a tree, with the views of its parts in their places
 abbrev pub level_view : Tree-F grammar.Tree → grammar.Tree
-level_view (level.Written literal) = grammar.Written (literal_view literal)
-level_view (level.Mention name) = grammar.Mention name
+level_view (level.Literal literal) = grammar.Written (literal_view literal)
+level_view (level.Name name) = grammar.Mention name
 level_view (level.Call function arguments) = grammar.Call function (trees_of arguments.items)
 
 -- a tree, with its bytes
@@ -21,7 +21,7 @@ tree_view = fold-Tree grammar.Tree level_view
 
 -- a command, with its bytes
 abbrev pub line_view : Line → grammar.Line
-line_view (line.Var name base first) = grammar.Var name base (literal_view first)
+line_view (line.Var name ty first) = grammar.Var name ty (literal_view first)
 line_view (line.Set name value) = grammar.Set name (literal_view value)
 line_view (line.Let name formula) = grammar.Let name (tree_view formula)
 line_view (line.Observe observer name) = grammar.Observe observer name

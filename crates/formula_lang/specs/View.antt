@@ -37,5 +37,5 @@ token_view (token.Punctuation s) = tokens.Punctuation (sign_view s)
 
 abbrev pub literal_view : Literal → grammar.Literal
 literal_view (literal.Integer z) = grammar.Integer z
-literal_view (literal.Truth b) = grammar.Truth b
-literal_view (literal.Quoted content) = grammar.Quoted content
+literal_view (literal.Bool b) = grammar.Truth b
+literal_view (literal.Text content) = grammar.Quoted content

@@ -14,7 +14,7 @@ fn opens<'a>(token: &Token<'a>) -> usize
 {
     match token {
         Token::Punctuation(Sign::Open | Sign::OpenBracket) => 1,
-        Token::Word(word) if *word == b"if".as_slice() || *word == b"bind".as_slice() => 1,
+        Token::Word(b"if" | b"bind") => 1,
         _ => 0,
     }
 }

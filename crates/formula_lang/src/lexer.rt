@@ -1,6 +1,7 @@
 //! The tokens of a line.
 ghost use Rattle.std.specs.Prelude.{◌≡◌, ◌≢◌, ◌<◌, ◌≤◌, length, map, IfOk, IfSome, IfNone, ℕ, List, [], ◌∷◌, ◌++◌, Bool, true, false, None, is_some, option_map, slice_index, drop, IsTrue};
 ghost use Rattle.std.specs.List.{list_all, prefix_len};
+ghost use Rattle.inc_value.specs.Text.{IsPrintable};
 ghost use Rattle.script_model.specs.Language.{is_digit, is_word_byte};
 ghost use Rattle.script_model.specs.Tokens as tokens;
 ghost use Rattle.script_model.specs.Tokens.{AreSpelled};
@@ -62,16 +63,12 @@ fn sign(byte: u8) -> Option<Sign>
 fn unit(name: &[u8]) -> Option<TimeUnit>
     ensures { option_map unit_view result ≡ unit_of name.now }
 {
-    if name == b"ns".as_slice() {
-        Some(TimeUnit::Nanoseconds)
-    } else if name == b"us".as_slice() {
-        Some(TimeUnit::Microseconds)
-    } else if name == b"ms".as_slice() {
-        Some(TimeUnit::Milliseconds)
-    } else if name == b"s".as_slice() {
-        Some(TimeUnit::Seconds)
-    } else {
-        None
+    match name {
+        b"ns" => Some(TimeUnit::Nanoseconds),
+        b"us" => Some(TimeUnit::Microseconds),
+        b"ms" => Some(TimeUnit::Milliseconds),
+        b"s" => Some(TimeUnit::Seconds),
+        _ => None,
     }
 }
 
@@ -179,6 +176,7 @@ fn content_byte<'a>(first: u8, behind: &'a [u8]) -> Option<(u8, &'a [u8])>
     requires { first ≢ 34 }
     ensures some { IfSome result (λ found. (content : List ℕ) → text_from content false (first ∷ behind.now) ≡ text_from (content ++ found.0 ∷ []) false found.1.now) }
     ensures none { IfNone result ((content : List ℕ) → text_from content false (first ∷ behind.now) ≡ None) }
+    ensures printable { IfSome result (λ found. IsPrintable found.0) }
     ensures shorter { IfSome result (λ found. length found.1.now ≤ length behind.now) }
 {
     if first == b'\\' {

@@ -9,13 +9,14 @@ mod name;
 mod names;
 mod number;
 mod parser;
+mod refusal;
 mod reserved;
 mod token;
 mod tree;
 mod typing;
 
 pub use checking::{CheckFault, check};
-pub use command::{Body, Command, Formula};
+pub use command::{Command, Constant, Declaration, Formula};
 pub use name::Name;
 pub use names::{Declared, Kind, Names};
 pub use parser::{ParseFault, parse};

@@ -1,9 +1,9 @@
 //! The names that a script has declared, and its observers in use.
-ghost use Rattle.std.specs.Prelude.{pos, ◌≡◌, ◌≢◌, ◌≤◌, ◌<◌, ◌++◌, ◌∷◌, [], ℕ, length, slice_get, None, Some, IfOk, IfSome, IsFalse, IsOk, IsTrue, MatchOption, OnErr, OnOk};
-ghost use Rattle.std.specs.Set.{remove_key};
+ghost use Rattle.std.specs.Prelude.{pos, nat_abs, ◌≤ℤ◌, ◌≡◌, ◌≢◌, ◌≤◌, ◌<◌, ◌++◌, ◌∷◌, [], ℕ, length, slice_get, None, Some, IfOk, IfSome, IsFalse, IsOk, IsTrue, MatchOption, OnErr, OnOk};
+ghost use Rattle.indexmap.specs.IndexMap.{swap_remove_by};
 ghost use Rattle.std.specs.Str.{bytes_eq};
-ghost use Rattle.script_model.specs.Check.{find_declared, is_in_use as is_among};
-ghost use Rattle.script_model.specs.Choice.{and_then};
+ghost use Rattle.script_model.specs.Check.{first_named, is_among};
+ghost use Rattle.inc_value.specs.Choice.{and_then};
 ghost use Rattle.formula_lang.specs.NamesView.{AreEarlier, declared_view, kind_view};
 
 use crate::name::Name;
@@ -21,8 +21,8 @@ pub enum Kind {
     Let,
     /// By `let`, with a bind.
     Bind,
-    /// By an expert node.
-    Expert,
+    /// By an expert node whose dependencies have this type.
+    Expert { takes: Ty },
     /// By `grab`.
     Grab,
 }
@@ -38,8 +38,7 @@ pub struct Declared {
     pub target: usize,
 }
 
-/// The declared names in order, the observers' names in use in the order in which they were made,
-/// and the clock, in nanoseconds.
+/// The declared names in order, the observers' names in use, and the clock, in nanoseconds.
 #[derive(Drop)]
 pub struct Names {
     alloc: Global,
@@ -49,23 +48,23 @@ pub struct Names {
 }
 
 impl Model for Names {
-    ghost use Rattle.std.specs.Prelude.{map};
+    ghost use Rattle.std.specs.Prelude.{pos, nat_abs, ◌≤ℤ◌, map};
     ghost use Rattle.script_model.specs.Check.{Names as Known};
 
     ghost Value = { Known };
 
     ghost use Rattle.formula_lang.specs.NamesView.{AreKept, declared_in};
 
-    ghost view = { λ n. record { declared = declared_in n.declared.entries; observers = map (λ k. k.items) n.observers.keys; now = n.now } };
+    ghost view = { λ n. record { declared = declared_in n.declared.entries; observers = map (λ k. k.items) n.observers.keys; now = nat_abs n.now } };
 
-    ghost invariant = { λ n. AreKept (λ k. k.items) n.declared.entries };
+    ghost invariant = { λ n. AreKept (λ k. k.items) n.declared.entries × (pos 0 ≤ℤ n.now) };
 }
 
 impl Names {
     /// No names and no observers, at time 0. This takes no memory yet.
     pub fn new(alloc: Global) -> Result<Names, AllocError>
         ensures made { IsOk result }
-        ensures ok { IfOk result (λ n. n ≡ record { declared = []; observers = []; now = pos 0 }) }
+        ensures ok { IfOk result (λ n. n ≡ record { declared = []; observers = []; now = 0 }) }
     {
         Ok(Names {
             alloc,
@@ -100,7 +99,7 @@ impl Names {
 
     /// The position of the name among those declared.
     pub fn find(&self, name: &[u8]) -> Option<usize>
-        ensures found { find_declared name.now self.entry.now.declared ≡ and_then result (slice_get self.entry.now.declared) }
+        ensures found { first_named name.now self.entry.now.declared ≡ and_then result (slice_get self.entry.now.declared) }
         ensures within { IfSome result (λ i. i < length self.entry.now.declared) }
     {
         self.declared.get_index_of(name)
@@ -115,7 +114,7 @@ impl Names {
         kind: Kind,
         target: usize,
     ) -> Result<(), AllocError>
-        requires fresh { find_declared name.now self.old.declared ≡ None }
+        requires fresh { first_named name.now self.old.declared ≡ None }
         requires earlier { target ≤ length self.old.declared }
         ensures ok { OnOk result (self.new ≡ record self.old {
           declared = self.old.declared ++ record { name = name.now; ty = ty; kind = kind_view kind; target = target } ∷ [];
@@ -135,14 +134,14 @@ impl Names {
 
     /// Whether an observer in use has the name.
     pub fn is_in_use(&self, name: &[u8]) -> bool
-        ensures { result ≡ is_among name.now self.entry.now.observers }
+        ensures { result ≡ is_among self.entry.now.observers name.now }
     {
         self.observers.contains(name)
     }
 
     /// The position of an observer's name among those in use.
     pub fn observer(&self, name: &[u8]) -> Option<usize>
-        ensures found { MatchOption result (IsFalse (is_among name.now self.entry.now.observers))
+        ensures found { MatchOption result (IsFalse (is_among self.entry.now.observers name.now))
             (λ i. slice_get self.entry.now.observers i ≡ Some name.now) }
         ensures first { IfSome result (λ i. (k : ℕ) → k < i → slice_get self.entry.now.observers k ≢ Some name.now) }
         ensures within { IfSome result (λ i. i < length self.entry.now.observers) }
@@ -152,7 +151,7 @@ impl Names {
 
     /// Puts an observer's name in use, behind the others. Without memory nothing changes.
     pub fn observe(&mut self, name: &[u8]) -> Result<(), AllocError>
-        requires { IsFalse (is_among name.now self.old.observers) }
+        requires { IsFalse (is_among self.old.observers name.now) }
         ensures ok { OnOk result (self.new ≡ record self.old { observers = self.old.observers ++ name.now ∷ [] }) }
         ensures err { OnErr result (self.new ≡ self.old) }
     {
@@ -161,24 +160,25 @@ impl Names {
         Ok(())
     }
 
-    /// Takes an observer's name out of use. The others keep their order.
+    /// Takes an observer's name out of use, in constant time: the last one stands in its place then.
     pub fn end(&mut self, name: &[u8])
-        requires { IsTrue (is_among name.now self.old.observers) }
-        ensures { self.new ≡ record self.old { observers = remove_key (bytes_eq name.now) self.old.observers } }
+        requires { IsTrue (is_among self.old.observers name.now) }
+        ensures { self.new ≡ record self.old { observers = swap_remove_by (bytes_eq name.now) self.old.observers } }
     {
-        self.observers.shift_remove(name);
+        self.observers.swap_remove(name);
     }
 
     /// The clock, in nanoseconds.
     pub fn now(&self) -> i64
-        ensures { result ≡ self.entry.now.now }
+        ensures { result ≡ pos self.entry.now.now }
     {
         self.now
     }
 
     /// Sets the clock, in nanoseconds.
     pub fn set_now(&mut self, now: i64)
-        ensures { self.new ≡ record self.old { now = now } }
+        requires { pos 0 ≤ℤ now }
+        ensures { self.new ≡ record self.old { now = nat_abs now } }
     {
         self.now = now;
     }

@@ -45,8 +45,8 @@ impl From<AllocError> for ParseFault {
 /// not too long.
 ///
 /// A line that is no tokens has the fault `Form`; else one with more than 64 levels open at once,
-/// `Level`; else one that is no command by the grammar, or has an integer that is no `i64`, `Form`
-/// again. `Memory` may come at any point.
+/// `Level`; else one that is no command by the grammar, is of a form that is yet to come, or has an
+/// integer that is no `i64`, `Form` again. `Memory` may come at any point.
 pub fn parse(alloc: Global, text: &[u8]) -> Result<Line, ParseFault>
     ensures command { IfOk result (λ c. IsCommand text.now (line_view c)) }
     ensures level { IsErrOf result ParseFault.Level → IsTooDeep text.now }

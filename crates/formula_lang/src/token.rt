@@ -24,18 +24,21 @@ pub(crate) enum Sign {
     Ampersand,
 }
 
-/// What stands between the quotes of a text, without the escapes, seen as its bytes.
+/// What stands between the quotes of a text, without the escapes, seen as its bytes: printable ones.
 #[derive(Debug, Drop)]
 pub(crate) struct Content {
     pub(crate) bytes: Vec<u8>,
 }
 
 impl Model for Content {
-    ghost use Rattle.std.specs.Prelude.{List, ℕ};
+    ghost use Rattle.std.specs.Prelude.{List, ℕ, All};
+    ghost use Rattle.inc_value.specs.Text.{IsPrintable};
 
     ghost Value = { List ℕ };
 
     ghost view = { λ c. c.bytes.items };
+
+    ghost invariant = { λ c. All IsPrintable c.bytes.items };
 }
 
 /// A token of a line.

@@ -1,25 +1,25 @@
 //! The trees that lines are read into.
 
 use crate::name::Name;
-use inc_value::{Base, Text};
+use inc_value::{Text, Ty};
 
 /// A literal.
 #[derive(Debug, Drop)]
 pub enum Literal {
     Integer(i64),
     /// `true` or `false`.
-    Truth(bool),
+    Bool(bool),
     /// A text, without its quotes and escapes.
-    Quoted(Text),
+    Text(Text),
 }
 
 /// A formula as it is written.
 #[derive(Debug, Drop)]
 pub enum Tree {
     /// A literal.
-    Written(Literal),
+    Literal(Literal),
     /// A name of a declaration.
-    Mention(Name),
+    Name(Name),
     /// A function of one to nine arguments.
     Call {
         function: Name,
@@ -30,31 +30,16 @@ pub enum Tree {
 /// A command as it is written.
 #[derive(Debug, Drop)]
 pub enum Line {
-    /// `var NAME BASE LITERAL`.
-    Var {
-        name: Name,
-        base: Base,
-        first: Literal,
-    },
+    /// `var NAME TYPE LITERAL`.
+    Var { name: Name, ty: Ty, first: Literal },
     /// `set NAME LITERAL`.
-    Set {
-        name: Name,
-        value: Literal,
-    },
+    Set { name: Name, value: Literal },
     /// `let NAME FORMULA`.
-    Let {
-        name: Name,
-        formula: Tree,
-    },
+    Let { name: Name, formula: Tree },
     /// `observe OBSERVER NAME`.
-    Observe {
-        observer: Name,
-        name: Name,
-    },
+    Observe { observer: Name, name: Name },
     /// `stabilize`.
     Stabilize,
     /// `show OBSERVER`.
-    Show {
-        observer: Name,
-    },
+    Show { observer: Name },
 }

@@ -1,19 +1,21 @@
 //! Names, functions and types of formulas.
-ghost use Rattle.std.specs.Prelude.{◌≡◌, ◌<◌, length, map, option_map, IfOk, IfSome};
-ghost use Rattle.script_model.specs.Check.{find_declared, has_names as all_declared, have_names as each_declared, has_functions as all_found, have_functions as each_found, typed as formula_of, typed_each as formulas_of_each, applied as applied_to, type_of_literal as literal_type, value_of_literal as literal_value};
+ghost use Rattle.std.specs.Prelude.{◌≡◌, ◌<◌, [], length, map, option_map, IfOk, IfSome};
+ghost use Rattle.std.specs.List.{flat_map, list_any};
+ghost use Rattle.script_model.specs.Check.{applied as applied_to, find_declared, is_declared, mentioned, mentioned_in_all, own_functions, trees_in, trees_in_all, typed as formula_of, typed_each as formulas_of_each};
 ghost use Rattle.script_model.specs.Parsing.{trees_of};
-ghost use Rattle.script_model.specs.Formula.{Literal as Written, functions_of};
+ghost use Rattle.script_model.specs.Formula.{Literal as Held, meanings_of};
 ghost use Rattle.inc_value.specs.Ty.{same_ty, same_types};
+ghost use Rattle.formula_lang.specs.CommandView.{constant_view};
 ghost use Rattle.formula_lang.specs.NamesView.{declared_view};
+ghost use Rattle.formula_lang.specs.Rows.{is_unknown, lacks};
 ghost use Rattle.formula_lang.specs.TreeView.{tree_view};
-ghost use Rattle.formula_lang.specs.Typing.{named_formula, typed_view, typed_each_view};
-ghost use Rattle.formula_lang.specs.View.{literal_view};
+ghost use Rattle.formula_lang.specs.Typing.{named_formula, type_of_literal, typed_view, typed_each_view, value_of_literal};
 
-use crate::command::Formula;
+use crate::command::{Constant, Formula};
 use crate::name::Name;
 use crate::names::{Declared, Names};
 use crate::tree::{Literal, Tree};
-use inc_value::{FnRef, Ty, Value};
+use inc_value::{FnRef, Ty};
 use node_arena::Library;
 use std::alloc::{AllocError, Global};
 
@@ -33,63 +35,70 @@ struct TypedFormulas {
 
 /// The declaration of a name.
 pub(crate) fn declared_as<'a>(names: &'a Names, name: &Name) -> Option<&'a Declared>
-    ensures found { option_map (λ d. declared_view d.now) result ≡ find_declared name.now names.entry.now.declared }
+    ensures found { option_map (λ d. declared_view d.now) result ≡ find_declared names.entry.now name.now }
     ensures earlier { IfSome result (λ d. d.now.target < length names.entry.now.declared) }
 {
     let position = names.find(name.bytes())?;
     Some(names.get(position))
 }
 
-/// Whether each name that the formula reads is declared.
+/// Whether the name is declared.
+pub(crate) fn is_declared(names: &Names, name: &Name) -> bool
+    ensures { result ≡ is_declared names.entry.now name.now }
+{
+    declared_as(names, name).is_some()
+}
+
+/// Whether a name that the formula reads isn't declared.
 #[cycle(names_of)]
-pub(crate) fn has_names(names: &Names, tree: &Tree) -> bool
-    ensures { result ≡ all_declared names.entry.now (tree_view tree.now) }
+pub(crate) fn has_unknown_name(names: &Names, tree: &Tree) -> bool
+    ensures { result ≡ list_any (is_unknown names.entry.now) (mentioned [] (tree_view tree.now)) }
 {
     match tree {
-        Tree::Written(_) => true,
-        Tree::Mention(name) => declared_as(names, name).is_some(),
-        Tree::Call { arguments, .. } => have_names(names, arguments),
+        Tree::Literal(_) => false,
+        Tree::Name(name) => !is_declared(names, name),
+        Tree::Call { arguments, .. } => have_unknown_name(names, arguments),
     }
 }
 
-/// Whether each name that one of the formulas reads is declared.
+/// Whether a name that one of the formulas reads isn't declared.
 #[cycle(names_of)]
-fn have_names(names: &Names, trees: &[Tree]) -> bool
-    ensures { result ≡ each_declared names.entry.now (trees_of (map tree_view trees.now)) }
+fn have_unknown_name(names: &Names, trees: &[Tree]) -> bool
+    ensures { result ≡ list_any (is_unknown names.entry.now) (mentioned_in_all [] (trees_of (map tree_view trees.now))) }
 {
     for tree in trees {
-        if !has_names(names, tree) {
-            return false;
+        if has_unknown_name(names, tree) {
+            return true;
         }
     }
-    true
+    false
 }
 
-/// Whether the library has each function of the formula.
+/// Whether the library lacks a function of the formula.
 #[cycle(functions_in)]
-pub(crate) fn has_functions<L: Library>(library: &L, tree: &Tree) -> bool
-    ensures { result ≡ all_found (functions_of (L.named library.now) (L.value library.now)) (tree_view tree.now) }
+pub(crate) fn has_unknown_function<L: Library>(library: &L, tree: &Tree) -> bool
+    ensures { result ≡ list_any (lacks (L.named library.now)) (flat_map own_functions (trees_in (tree_view tree.now))) }
 {
     match tree {
-        Tree::Written(_) | Tree::Mention(_) => true,
+        Tree::Literal(_) | Tree::Name(_) => false,
         Tree::Call {
             function,
             arguments,
-        } => library.find(function.bytes()).is_some() && have_functions(library, arguments),
+        } => library.find(function.bytes()).is_none() || have_unknown_function(library, arguments),
     }
 }
 
-/// Whether the library has each function of the formulas.
+/// Whether the library lacks a function of the formulas.
 #[cycle(functions_in)]
-fn have_functions<L: Library>(library: &L, trees: &[Tree]) -> bool
-    ensures { result ≡ each_found (functions_of (L.named library.now) (L.value library.now)) (trees_of (map tree_view trees.now)) }
+fn have_unknown_function<L: Library>(library: &L, trees: &[Tree]) -> bool
+    ensures { result ≡ list_any (lacks (L.named library.now)) (flat_map own_functions (trees_in_all (trees_of (map tree_view trees.now)))) }
 {
     for tree in trees {
-        if !has_functions(library, tree) {
-            return false;
+        if has_unknown_function(library, tree) {
+            return true;
         }
     }
-    true
+    false
 }
 
 /// The formula with its type, unless a name or a function is unknown or a type does not fit.
@@ -101,11 +110,11 @@ pub(crate) fn typed<L: Library>(
     tree: &Tree,
 ) -> Result<Option<TypedFormula>, AllocError>
     ensures { IfOk result (λ t. option_map typed_view t
-        ≡ formula_of (functions_of (L.named library.now) (L.value library.now)) names.entry.now (tree_view tree.now)) }
+        ≡ formula_of (meanings_of (L.named library.now) (L.value library.now)) names.entry.now [] (tree_view tree.now)) }
 {
     match tree {
-        Tree::Written(literal) => Ok(Some(written(alloc, literal)?)),
-        Tree::Mention(name) => Ok(mentioned(names, name)),
+        Tree::Literal(literal) => Ok(Some(typed_literal(alloc, literal)?)),
+        Tree::Name(name) => Ok(typed_name(names, name)),
         Tree::Call {
             function,
             arguments,
@@ -130,7 +139,7 @@ fn typed_each<L: Library>(
     trees: &[Tree],
 ) -> Result<Option<TypedFormulas>, AllocError>
     ensures { IfOk result (λ t. option_map typed_each_view t
-        ≡ formulas_of_each (functions_of (L.named library.now) (L.value library.now)) names.entry.now (trees_of (map tree_view trees.now))) }
+        ≡ formulas_of_each (meanings_of (L.named library.now) (L.value library.now)) names.entry.now [] (trees_of (map tree_view trees.now))) }
 {
     let mut formulas = Vec::new(alloc);
     let mut tys = Vec::new(alloc);
@@ -145,21 +154,18 @@ fn typed_each<L: Library>(
 }
 
 /// A literal as a formula.
-fn written(alloc: Global, literal: &Literal) -> Result<TypedFormula, AllocError>
-    ensures { IfOk result (λ t. typed_view t ≡ record {
-      formula = Written (literal_value (literal_view literal.now));
-      ty = literal_type (literal_view literal.now);
-    }) }
+fn typed_literal(alloc: Global, literal: &Literal) -> Result<TypedFormula, AllocError>
+    ensures { IfOk result (λ t. typed_view t ≡ record { formula = Held (value_of_literal literal.now); ty = type_of_literal literal.now }) }
 {
     Ok(TypedFormula {
-        formula: Formula::Literal(value_of_literal(alloc, literal)?),
+        formula: Formula::Literal(constant_of_literal(alloc, literal)?),
         ty: type_of_literal(literal),
     })
 }
 
 /// A name as a formula, if it is declared.
-fn mentioned(names: &Names, name: &Name) -> Option<TypedFormula>
-    ensures { option_map typed_view result ≡ named_formula (find_declared name.now names.entry.now.declared) }
+fn typed_name(names: &Names, name: &Name) -> Option<TypedFormula>
+    ensures { option_map typed_view result ≡ named_formula (find_declared names.entry.now name.now) }
 {
     let declared = declared_as(names, name)?;
     Some(TypedFormula {
@@ -198,24 +204,24 @@ pub(crate) fn is_same_type(left: Ty, right: Ty) -> bool
     left == right
 }
 
-/// The value of a literal.
-pub(crate) fn value_of_literal(alloc: Global, literal: &Literal) -> Result<Value, AllocError>
-    ensures { IfOk result (λ v. v ≡ literal_value (literal_view literal.now)) }
+/// The constant that a literal is.
+pub(crate) fn constant_of_literal(alloc: Global, literal: &Literal) -> Result<Constant, AllocError>
+    ensures { IfOk result (λ c. constant_view c ≡ value_of_literal literal.now) }
 {
     Ok(match literal {
-        Literal::Integer(value) => Value::Int(*value),
-        Literal::Truth(value) => Value::Bool(*value),
-        Literal::Quoted(text) => Value::Text(text.copy(alloc)?),
+        Literal::Integer(value) => Constant::Int(*value),
+        Literal::Bool(value) => Constant::Bool(*value),
+        Literal::Text(text) => Constant::Text(text.copy(alloc)?),
     })
 }
 
 /// The type of a literal.
 pub(crate) fn type_of_literal(literal: &Literal) -> Ty
-    ensures { result ≡ literal_type (literal_view literal.now) }
+    ensures { result ≡ type_of_literal literal.now }
 {
     match literal {
         Literal::Integer(_) => Ty::Int,
-        Literal::Truth(_) => Ty::Bool,
-        Literal::Quoted(_) => Ty::Text,
+        Literal::Bool(_) => Ty::Bool,
+        Literal::Text(_) => Ty::Text,
     }
 }

@@ -1,102 +1,161 @@
 -- From what a command leads to, to what the line is answered with.
-use Rattle.std.proofs.Common.{◌≡◌, ℕ, Bool, true, false, List, [], ◌∷◌, ◌++◌, not, is_some, length, slice_get, Option, None, Some, refl, sym, ◌∙◌, ap, subst, arith}
-use Rattle.inc_value.specs.Ty.{same_ty}
+use Rattle.std.proofs.Common.{◌≡◌, ℕ, Bool, true, false, List, [], ◌∷◌, ◌++◌, ◌||◌, cond, Option, None, Some, refl, sym, ◌∙◌, ap, subst, arith}
 use Rattle.script_model.specs.Check as check
-use Rattle.script_model.specs.Check.{Reason, Checked, Command, Names, Declare, Assign, Observe, Stabilize, Show, find_declared, is_in_use, is_variable, has_names, has_functions, typed, check_of, names_of, reason_number, target_of_formula, type_of_base, type_of_literal, value_of_literal, NameTaken, NameUnknown, FunctionUnknown, IllTyped, NotVariable, ObserverTaken, ObserverUnknown}
-use Rattle.script_model.specs.Formula as model
-use Rattle.script_model.specs.Formula.{Functions}
+use Rattle.script_model.specs.Check.{Command, Names, Reason, SessionBroken, NameTaken, NotStabilized, NotBuilt, NotLinked, TooManyLinks, TooManyPlaces, command_of, first_that, is_against, line_order, names_of, reason_number}
+use Rattle.inc_value.specs.Choice.{Every}
+use Rattle.script_model.specs.Formula.{Meanings, State}
 use Rattle.script_model.specs.Grammar as grammar
 use Rattle.script_model.specs.Grammar.{Line}
-use Rattle.script_model.specs.Request.{Request, TooLong, Blank, Malformed, TooDeep, Asks, IsRequest}
-use Rattle.script_model.specs.Run.{MayCall}
-use Rattle.script_model.specs.Step.{Moment, Refused, Follows, Answers, after_check, printed}
-use Rattle.session.specs.Answered.{IsFollowed, IsAnswered, MayAct}
+use Rattle.script_model.specs.Request.{Request, TooLong, Malformed, TooDeep, Asks, IsRequest}
+use Rattle.script_model.specs.Run as run
+use Rattle.script_model.specs.Step.{Moment, Refusal, Reply, Verdict, LineTooLong, NoCommand, LineTooDeep, Because, Broken, Refuse, Refused, Refuses, Follows, Answers, bars, holds, is_barred, number_of, order, printed, verdict_for, verdict_of}
+use Rattle.script_model.proofs.Steps.{Never, only_stabilize}
+use Rattle.session.specs.Answered.{IsAnswered, state_order, verdict_on}
 use Rattle.session.specs.Kept.{Kept}
+use Rattle.session.specs.Replies.{broken_line, refused_line}
 use Rattle.session.specs.State.{Stands}
 use Rattle.session.specs.Taken.{Takes}
 use Rattle.session.specs.declared.answer.Did.{Did}
 use Rattle.session.specs.declared.answer.Did.TheVariants as did
 use Rattle.session.proofs.Following.{appended_one}
 
--- ---- only `stabilize` comes to a stabilize
+-- ---- the first reason
 
-abbrev IsOtherCommand : Command → Type 0
-IsOtherCommand Stabilize = ⊥
-IsOtherCommand command = Unit {0}
+-- reasons looked at one after the other
+first_append : (p : Reason → Bool) (xs ys : List Reason) → first_that p xs ≡ None → first_that p (xs ++ ys) ≡ first_that p ys
+first_append p [] ys none = refl
+first_append p (r ∷ xs) ys none = go (p r) none (λ h. first_append p xs ys h)
+  where
+    go : (b : Bool) → cond b (Some r) (first_that p xs) ≡ None → (first_that p xs ≡ None → first_that p (xs ++ ys) ≡ first_that p ys)
+        → cond b (Some r) (first_that p (xs ++ ys)) ≡ first_that p ys
+    go true none rest = absurd (cc)
+    go false none rest = rest none
 
-abbrev IsOtherChecked : Checked → Type 0
-IsOtherChecked (check.Refuse why) = Unit {0}
-IsOtherChecked (check.Allow command) = IsOtherCommand command
+first_before : (p : Reason → Bool) (xs ys : List Reason) (why : Reason) → first_that p xs ≡ Some why → first_that p (xs ++ ys) ≡ Some why
+first_before p [] ys why is = absurd (cc)
+first_before p (r ∷ xs) ys why is = go (p r) is (λ h. first_before p xs ys why h)
+  where
+    go : (b : Bool) → cond b (Some r) (first_that p xs) ≡ Some why → (first_that p xs ≡ Some why → first_that p (xs ++ ys) ≡ Some why)
+        → cond b (Some r) (first_that p (xs ++ ys)) ≡ Some why
+    go true is rest = is
+    go false is rest = rest is
 
-record IsOther (checked : Checked) : Type 0 where
-  other : IsOtherChecked checked
+first_same : (p q : Reason → Bool) (xs : List Reason) → Every (λ r. p r ≡ q r) xs → first_that p xs ≡ first_that q xs
+first_same p q [] same = refl
+first_same p q (r ∷ xs) same = rw (same.0, first_same p q xs same.1) refl
 
-other_unless : (b : Bool) (why : Reason) (c : Checked) → IsOther c → IsOther (check.refused_if b why c)
-other_unless true why c other = record { other = tt }
-other_unless false why c other = other
+-- the reason is one of these
+first_among : (P : Reason → Type 0) (p : Reason → Bool) (xs : List Reason) (why : Reason) → Every P xs → first_that p xs ≡ Some why → P why
+first_among P p [] why all is = absurd (cc)
+first_among P p (r ∷ xs) why all is = go (p r) is (λ later. first_among P p xs why all.1 later)
+  where
+    go : (b : Bool) → cond b (Some r) (first_that p xs) ≡ Some why → (first_that p xs ≡ Some why → P why) → P why
+    go true is rest = let same : r ≡ why = cc in subst P same all.0
+    go false is rest = rest is
 
-other_needs : {A : Type 0} (o : Option A) (why : Reason) (next : A → Checked) → ((x : A) → IsOther (next x)) → IsOther (check.needs o why next)
-other_needs None why next other = record { other = tt }
-other_needs (Some x) why next other = other x
+-- ---- reasons of a line
 
-abbrev IsOtherLine : Line → Type 0
-IsOtherLine grammar.Stabilize = ⊥
-IsOtherLine l = Unit {0}
+-- a reason that the state has nothing to do with
+abbrev IsOfLine : Reason → Type 0
+IsOfLine SessionBroken = ⊥
+IsOfLine NotStabilized = ⊥
+IsOfLine NotBuilt = ⊥
+IsOfLine NotLinked = ⊥
+IsOfLine TooManyLinks = ⊥
+IsOfLine TooManyPlaces = ⊥
+IsOfLine r = Unit {0}
 
-other_checked : (F : Functions) (names : Names) (l : Line) → IsOtherLine l → IsOther (check_of F names l)
-other_checked F names (grammar.Var name base first) other =
-    other_unless (is_some (find_declared name names.declared)) NameTaken _ (
-    other_unless (not (same_ty (type_of_literal first) (type_of_base base))) IllTyped (check.Allow (Declare name (type_of_base base) (model.Variable (value_of_literal first)) (length names.declared))) (record { other = tt }))
-other_checked F names (grammar.Set name value) other =
-    other_needs (find_declared name names.declared) NameUnknown _ (λ d.
-    other_unless (not (is_variable (slice_get names.declared d.target))) NotVariable _ (
-    other_unless (not (same_ty (type_of_literal value) d.ty)) IllTyped (check.Allow (Assign d.target (value_of_literal value))) (record { other = tt })))
-other_checked F names (grammar.Let name formula) other =
-    other_unless (is_some (find_declared name names.declared)) NameTaken _ (
-    other_unless (not (has_names names formula)) NameUnknown _ (
-    other_unless (not (has_functions F formula)) FunctionUnknown _ (
-    other_needs (typed F names formula) IllTyped (λ t. check.Allow (Declare name t.ty (model.Computed t.formula) (target_of_formula (length names.declared) t.formula))) (λ t. record { other = tt }))))
-other_checked F names (grammar.Observe observer name) other =
-    other_unless (is_in_use observer names.observers) ObserverTaken _ (
-    other_needs (find_declared name names.declared) NameUnknown (λ d. check.Allow (Observe observer d.target)) (λ d. record { other = tt }))
-other_checked F names grammar.Stabilize other = absurd other
-other_checked F names (grammar.Show observer) other = other_unless (not (is_in_use observer names.observers)) ObserverUnknown (check.Allow (Show observer)) (record { other = tt })
+not_barred : (s : State) (c : Command) (r : Reason) → IsOfLine r → is_barred s c r ≡ false
+not_barred s (check.Show observer) NotStabilized of_line = absurd of_line
+not_barred s (check.Take name t bind) NotBuilt of_line = absurd of_line
+not_barred s (check.Unlink expert target) NotLinked of_line = absurd of_line
+not_barred s (check.Link expert target) TooManyLinks of_line = absurd of_line
+not_barred s (check.Declare name t body) TooManyPlaces of_line = absurd of_line
+not_barred s c r of_line = refl
 
--- a command that isn't a stabilize calls nothing
-no_calls : (F : Functions) (m : Moment) (c : Command) (calls : ℕ) → IsOtherCommand c → MayAct F m c calls → calls ≡ 0
-no_calls F m (Declare name t body target) calls other due = due
-no_calls F m (Assign target value) calls other due = due
-no_calls F m (Observe observer target) calls other due = due
-no_calls F m Stabilize calls other due = absurd other
-no_calls F m (Show observer) calls other due = due
+no_bars : (s : State) (c : Option Command) (r : Reason) → IsOfLine r → bars s c r ≡ false
+no_bars s None r of_line = refl
+no_bars s (Some c) r of_line = not_barred s c r of_line
 
-due_of_other : (F : Functions) (m : Moment) (l : Line) (c : Command) (calls : ℕ) → IsOtherLine l → check_of F (names_of m.present) l ≡ check.Allow c → MayAct F m c calls → calls ≡ 0
-due_of_other F m l c calls line allowed due =
-    let other : IsOtherCommand c = subst IsOtherChecked allowed (other_checked F (names_of m.present) l line).other in
-    no_calls F m c calls other due
+or_false : (a b : Bool) → b ≡ false → (a || b) ≡ a
+or_false true b none = refl
+or_false false b none = none
 
-due_of_line : (F : Functions) (m : Moment) (l : Line) (c : Command) (calls : ℕ) → check_of F (names_of m.present) l ≡ check.Allow c → MayAct F m c calls → MayCall F m (Asks l) calls
-due_of_line F m grammar.Stabilize c calls allowed due =
-    let same : c ≡ Stabilize = cc in
-    subst (λ x. MayAct F m x calls) same due
-due_of_line F m (grammar.Var name base first) c calls allowed due = due_of_other F m (grammar.Var name base first) c calls tt allowed due
-due_of_line F m (grammar.Set name value) c calls allowed due = due_of_other F m (grammar.Set name value) c calls tt allowed due
-due_of_line F m (grammar.Let name formula) c calls allowed due = due_of_other F m (grammar.Let name formula) c calls tt allowed due
-due_of_line F m (grammar.Observe observer name) c calls allowed due = due_of_other F m (grammar.Observe observer name) c calls tt allowed due
-due_of_line F m (grammar.Show observer) c calls allowed due = due_of_other F m (grammar.Show observer) c calls tt allowed due
+module _ (F : Meanings) (m : Moment) (l : Line) where
+  abbrev names : Names
+  names = names_of m.present
+
+  abbrev against : Reason → Bool
+  against r = is_against F names l r
+
+  line_reason : (r : Reason) → IsOfLine r → holds F m l r ≡ against r
+  line_reason SessionBroken of_line = absurd of_line
+  line_reason NotStabilized of_line = absurd of_line
+  line_reason NotBuilt of_line = absurd of_line
+  line_reason NotLinked of_line = absurd of_line
+  line_reason TooManyLinks of_line = absurd of_line
+  line_reason TooManyPlaces of_line = absurd of_line
+  line_reason r of_line = or_false (against r) (bars m.present (command_of F names l) r) (no_bars m.present (command_of F names l) r of_line)
+
+  every_of_line : (xs : List Reason) → Every IsOfLine xs → Every (λ r. holds F m l r ≡ against r) xs
+  every_of_line [] all = tt
+  every_of_line (r ∷ xs) all = (line_reason r all.0, every_of_line xs all.1)
+
+  all_of_line : Every IsOfLine line_order
+  all_of_line = (tt, (tt, (tt, (tt, (tt, (tt, (tt, (tt, (tt, (tt, (tt, (tt, (tt, (tt, tt))))))))))))))
+
+  of_line : first_that (holds F m l) line_order ≡ first_that against line_order
+  of_line = first_same (holds F m l) against line_order (every_of_line line_order all_of_line)
+
+  unbroken_first : m.broken ≡ None → first_that (holds F m l) order ≡ first_that (holds F m l) (line_order ++ state_order)
+  unbroken_first unbroken = rw unbroken refl
+
+  -- a line against which nothing stands comes to what its command does
+  pub verdict_allowed : (c : Command) → m.broken ≡ None → first_that against line_order ≡ None → command_of F names l ≡ Some c
+      → verdict_of F m l ≡ verdict_on m c
+  verdict_allowed c unbroken none is =
+      let behind : first_that (holds F m l) order ≡ first_that (holds F m l) state_order = unbroken_first unbroken
+      ∙ first_append (holds F m l) line_order state_order (of_line ∙ none) in
+      let same : first_that (holds F m l) state_order ≡ first_that (is_barred m.present c) state_order = rw is refl in
+      ap (λ r. verdict_for m (command_of F names l) r) (behind ∙ same) ∙ ap (λ x. verdict_for m x (first_that (is_barred m.present c) state_order)) is
+
+  -- a line against which something stands is refused
+  pub verdict_refused : (why : Reason) → m.broken ≡ None → first_that against line_order ≡ Some why → verdict_of F m l ≡ Refuse (Because why)
+  verdict_refused why unbroken is =
+      let first : first_that (holds F m l) order ≡ Some why = unbroken_first unbroken
+      ∙ first_before (holds F m l) line_order state_order why (of_line ∙ is) in
+      ap (λ r. verdict_for m (command_of F names l) r) first ∙ (by_reason why (first_among IsOfLine against line_order why all_of_line is))
+    where
+      by_reason : (r : Reason) → IsOfLine r → verdict_for m (command_of F names l) (Some r) ≡ Refuse (Because r)
+      by_reason SessionBroken of_line = absurd of_line
+      by_reason r of_line = refl
+
+  -- whatever a line asks for, a broken session refuses it
+  pub verdict_broken : (number : ℕ) → m.broken ≡ Some number → verdict_of F m l ≡ Refuse (Broken number)
+  verdict_broken number broken = rw broken refl
+
+-- only `stabilize` comes to one
+pub stabilize_line : (F : Meanings) (names : Names) (l : Line) → command_of F names l ≡ Some check.Stabilize → l ≡ grammar.Stabilize
+stabilize_line F names grammar.Stabilize is = refl
+stabilize_line F names l is = absurd (subst Never is (only_stabilize F names l (λ same. absurd (cc))))
 
 -- ---- lines
 
-pub answered_followed : (F : Functions) (k new : Kept) (m : Moment) (l : Line) (c : Command) (written appended : List ℕ) (called calls : ℕ) (how : Did) → Stands F k m
-    → check_of F k.names l ≡ check.Allow c → IsFollowed F m c new written appended called calls how → IsAnswered F m (Asks l) new written appended called calls how
-answered_followed F k new m l c written appended called calls how st allowed h =
-    let there : check_of F (names_of m.present) l ≡ check.Allow c = ap (λ (n : Names). check_of F n l) (sym st.names) ∙ allowed in
+pub answered_followed : (F : Meanings) (k new : Kept) (m : Moment) (l : Line) (c : Command) (written appended : List ℕ) (called calls : ℕ) (how : Did)
+    → Stands F k m → k.broken ≡ None
+    → first_that (is_against F k.names l) line_order ≡ None → command_of F k.names l ≡ Some c
+    → IsAnswered F m (Follows F m (verdict_on m c)) new written appended called calls how
+    → IsAnswered F m (Answers F m (Asks l)) new written appended called calls how
+answered_followed F k new m l c written appended called calls how st unbroken none is h =
+    let none_there = subst (λ (n : Names). first_that (is_against F n l) line_order ≡ None) st.names none in
+    let there = subst (λ (n : Names). command_of F n l ≡ Some c) st.names is in
+    let verdict = verdict_allowed F m l c (st.broken ∙ unbroken) none_there there in
     record {
       after = h.after;
       replies = h.replies;
-      answers = subst (λ x. Follows F m (after_check m.present x) h.after h.replies) (sym there) h.follows;
+      leads = subst (λ v. Follows F m v h.after h.replies) (sym verdict) h.leads;
       work = h.work;
-      due = due_of_line F m l c h.work there h.due;
+      due = h.due;
       stands = h.stands;
       printed_are = h.printed_are;
       within = h.within;
@@ -104,47 +163,56 @@ answered_followed F k new m l c written appended called calls how st allowed h =
     }
 
 -- a refusal of the line that changes nothing
-refused_with : (F : Functions) (k : Kept) (m : Moment) (r : Request) (n : ℕ) (written appended : List ℕ) (calls : ℕ) → Stands F k m → Answers F m r m (Refused n ∷ []) → MayCall F m r 0
-    → appended ≡ written ++ printed (Refused n) → IsAnswered F m r k written appended calls calls (did.Refused n)
-refused_with F k m r n written appended calls st answers due print = record {
+refused_with : (F : Meanings) (k : Kept) (m : Moment) (r : Request) (why : Refusal) (written appended : List ℕ) (calls : ℕ) → Stands F k m
+    → Answers F m r m (Refused why ∷ [])
+    → run.MayCall F m (Refused why ∷ []) 0 → appended ≡ written ++ printed m.present (Refused why)
+    → IsAnswered F m (Answers F m r) k written appended calls calls (did.Refused (number_of why))
+refused_with F k m r why written appended calls st answers due print = record {
   after = m;
-  replies = Refused n ∷ [];
-  answers = answers;
+  replies = Refused why ∷ [];
+  leads = answers;
   work = 0;
   due = due;
   stands = st;
-  printed_are = appended_one written appended (Refused n) print;
+  printed_are = appended_one m.present written appended (Refused why) print;
   within = omega arith;
-  says = refl;
+  says = (why, refl, refl);
 }
 
-pub answered_refused : (F : Functions) (k : Kept) (m : Moment) (l : Line) (why : Reason) (n : ℕ) (written appended : List ℕ) (calls : ℕ) → Stands F k m
-    → check_of F k.names l ≡ check.Refuse why → reason_number why ≡ n → appended ≡ written ++ printed (Refused n) → IsAnswered F m (Asks l) k written appended calls calls (did.Refused n)
-answered_refused F k m l why n written appended calls st refused number print =
-    let there : check_of F (names_of m.present) l ≡ check.Refuse why = ap (λ (x : Names). check_of F x l) (sym st.names) ∙ refused in
-    refused_with F k m (Asks l) n written appended calls st
-    (subst (λ x. Follows F m (after_check m.present x) m (Refused n ∷ [])) (sym there) (refl, ap (λ j. Refused j ∷ []) (sym number)))
-    (no_call l) print
-  where
-    no_call : (l : Line) → MayCall F m (Asks l) 0
-    no_call grammar.Stabilize = record { visits = []; distinct = tt; due = tt; enough = omega arith }
-    no_call (grammar.Var name base first) = refl
-    no_call (grammar.Set name value) = refl
-    no_call (grammar.Let name formula) = refl
-    no_call (grammar.Observe observer name) = refl
-    no_call (grammar.Show observer) = refl
+pub answered_refused : (F : Meanings) (k : Kept) (m : Moment) (l : Line) (why : Reason) (n : ℕ) (written appended : List ℕ) (calls : ℕ) → Stands F k m
+    → k.broken ≡ None
+    → first_that (is_against F k.names l) line_order ≡ Some why → reason_number why ≡ n → appended ≡ written ++ refused_line n
+    → IsAnswered F m (Answers F m (Asks l)) k written appended calls calls (did.Refused n)
+answered_refused F k m l why n written appended calls st unbroken is number print =
+    let there = subst (λ (x : Names). first_that (is_against F x l) line_order ≡ Some why) st.names is in
+    let verdict = verdict_refused F m l why (st.broken ∙ unbroken) there in
+    subst (λ j. IsAnswered F m (Answers F m (Asks l)) k written appended calls calls (did.Refused j)) number
+    (refused_with F k m (Asks l) (Because why) written appended calls st
+    (subst (λ v. Follows F m v m (Refused (Because why) ∷ [])) (sym verdict) (refl, refl)) refl
+    (print ∙ ap (λ j. written ++ refused_line j) (sym number)))
 
-pub answered_too_long : (F : Functions) (k : Kept) (m : Moment) (written appended : List ℕ) (calls : ℕ) → Stands F k m → appended ≡ written ++ printed (Refused 2) → IsAnswered F m TooLong k written appended calls calls (did.Refused 2)
-answered_too_long F k m written appended calls st print = refused_with F k m TooLong 2 written appended calls st (refl, refl) refl print
+pub answered_broken : (F : Meanings) (k : Kept) (m : Moment) (l : Line) (number : ℕ) (written appended : List ℕ) (calls : ℕ) → Stands F k m
+    → k.broken ≡ Some number
+    → appended ≡ written ++ broken_line number → IsAnswered F m (Answers F m (Asks l)) k written appended calls calls (did.Refused 22)
+answered_broken F k m l number written appended calls st broken print =
+    let verdict = verdict_broken F m l number (st.broken ∙ broken) in
+    refused_with F k m (Asks l) (Broken number) written appended calls st
+    (subst (λ v. Follows F m v m (Refused (Broken number) ∷ [])) (sym verdict) (refl, refl)) refl print
+
+pub answered_too_long : (F : Meanings) (k : Kept) (m : Moment) (written appended : List ℕ) (calls : ℕ) → Stands F k m
+    → appended ≡ written ++ refused_line 2
+    → IsAnswered F m (Answers F m TooLong) k written appended calls calls (did.Refused 2)
+answered_too_long F k m written appended calls st print = refused_with F k m TooLong LineTooLong written appended calls st (refl, refl) refl print
 
 -- what was answered is a turn of the model
-pub taken_of : (F : Functions) (m : Moment) (line : List ℕ) (r : Request) (new : Kept) (written appended : List ℕ) (called calls : ℕ) (how : Did) → IsRequest line r
-    → IsAnswered F m r new written appended called calls how → Takes F m line new written appended called calls how
+pub taken_of : (F : Meanings) (m : Moment) (line : List ℕ) (r : Request) (new : Kept) (written appended : List ℕ) (called calls : ℕ) (how : Did)
+    → IsRequest line r
+    → IsAnswered F m (Answers F m r) new written appended called calls how → Takes F m line new written appended called calls how
 taken_of F m line r new written appended called calls how asks h = record {
   turn = record { before = m; line = line; request = r; after = h.after; replies = h.replies; work = h.work };
   from = refl;
   over = refl;
-  is_turn = record { asks = asks; answers = h.answers; due = h.due };
+  is_turn = record { asks = asks; answers = h.leads; due = h.due };
   stands = h.stands;
   printed = h.printed_are;
   within = h.within;

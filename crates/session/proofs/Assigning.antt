@@ -3,21 +3,29 @@ use Rattle.std.proofs.Common.{◌≡◌, ◌⊎◌, inl, inr, ℕ, zero, suc, �
 use Rattle.std.proofs.Math.ListN.{length-set}
 use Rattle.std.proofs.lemmas.List.Sums.{sum_by-cons}
 use Rattle.std.specs.List.{slice_get, sum_by}
-use Rattle.inc_value.specs.declared.value.Value.{Value}
-use Rattle.script_model.specs.Choice.{and_then}
-use Rattle.script_model.specs.Formula.{Entry, Formula, State, entry_at, places_of_body, Variable}
-use Rattle.script_model.specs.Need.{Item, Named, Place, formula_at, formula_of_body, part_of}
-use Rattle.script_model.specs.Step.{with_value}
+use Rattle.inc_value.specs.declared.value.Value as engine
+use Rattle.inc_value.specs.Choice.{and_then}
+use Rattle.script_model.specs.Formula.{Entry, Formula, State, entry_at, formula_of_body, places_of_body, Variable}
+use Rattle.script_model.specs.Need.{Edge, Item, Named, Place, formula_at, part_of}
+use Rattle.script_model.specs.Run.{calls_of_body}
+use Rattle.script_model.specs.Step.{with_body}
 use Rattle.script_model.specs.Check.{target_of_body}
+use Rattle.script_model.specs.Values.{Value, to_engine}
+use Rattle.session.specs.Places.{calls_at, calls_among}
 use Rattle.session.specs.Represents.{HasRoot, IsOwn, PlaceIs, Represents, RootIs, owner_of}
 use Rattle.session.specs.declared.place.Place.TheVariants as place
 use Rattle.session.specs.declared.place.Place.{Place as APlace}
 use Rattle.session.proofs.Lists.{every_weaker}
+use Rattle.session.proofs.Standing.{there_too}
 use Rattle.session.proofs.Representing.{StillStands, still_place, still_root}
 
 -- an entry with another value
 abbrev pub valued : Entry → Value → Entry
 valued e v = record e { body = Variable v }
+
+-- declarations, with another value of the variable at a position
+abbrev pub with_value : List Entry → ℕ → Value → List Entry
+with_value es n v = with_body (λ body. Variable v) es n
 
 length_with_value : (es : List Entry) (n : ℕ) (v : Value) → length (with_value es n v) ≡ length es
 length_with_value [] n v = refl
@@ -43,7 +51,8 @@ record IsValued (es : List Entry) (n i : ℕ) (v : Value) (e : Entry) : Type 0 w
   stood : slice_get es i ≡ Some before
   is : valued before v ≡ e
 
-entry_before : (es : List Entry) (n i : ℕ) (v : Value) (e : Entry) → slice_get (with_value es n v) i ≡ Some e → IsValued es n i v e ⊎ (slice_get es i ≡ Some e)
+entry_before : (es : List Entry) (n i : ℕ) (v : Value) (e : Entry) → slice_get (with_value es n v) i ≡ Some e
+    → IsValued es n i v e ⊎ (slice_get es i ≡ Some e)
 entry_before [] n i v e at = absurd (cc)
 entry_before (x ∷ es) zero zero v e at = inl (record { here = refl; before = x; stood = refl; is = cc })
 entry_before (x ∷ es) zero (suc i) v e at = inr at
@@ -53,20 +62,31 @@ entry_before (x ∷ es) (suc n) (suc i) v e at = elim (entry_before es n i v e a
   | inr h ↦ inr h
 ]
 
-places_with_value : (es : List Entry) (n : ℕ) (u v : Value) (e : Entry) → slice_get es n ≡ Some e → e.body ≡ Variable u
-    → sum_by (λ (x : Entry). places_of_body x.body) (with_value es n v) ≡ sum_by (λ (x : Entry). places_of_body x.body) es
-places_with_value [] n u v e at is = absurd (cc)
-places_with_value (x ∷ es) zero u v e at is =
-    let same : x ≡ e = cc in
-    let one : places_of_body x.body ≡ 1 = ap places_of_body (ap (λ (y : Entry). y.body) same ∙ is) in
-    let count = λ (y : Entry). places_of_body y.body in
+-- what is counted of a variable is counted of it with another value
+count_with_value : (count : Entry → ℕ) (es : List Entry) (n : ℕ) (v : Value) (e : Entry) → slice_get es n ≡ Some e → count (valued e v) ≡ count e
+    → sum_by count (with_value es n v) ≡ sum_by count es
+count_with_value count [] n v e at same = absurd (cc)
+count_with_value count (x ∷ es) zero v e at same =
+    let is : x ≡ e = cc in
+    let one : count (valued x v) ≡ count x = subst (λ (y : Entry). count (valued y v) ≡ count y) (sym is) same in
     omega (arith, one, sum_by-cons count (valued x v) es, sum_by-cons count x es)
-places_with_value (x ∷ es) (suc n) u v e at is =
-    let count = λ (y : Entry). places_of_body y.body in
-    omega (arith, places_with_value es n u v e at is, sum_by-cons count x (with_value es n v), sum_by-cons count x es)
+count_with_value count (x ∷ es) (suc n) v e at same =
+    omega (arith, count_with_value count es n v e at same, sum_by-cons count x (with_value es n v), sum_by-cons count x es)
+
+-- a variable for another makes no call
+calls_with_variable : (xs : List APlace) (j : ℕ) (v w : engine.Value) → slice_get xs j ≡ Some (place.Variable v)
+    → calls_among (set xs j (place.Variable w)) ≡ calls_among xs
+calls_with_variable [] j v w at = absurd (cc)
+calls_with_variable (x ∷ xs) zero v w at =
+    let is : x ≡ place.Variable v = cc in
+    let none : calls_at x ≡ 0 = ap calls_at is in
+    omega (arith, none, sum_by-cons calls_at x xs, sum_by-cons calls_at (place.Variable w) xs)
+calls_with_variable (x ∷ xs) (suc j) v w at =
+    omega (arith, calls_with_variable xs j v w at, sum_by-cons calls_at x xs, sum_by-cons calls_at x (set xs j (place.Variable w)))
 
 -- another place in a list is the new one, or was there
-get_set_at : (xs : List APlace) (j i : ℕ) (y x : APlace) → slice_get (set xs j y) i ≡ Some x → ((i ≡ j) × (y ≡ x)) ⊎ ((i ≡ j → ⊥) × (slice_get xs i ≡ Some x))
+get_set_at : (xs : List APlace) (j i : ℕ) (y x : APlace) → slice_get (set xs j y) i ≡ Some x
+    → ((i ≡ j) × (y ≡ x)) ⊎ ((i ≡ j → ⊥) × (slice_get xs i ≡ Some x))
 get_set_at [] j i y x at = absurd (cc)
 get_set_at (z ∷ xs) zero zero y x at = inl (refl, cc)
 get_set_at (z ∷ xs) zero (suc i) y x at = inr (λ is. absurd (omega (arith, is)), at)
@@ -77,7 +97,8 @@ get_set_at (z ∷ xs) (suc j) (suc i) y x at = elim (get_set_at xs j i y x at) [
 ]
 
 module _ (s : State) (roots : List ℕ) (places : List APlace) (items : List Item) (rep : Represents s roots places items)
-    (n : ℕ) (e : Entry) (u v : Value) (stands : entry_at s n ≡ Some e) (variable : e.body ≡ Variable u) (j : ℕ) (root : slice_get roots n ≡ Some j) where
+    (n : ℕ) (e : Entry) (u v : Value) (stands : entry_at s n ≡ Some e) (variable : e.body ≡ Variable u) (j : ℕ)
+    (root : slice_get roots n ≡ Some j) where
   abbrev after : State
   after = record s { entries = with_value s.entries n v }
 
@@ -89,6 +110,18 @@ module _ (s : State) (roots : List ℕ) (places : List APlace) (items : List Ite
       let same : has.root ≡ j = let both : Some has.root ≡ Some j = sym has.root_at ∙ root in cc in
       subst (λ i. slice_get items i ≡ Some (Named n)) same there
 
+  -- what stands there
+  variable_there : (held : engine.Value) × (slice_get places j ≡ Some (place.Variable held))
+  variable_there =
+      let there = there_too items places j (Named n) rep.one_item_each named in
+      by_place there.0 there.1 (rep.items_are j (Named n) there.0 named there.1)
+    where
+      by_place : (x : APlace) → slice_get places j ≡ Some x → PlaceIs s roots items (Named n) x
+          → (held : engine.Value) × (slice_get places j ≡ Some (place.Variable held))
+      by_place (place.Literal held) at is = absurd is
+      by_place (place.Variable held) at is = (held, at)
+      by_place (place.Application function js) at is = absurd is
+
   -- an entry at the position of the variable is a variable
   no_formula : (m : ℕ) (x : Entry) → entry_at s m ≡ Some x → m ≡ n → x.body ≡ Variable u
   no_formula m x at is =
@@ -96,14 +129,16 @@ module _ (s : State) (roots : List ℕ) (places : List APlace) (items : List Ite
       let same : x ≡ e = cc in
       ap (λ (y : Entry). y.body) same ∙ variable
 
-  formula_kept : (owner : ℕ) (path : List ℕ) (f : Formula) → formula_at s owner path ≡ Some f → formula_at after owner path ≡ Some f
+  formula_kept : (owner : ℕ) (path : List Edge) (f : Formula) → formula_at s owner path ≡ Some f → formula_at after owner path ≡ Some f
   formula_kept owner path f is = by_entry (entry_at s owner) refl is
     where
-      by_entry : (o : Option Entry) → entry_at s owner ≡ o → and_then o (λ x. and_then (formula_of_body x.body) (λ g. part_of g path)) ≡ Some f → formula_at after owner path ≡ Some f
+      by_entry : (o : Option Entry) → entry_at s owner ≡ o → and_then (and_then o (λ x. Some x.body))
+          (λ b. and_then (formula_of_body b) (λ g. part_of g path)) ≡ Some f → formula_at after owner path ≡ Some f
       by_entry None at there = absurd (cc)
       by_entry (Some x) at there = elim (get_with_value s.entries n owner v x at) [
         | inl here ↦
-            let nothing : None ≡ Some f = subst (λ b. and_then (formula_of_body b) (λ g. part_of g path) ≡ Some f) (no_formula owner x at here.0) there in
+            let nothing : None ≡ Some f = subst (λ b. and_then (formula_of_body b) (λ g. part_of g path) ≡ Some f) (no_formula owner x at here.0)
+            there in
             absurd (cc)
         | inr other ↦ rw other.1 there
       ]
@@ -118,17 +153,18 @@ module _ (s : State) (roots : List ℕ) (places : List APlace) (items : List Ite
   still = record { formulas = formula_kept; own = own_kept; roots = λ m i at. at; items = λ i item at. at }
 
   -- the place of the variable has the value
-  value_is : (item : Item) → slice_get items j ≡ Some item → PlaceIs after roots items item (place.Variable v)
+  value_is : (item : Item) → slice_get items j ≡ Some item → PlaceIs after roots items item (place.Variable (to_engine v))
   value_is item at =
       let both : Some (Named n) ≡ Some item = sym named ∙ at in
       let same : Named n ≡ item = cc in
       elim (get_with_value s.entries n n v e stands) [
-        | inl here ↦ subst (λ i. PlaceIs after roots items i (place.Variable v)) same (valued e v, here.1, refl)
+        | inl here ↦ subst (λ i. PlaceIs after roots items i (place.Variable (to_engine v))) same (valued e v, here.1, (v, refl, refl))
         | inr other ↦ absurd (other.0 refl)
       ]
 
   -- every other place has what it had
-  other_is : (i : ℕ) (item : Item) (x : APlace) → (i ≡ j → ⊥) → slice_get items i ≡ Some item → PlaceIs s roots items item x → PlaceIs after roots items item x
+  other_is : (i : ℕ) (item : Item) (x : APlace) → (i ≡ j → ⊥) → slice_get items i ≡ Some item → PlaceIs s roots items item x
+      → PlaceIs after roots items item x
   other_is i (Place owner path) x apart at h = still_place s after roots roots items items still owner path x h
   other_is i (Named m) (place.Literal w) apart at h = absurd h
   other_is i (Named m) (place.Application function js) apart at h = absurd h
@@ -137,8 +173,9 @@ module _ (s : State) (roots : List ℕ) (places : List APlace) (items : List Ite
     | inr other ↦ (h.0, other.1, h.2)
   ]
 
-  items_still_are : (i : ℕ) (item : Item) (x : APlace) → slice_get items i ≡ Some item → slice_get (set places j (place.Variable v)) i ≡ Some x → PlaceIs after roots items item x
-  items_still_are i item x at there = elim (get_set_at places j i (place.Variable v) x there) [
+  items_still_are : (i : ℕ) (item : Item) (x : APlace) → slice_get items i ≡ Some item
+      → slice_get (set places j (place.Variable (to_engine v))) i ≡ Some x → PlaceIs after roots items item x
+  items_still_are i item x at there = elim (get_set_at places j i (place.Variable (to_engine v)) x there) [
     | inl here ↦ subst (PlaceIs after roots items item) here.1 (value_is item (ap (slice_get items) (sym here.0) ∙ at))
     | inr other ↦ other_is i item x other.0 at (rep.items_are i item x at other.1)
   ]
@@ -162,17 +199,31 @@ module _ (s : State) (roots : List ℕ) (places : List APlace) (items : List Ite
   ]
 
   -- the places, with the value at the variable's root, stand for the state with it
-  pub assigned_represents : Represents after roots (set places j (place.Variable v)) items
+  pub assigned_represents : Represents after roots (set places j (place.Variable (to_engine v))) items
   assigned_represents =
-      let size : length (set places j (place.Variable v)) ≡ length places = length-set places j (place.Variable v) in
+      let size : length (set places j (place.Variable (to_engine v))) ≡ length places = length-set places j (place.Variable (to_engine v)) in
       let entries : length after.entries ≡ length s.entries = length_with_value s.entries n v in
       record {
         one_item_each = omega (arith, rep.one_item_each, size);
         items_are = items_still_are;
         distinct = rep.distinct;
-        owners = every_weaker (λ (item : Item). owner_of item < length s.entries) (λ (item : Item). owner_of item < length after.entries) items (λ item less. omega (arith, less, entries)) rep.owners;
+        owners = every_weaker (λ (item : Item). owner_of item < length s.entries) (λ (item : Item). owner_of item < length after.entries) items
+            (λ item less. omega (arith, less, entries)) rep.owners;
         one_root_each = omega (arith, rep.one_root_each, entries);
         roots_are = roots_still_are;
         targets_are = targets_still_are;
-        count = omega (arith, places_with_value s.entries n u v e stands variable, rep.count, size);
+        count = omega (
+          arith,
+          count_with_value (λ (x : Entry). places_of_body x.body) s.entries n v e stands
+              (ap places_of_body (sym variable)),
+          rep.count,
+          size,
+        );
+        calls = omega (
+          arith,
+          count_with_value (λ (x : Entry). calls_of_body x.body) s.entries n v e stands
+              (ap calls_of_body (sym variable)),
+          rep.calls,
+          calls_with_variable places j variable_there.0 (to_engine v) variable_there.1,
+        );
       }

@@ -43,7 +43,8 @@ module _ (places : List Place) (i : ℕ) (f : FnRef) (arguments : List ℕ) (sta
   pub fitting : AreSoundPlaces places → IsFittingAt places i f arguments
   fitting sound = sound i (Application f arguments) stands
 
-  pub fit : (now : List (Option LastCall)) (vs : List Value) → AreSoundPlaces places → AreTypedCalls places now → values_at places now arguments ≡ Some vs → map type_of vs ≡ f.sig.takes
+  pub fit : (now : List (Option LastCall)) (vs : List Value) → AreSoundPlaces places → AreTypedCalls places now
+      → values_at places now arguments ≡ Some vs → map type_of vs ≡ f.sig.takes
   fit now vs sound typed are =
       let found = values_typed places now arguments vs typed are in
       let wanted = (fitting sound).takes in
@@ -52,7 +53,8 @@ module _ (places : List Place) (i : ℕ) (f : FnRef) (arguments : List ℕ) (sta
   pub due_at : (old now : List (Option LastCall)) → IsDue places old now i arguments → IsDueAt places old now i
   due_at old now due = record { function = f; arguments = arguments; stands = stands; due = due }
 
-  pub call_at : (value : FnRef → List Value → Value) (old now : List (Option LastCall)) (call : LastCall) → IsDue places old now i arguments → IsCallOf value places now f arguments call
+  pub call_at : (value : FnRef → List Value → Value) (old now : List (Option LastCall)) (call : LastCall) → IsDue places old now i arguments
+      → IsCallOf value places now f arguments call
       → IsCallAt value places old now i call
   unfolding due_at
   call_at value old now call due is = record { due = due_at old now due; call_is = is }

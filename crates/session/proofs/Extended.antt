@@ -1,120 +1,181 @@
--- A state that has the declarations of another has the same at their places.
-use Rattle.std.proofs.Common.{◌≡◌, ℕ, suc, List, [], ◌∷◌, map, Option, None, Some, refl, sym, ◌∙◌, ap, subst}
+-- A state that has the declarations of another, and other observers, has the same at their places.
+use Rattle.std.proofs.Common.{◌≡◌, ◌⊎◌, inl, inr, ℕ, zero, suc, List, [], ◌∷◌, ◌++◌, length, map, Option, None, Some, true, false, refl, sym, ◌∙◌, ap, subst}
+use Rattle.std.proofs.Math.Path.{fun_ext}
 use Rattle.std.specs.List.{slice_get}
-use Rattle.script_model.specs.Choice.{and_then, Among, Reaches, here, step}
-use Rattle.script_model.specs.Evaluate.{Values, gathered, value_at}
-use Rattle.script_model.specs.Formula.{Formula, Formulas, Body, Entry, State, Functions, Name, Apply, End, More, Computed, entry_at, places_of, places_of_body}
+use Rattle.inc_value.specs.Choice.{and_then, Among, Reaches, here, step}
+use Rattle.script_model.specs.Evaluate.{Gathered, Unknown, SomeInvalid, Values, gathered, each_of, value_at, level, body_level, name_level}
+use Rattle.script_model.specs.Formula.{Formula, Formulas, Body, Entry, State, Meanings, Literal, Name, Apply, Fold, Variable, Computed, Freeze, Expert, Grab, entry_at, body_at, formula_of_body}
 use Rattle.script_model.specs.Formula as model
-use Rattle.script_model.specs.Need.{Item, Named, Reads, Needed, Visit, IsVisit, formula_of_body, part_of, formula_at, visit_at, place_reads, name_reads, reads_of}
-use Rattle.script_model.specs.Need as need
-use Rattle.script_model.proofs.Evaluation.{Under, under_refl, Extends, value_extends, gathered_under}
+use Rattle.script_model.specs.Need.{Edge, Left, Item, Named, Place, Reads, Needed, Visit, IsVisit, environment, part_of, formula_at, part_reads, scope_reads, place_reads, grab_reads, body_reads, name_reads, reads_at, own_root, own_roots, roots, once, visit_with, formula_visits, body_visits, visits_at}
+use Rattle.script_model.specs.Values.{Value, Outcome}
 use Rattle.session.specs.LastCall.{LastCall}
-use Rattle.session.specs.Represents.{IsOwn, StandsAt, StandEach, PlaceIs, RootIs, HasRoot, Represents}
+use Rattle.session.specs.Represents.{IsOwn, PlaceIs, HasRoot, Represents}
 use Rattle.session.specs.Standing.{RanAll}
-use Rattle.session.specs.declared.place.Place.{Place}
-use Rattle.session.specs.declared.place.Place.TheVariants.{Literal, Variable, Application}
-use Rattle.session.proofs.Needed.{among_map, among_mapped}
-use Rattle.session.proofs.Ran.{visit_within}
+use Rattle.session.specs.declared.place.Place.TheVariants as place
+use Rattle.session.specs.declared.place.Place.{Place as APlace}
+use Rattle.session.proofs.Needed.{among_first, among_second, among_either, among_map, among_mapped}
+use Rattle.session.proofs.Representing.{StillStands, still_place, still_root}
 
-module _ (s after : State) (extends : Extends s after) where
-  pub entry_stays : (n : ℕ) (e : Entry) → entry_at s n ≡ Some e → entry_at after n ≡ Some e
-  entry_stays n e stands = rw stands at (extends n)
+module _ (s : State) (observers : List model.Observer) (accepted : ℕ) where
+  abbrev after : State
+  after = record s { observers = observers; accepted = accepted }
 
-  pub formula_stays : (owner : ℕ) (path : List ℕ) (f : Formula) → formula_at s owner path ≡ Some f → formula_at after owner path ≡ Some f
-  formula_stays owner path f whole = in_entry (entry_at s owner) refl whole
-    where
-      in_entry : (e : Option Entry) → entry_at s owner ≡ e → and_then e (λ x. and_then (formula_of_body x.body) (λ g. part_of g path)) ≡ Some f → formula_at after owner path ≡ Some f
-      in_entry None stands whole = absurd (cc)
-      in_entry (Some e) stands whole = rw (entry_stays owner e stands) whole
+  -- ---- what stands
 
-  pub own_stays : (n : ℕ) → IsOwn s n → IsOwn after n
-  own_stays n own = record { entry = own.entry; stands = entry_stays n own.entry own.stands; own = own.own }
+  own_same : (n : ℕ) → IsOwn s n → IsOwn after n
+  own_same n own = record { entry = own.entry; stands = own.stands; own = own.own }
 
-  module _ (roots : List ℕ) (items : List Item) where
-    pub stands_stays : (owner : ℕ) (path : List ℕ) (f : Formula) (j : ℕ) → StandsAt s roots items owner path f j → StandsAt after roots items owner path f j
-    stands_stays owner path (model.Literal v) j stands = stands
-    stands_stays owner path (Name n) j stands = (stands.0, own_stays n stands.1)
-    stands_stays owner path (Apply g fs) j stands = stands
+  still : (all_roots : List ℕ) (items : List Item) → StillStands s after all_roots all_roots items items
+  still all_roots items = record { formulas = λ owner path f whole. whole; own = own_same; roots = λ n j at. at; items = λ i item at. at }
 
-    pub each_stays : (owner : ℕ) (path : List ℕ) (k : ℕ) (fs : Formulas) (js : List ℕ) → StandEach s roots items owner path k fs js → StandEach after roots items owner path k fs js
-    each_stays owner path k End [] stand = tt
-    each_stays owner path k End (j ∷ js) stand = absurd stand
-    each_stays owner path k (More f fs) [] stand = absurd stand
-    each_stays owner path k (More f fs) (j ∷ js) stand = (stands_stays owner (k ∷ path) f j stand.0, each_stays owner path (suc k) fs js stand.1)
+  place_same : (all_roots : List ℕ) (items : List Item) (item : Item) (x : APlace) → PlaceIs s all_roots items item x
+      → PlaceIs after all_roots items item x
+  place_same all_roots items (Named n) (place.Literal v) is = absurd is
+  place_same all_roots items (Named n) (place.Variable v) is = is
+  place_same all_roots items (Named n) (place.Application f js) is = absurd is
+  place_same all_roots items (Place owner path) x is = still_place s after all_roots all_roots items items (still all_roots items) owner path x is
 
-    pub place_stays : (item : Item) (x : Place) → PlaceIs s roots items item x → PlaceIs after roots items item x
-    place_stays (Named n) (Literal v) is = absurd is
-    place_stays (Named n) (Variable v) is = (is.0, entry_stays n is.0 is.1, is.2)
-    place_stays (Named n) (Application f js) is = absurd is
-    place_stays (need.Place owner path) (Literal v) is = formula_stays owner path (model.Literal v) is
-    place_stays (need.Place owner path) (Variable v) is = absurd is
-    place_stays (need.Place owner path) (Application f js) is = (is.0, formula_stays owner path (Apply f is.0) is.1, each_stays owner path 0 is.0 js is.2)
+  -- the places stand for the other state too
+  pub same_represents : (all_roots : List ℕ) (places : List APlace) (items : List Item) → Represents s all_roots places items
+      → Represents after all_roots places items
+  same_represents all_roots places items represents = record {
+    one_item_each = represents.one_item_each;
+    items_are = λ i item x at stands. place_same all_roots items item x (represents.items_are i item x at stands);
+    distinct = represents.distinct;
+    owners = represents.owners;
+    one_root_each = represents.one_root_each;
+    roots_are = λ n e stands.
+        let has = represents.roots_are n e stands in
+        record {
+          root = has.root;
+          root_at = has.root_at;
+          root_is = still_root s after all_roots all_roots items items (still all_roots items) n e.body
+              has.root has.root_is;
+        };
+    targets_are = represents.targets_are;
+    count = represents.count;
+    calls = represents.calls;
+  }
 
-    pub root_stays : (n : ℕ) (b : Body) (j : ℕ) → RootIs s roots items n b j → RootIs after roots items n b j
-    root_stays n (model.Variable v) j root = root
-    root_stays n (Computed f) j root = stands_stays n [] f j root
+  -- ---- what is given
 
-    pub has_root_stays : (n : ℕ) (b : Body) → HasRoot s roots items n b → HasRoot after roots items n b
-    has_root_stays n b has = record { root = has.root; root_at = has.root_at; root_is = root_stays n b has.root has.root_is }
+  module _ (F : Meanings) where
+    body_level_same : (part : List Value → Formula → Option Outcome) (b : Body) → body_level F after part b ≡ body_level F s part b
+    body_level_same part (Freeze child predicate None) = refl
+    body_level_same part (Freeze child predicate (Some v)) = refl
+    body_level_same part (Grab bind v true) = refl
+    body_level_same part (Grab bind v false) = refl
+    body_level_same part b = refl
 
-  -- a visit stays
-  pub visit_stays : (F : Functions) (v : Visit) → IsVisit F s v → IsVisit F after v
-  visit_stays F v visit =
-      let d = visit.0 in
-      let w = visit_within F s d v visit.1 in
-      let given : gathered (value_at F after d) w.formulas ≡ Values v.values =
-      rw w.values_are at (gathered_under (value_at F s d) (value_at F after d) (λ f. value_extends F s after extends d f) w.formulas) in
-      let whole = formula_stays w.owner w.path (Apply w.function w.formulas) w.formula_is in
-      let there : visit_at F after d (need.Place w.owner w.path) ≡ Some (record { item = need.Place w.owner w.path; values = v.values; cost = 1 }) = rw (whole, given) refl in
-      let before : visit_at F s d (need.Place w.owner w.path) ≡ Some (record { item = need.Place w.owner w.path; values = v.values; cost = 1 }) = rw (w.formula_is, w.values_are) refl in
-      let same : Some (record { item = need.Place w.owner w.path; values = v.values; cost = 1 }) ≡ Some v = sym before ∙ subst (λ z. visit_at F s d z ≡ Some v) w.item_is visit.1 in
-      (d, subst (λ z. visit_at F after d z ≡ Some v) (sym w.item_is) (there ∙ same))
+    name_level_same : (part : List Value → Formula → Option Outcome) (e : Option Entry) → name_level F after part e ≡ name_level F s part e
+    name_level_same part None = refl
+    name_level_same part (Some e) = body_level_same part e.body
 
--- ---- the same declarations
+    level_same : (part : List Value → Formula → Option Outcome) (E : List Value) (f : Formula) → level F after part E f ≡ level F s part E f
+    level_same part E (Name n) = name_level_same part (entry_at s n)
+    level_same part E f = refl
 
-pub same_extends : (s after : State) → after.entries ≡ s.entries → Extends s after
-same_extends s after same = λ n. subst (λ (es : List Entry). Under (entry_at s n) (slice_get es n)) (sym same) (under_refl (entry_at s n))
+    value_same : (d : ℕ) → value_at F after d ≡ value_at F s d
+    unfolding value_at
+    value_same zero = refl
+    value_same (suc d) = fun_ext (λ E. fun_ext (λ f. ap (λ part. level F after part E f) (value_same d) ∙ level_same (value_at F s d) E f))
 
--- the places stand for every state with the same declarations
-pub same_represents : (s after : State) (roots : List ℕ) (places : List Place) (items : List Item) → after.entries ≡ s.entries → Represents s roots places items → Represents after roots places items
-same_represents s after roots places items same represents =
-    let extends = same_extends s after same in
-    let back = same_extends after s (sym same) in
-    record {
-      one_item_each = represents.one_item_each;
-      items_are = λ i item x at stands. place_stays s after extends roots items item x (represents.items_are i item x at stands);
-      distinct = represents.distinct;
-      owners = rw same represents.owners;
-      one_root_each = rw same represents.one_root_each;
-      roots_are = λ n e stands. has_root_stays s after extends roots items n e.body (represents.roots_are n e (entry_stays after s back n e stands));
-      targets_are = λ n e stands. represents.targets_are n e (entry_stays after s back n e stands);
-      count = rw same represents.count;
-    }
+    -- ---- what is called
 
-module _ (s after : State) (same : after.entries ≡ s.entries) where
-  formula_same : (owner : ℕ) (path : List ℕ) → formula_at after owner path ≡ formula_at s owner path
-  formula_same owner path = ap (λ (es : List Entry). and_then (slice_get es owner) (λ (e : Entry). and_then (formula_of_body e.body) (λ f. part_of f path))) same
+    visit_with_same : (i : Item) (cost : List Value → ℕ) (g : Gathered) → visit_with after i cost g ≡ visit_with s i cost g
+    visit_with_same (Named n) cost Unknown = refl
+    visit_with_same (Named n) cost SomeInvalid = refl
+    visit_with_same (Named n) cost (Values vs) = refl
+    visit_with_same (Place owner path) cost Unknown = refl
+    visit_with_same (Place owner path) cost SomeInvalid = refl
+    visit_with_same (Place owner path) cost (Values vs) = refl
 
-  reads_same : (i : Item) → reads_of after i ≡ reads_of s i
-  reads_same (Named n) = ap (λ f. name_reads n f) (formula_same n [])
-  reads_same (need.Place owner path) = ap (λ f. place_reads owner path f) (formula_same owner path)
+    formula_visits_same : (i : Item) (part : Formula → Option Outcome) (f : Option Formula)
+        → formula_visits after i part f ≡ formula_visits s i part f
+    formula_visits_same i part None = refl
+    formula_visits_same i part (Some (Apply f arguments)) = visit_with_same i once (gathered (each_of part arguments))
+    formula_visits_same i part (Some (Fold f first elements)) = visit_with_same i length (gathered (each_of part elements))
+    formula_visits_same i part (Some f) = refl
 
-  reach_same : (i j : Item) → Reaches (Reads after) i j → Reaches (Reads s) i j
-  reach_same i j here = here
-  reach_same i j (step {b = k} reads more) = step (subst (λ is. Among k is) (reads_same i) reads) (reach_same k j more)
+    body_visits_same : (d : ℕ) (i : Item) (b : Option Body) → body_visits F after d i b ≡ body_visits F s d i b
+    body_visits_same d i None = refl
+    body_visits_same d i (Some (Freeze child predicate None)) =
+        visit_with_same i once (gathered (value_at F after d [] child ∷ []))
+        ∙ ap (λ r. visit_with s i once (gathered (r [] child ∷ []))) (value_same d)
+    body_visits_same d i (Some (Freeze child predicate (Some v))) = refl
+    body_visits_same d i (Some (Expert f first links stale)) =
+        visit_with_same i length (gathered (map (λ m. value_at F after d [] (Name m)) links))
+        ∙ ap (λ r. visit_with s i length (gathered (map (λ m. r [] (Name m)) links))) (value_same d)
+    body_visits_same d i (Some b) = refl
 
-  -- what is needed stays so, where observers look at the same
-  needed_same : (i : Item) → map (λ (o : model.Observer). o.target) after.observers ≡ map (λ (o : model.Observer). o.target) s.observers → Needed after i → Needed s i
-  needed_same i targets is_needed =
-      let found = among_mapped (λ (o : model.Observer). Named o.target) is_needed.0 after.observers is_needed.1 in
-      let target = subst (λ (ts : List ℕ). Among found.0.target ts) targets (among_map (λ (o : model.Observer). o.target) found.0 after.observers found.1) in
-      let mine = among_mapped (λ (o : model.Observer). o.target) found.0.target s.observers target in
-      let is : Named mine.0.target ≡ is_needed.0 = ap (λ (n : ℕ). Named n) (sym mine.2) ∙ sym found.2 in
-      let root = subst (λ z. Among z (need.roots s)) is (among_map (λ (o : model.Observer). Named o.target) mine.0 s.observers mine.1) in
-      (is_needed.0, root, reach_same is_needed.0 i is_needed.2)
+    visits_same : (d : ℕ) (i : Item) → visits_at F after d i ≡ visits_at F s d i
+    visits_same d (Named n) = body_visits_same d (Named n) (body_at s n)
+    visits_same d (Place owner path) =
+        formula_visits_same (Place owner path) (value_at F after d (environment path)) (formula_at s owner path)
+        ∙ ap (λ r. formula_visits s (Place owner path) (r (environment path)) (formula_at s owner path)) (value_same d)
 
-  -- what ran for a state ran for every one with the same declarations, whose observers look at the same
-  pub same_ran : (F : Functions) (items : List Item) (last : List (Option LastCall)) → map (λ (o : model.Observer). o.target) after.observers ≡ map (λ (o : model.Observer). o.target) s.observers
-      → RanAll F s items last → RanAll F after items last
-  same_ran F items last targets ran v visit is_needed =
-      ran v (visit_stays after s (same_extends after s (sym same)) F v visit) (needed_same v.item targets is_needed)
+    -- ---- what is read
+
+    body_reads_same : (d n : ℕ) (b : Body) → body_reads F after d n b ≡ body_reads F s d n b
+    body_reads_same d n (Freeze child predicate None) = refl
+    body_reads_same d n (Freeze child predicate (Some v)) = refl
+    body_reads_same d n (Grab bind v true) = ap (λ r. grab_reads bind v (and_then (formula_at s bind (Left ∷ [])) (λ f. r [] f))) (value_same d)
+    body_reads_same d n (Grab bind v false) = refl
+    body_reads_same d n b = refl
+
+    reads_same : (d : ℕ) (i : Item) → reads_at F after d i ≡ reads_at F s d i
+    reads_same d (Named n) = of_body (body_at s n)
+      where
+        of_body : (b : Option Body) → name_reads F after d n b ≡ name_reads F s d n b
+        of_body None = refl
+        of_body (Some b) = body_reads_same d n b
+    reads_same d (Place owner path) = of_formula (formula_at s owner path)
+      where
+        of_formula : (f : Option Formula) → place_reads F after d owner path f ≡ place_reads F s d owner path f
+        of_formula None = refl
+        of_formula (Some f) = ap (λ r. part_reads (r (environment path)) owner path f ++ scope_reads owner path f) (value_same d)
+
+    reach_same : (i j : Item) → Reaches (Reads F after) i j → Reaches (Reads F s) i j
+    reach_same i j here = here
+    reach_same i j (step {b = k} reads more) = step (reads.0, subst (λ is. Among k is) (reads_same reads.0 i) reads.1) (reach_same k j more)
+
+    own_root_same : (n : ℕ) (b : Body) → own_root after n b ≡ own_root s n b
+    own_root_same n (Freeze child predicate None) = refl
+    own_root_same n (Freeze child predicate (Some v)) = refl
+    own_root_same n b = refl
+
+    own_roots_same : (n : ℕ) (es : List Entry) → own_roots after n es ≡ own_roots s n es
+    own_roots_same n [] = refl
+    own_roots_same n (e ∷ es) = rw (own_root_same n e.body, own_roots_same (suc n) es) refl
+
+    -- what is needed stays so, where observers look at the same
+    needed_same : (i : Item) → map (λ (o : model.Observer). o.target) observers ≡ map (λ (o : model.Observer). o.target) s.observers
+        → Needed F after i → Needed F s i
+    needed_same i targets is_needed = (
+      is_needed.0,
+      root (among_either is_needed.0 (map looked observers) (own_roots after 0 s.entries) is_needed.1),
+      reach_same is_needed.0 i
+          is_needed.2,
+    )
+      where
+        looked : model.Observer → Item
+        looked o = Named o.target
+
+        root : Among is_needed.0 (map looked observers) ⊎ Among is_needed.0 (own_roots after 0 s.entries) → Among is_needed.0 (roots s)
+        root (inr own) = among_second is_needed.0 (map looked s.observers) (own_roots s 0 s.entries)
+            (subst (λ is. Among is_needed.0 is) (own_roots_same 0 s.entries) own)
+        root (inl seen) =
+            let found = among_mapped looked is_needed.0 observers seen in
+            let target = subst (λ (ts : List ℕ). Among found.0.target ts) targets
+            (among_map (λ (o : model.Observer). o.target) found.0 observers found.1) in
+            let mine = among_mapped (λ (o : model.Observer). o.target) found.0.target s.observers target in
+            let is : Named mine.0.target ≡ is_needed.0 = ap (λ (n : ℕ). Named n) (sym mine.2) ∙ sym found.2 in
+            subst (λ z. Among z (roots s)) is (among_first (Named mine.0.target) _ (own_roots s 0 s.entries)
+            (among_map looked mine.0 s.observers mine.1))
+
+    -- what ran for a state ran for every one with the same declarations, whose observers look at the same
+    pub same_ran : (items : List Item) (last : List (Option LastCall))
+        → map (λ (o : model.Observer). o.target) observers ≡ map (λ (o : model.Observer). o.target) s.observers
+        → RanAll F s items last → RanAll F after items last
+    same_ran items last targets ran v visit is_needed = ran v (visit.0, subst (λ vs. Among v vs) (visits_same visit.0 v.item) visit.1)
+        (needed_same v.item targets is_needed)

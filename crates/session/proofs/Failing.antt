@@ -1,5 +1,5 @@
 -- What holds where a call has failed, or has not.
-use Rattle.std.proofs.Common.{◌≡◌, false, true, sym, subst}
+use Rattle.std.proofs.Common.{◌≡◌, false, true, Option, None, Some, refl, sym, subst}
 use Rattle.std.specs.Prelude.{Result, Ok, Err, is_err}
 use Rattle.std.specs.Result.{IfOk, OnErr, OnOk}
 
@@ -39,3 +39,8 @@ err_from (Err e) p f = f p
 pub no_ok : {T E : Type 0} (r : Result T E) (P : T → Type 0) → is_err r ≡ true → IfOk r P
 no_ok (Ok x) P is = absurd (cc)
 no_ok (Err e) P is = tt
+
+-- what is none of the values that there may be is none
+pub none_of : {A : Type 0} (o : Option A) → ((x : A) → o ≡ Some x → ⊥) → o ≡ None
+none_of None not_some = refl
+none_of (Some x) not_some = absurd (not_some x refl)

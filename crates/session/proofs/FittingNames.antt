@@ -26,6 +26,7 @@ module _ (known : FnRef → Bool) (names : Names) where
     names_fit (Literal v) ty fits = tt
     names_fit (Name n) ty fits = (ty, fits)
     names_fit (Apply function arguments) ty fits = names_fit_each arguments function.sig.takes fits.1
+    names_fit f ty fits = absurd fits
 
     names_fit_each : (fs : Formulas) (tys : List Ty) → ArgumentsFit known names fs tys → EveryNameOfAll (IsFitting names) fs
     names_fit_each End [] fits = tt
@@ -35,9 +36,11 @@ module _ (known : FnRef → Bool) (names : Names) where
 
   names_fit_body : (body : Body) (ty : Ty) → BodyFits known names body ty → EveryNameOf (IsFitting names) body
   names_fit_body (Variable v) ty fits = tt
-  names_fit_body (Computed f) ty fits = names_fit f ty fits
+  names_fit_body (Computed f kept) ty fits = names_fit f ty fits.0
+  names_fit_body body ty fits = absurd fits
 
-  pub names_below : (count : ℕ) (body : Body) (ty : Ty) → length names.declared ≡ count → BodyFits known names body ty → EveryNameOf (λ n. n < count) body
+  pub names_below : (count : ℕ) (body : Body) (ty : Ty) → length names.declared ≡ count → BodyFits known names body ty
+      → EveryNameOf (λ n. n < count) body
   names_below count body ty size fits =
       every_name_weaker_body (IsFitting names) (λ n. n < count) body (λ n h. subst (λ c. n < c) size h.1.earlier) (names_fit_body body ty fits)
 

@@ -13,7 +13,8 @@ abbrev pub in_view : List Formula → model.Formulas
 in_view fs = formulas_of (map formula_view fs)
 
 -- the formula at the i-th place comes before those behind it
-pub split_at : (fs : List Formula) (i : ℕ) (f : Formula) → i < length fs → f ≡ get_or fs i f → in_view (drop i fs) ≡ model.More (formula_view f) (in_view (drop (i + 1) fs))
+pub split_at : (fs : List Formula) (i : ℕ) (f : Formula) → i < length fs → f ≡ get_or fs i f
+    → in_view (drop i fs) ≡ model.More (formula_view f) (in_view (drop (i + 1) fs))
 split_at fs i f within is =
     let split : drop i fs ≡ f ∷ drop (i + 1) fs = rw add-one (drop-cons fs i f within ∙ ap (λ x. x ∷ drop (suc i) fs) (sym is)) in
     ap in_view split
@@ -34,10 +35,12 @@ pub record AreLaid (roots : List ℕ) (old : List Place) (fs : List Formula) (i 
   pub whole : laid_each roots (length old) (in_view fs) ≡ behind more values (laid_each roots (length places) (in_view (drop i fs)))
   pub names : EveryNameOfAll (λ n. n < length roots) (in_view (drop i fs))
 
-pub none_laid : (roots : List ℕ) (old : List Place) (fs : List Formula) → EveryNameOfAll (λ n. n < length roots) (in_view fs) → AreLaid roots old fs 0 old []
+pub none_laid : (roots : List ℕ) (old : List Place) (fs : List Formula) → EveryNameOfAll (λ n. n < length roots) (in_view fs)
+    → AreLaid roots old fs 0 old []
 none_laid roots old fs names = record { more = []; added = sym (append-nil old); whole = refl; names = names }
 
-module _ (roots : List ℕ) (old : List Place) (fs : List Formula) (i : ℕ) (places : List Place) (values : List ℕ) (h : AreLaid roots old fs i places values) where
+module _ (roots : List ℕ) (old : List Place) (fs : List Formula) (i : ℕ) (places : List Place) (values : List ℕ)
+    (h : AreLaid roots old fs i places values) where
   module _ (f : Formula) (within : i < length fs) (is : f ≡ get_or fs i f) where
     pub names_split : EveryName (λ n. n < length roots) (formula_view f) × EveryNameOfAll (λ n. n < length roots) (in_view (drop (i + 1) fs))
     names_split = subst (EveryNameOfAll (λ n. n < length roots)) (split_at fs i f within is) h.names
@@ -48,7 +51,8 @@ module _ (roots : List ℕ) (old : List Place) (fs : List Formula) (i : ℕ) (pl
         let first = laid roots (length places) (formula_view f) in
         let rest = laid_each roots (length new) (in_view (drop (i + 1) fs)) in
         let size : length new ≡ length places + length first.places = ap length new_is ∙ length-append places first.places in
-        let shifted : laid_each roots (length places + length first.places) (in_view (drop (i + 1) fs)) ≡ rest = ap (λ n. laid_each roots n (in_view (drop (i + 1) fs))) (sym size) in
+        let shifted : laid_each roots (length places + length first.places) (in_view (drop (i + 1) fs)) ≡ rest = ap
+        (λ n. laid_each roots n (in_view (drop (i + 1) fs))) (sym size) in
         let regrouped : behind h.more values (laid_before first rest) ≡ behind (h.more ++ first.places) (values ++ first.root ∷ []) rest =
         rw (append_assoc h.more first.places rest.places, append_assoc values (first.root ∷ []) rest.roots) refl in
         record {
@@ -62,7 +66,8 @@ module _ (roots : List ℕ) (old : List Place) (fs : List Formula) (i : ℕ) (pl
 
   module _ (past : length fs ≤ i) where
     whole_laid : laid_each roots (length old) (in_view fs) ≡ record { places = h.more; roots = values }
-    whole_laid = h.whole ∙ ap (λ x. behind h.more values (laid_each roots (length places) x)) (nothing_left fs i past) ∙ rw (append-nil h.more, append-nil values) refl
+    whole_laid = h.whole ∙ ap (λ x. behind h.more values (laid_each roots (length places) x)) (nothing_left fs i past)
+        ∙ rw (append-nil h.more, append-nil values) refl
 
     pub roots_laid : values ≡ (laid_each roots (length old) (in_view fs)).roots
     roots_laid = sym (ap (λ (x : LaidEach). x.roots) whole_laid)
@@ -71,5 +76,6 @@ module _ (roots : List ℕ) (old : List Place) (fs : List Formula) (i : ℕ) (pl
     places_laid = h.added ∙ ap (λ (x : LaidEach). old ++ x.places) (sym whole_laid)
 
 -- what stands behind places that stand behind others
-pub further_behind : (old more places new : List Place) → places ≡ old ++ more → (further : List Place) × (new ≡ places ++ further) → (further : List Place) × (new ≡ old ++ further)
+pub further_behind : (old more places new : List Place) → places ≡ old ++ more → (further : List Place) × (new ≡ places ++ further)
+    → (further : List Place) × (new ≡ old ++ further)
 further_behind old more places new is further = (more ++ further.0, further.1 ∙ ap (λ l. l ++ further.0) is ∙ append_assoc old more further.0)

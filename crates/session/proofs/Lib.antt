@@ -9,7 +9,9 @@ mod Extended
 mod Failing
 mod FittingNames
 mod Following
+mod Gives
 mod Giving
+mod Held
 mod LaidInTurn
 mod LaidItems
 mod LaidTypes

@@ -3,7 +3,7 @@ use Rattle.std.proofs.Common.{◌≡◌, ◌⊎◌, inl, inr, ℕ, zero, suc, �
 use Rattle.std.specs.List.{slice_get}
 use Rattle.std.proofs.lemmas.List.{take_more}
 use Rattle.std.proofs.lemmas.Option.{slice_get_read, get_or_from_slice_get, slice_get_within}
-use Rattle.script_model.specs.Choice.{and_then, Every, Among}
+use Rattle.inc_value.specs.Choice.{and_then, Every, Among}
 
 -- ---- options
 

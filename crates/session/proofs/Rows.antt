@@ -5,7 +5,7 @@ use Rattle.std.proofs.lemmas.List.{length-append}
 use Rattle.std.proofs.lemmas.Option.{slice_get_within}
 use Rattle.std.specs.List.{slice_get}
 use Rattle.session.proofs.Lists.{every_at}
-use Rattle.script_model.specs.Choice.{Every}
+use Rattle.inc_value.specs.Choice.{Every}
 
 -- ---- elements by their places
 
@@ -46,7 +46,8 @@ abbrev pub StandFrom : {A : Type 0} → List A → ℕ → List A → Type 0
 StandFrom whole start [] = Unit {0}
 StandFrom whole start (x ∷ xs) = (slice_get whole start ≡ Some x) × StandFrom whole (suc start) xs
 
-pub stand_split : {A : Type 0} (whole : List A) (start : ℕ) (xs ys : List A) → StandFrom whole start (xs ++ ys) → StandFrom whole start xs × StandFrom whole (start + length xs) ys
+pub stand_split : {A : Type 0} (whole : List A) (start : ℕ) (xs ys : List A) → StandFrom whole start (xs ++ ys)
+    → StandFrom whole start xs × StandFrom whole (start + length xs) ys
 stand_split whole start [] ys stand = let same : start ≡ start + 0 = omega arith in (tt, subst (λ n. StandFrom whole n ys) same stand)
 stand_split whole start (x ∷ xs) ys stand =
     let later = stand_split whole (suc start) xs ys stand.1 in
@@ -58,8 +59,11 @@ stand_behind front [] = tt
 stand_behind front (x ∷ xs) =
     let regrouped : (front ++ x ∷ []) ++ xs ≡ front ++ x ∷ xs = append_assoc front (x ∷ []) xs in
     let size : length (front ++ x ∷ []) ≡ suc (length front) = omega (arith, length-append front (x ∷ [])) in
-    let later = stand_behind (front ++ x ∷ []) xs in
-    (get_append_behind front (x ∷ xs) (length front) 0 (omega arith), subst (λ n. StandFrom (front ++ x ∷ xs) n xs) size (subst (λ l. StandFrom l (length (front ++ x ∷ [])) xs) regrouped later))
+    let later = stand_behind (front ++ x ∷ []) xs in (
+      get_append_behind front (x ∷ xs) (length front) 0 (omega arith),
+      subst (λ n. StandFrom (front ++ x ∷ xs) n xs) size
+          (subst (λ l. StandFrom l (length (front ++ x ∷ [])) xs) regrouped later),
+    )
 
 -- ---- lists side by side
 
@@ -70,16 +74,19 @@ SideBySide R [] (y ∷ ys) = ⊥
 SideBySide R (x ∷ xs) [] = ⊥
 SideBySide R (x ∷ xs) (y ∷ ys) = R x y × SideBySide R xs ys
 
-pub side_append : {A B : Type 0} (R : A → B → Type 0) (xs more_xs : List A) (ys more_ys : List B) → SideBySide R xs ys → SideBySide R more_xs more_ys → SideBySide R (xs ++ more_xs) (ys ++ more_ys)
+pub side_append : {A B : Type 0} (R : A → B → Type 0) (xs more_xs : List A) (ys more_ys : List B) → SideBySide R xs ys → SideBySide R more_xs more_ys
+    → SideBySide R (xs ++ more_xs) (ys ++ more_ys)
 side_append R [] more_xs [] more_ys first rest = rest
 side_append R [] more_xs (y ∷ ys) more_ys first rest = absurd first
 side_append R (x ∷ xs) more_xs [] more_ys first rest = absurd first
 side_append R (x ∷ xs) more_xs (y ∷ ys) more_ys first rest = (first.0, side_append R xs more_xs ys more_ys first.1 rest)
 
-pub side_at : {A B : Type 0} (R : A → B → Type 0) (xs : List A) (ys : List B) (i : ℕ) (x : A) (y : B) → SideBySide R xs ys → slice_get xs i ≡ Some x → slice_get ys i ≡ Some y → R x y
+pub side_at : {A B : Type 0} (R : A → B → Type 0) (xs : List A) (ys : List B) (i : ℕ) (x : A) (y : B) → SideBySide R xs ys → slice_get xs i ≡ Some x
+    → slice_get ys i ≡ Some y → R x y
 side_at R [] ys i x y all at other = absurd (cc)
 side_at R (a ∷ xs) [] i x y all at other = absurd all
-side_at R (a ∷ xs) (b ∷ ys) zero x y all at other = let left : a ≡ x = cc in let right : b ≡ y = cc in subst (λ u. R x u) right (subst (λ u. R u b) left all.0)
+side_at R (a ∷ xs) (b ∷ ys) zero x y all at other = let left : a ≡ x = cc in let right : b ≡ y = cc in subst (λ u. R x u) right
+    (subst (λ u. R u b) left all.0)
 side_at R (a ∷ xs) (b ∷ ys) (suc i) x y all at other = side_at R xs ys i x y all.1 at other
 
 -- ---- lists without repeats
@@ -88,7 +95,8 @@ side_at R (a ∷ xs) (b ∷ ys) (suc i) x y all at other = side_at R xs ys i x y
 abbrev pub StandOnce : {A : Type 0} → List A → Type 0
 StandOnce xs = (i j : ℕ) (x : _) → slice_get xs i ≡ Some x → slice_get xs j ≡ Some x → i ≡ j
 
-pub once_append : {A : Type 0} (P Q : A → Type 0) (xs ys : List A) → StandOnce xs → StandOnce ys → Every P xs → Every Q ys → ((x : A) → P x → Q x → ⊥) → StandOnce (xs ++ ys)
+pub once_append : {A : Type 0} (P Q : A → Type 0) (xs ys : List A) → StandOnce xs → StandOnce ys → Every P xs → Every Q ys → ((x : A) → P x → Q x → ⊥)
+    → StandOnce (xs ++ ys)
 once_append P Q xs ys first second xs_all ys_all apart = λ i j x at other. elim (get_append xs ys i x at) [
   | inl left ↦ elim (get_append xs ys j x other) [
     | inl also ↦ first i j x left also

@@ -5,7 +5,7 @@ use Rattle.std.specs.Option.{option_map}
 use Rattle.inc_value.specs.Value.{type_of}
 use Rattle.inc_value.specs.declared.ty.Ty.{Ty}
 use Rattle.inc_value.specs.declared.value.Value.{Value}
-use Rattle.script_model.specs.Choice.{and_then, Every}
+use Rattle.inc_value.specs.Choice.{and_then, Every}
 use Rattle.session.specs.Calling.{HaveValues}
 use Rattle.session.specs.LastCall.{LastCall}
 use Rattle.session.specs.Places.{last_at, value_at, value_of_place, values_at, type_at, type_of_place, types_at, AreTypedCalls}
@@ -29,7 +29,8 @@ module _ (places : List Place) (last : List (Option LastCall)) where
 
   pub values_push : (js : List ℕ) (vs : List Value) (j : ℕ) (v : Value) → values_at places last js ≡ Some vs → value_at places last j ≡ Some v
       → values_at places last (js ++ j ∷ []) ≡ Some (vs ++ v ∷ [])
-  values_push [] vs j v all one = let none : [] ≡ vs = cc in subst (λ us. values_at places last (j ∷ []) ≡ Some (us ++ v ∷ [])) none (values_cons j [] v [] one refl)
+  values_push [] vs j v all one = let none : [] ≡ vs = cc in subst (λ us. values_at places last (j ∷ []) ≡ Some (us ++ v ∷ [])) none
+      (values_cons j [] v [] one refl)
   values_push (k ∷ js) vs j v all one =
       let p = values_of_cons k js vs all in
       subst (λ us. values_at places last (k ∷ js ++ j ∷ []) ≡ Some (us ++ v ∷ [])) p.4
@@ -39,7 +40,8 @@ module _ (places : List Place) (last : List (Option LastCall)) where
   length-values [] vs e = let none : [] ≡ vs = cc in rw (← none) refl
   length-values (j ∷ js) vs e = let p = values_of_cons j js vs e in rw (← p.4) (ap suc (length-values js p.1 p.3))
 
-  pub value_among : (js : List ℕ) (vs : List Value) (k j : ℕ) (v : Value) → values_at places last js ≡ Some vs → slice_get js k ≡ Some j → slice_get vs k ≡ Some v
+  pub value_among : (js : List ℕ) (vs : List Value) (k j : ℕ) (v : Value) → values_at places last js ≡ Some vs → slice_get js k ≡ Some j
+      → slice_get vs k ≡ Some v
       → value_at places last j ≡ Some v
   value_among [] vs k j v e at_j at_v = absurd (cc)
   value_among (i ∷ js) vs zero j v e at_j at_v =
@@ -61,21 +63,24 @@ module _ (places : List Place) (last : List (Option LastCall)) where
 
   -- ---- types
 
-  typed_by : (i : ℕ) (x : Place) (v : Value) → AreTypedCalls places last → slice_get places i ≡ Some x → value_of_place x (last_at last i) ≡ Some v → type_of_place x ≡ type_of v
+  typed_by : (i : ℕ) (x : Place) (v : Value) → AreTypedCalls places last → slice_get places i ≡ Some x → value_of_place x (last_at last i) ≡ Some v
+      → type_of_place x ≡ type_of v
   typed_by i (Literal w) v typed at e = let same : w ≡ v = cc in ap type_of same
   typed_by i (Variable w) v typed at e = let same : w ≡ v = cc in ap type_of same
   typed_by i (Application f js) v typed at e = from_call (last_at last i) refl e
     where
       from_call : (o : Option LastCall) → last_at last i ≡ o → option_map (λ (c : LastCall). c.value) o ≡ Some v → f.sig.gives ≡ type_of v
       from_call None is has = absurd (cc)
-      from_call (Some c) is has = let same : c.value ≡ v = cc in sym (typed i f c (record { arguments = js; stands = at; call_is = is })) ∙ ap type_of same
+      from_call (Some c) is has = let same : c.value ≡ v = cc in sym (typed i f c (record { arguments = js; stands = at; call_is = is }))
+          ∙ ap type_of same
 
   pub value_typed : (i : ℕ) (v : Value) → AreTypedCalls places last → value_at places last i ≡ Some v → type_at places i ≡ Some (type_of v)
   value_typed i v typed e =
       let x = and_then_some (slice_get places i) (λ y. value_of_place y (last_at last i)) v e in
       rw (x.1) (ap (λ (t : Ty). Some t) (typed_by i x.0 v typed x.1 x.2))
 
-  pub values_typed : (js : List ℕ) (vs : List Value) → AreTypedCalls places last → values_at places last js ≡ Some vs → types_at places js ≡ Some (map type_of vs)
+  pub values_typed : (js : List ℕ) (vs : List Value) → AreTypedCalls places last → values_at places last js ≡ Some vs
+      → types_at places js ≡ Some (map type_of vs)
   values_typed [] vs typed e = let none : [] ≡ vs = cc in rw (← none) refl
   values_typed (j ∷ js) vs typed e =
       let p = values_of_cons j js vs e in
@@ -84,10 +89,12 @@ module _ (places : List Place) (last : List (Option LastCall)) where
 -- ---- a call at a place
 
 -- the values at earlier places stay
-pub value_set_other : (places : List Place) (last : List (Option LastCall)) (i j : ℕ) (o : Option LastCall) → (i ≡ j → ⊥) → value_at places (set last i o) j ≡ value_at places last j
+pub value_set_other : (places : List Place) (last : List (Option LastCall)) (i j : ℕ) (o : Option LastCall) → (i ≡ j → ⊥)
+    → value_at places (set last i o) j ≡ value_at places last j
 value_set_other places last i j o ne = rw (last_set_other last i j o ne) refl
 
-pub values_set : (places : List Place) (last : List (Option LastCall)) (i : ℕ) (o : Option LastCall) (js : List ℕ) → Every (λ j. j < i) js → values_at places (set last i o) js ≡ values_at places last js
+pub values_set : (places : List Place) (last : List (Option LastCall)) (i : ℕ) (o : Option LastCall) (js : List ℕ) → Every (λ j. j < i) js
+    → values_at places (set last i o) js ≡ values_at places last js
 values_set places last i o [] earlier = refl
 values_set places last i o (j ∷ js) earlier =
     let ne : i ≡ j → ⊥ = λ e. absurd (omega (arith, e, earlier.0)) in

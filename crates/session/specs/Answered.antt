@@ -1,43 +1,34 @@
 -- What a session does on the way through a line.
-use Rattle.std.specs.Prelude.{◌≡◌, ◌≤◌, ◌+◌, ℕ, List, ◌++◌}
+use Rattle.std.specs.Prelude.{◌≡◌, ◌≤◌, ◌+◌, ℕ, List, [], ◌∷◌, ◌++◌, Some}
 use Rattle.std.specs.List.{flat_map}
-use Rattle.script_model.specs.Check.{Command, Stabilize}
-use Rattle.script_model.specs.Formula.{Functions}
-use Rattle.script_model.specs.Need.{WithinWork}
-use Rattle.script_model.specs.Request.{Request}
+use Rattle.script_model.specs.Check.{Command, Reason, NotStabilized, NotBuilt, NotLinked, TooManyLinks, TooManyPlaces, first_that}
+use Rattle.script_model.specs.Formula.{Meanings}
 use Rattle.script_model.specs.Run.{MayCall}
-use Rattle.script_model.specs.Step.{Moment, Reply, Follows, Answers, action_of, printed}
+use Rattle.script_model.specs.Step.{Moment, Reply, Verdict, is_barred, printed, verdict_for}
 use Rattle.session.specs.declared.answer.Did.{Did}
 use Rattle.session.specs.Kept.{Kept}
 use Rattle.session.specs.State.{Stands}
 use Rattle.session.specs.Taken.{Says}
 
--- only a stabilize may call functions, as many as are due
-abbrev pub MayAct : Functions → Moment → Command → ℕ → Type 0
-MayAct F m Stabilize calls = WithinWork F m.settled m.present calls
-MayAct F m command calls = calls ≡ 0
+-- the reasons that the state has against a command, in the order in which they are looked at
+abbrev pub state_order : List Reason
+state_order = NotStabilized ∷ NotBuilt ∷ NotLinked ∷ TooManyLinks ∷ TooManyPlaces ∷ []
 
--- a command was carried out or refused, and its reply written
-pub record IsFollowed (F : Functions) (m : Moment) (command : Command) (new : Kept) (written appended : List ℕ) (called calls : ℕ) (how : Did) : Type 0 where
+-- what a command comes to whose names, functions and types fit
+abbrev pub verdict_on : Moment → Command → Verdict
+verdict_on m command = verdict_for m (Some command) (first_that (is_barred m.present command) state_order)
+
+-- a line or a part of it was carried out: it leads to a moment that is stood for, the replies were written, no more functions were
+-- called than are due, and the answer says how
+pub record IsAnswered (F : Meanings) (m : Moment) (Leads : Moment → List Reply → Type 0) (new : Kept) (written appended : List ℕ) (called calls : ℕ)
+    (how : Did) : Type 0 where
   pub after : Moment
   pub replies : List Reply
-  pub follows : Follows F m (action_of m.present command) after replies
+  pub leads : Leads after replies
   pub work : ℕ
-  pub due : MayAct F m command work
+  pub due : MayCall F m replies work
   pub stands : Stands F new after
-  pub printed_are : appended ≡ written ++ flat_map printed replies
-  pub within : calls ≤ called + work
-  pub says : Says how replies
-
--- what a line asks for was answered
-pub record IsAnswered (F : Functions) (m : Moment) (request : Request) (new : Kept) (written appended : List ℕ) (called calls : ℕ) (how : Did) : Type 0 where
-  pub after : Moment
-  pub replies : List Reply
-  pub answers : Answers F m request after replies
-  pub work : ℕ
-  pub due : MayCall F m request work
-  pub stands : Stands F new after
-  pub printed_are : appended ≡ written ++ flat_map printed replies
+  pub printed_are : appended ≡ written ++ flat_map (printed after.present) replies
   pub within : calls ≤ called + work
   pub says : Says how replies
 

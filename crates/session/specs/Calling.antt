@@ -3,7 +3,7 @@ use Rattle.std.specs.Prelude.{◌≡◌, ℕ, List, Option, Some, IsSome, slice_
 use Rattle.inc_value.specs.Value.{type_of}
 use Rattle.inc_value.specs.declared.function.FnRef.{FnRef}
 use Rattle.inc_value.specs.declared.value.Value.{Value}
-use Rattle.script_model.specs.Choice.{and_then, Every}
+use Rattle.inc_value.specs.Choice.{and_then, Every}
 use Rattle.session.specs.LastCall.{LastCall}
 use Rattle.session.specs.Places.{last_at, value_at, values_at}
 use Rattle.session.specs.Settling.{IsCurrent}
@@ -17,11 +17,13 @@ HaveValues places last arguments = Every (λ j. IsSome (value_at places last j))
 
 -- the arguments of the function at the i-th place, if one stands there, have values
 abbrev pub IsReady : List Place → List (Option LastCall) → ℕ → Type 0
-IsReady places last i = (function : FnRef) (arguments : List ℕ) → slice_get places i ≡ Some (Application function arguments) → HaveValues places last arguments
+IsReady places last i = (function : FnRef) (arguments : List ℕ) → slice_get places i ≡ Some (Application function arguments)
+    → HaveValues places last arguments
 
 -- the function at the i-th place, if one stands there, was last called with the values of its arguments
 abbrev pub IsCurrentAt : List Place → List (Option LastCall) → ℕ → Type 0
-IsCurrentAt places last i = (function : FnRef) (arguments : List ℕ) → slice_get places i ≡ Some (Application function arguments) → IsCurrent places last i arguments
+IsCurrentAt places last i = (function : FnRef) (arguments : List ℕ) → slice_get places i ≡ Some (Application function arguments)
+    → IsCurrent places last i arguments
 
 -- a function of these arguments at the i-th place is to be called: they have values, and the old call there had others
 pub record IsDue (places : List Place) (old now : List (Option LastCall)) (i : ℕ) (arguments : List ℕ) : Type 0 where
@@ -37,13 +39,15 @@ pub record IsDueAt (places : List Place) (old now : List (Option LastCall)) (i :
   pub due : IsDue places old now i arguments
 
 -- the call of a function of these arguments
-pub record IsCallOf (value : FnRef → List Value → Value) (places : List Place) (now : List (Option LastCall)) (function : FnRef) (arguments : List ℕ) (call : LastCall) : Type 0 where
+pub record IsCallOf (value : FnRef → List Value → Value) (places : List Place) (now : List (Option LastCall)) (function : FnRef) (arguments : List ℕ)
+    (call : LastCall) : Type 0 where
   pub arguments_are : values_at places now arguments ≡ Some call.arguments
   pub value_is : call.value ≡ value function call.arguments
   pub typed : type_of call.value ≡ function.sig.gives
 
 -- the function at the i-th place was to be called, and this is the call
-pub record IsCallAt (value : FnRef → List Value → Value) (places : List Place) (old now : List (Option LastCall)) (i : ℕ) (call : LastCall) : Type 0 where
+pub record IsCallAt (value : FnRef → List Value → Value) (places : List Place) (old now : List (Option LastCall)) (i : ℕ) (call : LastCall) : Type
+    0 where
   pub due : IsDueAt places old now i
   pub call_is : IsCallOf value places now due.function due.arguments call
 

@@ -1,14 +1,18 @@
 -- What a session keeps of a script.
-use Rattle.std.specs.Prelude.{◌≡◌, ◌<◌, ◌≤◌, ℕ, List, length, Option, Some, slice_get}
+use Rattle.std.specs.Prelude.{◌≡◌, ◌<◌, ◌≤◌, ℕ, List, length, Option, None, Some, slice_get}
+use Rattle.inc_value.specs.Ty.{IsBase}
+use Rattle.inc_value.specs.Value.{type_of}
+use Rattle.inc_value.specs.declared.outcome.Outcome.{Outcome}
+use Rattle.inc_value.specs.declared.outcome.Outcome.TheVariants.{Val, Invalid}
 use Rattle.script_model.specs.Check.{Names, Declared}
-use Rattle.script_model.specs.Choice.{Every}
+use Rattle.inc_value.specs.Choice.{Every}
 use Rattle.session.specs.LastCall.{LastCall}
 use Rattle.session.specs.Places.{AreSoundPlaces, AreTypedCalls, type_at}
 use Rattle.session.specs.declared.place.Observer.{Observer}
 use Rattle.session.specs.declared.place.Place.{Place}
 
 -- the names; for each declaration the place of its value; the places with the last calls of their functions; the observers
--- in the order of their names; and how many stabilizes were accepted
+-- in the order of their names; how many stabilizes were accepted; and the number of what broke the session, if something did
 pub record Kept : Type 0 where
   pub names : Names
   pub roots : List ℕ
@@ -16,6 +20,16 @@ pub record Kept : Type 0 where
   pub last : List (Option LastCall)
   pub observers : List Observer
   pub accepted : ℕ
+  pub broken : Option ℕ
+
+-- the outcome is no reference
+abbrev pub IsNoReference : Outcome → Type 0
+IsNoReference (Val v) = IsBase (type_of v)
+IsNoReference Invalid = Unit {0}
+
+-- an observer shows no reference
+abbrev pub ShowsNoReference : Observer → Type 0
+ShowsNoReference o = elim o.shown [ None ↦ Unit {0} | Some outcome ↦ IsNoReference outcome ]
 
 -- each observer looks at a declaration
 abbrev pub AreTargets : ℕ → List Observer → Type 0
@@ -38,3 +52,4 @@ pub record IsSound (k : Kept) : Type 0 where
   pub typed : Every (IsTypedName k) k.names.declared
   pub one_observer_each : length k.observers ≡ length k.names.observers
   pub targets : AreTargets (length k.roots) k.observers
+  pub shown : Every ShowsNoReference k.observers

@@ -8,6 +8,7 @@ pub mod Laying
 pub mod Marking
 pub mod Places
 pub mod RefusalView
+pub mod Replies
 pub mod Represents
 pub mod RequestView
 pub mod Session

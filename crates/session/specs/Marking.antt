@@ -1,6 +1,6 @@
 -- Marking what places read.
 use Rattle.std.specs.Prelude.{◌<◌, ℕ, Bool, true, List, [], ◌∷◌, slice_set}
-use Rattle.script_model.specs.Choice.{Every}
+use Rattle.inc_value.specs.Choice.{Every}
 use Rattle.session.specs.declared.place.Place.{Place}
 use Rattle.session.specs.declared.place.Place.TheVariants.{Literal, Variable, Application}
 

@@ -3,7 +3,7 @@ use Rattle.std.specs.Prelude.{◌≡◌, ◌<◌, ◌≤◌, ◌+◌, ℕ, Bool,
 use Rattle.inc_value.specs.declared.function.FnRef.{FnRef}
 use Rattle.inc_value.specs.declared.outcome.Outcome.TheVariants.{Val}
 use Rattle.inc_value.specs.declared.value.Value.{Value}
-use Rattle.script_model.specs.Choice.{and_then, Among, NoRepeats, Every, Reaches}
+use Rattle.inc_value.specs.Choice.{and_then, Among, NoRepeats, Every, Reaches}
 use Rattle.session.specs.LastCall.{LastCall}
 use Rattle.session.specs.Places.{last_at, value_at, values_at, AreTypedCalls, AreRightCalls}
 use Rattle.session.specs.declared.place.Observer.{Observer}
@@ -46,7 +46,8 @@ pub record AreNeeded (places : List Place) (roots : List ℕ) (observers : List 
 
 -- the functions of the places are known
 abbrev pub AreKnown : (FnRef → Bool) → List Place → Type 0
-AreKnown known places = (i : ℕ) (function : FnRef) (arguments : List ℕ) → slice_get places i ≡ Some (Application function arguments) → IsTrue (known function)
+AreKnown known places = (i : ℕ) (function : FnRef) (arguments : List ℕ) → slice_get places i ≡ Some (Application function arguments)
+    → IsTrue (known function)
 
 -- the function of a place was last called with the values that its arguments have
 pub record IsCurrent (places : List Place) (last : List (Option LastCall)) (i : ℕ) (arguments : List ℕ) : Type 0 where
@@ -84,7 +85,8 @@ pub record IsMade (reached : ℕ) (marks : List Bool) (places : List Place) (old
 -- calls of functions in the order of the places, from the old last calls to the new ones: the marked places before the one that
 -- was reached are current, what functions gave is what they give, and no more of them were called than the list has, each at
 -- another place
-pub record Calls (value : FnRef → List Value → Value) (marks : List Bool) (places : List Place) (old new : List (Option LastCall)) (before after : ℕ) : Type 0 where
+pub record Calls (value : FnRef → List Value → Value) (marks : List Bool) (places : List Place) (old new : List (Option LastCall))
+    (before after : ℕ) : Type 0 where
   pub size : length new ≡ length old
   pub typed : AreTypedCalls places new
   pub right : AreRightCalls value places old → AreRightCalls value places new
@@ -114,18 +116,11 @@ shown_with (x ∷ xs) (v ∷ vs) = record x { shown = Some (Val v) } ∷ shown_w
 -- ---- a whole stabilize
 
 -- what a stabilize found: new last calls under which every used place is current, and the values of the observers
-pub record IsUpdate (value : FnRef → List Value → Value) (places : List Place) (roots : List ℕ) (observers : List Observer) (old new : List (Option LastCall))
+pub record IsUpdate (value : FnRef → List Value → Value) (places : List Place) (roots : List ℕ) (observers : List Observer)
+    (old new : List (Option LastCall))
     (before after : ℕ) (values : List Value) : Type 0 where
   pub marks : List Bool
   pub needed : AreNeeded places roots observers marks
   pub calls : Calls value marks places old new before after
   pub current : AreCurrentBelow (length places) marks places new
   pub values_are : AreTargetValues roots places new observers values
-
--- functions were called, for used places alone
-pub record IsPartOfUpdate (value : FnRef → List Value → Value) (places : List Place) (roots : List ℕ) (observers : List Observer) (old : List (Option LastCall))
-    (before after : ℕ) : Type 0 where
-  pub marks : List Bool
-  pub needed : AreNeeded places roots observers marks
-  pub new : List (Option LastCall)
-  pub calls : Calls value marks places old new before after

@@ -2,10 +2,11 @@
 ghost use Rattle.std.specs.Prelude.{◌≡◌, ◌≤◌, ◌<◌, ◌+◌, ℕ, false, List, Option, Some, length, IsTrue, IfOk, OnErr, IfSome, IfNone, slice_get};
 ghost use Rattle.inc_value.specs.declared.function.FnRef.{FnRef};
 ghost use Rattle.inc_value.specs.declared.value.Value.{Value as AValue};
-ghost use Rattle.session.specs.Calling.{HaveValues, IsReady, IsCurrentAt, IsDue, IsDueAt, IsCallAt};
+ghost use Rattle.session.specs.Calling.{HaveValues, IsReady, IsCurrentAt, IsDue, IsCallAt};
 ghost use Rattle.session.specs.LastCall.{LastCall};
-ghost use Rattle.session.specs.Places.{AreSoundPlaces, AreTypedCalls};
+ghost use Rattle.session.specs.Places.{AreSoundPlaces, AreTypedCalls, calls_among, calls_at, through_model};
 ghost use Rattle.session.specs.declared.place.Place.TheVariants.{Application};
+ghost use Rattle.session.specs.declared.place.Place.{Place as APlace};
 ghost use Rattle.session.specs.Settling.{AreKnown, AreCurrentBelow, Calls, IsCurrent, IsMarked, ReadsPlace, merged};
 
 use crate::place::{Call, Place};
@@ -30,11 +31,12 @@ pub(crate) fn call_needed<L: Library>(
     requires known { AreKnown (L.known library.old) places.now }
     requires closed { (i j : ℕ) → IsMarked marks.now i → ReadsPlace places.now i j → IsMarked marks.now j }
 
-    ensures calls { IfOk result (λ fresh. Calls (L.value library.old) marks.now places.now last.now (merged last.now fresh.items) (L.calls library.old) (L.calls library.new)) }
+    ensures calls { IfOk result (λ fresh. Calls (through_model (L.value library.old)) marks.now places.now last.now (merged last.now fresh.items) (L.calls library.old) (L.calls library.new)) }
     ensures current { IfOk result (λ fresh. AreCurrentBelow (length places.now) marks.now places.now (merged last.now fresh.items)) }
     ensures size { IfOk result (λ fresh. length fresh.items ≡ length places.now) }
-    ensures stopped { OnErr result ((new : List (Option LastCall)) × Calls (L.value library.old) marks.now places.now last.now new (L.calls library.old) (L.calls library.new)) }
-    ensures known { (f : FnRef) → L.known library.new f ≡ L.known library.old f }
+    ensures bound { L.calls library.new ≤ L.calls library.old + calls_among places.now }
+    ensures keeps_known { (f : FnRef) → IsTrue (L.known library.old f) → IsTrue (L.known library.new f) }
+    ensures calls_grow { L.calls library.old ≤ L.calls library.new }
     ensures same_names { (name : List ℕ) → L.named library.new name ≡ L.named library.old name }
     ensures same_values { (f : FnRef) (xs : List AValue) → L.value library.new f xs ≡ L.value library.old f xs }
 {
@@ -66,10 +68,11 @@ fn call_marked<L: Library>(
     ensures same { IfOk result (λ r. IfNone r (L.calls library.new ≡ L.calls library.old)) }
     ensures current { IfOk result (λ r. IfNone r (IsTrue mark → IsCurrentAt places.now (merged last.now fresh.now) (length fresh.now))) }
     ensures marked { IfOk result (λ r. IfSome r (λ c. IsTrue mark)) }
-    ensures called { IfOk result (λ r. IfSome r (λ c. IsCallAt (L.value library.old) places.now last.now (merged last.now fresh.now) (length fresh.now) c)) }
-    ensures failed { OnErr result (IsTrue mark × IsDueAt places.now last.now (merged last.now fresh.now) (length fresh.now)) }
+    ensures called { IfOk result (λ r. IfSome r (λ c. IsCallAt (through_model (L.value library.old)) places.now last.now (merged last.now fresh.now) (length fresh.now) c)) }
     ensures calls { L.calls library.new ≤ L.calls library.old + 1 }
-    ensures same_known { (f : FnRef) → L.known library.new f ≡ L.known library.old f }
+    ensures bound { (x : APlace) → slice_get places.now (length fresh.now) ≡ Some x → L.calls library.new ≤ L.calls library.old + calls_at x }
+    ensures keeps_known { (f : FnRef) → IsTrue (L.known library.old f) → IsTrue (L.known library.new f) }
+    ensures calls_grow { L.calls library.old ≤ L.calls library.new }
     ensures same_names { (name : List ℕ) → L.named library.new name ≡ L.named library.old name }
     ensures same_values { (f : FnRef) (xs : List AValue) → L.value library.new f xs ≡ L.value library.old f xs }
 {
@@ -113,10 +116,10 @@ fn call_application<L: Library>(
 
     ensures same { IfOk result (λ r. IfNone r (L.calls library.new ≡ L.calls library.old)) }
     ensures current { IfOk result (λ r. IfNone r (IsCurrentAt places.now (merged last.now fresh.now) (length fresh.now))) }
-    ensures called { IfOk result (λ r. IfSome r (λ c. IsCallAt (L.value library.old) places.now last.now (merged last.now fresh.now) (length fresh.now) c)) }
-    ensures failed { OnErr result (IsDueAt places.now last.now (merged last.now fresh.now) (length fresh.now)) }
+    ensures called { IfOk result (λ r. IfSome r (λ c. IsCallAt (through_model (L.value library.old)) places.now last.now (merged last.now fresh.now) (length fresh.now) c)) }
     ensures calls { L.calls library.new ≤ L.calls library.old + 1 }
-    ensures same_known { (f : FnRef) → L.known library.new f ≡ L.known library.old f }
+    ensures keeps_known { (f : FnRef) → IsTrue (L.known library.old f) → IsTrue (L.known library.new f) }
+    ensures calls_grow { L.calls library.old ≤ L.calls library.new }
     ensures same_names { (name : List ℕ) → L.named library.new name ≡ L.named library.old name }
     ensures same_values { (f : FnRef) (xs : List AValue) → L.value library.new f xs ≡ L.value library.old f xs }
 {

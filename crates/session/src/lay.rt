@@ -6,7 +6,7 @@ ghost use Rattle.session.specs.Laying.{laid, laid_each, laid_body, EveryName, Ev
 ghost use Rattle.session.specs.declared.place.Place.{Place as APlace};
 
 use crate::place::{Arguments, Place};
-use formula_lang::{Body, Formula};
+use formula_lang::{Declaration, Formula};
 use std::alloc::{AllocError, Global};
 
 /// Lays a formula out behind the places that are there. The answer is the place of its value.
@@ -26,7 +26,7 @@ pub(crate) fn lay(
     match formula {
         Formula::Literal(value) => {
             let root = places.len();
-            places.push(Place::Literal(value.copy(alloc)?))?;
+            places.push(Place::Literal(value.value(alloc)?))?;
             Ok(root)
         }
         Formula::Name(position) => Ok(roots[*position]),
@@ -95,7 +95,7 @@ fn room_behind_each(formulas: &[Formula], room: usize) -> Option<usize>
 /// Without memory some of its places may stand behind those that were there.
 pub(crate) fn lay_body(
     alloc: Global,
-    body: &Body,
+    body: &Declaration,
     roots: &[usize],
     places: &mut Vec<Place>,
 ) -> Result<usize, AllocError>
@@ -105,21 +105,21 @@ pub(crate) fn lay_body(
     ensures extended { OnErr result ((more : List APlace) × (places.new.items ≡ places.old.items ++ more)) }
 {
     match body {
-        Body::Variable(value) => {
+        Declaration::Variable(value) => {
             let root = places.len();
-            places.push(Place::Variable(value.copy(alloc)?))?;
+            places.push(Place::Variable(value.value(alloc)?))?;
             Ok(root)
         }
-        Body::Computed(formula) => lay(alloc, formula, roots, places),
+        Declaration::Computed(formula) => lay(alloc, formula, roots, places),
     }
 }
 
 /// The room that is left behind the places of what is declared; none where they don't fit.
-pub(crate) fn room_behind_body(body: &Body, room: usize) -> Option<usize>
+pub(crate) fn room_behind_body(body: &Declaration, room: usize) -> Option<usize>
     ensures { MatchOption result (room < places_of_body (body_view body.now)) (λ left. left + places_of_body (body_view body.now) ≡ room) }
 {
     match body {
-        Body::Variable(_) => room.checked_sub(1),
-        Body::Computed(formula) => room_behind(formula, room),
+        Declaration::Variable(_) => room.checked_sub(1),
+        Declaration::Computed(formula) => room_behind(formula, room),
     }
 }

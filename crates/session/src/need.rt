@@ -1,6 +1,6 @@
 //! Which places are needed.
 ghost use Rattle.std.specs.Prelude.{◌≡◌, ◌<◌, length, IfOk};
-ghost use Rattle.script_model.specs.Choice.{Every};
+ghost use Rattle.inc_value.specs.Choice.{Every};
 ghost use Rattle.session.specs.Kept.{AreTargets};
 ghost use Rattle.session.specs.Marking.{AreReadsBelow, marks_with, marks_of_reads};
 ghost use Rattle.session.specs.Places.{AreSoundPlaces};

@@ -12,6 +12,8 @@ pub(crate) enum Refusal {
     NotStabilized,
     TooManyPlaces,
     LineTooDeep,
+    /// The session is broken, with the number of what broke it.
+    Broken { kept: u8 },
 }
 
 impl Refusal {
@@ -25,6 +27,7 @@ impl Refusal {
             Refusal::NotStabilized => 13,
             Refusal::TooManyPlaces => 19,
             Refusal::LineTooDeep => 25,
+            Refusal::Broken { .. } => 22,
         }
     }
 }

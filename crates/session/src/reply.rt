@@ -1,13 +1,13 @@
 //! The lines that a session writes.
 ghost use Rattle.std.specs.Prelude.{◌≡◌, ◌++◌, OnOk, OnErr};
-ghost use Rattle.script_model.specs.Step.{Done, Refused, Shown, Stable, printed};
+ghost use Rattle.session.specs.Replies.{broken_line, done_line, refused_line, shown_line, stable_line};
 
 use inc_value::Outcome;
 use std::alloc::{AllocError, Global};
 
 /// Appends the reply to an accepted command.
 pub(crate) fn write_done(out: &mut Vec<u8>) -> Result<(), AllocError>
-    ensures ok { OnOk result (out.new.items ≡ out.old.items ++ printed Done) }
+    ensures ok { OnOk result (out.new.items ≡ out.old.items ++ done_line) }
     ensures err { OnErr result (out.new.items ≡ out.old.items) }
 {
     out.extend_from_slice(b"ok\n")
@@ -15,30 +15,40 @@ pub(crate) fn write_done(out: &mut Vec<u8>) -> Result<(), AllocError>
 
 /// Appends the reply to a refused line.
 pub(crate) fn write_refused(alloc: Global, number: u8, out: &mut Vec<u8>) -> Result<(), AllocError>
-    ensures ok { OnOk result (out.new.items ≡ out.old.items ++ printed (Refused number)) }
+    ensures ok { OnOk result (out.new.items ≡ out.old.items ++ refused_line number) }
     ensures err { OnErr result (out.new.items ≡ out.old.items) }
 {
     let line = format!(in alloc; "refused {number}\n")?;
     out.extend_from_slice(line.as_bytes())
 }
 
+/// Appends the reply to a line that is refused since the session is broken, with the number of what
+/// broke it.
+pub(crate) fn write_broken(alloc: Global, number: u8, out: &mut Vec<u8>) -> Result<(), AllocError>
+    ensures ok { OnOk result (out.new.items ≡ out.old.items ++ broken_line number) }
+    ensures err { OnErr result (out.new.items ≡ out.old.items) }
+{
+    let line = format!(in alloc; "refused 22 {number}\n")?;
+    out.extend_from_slice(line.as_bytes())
+}
+
 /// Appends the reply to an accepted stabilize, the `round`-th of them.
 pub(crate) fn write_stable(alloc: Global, round: u64, out: &mut Vec<u8>) -> Result<(), AllocError>
-    ensures ok { OnOk result (out.new.items ≡ out.old.items ++ printed (Stable round)) }
+    ensures ok { OnOk result (out.new.items ≡ out.old.items ++ stable_line round) }
     ensures err { OnErr result (out.new.items ≡ out.old.items) }
 {
     let line = format!(in alloc; "stable {round}\n")?;
     out.extend_from_slice(line.as_bytes())
 }
 
-/// Appends what an observer shows.
+/// Appends what an observer shows, which is no reference.
 pub(crate) fn write_shown(
     alloc: Global,
     observer: &[u8],
     outcome: &Outcome,
     out: &mut Vec<u8>,
 ) -> Result<(), AllocError>
-    ensures ok { OnOk result (out.new.items ≡ out.old.items ++ printed (Shown observer.now outcome.now)) }
+    ensures ok { OnOk result (out.new.items ≡ out.old.items ++ shown_line observer.now outcome.now) }
     ensures err { OnErr result (out.new.items ≡ out.old.items) }
 {
     let mut line = Vec::new(alloc);

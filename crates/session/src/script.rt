@@ -1,24 +1,26 @@
 //! A script in the making: its names, places and observers.
-ghost use Rattle.std.specs.Prelude.{◌⊎◌, ◌^◌, ℕ, pos, ◌≡◌, ◌<◌, ◌≤◌, ◌+◌, ◌-◌, ◌++◌, ◌∷◌, [], List, Option, Bool, length, take, replicate, slice_get, None, Some, IfOk, OnOk, OnErr, IsFalse};
+ghost use Rattle.std.specs.Prelude.{◌^◌, ℕ, ◌≡◌, ◌<◌, ◌≤◌, ◌+◌, ◌-◌, ◌++◌, ◌∷◌, [], List, Option, Bool, length, take, replicate, slice_get, None, Some, IfOk, OnOk, OnErr, IsFalse, IsTrue};
 ghost use Rattle.formula_lang.specs.CommandView.{body_view};
 ghost use Rattle.formula_lang.specs.Fits.{AssignmentFits, DeclarationFits, ObserverFits};
 ghost use Rattle.formula_lang.specs.NamesView.{kind_view};
+ghost use Rattle.inc_value.specs.Ty.{IsBase};
 ghost use Rattle.inc_value.specs.Value.{type_of};
 ghost use Rattle.inc_value.specs.declared.function.FnRef.{FnRef};
 ghost use Rattle.script_model.specs.Formula.{places_of_body};
-ghost use Rattle.session.specs.Declaring.{with_assignment, with_declaration, with_observer};
+ghost use Rattle.session.specs.Declaring.{with_assignment, with_break, with_declaration, with_observer};
 ghost use Rattle.session.specs.LastCall.{LastCall};
 ghost use Rattle.session.specs.Laying.{laid_body, EveryNameOf};
 ghost use Rattle.script_model.specs.Check.{kind_of_body};
+ghost use Rattle.inc_value.specs.Choice.{Every};
 ghost use Rattle.inc_value.specs.declared.value.Value.{Value as AValue};
-ghost use Rattle.session.specs.Places.{AreTypedCalls};
-ghost use Rattle.session.specs.Settling.{AreKnown, IsPartOfUpdate, IsUpdate, merged, shown_with};
+ghost use Rattle.session.specs.Places.{AreTypedCalls, calls_among, through_model};
+ghost use Rattle.session.specs.Settling.{AreKnown, IsUpdate, merged, shown_with};
 ghost use Rattle.session.specs.declared.place.Place.{Place as APlace};
 
 use crate::lay::lay_body;
 use crate::place::{Call, Observer, Place};
 use crate::update::{Found, accept, update};
-use formula_lang::{Body, Kind, Names};
+use formula_lang::{Declaration, Formula, Kind, Names};
 use inc_value::{Ty, Value};
 use node_arena::Library;
 use std::alloc::{AllocError, Global};
@@ -28,7 +30,8 @@ use std::marker::Model;
 const PLACE_LIMIT: usize = 1_048_575;
 
 /// The names of a script, the place of each declaration's value, the places with the last calls of
-/// their functions, the observers in the order of their names, and how many stabilizes were accepted.
+/// their functions, the observers in the order of their names, how many stabilizes were accepted, and
+/// the number of what broke the session, if something did.
 #[derive(Drop)]
 pub(crate) struct Script {
     alloc: Global,
@@ -38,6 +41,7 @@ pub(crate) struct Script {
     last: Vec<Option<Call>>,
     observers: Vec<Observer>,
     accepted: u64,
+    broken: Option<u8>,
 }
 
 impl Model for Script {
@@ -45,9 +49,9 @@ impl Model for Script {
 
     ghost Value = { Kept };
 
-    ghost view = { λ s. record { names = s.names; roots = s.roots.items; places = s.places.items; last = s.last.items; observers = s.observers.items; accepted = s.accepted } };
+    ghost view = { λ s. record { names = s.names; roots = s.roots.items; places = s.places.items; last = s.last.items; observers = s.observers.items; accepted = s.accepted; broken = s.broken } };
 
-    ghost invariant = { λ s. IsSound (record { names = s.names; roots = s.roots.items; places = s.places.items; last = s.last.items; observers = s.observers.items; accepted = s.accepted }) };
+    ghost invariant = { λ s. IsSound (record { names = s.names; roots = s.roots.items; places = s.places.items; last = s.last.items; observers = s.observers.items; accepted = s.accepted; broken = s.broken }) };
 }
 
 impl Script {
@@ -55,7 +59,7 @@ impl Script {
 
     /// A script before its first line.
     pub(crate) fn new(alloc: Global) -> Result<Script, AllocError>
-        ensures { IfOk result (λ s. s ≡ record { names = record { declared = []; observers = []; now = pos 0 }; roots = []; places = []; last = []; observers = []; accepted = 0 }) }
+        ensures { IfOk result (λ s. s ≡ record { names = record { declared = []; observers = []; now = 0 }; roots = []; places = []; last = []; observers = []; accepted = 0; broken = None }) }
     {
         Ok(Script {
             alloc,
@@ -65,6 +69,7 @@ impl Script {
             last: Vec::new(alloc),
             observers: Vec::new(alloc),
             accepted: 0,
+            broken: None,
         })
     }
 
@@ -102,12 +107,11 @@ impl Script {
         &mut self,
         name: &[u8],
         ty: Ty,
-        body: &Body,
-        target: usize,
+        body: &Declaration,
     ) -> Result<(), AllocError>
-        requires fits { (known : FnRef → Bool) × DeclarationFits known self.old.names name.now ty (body_view body.now) target }
+        requires fits { (known : FnRef → Bool) × DeclarationFits known self.old.names name.now ty (body_view body.now) }
         requires room { length self.old.places + places_of_body (body_view body.now) ≤ 1048575 }
-        ensures ok { OnOk result (self.new ≡ with_declaration self.old name.now ty (body_view body.now) target) }
+        ensures ok { OnOk result (self.new ≡ with_declaration self.old name.now ty (body_view body.now)) }
         ensures err { OnErr result (self.new ≡ self.old) }
     {
         let roots = self.roots.len();
@@ -119,6 +123,7 @@ impl Script {
             &mut self.places,
             &mut self.last,
         )?;
+        let target = body.target(self.names.len());
         let declared = self.names.declare(name, ty, kind_of(body), target);
         if declared.is_err() {
             self.roots.truncate(roots);
@@ -162,6 +167,20 @@ impl Script {
         self.accepted
     }
 
+    /// The number of what broke the session, if something did.
+    pub(crate) fn broken(&self) -> Option<u8>
+        ensures { result ≡ self.now.broken }
+    {
+        self.broken
+    }
+
+    /// Breaks the session, with a number.
+    pub(crate) fn break_with(&mut self, number: u8)
+        ensures { self.new ≡ with_break self.old number }
+    {
+        self.broken = Some(number);
+    }
+
     /// Calls the functions of needed places whose arguments have other values than at their last calls,
     /// and finds what the observers are to show. What is kept stays as it is.
     pub(crate) fn update<L: Library>(
@@ -171,13 +190,14 @@ impl Script {
     ) -> Result<Found, AllocError>
         requires known { AreKnown (L.known library.old) self.now.places }
 
-        ensures updated { IfOk result (λ found. IsUpdate (L.value library.old) self.now.places self.now.roots self.now.observers self.now.last
+        ensures updated { IfOk result (λ found. IsUpdate (through_model (L.value library.old)) self.now.places self.now.roots self.now.observers self.now.last
             (merged self.now.last found.fresh) (L.calls library.old) (L.calls library.new) found.values) }
         ensures size { IfOk result (λ found. length found.fresh ≡ length self.now.places) }
         ensures shown { IfOk result (λ found. length found.values ≡ length self.now.observers) }
-        ensures stopped { OnErr result (IsPartOfUpdate (L.value library.old) self.now.places self.now.roots self.now.observers self.now.last
-            (L.calls library.old) (L.calls library.new) ⊎ (L.calls library.new ≡ L.calls library.old)) }
-        ensures known { (f : FnRef) → L.known library.new f ≡ L.known library.old f }
+        ensures bound { L.calls library.new ≤ L.calls library.old + calls_among self.now.places }
+        ensures no_references { IfOk result (λ found. Every (λ v. IsBase (type_of v)) found.values) }
+        ensures keeps_known { (f : FnRef) → IsTrue (L.known library.old f) → IsTrue (L.known library.new f) }
+        ensures calls_grow { L.calls library.old ≤ L.calls library.new }
         ensures same_names { (name : List ℕ) → L.named library.new name ≡ L.named library.old name }
         ensures same_values { (f : FnRef) (xs : List AValue) → L.value library.new f xs ≡ L.value library.old f xs }
     {
@@ -196,6 +216,7 @@ impl Script {
     pub(crate) fn accept(&mut self, found: Found)
         requires size { length found.fresh ≡ length self.old.places }
         requires shown { length found.values ≡ length self.old.observers }
+        requires no_references { Every (λ v. IsBase (type_of v)) found.values }
         requires typed { AreTypedCalls self.old.places (merged self.old.last found.fresh) }
         requires count { self.old.accepted + 1 < 2 ^ 64 }
         ensures { self.new ≡ record self.old {
@@ -210,12 +231,14 @@ impl Script {
 }
 
 /// How a body is declared.
-fn kind_of(body: &Body) -> Kind
+fn kind_of(body: &Declaration) -> Kind
     ensures { kind_view result ≡ kind_of_body (body_view body.now) }
 {
     match body {
-        Body::Variable(_) => Kind::Var,
-        Body::Computed(_) => Kind::Let,
+        Declaration::Variable(_) => Kind::Var,
+        Declaration::Computed(Formula::Literal(_) | Formula::Name(_) | Formula::Apply { .. }) => {
+            Kind::Let
+        }
     }
 }
 
@@ -223,7 +246,7 @@ fn kind_of(body: &Body) -> Kind
 /// nothing changes.
 fn lay_out(
     alloc: Global,
-    body: &Body,
+    body: &Declaration,
     roots: &mut Vec<usize>,
     places: &mut Vec<Place>,
     last: &mut Vec<Option<Call>>,
@@ -250,7 +273,7 @@ fn lay_out(
 /// some places, with or without calls, may stand behind those that were there.
 fn grow(
     alloc: Global,
-    body: &Body,
+    body: &Declaration,
     roots: &mut Vec<usize>,
     places: &mut Vec<Place>,
     last: &mut Vec<Option<Call>>,

@@ -1,5 +1,6 @@
 //! Sessions.
-ghost use Rattle.std.specs.Prelude.{◌≡◌, ℕ, ◌<◌, ◌+◌, ◌^◌, List, length, IfOk, IfErr, OnOk, OnErr};
+ghost use Rattle.std.specs.Prelude.{◌≡◌, ℕ, ◌<◌, ◌≤◌, ◌+◌, ◌^◌, List, length, IsTrue, IfOk, IfErr, OnOk, OnErr};
+ghost use Rattle.inc_value.specs.declared.function.FnRef.{FnRef};
 ghost use Rattle.script_model.specs.Step.{Moment, first_moment};
 
 use crate::answer::{Did, answer};
@@ -35,14 +36,14 @@ impl<L: Library> Model for Session<L> {
 impl<L: Library> Session<L> {
     ghost use Rattle.session.specs.declared.answer.Did.TheVariants.{Refused};
     ghost use Rattle.session.specs.State.{Stands};
-    ghost use Rattle.script_model.specs.Formula.{functions_of};
-    ghost use Rattle.session.specs.Taken.{Takes, Stops};
+    ghost use Rattle.script_model.specs.Formula.{meanings_of};
+    ghost use Rattle.session.specs.Taken.{AsksStabilize, KeepsUnlessAccepted, Takes, Stops};
 
     /// A session before its first line. It owns the library, which comes back where there is no memory.
     pub fn new(alloc: Global, library: L) -> Result<Session<L>, (AllocError, L)>
         ensures library { IfOk result (λ s. s.library ≡ library) }
         ensures lines { IfOk result (λ s. s.lines ≡ 0) }
-        ensures first { IfOk result (λ s. Stands (functions_of (L.named library) (L.value library)) s.kept first_moment) }
+        ensures first { IfOk result (λ s. Stands (meanings_of (L.named library) (L.value library)) s.kept first_moment) }
         ensures handed_back { IfErr result (λ e. e.1 ≡ library) }
     {
         match Script::new(alloc) {
@@ -60,20 +61,27 @@ impl<L: Library> Session<L> {
     pub fn line(&mut self, text: &[u8], out: &mut Vec<u8>) -> Result<Did, AllocError>
         requires { self.old.lines < 2 ^ 30 }
 
-        ensures taken { let F = functions_of (L.named self.old.library) (L.value self.old.library) in
+        ensures taken { let F = meanings_of (L.named self.old.library) (L.value self.old.library) in
             IfOk result (λ how. (m : Moment) → Stands F self.old.kept m
             → Takes F m text.now self.new.kept out.old.items out.new.items
             (L.calls self.old.library) (L.calls self.new.library) how) }
         ensures lines { self.new.lines ≡ self.old.lines + 1 }
-        ensures functions { functions_of (L.named self.new.library) (L.value self.new.library)
-            ≡ functions_of (L.named self.old.library) (L.value self.old.library) }
+        ensures functions { meanings_of (L.named self.new.library) (L.value self.new.library)
+            ≡ meanings_of (L.named self.old.library) (L.value self.old.library) }
+        ensures known { (g : FnRef) → IsTrue (L.known self.old.library g) → IsTrue (L.known self.new.library g) }
+        ensures calls_grow { L.calls self.old.library ≤ L.calls self.new.library }
 
-        // Without memory only the count of lines has risen, and perhaps some functions were called.
-        ensures stopped { let F = functions_of (L.named self.old.library) (L.value self.old.library) in
+        // Only a stabilize calls functions. A line that was refused, or asks for nothing, leaves what is kept.
+        ensures library { (AsksStabilize text.now → ⊥) → self.new.library ≡ self.old.library }
+        ensures kept { IfOk result (λ how. KeepsUnlessAccepted how self.old.kept self.new.kept) }
+
+        // Without memory the count of lines has risen. A stabilize may have called functions, and then it was accepted, its
+        // line alone is missing, or the session is broken.
+        ensures stopped { let F = meanings_of (L.named self.old.library) (L.value self.old.library) in
             OnErr result ((m : Moment) → Stands F self.old.kept m
-            → Stops F m self.new.kept
+            → Stops F m text.now self.new.kept
             (L.calls self.old.library) (L.calls self.new.library)) }
-        ensures unchanged { OnErr result (self.new.kept ≡ self.old.kept) }
+        ensures unchanged { OnErr result ((AsksStabilize text.now → ⊥) → self.new.kept ≡ self.old.kept) }
         ensures unwritten { OnErr result (out.new.items ≡ out.old.items) }
     {
         self.lines += 1;
@@ -89,7 +97,7 @@ impl<L: Library> Session<L> {
     pub fn too_long(&mut self, out: &mut Vec<u8>) -> Result<(), AllocError>
         requires { self.old.lines < 2 ^ 30 }
 
-        ensures taken { let F = functions_of (L.named self.old.library) (L.value self.old.library) in
+        ensures taken { let F = meanings_of (L.named self.old.library) (L.value self.old.library) in
             OnOk result ((m : Moment) (line : List ℕ) → 4096 < length line
             → Stands F self.old.kept m
             → Takes F m line self.new.kept out.old.items out.new.items
@@ -115,6 +123,13 @@ impl<L: Library> Session<L> {
         ensures { result ≡ self.library }
     {
         self.library
+    }
+
+    /// How many stabilizes were accepted so far.
+    pub fn accepted(&self) -> u64
+        ensures { result ≡ self.now.kept.accepted }
+    {
+        self.script.accepted()
     }
 
     /// How many lines were taken so far, also those that were skipped as too long or found no memory.

@@ -1,11 +1,13 @@
 //! A whole stabilize.
-ghost use Rattle.std.specs.Prelude.{◌≡◌, ◌⊎◌, ◌<◌, ℕ, List, length, IfOk, OnErr};
+ghost use Rattle.std.specs.Prelude.{◌≡◌, ◌+◌, ◌<◌, ℕ, List, length, IfOk, IsTrue, ◌≤◌};
+ghost use Rattle.inc_value.specs.Ty.{IsBase};
+ghost use Rattle.inc_value.specs.Value.{type_of};
 ghost use Rattle.inc_value.specs.declared.function.FnRef.{FnRef};
 ghost use Rattle.inc_value.specs.declared.value.Value.{Value as AValue};
-ghost use Rattle.script_model.specs.Choice.{Every};
+ghost use Rattle.inc_value.specs.Choice.{Every};
 ghost use Rattle.session.specs.Kept.{AreTargets};
-ghost use Rattle.session.specs.Places.{AreSoundPlaces, AreTypedCalls};
-ghost use Rattle.session.specs.Settling.{AreKnown, IsPartOfUpdate, IsUpdate, later, merged, shown_with};
+ghost use Rattle.session.specs.Places.{AreSoundPlaces, AreTypedCalls, calls_among, through_model};
+ghost use Rattle.session.specs.Settling.{AreKnown, IsUpdate, later, merged, shown_with};
 
 use crate::call::call_needed;
 use crate::need::needed_places;
@@ -49,12 +51,13 @@ pub(crate) fn update<L: Library>(
     requires roots { Every (λ j. j < length places.now) roots.now }
     requires targets { AreTargets (length roots.now) observers.now }
 
-    ensures updated { IfOk result (λ found. IsUpdate (L.value library.old) places.now roots.now observers.now last.now (merged last.now found.fresh) (L.calls library.old) (L.calls library.new) found.values) }
+    ensures updated { IfOk result (λ found. IsUpdate (through_model (L.value library.old)) places.now roots.now observers.now last.now (merged last.now found.fresh) (L.calls library.old) (L.calls library.new) found.values) }
     ensures size { IfOk result (λ found. length found.fresh ≡ length places.now) }
     ensures shown { IfOk result (λ found. length found.values ≡ length observers.now) }
-    ensures stopped { OnErr result (IsPartOfUpdate (L.value library.old) places.now roots.now observers.now last.now (L.calls library.old) (L.calls library.new)
-        ⊎ (L.calls library.new ≡ L.calls library.old)) }
-    ensures known { (f : FnRef) → L.known library.new f ≡ L.known library.old f }
+    ensures bound { L.calls library.new ≤ L.calls library.old + calls_among places.now }
+    ensures no_references { IfOk result (λ found. Every (λ v. IsBase (type_of v)) found.values) }
+    ensures keeps_known { (f : FnRef) → IsTrue (L.known library.old f) → IsTrue (L.known library.new f) }
+    ensures calls_grow { L.calls library.old ≤ L.calls library.new }
     ensures same_names { (name : List ℕ) → L.named library.new name ≡ L.named library.old name }
     ensures same_values { (f : FnRef) (xs : List AValue) → L.value library.new f xs ≡ L.value library.old f xs }
 {

@@ -1,8 +1,9 @@
 //! Lines against a small library, with the refusal that comes first where two conditions hold.
 
 use super::*;
+use crate::names::Kind;
 use crate::parser::{ParseFault, parse};
-use inc_value::{FnId, FnRef, Kind as FunctionKind, Sig, Value};
+use inc_value::{FnId, FnKind, FnRef, Sig, Value};
 use std::test::Fail;
 
 /// `add` of two integers and `neg` of one.
@@ -12,7 +13,7 @@ struct Arithmetic {}
 impl Library for Arithmetic {
     ghost use Rattle.std.specs.Prelude.{◌-◌, ◌^◌};
     ghost use Rattle.node_arena.specs.Arithmetic.{function_named, is_function, value_of};
-    ghost use Rattle.node_arena.specs.ArithmeticLaws.{named_is_map, value_is_given};
+    ghost use Rattle.node_arena.specs.ArithmeticLaws.{known_is_map, named_is_map, value_is_base, value_is_given, value_is_proper};
 
     ghost named = { λ _ name. function_named name };
 
@@ -32,7 +33,7 @@ impl Library for Arithmetic {
         };
         Some(FnRef {
             id: FnId {
-                kind: FunctionKind::Map,
+                kind: FnKind::Map,
                 number,
             },
             sig: Sig::new(takes, Ty::Int),
@@ -41,7 +42,7 @@ impl Library for Arithmetic {
 
     fn knows(&self, f: FnRef) -> bool {
         let takes = f.sig.takes();
-        f.id.kind == FunctionKind::Map
+        f.id.kind == FnKind::Map
             && f.sig.gives() == Ty::Int
             && matches!(
                 (f.id.number, takes),
@@ -60,7 +61,13 @@ impl Library for Arithmetic {
 
     ghost names_maps = { λ _ name f e. named_is_map name f e };
 
+    ghost known_maps = { λ _ f known kind. known_is_map f known };
+
     ghost typed = { λ _ f args known kind proper fit. value_is_given f args known };
+
+    ghost proper = { λ _ f args known kind proper fit. value_is_proper f args proper };
+
+    ghost no_reference = { λ _ f args known kind. value_is_base f args };
 }
 
 /// `x` is an integer variable, `flag` a truth variable, `sum` an integer formula, `other` another
@@ -92,11 +99,8 @@ fn answer(alloc: Global, names: &Names, line: &[u8]) -> Result<Option<usize>, u8
         Err(ParseFault::Memory) => return Err(0),
     };
     match check(alloc, &line, names, &Arithmetic {}) {
-        Ok(
-            Command::Declare { target, .. }
-            | Command::Assign { target, .. }
-            | Command::Observe { target, .. },
-        ) => Ok(Some(target)),
+        Ok(Command::Declare { body, .. }) => Ok(Some(body.target(names.len()))),
+        Ok(Command::Assign { target, .. } | Command::Observe { target, .. }) => Ok(Some(target)),
         Ok(Command::Stabilize | Command::Show { .. }) => Ok(None),
         Err(CheckFault::Refusal(number)) => Err(number),
         Err(CheckFault::Memory) => Err(0),
@@ -105,11 +109,18 @@ fn answer(alloc: Global, names: &Names, line: &[u8]) -> Result<Option<usize>, u8
 
 #[test]
 fn refuses_the_first_that_holds(rt: HostRuntime) -> Result<(), Fail> {
-    let table: [(&[u8], u8); 30] = [
+    let table: [(&[u8], u8); 36] = [
         // Of what is no command, nothing else is asked.
         (b"var x int", 1),
         (b"show none none", 1),
         (b"observe seen if", 1),
+        // Nor of a line of a form that is yet to come.
+        (b"var x node int &x", 1),
+        (b"set missing &x", 1),
+        (b"let x bind v = missing in v", 1),
+        (b"let y add(if flag then x else x, none())", 1),
+        (b"let x at 5s", 1),
+        (b"advance 5s", 1),
         // Nor where an integer is out of range.
         (b"var x int 9223372036854775808", 1),
         (b"set none 9223372036854775808", 1),

@@ -1,49 +1,44 @@
 //! Commands, read from tokens.
-ghost use Rattle.std.specs.Prelude.{◌≡◌, IfOk, map, option_map};
+ghost use Rattle.std.specs.Prelude.{◌≡◌, IfOk, map, option_map, suc};
+ghost use Rattle.formula_lang.specs.Plain.{plain_command, plain_let, plain_observing, plain_read, plain_set, plain_stabilize, plain_var, plain_with};
 ghost use Rattle.formula_lang.specs.TreeView.{line_view, tree_view};
 ghost use Rattle.formula_lang.specs.View.{token_view};
-ghost use Rattle.script_model.specs.Parsing.{command_in, command_with, formula_in, inside_of, is_text, let_in, literal_in, observe_in, set_in, show_in, stabilize_in, var_in, whole_of};
+ghost use Rattle.script_model.specs.Grammar.{Observe, Show};
+ghost use Rattle.script_model.specs.Parsing.{one_name, tally, two_names, whole};
 
 use super::formula::{formula_of, token_at};
 use super::literal::literal_of;
-use super::word::{base_of, name_of, word_of};
-use crate::level::MAX_OPEN;
+use super::word::{name_of, type_of, word_in};
 use crate::name::Name;
 use crate::token::Token;
 use crate::tree::{Line, Tree};
 use std::alloc::{AllocError, Global};
 
-/// `var NAME BASE LITERAL`, behind its first word.
+/// `var NAME TYPE LITERAL`, behind its first word.
 fn var_of<'a>(alloc: Global, tokens: &[Token<'a>]) -> Result<Option<Line>, AllocError>
-    ensures { IfOk result (λ found. option_map line_view found ≡ var_in (literal_in is_text) (map token_view tokens.now)) }
+    ensures { IfOk result (λ found. option_map line_view found ≡ plain_var (map token_view tokens.now)) }
 {
-    let [name, base, first] = tokens else {
+    let Some((name, rest)) = name_of(tokens) else {
         return Ok(None);
     };
-    let Some(name) = name_of(name) else {
+    let Some((ty, rest)) = type_of(rest) else {
         return Ok(None);
     };
-    let Some(base) = base_of(base) else {
-        return Ok(None);
-    };
-    let Some(first) = literal_of(alloc, first)? else {
+    let Some((first, [])) = literal_of(alloc, rest)? else {
         return Ok(None);
     };
     let name = Name::new(alloc, name)?;
-    Ok(Some(Line::Var { name, base, first }))
+    Ok(Some(Line::Var { name, ty, first }))
 }
 
 /// `set NAME LITERAL`, behind its first word.
 fn set_of<'a>(alloc: Global, tokens: &[Token<'a>]) -> Result<Option<Line>, AllocError>
-    ensures { IfOk result (λ found. option_map line_view found ≡ set_in (literal_in is_text) (map token_view tokens.now)) }
+    ensures { IfOk result (λ found. option_map line_view found ≡ plain_set (map token_view tokens.now)) }
 {
-    let [name, value] = tokens else {
+    let Some((name, rest)) = name_of(tokens) else {
         return Ok(None);
     };
-    let Some(name) = name_of(name) else {
-        return Ok(None);
-    };
-    let Some(value) = literal_of(alloc, value)? else {
+    let Some((value, [])) = literal_of(alloc, rest)? else {
         return Ok(None);
     };
     let name = Name::new(alloc, name)?;
@@ -53,9 +48,9 @@ fn set_of<'a>(alloc: Global, tokens: &[Token<'a>]) -> Result<Option<Line>, Alloc
 /// The formula that all of the tokens are.
 fn whole_of<'a>(alloc: Global, tokens: &[Token<'a>]) -> Result<Option<Tree>, AllocError>
     ensures { IfOk result (λ found. option_map tree_view found
-        ≡ whole_of (formula_in (literal_in is_text) (inside_of (literal_in is_text) MAX_OPEN) (map token_view tokens.now))) }
+        ≡ whole (plain_read (suc (tally (map token_view tokens.now))) (map token_view tokens.now)) (λ t. t)) }
 {
-    let Some((formula, end)) = formula_of(alloc, MAX_OPEN, tokens, 0)? else {
+    let Some((formula, end)) = formula_of(alloc, tokens.len() + 1, tokens, 0)? else {
         return Ok(None);
     };
     match token_at(tokens, end) {
@@ -66,16 +61,12 @@ fn whole_of<'a>(alloc: Global, tokens: &[Token<'a>]) -> Result<Option<Tree>, All
 
 /// `let NAME FORMULA`, behind its first word.
 fn let_of<'a>(alloc: Global, tokens: &[Token<'a>]) -> Result<Option<Line>, AllocError>
-    ensures { IfOk result (λ found. option_map line_view found
-        ≡ let_in (formula_in (literal_in is_text) (inside_of (literal_in is_text) MAX_OPEN)) (map token_view tokens.now)) }
+    ensures { IfOk result (λ found. option_map line_view found ≡ plain_let (map token_view tokens.now)) }
 {
-    let [name, formula @ ..] = tokens else {
+    let Some((name, rest)) = name_of(tokens) else {
         return Ok(None);
     };
-    let Some(name) = name_of(name) else {
-        return Ok(None);
-    };
-    let Some(formula) = whole_of(alloc, formula)? else {
+    let Some(formula) = whole_of(alloc, rest)? else {
         return Ok(None);
     };
     let name = Name::new(alloc, name)?;
@@ -84,15 +75,12 @@ fn let_of<'a>(alloc: Global, tokens: &[Token<'a>]) -> Result<Option<Line>, Alloc
 
 /// `observe NAME NAME`, behind its first word.
 fn observe_of<'a>(alloc: Global, tokens: &[Token<'a>]) -> Result<Option<Line>, AllocError>
-    ensures { IfOk result (λ found. option_map line_view found ≡ observe_in (map token_view tokens.now)) }
+    ensures { IfOk result (λ found. option_map line_view found ≡ two_names Observe (map token_view tokens.now)) }
 {
-    let [observer, name] = tokens else {
+    let Some((observer, rest)) = name_of(tokens) else {
         return Ok(None);
     };
-    let Some(observer) = name_of(observer) else {
-        return Ok(None);
-    };
-    let Some(name) = name_of(name) else {
+    let Some((name, [])) = name_of(rest) else {
         return Ok(None);
     };
     let observer = Name::new(alloc, observer)?;
@@ -100,24 +88,22 @@ fn observe_of<'a>(alloc: Global, tokens: &[Token<'a>]) -> Result<Option<Line>, A
     Ok(Some(Line::Observe { observer, name }))
 }
 
-/// `stabilize`, behind its first word.
-fn stabilize_of<'a>(tokens: &[Token<'a>]) -> Option<Line>
-    ensures { option_map line_view result ≡ stabilize_in (map token_view tokens.now) }
+/// `stabilize`, where that is the word and nothing stands behind it.
+fn stabilize_of<'a>(word: &[u8], tokens: &[Token<'a>]) -> Option<Line>
+    ensures { option_map line_view result ≡ plain_stabilize word.now (map token_view tokens.now) }
 {
-    match tokens {
-        [] => Some(Line::Stabilize),
-        _ => None,
+    if word == b"stabilize".as_slice() && tokens.is_empty() {
+        Some(Line::Stabilize)
+    } else {
+        None
     }
 }
 
 /// `show NAME`, behind its first word.
 fn show_of<'a>(alloc: Global, tokens: &[Token<'a>]) -> Result<Option<Line>, AllocError>
-    ensures { IfOk result (λ found. option_map line_view found ≡ show_in (map token_view tokens.now)) }
+    ensures { IfOk result (λ found. option_map line_view found ≡ one_name Show (map token_view tokens.now)) }
 {
-    let [observer] = tokens else {
-        return Ok(None);
-    };
-    let Some(observer) = name_of(observer) else {
+    let Some((observer, [])) = name_of(tokens) else {
         return Ok(None);
     };
     let observer = Name::new(alloc, observer)?;
@@ -130,22 +116,28 @@ fn command_with<'a>(
     word: &[u8],
     tokens: &[Token<'a>],
 ) -> Result<Option<Line>, AllocError>
-    ensures { IfOk result (λ found. option_map line_view found ≡ command_with (literal_in is_text) MAX_OPEN word.now (map token_view tokens.now)) }
+    ensures { IfOk result (λ found. option_map line_view found ≡ plain_with word.now (map token_view tokens.now)) }
 {
-    if word == b"var".as_slice() {
-        var_of(alloc, tokens)
-    } else if word == b"set".as_slice() {
-        set_of(alloc, tokens)
-    } else if word == b"let".as_slice() {
-        let_of(alloc, tokens)
-    } else if word == b"observe".as_slice() {
-        observe_of(alloc, tokens)
-    } else if word == b"stabilize".as_slice() {
-        Ok(stabilize_of(tokens))
-    } else if word == b"show".as_slice() {
-        show_of(alloc, tokens)
-    } else {
-        Ok(None)
+    match word {
+        b"var" => var_of(alloc, tokens),
+        b"set" => set_of(alloc, tokens),
+        b"let" => let_of(alloc, tokens),
+        _ => observing_with(alloc, word, tokens),
+    }
+}
+
+/// The command on observers, or the stabilize, that begins with `word` and goes on with `tokens`.
+fn observing_with<'a>(
+    alloc: Global,
+    word: &[u8],
+    tokens: &[Token<'a>],
+) -> Result<Option<Line>, AllocError>
+    ensures { IfOk result (λ found. option_map line_view found ≡ plain_observing word.now (map token_view tokens.now)) }
+{
+    match word {
+        b"observe" => observe_of(alloc, tokens),
+        b"show" => show_of(alloc, tokens),
+        _ => Ok(stabilize_of(word, tokens)),
     }
 }
 
@@ -154,12 +146,12 @@ pub(super) fn command_of<'a>(
     alloc: Global,
     tokens: &[Token<'a>],
 ) -> Result<Option<Line>, AllocError>
-    ensures { IfOk result (λ found. option_map line_view found ≡ command_in (literal_in is_text) MAX_OPEN (map token_view tokens.now)) }
+    ensures { IfOk result (λ found. option_map line_view found ≡ plain_command (map token_view tokens.now)) }
 {
     let [first, rest @ ..] = tokens else {
         return Ok(None);
     };
-    match word_of(first) {
+    match word_in(first) {
         Some(word) => command_with(alloc, word, rest),
         None => Ok(None),
     }

@@ -1,14 +1,16 @@
-//! Formulas, read from tokens.
-ghost use Rattle.std.specs.Prelude.{◌≡◌, ◌+◌, ◌<◌, [], ◌∷◌, IfNone, IfOk, IfSome, IsSome, drop, length, map, option_map};
+//! Formulas, read from tokens at a place.
+ghost use Rattle.std.specs.Prelude.{◌≡◌, ◌≤◌, ◌+◌, ◌<◌, [], ◌∷◌, IfNone, IfOk, IfSome, IsSome, drop, length, map, option_map};
+ghost use Rattle.formula_lang.specs.Plain.{behind_open, plain_read};
 ghost use Rattle.formula_lang.specs.TreeView.{tree_view};
-ghost use Rattle.formula_lang.specs.View.{token_view};
-ghost use Rattle.script_model.specs.Parsing.{behind, formula_in, inside_of, is_close, is_comma, is_open, is_text, literal_in, named_in};
+ghost use Rattle.formula_lang.specs.View.{literal_view, token_view};
+ghost use Rattle.script_model.specs.Grammar.{Written};
+ghost use Rattle.script_model.specs.Parsing.{is_sign, list_front, named_front};
 
-use super::literal::literal_of;
-use super::word::name_of;
+use super::literal::literal_in;
+use super::word::name_in;
 use crate::name::Name;
 use crate::token::{Sign, Token};
-use crate::tree::Tree;
+use crate::tree::{Literal, Tree};
 use std::alloc::{AllocError, Global};
 
 /// The most arguments that a function has.
@@ -29,28 +31,28 @@ pub(super) fn token_at<'t, 'a>(tokens: &'t [Token<'a>], place: usize) -> Option<
 
 /// Whether a token is `(`.
 fn is_open<'a>(token: &Token<'a>) -> bool
-    ensures { result ≡ is_open (token_view token.now) }
+    ensures { result ≡ is_sign 40 (token_view token.now) }
 {
     matches!(token, Token::Punctuation(Sign::Open))
 }
 
 /// Whether a token is `)`.
 fn is_close<'a>(token: &Token<'a>) -> bool
-    ensures { result ≡ is_close (token_view token.now) }
+    ensures { result ≡ is_sign 41 (token_view token.now) }
 {
     matches!(token, Token::Punctuation(Sign::Close))
 }
 
 /// Whether a token is `,`.
 fn is_comma<'a>(token: &Token<'a>) -> bool
-    ensures { result ≡ is_comma (token_view token.now) }
+    ensures { result ≡ is_sign 44 (token_view token.now) }
 {
     matches!(token, Token::Punctuation(Sign::Comma))
 }
 
-/// The place behind a `(` that stands at a place.
+/// The place behind the `(` at a place.
 fn behind_open<'a>(tokens: &[Token<'a>], place: usize) -> Option<usize>
-    ensures { option_map (λ next. map token_view (drop next tokens.now)) result ≡ behind is_open (map token_view (drop place tokens.now)) }
+    ensures { option_map (λ next. map token_view (drop next tokens.now)) result ≡ behind_open (map token_view (drop place tokens.now)) }
 {
     let token = token_at(tokens, place)?;
     if is_open(token) {
@@ -60,31 +62,14 @@ fn behind_open<'a>(tokens: &[Token<'a>], place: usize) -> Option<usize>
     }
 }
 
-/// The place behind a `)` that stands at a place.
-fn behind_close<'a>(tokens: &[Token<'a>], place: usize) -> Option<usize>
-    ensures { option_map (λ next. map token_view (drop next tokens.now)) result ≡ behind is_close (map token_view (drop place tokens.now)) }
+/// A literal as a formula.
+fn written(literal: Literal) -> Tree
+    ensures { tree_view result ≡ Written (literal_view literal) }
 {
-    let token = token_at(tokens, place)?;
-    if is_close(token) {
-        Some(place + 1)
-    } else {
-        None
-    }
+    Tree::Literal(literal)
 }
 
-/// The place behind a `,` that stands at a place.
-fn behind_comma<'a>(tokens: &[Token<'a>], place: usize) -> Option<usize>
-    ensures { option_map (λ next. map token_view (drop next tokens.now)) result ≡ behind is_comma (map token_view (drop place tokens.now)) }
-{
-    let token = token_at(tokens, place)?;
-    if is_comma(token) {
-        Some(place + 1)
-    } else {
-        None
-    }
-}
-
-/// The formula that stands at a place, and the place behind it. At most `depth` applications stand
+/// The formula that stands at a place, and the place behind it. At most `depth` formulas stand
 /// within one another.
 #[cycle(formula)]
 pub(super) fn formula_of<'a>(
@@ -94,16 +79,19 @@ pub(super) fn formula_of<'a>(
     place: usize,
 ) -> Result<Option<(Tree, usize)>, AllocError>
     ensures { IfOk result (λ found. option_map (λ p. (tree_view p.0, map token_view (drop p.1 tokens.now))) found
-        ≡ formula_in (literal_in is_text) (inside_of (literal_in is_text) depth) (map token_view (drop place tokens.now))) }
+        ≡ plain_read depth (map token_view (drop place tokens.now))) }
 {
+    if depth == 0 {
+        return Ok(None);
+    }
     let Some(first) = token_at(tokens, place) else {
         return Ok(None);
     };
-    if let Some(word) = name_of(first) {
-        return named_of(alloc, depth, word, tokens, place + 1);
+    if let Some(word) = name_in(first) {
+        return named_of(alloc, depth - 1, word, tokens, place + 1);
     }
-    match literal_of(alloc, first)? {
-        Some(literal) => Ok(Some((Tree::Written(literal), place + 1))),
+    match literal_in(alloc, first)? {
+        Some(literal) => Ok(Some((written(literal), place + 1))),
         None => Ok(None),
     }
 }
@@ -118,11 +106,11 @@ fn named_of<'a>(
     place: usize,
 ) -> Result<Option<(Tree, usize)>, AllocError>
     ensures { IfOk result (λ found. option_map (λ p. (tree_view p.0, map token_view (drop p.1 tokens.now))) found
-        ≡ named_in (inside_of (literal_in is_text) depth) word.now (map token_view (drop place tokens.now))) }
+        ≡ named_front (plain_read depth) word.now (map token_view (drop place tokens.now))) }
 {
     let name = Name::new(alloc, word)?;
     let Some(inside) = behind_open(tokens, place) else {
-        return Ok(Some((Tree::Mention(name), place)));
+        return Ok(Some((Tree::Name(name), place)));
     };
     match arguments_of(alloc, depth, tokens, inside)? {
         Some((arguments, behind)) => Ok(Some((
@@ -145,25 +133,25 @@ fn arguments_of<'a>(
     place: usize,
 ) -> Result<Option<(Vec<Tree>, usize)>, AllocError>
     ensures { IfOk result (λ found. option_map (λ p. (map tree_view p.0.items, map token_view (drop p.1 tokens.now))) found
-        ≡ inside_of (literal_in is_text) depth (map token_view (drop place tokens.now))) }
+        ≡ list_front (plain_read depth) 41 9 [] (map token_view (drop place tokens.now))) }
 {
-    if depth == 0 {
-        return Ok(None);
-    }
     let mut arguments = Vec::new(alloc);
     let mut next = place;
     for _count in 0..MAX_ARGUMENTS {
-        let Some((argument, end)) = formula_of(alloc, depth - 1, tokens, next)? else {
+        let Some((argument, end)) = formula_of(alloc, depth, tokens, next)? else {
             return Ok(None);
         };
         arguments.push(argument)?;
-        if let Some(behind) = behind_close(tokens, end) {
-            return Ok(Some((arguments, behind)));
-        }
-        let Some(another) = behind_comma(tokens, end) else {
+        let Some(behind) = token_at(tokens, end) else {
             return Ok(None);
         };
-        next = another;
+        if is_close(behind) {
+            return Ok(Some((arguments, end + 1)));
+        }
+        if !is_comma(behind) {
+            return Ok(None);
+        }
+        next = end + 1;
     }
     Ok(None)
 }

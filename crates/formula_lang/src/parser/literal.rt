@@ -1,8 +1,9 @@
 //! Literals, read from tokens.
-ghost use Rattle.std.specs.Prelude.{◌≡◌, IfOk, option_map};
+ghost use Rattle.std.specs.Prelude.{◌≡◌, All, IfOk, map, option_map};
+ghost use Rattle.inc_value.specs.Text.{IsPrintable};
+ghost use Rattle.formula_lang.specs.Plain.{literal_in, plain_literal, truth_in};
+ghost use Rattle.formula_lang.specs.Reading.{literal_front_view};
 ghost use Rattle.formula_lang.specs.View.{literal_view, token_view};
-ghost use Rattle.script_model.specs.Grammar as grammar;
-ghost use Rattle.script_model.specs.Parsing.{is_text, literal_in, truth_in};
 ghost use Rattle.script_model.specs.Tokens as model;
 
 use crate::number::integer;
@@ -15,44 +16,58 @@ use std::alloc::{AllocError, Global};
 fn truth_of(word: &[u8]) -> Option<Literal>
     ensures { option_map literal_view result ≡ truth_in word.now }
 {
-    if word == b"true".as_slice() {
-        Some(Literal::Truth(true))
-    } else if word == b"false".as_slice() {
-        Some(Literal::Truth(false))
-    } else {
-        None
+    match word {
+        b"true" => Some(Literal::Bool(true)),
+        b"false" => Some(Literal::Bool(false)),
+        _ => None,
     }
 }
 
 /// The literal that a sign and digits are.
 fn integer_of(negative: bool, digits: &[u8]) -> Option<Literal>
-    ensures { option_map literal_view result ≡ literal_in is_text (model.Number negative digits.now) }
+    ensures { option_map literal_view result ≡ literal_in (model.Number negative digits.now) }
 {
     Some(Literal::Integer(integer(negative, digits)?))
 }
 
-/// The literal with this content; none where it is no text.
-fn quoted_of(alloc: Global, content: &Content) -> Result<Option<Literal>, AllocError>
-    ensures { IfOk result (λ found. option_map literal_view found ≡ literal_in is_text (model.Text content.now)) }
+/// The literal with this content; none where it is too long for a text.
+fn text_of(alloc: Global, content: &Content) -> Result<Option<Literal>, AllocError>
+    ensures { IfOk result (λ found. option_map literal_view found ≡ literal_in (model.Text content.now)) }
 {
     match Text::new(alloc, &content.bytes) {
-        Ok(text) => Ok(Some(Literal::Quoted(text))),
+        Ok(text) => Ok(Some(Literal::Text(text))),
         Err(TextFault::Memory) => Err(AllocError),
         Err(TextFault::TooLong | TextFault::NotPrintable) => Ok(None),
     }
 }
 
 /// The literal that a token is.
-pub(super) fn literal_of<'a>(
+pub(super) fn literal_in<'a>(
     alloc: Global,
     token: &Token<'a>,
 ) -> Result<Option<Literal>, AllocError>
-    ensures { IfOk result (λ found. option_map literal_view found ≡ literal_in is_text (token_view token.now)) }
+    ensures { IfOk result (λ found. option_map literal_view found ≡ literal_in (token_view token.now)) }
 {
     match token {
         Token::Word(word) => Ok(truth_of(word)),
         Token::Number { negative, digits } => Ok(integer_of(*negative, digits)),
-        Token::Text(content) => quoted_of(alloc, content),
+        Token::Text(content) => text_of(alloc, content),
         _ => Ok(None),
+    }
+}
+
+/// The literal at the front, and what is left behind it.
+pub(super) fn literal_of<'t, 'a>(
+    alloc: Global,
+    tokens: &'t [Token<'a>],
+) -> Result<Option<(Literal, &'t [Token<'a>])>, AllocError>
+    ensures { IfOk result (λ found. option_map literal_front_view found ≡ plain_literal (map token_view tokens.now)) }
+{
+    let [first, rest @ ..] = tokens else {
+        return Ok(None);
+    };
+    match literal_in(alloc, first)? {
+        Some(literal) => Ok(Some((literal, rest))),
+        None => Ok(None),
     }
 }

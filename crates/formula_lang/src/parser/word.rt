@@ -1,14 +1,16 @@
 //! Words, read from tokens.
-ghost use Rattle.std.specs.Prelude.{◌≡◌, option_map};
+ghost use Rattle.std.specs.Prelude.{◌≡◌, map, option_map};
+ghost use Rattle.formula_lang.specs.Plain.{base_in, name_in, plain_type, word_in};
 ghost use Rattle.formula_lang.specs.View.{token_view};
-ghost use Rattle.script_model.specs.Parsing.{base_in, base_named, name_in, word_in};
+ghost use Rattle.script_model.specs.Parsing.{base_named, name_front, type_of_base};
+ghost use Rattle.formula_lang.specs.Reading.{name_view, type_view};
 
 use crate::reserved::is_name;
 use crate::token::Token;
-use inc_value::Base;
+use inc_value::{Base, Ty};
 
 /// The word that a token is.
-pub(super) fn word_of<'t, 'a>(token: &'t Token<'a>) -> Option<&'t [u8]>
+pub(super) fn word_in<'t, 'a>(token: &'t Token<'a>) -> Option<&'t [u8]>
     ensures { option_map (λ word. word.now) result ≡ word_in (token_view token.now) }
 {
     match token {
@@ -18,7 +20,7 @@ pub(super) fn word_of<'t, 'a>(token: &'t Token<'a>) -> Option<&'t [u8]>
 }
 
 /// The name that a token is: a word that is not reserved.
-pub(super) fn name_of<'t, 'a>(token: &'t Token<'a>) -> Option<&'t [u8]>
+pub(super) fn name_in<'t, 'a>(token: &'t Token<'a>) -> Option<&'t [u8]>
     ensures { option_map (λ name. name.now) result ≡ name_in (token_view token.now) }
 {
     match token {
@@ -31,23 +33,53 @@ pub(super) fn name_of<'t, 'a>(token: &'t Token<'a>) -> Option<&'t [u8]>
 fn base_named(word: &[u8]) -> Option<Base>
     ensures { result ≡ base_named word.now }
 {
-    if word == b"int".as_slice() {
-        Some(Base::Int)
-    } else if word == b"bool".as_slice() {
-        Some(Base::Bool)
-    } else if word == b"text".as_slice() {
-        Some(Base::Text)
-    } else {
-        None
+    match word {
+        b"int" => Some(Base::Int),
+        b"bool" => Some(Base::Bool),
+        b"text" => Some(Base::Text),
+        _ => None,
     }
 }
 
 /// The base type that a token names.
-pub(super) fn base_of<'a>(token: &Token<'a>) -> Option<Base>
+fn base_in<'a>(token: &Token<'a>) -> Option<Base>
     ensures { result ≡ base_in (token_view token.now) }
 {
     match token {
         Token::Word(word) => base_named(word),
         _ => None,
     }
+}
+
+/// The type of values of a base type.
+fn type_of_base(base: Base) -> Ty
+    ensures { result ≡ type_of_base base }
+{
+    match base {
+        Base::Int => Ty::Int,
+        Base::Bool => Ty::Bool,
+        Base::Text => Ty::Text,
+    }
+}
+
+/// The name at the front, and what is left behind it.
+pub(super) fn name_of<'t, 'a>(tokens: &'t [Token<'a>]) -> Option<(&'t [u8], &'t [Token<'a>])>
+    ensures { option_map name_view result ≡ name_front (map token_view tokens.now) }
+{
+    let [first, rest @ ..] = tokens else {
+        return None;
+    };
+    let name = name_in(first)?;
+    Some((name, rest))
+}
+
+/// The type at the front, and what is left behind it.
+pub(super) fn type_of<'t, 'a>(tokens: &'t [Token<'a>]) -> Option<(Ty, &'t [Token<'a>])>
+    ensures { option_map type_view result ≡ plain_type (map token_view tokens.now) }
+{
+    let [first, rest @ ..] = tokens else {
+        return None;
+    };
+    let base = base_in(first)?;
+    Some((type_of_base(base), rest))
 }

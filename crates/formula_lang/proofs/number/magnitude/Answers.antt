@@ -10,4 +10,5 @@ returns-in_err-checked_mul c =
 pub returns-in_err-number : goal.returns-in_err-number
 returns-in_err-number c =
     let front = number_from-front c.args.digits.now c.loop-digit.number c.loop-digit.digit-index c.loop-digit-test.true in
-    rw c.from_residual-in_err-number.ensures (λ h. c.in_err-number.ensures (omega (arith, front, h, c.loop-digit.invariant.so_far, c.in_ok-checked_mul.ensures, c.from-value.ensures, c.saturating_sub.ensures)))
+    rw c.from_residual-in_err-number.ensures (λ h. c.in_err-number.ensures
+    (omega (arith, front, h, c.loop-digit.invariant.so_far, c.in_ok-checked_mul.ensures, c.from-value.ensures, c.saturating_sub.ensures)))

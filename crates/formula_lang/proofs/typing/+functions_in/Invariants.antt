@@ -1,11 +1,12 @@
-use Rattle.std.proofs.Common.{◌≡◌, drop, map}
-use Rattle.script_model.specs.Check.{have_functions}
+use Rattle.std.proofs.Common.{◌≡◌, drop, map, flat_map}
+use Rattle.std.specs.List.{list_any}
+use Rattle.script_model.specs.Check.{own_functions, trees_in_all}
 use Rattle.script_model.specs.Parsing.{trees_of}
+use Rattle.formula_lang.specs.Rows.{lacks}
 use Rattle.formula_lang.specs.TreeView.{tree_view}
-use Rattle.script_model.specs.Formula.{functions_of}
 use Rattle.formula_lang.proofs.typing.+functions_in.Given as goal
 
-abbrev pub invariant-have_functions-loop-tree : goal.invariant-have_functions-loop-tree
-invariant-have_functions-loop-tree g l =
-    have_functions (functions_of (g.L.Library.named l.library) (g.L.Library.value l.library)) (trees_of (map tree_view (drop l.tree-index l.trees)))
-    ≡ have_functions (functions_of (g.L.Library.named l.library) (g.L.Library.value l.library)) (trees_of (map tree_view l.trees))
+abbrev pub invariant-have_unknown_function-loop-tree : goal.invariant-have_unknown_function-loop-tree
+invariant-have_unknown_function-loop-tree g l =
+    list_any (lacks (g.L.Library.named l.library)) (flat_map own_functions (trees_in_all (trees_of (map tree_view (drop l.tree-index l.trees)))))
+    ≡ list_any (lacks (g.L.Library.named l.library)) (flat_map own_functions (trees_in_all (trees_of (map tree_view l.trees))))

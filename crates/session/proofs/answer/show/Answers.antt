@@ -7,12 +7,14 @@ use Rattle.session.proofs.answer.show.Goals as goal
 
 pub observer-requires-2 : goal.observer-requires-2
 observer-requires-2 c =
-    let within : c.in-Some.position < length c.args.script.now.names.observers = subst (λ (n : Names). c.in-Some.position < length n.observers) c.names.ensures c.in-Some.ensures.within in
+    let within : c.in-Some.position < length c.args.script.now.names.observers = subst (λ (n : Names). c.in-Some.position < length n.observers)
+    c.names.ensures c.in-Some.ensures.within in
     omega (arith, within, c.keeps_sound.ensures.one_observer_each)
 
 pub returns-in_ok-write_shown-in-Some-shown-clause-followed : goal.returns-in_ok-write_shown-in-Some-shown-clause-followed
 returns-in_ok-write_shown-in-Some-shown-clause-followed c = λ F m calls st.
     followed_show F c.args.script.now m c.args.name.now c.in-Some-shown.outcome calls c.args.out.now.items c.write_shown.new.out.items st
+    c.keeps_sound.ensures
     (record {
       place = c.in-Some.position;
       named = ap (λ (n : Names). slice_get n.observers c.in-Some.position) (sym c.names.ensures) ∙ c.in-Some.ensures.found;

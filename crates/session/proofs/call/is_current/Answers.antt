@@ -9,7 +9,8 @@ returns-in-Some-clause-current c =
     let lt : length c.args.fresh.now < length c.args.last.now = omega arith in
     let is = call_read c.args.last.now (length c.args.fresh.now) c.index-last-fresh.result lt c.index-last-fresh.is ∙ c.in-Some.is in
     let given = c.deref.ensures.value ∙ ap (λ (w : LastCall). w.arguments) c.call.view_is in
-    λ t. current_by c.args.places.now c.args.last.now c.args.fresh.now c.args.arguments.now lt c.in-Some.call is (c.are_values.ensures.0 t ∙ ap (λ (vs : List Value). Some vs) given)
+    λ t. current_by c.args.places.now c.args.last.now c.args.fresh.now c.args.arguments.now lt c.in-Some.call is
+    (c.are_values.ensures.0 t ∙ ap (λ (vs : List Value). Some vs) given)
 
 pub returns-in-Some-clause-due : goal.returns-in-Some-clause-due
 returns-in-Some-clause-due c =
@@ -27,4 +28,5 @@ pub returns-in-None-clause-due : goal.returns-in-None-clause-due
 returns-in-None-clause-due c =
     let lt : length c.args.fresh.now < length c.args.last.now = omega arith in
     let is = call_read c.args.last.now (length c.args.fresh.now) c.index-last-fresh.result lt c.index-last-fresh.is ∙ c.in-None.is in
-    λ f. due_by c.args.places.now c.args.last.now c.args.fresh.now c.args.arguments.now lt c.requires.has (λ call at same. let both : None ≡ Some call = sym is ∙ at in cc)
+    λ f. due_by c.args.places.now c.args.last.now c.args.fresh.now c.args.arguments.now lt c.requires.has
+    (λ call at same. let both : None ≡ Some call = sym is ∙ at in cc)

@@ -4,4 +4,5 @@ use Rattle.session.proofs.LaidInTurn.{in_view}
 use Rattle.session.proofs.lay.+room.Given as goal
 
 abbrev pub invariant-room_behind_each-loop-formula : goal.invariant-room_behind_each-loop-formula
-invariant-room_behind_each-loop-formula l = l.left + places_in_all (in_view l.formulas) ≡ l.room + places_in_all (in_view (drop l.formula-index l.formulas))
+invariant-room_behind_each-loop-formula l = l.left + places_in_all (in_view l.formulas) ≡ l.room + places_in_all
+    (in_view (drop l.formula-index l.formulas))

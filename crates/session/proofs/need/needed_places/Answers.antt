@@ -10,15 +10,18 @@ pub loop-observer-preserved : goal.loop-observer-preserved
 loop-observer-preserved c =
     let o = c.observer-item.result in
     let at = get_read c.args.observers.now c.loop-observer.observer-index o c.loop-observer-test.true c.observer-item.is in
-    let target = every_at (λ (p : Observer). p.target < length c.args.roots.now) c.args.observers.now c.loop-observer.observer-index o c.requires.targets at in
+    let target = every_at (λ (p : Observer). p.target < length c.args.roots.now) c.args.observers.now c.loop-observer.observer-index o
+    c.requires.targets at in
     let root = get_or c.args.roots.now o.target 0 in
     let root_at = slice_get-get_or c.args.roots.now o.target 0 target in
     let below = every_at (λ j. j < length c.args.places.now) c.args.roots.now o.target root c.requires.roots root_at in
-    looked_at_more c.args.places.now c.args.roots.now c.args.observers.now c.loop-observer.marks.items c.loop-observer.observer-index root o below at root_at c.loop-observer.invariant
+    looked_at_more c.args.places.now c.args.roots.now c.args.observers.now c.loop-observer.marks.items c.loop-observer.observer-index root o below at
+    root_at c.loop-observer.invariant
 
 pub loop-i-init : goal.loop-i-init
 loop-i-init c =
-    closing_start c.args.places.now c.args.roots.now c.args.observers.now c.loop-observer.marks.items c.loop-observer.observer-index c.loop-observer-test.false c.loop-observer.invariant
+    closing_start c.args.places.now c.args.roots.now c.args.observers.now c.loop-observer.marks.items c.loop-observer.observer-index
+    c.loop-observer-test.false c.loop-observer.invariant
 
 pub mark_reads-requires : goal.mark_reads-requires
 mark_reads-requires c =
@@ -46,7 +49,9 @@ loop-i-preserved c =
     let marks = c.loop-i.marks.items in
     let next : n + 1 ≡ c.loop-i.i = omega arith in
     let closing = subst (λ k. AreClosing c.args.places.now c.args.roots.now c.args.observers.now marks k) (sym next) c.loop-i.invariant in
-    closing_unmarked c.args.places.now c.args.roots.now c.args.observers.now marks n (λ (m : IsMarked marks n). let e = get_or_from_slice_get marks n true c.index.result.now m in cc (e, c.index.ensures, c.if-index.false)) closing
+    closing_unmarked c.args.places.now c.args.roots.now c.args.observers.now marks n
+    (λ (m : IsMarked marks n). let e = get_or_from_slice_get marks n true c.index.result.now m in cc (e, c.index.ensures, c.if-index.false))
+    closing
 
 pub returns : goal.returns
 returns c = closed_all c.args.places.now c.args.roots.now c.args.observers.now c.loop-i.marks.items c.loop-i.i (omega arith) c.loop-i.invariant

@@ -12,11 +12,13 @@ loop-value-preserved c =
     let lt : c.len.result < length now = omega (arith, c.len.ensures, c.pop.new.self.ok.0, c.loop-value.invariant.room) in
     record {
       room = omega (arith, c.loop-value.invariant.room, length-set now c.len.result c.show_value.new.observer);
-      same = showing_turn now left rest c.pop.result c.in-Some.value c.index_mut.result.now c.show_value.new.observer c.len.result c.pop.ensures.items c.in-Some.is
+      same = showing_turn now left rest c.pop.result c.in-Some.value c.index_mut.result.now c.show_value.new.observer c.len.result c.pop.ensures.items
+          c.in-Some.is
           (omega (arith, c.len.ensures, c.pop.new.self.ok.0)) lt c.index_mut.ensures.value c.show_value.ensures ∙ c.loop-value.invariant.same;
     }
 
 pub returns : goal.returns
 returns c =
-    let none = popped_none c.loop-value.values.items c.pop.new.self.items c.pop.result c.pop.ensures.items c.in_default.is (λ lt. c.pop.ensures.variant.1 (omega (arith, c.loop-value.values.ok.0))) in
+    let none = popped_none c.loop-value.values.items c.pop.new.self.items c.pop.result c.pop.ensures.items c.in_default.is
+    (λ lt. c.pop.ensures.variant.1 (omega (arith, c.loop-value.values.ok.0))) in
     sym (showing_all c.loop-value.observers.items c.loop-value.values.items none) ∙ c.loop-value.invariant.same

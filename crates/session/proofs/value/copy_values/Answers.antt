@@ -13,5 +13,6 @@ loop-argument-preserved c =
     let j = get_or c.args.arguments.now k 0 in
     let at = slice_get-get_or c.args.arguments.now k 0 c.loop-argument-test.true in
     let has = c.value_at.ensures ∙ ap (λ (v : Value). Some v) (sym c.in_ok-copy.ensures.ok) in
-    let more = values_push c.args.places.now last (take k c.args.arguments.now) c.loop-argument.values.items j c.in_ok-copy.field-0 c.loop-argument.invariant has in
+    let more = values_push c.args.places.now last (take k c.args.arguments.now) c.loop-argument.values.items j c.in_ok-copy.field-0
+    c.loop-argument.invariant has in
     rw (take_push c.args.arguments.now k j at, c.in_ok-push.ensures.items) more

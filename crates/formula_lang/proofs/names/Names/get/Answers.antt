@@ -7,4 +7,5 @@ returns-clause-value c = rw (← c.self.view_is) (shown_at c.self.inside.declare
 
 pub returns-clause-earlier : goal.returns-clause-earlier
 returns-clause-earlier c =
-    c.self.invariant.earlier c.args.i (declared_view c.index.result.now) (shown_at c.self.inside.declared.entries c.args.i c.index.result.now c.index.ensures)
+    c.self.invariant.0.earlier c.args.i (declared_view c.index.result.now)
+    (shown_at c.self.inside.declared.entries c.args.i c.index.result.now c.index.ensures)

@@ -1,5 +1,5 @@
 use Rattle.std.proofs.Common.{◌<◌, length, sym, subst}
-use Rattle.script_model.specs.Choice.{Every}
+use Rattle.inc_value.specs.Choice.{Every}
 use Rattle.session.specs.Kept.{Kept}
 use Rattle.session.specs.Places.{AreTypedCalls}
 use Rattle.session.specs.Settling.{AreKnown}

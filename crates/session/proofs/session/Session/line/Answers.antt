@@ -1,11 +1,11 @@
 use Rattle.std.proofs.Common.{◌∙◌, Vec, Global, ℕ, sym, subst}
-use Rattle.script_model.specs.Formula.{functions_of}
+use Rattle.script_model.specs.Formula.{meanings_of}
 use Rattle.script_model.specs.Step.{Moment}
 use Rattle.session.specs.Session.{Standing}
 use Rattle.session.specs.State.{Stands}
-use Rattle.session.specs.Taken.{Takes}
+use Rattle.session.specs.Taken.{Stops, Takes}
 use Rattle.session.proofs.Answering.{taken_of}
-use Rattle.session.proofs.Failing.{no_ok, ok_from}
+use Rattle.session.proofs.Failing.{err_from, no_ok, ok_from}
 use Rattle.session.proofs.session.Session.line.Goals.{then-is_err, else-is_err}
 use Rattle.session.proofs.session.Session.line.Goals as goal
 
@@ -16,14 +16,25 @@ returns-clause-taken g c =
       | then-is_err w ↦ no_ok c.answer-taken.result _ (sym c.is_err.ensures.value ∙ w.if-is_err.true)
       | else-is_err w ↦
           ok_from c.answer-taken.result _ _ c.answer-taken.ensures.answered
-          (λ how answered. subst (λ (s : Standing g.row.L.Denot). (m : Moment) → Stands (functions_of (g.L.Library.named s.library) (g.L.Library.value s.library)) s.kept m
-          → Takes (functions_of (g.L.Library.named s.library) (g.L.Library.value s.library)) m c.args.text.now c.answer-taken.new.script c.args.out.now.items c.if-is_err.out.items
+          (λ how answered. subst (λ (s : Standing g.row.L.Denot). (m : Moment)
+          → Stands (meanings_of (g.L.Library.named s.library) (g.L.Library.value s.library)) s.kept m
+          → Takes (meanings_of (g.L.Library.named s.library) (g.L.Library.value s.library)) m c.args.text.now c.answer-taken.new.script
+          c.args.out.now.items c.if-is_err.out.items
           (g.L.Library.calls s.library) (g.L.Library.calls c.answer-taken.new.library) how)
           c.self.view_is
-          (subst (λ (v : Vec ℕ Global). (m : Moment) → Stands (functions_of (g.L.Library.named l) (g.L.Library.value l)) c.self.inside.script m
-          → Takes (functions_of (g.L.Library.named l) (g.L.Library.value l)) m c.args.text.now c.answer-taken.new.script c.args.out.now.items v.items
+          (subst (λ (v : Vec ℕ Global). (m : Moment) → Stands (meanings_of (g.L.Library.named l) (g.L.Library.value l)) c.self.inside.script m
+          → Takes (meanings_of (g.L.Library.named l) (g.L.Library.value l)) m c.args.text.now c.answer-taken.new.script c.args.out.now.items v.items
           (g.L.Library.calls l) (g.L.Library.calls c.answer-taken.new.library) how) (sym w.out-is)
           (λ m st. let a = answered m st in
-          taken_of (functions_of (g.L.Library.named l) (g.L.Library.value l)) m c.args.text.now a.0 c.answer-taken.new.script c.args.out.now.items c.answer-taken.new.out.items
+          taken_of (meanings_of (g.L.Library.named l) (g.L.Library.value l)) m c.args.text.now a.0 c.answer-taken.new.script c.args.out.now.items
+          c.answer-taken.new.out.items
           (g.L.Library.calls l) (g.L.Library.calls c.answer-taken.new.library) how a.1 a.2)))
     ]
+
+pub returns-clause-stopped : goal.returns-clause-stopped
+returns-clause-stopped g c =
+    err_from c.answer-taken.result c.answer-taken.ensures.stopped
+    (λ stopped. subst (λ (s : Standing g.row.L.Denot). (m : Moment) → Stands (meanings_of (g.L.Library.named s.library) (g.L.Library.value s.library))
+    s.kept m
+    → Stops (meanings_of (g.L.Library.named s.library) (g.L.Library.value s.library)) m c.args.text.now c.answer-taken.new.script
+    (g.L.Library.calls s.library) (g.L.Library.calls c.answer-taken.new.library)) c.self.view_is stopped)

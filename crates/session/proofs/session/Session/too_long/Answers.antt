@@ -1,7 +1,8 @@
 use Rattle.std.proofs.Common.{ℕ, ◌<◌, ◌++◌, ◌∙◌, List, length, ap, subst}
-use Rattle.script_model.specs.Formula.{functions_of}
+use Rattle.script_model.specs.Formula.{meanings_of}
 use Rattle.script_model.specs.Request.{TooLong}
-use Rattle.script_model.specs.Step.{Moment, Refused, printed}
+use Rattle.script_model.specs.Step.{Moment}
+use Rattle.session.specs.Replies.{refused_line}
 use Rattle.session.specs.declared.answer.Did.TheVariants as did
 use Rattle.session.specs.Session.{Standing}
 use Rattle.session.specs.State.{Stands}
@@ -13,12 +14,15 @@ use Rattle.session.proofs.session.Session.too_long.Goals as goal
 pub returns-clause-taken : goal.returns-clause-taken
 returns-clause-taken g c =
     let l = c.self.inside.library in
-    let F = functions_of (g.L.Library.named l) (g.L.Library.value l) in
+    let F = meanings_of (g.L.Library.named l) (g.L.Library.value l) in
     let out = c.args.out.now.items in
     on_ok_from c.write_refused.result c.write_refused.ensures.ok
-    (λ written. subst (λ (s : Standing g.row.L.Denot). (m : Moment) (line : List ℕ) → 4096 < length line → Stands (functions_of (g.L.Library.named s.library) (g.L.Library.value s.library)) s.kept m
-    → Takes (functions_of (g.L.Library.named s.library) (g.L.Library.value s.library)) m line c.self.inside.script out c.write_refused.new.out.items
+    (λ written. subst (λ (s : Standing g.row.L.Denot). (m : Moment) (line : List ℕ) → 4096 < length line
+    → Stands (meanings_of (g.L.Library.named s.library) (g.L.Library.value s.library)) s.kept m
+    → Takes (meanings_of (g.L.Library.named s.library) (g.L.Library.value s.library)) m line c.self.inside.script out c.write_refused.new.out.items
     (g.L.Library.calls s.library) (g.L.Library.calls l) (did.Refused 2))
     c.self.view_is
-    (λ m line long st. taken_of F m line TooLong c.self.inside.script out c.write_refused.new.out.items (g.L.Library.calls l) (g.L.Library.calls l) (did.Refused 2) long
-    (answered_too_long F c.self.inside.script m out c.write_refused.new.out.items (g.L.Library.calls l) st (written ∙ ap (λ n. out ++ printed (Refused n)) c.number.ensures))))
+    (λ m line long st. taken_of F m line TooLong c.self.inside.script out c.write_refused.new.out.items (g.L.Library.calls l) (g.L.Library.calls l)
+    (did.Refused 2) long
+    (answered_too_long F c.self.inside.script m out c.write_refused.new.out.items (g.L.Library.calls l) st
+    (written ∙ ap (λ n. out ++ refused_line n) c.number.ensures))))

@@ -1,0 +1,221 @@
+-- Lines of today's forms, and the rows of the table of refusals that never hold for them.
+use Rattle.std.proofs.Common.{◌≡◌, ℕ, Bool, true, false, ◌&&◌, List, [], ◌∷◌, ◌++◌, map, drop, refl, ap, subst, ◌∙◌, flat_map}
+use Rattle.std.specs.List.{list_any}
+use Rattle.script_model.specs.Check.{Names, NotWhole, NotBind, NotExpert, TimeTooLarge, TimesNotRising, SpanIsZero, BackInTime, has_falling_times, is_against, is_empty_interval, is_top_form, own_literals, own_times, read_names, mentioned, referred_names, spans_of, trees_in, trees_in_all, typed, typed_top, body_as}
+use Rattle.inc_value.specs.Choice.{Every, and_then}
+use Rattle.script_model.specs.Formula.{Computed, Meanings, nothing_kept}
+use Rattle.script_model.specs.Grammar.{Line, Literal, Tree, Trees, Integer, Truth, Quoted, Written, Mention, Call, End, More, Var, Set, Let, Observe, Show, Stabilize, is_plain, are_plain, is_plain_literal}
+use Rattle.script_model.specs.Parsing.{trees_of}
+use Rattle.formula_lang.specs.TreeView.{level_view, line_view, tree_view}
+use Rattle.formula_lang.specs.View.{literal_view}
+use Rattle.formula_lang.specs.declared.tree.Line as code_line
+use Rattle.formula_lang.specs.declared.tree.Line.TheVariants as line
+use Rattle.formula_lang.specs.declared.tree.Literal as code_literal
+use Rattle.formula_lang.specs.declared.tree.Literal.TheVariants as literal
+use Rattle.formula_lang.specs.declared.tree.Tree as code_tree
+use Rattle.formula_lang.specs.declared.tree.Tree.TheFolds.{fold-roll-Tree, ind-Tree, map-Tree}
+use Rattle.formula_lang.specs.declared.tree.Tree.TheOpen as level
+use Rattle.formula_lang.specs.declared.tree.Tree.TheOpen.{Tree-F}
+
+-- ---- the code's trees are of today's forms
+
+literal_plain : (l : code_literal.Literal) → is_plain_literal (literal_view l) ≡ true
+literal_plain (literal.Integer z) = refl
+literal_plain (literal.Bool b) = refl
+literal_plain (literal.Text content) = refl
+
+abbrev IsPlainView : code_tree.Tree → Type 0
+IsPlainView t = is_plain (tree_view t) ≡ true
+
+views_plain : (ts : List ((t : code_tree.Tree) × IsPlainView t)) → are_plain (trees_of (map tree_view (map (λ e. e.0) ts))) ≡ true
+views_plain [] = refl
+views_plain (t ∷ ts) = rw (t.1, views_plain ts) refl
+
+level_plain : (y : Tree-F ((t : code_tree.Tree) × IsPlainView t)) → is_plain (level_view (map-Tree _ _ tree_view (map-Tree _ _ (λ e. e.0) y))) ≡ true
+level_plain (level.Literal l) = literal_plain l
+level_plain (level.Name name) = refl
+level_plain (level.Call function arguments) = views_plain arguments.items
+
+pub view_plain : (t : code_tree.Tree) → IsPlainView t
+view_plain = ind-Tree IsPlainView (λ x y is.
+    let shown = subst (λ z. is_plain (level_view (map-Tree _ _ tree_view z)) ≡ true) is (level_plain y) in
+    rw (fold-roll-Tree Tree level_view x) shown)
+
+-- a line of today's forms, of whatever type its variable is
+abbrev pub is_plain_line : Line → Bool
+is_plain_line (Var name t first) = is_plain_literal first
+is_plain_line (Set name value) = is_plain_literal value
+is_plain_line (Let name formula) = is_plain formula
+is_plain_line (Observe observer name) = true
+is_plain_line (Show observer) = true
+is_plain_line Stabilize = true
+is_plain_line l = false
+
+pub line_plain : (l : code_line.Line) → is_plain_line (line_view l) ≡ true
+line_plain (line.Var name t first) = literal_plain first
+line_plain (line.Set name value) = literal_plain value
+line_plain (line.Let name formula) = view_plain formula
+line_plain (line.Observe observer name) = refl
+line_plain line.Stabilize = refl
+line_plain (line.Show observer) = refl
+
+-- ---- the formulas in one
+
+-- a literal that refers to no name, a name, a function
+abbrev is_plain_head : Tree → Bool
+is_plain_head (Written l) = is_plain_literal l
+is_plain_head (Mention name) = true
+is_plain_head (Call function arguments) = true
+is_plain_head tree = false
+
+abbrev ArePlain : List Tree → Type 0
+ArePlain trees = Every (λ t. is_plain_head t ≡ true) trees
+
+plain_append : (xs ys : List Tree) → ArePlain xs → ArePlain ys → ArePlain (xs ++ ys)
+plain_append [] ys p q = q
+plain_append (x ∷ xs) ys p q = (p.0, plain_append xs ys p.1 q)
+
+pub both_true : (a b : Bool) → (a && b) ≡ true → (a ≡ true) × (b ≡ true)
+both_true true true is = (refl, refl)
+both_true true false is = absurd (cc)
+both_true false b is = absurd (cc)
+
+mutual
+  heads : (t : Tree) → is_plain t ≡ true → ArePlain (trees_in t)
+  heads (Written l) h = (h, tt)
+  heads (Mention name) h = (refl, tt)
+  heads (Call function arguments) h = (refl, heads_all arguments h)
+  heads _ h = absurd (cc)
+
+  heads_all : (ts : Trees) → are_plain ts ≡ true → ArePlain (trees_in_all ts)
+  heads_all End h = tt
+  heads_all (More first rest) h =
+      let both = both_true (is_plain first) (are_plain rest) h in
+      plain_append (trees_in first) (trees_in_all rest) (heads first both.0) (heads_all rest both.1)
+
+-- what no such formula is, and what none has
+never : (test : Tree → Bool) → ((t : Tree) → is_plain_head t ≡ true → test t ≡ false) → (ts : List Tree) → ArePlain ts → list_any test ts ≡ false
+never test h [] plain = refl
+never test h (t ∷ ts) plain = rw (h t plain.0, never test h ts plain.1) refl
+
+never_inner : (test : Tree → Bool) → ((t : Tree) → is_plain_head t ≡ true → test t ≡ false) → (ts : List Tree) → ArePlain ts
+    → list_any test (drop 1 ts) ≡ false
+never_inner test h [] plain = refl
+never_inner test h (t ∷ ts) plain = never test h ts plain.1
+
+nothing : {A : Type 0} (part : Tree → List A) → ((t : Tree) → is_plain_head t ≡ true → part t ≡ []) → (ts : List Tree) → ArePlain ts
+    → flat_map part ts ≡ []
+nothing part h [] plain = refl
+nothing part h (t ∷ ts) plain = rw (h t plain.0, nothing part h ts plain.1) refl
+
+no_top : (t : Tree) → is_plain_head t ≡ true → is_top_form t ≡ false
+no_top (Written l) h = refl
+no_top (Mention name) h = refl
+no_top (Call function arguments) h = refl
+no_top _ h = absurd (cc)
+
+no_times : (t : Tree) → is_plain_head t ≡ true → own_times t ≡ []
+no_times (Written l) h = refl
+no_times (Mention name) h = refl
+no_times (Call function arguments) h = refl
+no_times _ h = absurd (cc)
+
+no_falling : (t : Tree) → is_plain_head t ≡ true → has_falling_times t ≡ false
+no_falling (Written l) h = refl
+no_falling (Mention name) h = refl
+no_falling (Call function arguments) h = refl
+no_falling _ h = absurd (cc)
+
+no_interval : (t : Tree) → is_plain_head t ≡ true → is_empty_interval t ≡ false
+no_interval (Written l) h = refl
+no_interval (Mention name) h = refl
+no_interval (Call function arguments) h = refl
+no_interval _ h = absurd (cc)
+
+no_span : (name : List ℕ) (t : Tree) → is_plain t ≡ true → spans_of (Let name t) ≡ []
+no_span name (Written l) h = refl
+no_span name (Mention n) h = refl
+no_span name (Call function arguments) h = refl
+no_span name _ h = absurd (cc)
+
+-- ---- names
+
+unreferred : (l : Literal) → is_plain_literal l ≡ true → referred_names l ≡ []
+unreferred (Integer z) h = refl
+unreferred (Truth b) h = refl
+unreferred (Quoted content) h = refl
+unreferred _ h = absurd (cc)
+
+nothing_referred : (ts : List Tree) → ArePlain ts → flat_map referred_names (flat_map own_literals ts) ≡ []
+nothing_referred [] plain = refl
+nothing_referred (Written l ∷ ts) plain = rw (unreferred l plain.0, nothing_referred ts plain.1) refl
+nothing_referred (Mention name ∷ ts) plain = nothing_referred ts plain.1
+nothing_referred (Call function arguments ∷ ts) plain = nothing_referred ts plain.1
+nothing_referred (_ ∷ ts) plain = absurd (let h = plain.0 in cc)
+
+nothing_behind : {A : Type 0} (xs : List A) → xs ++ [] ≡ xs
+nothing_behind [] = refl
+nothing_behind (x ∷ xs) = ap (λ ys. x ∷ ys) (nothing_behind xs)
+
+-- a formula of today's forms reads the names that it mentions
+pub reads_mentioned : (name : List ℕ) (t : Tree) → is_plain t ≡ true → read_names (Let name t) ≡ mentioned [] t
+reads_mentioned name t h = ap (λ ns. mentioned [] t ++ ns) (nothing_referred (trees_in t) (heads t h)) ∙ nothing_behind (mentioned [] t)
+
+-- at the top of a `let` such a formula is one like others
+pub plain_top : (F : Meanings) (names : Names) (t : Tree) → is_plain t ≡ true
+    → typed_top F names t ≡ and_then (typed F names [] t) (λ x. body_as (Computed x.formula nothing_kept) x.ty)
+plain_top F names (Written l) h = refl
+plain_top F names (Mention name) h = refl
+plain_top F names (Call function arguments) h = refl
+plain_top F names _ h = absurd (cc)
+
+-- ---- the rows that never hold
+
+module _ (F : Meanings) (names : Names) where
+  pub not_whole : (l : Line) → is_plain_line l ≡ true → is_against F names l NotWhole ≡ false
+  not_whole (Let name t) h = never_inner is_top_form no_top (trees_in t) (heads t h)
+  not_whole _ h = refl
+
+  pub not_bind : (l : Line) → is_plain_line l ≡ true → is_against F names l NotBind ≡ false
+  not_bind (Var name t first) h = refl
+  not_bind (Set name value) h = refl
+  not_bind (Let name t) h = refl
+  not_bind (Observe observer name) h = refl
+  not_bind (Show observer) h = refl
+  not_bind Stabilize h = refl
+  not_bind _ h = absurd (cc)
+
+  pub not_expert : (l : Line) → is_plain_line l ≡ true → is_against F names l NotExpert ≡ false
+  not_expert (Var name t first) h = refl
+  not_expert (Set name value) h = refl
+  not_expert (Let name t) h = refl
+  not_expert (Observe observer name) h = refl
+  not_expert (Show observer) h = refl
+  not_expert Stabilize h = refl
+  not_expert _ h = absurd (cc)
+
+  pub no_large_time : (l : Line) → is_plain_line l ≡ true → is_against F names l TimeTooLarge ≡ false
+  no_large_time (Let name t) h = rw (nothing own_times no_times (trees_in t) (heads t h), no_span name t h) refl
+  no_large_time (Var name t first) h = refl
+  no_large_time (Set name value) h = refl
+  no_large_time (Observe observer name) h = refl
+  no_large_time (Show observer) h = refl
+  no_large_time Stabilize h = refl
+  no_large_time _ h = absurd (cc)
+
+  pub times_rise : (l : Line) → is_plain_line l ≡ true → is_against F names l TimesNotRising ≡ false
+  times_rise (Let name t) h = never has_falling_times no_falling (trees_in t) (heads t h)
+  times_rise _ h = refl
+
+  pub no_empty_interval : (l : Line) → is_plain_line l ≡ true → is_against F names l SpanIsZero ≡ false
+  no_empty_interval (Let name t) h = never is_empty_interval no_interval (trees_in t) (heads t h)
+  no_empty_interval _ h = refl
+
+  pub not_back : (l : Line) → is_plain_line l ≡ true → is_against F names l BackInTime ≡ false
+  not_back (Var name t first) h = refl
+  not_back (Set name value) h = refl
+  not_back (Let name t) h = refl
+  not_back (Observe observer name) h = refl
+  not_back (Show observer) h = refl
+  not_back Stabilize h = refl
+  not_back _ h = absurd (cc)

@@ -1,0 +1,52 @@
+-- The table of refusals, as the code goes by it.
+use Rattle.std.proofs.Common.{◌≡◌, ℕ, ◌+◌, ◌<◌, Bool, true, false, cond, List, [], ◌∷◌, length, map, drop, get_or, inl, inr, Option, None, Some, refl, ap, sym, ◌∙◌}
+use Rattle.std.proofs.lemmas.List.{drop_more}
+use Rattle.script_model.specs.Check.{Names, Reason, NameTaken, ObserverTaken, NameUnknown, ObserverUnknown, FunctionUnknown, NotWhole, NotVariable, NotBind, NotExpert, IllTyped, TimeTooLarge, TimesNotRising, SpanIsZero, BackInTime, first_that, is_against, line_order}
+use Rattle.inc_value.specs.Choice.{Among}
+use Rattle.script_model.specs.Formula.{Meanings}
+use Rattle.script_model.specs.Grammar.{Line}
+use Rattle.formula_lang.specs.Verdict.{reason_view}
+use Rattle.formula_lang.specs.declared.refusal.Reason as code
+use Rattle.formula_lang.specs.declared.refusal.Reason.TheVariants as reason
+use Rattle.formula_lang.proofs.Plainness.{is_plain_line, not_whole, not_bind, not_expert, no_large_time, times_rise, no_empty_interval, not_back}
+
+-- the rows that can hold for a line of today's forms, in order
+abbrev pub rows_here : List Reason
+rows_here = NameTaken ∷ ObserverTaken ∷ NameUnknown ∷ ObserverUnknown ∷ FunctionUnknown ∷ NotVariable ∷ IllTyped ∷ []
+
+-- the same as the code has them
+abbrev pub code_order : List code.Reason
+code_order =
+    reason.NameTaken ∷ reason.ObserverTaken ∷ reason.NameUnknown ∷ reason.ObserverUnknown ∷ reason.FunctionUnknown ∷ reason.NotVariable ∷
+    reason.IllTyped ∷ []
+
+skips : (h : Reason → Bool) → h NotWhole ≡ false → h NotBind ≡ false → h NotExpert ≡ false → h TimeTooLarge ≡ false → h TimesNotRising ≡ false
+    → h SpanIsZero ≡ false → h BackInTime ≡ false
+    → first_that h rows_here ≡ first_that h line_order
+skips h a b c d e f g = rw (a, b, c, d, e, f, g) refl
+
+pub table_same : (F : Meanings) (names : Names) (l : Line) → is_plain_line l ≡ true
+    → first_that (is_against F names l) rows_here ≡ first_that (is_against F names l) line_order
+table_same F names l plain =
+    skips (is_against F names l) (not_whole F names l plain) (not_bind F names l plain) (not_expert F names l plain)
+    (no_large_time F names l plain) (times_rise F names l plain)
+    (no_empty_interval F names l plain) (not_back F names l plain)
+
+-- where none holds, each one doesn't
+pub none_holds : (h : Reason → Bool) (rs : List Reason) (r : Reason) → first_that h rs ≡ None → Among r rs → h r ≡ false
+none_holds h [] r none among = absurd among
+none_holds h (x ∷ rs) r none among = go (h x) refl none (none_holds h rs r)
+  where
+    go : (b : Bool) → h x ≡ b → cond b (Some x) (first_that h rs) ≡ None → (first_that h rs ≡ None → Among r rs → h r ≡ false) → h r ≡ false
+    go true is e rest = absurd (cc)
+    go false is e rest = elim among [ inl same ↦ rw same is | inr later ↦ rest e later ]
+
+-- one row doesn't hold, so the first is among those behind it
+pub next_row : (h : Reason → Bool) (rs : List code.Reason) (i : ℕ) (r : code.Reason) (X : Option Reason) → i < length rs
+    → h (reason_view (get_or rs i r)) ≡ false
+    → first_that h (map reason_view (drop i rs)) ≡ X → first_that h (map reason_view (drop (i + 1) rs)) ≡ X
+next_row h rs i r X within is e =
+    let split : first_that h (map reason_view (drop i rs)) ≡ first_that h (map reason_view (get_or rs i r ∷ drop (i + 1) rs)) =
+    ap (λ rows. first_that h (map reason_view rows)) (drop_more rs i r within) in
+    let skipped : first_that h (map reason_view (get_or rs i r ∷ drop (i + 1) rs)) ≡ first_that h (map reason_view (drop (i + 1) rs)) = rw is refl in
+    sym skipped ∙ sym split ∙ e

@@ -1,0 +1,111 @@
+-- Lines of today's forms, read from the front of tokens. Contracts of private functions cite them, those of public ones none.
+use Rattle.std.specs.Prelude.{ℕ, zero, suc, true, false, nat_le, cond, if◌then◌else◌, List, [], ◌∷◌, length, codes, Option, None, Some}
+use Rattle.std.specs.Str.{bytes_eq}
+use Rattle.inc_value.specs.declared.ty.Base.{Base}
+use Rattle.inc_value.specs.declared.ty.Ty.{Ty}
+use Rattle.inc_value.specs.Choice.{and_then}
+use Rattle.script_model.specs.Grammar.{Literal, Integer, Truth, Quoted, Tree, Written, Line, Var, Set, Let, Observe, Show, Stabilize, is_here}
+use Rattle.script_model.specs.Language.{is_name, integer_of}
+use Rattle.script_model.specs.Parsing.{Read, read, base_named, name_front, named_front, one_name, tally, two_names, type_of_base, whole}
+use Rattle.script_model.specs.Tokens.{Token, Word, Number, Text, Punctuation, Open}
+
+-- a line, where it is of today's forms
+abbrev pub where_here : Option Line → Option Line
+where_here None = None
+where_here (Some l) = cond (is_here l) (Some l) None
+
+-- ---- single tokens
+
+-- the word that a token is
+abbrev pub word_in : Token → Option (List ℕ)
+word_in (Word w) = Some w
+word_in token = None
+
+-- the name that a token is
+abbrev pub name_in : Token → Option (List ℕ)
+name_in (Word w) = if is_name w then Some w else None
+name_in token = None
+
+-- the base type that a token names
+abbrev pub base_in : Token → Option Base
+base_in (Word w) = base_named w
+base_in token = None
+
+-- the literal that a word is
+abbrev pub truth_in : List ℕ → Option Literal
+truth_in w = if bytes_eq w (codes "true") then Some (Truth true) else (if bytes_eq w (codes "false") then Some (Truth false) else None)
+
+-- the literal that a token is
+abbrev pub literal_in : Token → Option Literal
+literal_in (Word w) = truth_in w
+literal_in (Number negative digits) = and_then (integer_of negative digits) (λ z. Some (Integer z))
+literal_in (Text content) = if nat_le (length content) 4096 then Some (Quoted content) else None
+literal_in token = None
+
+-- ---- what stands at the front
+
+-- a literal of one token
+abbrev pub plain_literal : List Token → Read Literal
+plain_literal [] = None
+plain_literal (t ∷ rest) = and_then (literal_in t) (λ l. read l rest)
+
+-- a base type
+abbrev pub plain_type : List Token → Read Ty
+plain_type [] = None
+plain_type (t ∷ rest) = and_then (base_in t) (λ b. read (type_of_base b) rest)
+
+-- what is left behind a `(`
+abbrev pub behind_open : List Token → Option (List Token)
+behind_open (Punctuation Open ∷ rest) = Some rest
+behind_open tokens = None
+
+-- a formula, behind its first token: a name or a function where that is a name, else a literal
+abbrev pub behind_first : (List Token → Read Tree) → Token → List Token → Option (List ℕ) → Read Tree
+behind_first part t rest (Some w) = named_front part w rest
+behind_first part t rest None = and_then (literal_in t) (λ l. read (Written l) rest)
+
+abbrev pub plain_front : (List Token → Read Tree) → List Token → Read Tree
+plain_front part [] = None
+plain_front part (t ∷ rest) = behind_first part t rest (name_in t)
+
+-- a formula of literals, names and functions, of at most n formulas within one another
+unfoldable pub plain_read : ℕ → List Token → Read Tree
+plain_read zero tokens = None
+plain_read (suc n) tokens = plain_front (plain_read n) tokens
+
+-- ---- commands
+
+abbrev pub plain_var : List Token → Option Line
+plain_var tokens = and_then (name_front tokens) (λ n. and_then (plain_type n.1) (λ t. whole (plain_literal t.1) (Var n.0 t.0)))
+
+abbrev pub plain_set : List Token → Option Line
+plain_set tokens = and_then (name_front tokens) (λ n. whole (plain_literal n.1) (Set n.0))
+
+abbrev pub plain_let : List Token → Option Line
+plain_let tokens = and_then (name_front tokens) (λ n. whole (plain_read (suc (tally n.1)) n.1) (Let n.0))
+
+-- the stabilize, where nothing follows
+abbrev pub alone : List Token → Option Line
+alone [] = Some Stabilize
+alone tokens = None
+
+abbrev pub plain_stabilize : List ℕ → List Token → Option Line
+plain_stabilize w tokens = if bytes_eq w (codes "stabilize") then alone tokens else None
+
+-- a command on observers, by the word that it begins with
+abbrev pub plain_observing : List ℕ → List Token → Option Line
+plain_observing w tokens =
+    if bytes_eq w (codes "observe") then two_names Observe tokens
+    else (if bytes_eq w (codes "show") then one_name Show tokens else plain_stabilize w tokens)
+
+-- a command by the word that it begins with
+abbrev pub plain_with : List ℕ → List Token → Option Line
+plain_with w tokens =
+    if bytes_eq w (codes "var") then plain_var tokens
+    else (if bytes_eq w (codes "set") then plain_set tokens
+    else (if bytes_eq w (codes "let") then plain_let tokens else plain_observing w tokens))
+
+-- the command that all of the tokens are
+abbrev pub plain_command : List Token → Option Line
+plain_command [] = None
+plain_command (t ∷ tokens) = and_then (word_in t) (λ w. plain_with w tokens)

@@ -1,0 +1,167 @@
+//! Why commands are refused: the rows that are looked at, in order.
+ghost use Rattle.std.specs.Prelude.{◌≡◌, is_none, map, option_map};
+ghost use Rattle.std.specs.List.{list_any};
+ghost use Rattle.script_model.specs.Check.{command_of, first_that, functions_in, is_against, is_among, is_declared, is_variable, kind_of, line_order, new_names, new_observers, observers_of, read_names, reason_number, variables_of};
+ghost use Rattle.script_model.specs.Formula.{meanings_of};
+ghost use Rattle.formula_lang.specs.TreeView.{line_view};
+ghost use Rattle.formula_lang.specs.Verdict.{reason_view};
+ghost use Rattle.formula_lang.specs.Rows.{is_no_observer, is_no_variable, is_unknown, lacks};
+
+use crate::name::Name;
+use crate::names::{Kind, Names};
+use crate::tree::Line;
+use crate::typing::{declared_as, has_unknown_function, has_unknown_name, is_declared};
+use node_arena::Library;
+
+/// Why a command is refused.
+#[derive(Clone, Copy, Debug, PartialEq, Eq)]
+pub(crate) enum Reason {
+    NameTaken,
+    ObserverTaken,
+    NameUnknown,
+    ObserverUnknown,
+    FunctionUnknown,
+    NotVariable,
+    IllTyped,
+}
+
+/// The order in which they are looked at.
+const ORDER: [Reason; 7] = [
+    Reason::NameTaken,
+    Reason::ObserverTaken,
+    Reason::NameUnknown,
+    Reason::ObserverUnknown,
+    Reason::FunctionUnknown,
+    Reason::NotVariable,
+    Reason::IllTyped,
+];
+
+impl Reason {
+    /// The number that is printed.
+    pub(crate) fn number(self) -> u8
+        ensures { result ≡ reason_number (reason_view self) }
+    {
+        match self {
+            Reason::NameTaken => 3,
+            Reason::NameUnknown => 4,
+            Reason::FunctionUnknown => 5,
+            Reason::IllTyped => 6,
+            Reason::NotVariable => 7,
+            Reason::ObserverUnknown => 11,
+            Reason::ObserverTaken => 12,
+        }
+    }
+}
+
+/// The first reason that stands against the line.
+pub(crate) fn first_reason<L: Library>(
+    line: &Line,
+    names: &Names,
+    library: &L,
+    is_ill_typed: bool,
+) -> Option<Reason>
+    requires { is_ill_typed ≡ is_none (command_of (meanings_of (L.named library.now) (L.value library.now)) names.now (line_view line.now)) }
+    ensures { option_map reason_view result
+        ≡ first_that (is_against (meanings_of (L.named library.now) (L.value library.now)) names.entry.now (line_view line.now)) line_order }
+{
+    for reason in ORDER {
+        if is_against(line, names, library, is_ill_typed, reason) {
+            return Some(reason);
+        }
+    }
+    None
+}
+
+/// Whether the reason stands against the line.
+fn is_against<L: Library>(
+    line: &Line,
+    names: &Names,
+    library: &L,
+    is_ill_typed: bool,
+    reason: Reason,
+) -> bool
+    requires { is_ill_typed ≡ is_none (command_of (meanings_of (L.named library.now) (L.value library.now)) names.now (line_view line.now)) }
+    ensures { result
+        ≡ is_against (meanings_of (L.named library.now) (L.value library.now)) names.entry.now (line_view line.now) (reason_view reason) }
+{
+    match reason {
+        Reason::NameTaken => is_name_taken(line, names),
+        Reason::ObserverTaken => is_observer_taken(line, names),
+        Reason::NameUnknown => is_name_unknown(line, names),
+        Reason::ObserverUnknown => is_observer_unknown(line, names),
+        Reason::FunctionUnknown => is_function_unknown(line, library),
+        Reason::NotVariable => is_no_variable(line, names),
+        Reason::IllTyped => is_ill_typed,
+    }
+}
+
+/// Whether the new name is declared.
+fn is_name_taken(line: &Line, names: &Names) -> bool
+    ensures { result ≡ list_any (is_declared names.entry.now) (new_names (line_view line.now)) }
+{
+    match line {
+        Line::Var { name, .. } | Line::Let { name, .. } => is_declared(names, name),
+        _ => false,
+    }
+}
+
+/// Whether the new observer's name is in use.
+fn is_observer_taken(line: &Line, names: &Names) -> bool
+    ensures { result ≡ list_any (is_among names.entry.now.observers) (new_observers (line_view line.now)) }
+{
+    match line {
+        Line::Observe { observer, .. } => names.is_in_use(observer.bytes()),
+        _ => false,
+    }
+}
+
+/// Whether a name that is read isn't declared.
+fn is_name_unknown(line: &Line, names: &Names) -> bool
+    ensures { result ≡ list_any (is_unknown names.entry.now) (read_names (line_view line.now)) }
+{
+    match line {
+        Line::Set { name, .. } | Line::Observe { name, .. } => !is_declared(names, name),
+        Line::Let { formula, .. } => has_unknown_name(names, formula),
+        _ => false,
+    }
+}
+
+/// Whether the observer's name isn't in use.
+fn is_observer_unknown(line: &Line, names: &Names) -> bool
+    ensures { result ≡ list_any (is_no_observer names.entry.now) (observers_of (line_view line.now)) }
+{
+    match line {
+        Line::Show { observer } => !names.is_in_use(observer.bytes()),
+        _ => false,
+    }
+}
+
+/// Whether the library has no function of a name.
+fn is_function_unknown<L: Library>(line: &Line, library: &L) -> bool
+    ensures { result ≡ list_any (lacks (L.named library.now)) (functions_in (line_view line.now)) }
+{
+    match line {
+        Line::Let { formula, .. } => has_unknown_function(library, formula),
+        _ => false,
+    }
+}
+
+/// Whether what is set is no variable.
+fn is_no_variable(line: &Line, names: &Names) -> bool
+    ensures { result ≡ list_any (is_no_variable names.entry.now) (variables_of (line_view line.now)) }
+{
+    match line {
+        Line::Set { name, .. } => !is_variable(names, name),
+        _ => false,
+    }
+}
+
+/// Whether the name stands for a variable.
+fn is_variable(names: &Names, name: &Name) -> bool
+    ensures { result ≡ is_variable (kind_of names.entry.now name.now) }
+{
+    match declared_as(names, name) {
+        Some(declared) => matches!(names.get(declared.target).kind, Kind::Var),
+        None => false,
+    }
+}
