@@ -1,0 +1,100 @@
+//! What a node is.
+ghost use Rattle.std.specs.Prelude.{◌≡◌, ◌≤◌, length, IfOk, IsOk};
+
+use inc_value::{FnRef, NodeId, Value};
+use smallvec::SmallVec;
+use std::alloc::{AllocError, Global};
+use std::marker::Model;
+
+/// A list of nodes. Lists of at most two take no memory of their own.
+#[derive(Debug, Drop)]
+pub struct Nodes {
+    nodes: SmallVec<NodeId, 2>,
+}
+
+impl Model for Nodes {
+    ghost use Rattle.std.specs.Prelude.{List};
+    ghost use Rattle.inc_value.specs.declared.node.NodeId.{NodeId};
+
+    ghost Value = { List NodeId };
+
+    ghost view = { λ l. l.nodes.items };
+}
+
+impl Nodes {
+    /// The nodes, in this order.
+    pub fn from_slice(alloc: Global, nodes: &[NodeId]) -> Result<Nodes, AllocError>
+        ensures ok { IfOk result (λ list. list ≡ nodes.now) }
+        ensures short { length nodes.now ≤ 2 → IsOk result }
+    {
+        Ok(Nodes {
+            nodes: SmallVec::from_slice(alloc, nodes)?,
+        })
+    }
+
+    /// The nodes in order.
+    pub fn as_slice(&self) -> &[NodeId]
+        ensures { result.now ≡ self.now }
+    {
+        self.nodes.as_slice()
+    }
+}
+
+/// What a node is.
+#[derive(Debug, Drop)]
+pub enum Def {
+    /// Always the value.
+    Const(Value),
+    /// The value until another is set.
+    Var(Value),
+    /// The function of the nodes' values.
+    Map(FnRef, Nodes),
+}
+
+impl Def {
+    ghost use Rattle.inc_terms.specs.Code.{def_of};
+    ghost use Rattle.inc_terms.specs.Graph.{kids};
+
+    /// The nodes whose values the node's function takes, in order: those of a map.
+    pub fn kids(&self) -> &[NodeId]
+        ensures { result.now ≡ kids (def_of self.now) }
+    {
+        match self {
+            Def::Const(_) | Def::Var(_) => &[],
+            Def::Map(_, kids) => kids.as_slice(),
+        }
+    }
+}
+
+#[cfg(test)]
+mod tests {
+    use super::*;
+    use inc_value::{FnId, FnKind, Sig, Ty};
+    use std::test::Fail;
+
+    fn node(number: u64) -> NodeId {
+        NodeId {
+            slot: 0,
+            gen_: number,
+        }
+    }
+
+    #[test]
+    fn lists_kids(rt: HostRuntime) -> Result<(), Fail> {
+        let alloc = rt.alloc();
+        let three = [node(5), node(3), node(5)];
+        let f = FnRef {
+            id: FnId {
+                kind: FnKind::Map,
+                number: 1,
+            },
+            sig: Sig::new(&[Ty::Int, Ty::Int, Ty::Int], Ty::Int),
+        };
+        let map = Def::Map(f, Nodes::from_slice(alloc, &three)?);
+        assert_eq!(rt; map.kids(), three.as_slice());
+        let empty = Nodes::from_slice(alloc, &[])?;
+        assert_eq!(rt; empty.as_slice().len(), 0);
+        assert_eq!(rt; Def::Var(Value::Int(1)).kids().len(), 0);
+        Ok(())
+    }
+}

@@ -1,0 +1,4 @@
+pub mod Links
+pub mod Need
+pub mod Marks
+pub mod Walks

@@ -1,0 +1,4 @@
+mod Cells
+pub mod Chains
+mod Links
+pub mod Places

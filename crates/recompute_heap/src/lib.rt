@@ -1,0 +1,8 @@
+//! A multiset of points by height: which points are to be recomputed, the lowest first.
+#![tactic(auto)]
+
+mod heap;
+#[cfg(test)]
+mod tests;
+
+pub use heap::RecomputeHeap;
