@@ -1,1 +1,1 @@
-pub mod Running
+mod Transcripts

@@ -1,4 +1,2 @@
-pub mod Progress
 pub mod Running
-pub mod Saying
 pub mod Usage

@@ -3,6 +3,7 @@
 #![tactic(auto)]
 
 mod drive;
+mod plain;
 #[cfg(test)]
 mod tests;
 mod top;

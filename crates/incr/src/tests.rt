@@ -2,7 +2,7 @@
 use crate::drive::drive;
 use crate::top::top;
 use script_io::{MemSink, MemSource, Word};
-use session::{Did, Session};
+use session::Session;
 use std::alloc::{AllocError, Global};
 use std::test::Fail;
 use std_library::StdLib;
@@ -154,6 +154,47 @@ fn command_lines(rt: HostRuntime) -> Result<(), Fail> {
     Ok(())
 }
 
+/// Where the transcript of a script went, and its status.
+fn transcribed(alloc: Global, script: &str) -> Result<(MemSink, u8), AllocError> {
+    let bytes = script.as_bytes().to_vec(alloc)?;
+    let mut source = MemSource::new(alloc, bytes, 4_096, Vec::new(alloc))?;
+    let mut sink = MemSink::new(alloc, 1_000_000, Vec::new(alloc))?;
+    let (status, _) = drive(alloc, &mut source, &mut sink, StdLib::new(), 1_000_000);
+    Ok((sink, status))
+}
+
+#[test]
+fn more_places_than_4096(rt: HostRuntime) -> Result<(), Fail> {
+    let alloc = rt.alloc();
+    let mut script = "var x int 1\n".to_string(alloc)?;
+    let mut output = "ok\n".to_string(alloc)?;
+    for number in 0..4_200u64 {
+        script.push_str(&format!(in alloc; "let y{number} add(x, {number})\n")?)?;
+        output.push_str("ok\n")?;
+    }
+    script.push_str("observe o y4199\nstabilize\nshow o\n")?;
+    output.push_str("ok\nstable 1\no = 4200\n")?;
+    let (sink, status) = transcribed(alloc, &script)?;
+    assert_eq!(rt; sink.written(), output.as_bytes());
+    assert_eq!(rt; status, 0);
+    Ok(())
+}
+
+#[test]
+fn ten_thousand_lines(rt: HostRuntime) -> Result<(), Fail> {
+    let alloc = rt.alloc();
+    let mut script = "var x int 0\nlet y neg(x)\nobserve o y\n".to_string(alloc)?;
+    let mut output = "ok\nok\nok\n".to_string(alloc)?;
+    for round in 1..3_334u64 {
+        script.push_str(&format!(in alloc; "set x {round}\nstabilize\nshow o\n")?)?;
+        output.push_str(&format!(in alloc; "ok\nstable {round}\no = -{round}\n")?)?;
+    }
+    let (sink, status) = transcribed(alloc, &script)?;
+    assert_eq!(rt; sink.written(), output.as_bytes());
+    assert_eq!(rt; status, 0);
+    Ok(())
+}
+
 /// A line with a text between others, so many times.
 fn repeated(
     alloc: Global,
@@ -253,19 +294,14 @@ fn last_line_without_newline(rt: HostRuntime) -> Result<(), Fail> {
 }
 
 #[test]
-fn sessions_take_lines(rt: HostRuntime) -> Result<(), Fail> {
+fn a_session_takes_a_long_line(rt: HostRuntime) -> Result<(), Fail> {
     let alloc = rt.alloc();
     let mut session = Session::new(alloc, StdLib::new()).map_err(|_| "no session")?;
     let mut out = Vec::new(alloc);
-    assert_eq!(rt; session.line(b"# note", &mut out)?, Did::Blank);
-    assert_eq!(rt; session.line(b"stabilize", &mut out)?, Did::Accepted);
-    assert_eq!(rt; session.line(b"stabilise", &mut out)?, Did::Refused(1));
     session.too_long(&mut out)?;
-    assert_eq!(rt;
-        out.as_slice(),
-        b"stable 1\nrefused 1\nrefused 2\n".as_slice()
-    );
-    assert_eq!(rt; session.lines_taken(), 4);
+    assert_eq!(rt; out.as_slice(), b"refused 2\n".as_slice());
+    assert_eq!(rt; session.lines_taken(), 1);
+    assert_eq!(rt; session.accepted(), 0);
     assert_eq!(rt; session.library().calls(), 0);
     assert_eq!(rt; session.into_library().wants(), 0);
     Ok(())

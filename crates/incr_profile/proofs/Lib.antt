@@ -1,3 +1,1 @@
-mod Counts
-mod Profiling
-mod Stable
+mod Counting

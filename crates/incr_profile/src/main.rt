@@ -2,7 +2,8 @@
 //! standard output, with how many functions were called behind each accepted stabilize.
 #![tactic(auto)]
 
-mod laws;
+mod calls;
+mod counted;
 mod profile;
 #[cfg(test)]
 mod tests;

@@ -1,15 +1,17 @@
 //! The words of the command line, and what they ask for.
-ghost use Rattle.std.specs.Prelude.{◌≡◌, ◌⊎◌, ◌<◌, ◌≤◌, IfSome, length};
+ghost use Rattle.std.specs.Prelude.{◌≡◌, ◌≢◌, ◌⊎◌, ◌<◌, ◌≤◌, IfSome, IsTrue, length};
+ghost use Rattle.inc_value.specs.declared.function.FnRef.{FnRef};
 ghost use Rattle.script_io.specs.Causes.{Rose};
 ghost use Rattle.script_io.specs.CommandLine.{IsRunWords, TellsUsage, IsTopStatus};
-ghost use Rattle.incr_profile.specs.Counts.{standard};
-ghost use Rattle.incr_profile.specs.Running.{ProfiledTo};
+ghost use Rattle.script_model.specs.Formula.{meanings_of};
+ghost use Rattle.script_run.specs.Running.{RanTo};
+ghost use Rattle.incr_profile.specs.Telling.{calls_told};
 ghost use Rattle.incr_profile.specs.Usage.{usage_line};
 
+use crate::counted::CountedLibrary;
 use crate::profile::profile;
 use script_io::{Sink, Source, Word, is_run, tell_usage};
 use std::alloc::Global;
-use std_library::StdLib;
 
 /// The most bytes that a script may have.
 const LONGEST_SCRIPT: u64 = 1_073_741_824;
@@ -21,16 +23,16 @@ const USAGE: &[u8] = b"usage: incr_profile run\n";
 /// the script of the source, as `profile` does, of at most 1,073,741,824 bytes. For other words the usage
 /// line is written, nothing is read, and the status is 2, or 4 where the sink fails. The answer is the
 /// status, and the library.
-pub fn top<S: Source, K: Sink>(
+pub fn top<S: Source, K: Sink, L: CountedLibrary>(
     alloc: Global,
     words: &Vec<Word>,
     src: &mut S,
     out: &mut K,
-    lib: StdLib,
-) -> (u8, StdLib)
-    ensures run { IsRunWords words.now.items → ProfiledTo standard result.0 1073741824
-        (record { left = S.left src.old; written = K.written out.old; calls = lib.calls })
-        (record { left = S.left src.new; written = K.written out.new; calls = result.1.calls }) }
+    lib: L,
+) -> (u8, L)
+    ensures run { IsRunWords words.now.items → RanTo (meanings_of (L.named lib) (L.value lib)) calls_told result.0 1073741824
+        (record { left = S.left src.old; written = K.written out.old; calls = L.calls lib })
+        (record { left = S.left src.new; written = K.written out.new; calls = L.calls result.1 }) }
     ensures usage { (IsRunWords words.now.items → ⊥) → TellsUsage usage_line result.0 (K.written out.old) (K.written out.new) }
     ensures unread { (IsRunWords words.now.items → ⊥) → src.new ≡ src.old }
     ensures library { (IsRunWords words.now.items → ⊥) → result.1 ≡ lib }
@@ -38,10 +40,15 @@ pub fn top<S: Source, K: Sink>(
     ensures refused_words { result.0 ≡ 2 → IsRunWords words.now.items → ⊥ }
     ensures limit_kept { (result.0 ≡ 0) ⊎ (result.0 ≡ 1) → IfSome (S.left src.old) (λ bytes. length bytes ≤ 1073741824) }
     ensures limit_passed { result.0 ≡ 6 → IfSome (S.left src.old) (λ bytes. 1073741824 < length bytes) }
+    ensures functions { meanings_of (L.named result.1) (L.value result.1) ≡ meanings_of (L.named lib) (L.value lib) }
+    ensures known { (g : FnRef) → IsTrue (L.known lib g) → IsTrue (L.known result.1 g) }
+    ensures calls_grow { L.calls lib ≤ L.calls result.1 }
     ensures source_later { S.faults src.old ≤ S.faults src.new }
-    ensures sink_later { K.faults out.old ≤ K.faults out.new }
     ensures source_fault { result.0 ≡ 3 → Rose (S.faults src.old) (S.faults src.new) }
+    ensures source_unfailed { result.0 ≢ 3 → S.faults src.new ≡ S.faults src.old }
+    ensures sink_later { K.faults out.old ≤ K.faults out.new }
     ensures sink_fault { result.0 ≡ 4 → Rose (K.faults out.old) (K.faults out.new) }
+    ensures sink_unfailed { result.0 ≢ 4 → K.faults out.new ≡ K.faults out.old }
 {
     if is_run(words) {
         return profile(alloc, src, out, lib, LONGEST_SCRIPT);

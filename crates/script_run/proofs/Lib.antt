@@ -1,0 +1,3 @@
+mod Counts
+mod Course
+pub mod Turns

@@ -1,0 +1,5 @@
+use Rattle.script_run.proofs.Counts.{counts_add_up}
+use Rattle.script_run.proofs.laws.counts_add_up.Goals as goal
+
+pub returns : goal.returns
+returns c = counts_add_up

@@ -1,0 +1,25 @@
+use Rattle.std.proofs.Common.{◌≡◌, ◌⊎◌, ◌∙◌, sym, subst, ap}
+use Rattle.script_io.proofs.Endings.{limit-kept, limit-passed, is_read_fault, is_write_fault}
+use Rattle.script_io.specs.Endings.{number_of}
+use Rattle.script_run.proofs.running.run.Goals as goal
+
+pub returns : goal.returns
+returns g c =
+    let ending = c.run_lines-ending.result.0 in
+    let run = c.run_lines-ending.ensures in
+    let status = c.status.ensures in
+    record {
+      ran = record { ending = ending; is_status = status; ran = run.ran };
+      statuses = (ending, status);
+      limit_kept = λ h. limit-kept ending _ _ _ _ run.ran.read (subst (λ n. (n ≡ 0) ⊎ (n ≡ 1)) status h);
+      limit_passed = λ h. limit-passed ending _ _ _ _ run.ran.read (sym status ∙ h);
+      functions = run.functions;
+      known = run.known;
+      calls_grow = run.calls_grow;
+      source_later = run.source_later;
+      source_fault = λ h. run.source_fault (is_read_fault ending (sym status ∙ h));
+      source_unfailed = λ h. run.source_unfailed (λ e. h (status ∙ ap number_of e));
+      sink_later = run.sink_later;
+      sink_fault = λ h. run.sink_fault (is_write_fault ending (sym status ∙ h));
+      sink_unfailed = λ h. run.sink_unfailed (λ e. h (status ∙ ap number_of e));
+    }
