@@ -12,7 +12,9 @@ use Rattle.inc_value.specs.Choice.{and_then}
 use Rattle.script_model.specs.Formula as model
 use Rattle.script_model.specs.Formula.{Formula, Meanings, nothing_kept}
 use Rattle.script_model.specs.Grammar as grammar
-use Rattle.script_model.specs.Grammar.{Line, Literal, Tree, Trees, Integer, Truth, Quoted, Written, Mention, Call, End, More, is_plain, are_plain, is_plain_literal}
+use Rattle.script_model.specs.Grammar.{Line, Tree, Trees, Call, End, More, is_plain, are_plain, is_plain_literal}
+use Rattle.script_model.specs.Literals as literals
+use Rattle.script_model.specs.Literals.{Literal, Integer}
 use Rattle.script_model.specs.Values.{Value, type_of}
 use Rattle.formula_lang.specs.Fits.{NameFits, FunctionFits, FormulaFits, ArgumentsFit, FitsNames}
 use Rattle.formula_lang.specs.NamesView.{AreEarlier}
@@ -42,9 +44,9 @@ typed_value_fits : (names : Names) (literal : Literal) (v : TypedValue) → is_p
     → (type_of v.value ≡ v.ty) × IsBase v.ty
 typed_value_fits names (Integer z) v plain e =
     let whole = some_is _ v e in subst (λ (x : TypedValue). (type_of x.value ≡ x.ty) × IsBase x.ty) whole (refl, tt)
-typed_value_fits names (Truth b) v plain e =
+typed_value_fits names (literals.Bool b) v plain e =
     let whole = some_is _ v e in subst (λ (x : TypedValue). (type_of x.value ≡ x.ty) × IsBase x.ty) whole (refl, tt)
-typed_value_fits names (Quoted content) v plain e =
+typed_value_fits names (literals.Text content) v plain e =
     let whole = some_is _ v e in subst (λ (x : TypedValue). (type_of x.value ≡ x.ty) × IsBase x.ty) whole (refl, tt)
 typed_value_fits names _ v plain e = absurd (cc)
 
@@ -135,9 +137,9 @@ module _ (F : Meanings) (known : FnRef → Bool) (names : Names) (earlier : AreE
 
   mutual
     typed_fits : (tree : Tree) → is_plain tree ≡ true → (t : TypedFormula) → typed F names [] tree ≡ Some t → Fits t
-    typed_fits (Written literal) plain t e = written_fits literal (typed_literal names literal) t
+    typed_fits (grammar.Literal literal) plain t e = written_fits literal (typed_literal names literal) t
         (λ x is. typed_value_fits names literal x plain is) e
-    typed_fits (Mention name) plain t e = mentioned_fits name (find_declared names name) t refl e
+    typed_fits (grammar.Name name) plain t e = mentioned_fits name (find_declared names name) t refl e
     typed_fits (Call function arguments) plain t e =
         call_fits function (F.named function) (typed_each F names [] arguments) t refl (typed_each_fit arguments plain) e
     typed_fits _ plain t e = absurd (cc)

@@ -7,9 +7,12 @@ use Rattle.inc_value.specs.declared.ty.Base.{Base}
 use Rattle.inc_value.specs.declared.ty.Ty.{Ty}
 use Rattle.inc_value.specs.Choice.{and_then}
 use Rattle.script_model.specs.Grammar as grammar
-use Rattle.script_model.specs.Grammar.{Literal, Integer, Truth, Quoted, Referred, Tree, Line, Written, Mention, Call, is_plain, are_plain, is_plain_literal, is_base_type, is_here}
+use Rattle.script_model.specs.Grammar.{Tree, Line, Call, is_plain, are_plain, is_plain_literal, is_base_type, is_here}
+use Rattle.script_model.specs.Literals as literals
+use Rattle.script_model.specs.Literals.{Integer, Referred}
 use Rattle.script_model.specs.Language.{is_name, integer_of}
-use Rattle.script_model.specs.Parsing.{Read, then_read, read, expect, is_word, is_sign, name_front, time_front, base_named, base_front, type_of_base, type_front, literal_front, behind_element, list_front, any_front, step_front, trees_of, if_front, bind_front, join_front, fold_front, steps_front, freeze_front, named_front, word_front, formula_front, formula_read, tally, whole, command_with, command_read}
+use Rattle.script_model.specs.Check.{type_of_base}
+use Rattle.script_model.specs.Parsing.{Read, then_read, read, expect, is_word, is_sign, name_front, time_front, base_named, base_front, type_front, literal_front, behind_element, list_front, any_front, step_front, trees_of, if_front, bind_front, join_front, fold_front, steps_front, freeze_front, named_front, word_front, formula_front, formula_read, tally, whole, command_with, command_read}
 use Rattle.script_model.specs.Tokens as token
 use Rattle.script_model.specs.Tokens.{Token, Word, Number, Text, Punctuation, Open, Close, OpenBracket, CloseBracket, Comma, Colon, Equals, Ampersand}
 use Rattle.formula_lang.specs.Plain.{where_here, name_in, plain_literal, plain_type, behind_first, plain_front, plain_read, alone, plain_with, plain_command}
@@ -170,27 +173,27 @@ call_same w (Some (arguments, left)) = go (plain_each arguments)
     go false = refl
 
 truth_same : (a b : Bool) (rest : List Token)
-    → only is_plain (then_read (cond a (read (Truth true) rest) (cond b (read (Truth false) rest) None))
-    (λ literal rest. read (Written literal) rest))
-    ≡ and_then (cond a (Some (Truth true)) (cond b (Some (Truth false)) None)) (λ l. read (Written l) rest)
+    → only is_plain (then_read (cond a (read (literals.Bool true) rest) (cond b (read (literals.Bool false) rest) None))
+    (λ literal rest. read (grammar.Literal literal) rest))
+    ≡ and_then (cond a (Some (literals.Bool true)) (cond b (Some (literals.Bool false)) None)) (λ l. read (grammar.Literal l) rest)
 truth_same true b rest = refl
 truth_same false true rest = refl
 truth_same false false rest = refl
 
 integer_same : (z : Option ℤ) (rest : List Token)
-    → only is_plain (then_read (and_then z (λ z. read (Integer z) rest)) (λ literal rest. read (Written literal) rest)) ≡ and_then
-    (and_then z (λ z. Some (Integer z))) (λ l. read (Written l) rest)
+    → only is_plain (then_read (and_then z (λ z. read (Integer z) rest)) (λ literal rest. read (grammar.Literal literal) rest)) ≡ and_then
+    (and_then z (λ z. Some (Integer z))) (λ l. read (grammar.Literal l) rest)
 integer_same None rest = refl
 integer_same (Some z) rest = refl
 
 text_same : (b : Bool) (content : List ℕ) (rest : List Token)
-    → only is_plain (then_read (cond b (read (Quoted content) rest) None) (λ literal rest. read (Written literal) rest)) ≡ and_then
-    (cond b (Some (Quoted content)) None) (λ l. read (Written l) rest)
+    → only is_plain (then_read (cond b (read (literals.Text content) rest) None) (λ literal rest. read (grammar.Literal literal) rest)) ≡ and_then
+    (cond b (Some (literals.Text content)) None) (λ l. read (grammar.Literal l) rest)
 text_same true content rest = refl
 text_same false content rest = refl
 
 referred_none : (o : Read (List ℕ)) → only is_plain
-    (then_read (then_read o (λ name left. read (Referred name) left)) (λ literal rest. read (Written literal) rest)) ≡ None
+    (then_read (then_read o (λ name left. read (Referred name) left)) (λ literal rest. read (grammar.Literal literal) rest)) ≡ None
 referred_none None = refl
 referred_none (Some p) = refl
 
@@ -243,8 +246,8 @@ abbrev LiteralSame : List Token → Type 0
 LiteralSame tokens = only is_plain_literal (literal_front tokens) ≡ plain_literal tokens
 
 word_literal : (a b : Bool) (rest : List Token)
-    → only is_plain_literal (cond a (read (Truth true) rest) (cond b (read (Truth false) rest) None)) ≡ and_then
-    (cond a (Some (Truth true)) (cond b (Some (Truth false)) None)) (λ l. read l rest)
+    → only is_plain_literal (cond a (read (literals.Bool true) rest) (cond b (read (literals.Bool false) rest) None)) ≡ and_then
+    (cond a (Some (literals.Bool true)) (cond b (Some (literals.Bool false)) None)) (λ l. read l rest)
 word_literal true b rest = refl
 word_literal false true rest = refl
 word_literal false false rest = refl
@@ -255,7 +258,7 @@ integer_literal None rest = refl
 integer_literal (Some z) rest = refl
 
 text_literal : (b : Bool) (content : List ℕ) (rest : List Token)
-    → only is_plain_literal (cond b (read (Quoted content) rest) None) ≡ and_then (cond b (Some (Quoted content)) None) (λ l. read l rest)
+    → only is_plain_literal (cond b (read (literals.Text content) rest) None) ≡ and_then (cond b (Some (literals.Text content)) None) (λ l. read l rest)
 text_literal true content rest = refl
 text_literal false content rest = refl
 

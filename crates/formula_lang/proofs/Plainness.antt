@@ -4,7 +4,10 @@ use Rattle.std.specs.List.{list_any}
 use Rattle.script_model.specs.Check.{Names, NotWhole, NotBind, NotExpert, TimeTooLarge, TimesNotRising, SpanIsZero, BackInTime, has_falling_times, is_against, is_empty_interval, is_top_form, own_literals, own_times, read_names, mentioned, referred_names, spans_of, trees_in, trees_in_all, typed, typed_top, body_as}
 use Rattle.inc_value.specs.Choice.{Every, and_then}
 use Rattle.script_model.specs.Formula.{Computed, Meanings, nothing_kept}
-use Rattle.script_model.specs.Grammar.{Line, Literal, Tree, Trees, Integer, Truth, Quoted, Written, Mention, Call, End, More, Var, Set, Let, Observe, Show, Stabilize, is_plain, are_plain, is_plain_literal}
+use Rattle.script_model.specs.Grammar as grammar
+use Rattle.script_model.specs.Grammar.{Line, Tree, Trees, Call, End, More, Var, Set, Let, Observe, Show, Stabilize, is_plain, are_plain, is_plain_literal}
+use Rattle.script_model.specs.Literals as literals
+use Rattle.script_model.specs.Literals.{Literal, Integer}
 use Rattle.script_model.specs.Parsing.{trees_of}
 use Rattle.formula_lang.specs.TreeView.{level_view, line_view, tree_view}
 use Rattle.formula_lang.specs.View.{literal_view}
@@ -63,8 +66,8 @@ line_plain (line.Show observer) = refl
 
 -- a literal that refers to no name, a name, a function
 abbrev is_plain_head : Tree → Bool
-is_plain_head (Written l) = is_plain_literal l
-is_plain_head (Mention name) = true
+is_plain_head (grammar.Literal l) = is_plain_literal l
+is_plain_head (grammar.Name name) = true
 is_plain_head (Call function arguments) = true
 is_plain_head tree = false
 
@@ -82,8 +85,8 @@ both_true false b is = absurd (cc)
 
 mutual
   heads : (t : Tree) → is_plain t ≡ true → ArePlain (trees_in t)
-  heads (Written l) h = (h, tt)
-  heads (Mention name) h = (refl, tt)
+  heads (grammar.Literal l) h = (h, tt)
+  heads (grammar.Name name) h = (refl, tt)
   heads (Call function arguments) h = (refl, heads_all arguments h)
   heads _ h = absurd (cc)
 
@@ -109,32 +112,32 @@ nothing part h [] plain = refl
 nothing part h (t ∷ ts) plain = rw (h t plain.0, nothing part h ts plain.1) refl
 
 no_top : (t : Tree) → is_plain_head t ≡ true → is_top_form t ≡ false
-no_top (Written l) h = refl
-no_top (Mention name) h = refl
+no_top (grammar.Literal l) h = refl
+no_top (grammar.Name name) h = refl
 no_top (Call function arguments) h = refl
 no_top _ h = absurd (cc)
 
 no_times : (t : Tree) → is_plain_head t ≡ true → own_times t ≡ []
-no_times (Written l) h = refl
-no_times (Mention name) h = refl
+no_times (grammar.Literal l) h = refl
+no_times (grammar.Name name) h = refl
 no_times (Call function arguments) h = refl
 no_times _ h = absurd (cc)
 
 no_falling : (t : Tree) → is_plain_head t ≡ true → has_falling_times t ≡ false
-no_falling (Written l) h = refl
-no_falling (Mention name) h = refl
+no_falling (grammar.Literal l) h = refl
+no_falling (grammar.Name name) h = refl
 no_falling (Call function arguments) h = refl
 no_falling _ h = absurd (cc)
 
 no_interval : (t : Tree) → is_plain_head t ≡ true → is_empty_interval t ≡ false
-no_interval (Written l) h = refl
-no_interval (Mention name) h = refl
+no_interval (grammar.Literal l) h = refl
+no_interval (grammar.Name name) h = refl
 no_interval (Call function arguments) h = refl
 no_interval _ h = absurd (cc)
 
 no_span : (name : List ℕ) (t : Tree) → is_plain t ≡ true → spans_of (Let name t) ≡ []
-no_span name (Written l) h = refl
-no_span name (Mention n) h = refl
+no_span name (grammar.Literal l) h = refl
+no_span name (grammar.Name n) h = refl
 no_span name (Call function arguments) h = refl
 no_span name _ h = absurd (cc)
 
@@ -142,14 +145,14 @@ no_span name _ h = absurd (cc)
 
 unreferred : (l : Literal) → is_plain_literal l ≡ true → referred_names l ≡ []
 unreferred (Integer z) h = refl
-unreferred (Truth b) h = refl
-unreferred (Quoted content) h = refl
+unreferred (literals.Bool b) h = refl
+unreferred (literals.Text content) h = refl
 unreferred _ h = absurd (cc)
 
 nothing_referred : (ts : List Tree) → ArePlain ts → flat_map referred_names (flat_map own_literals ts) ≡ []
 nothing_referred [] plain = refl
-nothing_referred (Written l ∷ ts) plain = rw (unreferred l plain.0, nothing_referred ts plain.1) refl
-nothing_referred (Mention name ∷ ts) plain = nothing_referred ts plain.1
+nothing_referred (grammar.Literal l ∷ ts) plain = rw (unreferred l plain.0, nothing_referred ts plain.1) refl
+nothing_referred (grammar.Name name ∷ ts) plain = nothing_referred ts plain.1
 nothing_referred (Call function arguments ∷ ts) plain = nothing_referred ts plain.1
 nothing_referred (_ ∷ ts) plain = absurd (let h = plain.0 in cc)
 
@@ -164,8 +167,8 @@ reads_mentioned name t h = ap (λ ns. mentioned [] t ++ ns) (nothing_referred (t
 -- at the top of a `let` such a formula is one like others
 pub plain_top : (F : Meanings) (names : Names) (t : Tree) → is_plain t ≡ true
     → typed_top F names t ≡ and_then (typed F names [] t) (λ x. body_as (Computed x.formula nothing_kept) x.ty)
-plain_top F names (Written l) h = refl
-plain_top F names (Mention name) h = refl
+plain_top F names (grammar.Literal l) h = refl
+plain_top F names (grammar.Name name) h = refl
 plain_top F names (Call function arguments) h = refl
 plain_top F names _ h = absurd (cc)
 

@@ -4,9 +4,13 @@ use Rattle.std.specs.Str.{bytes_eq}
 use Rattle.inc_value.specs.declared.ty.Base.{Base}
 use Rattle.inc_value.specs.declared.ty.Ty.{Ty}
 use Rattle.inc_value.specs.Choice.{and_then}
-use Rattle.script_model.specs.Grammar.{Literal, Integer, Truth, Quoted, Tree, Written, Line, Var, Set, Let, Observe, Show, Stabilize, is_here}
+use Rattle.script_model.specs.Grammar as grammar
+use Rattle.script_model.specs.Grammar.{Tree, Line, Var, Set, Let, Observe, Show, Stabilize, is_here}
+use Rattle.script_model.specs.Literals as literals
+use Rattle.script_model.specs.Literals.{Literal, Integer}
 use Rattle.script_model.specs.Language.{is_name, integer_of}
-use Rattle.script_model.specs.Parsing.{Read, read, base_named, name_front, named_front, one_name, tally, two_names, type_of_base, whole}
+use Rattle.script_model.specs.Check.{type_of_base}
+use Rattle.script_model.specs.Parsing.{Read, read, base_named, name_front, named_front, one_name, tally, two_names, whole}
 use Rattle.script_model.specs.Tokens.{Token, Word, Number, Text, Punctuation, Open}
 
 -- a line, where it is of today's forms
@@ -33,13 +37,13 @@ base_in token = None
 
 -- the literal that a word is
 abbrev pub truth_in : List ℕ → Option Literal
-truth_in w = if bytes_eq w (codes "true") then Some (Truth true) else (if bytes_eq w (codes "false") then Some (Truth false) else None)
+truth_in w = if bytes_eq w (codes "true") then Some (literals.Bool true) else (if bytes_eq w (codes "false") then Some (literals.Bool false) else None)
 
 -- the literal that a token is
 abbrev pub literal_in : Token → Option Literal
 literal_in (Word w) = truth_in w
 literal_in (Number negative digits) = and_then (integer_of negative digits) (λ z. Some (Integer z))
-literal_in (Text content) = if nat_le (length content) 4096 then Some (Quoted content) else None
+literal_in (Text content) = if nat_le (length content) 4096 then Some (literals.Text content) else None
 literal_in token = None
 
 -- ---- what stands at the front
@@ -62,7 +66,7 @@ behind_open tokens = None
 -- a formula, behind its first token: a name or a function where that is a name, else a literal
 abbrev pub behind_first : (List Token → Read Tree) → Token → List Token → Option (List ℕ) → Read Tree
 behind_first part t rest (Some w) = named_front part w rest
-behind_first part t rest None = and_then (literal_in t) (λ l. read (Written l) rest)
+behind_first part t rest None = and_then (literal_in t) (λ l. read (grammar.Literal l) rest)
 
 abbrev pub plain_front : (List Token → Read Tree) → List Token → Read Tree
 plain_front part [] = None

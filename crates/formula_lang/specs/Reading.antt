@@ -2,7 +2,7 @@
 use Rattle.std.specs.Prelude.{ℕ, List, map}
 use Rattle.std.specs.Borrow.{Bor}
 use Rattle.inc_value.specs.declared.ty.Ty.{Ty}
-use Rattle.script_model.specs.Grammar as grammar
+use Rattle.script_model.specs.Literals as literals
 use Rattle.script_model.specs.Tokens as tokens
 use Rattle.formula_lang.specs.declared.token.Token.{Token}
 use Rattle.formula_lang.specs.declared.tree.Literal.{Literal}
@@ -21,7 +21,7 @@ abbrev pub type_view : Ty × Bor (List Token) → Ty × List tokens.Token
 type_view found = (found.0, map token_view found.1.now)
 
 -- a literal, and the tokens that are left behind it
-abbrev pub literal_front_view : Literal × Bor (List Token) → grammar.Literal × List tokens.Token
+abbrev pub literal_front_view : Literal × Bor (List Token) → literals.Literal × List tokens.Token
 literal_front_view found = (literal_view found.0, map token_view found.1.now)
 
 -- the content of a text, and the bytes that are left behind its closing quote

@@ -11,8 +11,8 @@ use Rattle.formula_lang.specs.declared.tree.Tree.TheOpen.{Tree-F}
 
 -- one level of a tree, with the views of its parts in their places
 abbrev pub level_view : Tree-F grammar.Tree → grammar.Tree
-level_view (level.Literal literal) = grammar.Written (literal_view literal)
-level_view (level.Name name) = grammar.Mention name
+level_view (level.Literal literal) = grammar.Literal (literal_view literal)
+level_view (level.Name name) = grammar.Name name
 level_view (level.Call function arguments) = grammar.Call function (trees_of arguments.items)
 
 -- a tree, with its bytes

@@ -1,5 +1,5 @@
 -- Tokens and trees as the model of scripts sees them.
-use Rattle.script_model.specs.Grammar as grammar
+use Rattle.script_model.specs.Literals as literals
 use Rattle.script_model.specs.Tokens as tokens
 use Rattle.formula_lang.specs.declared.token.Sign.TheVariants as sign
 use Rattle.formula_lang.specs.declared.token.Sign.{Sign}
@@ -35,7 +35,7 @@ token_view (token.Text content) = tokens.Text content
 token_view token.AdvanceTo = tokens.AdvanceTo
 token_view (token.Punctuation s) = tokens.Punctuation (sign_view s)
 
-abbrev pub literal_view : Literal → grammar.Literal
-literal_view (literal.Integer z) = grammar.Integer z
-literal_view (literal.Bool b) = grammar.Truth b
-literal_view (literal.Text content) = grammar.Quoted content
+abbrev pub literal_view : Literal → literals.Literal
+literal_view (literal.Integer z) = literals.Integer z
+literal_view (literal.Bool b) = literals.Bool b
+literal_view (literal.Text content) = literals.Text content

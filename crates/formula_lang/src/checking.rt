@@ -181,6 +181,3 @@ fn showing(alloc: Global, observer: &Name) -> Result<Option<Command>, AllocError
         observer: Name::new(alloc, observer.bytes())?,
     }))
 }
-
-#[cfg(test)]
-mod tests;

@@ -63,6 +63,3 @@ pub fn parse(alloc: Global, text: &[u8]) -> Result<Line, ParseFault>
         None => Err(ParseFault::Form),
     }
 }
-
-#[cfg(test)]
-mod tests;

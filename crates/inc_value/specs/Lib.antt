@@ -1,4 +1,5 @@
 pub mod Choice
+pub mod Counts
 pub mod Outcome
 pub mod Sig
 pub mod SigBack

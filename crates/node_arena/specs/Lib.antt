@@ -1,3 +1,7 @@
+pub mod Arena
 pub mod Arithmetic
 pub mod ArithmeticLaws
-pub mod Counts
+pub mod Graph
+pub mod Meanings
+pub mod Sound
+pub mod Typing

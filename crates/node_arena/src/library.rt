@@ -6,14 +6,14 @@ use std::alloc::{AllocError, Global};
 /// Functions by name, over values of base types. Each has a value for all values of the types that
 /// it takes, and the value is the same at each call.
 pub trait Library: Drop {
-    ghost use Rattle.std.specs.Prelude.{◌≡◌, ◌≤◌, ℕ, Bool, List, Option, All, IfOk, IsTrue, Some};
+    ghost use Rattle.std.specs.Prelude.{◌≡◌, ◌≤◌, ℕ, Bool, List, Option, IfOk, IsTrue, Some};
     ghost use Rattle.inc_value.specs.Sig.{IsMapSig};
-    ghost use Rattle.inc_value.specs.Ty.{IsBase};
     ghost use Rattle.inc_value.specs.Value.{type_of, HaveTypes, IsProper};
     ghost use Rattle.inc_value.specs.declared.function.FnRef.{FnRef};
     ghost use Rattle.inc_value.specs.declared.function.FnKind.TheVariants.{Map};
     ghost use Rattle.inc_value.specs.declared.value.Value.{Value};
-    ghost use Rattle.node_arena.specs.Counts.{raised, raised_on_err};
+    ghost use Rattle.inc_value.specs.Counts.{raised, raised_on_err};
+    ghost use Rattle.node_arena.specs.Meanings.{KeepsKnown, SameValues, HaveMapSigs, GiveTypes, GiveProper, GiveNoReference};
 
     // the function that a name stands for
     ghost named: { Self → List ℕ → Option FnRef };
@@ -53,28 +53,25 @@ pub trait Library: Drop {
         ensures wants { wants self.new ≡ raised_on_err result (wants self.old) }
 
         ensures same_names { (name : List ℕ) → named self.new name ≡ named self.old name }
-        ensures keeps_known { (g : FnRef) → IsTrue (known self.old g) → IsTrue (known self.new g) }
-        ensures same_values { (g : FnRef) (xs : List Value) → value self.new g xs ≡ value self.old g xs };
+        ensures keeps_known { KeepsKnown (known self.old) (known self.new) }
+        ensures same_values { SameValues (value self.old) (value self.new) };
 
     // a name stands for a map of the library
     ghost names_maps: { (l : Self) (name : List ℕ) (f : FnRef) → named l name ≡ Some f
         → IsTrue (known l f) × (f.id.kind ≡ Map) × IsMapSig f.sig };
 
     // a map of the library has the types of a map
-    ghost known_maps: { (l : Self) (f : FnRef) → IsTrue (known l f) → f.id.kind ≡ Map → IsMapSig f.sig };
+    ghost known_maps: { (l : Self) → HaveMapSigs (known l) };
 
     // of values of the types that it takes, a map gives a value of the type that it says
-    ghost typed: { (l : Self) (f : FnRef) (args : List Value) → IsTrue (known l f) → f.id.kind ≡ Map
-        → All IsProper args → HaveTypes args f.sig.takes → type_of (value l f args) ≡ f.sig.gives };
+    ghost typed: { (l : Self) → GiveTypes (known l) (value l) };
 
     // of values of the types that it takes, a map gives a value that a program can hold
-    ghost proper: { (l : Self) (f : FnRef) (args : List Value) → IsTrue (known l f) → f.id.kind ≡ Map
-        → All IsProper args → HaveTypes args f.sig.takes → IsProper (value l f args) };
+    ghost proper: { (l : Self) → GiveProper (known l) (value l) };
 
     // whatever its arguments, a map gives no reference to a node
-    ghost no_reference: { (l : Self) (f : FnRef) (args : List Value) → IsTrue (known l f) → f.id.kind ≡ Map
-        → IsBase (type_of (value l f args)) };
+    ghost no_reference: { (l : Self) → GiveNoReference (known l) (value l) };
 }
 
 #[cfg(test)]
-mod tests;
+pub(crate) mod tests;

@@ -1,9 +1,6 @@
 -- Counts of faults: a call answers an error exactly where its count rose.
-use Rattle.std.specs.Prelude.{◌≡◌, ℕ, ◌+◌, ◌-◌, ◌^◌, ◌≤◌, min, Result, OnOk, OnErr}
-
--- one more, up to the last value of a count
-abbrev pub raised : ℕ → ℕ
-raised count = min (count + 1) (2 ^ 64 - 1)
+use Rattle.std.specs.Prelude.{◌≡◌, ℕ, ◌≤◌, Result, OnOk, OnErr}
+use Rattle.inc_value.specs.Counts.{raised}
 
 -- the count rose; at its last value it counts as risen
 abbrev pub Rose : ℕ → ℕ → Type 0

@@ -3,7 +3,8 @@ ghost use Rattle.std.specs.Prelude.{◌≡◌, ◌⊎◌, ◌↔◌, ℕ, ◌+�
 ghost use Rattle.std.specs.List.{Contains};
 ghost use Rattle.std.specs.Io.{ReadsAtMost, WritesAtMost};
 ghost use Rattle.std.specs.Io.KnownBytes.{ReadConsumes, WriteAppends};
-ghost use Rattle.script_io.specs.Causes.{HasCause, raised};
+ghost use Rattle.inc_value.specs.Counts.{raised};
+ghost use Rattle.script_io.specs.Causes.{HasCause};
 ghost use Rattle.script_io.specs.Memory.{SourceState, SinkState};
 
 use crate::{Failed, Sink, Source};

@@ -11,6 +11,7 @@ use Rattle.script_model.specs.Formula.{Entry, State, Meanings, Formula, start, N
 use Rattle.script_model.specs.Evaluate.{value_at, Gives, chosen}
 use Rattle.script_model.specs.Grammar as grammar
 use Rattle.script_model.specs.Grammar.{Line, IsLine}
+use Rattle.script_model.specs.Literals as literals
 use Rattle.script_model.specs.Need.{Item, Named, Place, Argument, Left, Inside, Needed, Reads, Met, from_root, Visit, visit_of, IsVisit, IsDue, WithinWork, ItemGives, StillStands, visits_at, from_held, reads_at, rounds}
 use Rattle.script_model.specs.Depth.{Point, Main, Change, Depends, points_at, stands_at}
 use Rattle.script_model.specs.Parsing.{formula_read, list_front}
@@ -85,21 +86,21 @@ moment before now = record { settled = before; present = now; broken = None }
 -- ---- what the lines ask for
 
 abbrev x_line : Line
-x_line = grammar.Var (codes "x") ty.Int (grammar.Integer (pos 1))
+x_line = grammar.Var (codes "x") ty.Int (literals.Integer (pos 1))
 
 abbrev z_line : Line
-z_line = grammar.Var (codes "z") ty.Int (grammar.Integer (pos 10))
+z_line = grammar.Var (codes "z") ty.Int (literals.Integer (pos 10))
 
 abbrev b_line : Line
 b_line =
-    grammar.Let (codes "b") (grammar.Bind (codes "v") (grammar.Mention (codes "x"))
-    (grammar.Call (codes "add") (grammar.More (grammar.Mention (codes "z")) (grammar.More (grammar.Mention (codes "v")) grammar.End))))
+    grammar.Let (codes "b") (grammar.Bind (codes "v") (grammar.Name (codes "x"))
+    (grammar.Call (codes "add") (grammar.More (grammar.Name (codes "z")) (grammar.More (grammar.Name (codes "v")) grammar.End))))
 
 abbrev o_line : Line
 o_line = grammar.Observe (codes "o") (codes "b")
 
 abbrev set_line : Line
-set_line = grammar.Set (codes "x") (grammar.Integer (pos 2))
+set_line = grammar.Set (codes "x") (literals.Integer (pos 2))
 
 abbrev show_line : Line
 show_line = grammar.Show (codes "o")

@@ -10,6 +10,7 @@ use Rattle.script_model.specs.Formula.{Entry, State, Meanings, start, Name, Join
 use Rattle.script_model.specs.Evaluate.{value_at}
 use Rattle.script_model.specs.Grammar as grammar
 use Rattle.script_model.specs.Grammar.{Line, IsLine}
+use Rattle.script_model.specs.Literals as literals
 use Rattle.script_model.specs.Need.{Named, Needed, from_root}
 use Rattle.script_model.specs.Blocked.{at_once, through, NameReads}
 use Rattle.script_model.specs.Parsing.{formula_read, list_front}
@@ -53,19 +54,19 @@ unsettled s = record { settled = start; present = s; broken = None }
 -- ---- what the lines ask for
 
 abbrev x_line : Line
-x_line = grammar.Var (codes "x") ty.Int (grammar.Integer (pos 1))
+x_line = grammar.Var (codes "x") ty.Int (literals.Integer (pos 1))
 
 abbrev h_line : Line
-h_line = grammar.Var (codes "h") (ty.Node base.Int) (grammar.Referred (codes "x"))
+h_line = grammar.Var (codes "h") (ty.Node base.Int) (literals.Referred (codes "x"))
 
 abbrev j_line : Line
-j_line = grammar.Let (codes "j") (grammar.Join (grammar.Mention (codes "h")))
+j_line = grammar.Let (codes "j") (grammar.Join (grammar.Name (codes "h")))
 
 abbrev o_line : Line
 o_line = grammar.Observe (codes "o") (codes "j")
 
 abbrev set_line : Line
-set_line = grammar.Set (codes "h") (grammar.Referred (codes "j"))
+set_line = grammar.Set (codes "h") (literals.Referred (codes "j"))
 
 j_written : IsLine (codes "let j join(h)") j_line
 unfolding formula_read list_front

@@ -8,6 +8,7 @@ use Rattle.script_model.specs.Need.{Item, Named, Place, Reads, Needed, roots}
 use Rattle.script_model.specs.Depth.{Point, Depends, IsWalk, points_of, node_of, TooDeep}
 use Rattle.script_model.specs.Blocked.{ReadsName, at_once, through, NameReads, OnCycle, InTheWay, on_cycle, too_deep}
 use Rattle.script_model.proofs.Evaluation.{one_outcome}
+use Rattle.script_model.proofs.Reaching.{reaches_join}
 
 -- each element leads to later ones alone
 abbrev pub Falls : {A : Type 0} → (A → A → Type 0) → List A → Type 0
@@ -48,10 +49,6 @@ walk_is_short F s (q ∷ qs) (r ∷ rest) p falls (inr later) walk = let short =
 
 -- ---- nothing is blocked
 
-and_on : {A : Type 0} (R : A → A → Type 0) (a b c : A) → Reaches R a b → Reaches R b c → Reaches R a c
-and_on R a b c here more = more
-and_on R a b c (step {b = x} r on) more = step r (and_on R x b c on more)
-
 -- a name that is read is reached, by a read and what follows
 record First-read (F : Meanings) (s : State) (i : Item) (y : ℕ) : Type 0 where
   first : Item
@@ -65,7 +62,7 @@ first_read F s y i (through owner path r more) =
 
 names_reach : (F : Meanings) (s : State) (x y : ℕ) → Reaches (NameReads F s) x y → Reaches (Reads F s) (Named x) (Named y)
 names_reach F s x y here = here
-names_reach F s x y (step {b = z} r on) = let f = first_read F s z (Named x) r in step f.read (and_on (Reads F s) f.first (Named z) (Named y) f.on (names_reach F s z y on))
+names_reach F s x y (step {b = z} r on) = let f = first_read F s z (Named x) r in step f.read (reaches_join (Reads F s) f.first (Named z) (Named y) f.on (names_reach F s z y on))
 
 -- every root stands on the list
 pub needed_among : (F : Meanings) (s : State) (items : List Item) (i : Item) → Falls (Reads F s) items → AllAmong (roots s) items → Needed F s i → Among i items
@@ -86,7 +83,7 @@ pub nothing_on_cycle : (F : Meanings) (s : State) (items : List Item) → Falls 
 nothing_on_cycle F s items falls all n needed cycle =
     let is = needed_among F s items (Named n) falls all needed in
     let f = first_read F s cycle.0 (Named n) cycle.1 in
-    leads_to_none (Reads F s) items (Named n) f.first falls is f.read (and_on (Reads F s) f.first (Named cycle.0) (Named n) f.on (names_reach F s cycle.0 n cycle.2))
+    leads_to_none (Reads F s) items (Named n) f.first falls is f.read (reaches_join (Reads F s) f.first (Named cycle.0) (Named n) f.on (names_reach F s cycle.0 n cycle.2))
 
 -- where dependencies lead only on and there are at most 129 points, nothing that is needed is too deep
 pub nothing_too_deep : (F : Meanings) (s : State) (items : List Item) (points : List Point) → Falls (Reads F s) items → AllAmong (roots s) items → Falls (Depends F s) points

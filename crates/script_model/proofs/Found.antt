@@ -9,9 +9,12 @@ use Rattle.inc_value.specs.declared.ty.Ty.TheVariants as ty
 use Rattle.inc_value.specs.declared.ty.Ty.{Ty}
 use Rattle.inc_value.specs.Choice.{and_then}
 use Rattle.script_model.specs.Grammar as grammar
-use Rattle.script_model.specs.Grammar.{Literal, Integer, Truth, Quoted, Referred, Tree, Trees, TimedLiteral, Line, IsName, base_word, WritesTime, WritesType, WritesLiteral, WritesSteps, WritesAnySteps, Writes, WritesEach, WritesAny, WritesLine, count_of, time_of, unit_scale}
+use Rattle.script_model.specs.Grammar.{Tree, Trees, TimedLiteral, Line, IsName, base_word, WritesTime, WritesType, WritesLiteral, WritesSteps, WritesAnySteps, Writes, WritesEach, WritesAny, WritesLine, count_of, time_of, unit_scale}
+use Rattle.script_model.specs.Literals as literals
+use Rattle.script_model.specs.Literals.{Literal, Integer, Referred}
 use Rattle.script_model.specs.Language.{is_name, integer_of, number_from}
-use Rattle.script_model.specs.Parsing.{Read, then_read, read, expect, is_word, is_sign, name_front, time_front, base_named, base_front, type_of_base, type_front, literal_front, behind_element, list_front, tally, or_read, any_front, step_front, trees_of, named_front, written_front, word_front, formula_front, formula_read, if_front, bind_front, join_front, fold_front, steps_front, freeze_front, whole, one_name, two_names, var_read, expert_read, command_with, command_read}
+use Rattle.script_model.specs.Check.{type_of_base}
+use Rattle.script_model.specs.Parsing.{Read, then_read, read, expect, is_word, is_sign, name_front, time_front, base_named, base_front, type_front, literal_front, behind_element, list_front, tally, or_read, any_front, step_front, trees_of, named_front, written_front, word_front, formula_front, formula_read, if_front, bind_front, join_front, fold_front, steps_front, freeze_front, whole, one_name, two_names, var_read, expert_read, command_with, command_read}
 use Rattle.script_model.specs.Reading.{sign_of}
 use Rattle.script_model.specs.Tokens as token
 use Rattle.script_model.specs.Tokens.{Token, Sign, Word, Number, Text, Punctuation, Open, Close, OpenBracket, CloseBracket, Comma, Colon, Equals, Ampersand, sign_byte}
@@ -166,12 +169,12 @@ type_found tokens y e = absurd (cc)
 
 literal_found : Finds WritesLiteral literal_front
 literal_found (Word w ∷ rest) y e =
-    by_test (bytes_eq w (codes "true")) (read (Truth true) rest) y (Begins WritesLiteral (Word w ∷ rest) y)
-    (λ is e. by_some (λ (z : Literal × List Token). Begins WritesLiteral (Word w ∷ rest) z) (Truth true, rest) y e
+    by_test (bytes_eq w (codes "true")) (read (literals.Bool true) rest) y (Begins WritesLiteral (Word w ∷ rest) y)
+    (λ is e. by_some (λ (z : Literal × List Token). Begins WritesLiteral (Word w ∷ rest) z) (literals.Bool true, rest) y e
     (Word w ∷ [], refl, ap (λ v. Word v ∷ []) ((bytes_eq-Decides w (codes "true")).0 is)))
     (λ e.
-    let last = where_true (bytes_eq w (codes "false")) (read (Truth false) rest) y e in
-    by_some (λ (z : Literal × List Token). Begins WritesLiteral (Word w ∷ rest) z) (Truth false, rest) y last.1
+    let last = where_true (bytes_eq w (codes "false")) (read (literals.Bool false) rest) y e in
+    by_some (λ (z : Literal × List Token). Begins WritesLiteral (Word w ∷ rest) z) (literals.Bool false, rest) y last.1
     (Word w ∷ [], refl, ap (λ v. Word v ∷ []) ((bytes_eq-Decides w (codes "false")).0 last.0)))
     e
 literal_found (Number negative digits ∷ rest) y e =
@@ -179,8 +182,8 @@ literal_found (Number negative digits ∷ rest) y e =
     by_some (λ (z : Literal × List Token). Begins WritesLiteral (Number negative digits ∷ rest) z) (Integer found.0, rest) y found.2
     (Number negative digits ∷ [], refl, (negative, digits, refl, found.1))
 literal_found (Text content ∷ rest) y e =
-    let tested = where_true (nat_le (length content) 4096) (read (Quoted content) rest) y e in
-    by_some (λ (z : Literal × List Token). Begins WritesLiteral (Text content ∷ rest) z) (Quoted content, rest) y tested.1
+    let tested = where_true (nat_le (length content) 4096) (read (literals.Text content) rest) y e in
+    by_some (λ (z : Literal × List Token). Begins WritesLiteral (Text content ∷ rest) z) (literals.Text content, rest) y tested.1
     (Text content ∷ [], refl, (refl, leb-true (length content) 4096 tested.0))
 literal_found (Punctuation Ampersand ∷ rest) y e =
     let found = then_read-found _ (name_front rest) y e in
@@ -452,7 +455,7 @@ module _ (part : List Token → Read Tree) (finds : Finds Writes part) where
         ap (λ l. Word w ∷ Punctuation Open ∷ l) (joined h.1 (Punctuation Close ∷ arguments.0.1) (Punctuation Close ∷ []) arguments.0.1 h.3 refl),
         (h.1, refl, name, arguments_few arguments.0.0 h.0 h.2 h.4, arguments_are arguments.0.0 h.0 h.1 h.2 h.5),
       )
-  named_found w rest y name e = by_some (λ (z : Tree × List Token). Behind w rest z) (grammar.Mention w, rest) y e (Word w ∷ [], refl, (refl, name))
+  named_found w rest y name e = by_some (λ (z : Tree × List Token). Behind w rest z) (grammar.Name w, rest) y e (Word w ∷ [], refl, (refl, name))
 
   -- a word with a time behind it
   timed_found : (w : List ℕ) (make : grammar.Time → Tree)
@@ -485,7 +488,7 @@ module _ (part : List Token → Read Tree) (finds : Finds Writes part) where
   written_found tokens y e =
       let found = then_read-found _ (literal_front tokens) y e in
       let literal = literal_found tokens found.0 found.1 in
-      by_some (λ (z : Tree × List Token). Begins Writes tokens z) (grammar.Written found.0.0, found.0.1) y found.2 (literal.0, literal.1, literal.2)
+      by_some (λ (z : Tree × List Token). Begins Writes tokens z) (grammar.Literal found.0.0, found.0.1) y found.2 (literal.0, literal.1, literal.2)
 
   -- behind the word v, or behind another word w
   at_word : {o p : Read Tree} (w v : List ℕ) (rest : List Token) (y : Tree × List Token) → (o ≡ Some y → Behind v rest y) →

@@ -23,6 +23,7 @@ pub mod Work
 pub mod Found
 pub mod Asked
 pub mod SumRow
+pub mod Reaching
 pub mod Runs
 pub mod SumBound
 pub mod BindRow

@@ -18,6 +18,7 @@ use Rattle.script_model.specs.Valid.{BoundsFit, HasType, GrabFits, BodyHasType, 
 use Rattle.script_model.proofs.Evaluation.{GathersUnder, gathered_under, each_under, links_under, value_more, every_depth_agrees}
 use Rattle.script_model.proofs.NeededStands.{among_left, bind_stands, needed_there}
 use Rattle.script_model.proofs.Places.{same_values, needed_stands}
+use Rattle.script_model.proofs.Reaching.{reaches_join}
 use Rattle.script_model.proofs.TypedCalls.{argument_typed, element_typed, part_is, place_typed}
 use Rattle.script_model.proofs.TypedValues.{value_has}
 
@@ -74,10 +75,6 @@ module _ (F : Meanings) (s : State) where
   by_level : (E : List Value) (f : Formula) (o : Outcome) (d : ℕ) → level F s (value_at F s d) E f ≡ Some o → Gives F s E f o
   unfolding value_at
   by_level E f o d is = (suc d, is)
-
-  at_no_depth : (E : List Value) (f : Formula) → value_at F s 0 E f ≡ None
-  unfolding value_at
-  at_no_depth E f = refl
 
   -- a name gives the same below binds
   name_below_binds : (d : ℕ) (E : List Value) (n : ℕ) → value_at F s d E (Name n) ≡ value_at F s d [] (Name n)
@@ -396,10 +393,6 @@ absent_apart x (y ∷ ys) h = go (eqb x y) refl (absent_apart x ys) h
         → (c || list_any (eqb x) ys) ≡ false → AllByRecursion (λ y. eqb x y ≡ false) (y ∷ ys)
     go true e rest h = absurd (cc)
     go false e rest h = (e, rest h)
-
-reaches_join : {A : Type 0} (R : A → A → Type 0) (a b c : A) → Reaches R a b → Reaches R b c → Reaches R a c
-reaches_join R a b c here on = on
-reaches_join R a b c (step {b = k} first rest) on = step first (reaches_join R k b c rest on)
 
 name_reached : (F : Meanings) (s : State) (y : ℕ) (i : Item) → ReadsName F s y i → Reaches (Reads F s) i (Named y)
 name_reached F s y i (at_once reads) = step reads here

@@ -11,7 +11,9 @@ use Rattle.script_model.specs.Language.{integer_of, number_from}
 use Rattle.script_model.specs.Tokens as token
 use Rattle.script_model.specs.Tokens.{Token, AreSpelled, Spells}
 use Rattle.script_model.specs.Grammar as grammar
-use Rattle.script_model.specs.Grammar.{Literal, Integer, Truth, Quoted, Referred, Tree, Trees, Time, TimedLiteral, Line, Written, Mention, Call, If, Bind, Join, Fold, At, Now, Steps, Freeze, After, End, More, WritesTime, WritesLiteral, WritesSteps, WritesAnySteps, Writes, WritesEach, WritesAny, WritesLine, time_of, IsLine}
+use Rattle.script_model.specs.Grammar.{Tree, Trees, Time, TimedLiteral, Line, Call, If, Bind, Join, Fold, At, Now, Steps, Freeze, After, End, More, WritesTime, WritesLiteral, WritesSteps, WritesAnySteps, Writes, WritesEach, WritesAny, WritesLine, time_of, IsLine}
+use Rattle.script_model.specs.Literals as literals
+use Rattle.script_model.specs.Literals.{Literal, Integer, Referred}
 
 small_fits : (n : ℕ) → n < 2 ^ 63 → FitsSigned w64 (pos n)
 small_fits n less = omega (arith, less)
@@ -39,7 +41,7 @@ integer_fits false digits z is = go (nat_lt (number_from 0 digits) (2 ^ 63)) ref
 -- an integer of 64 bits, a text that is a text, a truth value or a reference
 abbrev pub ProperLiteral : Literal → Type 0
 ProperLiteral (Integer z) = FitsSigned w64 z
-ProperLiteral (Quoted content) = IsText content
+ProperLiteral (literals.Text content) = IsText content
 ProperLiteral literal = Unit {0}
 
 -- steps of such literals
@@ -50,7 +52,7 @@ ProperSteps (step ∷ steps) = ProperLiteral step.literal × ProperSteps steps
 abbrev mutual
   -- a formula whose literals are proper
   pub ProperTree : Tree → Type 0
-  ProperTree (Written literal) = ProperLiteral literal
+  ProperTree (grammar.Literal literal) = ProperLiteral literal
   ProperTree (Call function arguments) = ProperTrees arguments
   ProperTree (Fold function first elements) = ProperLiteral first × ProperTrees elements
   ProperTree (If test a b) = ProperTree test × ProperTree a × ProperTree b
@@ -114,8 +116,8 @@ Printables tokens = Every Printable tokens
 
 literal_proper : (l : Literal) (tokens : List Token) → Printables tokens → WritesLiteral l tokens → ProperLiteral l
 literal_proper (Integer z) tokens p w = integer_fits w.0 w.1 z w.3
-literal_proper (Truth b) tokens p w = tt
-literal_proper (Quoted content) tokens p w = (w.1, all_printable content (rw w.0 at p).0)
+literal_proper (literals.Bool b) tokens p w = tt
+literal_proper (literals.Text content) tokens p w = (w.1, all_printable content (rw w.0 at p).0)
 literal_proper (Referred name) tokens p w = tt
 
 steps_proper : (steps : List TimedLiteral) (tokens : List Token) → Printables tokens → WritesSteps steps tokens → ProperSteps steps
@@ -131,8 +133,8 @@ any_steps_proper (step ∷ steps) tokens p w = steps_proper (step ∷ steps) tok
 
 mutual
   tree_proper : (tree : Tree) (tokens : List Token) → Printables tokens → Writes tree tokens → ProperTree tree
-  tree_proper (Written literal) tokens p w = literal_proper literal tokens p w
-  tree_proper (Mention name) tokens p w = tt
+  tree_proper (grammar.Literal literal) tokens p w = literal_proper literal tokens p w
+  tree_proper (grammar.Name name) tokens p w = tt
   tree_proper (Call function arguments) tokens p w = each_proper arguments w.0 (every_front Printable w.0 _ (rw w.1 at p).1.1) w.4
   tree_proper (If test a b) tokens p w =
       let all = (rw w.3 at p).1 in

@@ -11,6 +11,7 @@ use Rattle.script_model.specs.Formula.{Formula, Entry, State, Meanings, start, L
 use Rattle.script_model.specs.Evaluate.{value_at, Gives}
 use Rattle.script_model.specs.Grammar as grammar
 use Rattle.script_model.specs.Grammar.{Line, Tree}
+use Rattle.script_model.specs.Literals as literals
 use Rattle.script_model.specs.Need.{Item, Named, Place, Argument, Needed, Reads, from_root, Visit, visit_of, IsVisit, WithinWork}
 use Rattle.script_model.specs.Depth.{Point, Main, Depends}
 use Rattle.script_model.specs.Parsing.{formula_read, list_front}
@@ -26,11 +27,11 @@ use Rattle.script_model.proofs.Falls.{Falls, among_all, nothing_is_blocked}
 -- ---- what the lines ask for
 
 abbrev pub x_line : Line
-x_line = grammar.Var (codes "x") ty.Int (grammar.Integer (pos 3))
+x_line = grammar.Var (codes "x") ty.Int (literals.Integer (pos 3))
 
 abbrev pub y_line : Line
 y_line = grammar.Let (codes "y")
-    (grammar.Call (codes "add") (grammar.More (grammar.Mention (codes "x")) (grammar.More (grammar.Written (grammar.Integer (pos 4))) grammar.End)))
+    (grammar.Call (codes "add") (grammar.More (grammar.Name (codes "x")) (grammar.More (grammar.Literal (literals.Integer (pos 4))) grammar.End)))
 
 abbrev pub o_line : Line
 o_line = grammar.Observe (codes "o") (codes "y")

@@ -20,7 +20,9 @@ use Rattle.script_model.specs.Values.{Value}
 use Rattle.script_model.specs.Formula as model
 use Rattle.script_model.specs.Formula.{Formula, Formulas, TimedValue, Kept, Body, Entry, State, Meanings, entry_at, nothing_kept}
 use Rattle.script_model.specs.Grammar as grammar
-use Rattle.script_model.specs.Grammar.{Literal, Tree, Trees, TimedLiteral}
+use Rattle.script_model.specs.Grammar.{Tree, Trees, TimedLiteral}
+use Rattle.script_model.specs.Literals as literals
+use Rattle.script_model.specs.Literals.{Literal}
 use Rattle.script_model.specs.Valid.{NameHasType, ValueHasType, StepsHaveType, IsNamed, FoldsOver, HasType, ArgumentsHaveTypes, ElementsHaveType, BodyHasType, Valid}
 use Rattle.script_model.proofs.Proper.{ProperLiteral, ProperSteps, ProperTree, ProperTrees}
 
@@ -115,10 +117,10 @@ module _ (F : Meanings) (s : State) (valid : Valid F s) where
   -- ---- literals
 
   literal_has : (l : Literal) (v : TypedValue) → ProperLiteral l → typed_literal (names_of s) l ≡ Some v → ValueHasType s here v.value v.ty
-  literal_has (grammar.Integer z) v proper e = rw (← some_is _ _ e) (refl, proper)
-  literal_has (grammar.Truth b) v proper e = rw (← some_is _ _ e) (refl, tt)
-  literal_has (grammar.Quoted content) v proper e = rw (← some_is _ _ e) (refl, proper)
-  literal_has (grammar.Referred name) v proper e =
+  literal_has (literals.Integer z) v proper e = rw (← some_is _ _ e) (refl, proper)
+  literal_has (literals.Bool b) v proper e = rw (← some_is _ _ e) (refl, tt)
+  literal_has (literals.Text content) v proper e = rw (← some_is _ _ e) (refl, proper)
+  literal_has (literals.Referred name) v proper e =
       let found = then_some (find_declared (names_of s) name) _ v e in
       let d = found.0 in
       let based = then_some (base_of d.ty) _ v found.2 in
@@ -287,10 +289,10 @@ module _ (F : Meanings) (s : State) (valid : Valid F s) where
   mutual
     pub formula_has : (bounds : List check.Bound) (tree : Tree) (t : TypedFormula) → ProperTree tree → NoneFalls tree
         → typed F (names_of s) bounds tree ≡ Some t → Has bounds t
-    formula_has bounds (grammar.Written literal) t proper rise e =
+    formula_has bounds (grammar.Literal literal) t proper rise e =
         let constant = then_some (typed_literal (names_of s) literal) _ t e in
         has_as bounds (model.Literal constant.0.value) constant.0.ty t (literal_has literal constant.0 proper constant.1) constant.2
-    formula_has bounds (grammar.Mention name) t proper rise e = name_has bounds name 0 bounds t (λ i. from_zero bounds i) e
+    formula_has bounds (grammar.Name name) t proper rise e = name_has bounds name 0 bounds t (λ i. from_zero bounds i) e
     formula_has bounds (grammar.Call function arguments) t proper rise e =
         let f = then_some (F.named function) _ t e in
         let each = then_some (typed_each F (names_of s) bounds arguments) _ t f.2 in

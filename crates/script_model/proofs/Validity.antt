@@ -16,7 +16,8 @@ use Rattle.script_model.specs.Values.{Value}
 use Rattle.script_model.specs.Formula as model
 use Rattle.script_model.specs.Formula.{Formula, Body, Entry, State, Meanings, start, entry_at, places_of, places_of_body, links_of, links_at, nothing_kept}
 use Rattle.script_model.specs.Grammar as grammar
-use Rattle.script_model.specs.Grammar.{Line, Tree, Literal, Time}
+use Rattle.script_model.specs.Grammar.{Line, Tree, Time}
+use Rattle.script_model.specs.Literals.{Literal}
 use Rattle.script_model.specs.Laws.{ValidMoment, StartIsValid, StepsKeepValidity, LinesKeepValidity, HaltsKeepValidity, RunsAreValid}
 use Rattle.script_model.specs.Request.{Request, TooLong, Blank, Malformed, TooDeep, Asks, IsRequest}
 use Rattle.script_model.specs.Run.{Turn, Chain, unchanged, accepted, broken}

@@ -1,18 +1,15 @@
 -- Where nothing changed no call is due.
 use Rattle.std.proofs.Common.{◌≡◌, List, [], ◌∷◌, refl, arith}
-use Rattle.inc_value.specs.Choice.{Every, Reaches, here, step}
+use Rattle.inc_value.specs.Choice.{Every}
 use Rattle.script_model.specs.Formula.{State, Meanings}
 use Rattle.script_model.specs.Laws.{NothingDueAfterSettling}
 use Rattle.script_model.specs.Need.{Item, Reads, Needed, Met, from_root, from_held, Visit, IsDue}
-
-reaches_on : (F : Meanings) (s : State) (a b c : Item) → Reaches (Reads F s) a b → Reaches (Reads F s) b c → Reaches (Reads F s) a c
-reaches_on F s a b c here more = more
-reaches_on F s a b c (step {b = x} r on) more = step r (reaches_on F s x b c on more)
+use Rattle.script_model.proofs.Reaching.{reaches_join}
 
 -- what is met was needed before
 met_was_needed : (F : Meanings) (s : State) (i : Item) → Met F s s i → Needed F s i
 met_was_needed F s i (from_root needed) = needed
-met_was_needed F s i (from_held {h = h} held stands on) = (held.root, held.was, reaches_on F s held.root h i held.reached on)
+met_was_needed F s i (from_held {h = h} held stands on) = (held.root, held.was, reaches_join (Reads F s) held.root h i held.reached on)
 
 none_due : (F : Meanings) (s : State) (vs : List Visit) → Every (IsDue F s s) vs → vs ≡ []
 none_due F s [] due = refl

@@ -6,7 +6,9 @@ use Rattle.inc_value.specs.declared.ty.Base.TheVariants as base
 use Rattle.inc_value.specs.declared.ty.Ty.TheVariants as ty
 use Rattle.inc_value.specs.declared.ty.Ty.{Ty}
 use Rattle.script_model.specs.Grammar as grammar
-use Rattle.script_model.specs.Grammar.{Literal, Integer, Truth, Quoted, Referred, Tree, Trees, TimedLiteral, Line, Written, Mention, Call, If, Bind, Join, Fold, At, Now, Steps, Freeze, After, Every, End, More, WritesTime, WritesType, WritesLiteral, WritesSteps, WritesAnySteps, Writes, WritesEach, WritesAny, WritesLine, count_of, IsCommand}
+use Rattle.script_model.specs.Grammar.{Tree, Trees, TimedLiteral, Line, Call, If, Bind, Join, Fold, At, Now, Steps, Freeze, After, Every, End, More, WritesTime, WritesType, WritesLiteral, WritesSteps, WritesAnySteps, Writes, WritesEach, WritesAny, WritesLine, count_of, IsCommand}
+use Rattle.script_model.specs.Literals as literals
+use Rattle.script_model.specs.Literals.{Literal, Integer, Referred}
 use Rattle.script_model.specs.GrammarLaws.{OneWriting, OneCommand, CommandsAreShallow, CommandsAreWellFormed, DeepLinesAreWellFormed}
 use Rattle.script_model.specs.Parsing.{Read, trees_of, tally, time_front, type_front, literal_front, step_front, list_front, any_front, named_front, formula_front, formula_read, command_read}
 use Rattle.script_model.specs.Tokens.{Token, Word, Punctuation, Open, Close, OpenBracket, CloseBracket, Comma, Colon}
@@ -48,9 +50,9 @@ type_written (ty.Node base.Text) front rest w = rw w refl
 
 pub literal_written : (l : Literal) (front rest : List Token) → WritesLiteral l front → literal_front (front ++ rest) ≡ Some (l, rest)
 literal_written (Integer z) front rest w = rw (w.2, w.3) refl
-literal_written (Truth true) front rest w = rw w refl
-literal_written (Truth false) front rest w = rw w refl
-literal_written (Quoted content) front rest w = rw (w.0, le-leb (length content) 4096 w.1) refl
+literal_written (literals.Bool true) front rest w = rw w refl
+literal_written (literals.Bool false) front rest w = rw w refl
+literal_written (literals.Text content) front rest w = rw (w.0, le-leb (length content) 4096 w.1) refl
 literal_written (Referred name) front rest w = rw (w.0, w.1) refl
 
 literal_alone : (l : Literal) (front : List Token) → WritesLiteral l front → literal_front front ≡ Some (l, [])
@@ -72,15 +74,15 @@ steps_written (s ∷ t ∷ ss) (suc k) found inner rest w few =
 
 -- ---- formulas
 
-mention_written : (part : List Token → Read Tree) (name : List ℕ) (rest : List Token) → NoOpen rest → named_front part name rest ≡ Some (Mention name, rest)
+mention_written : (part : List Token → Read Tree) (name : List ℕ) (rest : List Token) → NoOpen rest → named_front part name rest ≡ Some (grammar.Name name, rest)
 mention_written part name (Punctuation Open ∷ rest) h = absurd h
 mention_written part name rest h = refl
 
-literal_formula : (part : List Token → Read Tree) (l : Literal) (front rest : List Token) → WritesLiteral l front → formula_front part (front ++ rest) ≡ Some (Written l, rest)
+literal_formula : (part : List Token → Read Tree) (l : Literal) (front rest : List Token) → WritesLiteral l front → formula_front part (front ++ rest) ≡ Some (grammar.Literal l, rest)
 literal_formula part (Integer z) front rest w = rw (w.2, w.3) refl
-literal_formula part (Truth true) front rest w = rw w refl
-literal_formula part (Truth false) front rest w = rw w refl
-literal_formula part (Quoted content) front rest w = rw (w.0, le-leb (length content) 4096 w.1) refl
+literal_formula part (literals.Bool true) front rest w = rw w refl
+literal_formula part (literals.Bool false) front rest w = rw w refl
+literal_formula part (literals.Text content) front rest w = rw (w.0, le-leb (length content) 4096 w.1) refl
 literal_formula part (Referred name) front rest w = rw (w.0, w.1) refl
 
 -- a list of n formulas or steps has at most as many as tokens
@@ -128,8 +130,8 @@ mutual
 
   pub formula_written : (t : Tree) (n : ℕ) (front rest : List Token) → Writes t front → NoOpen rest → length front < n → formula_read n (front ++ rest) ≡ Some (t, rest)
   formula_written t zero front rest w stop few = absurd (omega (arith, few))
-  formula_written (Written l) (suc n) front rest w stop few = literal_formula (formula_read n) l front rest w
-  formula_written (Mention name) (suc n) front rest w stop few = rw (w.0, w.1) (mention_written (formula_read n) name rest stop)
+  formula_written (grammar.Literal l) (suc n) front rest w stop few = literal_formula (formula_read n) l front rest w
+  formula_written (grammar.Name name) (suc n) front rest w stop few = rw (w.0, w.1) (mention_written (formula_read n) name rest stop)
   formula_written (Call function arguments) (suc n) front rest w stop few =
       let few' = rw w.1 at few in
       let l = length-append w.0 (Punctuation Close ∷ []) in

@@ -2,7 +2,7 @@
 use Rattle.std.specs.Prelude.{◌≡◌, ℕ, Bool, true, false, List, [], ◌∷◌, Some}
 use Rattle.inc_value.specs.Choice.{NoRepeats, Reaches}
 use Rattle.script_model.specs.Formula.{State, Meanings, Grab, body_at}
-use Rattle.script_model.specs.Need.{Edge, Item, Named, Place, Reads, Met}
+use Rattle.script_model.specs.Need.{Edge, Item, Named, Place, Reads}
 use Rattle.script_model.specs.Depth.{TooDeep}
 
 -- a walk of reads from an item to a name, with no name between
@@ -43,10 +43,6 @@ is_judged = false
 pub data InTheWay (F : Meanings) (s : State) : Item → Type 0 where
   on_cycle : {n : ℕ} → is_judged ≡ true → OnCycle F s n → InTheWay F s (Named n)
   too_deep : {i : Item} → is_judged ≡ true → TooDeep F s i → InTheWay F s i
-
--- something that is met stands in the way
-abbrev pub IsBlocked : Meanings → State → State → Item → Type 0
-IsBlocked F before now i = Met F before now i × InTheWay F now i
 
 -- the name is the item, or its formula holds it
 abbrev pub Holds : ℕ → Item → Type 0

@@ -15,7 +15,9 @@ use Rattle.script_model.specs.Values.{Value}
 use Rattle.script_model.specs.Formula as model
 use Rattle.script_model.specs.Formula.{Formula, Formulas, TimedValue, Body, Meanings, nothing_kept}
 use Rattle.script_model.specs.Grammar as line
-use Rattle.script_model.specs.Grammar.{Literal, Tree, Trees, Time, TimedLiteral, Line, Integer, Truth, Quoted, Referred, Written, Mention, Call, If, Join, Fold, At, Now, Steps, Freeze, After, Every, End, More}
+use Rattle.script_model.specs.Grammar.{Tree, Trees, Time, TimedLiteral, Line, Call, If, Join, Fold, At, Now, Steps, Freeze, After, Every, End, More}
+use Rattle.script_model.specs.Literals as literals
+use Rattle.script_model.specs.Literals.{Literal, Integer, Referred}
 
 -- ---- what is declared
 
@@ -78,7 +80,7 @@ abbrev mutual
 
 -- the literals that a formula holds itself
 abbrev pub own_literals : Tree → List Literal
-own_literals (Written literal) = literal ∷ []
+own_literals (line.Literal literal) = literal ∷ []
 own_literals (Fold function first elements) = first ∷ []
 own_literals (Steps first steps) = first ∷ map (λ (s : TimedLiteral). s.literal) steps
 own_literals tree = []
@@ -119,7 +121,7 @@ referred_names literal = []
 abbrev mutual
   -- the names that a formula mentions, where they aren't variables of the binds round them
   pub mentioned : List (List ℕ) → Tree → List (List ℕ)
-  mentioned variables (Mention name) = cond (is_among variables name) [] (name ∷ [])
+  mentioned variables (line.Name name) = cond (is_among variables name) [] (name ∷ [])
   mentioned variables (Call function arguments) = mentioned_in_all variables arguments
   mentioned variables (Fold function first elements) = mentioned_in_all variables elements
   mentioned variables (If test a b) = mentioned variables test ++ mentioned variables a ++ mentioned variables b
@@ -131,11 +133,6 @@ abbrev mutual
   pub mentioned_in_all : List (List ℕ) → Trees → List (List ℕ)
   mentioned_in_all variables End = []
   mentioned_in_all variables (More first rest) = mentioned variables first ++ mentioned_in_all variables rest
-
--- the formula of a command
-abbrev pub formula_of : Line → Option Tree
-formula_of (line.Let name tree) = Some tree
-formula_of _ = None
 
 -- the formulas of a command
 abbrev pub trees_of : Line → List Tree
@@ -247,8 +244,8 @@ type_of_base base.Text = ty.Text
 -- the constant that a literal stands for; none where it refers to nothing of a base type
 abbrev pub typed_literal : Names → Literal → Option TypedValue
 typed_literal names (Integer z) = Some (record { value = value.Int z; ty = ty.Int })
-typed_literal names (Truth b) = Some (record { value = value.Bool b; ty = ty.Bool })
-typed_literal names (Quoted content) = Some (record { value = value.Text content; ty = ty.Text })
+typed_literal names (literals.Bool b) = Some (record { value = value.Bool b; ty = ty.Bool })
+typed_literal names (literals.Text content) = Some (record { value = value.Text content; ty = ty.Text })
 typed_literal names (Referred name) =
     and_then (find_declared names name) (λ d. and_then (base_of d.ty) (λ b. Some (record { value = value.Reference d.target b; ty = ty.Node b })))
 
@@ -325,8 +322,8 @@ abbrev mutual
   -- the formula with a target for each name, a number for each variable and a reference for each function; none where a
   -- type doesn't fit
   pub typed : Meanings → Names → List Bound → Tree → Option TypedFormula
-  typed F names bounds (Written literal) = and_then (typed_literal names literal) (λ v. typed_as (model.Literal v.value) v.ty)
-  typed F names bounds (Mention name) = typed_name names name 0 bounds
+  typed F names bounds (line.Literal literal) = and_then (typed_literal names literal) (λ v. typed_as (model.Literal v.value) v.ty)
+  typed F names bounds (line.Name name) = typed_name names name 0 bounds
   typed F names bounds (Call function arguments) =
       and_then (F.named function) (λ f. and_then (typed_each F names bounds arguments) (λ typed_arguments. applied f typed_arguments))
   typed F names bounds (Fold function first elements) =

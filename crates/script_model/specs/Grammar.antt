@@ -1,22 +1,16 @@
 -- The grammar of scripts: which tokens write which command.
 use Rattle.std.specs.Prelude as std
-use Rattle.std.specs.Prelude.{◌≡◌, ◌⊎◌, ℕ, ◌+◌, ◌*◌, ◌^◌, ◌≤◌, ℤ, true, false, ◌&&◌, nat_lt, if◌then◌else◌, List, [], ◌∷◌, ◌++◌, length, codes, Option, None, Some, IsTrue}
+use Rattle.std.specs.Prelude.{◌≡◌, ◌⊎◌, ℕ, ◌+◌, ◌*◌, ◌^◌, ◌≤◌, true, false, ◌&&◌, nat_lt, if◌then◌else◌, List, [], ◌∷◌, ◌++◌, length, codes, Option, None, Some, IsTrue}
 use Rattle.inc_value.specs.declared.ty.Base.TheVariants as base
 use Rattle.inc_value.specs.declared.ty.Base.{Base}
 use Rattle.inc_value.specs.declared.ty.Ty.{Ty}
 use Rattle.inc_value.specs.declared.ty.Ty.TheVariants as ty
 use Rattle.script_model.specs.Language.{is_name, integer_of, number_from}
+use Rattle.script_model.specs.Literals as literals
 use Rattle.script_model.specs.Tokens as token
 use Rattle.script_model.specs.Tokens.{Token, TimeUnit, Nanoseconds, Microseconds, Milliseconds, Seconds, Word, Number, Text, Punctuation, Open, Close, OpenBracket, CloseBracket, Comma, Colon, Equals, Ampersand, AreSpelled, AreTooDeep}
 
 -- ---- trees
-
--- a literal as it is written
-pub data Literal : Type 0 where
-  Integer : (value : ℤ) → Literal
-  Truth : (value : std.Bool) → Literal
-  Quoted : (content : List ℕ) → Literal
-  Referred : (name : List ℕ) → Literal
 
 -- a time in nanoseconds; none beyond 9,223,372,036,854,775,807
 abbrev pub Time : Type 0
@@ -25,21 +19,21 @@ Time = Option ℕ
 -- a literal from a time on
 pub record TimedLiteral : Type 0 where
   pub time : Time
-  pub literal : Literal
+  pub literal : literals.Literal
 
 mutual
   -- a formula as it is written
   pub data Tree : Type 0 where
-    Written : (literal : Literal) → Tree
-    Mention : (name : List ℕ) → Tree
+    Literal : (literal : literals.Literal) → Tree
+    Name : (name : List ℕ) → Tree
     Call : (function : List ℕ) (arguments : Trees) → Tree
     If : (test then_side else_side : Tree) → Tree
     Bind : (variable : List ℕ) (left body : Tree) → Tree
     Join : (child : Tree) → Tree
-    Fold : (function : List ℕ) (first : Literal) (elements : Trees) → Tree
+    Fold : (function : List ℕ) (first : literals.Literal) (elements : Trees) → Tree
     At : (time : Time) → Tree
     Now : Tree
-    Steps : (first : Literal) (steps : List TimedLiteral) → Tree
+    Steps : (first : literals.Literal) (steps : List TimedLiteral) → Tree
     Freeze : (child : Tree) (predicate : List ℕ) → Tree
     After : (span : Time) → Tree
     Every : (span : Time) → Tree
@@ -51,10 +45,10 @@ mutual
 
 -- a command as it is written
 pub data Line : Type 0 where
-  Var : (name : List ℕ) (ty : Ty) (first : Literal) → Line
-  Set : (name : List ℕ) (value : Literal) → Line
+  Var : (name : List ℕ) (ty : Ty) (first : literals.Literal) → Line
+  Set : (name : List ℕ) (value : literals.Literal) → Line
   Let : (name : List ℕ) (formula : Tree) → Line
-  Expert : (name function : List ℕ) (first : Literal) → Line
+  Expert : (name function : List ℕ) (first : literals.Literal) → Line
   Link : (expert name : List ℕ) → Line
   Unlink : (expert name : List ℕ) → Line
   Stale : (expert : List ℕ) → Line
@@ -121,11 +115,11 @@ WritesType ty.Text tokens = tokens ≡ word (codes "text") ∷ []
 WritesType (ty.Node base) tokens = tokens ≡ word (codes "node") ∷ word (base_word base) ∷ []
 
 -- the tokens write the literal
-abbrev pub WritesLiteral : Literal → List Token → Type 0
-WritesLiteral (Integer z) tokens = (negative : std.Bool) × (digits : List ℕ) × (tokens ≡ Number negative digits ∷ []) × (integer_of negative digits ≡ Some z)
-WritesLiteral (Truth b) tokens = tokens ≡ word (truth_word b) ∷ []
-WritesLiteral (Quoted content) tokens = (tokens ≡ Text content ∷ []) × (length content ≤ 4096)
-WritesLiteral (Referred name) tokens = (tokens ≡ sign Ampersand ∷ word name ∷ []) × IsName name
+abbrev pub WritesLiteral : literals.Literal → List Token → Type 0
+WritesLiteral (literals.Integer z) tokens = (negative : std.Bool) × (digits : List ℕ) × (tokens ≡ Number negative digits ∷ []) × (integer_of negative digits ≡ Some z)
+WritesLiteral (literals.Bool b) tokens = tokens ≡ word (truth_word b) ∷ []
+WritesLiteral (literals.Text content) tokens = (tokens ≡ Text content ∷ []) × (length content ≤ 4096)
+WritesLiteral (literals.Referred name) tokens = (tokens ≡ sign Ampersand ∷ word name ∷ []) × IsName name
 
 -- `TIME : LITERAL`, one or more, with commas between them
 abbrev pub WritesSteps : List TimedLiteral → List Token → Type 0
@@ -154,8 +148,8 @@ fold_tokens function first inner = word (codes "fold") ∷ word function ∷ wor
 abbrev mutual
   -- the tokens write the formula: a function has one to nine arguments
   pub Writes : Tree → List Token → Type 0
-  Writes (Written literal) tokens = WritesLiteral literal tokens
-  Writes (Mention name) tokens = (tokens ≡ word name ∷ []) × IsName name
+  Writes (Literal literal) tokens = WritesLiteral literal tokens
+  Writes (Name name) tokens = (tokens ≡ word name ∷ []) × IsName name
   Writes (Call function arguments) tokens =
       (inner : List Token) × (tokens ≡ word function ∷ sign Open ∷ (inner ++ sign Close ∷ [])) × IsName function × (count_of arguments ≤ 9) × WritesEach arguments inner
   Writes (If test a b) tokens =
@@ -225,15 +219,15 @@ is_base_type (ty.Node base) = false
 is_base_type t = true
 
 -- a literal that refers to no name
-abbrev pub is_plain_literal : Literal → std.Bool
-is_plain_literal (Referred name) = false
+abbrev pub is_plain_literal : literals.Literal → std.Bool
+is_plain_literal (literals.Referred name) = false
 is_plain_literal literal = true
 
 abbrev mutual
   -- a formula of literals, names and functions
   pub is_plain : Tree → std.Bool
-  is_plain (Written literal) = is_plain_literal literal
-  is_plain (Mention name) = true
+  is_plain (Literal literal) = is_plain_literal literal
+  is_plain (Name name) = true
   is_plain (Call function arguments) = are_plain arguments
   is_plain tree = false
 

@@ -9,6 +9,7 @@ pub mod Grammar
 pub mod GrammarLaws
 pub mod Language
 pub mod Laws
+pub mod Literals
 pub mod Need
 pub mod Parsing
 pub mod Reading

@@ -6,8 +6,11 @@ use Rattle.inc_value.specs.declared.ty.Base.{Base}
 use Rattle.inc_value.specs.declared.ty.Ty.TheVariants as ty
 use Rattle.inc_value.specs.declared.ty.Ty.{Ty}
 use Rattle.inc_value.specs.Choice.{and_then}
+use Rattle.script_model.specs.Check.{type_of_base}
 use Rattle.script_model.specs.Grammar as grammar
-use Rattle.script_model.specs.Grammar.{Literal, Integer, Truth, Quoted, Referred, Tree, Trees, TimedLiteral, Line, time_of, unit_scale}
+use Rattle.script_model.specs.Grammar.{Tree, Trees, TimedLiteral, Line, time_of, unit_scale}
+use Rattle.script_model.specs.Literals as literals
+use Rattle.script_model.specs.Literals.{Literal, Integer, Referred}
 use Rattle.script_model.specs.Language.{is_name, integer_of, number_from}
 use Rattle.script_model.specs.Tokens as token
 use Rattle.script_model.specs.Tokens.{Token, Word, Number, Text, Punctuation, Open, Close, OpenBracket, CloseBracket, Comma, Colon, Equals, Ampersand}
@@ -60,19 +63,14 @@ abbrev pub base_front : List Token → Read Base
 base_front (Word w ∷ rest) = and_then (base_named w) (λ b. read b rest)
 base_front tokens = None
 
-abbrev pub type_of_base : Base → Ty
-type_of_base base.Int = ty.Int
-type_of_base base.Bool = ty.Bool
-type_of_base base.Text = ty.Text
-
 abbrev pub type_front : List Token → Read Ty
 type_front (Word w ∷ rest) = if bytes_eq w (codes "node") then then_read (base_front rest) (λ b left. read (ty.Node b) left) else and_then (base_named w) (λ b. read (type_of_base b) rest)
 type_front tokens = None
 
 abbrev pub literal_front : List Token → Read Literal
-literal_front (Word w ∷ rest) = if bytes_eq w (codes "true") then read (Truth true) rest else (if bytes_eq w (codes "false") then read (Truth false) rest else None)
+literal_front (Word w ∷ rest) = if bytes_eq w (codes "true") then read (literals.Bool true) rest else (if bytes_eq w (codes "false") then read (literals.Bool false) rest else None)
 literal_front (Number negative digits ∷ rest) = and_then (integer_of negative digits) (λ z. read (Integer z) rest)
-literal_front (Text content ∷ rest) = if nat_le (length content) 4096 then read (Quoted content) rest else None
+literal_front (Text content ∷ rest) = if nat_le (length content) 4096 then read (literals.Text content) rest else None
 literal_front (Punctuation Ampersand ∷ rest) = then_read (name_front rest) (λ name left. read (Referred name) left)
 literal_front tokens = None
 
@@ -144,10 +142,10 @@ module _ (part : List Token → Read Tree) where
   -- a name alone, or a function of one to nine formulas
   abbrev pub named_front : List ℕ → List Token → Read Tree
   named_front w (Punctuation Open ∷ rest) = then_read (list_front part 41 9 [] rest) (λ arguments left. read (grammar.Call w (trees_of arguments)) left)
-  named_front w tokens = read (grammar.Mention w) tokens
+  named_front w tokens = read (grammar.Name w) tokens
 
   abbrev pub written_front : List Token → Read Tree
-  written_front tokens = then_read (literal_front tokens) (λ literal rest. read (grammar.Written literal) rest)
+  written_front tokens = then_read (literal_front tokens) (λ literal rest. read (grammar.Literal literal) rest)
 
   -- the formula that begins with a word
   abbrev pub word_front : List ℕ → List Token → Read Tree

@@ -4,14 +4,14 @@ use Rattle.std.specs.List.{slice_get}
 use Rattle.std.proofs.lemmas.Option.{slice_get_within}
 use Rattle.std.proofs.lemmas.Bool.{cases_eq}
 use Rattle.inc_value.specs.declared.function.FnRef.{FnRef}
-use Rattle.inc_value.specs.Choice.{Among, Every, Reaches}
-use Rattle.inc_value.specs.Choice.Reaches.{here, step}
+use Rattle.inc_value.specs.Choice.{Among, Every, here, step}
 use Rattle.session.specs.declared.place.Observer.{Observer}
 use Rattle.session.specs.declared.place.Place.{Place}
 use Rattle.session.specs.declared.place.Place.TheVariants.{Literal, Variable, Application}
 use Rattle.session.specs.Marking.{marks_with, marks_of_reads, AreReadsBelow}
 use Rattle.session.specs.Places.{AreSoundPlaces}
 use Rattle.session.specs.Settling.{IsMarked, ReadsPlace, IsLookedAt, IsUsed, AreNeeded}
+use Rattle.script_model.proofs.Reaching.{reaches_join}
 use Rattle.session.proofs.Lists.{get_set_same, get_set_other, every_among, every_weaker, among_at, at_among}
 
 set_keeps : (marks : List Bool) (k n : ℕ) → IsMarked marks n → IsMarked (set marks k true) n
@@ -114,10 +114,6 @@ pub length-marks_with : (marks : List Bool) (js : List ℕ) → length (marks_wi
 length-marks_with marks [] = refl
 length-marks_with marks (j ∷ js) = length-marks_with (set marks j true) js ∙ length-set marks j true
 
-reaches_more : (places : List Place) (a b c : ℕ) → Reaches (ReadsPlace places) a b → ReadsPlace places b c → Reaches (ReadsPlace places) a c
-reaches_more places a b c here r = step r here
-reaches_more places a b c (step first rest) r = step first (reaches_more places _ b c rest r)
-
 -- a marked place closes once what it reads is marked
 with_closes : (places : List Place) (roots : List ℕ) (observers : List Observer) (marks : List Bool) (n : ℕ) (f : FnRef) (js : List ℕ)
     → slice_get places n ≡ Some (Application f js)
@@ -145,8 +141,8 @@ with_closes places roots observers marks n f js at earlier m c = record {
         record {
           root = used.root;
           looked_at = used.looked_at;
-          reached = reaches_more places used.root n i used.reached
-              (record { function = f; arguments = js; stands = at; reads = a });
+          reached = reaches_join (ReadsPlace places) used.root n i used.reached
+              (step (record { function = f; arguments = js; stands = at; reads = a }) here);
         }
     | inr old ↦ c.only i old
   ];

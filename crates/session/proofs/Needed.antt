@@ -16,6 +16,7 @@ use Rattle.session.specs.Standing.{HaveTargets, HasMarkedPlace}
 use Rattle.session.specs.declared.place.Observer.{Observer}
 use Rattle.session.specs.declared.place.Place.{Place}
 use Rattle.session.specs.declared.place.Place.TheVariants.{Application}
+use Rattle.script_model.proofs.Reaching.{reaches_join}
 use Rattle.session.proofs.Lists.{every_among}
 use Rattle.session.proofs.Standing.{there_too, placed, argument_part, whole_of, application_item, place_applies, argument_at_place, argument_of_item, OwnItem, own_root_item}
 
@@ -35,10 +36,6 @@ pub within_there : {A : Type 0} (xs : List A) (k : ℕ) → k < length xs → (x
 within_there [] k lt = absurd (omega arith)
 within_there (x ∷ xs) zero lt = (x, refl)
 within_there (x ∷ xs) (suc k) lt = within_there xs k (omega arith)
-
-reaches_on : {A : Type 0} {R : A → A → Type 0} (a b c : A) → Reaches R a b → Reaches R b c → Reaches R a c
-reaches_on a b c here more = more
-reaches_on a b c (step {b = x} first rest) more = step first (reaches_on x b c rest more)
 
 -- what is among the first is among both
 pub among_first : {A : Type 0} (x : A) (xs ys : List A) → Among x xs → Among x (xs ++ ys)
@@ -125,7 +122,7 @@ module _ (F : Meanings) (s : State) (roots : List ℕ) (places : List Place) (it
   reads_reach i j item next here at at_next = let same : item ≡ next = cc in rw same here
   reads_reach i j item next (step {b = k} reads more) at at_next =
       let first = read_reaches i k item reads at in
-      reaches_on item first.0 next first.2 (reads_reach k j first.0 next more first.1 at_next)
+      reaches_join (Reads F s) item first.0 next first.2 (reads_reach k j first.0 next more first.1 at_next)
 
   module _ (observers : List Observer) (targets : HaveTargets s observers) where
     root_needed : (o : Observer) → Among o observers → Among (Named o.target) (need.roots s)
@@ -142,7 +139,7 @@ module _ (F : Meanings) (s : State) (roots : List ℕ) (places : List Place) (it
         let first = root_reaches o.target used.root used.looked_at.root in (
           Named o.target,
           root_needed o used.looked_at.is_one,
-          reaches_on (Named o.target) first.0 item first.2
+          reaches_join (Reads F s) (Named o.target) first.0 item first.2
               (reads_reach used.root i first.0 item used.reached first.1 at),
         )
 

@@ -48,7 +48,7 @@ impl StdLib {
 impl Library for StdLib {
     ghost use Rattle.std.specs.Prelude.{◌≡◌, ◌≢◌, ◌≤◌, IfOk, IsOk, IsTrue};
     ghost use Rattle.inc_value.specs.Value.{type_of, HaveTypes, IsProper};
-    ghost use Rattle.node_arena.specs.Counts.{raised, raised_on_err};
+    ghost use Rattle.inc_value.specs.Counts.{raised, raised_on_err};
     ghost use Rattle.std_library.specs.Functions.{named, known, given};
     ghost use Rattle.std_library.specs.FunctionLaws.{given_is_base, given_is_proper, given_is_typed, known_is_map, named_is_map};
 

@@ -3,7 +3,7 @@ ghost use Rattle.std.specs.Prelude.{◌≡◌, ◌≤◌, ◌+◌, ◌<◌, [], 
 ghost use Rattle.formula_lang.specs.Plain.{behind_open, plain_read};
 ghost use Rattle.formula_lang.specs.TreeView.{tree_view};
 ghost use Rattle.formula_lang.specs.View.{literal_view, token_view};
-ghost use Rattle.script_model.specs.Grammar.{Written};
+ghost use Rattle.script_model.specs.Grammar as grammar;
 ghost use Rattle.script_model.specs.Parsing.{is_sign, list_front, named_front};
 
 use super::literal::literal_in;
@@ -64,7 +64,7 @@ fn behind_open<'a>(tokens: &[Token<'a>], place: usize) -> Option<usize>
 
 /// A literal as a formula.
 fn written(literal: Literal) -> Tree
-    ensures { tree_view result ≡ Written (literal_view literal) }
+    ensures { tree_view result ≡ grammar.Literal (literal_view literal) }
 {
     Tree::Literal(literal)
 }

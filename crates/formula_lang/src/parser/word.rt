@@ -2,7 +2,8 @@
 ghost use Rattle.std.specs.Prelude.{◌≡◌, map, option_map};
 ghost use Rattle.formula_lang.specs.Plain.{base_in, name_in, plain_type, word_in};
 ghost use Rattle.formula_lang.specs.View.{token_view};
-ghost use Rattle.script_model.specs.Parsing.{base_named, name_front, type_of_base};
+ghost use Rattle.script_model.specs.Check.{type_of_base};
+ghost use Rattle.script_model.specs.Parsing.{base_named, name_front};
 ghost use Rattle.formula_lang.specs.Reading.{name_view, type_view};
 
 use crate::reserved::is_name;

@@ -8,8 +8,8 @@ use std::test::Fail;
 
 /// `add` and `neg` of integers, wrapping at 64 bits.
 #[derive(Drop)]
-struct Arithmetic {
-    calls: u64,
+pub(crate) struct Arithmetic {
+    pub(crate) calls: u64,
 }
 
 impl Library for Arithmetic {

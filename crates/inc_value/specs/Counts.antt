@@ -1,4 +1,4 @@
--- Counts of calls, which stay at their greatest once there.
+-- Counts of calls and faults, which stay at their greatest once there.
 use Rattle.std.specs.Prelude.{ℕ, ◌+◌, ◌-◌, ◌^◌, min, Result, Ok, Err}
 
 -- a count after one more

@@ -1,0 +1,6 @@
+mod First
+mod Graph
+mod Order
+mod Rows
+mod Sound
+mod Setting

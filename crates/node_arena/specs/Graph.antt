@@ -1,0 +1,31 @@
+-- The nodes of an arena as a graph.
+use Rattle.std.specs.Prelude.{◌≡◌, ◌≤◌, ℕ, pos, Bool, List, [], Option, None, Some, IfSome}
+use Rattle.inc_value.specs.declared.function.FnRef.{FnRef}
+use Rattle.inc_value.specs.declared.node.NodeId.{NodeId}
+use Rattle.inc_terms.specs.Graph.{Graph, Row, Def}
+use Rattle.inc_terms.specs.Within.{DefWithin, Fit}
+use Rattle.node_arena.specs.Arena.{Arena, row_at, Changes}
+use Rattle.node_arena.specs.Meanings.{KeepsKnown}
+
+-- the graph of the nodes. No bind is built, the clock stands at 0, no freeze keeps a value, and no expert has a list
+abbrev pub graph_of : Arena → Graph
+graph_of a = record { row = row_at a; built = λ n. None; now = pos 0; frozen = λ n. None; lists = λ n. [] }
+
+-- each function of the definition is known and of the kind that stands there, and of so many ids each that it lists was given
+abbrev pub CallsFit : ℕ → (FnRef → Bool) → (FnRef → List NodeId) → Def → Type 0
+CallsFit count known ids def = DefWithin (λ n. Unit {0}) (Fit count known ids) def
+
+-- so is each function of a live node
+abbrev pub AllCallFit : (FnRef → Bool) → (FnRef → List NodeId) → Arena → Type 0
+AllCallFit known ids a = (n : NodeId) (r : Row) → row_at a n ≡ Some r → CallsFit a.given known ids r.def
+
+-- functions still fit after a node was added whose functions do, or dropped, and when more functions are known
+abbrev pub StillFit : Type 0
+StillFit =
+    (known known' : FnRef → Bool) (ids : FnRef → List NodeId) (old new : Arena) (id : NodeId) (row : Option Row)
+    → KeepsKnown known known' → Changes old new id row → old.given ≤ new.given
+    → IfSome row (λ (r : Row). CallsFit new.given known' ids r.def) → AllCallFit known ids old → AllCallFit known' ids new
+
+-- no node stands in a scope
+abbrev pub NoScopes : Arena → Type 0
+NoScopes a = (n : NodeId) (r : Row) → row_at a n ≡ Some r → r.scope ≡ None

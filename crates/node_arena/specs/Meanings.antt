@@ -1,0 +1,42 @@
+-- What every keeper of functions promises of the maps that it knows, and of what a call leaves alone.
+use Rattle.std.specs.Prelude.{◌≡◌, Bool, List, All, IsTrue}
+use Rattle.inc_value.specs.Sig.{IsMapSig}
+use Rattle.inc_value.specs.Ty.{IsBase}
+use Rattle.inc_value.specs.Value.{type_of, HaveTypes, IsProper}
+use Rattle.inc_value.specs.declared.function.FnRef.{FnRef}
+use Rattle.inc_value.specs.declared.function.FnKind.TheVariants.{Map}
+use Rattle.inc_value.specs.declared.node.NodeId.{NodeId}
+use Rattle.inc_value.specs.declared.value.Value.{Value}
+use Rattle.inc_terms.specs.Within.{KnownAs, ValueWithin}
+
+-- a known function stays known
+abbrev pub KeepsKnown : (FnRef → Bool) → (FnRef → Bool) → Type 0
+KeepsKnown old new = (f : FnRef) → IsTrue (old f) → IsTrue (new f)
+
+-- a function gives for its arguments what it gave before
+abbrev pub SameValues : (FnRef → List Value → Value) → (FnRef → List Value → Value) → Type 0
+SameValues old new = (f : FnRef) (args : List Value) → new f args ≡ old f args
+
+-- a known map has the types of a map
+abbrev pub HaveMapSigs : (FnRef → Bool) → Type 0
+HaveMapSigs known = (f : FnRef) → IsTrue (known f) → f.id.kind ≡ Map → IsMapSig f.sig
+
+-- of proper values of the types that it takes, a known map gives a value of the type that it says
+abbrev pub GiveTypes : (FnRef → Bool) → (FnRef → List Value → Value) → Type 0
+GiveTypes known value = (f : FnRef) (args : List Value) → IsTrue (known f) → f.id.kind ≡ Map → All IsProper args → HaveTypes args f.sig.takes
+    → type_of (value f args) ≡ f.sig.gives
+
+-- of proper values of the types that it takes, a known map gives a value that a program can hold
+abbrev pub GiveProper : (FnRef → Bool) → (FnRef → List Value → Value) → Type 0
+GiveProper known value = (f : FnRef) (args : List Value) → IsTrue (known f) → f.id.kind ≡ Map → All IsProper args → HaveTypes args f.sig.takes
+    → IsProper (value f args)
+
+-- whatever its arguments, a known map gives no reference to a node
+abbrev pub GiveNoReference : (FnRef → Bool) → (FnRef → List Value → Value) → Type 0
+GiveNoReference known value = (f : FnRef) (args : List Value) → IsTrue (known f) → f.id.kind ≡ Map → IsBase (type_of (value f args))
+
+-- maps that give no reference name no node
+abbrev pub MapsNameNoNode : Type 0
+MapsNameNoNode =
+    (known : FnRef → Bool) (value : FnRef → List Value → Value) → GiveNoReference known value
+    → (f : FnRef) (args : List Value) → KnownAs known Map f → ValueWithin (λ (n : NodeId). ⊥) (value f args)

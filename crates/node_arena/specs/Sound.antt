@@ -1,0 +1,47 @@
+-- What every arena keeps.
+use Rattle.std.specs.Prelude.{◌≡◌, ◌≤◌, ◌<◌, ◌^◌, ℕ, List, Some, None, length, slice_index_or}
+use Rattle.std.specs.List.{All, AllWithin, Contains}
+use Rattle.std.specs.List.Sorted.{IsNonDecreasingBy}
+use Rattle.inc_value.specs.declared.node.NodeId.{NodeId}
+use Rattle.inc_terms.specs.Graph.{Row}
+use Rattle.inc_terms.specs.Within.{Given}
+use Rattle.node_arena.specs.Arena.{Arena, row_at, live, IsLive, NamesGiven}
+use Rattle.node_arena.specs.Typing.{Makes}
+
+-- what is live was given, in one of the slots; no two live nodes have one generation; what rows, their values and their scopes name was given;
+-- each row is of the type that it makes; no more nodes are live, and no more ids given, than may be
+pub record IsSound (a : Arena) : Type 0 where
+  pub given : (n : NodeId) → IsLive a n → Given a.given n
+  pub slots : (n : NodeId) → IsLive a n → n.slot < 1048576
+  pub generations : (n m : NodeId) → IsLive a n → IsLive a m → n.gen_ ≡ m.gen_ → n ≡ m
+  pub names : (n : NodeId) (r : Row) → row_at a n ≡ Some r → NamesGiven a.given r.def
+  pub scopes : (n : NodeId) (r : Row) (b : NodeId) → row_at a n ≡ Some r → r.scope ≡ Some b → Given a.given b
+  pub types : (n : NodeId) (r : Row) → row_at a n ≡ Some r → Makes a r.def r.ty
+  pub few : live a ≤ 1048576
+  pub count : a.given < 2 ^ 64
+
+-- the live node that was given first of those whose generation is not below the count
+pub record IsFirstSince (a : Arena) (count : ℕ) (id : NodeId) : Type 0 where
+  pub live : IsLive a id
+  pub since : count ≤ id.gen_
+  pub first : (n : NodeId) → IsLive a n → count ≤ n.gen_ → id.gen_ ≤ n.gen_
+
+-- the first live one of the ids from a place on
+pub record IsFirstLive (a : Arena) (order : List NodeId) (start : ℕ) (id : NodeId) : Type 0 where
+  pub place : ℕ
+  pub from_start : start ≤ place
+  pub within : place < length order
+  pub there : slice_index_or order place id ≡ id
+  pub live : IsLive a id
+  pub dead_before : AllWithin (λ n. row_at a n ≡ None) order start place
+
+-- given ids in the order in which they were given, with all that are live
+pub record IsOrder (a : Arena) (order : List NodeId) : Type 0 where
+  pub rising : IsNonDecreasingBy (λ n. n.gen_) order
+  pub given : All (Given a.given) order
+  pub covers : (n : NodeId) → IsLive a n → Contains order n
+
+-- what the fields of an arena keep
+pub record IsKept (a : Arena) (ids : List NodeId) : Type 0 where
+  pub sound : IsSound a
+  pub order : IsOrder a ids

@@ -1,0 +1,52 @@
+-- The type that a definition makes of its children and values.
+use Rattle.std.specs.Prelude.{◌≡◌, List, IfSome}
+use Rattle.std.specs.List.{AllZip}
+use Rattle.inc_value.specs.Value.{type_of}
+use Rattle.inc_value.specs.declared.function.FnKind.TheVariants as kind
+use Rattle.inc_value.specs.declared.function.FnRef.{FnRef}
+use Rattle.inc_value.specs.declared.node.NodeId.{NodeId}
+use Rattle.inc_value.specs.declared.ty.Base.{Base}
+use Rattle.inc_value.specs.declared.ty.Base.TheVariants as base
+use Rattle.inc_value.specs.declared.ty.Ty.{Ty}
+use Rattle.inc_value.specs.declared.ty.Ty.TheVariants as ty
+use Rattle.inc_value.specs.declared.value.Value.{Value}
+use Rattle.inc_value.specs.declared.value.Value.TheVariants.{Node}
+use Rattle.inc_terms.specs.Graph.{Row, Def, Const, Var, Map}
+use Rattle.node_arena.specs.Arena.{Arena, row_at}
+
+-- the type that a base type is
+abbrev pub ty_of : Base → Ty
+ty_of base.Int = ty.Int
+ty_of base.Bool = ty.Bool
+ty_of base.Text = ty.Text
+
+-- the node is of the type, or dead
+abbrev pub Fits : Arena → NodeId → Ty → Type 0
+Fits a n t = IfSome (row_at a n) (λ (r : Row). r.ty ≡ t)
+
+-- a reference names a node of its base type, or a dead one
+abbrev pub ReferenceFits : Arena → Value → Type 0
+ReferenceFits a (Node n b) = Fits a n (ty_of b)
+ReferenceFits a v = Unit {0}
+
+-- a value of the type
+pub record HasType (a : Arena) (v : Value) (t : Ty) : Type 0 where
+  pub type : type_of v ≡ t
+  pub reference : ReferenceFits a v
+
+-- of a live node, the value has the type
+abbrev pub FitsNode : Arena → NodeId → Value → Type 0
+FitsNode a n v = IfSome (row_at a n) (λ (r : Row). HasType a v r.ty)
+
+-- a map whose children are of the types that the function takes, and which gives the type
+pub record MapMakes (a : Arena) (f : FnRef) (kids : List NodeId) (t : Ty) : Type 0 where
+  pub kind : f.id.kind ≡ kind.Map
+  pub children : AllZip (Fits a) kids f.sig.takes
+  pub gives : f.sig.gives ≡ t
+
+-- what the types of live children, of values and of the function make of the definition
+abbrev pub Makes : Arena → Def → Ty → Type 0
+Makes a (Const v) t = HasType a v t
+Makes a (Var v) t = HasType a v t
+Makes a (Map f kids) t = MapMakes a f kids t
+Makes a def t = ⊥

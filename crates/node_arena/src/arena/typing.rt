@@ -1,0 +1,107 @@
+//! Whether what a node names was given, and is of the types that the node wants.
+ghost use Rattle.std.specs.Prelude.{◌≡◌, ◌↔◌, IsTrue};
+ghost use Rattle.inc_value.specs.Choice.{Every};
+ghost use Rattle.std.specs.List.{AllZip};
+ghost use Rattle.inc_terms.specs.Code.{def_of};
+ghost use Rattle.inc_terms.specs.Within.{Given};
+ghost use Rattle.inc_terms.specs.Within.{ValueWithin};
+ghost use Rattle.node_arena.specs.Arena.{NamesGiven};
+ghost use Rattle.node_arena.specs.Typing.{Makes, Fits, HasType, ReferenceFits, ty_of};
+
+use super::Arena;
+use inc_terms::Def;
+use inc_value::{Base, FnKind, NodeId, Ty, Value};
+
+/// The type that the base type is.
+fn type_of_base(base: Base) -> Ty
+    ensures { result ≡ ty_of base }
+{
+    match base {
+        Base::Int => Ty::Int,
+        Base::Bool => Ty::Bool,
+        Base::Text => Ty::Text,
+    }
+}
+
+/// Whether each of the nodes was given, of so many.
+fn all_given(given: u64, nodes: &[NodeId]) -> bool
+    ensures { IsTrue result ↔ Every (Given given) nodes.now }
+{
+    nodes.iter().all(|node| node.gen_ < given)
+}
+
+/// Whether the value names no node that was never given, of so many.
+pub(super) fn value_given(given: u64, value: &Value) -> bool
+    ensures { IsTrue result ↔ ValueWithin (Given given) value.now }
+{
+    match value {
+        Value::Node(node, _) => node.gen_ < given,
+        _ => true,
+    }
+}
+
+/// Whether each node that the definition names was given, of so many.
+pub(super) fn names_given(given: u64, def: &Def) -> bool
+    ensures { IsTrue result ↔ NamesGiven given (def_of def.now) }
+{
+    match def {
+        Def::Const(value) | Def::Var(value) => value_given(given, value),
+        Def::Map(_, kids) => all_given(given, kids.as_slice()),
+    }
+}
+
+/// Whether the node is of the type, or dead.
+fn fits(arena: &Arena, node: NodeId, ty: Ty) -> bool
+    ensures { IsTrue result ↔ Fits arena.now node ty }
+{
+    match arena.get(node) {
+        Some(row) => row.ty == ty,
+        None => true,
+    }
+}
+
+/// Whether a reference names a node of its base type, or a dead one.
+fn reference_fits(arena: &Arena, value: &Value) -> bool
+    ensures { IsTrue result ↔ ReferenceFits arena.now value.now }
+{
+    match value {
+        Value::Node(node, base) => fits(arena, *node, type_of_base(*base)),
+        _ => true,
+    }
+}
+
+/// Whether the value is of the type.
+pub(super) fn has_type(arena: &Arena, value: &Value, ty: Ty) -> bool
+    ensures { IsTrue result ↔ HasType arena.now value.now ty }
+{
+    value.ty() == ty && reference_fits(arena, value)
+}
+
+/// Whether the nodes are of the types, one for one; a dead node is of every type.
+fn all_fit(arena: &Arena, nodes: &[NodeId], types: &[Ty]) -> bool
+    ensures { IsTrue result ↔ AllZip (Fits arena.now) nodes.now types.now }
+{
+    if nodes.len() != types.len() {
+        return false;
+    }
+    for (node, ty) in nodes.iter().zip(types) {
+        if !fits(arena, *node, *ty) {
+            return false;
+        }
+    }
+    true
+}
+
+/// Whether the definition makes the type.
+pub(super) fn makes(arena: &Arena, def: &Def, ty: Ty) -> bool
+    ensures { IsTrue result ↔ Makes arena.now (def_of def.now) ty }
+{
+    match def {
+        Def::Const(value) | Def::Var(value) => has_type(arena, value, ty),
+        Def::Map(f, kids) => {
+            f.id.kind == FnKind::Map
+                && f.sig.gives() == ty
+                && all_fit(arena, kids.as_slice(), f.sig.takes())
+        }
+    }
+}

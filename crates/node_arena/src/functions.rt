@@ -1,0 +1,64 @@
+//! The functions of a graph.
+
+use inc_value::{FnRef, Value};
+use std::alloc::{AllocError, Global};
+
+/// The functions that the nodes of a graph call. Each map that is known has a value for all values
+/// of the types that it takes, and the value is the same at each call.
+pub trait Functions: Drop {
+    ghost use Rattle.std.specs.Prelude.{◌≡◌, ◌≤◌, ℕ, Bool, List, IfOk, IsTrue};
+    ghost use Rattle.inc_value.specs.Value.{type_of, HaveTypes, IsProper};
+    ghost use Rattle.inc_value.specs.declared.function.FnRef.{FnRef};
+    ghost use Rattle.inc_value.specs.declared.function.FnKind.TheVariants.{Map};
+    ghost use Rattle.inc_value.specs.declared.value.Value.{Value};
+    ghost use Rattle.inc_value.specs.Counts.{raised, raised_on_err};
+    ghost use Rattle.node_arena.specs.Meanings.{KeepsKnown, SameValues, HaveMapSigs, GiveTypes, GiveProper, GiveNoReference};
+
+    // whether a function is known
+    ghost known: { Self → FnRef → Bool };
+
+    // what a map gives for its arguments
+    ghost value: { Self → FnRef → List Value → Value };
+
+    // how often `apply` was called; stays at 2 ^ 64 - 1
+    ghost calls: { Self → ℕ };
+
+    // how many of those calls found no memory; stays at 2 ^ 64 - 1
+    ghost wants: { Self → ℕ };
+
+    /// Whether the function is known.
+    fn knows(&self, f: FnRef) -> bool
+        ensures { result ≡ known self.now f };
+
+    /// What the map gives for the arguments. Each call is counted, also one that finds no memory
+    /// for the value. Values stay, and no function is forgotten.
+    fn apply(&mut self, alloc: Global, f: FnRef, args: &[Value]) -> Result<Value, AllocError>
+        requires known { IsTrue (known self.old f) }
+        requires kind { f.id.kind ≡ Map }
+        requires fit { HaveTypes args.now f.sig.takes }
+        ensures value { IfOk result (λ v. v ≡ value self.old f args.now) }
+        ensures typed { IfOk result (λ v. type_of v ≡ f.sig.gives) }
+        ensures proper { IfOk result IsProper }
+
+        ensures calls { calls self.new ≡ raised (calls self.old) }
+        ensures calls_grow { calls self.old ≤ calls self.new }
+        ensures wants { wants self.new ≡ raised_on_err result (wants self.old) }
+
+        ensures keeps_known { KeepsKnown (known self.old) (known self.new) }
+        ensures same_values { SameValues (value self.old) (value self.new) };
+
+    // a known map has the types of a map
+    ghost known_maps: { (s : Self) → HaveMapSigs (known s) };
+
+    // a known map gives a value of the type that it says
+    ghost typed: { (s : Self) → GiveTypes (known s) (value s) };
+
+    // a known map gives a value that a program can hold
+    ghost proper: { (s : Self) → GiveProper (known s) (value s) };
+
+    // whatever its arguments, a known map gives no reference to a node
+    ghost no_reference: { (s : Self) → GiveNoReference (known s) (value s) };
+}
+
+#[cfg(test)]
+mod tests;
