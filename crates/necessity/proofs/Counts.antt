@@ -1,21 +1,23 @@
--- Counts of points and links.
-use Rattle.std.proofs.Common.{◌≡◌, ◌≢◌, ◌⊎◌, inl, inr, ℕ, zero, suc, ◌+◌, ◌<◌, Bool, true, false, List, [], ◌∷◌, ◌++◌, length, refl, sym, arith}
-use Rattle.std.specs.Prelude.{slice_index_or, slice_set, count_by, filter_map, Contains, cond, remove}
-use Rattle.std.proofs.lemmas.List.Sums.{sum_by-cons, sum_by-append, sum_by-remove}
+-- Counts over lists of points and links.
+use Rattle.std.proofs.Common.{◌≡◌, ◌≢◌, ◌⊎◌, inl, inr, ℕ, zero, suc, ◌+◌, ◌<◌, Bool, true, false, List, [], ◌∷◌, length, refl, sym, ap, ◌∙◌, arith}
+use Rattle.std.specs.Prelude.{count_by, sum_by, Contains, cond, remove, ◌&&◌}
+use Rattle.std.proofs.lemmas.List.Sums.{sum_by-cons, sum_by-remove}
 use Rattle.std.proofs.lemmas.Grind.{common_steps}
 use Rattle.inc_value.specs.declared.node.Point.{Point}
 use Rattle.point_map.specs.Rows.{same_point}
 use Rattle.point_map.proofs.Places.{same_point_eq, same_point_self}
-use Rattle.necessity.specs.declared.links.Link.{Link}
-use Rattle.necessity.specs.declared.links.Attached.{Attached}
-use Rattle.necessity.specs.Links.{link, same_link, is_point, times, occurrences, Reads, OneLinkMore, OneRootMore}
-use Rattle.necessity.specs.Marks.{links_of}
-use Rattle.necessity.specs.Walks.{reader_to, kid_from}
+use Rattle.link_table.specs.declared.link.Link.{Link}
+use Rattle.link_table.specs.Links.{Links, link, same_link, times, occurrences, OneLinkMore, AreKids}
 
 -- a test passes or fails
 pub split : (b : Bool) → (b ≡ true) ⊎ (b ≡ false)
 split true = inl refl
 split false = inr refl
+
+-- both tests pass
+pub both : (a b : Bool) → a && b ≡ true → (a ≡ true) × (b ≡ true)
+both true b h = (refl, h)
+both false b h = absurd (let e = h in cc)
 
 -- the test of links is exact
 pub same_link_eq : (p q : Point) (l : Link) → same_link p q l ≡ true → l ≡ link p q
@@ -27,110 +29,96 @@ same_link_self p q = rw (same_point_self p, same_point_self q) refl
 pub other_link : (a b p q : Point) → link a b ≢ link p q → same_link a b (link p q) ≡ false
 other_link a b p q other = elim (split (same_link a b (link p q))) [ inl same ↦ absurd (other (sym (same_link_eq a b (link p q) same))) | inr differs ↦ differs ]
 
-pub other_point : (a p : Point) → a ≢ p → is_point a p ≡ false
-other_point a p other = elim (split (same_point p a)) [ inl same ↦ absurd (other (sym (same_point_eq p a same))) | inr differs ↦ differs ]
+-- the test of points is exact
+pub other_point : (a p : Point) → a ≢ p → same_point a p ≡ false
+other_point a p other = elim (split (same_point a p)) [ inl same ↦ absurd (other (same_point_eq a p same)) | inr differs ↦ differs ]
 
-module _ {X : Type 0} (f : X → Bool) where
-  count_cons : (x : X) (xs : List X) → count_by f (x ∷ xs) ≡ cond (f x) 1 0 + count_by f xs
-  count_cons x xs = sum_by-cons (λ y. cond (f y) 1 0) x xs
+module _ {X : Type 0} where
+  -- a sum of sums
+  pub sum_by_parts : (u v w : X → ℕ) → ((x : X) → u x ≡ v x + w x) → (xs : List X) → sum_by u xs ≡ sum_by v xs + sum_by w xs
+  sum_by_parts u v w h [] = refl
+  sum_by_parts u v w h (x ∷ xs) = rw (sum_by-cons u x xs, sum_by-cons v x xs, sum_by-cons w x xs) (omega (arith, h x, sum_by_parts u v w h xs))
 
-  -- what is among the list is counted
-  pub counted : (xs : List X) (x : X) → Contains xs x → f x ≡ true → 0 < count_by f xs
-  counted [] x h t = absurd (omega (arith, h.1))
-  counted (y ∷ ys) x (zero, below, e) t = let passes : f y ≡ true = rw e t in rw (count_cons y ys, passes) (omega arith)
-  counted (y ∷ ys) x (suc k, below, e) t =
-      let rest = counted ys x (k, omega (arith, below), e) t in rw (count_cons y ys) (omega (arith, rest))
+  -- equal terms have equal sums
+  pub sum_by_same : (u v : X → ℕ) → ((x : X) → u x ≡ v x) → (xs : List X) → sum_by u xs ≡ sum_by v xs
+  sum_by_same u v h [] = refl
+  sum_by_same u v h (x ∷ xs) = rw (sum_by-cons u x xs, sum_by-cons v x xs) (omega (arith, h x, sum_by_same u v h xs))
 
-  -- what is counted is among the list
-  pub found : (xs : List X) → 0 < count_by f xs → (x : X) × Contains xs x × (f x ≡ true)
-  found [] h = absurd (omega (arith, h))
-  found (y ∷ ys) h = elim (split (f y)) [
-    | inl passes ↦ (y, (0, omega arith, refl), passes)
-    | inr fails ↦ let less = rw (count_cons y ys, fails) at h in let rest = found ys (omega (arith, less)) in
-        (rest.0, (suc rest.1.0, omega (arith, rest.1.1), rest.1.2), rest.2)
-  ]
+  -- each element counts once in the length
+  pub length_sum : (xs : List X) → sum_by (λ x. 1) xs ≡ length xs
+  length_sum [] = refl
+  length_sum (x ∷ xs) = rw (sum_by-cons (λ y. 1) x xs, length_sum xs) (omega arith)
 
-  -- what stands in a list with one element set is the new one or was there
-  pub contains_set : (xs : List X) (i : ℕ) (y x : X) → Contains (slice_set xs i y) x → (x ≡ y) ⊎ Contains xs x
-  contains_set [] i y x h = inr h
-  contains_set (z ∷ zs) zero y x (zero, below, e) = inl (sym e)
-  contains_set (z ∷ zs) zero y x (suc k, below, e) = inr (suc k, below, e)
-  contains_set (z ∷ zs) (suc i) y x (zero, below, e) = inr (zero, omega arith, e)
-  contains_set (z ∷ zs) (suc i) y x (suc k, below, e) = elim (contains_set zs i y x (k, omega (arith, below), e))
-      [ inl same ↦ inl same | inr there ↦ inr (suc there.0, omega (arith, there.1), there.2) ]
+  module _ (f : X → Bool) where
+    pub count_cons : (x : X) (xs : List X) → count_by f (x ∷ xs) ≡ cond (f x) 1 0 + count_by f xs
+    count_cons x xs = sum_by-cons (λ y. cond (f y) 1 0) x xs
 
--- a count over the links is one over what is attached
-pub times_of : (all : List Attached) (p q : Point) → times (links_of all) p q ≡ count_by (λ e. same_link p q e.link) all
-times_of [] p q = refl
-times_of (e ∷ rest) p q =
-    rw (count_cons (same_link p q) e.link (links_of rest), count_cons (λ x. same_link p q x.link) e rest, times_of rest p q) refl
+    -- what is among the list is counted
+    pub counted : (xs : List X) (x : X) → Contains xs x → f x ≡ true → 0 < count_by f xs
+    counted [] x h t = absurd (omega (arith, h.1))
+    counted (y ∷ ys) x (zero, below, e) t = let passes : f y ≡ true = rw e t in rw (count_cons y ys, passes) (omega arith)
+    counted (y ∷ ys) x (suc k, below, e) t =
+        let rest = counted ys x (k, omega (arith, below), e) t in rw (count_cons y ys) (omega (arith, rest))
 
--- a root that is counted stands in the list, and the other way round
-pub root_found : (roots : List Point) (p : Point) → 0 < occurrences roots p → Contains roots p
-root_found roots p h = let f = found (is_point p) roots h in let e = same_point_eq f.0 p f.2 in rw e at f.1
+    -- what is counted is among the list
+    pub found : (xs : List X) → 0 < count_by f xs → (x : X) × Contains xs x × (f x ≡ true)
+    found [] h = absurd (omega (arith, h))
+    found (y ∷ ys) h = elim (split (f y)) [
+      | inl passes ↦ (y, (0, omega arith, refl), passes)
+      | inr fails ↦ let less = rw (count_cons y ys, fails) at h in let rest = found ys (omega (arith, less)) in
+          (rest.0, (suc rest.1.0, omega (arith, rest.1.1), rest.1.2), rest.2)
+    ]
 
-pub root_counted : (roots : List Point) (p : Point) → Contains roots p → 0 < occurrences roots p
-root_counted roots p h = counted (is_point p) roots p h (same_point_self p)
+  module _ (same : X → X → Bool) (exact : (a b : X) → same a b ≡ true → b ≡ a) (self : (a : X) → same a a ≡ true) (w : X → ℕ) where
+    -- lists that have each element as often have the same sums
+    pub same_sums : (xs ys : List X) → ((a : X) → count_by (same a) xs ≡ count_by (same a) ys) → sum_by w xs ≡ sum_by w ys
+    same_sums [] [] h = refl
+    same_sums [] (y ∷ ys) h = absurd (let e = h y in let one = rw (count_cons (same y) y ys, self y) at e in omega (arith, one))
+    same_sums (x ∷ xs) ys h =
+        let here = rw (count_cons (same x) x xs, self x) at (h x) in
+        let f = found (same x) ys (omega (arith, here)) in
+        let is = exact x f.0 f.2 in
+        let i = f.1.0 in
+        let left = same_sums xs (remove ys i) (λ a.
+        let r = sum_by-remove (λ y. cond (same a y) 1 0) ys i f.0 f.1.1 in
+        let all = rw (count_cons (same a) x xs) at (h a) in
+        let r' = rw (f.1.2, is) at r in omega (arith, r', all)) in
+        let r = rw (f.1.2, is) at (sum_by-remove w ys i f.0 f.1.1) in
+        rw (sum_by-cons w x xs) (omega (arith, left, r))
 
--- a link that is counted is attached, and the other way round
-pub link_found : (all : List Attached) (p q : Point) → Reads (links_of all) p q → (e : Attached) × Contains all e × (e.link ≡ link p q)
-link_found all p q h =
-    let f = found (λ e. same_link p q e.link) all (rw (← times_of all p q) h) in (f.0, f.1, same_link_eq p q f.0.link f.2)
+-- two links are the same or not
+pub link_cases : (a b : Link) → (a ≡ b) ⊎ (a ≢ b)
+link_cases a b = elim (split (same_link b.reader b.kid a)) [
+  | inl same ↦ inl (same_link_eq b.reader b.kid a same)
+  | inr differs ↦ inr (λ e. let t : true ≡ false = sym (same_link_self b.reader b.kid) ∙ ap (same_link b.reader b.kid) (sym e) ∙ differs in cc)
+]
 
-pub link_counted : (all : List Attached) (e : Attached) → Contains all e → Reads (links_of all) e.link.reader e.link.kid
-link_counted all e h =
-    let c = counted (λ x. same_link e.link.reader e.link.kid x.link) all e h (same_link_self e.link.reader e.link.kid) in
-    rw (times_of all e.link.reader e.link.kid) c
+-- one link more adds its term to every sum
+pub link_more : (w : Link → ℕ) (fewer more : Links) (p q : Point) → OneLinkMore fewer more p q → sum_by w more.all ≡ sum_by w fewer.all + w (link p q)
+link_more w fewer more p q h =
+    let s = same_sums (λ a. same_link a.reader a.kid) (λ a b e. same_link_eq a.reader a.kid b e) (λ a. same_link_self a.reader a.kid) w
+    more.all (link p q ∷ fewer.all) (λ a. rw (count_cons (same_link a.reader a.kid) (link p q) fewer.all)
+    (elim (link_cases a (link p q)) [
+      | inl same ↦ rw (same, same_link_self p q, h.raised) (omega arith)
+      | inr differs ↦ rw (other_link a.reader a.kid p q differs, h.others a.reader a.kid differs) (omega arith)
+    ])) in
+    rw (sum_by-cons w (link p q) fewer.all) at s ∙ omega arith
 
--- the readers of q are counted as the links are
-pub readers_counted : (all : List Attached) (q r : Point) → occurrences (filter_map (reader_to q) all) r ≡ times (links_of all) r q
-readers_counted [] q r = refl
-readers_counted (e ∷ rest) q r = let h = readers_counted rest q r in grind (arith, common_steps)
+-- as many kids as links
+abbrev kids_of : Point → List Link → List Point
+kids_of p [] = []
+kids_of p (e ∷ rest) = cond (same_point e.reader p) (e.kid ∷ kids_of p rest) (kids_of p rest)
 
--- the kids of p are counted as the links are
-pub kids_counted : (all : List Attached) (p k : Point) → occurrences (filter_map (kid_from p) all) k ≡ times (links_of all) p k
+kids_counted : (all : List Link) (p k : Point) → occurrences (kids_of p all) k ≡ times (record { all = all }) p k
 kids_counted [] p k = refl
 kids_counted (e ∷ rest) p k = let h = kids_counted rest p k in grind (arith, common_steps)
 
--- one link more at the end
-pub link_added : (all : List Attached) (e : Attached) → OneLinkMore (links_of all) (links_of (all ++ e ∷ [])) e.link.reader e.link.kid
-link_added all e = record {
-  raised = let self = same_link_self e.link.reader e.link.kid in
-      rw (
-        times_of (all ++ e ∷ []) e.link.reader e.link.kid,
-        times_of all e.link.reader e.link.kid,
-        sum_by-append (λ x. cond (same_link e.link.reader e.link.kid x.link) 1 0) all (e ∷ []),
-        self,
-      ) (omega arith);
-  others = λ a b other. let no = other_link a b e.link.reader e.link.kid other in
-      rw (times_of (all ++ e ∷ []) a b, times_of all a b, sum_by-append (λ x. cond (same_link a b x.link) 1 0) all (e ∷ []), no) (omega arith);
-}
+kids_length : (all : List Link) (p : Point) → length (kids_of p all) ≡ count_by (λ e. same_point e.reader p) all
+kids_length [] p = refl
+kids_length (e ∷ rest) p = let h = kids_length rest p in grind (arith, common_steps)
 
--- one link less, where it stood
-pub link_removed : (all : List Attached) (i : ℕ) (d : Attached) (p q : Point) → i < length all → (slice_index_or all i d).link ≡ link p q
-    → OneLinkMore (links_of (remove all i)) (links_of all) p q
-link_removed all i d p q below is = record {
-  raised = let s = sum_by-remove (λ x. cond (same_link p q x.link) 1 0) all i d below in
-      let one : ◌≡◌ {A = ℕ} (cond (same_link p q (slice_index_or all i d).link) 1 0) 1 = rw (is, same_link_self p q) refl in
-      rw (times_of (remove all i) p q, times_of all p q) (omega (arith, s, one));
-  others = λ a b other. let s = sum_by-remove (λ x. cond (same_link a b x.link) 1 0) all i d below in
-      let none : ◌≡◌ {A = ℕ} (cond (same_link a b (slice_index_or all i d).link) 1 0) 0 = rw (is, other_link a b p q other) refl in
-      rw (times_of (remove all i) a b, times_of all a b) (omega (arith, s, none));
-}
-
--- one root more at the end
-pub root_added : (roots : List Point) (p : Point) → OneRootMore roots (roots ++ p ∷ []) p
-root_added roots p = record {
-  raised = let self = same_point_self p in rw (sum_by-append (λ x. cond (is_point p x) 1 0) roots (p ∷ []), self) (omega arith);
-  others = λ a other. let no = other_point a p (λ e. other e) in
-      rw (sum_by-append (λ x. cond (is_point a x) 1 0) roots (p ∷ []), no) (omega arith);
-}
-
--- one root less, where it stood
-pub root_removed : (roots : List Point) (i : ℕ) (p : Point) → i < length roots → slice_index_or roots i p ≡ p → OneRootMore (remove roots i) roots p
-root_removed roots i p below is = record {
-  raised = let s = sum_by-remove (λ x. cond (is_point p x) 1 0) roots i p below in
-      let one : ◌≡◌ {A = ℕ} (cond (is_point p (slice_index_or roots i p)) 1 0) 1 = rw (is, same_point_self p) refl in omega (arith, s, one);
-  others = λ a other. let s = sum_by-remove (λ x. cond (is_point a x) 1 0) roots i p below in
-      let none : ◌≡◌ {A = ℕ} (cond (is_point a (slice_index_or roots i p)) 1 0) 0 = rw (is, other_point a p other) refl in omega (arith, s, none);
-}
+pub as_many_kids : (l : Links) (p : Point) (kids : List Point) → AreKids l p kids → length kids ≡ count_by (λ e. same_point e.reader p) l.all
+as_many_kids l p kids are =
+    let s = same_sums (λ a b. same_point b a) (λ a b e. same_point_eq b a e) same_point_self (λ x. 1) kids (kids_of p l.all)
+    (λ k. rw (are k) (sym (kids_counted l.all p k))) in
+    omega (arith, s, length_sum kids, length_sum (kids_of p l.all), kids_length l.all p)

@@ -1,2 +1,6 @@
 pub mod Counts
-pub mod Marking
+pub mod Turning
+pub mod Steps
+pub mod Starts
+pub mod Reaching
+pub mod Sound

@@ -1,4 +1,3 @@
-pub mod Links
+pub mod Counting
 pub mod Need
-pub mod Marks
-pub mod Walks
+pub mod Turn

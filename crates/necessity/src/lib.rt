@@ -2,10 +2,10 @@
 //! are counted, and each is taken off once for each time that it was put on.
 #![tactic(auto)]
 
-mod links;
-mod marks;
+mod cascade;
+mod need;
 mod needs;
-mod walks;
+mod rows;
 
+pub use link_table::{Kids, Readers};
 pub use needs::Needs;
-pub use walks::{Kids, Readers};

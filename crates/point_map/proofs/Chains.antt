@@ -1,9 +1,12 @@
 -- Pushing onto a chain and popping its head.
-use Rattle.std.proofs.Common.{◌≡◌, ◌≢◌, ◌∙◌, ◌⊎◌, ℕ, zero, suc, ◌+◌, ◌<◌, ◌≤◌, Bool, true, false, List, [], ◌∷◌, length, refl, ap, sym, subst, inl, inr, arith, nat_eq, cond}
+use Rattle.std.proofs.Common.{◌≡◌, ◌≢◌, ◌∙◌, ◌⊎◌, ℕ, ◌+◌, ◌<◌, ◌≤◌, true, false, List, [], ◌∷◌, length, refl, ap, sym, subst, inl, inr, arith, nat_eq, cond, eqb}
 use Rattle.std.specs.Prelude.{Option, Some, None, slice_index_or, slice_set}
 use Rattle.std.proofs.lemmas.Bool.{cases_eq, ne_eqb, eq-eqb}
+use Rattle.std.proofs.lemmas.Bool.Decides.{eqb_tells}
+use Rattle.std.proofs.lemmas.Map.Steps.{length-le_from_distinct_below}
+use Rattle.std.specs.List.{IsDistinct, AllByRecursion, list_any}
 use Rattle.std.proofs.lemmas.List.{length-set, get_or-set_same, get_or-set_other}
-use Rattle.point_map.specs.Chains.{Among, NoRepeats, Chain, IsLinked}
+use Rattle.point_map.specs.Chains.{Among, NoRepeats, Chain, IsLinked, NoneOnChain}
 
 -- a chain is the same where the links of its places are
 pub chain_kept : (old new : ℕ → Option ℕ) (from : Option ℕ) (ks : List ℕ) → ((k : ℕ) → Among ks k → new k ≡ old k)
@@ -242,3 +245,72 @@ links_empty heads next bucket no_heads no_cells = record {
   own = λ b k a. absurd a;
   once = λ b. tt;
 }
+
+-- after so many steps along a chain, those of its places of which this is so are still ahead
+abbrev pub Ahead : (ℕ → Option ℕ) → Option ℕ → ℕ → (ℕ → Type 0) → Option ℕ → ℕ → Type 0
+Ahead next first bound P at steps = (ks : List ℕ) → Chain next first ks → length ks ≤ bound
+    → (rest : List ℕ) × Chain next at rest × (length rest + steps ≤ bound) × ((k : ℕ) → Among ks k → P k → Among rest k)
+
+pub ahead_start : (next : ℕ → Option ℕ) (first : Option ℕ) (bound : ℕ) (P : ℕ → Type 0) → Ahead next first bound P first 0
+ahead_start next first bound P ks chain short = (ks, chain, omega (arith, short), λ k a p. a)
+
+step_of : (next : ℕ → Option ℕ) (place bound steps : ℕ) (P : ℕ → Type 0) (ks rest : List ℕ) → (P place → ⊥) → Chain next (Some place) rest
+    → length rest + steps ≤ bound → ((k : ℕ) → Among ks k → P k → Among rest k)
+    → (left : List ℕ) × Chain next (next place) left × (length left + (steps + 1) ≤ bound) × ((k : ℕ) → Among ks k → P k → Among left k)
+step_of next place bound steps P ks [] never chain short ahead = absurd (none_bucket place (sym chain))
+step_of next place bound steps P ks (j ∷ left) never chain short ahead = (
+  left,
+  subst (λ x. Chain next (next x) left) (sym (some_bucket place j chain.0)) chain.1,
+  omega (arith, short),
+  λ k a p. later k p (ahead k a p),
+)
+  where
+    later : (k : ℕ) → P k → (j ≡ k) ⊎ Among left k → Among left k
+    later k p (inl same) = absurd (never (subst P (sym (some_bucket place j chain.0 ∙ same)) p))
+    later k p (inr a) = a
+
+pub ahead_step : (next : ℕ → Option ℕ) (first : Option ℕ) (bound : ℕ) (P : ℕ → Type 0) (place steps : ℕ)
+    → Ahead next first bound P (Some place) steps → (P place → ⊥) → Ahead next first bound P (next place) (steps + 1)
+ahead_step next first bound P place steps ahead never ks chain short =
+    let a = ahead ks chain short in step_of next place bound steps P ks a.0 never a.1 a.2 a.3
+
+none_ahead : (next : ℕ → Option ℕ) (k : ℕ) (rest : List ℕ) → Chain next None rest → Among rest k → ⊥
+none_ahead next k [] chain a = a
+none_ahead next k (j ∷ rest) chain a = none_bucket j chain.0
+
+-- at the chain's end there is none
+pub ahead_none : (next : ℕ → Option ℕ) (first : Option ℕ) (bound : ℕ) (P : ℕ → Type 0) (steps : ℕ)
+    → Ahead next first bound P None steps → NoneOnChain next first bound P
+ahead_none next first bound P steps ahead ks chain short k a p =
+    let h = ahead ks chain short in none_ahead next k h.0 h.1 (h.3 k a p)
+
+spent : (k : ℕ) (rest : List ℕ) → length rest ≤ 0 → Among rest k → ⊥
+spent k [] short a = a
+spent k (j ∷ rest) short a = absurd (omega (arith, short))
+
+-- after as many steps as the bound there is none
+pub ahead_spent : (next : ℕ → Option ℕ) (first : Option ℕ) (bound : ℕ) (P : ℕ → Type 0) (at : Option ℕ) (steps : ℕ)
+    → Ahead next first bound P at steps → bound ≤ steps → NoneOnChain next first bound P
+ahead_spent next first bound P at steps ahead done ks chain short k a p =
+    let h = ahead ks chain short in spent k h.0 (let s = h.2 in omega (arith, s, done)) (h.3 k a p)
+
+among_any : (ks : List ℕ) (k : ℕ) → list_any (eqb k) ks ≡ true → Among ks k
+among_any [] k h = absurd (let e = h in cc)
+among_any (j ∷ ks) k h =
+    elim (eqb_tells k j) [
+      | inl same ↦ inl (sym same.1)
+      | inr differs ↦ inr (among_any ks k (let d = differs.0 in grind (arith, h, d)))
+    ]
+
+apart : (k : ℕ) (ks : List ℕ) → (Among ks k → ⊥) → AllByRecursion (λ y. eqb k y ≡ false) ks
+apart k [] never = tt
+apart k (j ∷ ks) never = (ne_eqb k j (λ same. never (inl (sym same))), apart k ks (λ a. never (inr a)))
+
+distinct_from : (ks : List ℕ) → NoRepeats ks → IsDistinct eqb ks
+unfolding IsDistinct
+distinct_from [] h = tt
+distinct_from (k ∷ ks) h = (apart k ks h.0, distinct_from ks h.1)
+
+-- places below a bound, none twice, are no more than the bound
+pub few_places : (ks : List ℕ) (bound : ℕ) → NoRepeats ks → ((k : ℕ) → Among ks k → k < bound) → length ks ≤ bound
+few_places ks bound once below = length-le_from_distinct_below ks bound (distinct_from ks once) (λ q h. below q (among_any ks q h))

@@ -1,4 +1,5 @@
-mod Cells
 pub mod Chains
+mod KeptPlaces
 mod Links
+mod Moving
 pub mod Places

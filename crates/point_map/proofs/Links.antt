@@ -1,13 +1,14 @@
 -- Links of a slab, and what a contract sees of them.
-use Rattle.std.proofs.Common.{◌≡◌, ◌≢◌, ◌∙◌, ℕ, zero, suc, ◌+◌, ◌<◌, ◌≤◌, List, [], ◌∷◌, length, refl, ap, sym, subst, inl, inr, arith, map, is_some, IsSome, count_by, option_map, replicate}
+use Rattle.std.proofs.Common.{◌≡◌, ◌≢◌, ◌∙◌, ℕ, zero, suc, ◌<◌, ◌≤◌, List, [], ◌∷◌, length, refl, ap, sym, inl, inr, arith, map, is_some, count_by, option_map, replicate}
 use Rattle.std.specs.Prelude.{Option, Some, None, slice_index_or, slice_set, option_and_then, IfSome, IfNone}
 use Rattle.std.proofs.Math.ListN.{get_or-map}
 use Rattle.std.proofs.lemmas.Bool.{cases_eq}
+use Rattle.std.proofs.lemmas.List.{get_or_past, map-set}
 use Rattle.std.proofs.lemmas.Grind.{common_steps}
 use Rattle.inc_value.specs.declared.node.Point.{Point}
-use Rattle.point_map.specs.Buckets.{Kept, Buckets, kept_at, KeptChanges, IsKeptIn, IsEmptyBucket, IsAt}
-use Rattle.point_map.specs.Chains.{IsLinked}
-use Rattle.point_map.proofs.Chains.{links_kept, some_bucket, none_bucket, head_own, head_none}
+use Rattle.point_map.specs.Buckets.{Kept, Buckets, kept_at, kept_with, KeptChanges, IsKeptIn, IsEmptyBucket}
+use Rattle.point_map.specs.Chains.{IsLinked, NoneOnChain}
+use Rattle.point_map.proofs.Chains.{few_places, links_kept, some_bucket, none_bucket, head_own, head_none}
 use Rattle.point_map.specs.declared.buckets.Link.{Link}
 
 module _ {R : Type 0} where
@@ -105,6 +106,58 @@ module _ {R : Type 0} where
             ∙ sym (ap (option_map (λ x. x.bucket)) there) ∙ sym (ap (bucket_at slots) same)
         | inr differs ↦ ap (option_map (λ x. x.bucket)) (others j differs)
       ])
+
+  -- a link with another row is seen as a point with that row
+  pub written_seen : (slots : List (Option (Link R))) (i : ℕ) (l : Link R) (row : R) → slice_index_or slots i None ≡ Some l
+      → kept_in (slice_set slots i (Some (record { bucket = l.bucket; point = l.point; next = l.next; row = row })))
+      ≡ slice_set (kept_in slots) i (option_map (kept_with row) (slice_index_or (kept_in slots) i None))
+  written_seen slots i l row there =
+      map-set (option_map kept_of) slots i (Some (record { bucket = l.bucket; point = l.point; next = l.next; row = row }))
+      ∙ ap (λ e. slice_set (kept_in slots) i (option_map (kept_with row) e)) (sym (seen_at slots i ∙ ap (option_map kept_of) there))
+
+  -- where no point is kept nothing is written
+  pub unwritten : (kept : List (Option (Kept R))) (i : ℕ) (row : R) → slice_index_or kept i None ≡ None
+      → slice_set kept i (option_map (kept_with row) (slice_index_or kept i None)) ≡ kept
+  unwritten [] i row none = refl
+  unwritten (e ∷ rest) zero row none = ap (λ x. x ∷ rest) (ap (option_map (kept_with row)) none ∙ sym none)
+  unwritten (e ∷ rest) (suc i) row none = ap (λ ks. e ∷ ks) (unwritten rest i row none)
+
+  abbrev pub point_at : List (Option (Link R)) → ℕ → Option Point
+  point_at slots k = option_map (λ l. l.point) (slice_index_or slots k None)
+
+  point_kept : (o : Option (Link R)) → option_map (λ k. k.point) (option_map kept_of o) ≡ option_map (λ l. l.point) o
+  point_kept None = refl
+  point_kept (Some l) = refl
+
+  point_seen : (view : Buckets R) (slots : List (Option (Link R))) (i : ℕ) → kept_in slots ≡ view.kept
+      → option_map (λ k. k.point) (kept_at view i) ≡ point_at slots i
+  point_seen view slots i seen =
+      ap (λ ks. option_map (λ k. k.point) (slice_index_or ks i None)) (sym seen) ∙ ap (option_map (λ k. k.point)) (seen_at slots i)
+      ∙ point_kept (slice_index_or slots i None)
+
+  -- a place that is found keeps the point
+  pub find_found : (view : Buckets R) (slots : List (Option (Link R))) (p : Point) (o : Option ℕ) → kept_in slots ≡ view.kept
+      → IfSome o (λ i. point_at slots i ≡ Some p) → IfSome o (λ i. option_map (λ k. k.point) (kept_at view i) ≡ Some p)
+  find_found view slots p None seen h = tt
+  find_found view slots p (Some i) seen h = point_seen view slots i seen ∙ h
+
+  within_slots : (slots : List (Option (Link R))) (k : ℕ) (l : Link R) → slice_index_or slots k None ≡ Some l → k < length slots
+  within_slots slots k l there = grind (arith, get_or_past)
+
+  -- where none is found on its chain, the bucket doesn't have the point
+  pub find_absent : (view : Buckets R) (heads : List (Option ℕ)) (slots : List (Option (Link R))) (room b : ℕ) (p : Point) (o : Option ℕ)
+      → kept_in slots ≡ view.kept → IsLinked heads (next_at slots) (bucket_at slots) → b < length heads → length slots ≤ room
+      → IfNone o (NoneOnChain (next_at slots) (slice_index_or heads b None) room (λ k. point_at slots k ≡ Some p))
+      → IfNone o ((i : ℕ) (k : Kept R) → kept_at view i ≡ Some k → k.bucket ≡ b → k.point ≢ p)
+  find_absent view heads slots room b p (Some i) seen links lt long h = tt
+  find_absent view heads slots room b p None seen links lt long h = λ i k there in_b same.
+      let in_chain = links.every i b
+      (kept_bucket (slice_index_or slots i None) k (sym (seen_at slots i) ∙ ap (λ ks. slice_index_or ks i None) seen ∙ there) ∙ ap Some in_b) in
+      h (links.chains b) (links.linked b lt)
+      (few_places (links.chains b) room (links.once b) (λ j a.
+      let l = link_at slots j b (links.own b j a) in
+      let inside = within_slots slots j l.0 l.1 in omega (arith, inside, long)))
+      i in_chain.1 (sym (point_seen view slots i seen) ∙ ap (option_map (λ x. x.point)) there ∙ ap Some same)
 
 -- an index within a list, whatever stands in for a missing one
 pub index_is : {A : Type 0} (xs : List A) (i : ℕ) (x d : A) → i < length xs → x ≡ slice_index_or xs i x → slice_index_or xs i d ≡ x

@@ -1,14 +1,13 @@
 -- Places and the rows found in them.
-use Rattle.std.proofs.Common.{◌≡◌, ◌≢◌, ◌∙◌, ◌⊎◌, ℕ, zero, suc, ◌+◌, ◌<◌, ◌≤◌, Bool, true, false, List, [], ◌∷◌, length, refl, ap, sym, inl, inr, arith, rules}
-use Rattle.std.specs.Prelude.{Option, Some, None, is_some, slice_index_or, slice_set, option_map, IsSome, ◌&&◌, ◌==◌, if◌then◌else◌}
+use Rattle.std.proofs.Common.{◌≡◌, ◌≢◌, ◌∙◌, ◌⊎◌, ℕ, zero, suc, ◌<◌, ◌≤◌, Bool, true, false, List, [], ◌∷◌, length, refl, ap, sym, inl, inr, arith}
+use Rattle.std.specs.Prelude.{Option, Some, None, slice_index_or, IsSome, if◌then◌else◌}
 use Rattle.inc_value.specs.declared.node.Point.{Point}
-use Rattle.inc_value.specs.declared.node.NodeId.{NodeId}
 use Rattle.inc_value.specs.declared.node.Part.{Part}
 use Rattle.inc_value.specs.declared.node.Part.TheVariants.{Change, Main}
 use Rattle.std.proofs.lemmas.Bool.{cases_eq}
 use Rattle.std.proofs.lemmas.List.{get_or_past}
 use Rattle.std.proofs.lemmas.Grind.{common_steps}
-use Rattle.point_map.specs.Rows.{Rows, same_part, same_point, Place, is_at, at, standing, row_in, Holds, StandsOnce, StandsBelow, IsWalk}
+use Rattle.point_map.specs.Rows.{Rows, same_part, same_point, Place, at, row_in, StandsOnce, IsWalk}
 
 pub same_part_eq : (p q : Part) → same_part p q ≡ true → p ≡ q
 same_part_eq Change Change h = refl
@@ -197,6 +196,78 @@ module _ {R : Type 0} where
             (λ a. stood old new i None q a changes (none_or_some q a));
       }
 
+  -- a place is vacated, and what stood at another, now vacant, stands there
+  pub record PlaceTaken (old new : List (Place R)) (i vacated : ℕ) : Type 0 where
+    pub vacant : slice_index_or new vacated None ≡ None
+    pub moved : vacated ≢ i → slice_index_or new i None ≡ slice_index_or old vacated None
+    pub others : (j : ℕ) → j ≢ i → j ≢ vacated → slice_index_or new j None ≡ slice_index_or old j None
+
+  -- where a point stood that stands here now
+  record Came (old : List (Place R)) (i vacated j : ℕ) (q : Point) (a : R) : Type 0 where
+    pub place : ℕ
+    pub there : slice_index_or old place None ≡ Some (q, a)
+    pub not_taken : place ≢ i
+    pub moved : place ≡ vacated → j ≡ i
+    pub stayed : place ≢ vacated → j ≡ place
+
+  came : (old new : List (Place R)) (i v j : ℕ) (q : Point) (a : R) → PlaceTaken old new i v → slice_index_or new j None ≡ Some (q, a)
+      → Came old i v j q a
+  came old new i v j q a taken here =
+      elim (cases_eq j v) [
+        | inl same ↦ absurd (none_or_some q a (sym taken.vacant ∙ ap (λ x. slice_index_or new x None) (sym same) ∙ here))
+        | inr stays ↦ elim (cases_eq j i) [
+          | inl same ↦
+              let differs : v ≢ i = λ e. stays (same ∙ sym e) in
+              record {
+                place = v;
+                there = sym (taken.moved differs) ∙ ap (λ x. slice_index_or new x None) (sym same) ∙ here;
+                not_taken = differs;
+                moved = λ e. same;
+                stayed = λ never. absurd (never refl);
+              }
+          | inr differs ↦ record {
+            place = j;
+            there = sym (taken.others j differs stays) ∙ here;
+            not_taken = differs;
+            moved = λ e. absurd (stays e);
+            stayed = λ e. refl;
+          }
+        ]
+      ]
+
+  once_taken : (old new : List (Place R)) (i v : ℕ) → StandsOnce old → PlaceTaken old new i v → StandsOnce new
+  once_taken old new i v once taken j k q a b hj hk =
+      let from_j = came old new i v j q a taken hj in
+      let from_k = came old new i v k q b taken hk in
+      let same = once from_j.place from_k.place q a b from_j.there from_k.there in
+      elim (cases_eq from_j.place v) [
+        | inl is_v ↦ from_j.moved is_v ∙ sym (from_k.moved (sym same ∙ is_v))
+        | inr differs ↦ from_j.stayed differs ∙ same ∙ sym (from_k.stayed (λ e. differs (same ∙ e)))
+      ]
+
+  still : (old new : List (Place R)) (i v : ℕ) (p q : Point) (r a : R) → PlaceTaken old new i v → slice_index_or old i None ≡ Some (p, r)
+      → q ≢ p → Stands old q a → Stands new q a
+  still old new i v p q r a taken here differs s =
+      let not_i : s.0 ≢ i = λ e. differs (sym (point_of_pair p q r a (sym here ∙ ap (λ x. slice_index_or old x None) (sym e) ∙ s.1))) in
+      elim (cases_eq s.0 v) [
+        | inl is_v ↦ (i, taken.moved (λ e. not_i (is_v ∙ e)) ∙ ap (λ x. slice_index_or old x None) (sym is_v) ∙ s.1)
+        | inr stays ↦ (s.0, taken.others s.0 not_i stays ∙ s.1)
+      ]
+
+  -- a point is taken off its place
+  pub row_taken : (old new : List (Place R)) (i v : ℕ) (p : Point) (r : R) → StandsOnce old
+      → slice_index_or old i None ≡ Some (p, r) → PlaceTaken old new i v → RowChanges old new p None
+  row_taken old new i v p r once here taken =
+      let kept = once_taken old new i v once taken in
+      record {
+        once = kept;
+        changed = row_absent new p (λ a s.
+            let from = came old new i v s.0 p a taken s.1 in from.not_taken (once from.place i p a r from.there here));
+        others = λ q differs. rows_agree old new q kept
+            (λ a. still old new i v p q r a taken here differs)
+            (λ a s. let from = came old new i v s.0 q a taken s.1 in (from.place, from.there));
+      }
+
   had : (old new : List (Place R)) (i j : ℕ) (p q : Point) (r s a : R) → slice_index_or old i None ≡ Some (p, r)
       → PlaceChanges old new i (Some (p, s)) → slice_index_or new j None ≡ Some (q, a)
       → (b : R) × (slice_index_or old j None ≡ Some (q, b))
@@ -226,36 +297,9 @@ module _ {R : Type 0} where
             (λ a. stood old new i (Some (p, s)) q a changes (λ h. differs (sym (point_of_pair p q s a h))));
       }
 
-  -- a place without the point
-  pub not_at : (e : Place R) (p : Point) (r : R) → is_at e p ≡ false → e ≡ Some (p, r) → ⊥
-  not_at e p r h same =
-      let there : true ≡ false = sym (same_point_self p) ∙ ap (λ x. is_at x p) (sym same) ∙ h in cc
-
-  -- a place with the point
-  pub at_point : (e : Place R) (p : Point) → is_at e p ≡ true → (r : R) × (e ≡ Some (p, r))
-  at_point None p h = absurd (cc)
-  at_point (Some (q, a)) p h = (a, pair_of q p a a (same_point_eq q p h) refl)
-
-  some_at : (e : Place R) (p : Point) (row : Option R) → is_at e p ≡ true → ((r : R) → e ≡ Some (p, r) → row ≡ Some r)
-      → (option_map (λ x. x.0) e ≡ Some p) × (option_map (λ x. x.1) e ≡ row)
-  some_at e p row h is =
-      let there = at_point e p h in
-      (ap (option_map (λ x. x.0)) there.1, ap (option_map (λ x. x.1)) there.1 ∙ sym (is there.0 there.1))
-
-  -- a place where the point stands has its row
-  pub row_is : (places : List (Place R)) (i : ℕ) (p : Point) → StandsOnce places → is_at (slice_index_or places i None) p ≡ true
-      → (option_map (λ x. x.0) (slice_index_or places i None) ≡ Some p) × (option_map (λ x. x.1) (slice_index_or places i None) ≡ row_in places p)
-  row_is places i p once h = some_at (slice_index_or places i None) p (row_in places p) h (λ r there. row_once places i p r once there)
-
   -- a place where something stands is one of the places
   pub within : (places : List (Place R)) (i : ℕ) (p : Point) (r : R) → slice_index_or places i None ≡ Some (p, r) → i < length places
   within places i p r there = grind (arith, get_or_past)
-
-  -- a point that stands at no place below a bound has no row
-  pub absent_below : (places : List (Place R)) (p : Point) (bound : ℕ) → length places ≤ bound
-      → ((j : ℕ) (r : R) → j < bound → slice_index_or places j None ≡ Some (p, r) → ⊥) → row_in places p ≡ None
-  absent_below places p bound long never =
-      row_absent places p (λ r s. never s.0 r (let inside = within places s.0 p r s.1 in omega (arith, inside, long)) s.1)
 
   some_row : (m : Rows R) (p : Point) (row : Option R) → at m p ≡ row → IsSome row → (r : R) × (at m p ≡ Some r)
   some_row m p None is h = absurd (let e = h in cc)

@@ -1,5 +1,5 @@
 -- What a contract sees of points kept in buckets, and how their chains are linked.
-use Rattle.std.specs.Prelude.{◌≡◌, ◌≢◌, ◌+◌, ◌<◌, ℕ, List, length, [], ◌∷◌, Option, Some, None, is_some, IsSome, count_by, slice_index_or}
+use Rattle.std.specs.Prelude.{◌≡◌, ◌≢◌, ℕ, List, Option, Some, None, is_some, IsSome, count_by, slice_index_or, slice_set, option_map}
 use Rattle.inc_value.specs.declared.node.Point.{Point}
 
 -- a point in a bucket, with its row
@@ -22,6 +22,14 @@ module _ {R : Type 0} where
   -- how many points are kept
   abbrev pub kept_count : Buckets R → ℕ
   kept_count b = count_by is_some b.kept
+
+  -- a point with another row
+  abbrev pub kept_with : R → Kept R → Kept R
+  kept_with row k = record { bucket = k.bucket; point = k.point; row = row }
+
+  -- the point at a place has another row
+  abbrev pub with_row : Buckets R → ℕ → R → Buckets R
+  with_row b i row = record { kept = slice_set b.kept i (option_map (kept_with row) (kept_at b i)); width = b.width; spare = b.spare }
 
   -- one place changes, and every other keeps what it had
   pub record KeptChanges (old new : Buckets R) (i : ℕ) (k : Option (Kept R)) : Type 0 where

@@ -1,5 +1,5 @@
 -- Chains of cells: each bucket's head leads to its cells, one after the other.
-use Rattle.std.specs.Prelude.{◌≡◌, ◌<◌, ◌⊎◌, ℕ, List, length, [], ◌∷◌, Option, Some, None, slice_index_or}
+use Rattle.std.specs.Prelude.{◌≡◌, ◌<◌, ◌≤◌, ◌⊎◌, ℕ, List, length, [], ◌∷◌, Option, Some, None, slice_index_or}
 
 -- the number is in the list
 abbrev pub Among : List ℕ → ℕ → Type 0
@@ -23,3 +23,7 @@ pub record IsLinked (heads : List (Option ℕ)) (next : ℕ → Option ℕ) (buc
   pub every : (k b : ℕ) → bucket k ≡ Some b → (b < length heads) × Among (chains b) k
   pub own : (b k : ℕ) → Among (chains b) k → bucket k ≡ Some b
   pub once : (b : ℕ) → NoRepeats (chains b)
+
+-- whatever chain starts there, if it is no longer than the bound, this is so of none of its places
+abbrev pub NoneOnChain : (ℕ → Option ℕ) → Option ℕ → ℕ → (ℕ → Type 0) → Type 0
+NoneOnChain next first bound P = (ks : List ℕ) → Chain next first ks → length ks ≤ bound → (k : ℕ) → Among ks k → P k → ⊥

@@ -1,9 +1,15 @@
--- What a map by points ends as, where a `&mut` to one of its rows is returned.
-use Rattle.std.specs.Prelude.{◌≡◌, Option, Some, OnSome}
+-- What buckets, or a map by points, end as, where a `&mut` to one of their rows is returned.
+use Rattle.std.specs.Prelude.{◌≡◌, ℕ, Option, Some, OnSome}
 use Rattle.std.specs.Borrow.{LendsSo, Fml, RattleType, MutBor}
 use Rattle.inc_value.specs.declared.node.Point.{Point}
+use Rattle.point_map.specs.Buckets.{Buckets, with_row}
 use Rattle.point_map.specs.Rows.{Rows, Changes, SamePoints, count}
+use Rattle.point_map.specs.contracts.buckets.Buckets.{the_row as the_row_of_buckets}
 use Rattle.point_map.specs.contracts.map.PointMap.{the_row}
+
+-- once the borrow r ends, the place has the last row written through r, and at `None` the buckets stay as they are
+abbrev pub lends_kept : (R : RattleType) → MutBor (Buckets R.Denot) → ℕ → Option (MutBor R.Denot) → Fml
+lends_kept R b place r = LendsSo (the_row_of_buckets R) R b r (λ n w. n ≡ with_row b.now place w) (λ n. n ≡ b.now)
 
 -- the point has this row, and all else is as it was
 pub record IsWritten {R : Type 0} (old new : Rows R) (p : Point) (row : R) : Type 0 where

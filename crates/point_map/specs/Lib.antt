@@ -1,4 +1,6 @@
 pub mod Buckets
+pub mod BySlot
 pub mod Chains
 pub mod Lends
+pub mod Links
 pub mod Rows

@@ -1,5 +1,5 @@
 -- What a contract sees of a map by points.
-use Rattle.std.specs.Prelude.{◌≡◌, ◌≢◌, ℕ, ◌<◌, Bool, true, false, ◌&&◌, ◌==◌, List, length, [], ◌∷◌, Option, Some, None, is_some, IsSome, IfSome, count_by, slice_index_or, option_map, if◌then◌else◌}
+use Rattle.std.specs.Prelude.{◌≡◌, ◌≢◌, ℕ, ◌<◌, Bool, true, false, ◌&&◌, ◌==◌, List, [], ◌∷◌, Option, Some, None, is_some, IsSome, count_by, slice_index_or, option_map, if◌then◌else◌}
 use Rattle.inc_value.specs.declared.node.Point.{Point}
 use Rattle.inc_value.specs.declared.node.Part.{Part}
 use Rattle.inc_value.specs.declared.node.Part.TheVariants.{Change, Main}
@@ -45,11 +45,6 @@ module _ {R : Type 0} where
   -- what stands at a place
   abbrev pub standing : Rows R → ℕ → Place R
   standing m i = slice_index_or m.places i None
-
-  -- the point stands there
-  abbrev pub is_at : Place R → Point → Bool
-  is_at None p = false
-  is_at (Some e) p = same_point e.0 p
 
   -- the new map has this at the point, and every other point keeps what it had
   pub record Changes (old new : Rows R) (p : Point) (row : Option R) : Type 0 where

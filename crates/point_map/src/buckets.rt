@@ -1,5 +1,7 @@
-ghost use Rattle.std.specs.Prelude.{[], ℕ, ◌⊎◌, ◌≡◌, ◌+◌, ◌<◌, ◌≤◌, None, Some, IsSome, IfSome, IfNone, OnSome, IsOk, IfOk, OnOk, ◌≢◌, OnErr, option_map};
+ghost use Rattle.std.specs.Prelude.{[], ℕ, ◌⊎◌, ◌≡◌, ◌+◌, ◌<◌, ◌≤◌, None, Some, IsSome, IfSome, IfNone, OnSome, IsOk, IfOk, OnOk, ◌≢◌, OnErr, true, false, option_copied, option_map, length};
 ghost use Rattle.point_map.specs.Buckets.{Kept, kept_at, kept_count, KeptChanges, IsKeptIn, IsEmptyBucket, IsTaken, IsAt};
+ghost use Rattle.point_map.specs.Chains.{NoneOnChain};
+ghost use Rattle.point_map.specs.Links.{point_in, next_in};
 
 use inc_value::Point;
 use slab::Slab;
@@ -45,7 +47,59 @@ impl<R> Model for Buckets<R> {
         × (slab_len b.links + b.spare ≤ b.links.capacity) };
 }
 
+// Whether the link at a place has the point.
+fn is_point_at<R>(links: &Slab<Link<R>>, place: usize, p: Point) -> bool
+    ensures found { result ≡ true → point_in links.now place ≡ Some p }
+    ensures other { result ≡ false → point_in links.now place ≢ Some p }
+{
+    match links.get(place) {
+        Some(link) => link.point == p,
+        None => false,
+    }
+}
+
+// The place that a link leads to.
+fn next_of<R>(links: &Slab<Link<R>>, place: usize) -> Option<usize>
+    ensures { result ≡ next_in links.now place }
+{
+    let link = links.get(place)?;
+    link.next
+}
+
+// The place of a point on a chain. No chain is longer than the room for links.
+fn find_from<R>(links: &Slab<Link<R>>, first: Option<usize>, p: Point) -> Option<usize>
+    ensures found { IfSome result (λ i. point_in links.now i ≡ Some p) }
+    ensures absent { IfNone result (NoneOnChain (next_in links.now) first links.now.capacity (λ k. point_in links.now k ≡ Some p)) }
+{
+    let mut at = first;
+    for _step in 0..links.capacity() {
+        let place = at?;
+        if is_point_at(links, place, p) {
+            return Some(place);
+        }
+        at = next_of(links, place);
+    }
+    None
+}
+
 impl<R> Buckets<R> {
+    ghost use Rattle.std.specs.Option.{option_copied_mut};
+    ghost use Rattle.std.specs.Borrow.{sem};
+    ghost use Rattle.point_map.specs.Lends.{lends_kept};
+
+    /// No buckets, and no room. This takes no memory.
+    pub fn none(alloc: Global) -> Buckets<R>
+        ensures empty { result.kept ≡ [] }
+        ensures width { result.width ≡ 0 }
+        ensures spare { result.spare ≡ 0 }
+    {
+        Buckets {
+            heads: Vec::new(alloc),
+            links: Slab::new(alloc),
+            spare: 0,
+        }
+    }
+
     /// So many empty buckets, with room for `n` points.
     pub fn new(alloc: Global, width: usize, n: usize) -> Result<Buckets<R>, AllocError>
         ensures empty { IfOk result (λ b. b.kept ≡ []) }
@@ -85,6 +139,45 @@ impl<R> Buckets<R> {
         self.links.len()
     }
 
+    /// How many buckets there are.
+    pub fn width(&self) -> usize
+        ensures { result ≡ self.now.width }
+    {
+        self.heads.len()
+    }
+
+    /// How many points can still be pushed without memory.
+    pub fn spare(&self) -> usize
+        ensures { result ≡ self.now.spare }
+    {
+        self.spare
+    }
+
+    /// A number that no place of a point reaches.
+    pub fn places(&self) -> usize
+        ensures { length self.now.kept ≤ result }
+    {
+        self.links.capacity()
+    }
+
+    /// The row of the point at a place, if one is there.
+    pub fn get(&self, place: usize) -> Option<&R>
+        ensures { option_copied result ≡ option_map (λ k. k.row) (kept_at self.now place) }
+    {
+        let link = self.links.get(place)?;
+        Some(&link.row)
+    }
+
+    /// The row of the point at a place for writing, if one is there. What is written through it stays, and all else is
+    /// as it was.
+    pub fn get_mut(&mut self, place: usize) -> Option<&mut R>
+        ensures* writes_back { sem 𝓛 (lends_kept R.row self.entry place result) }
+        ensures value { option_copied_mut result ≡ option_map (λ k. k.row) (kept_at self.old place) }
+    {
+        let link = self.links.get_mut(place)?;
+        Some(&mut link.row)
+    }
+
     /// A place of a bucket, or none where it is empty.
     pub fn head(&self, bucket: usize) -> Option<usize>
         requires { bucket < self.now.width }
@@ -92,6 +185,17 @@ impl<R> Buckets<R> {
         ensures none { IfNone result (IsEmptyBucket self.now bucket) }
     {
         self.heads[bucket]
+    }
+
+    /// The place of a point in a bucket, or none where the bucket doesn't have it.
+    pub fn find(&self, bucket: usize, p: Point) -> Option<usize>
+        requires { bucket < self.now.width }
+        ensures found { IfSome result (λ i. option_map (λ k. k.point) (kept_at self.now i) ≡ Some p) }
+        ensures absent { IfNone result ((i : ℕ) (k : Kept R) → kept_at self.now i ≡ Some k → k.bucket ≡ bucket → k.point ≢ p) }
+    {
+        // The capacity is what bounds the number of links.
+        let _room = self.links.capacity();
+        find_from(&self.links, self.heads[bucket], p)
     }
 
     /// Puts a point into a bucket, at the place that is answered. This takes one of the spare places.

@@ -1,40 +1,93 @@
-ghost use Rattle.std.specs.Prelude.{[], ◌≡◌, ◌+◌, ◌<◌, ◌≤◌, None, Some, is_some, IsSome, IfSome, IfNone, IsTrue, IsOk, OnOk, OnErr, option_copied, option_map};
-ghost use Rattle.point_map.specs.Rows.{at, count, standing, is_at, Holds, Changes, KeepsRows, SamePoints, IsWalk};
+ghost use Rattle.std.specs.Prelude.{[], ℕ, ◌≡◌, ◌+◌, ◌<◌, ◌≤◌, None, Some, is_some, IsSome, IfSome, IfNone, IsTrue, IsOk, IfOk, OnOk, OnErr, option_copied, option_map};
+ghost use Rattle.point_map.specs.Buckets.{Buckets as Seen, kept_count};
+ghost use Rattle.point_map.specs.BySlot.{IsBySlot, own_bucket, rows_of};
+ghost use Rattle.point_map.specs.Rows.{at, count, standing, Holds, Changes, KeepsRows, SamePoints, IsWalk};
 
+use crate::buckets::Buckets;
 use inc_value::Point;
-use slab::Slab;
 use std::alloc::{AllocError, Global};
 use std::marker::Model;
 use std::mem;
 
-#[derive(Drop)]
-struct Cell<R> {
-    point: Point,
-    row: R,
-}
-
-/// A finite map from points to rows. `reserve` makes room, and no other call takes memory.
+/// A finite map from points to rows. Each point is in the bucket of its slot, so it is found in constant time.
+/// `reserve` makes room, and no other call takes memory.
 #[derive(Drop)]
 pub struct PointMap<R> {
-    cells: Slab<Cell<R>>,
-    spare: usize,
+    buckets: Buckets<R>,
+    alloc: Global,
 }
 
 impl<R> Model for PointMap<R> {
-    ghost use Rattle.std.specs.Prelude.{◌+◌, ◌≤◌, map, option_map};
-    ghost use Rattle.slab.specs.Slab.{slab_len};
-    ghost use Rattle.point_map.specs.Rows.{Rows, StandsOnce};
+    ghost use Rattle.point_map.specs.BySlot.{rows_of, IsBySlot};
+    ghost use Rattle.point_map.specs.Rows.{Rows};
 
     ghost Value = { Rows R };
 
-    ghost view = { λ m. record {
-      places = map (option_map (λ c. (c.point, c.row))) m.cells.slots;
-      spare = m.spare;
-    } };
+    ghost view = { λ m. rows_of m.buckets };
 
-    ghost invariant = { λ m.
-        StandsOnce (map (option_map (λ c. (c.point, c.row))) m.cells.slots)
-        × (slab_len m.cells + m.spare ≤ m.cells.capacity) };
+    ghost invariant = { λ m. IsBySlot m.buckets };
+}
+
+// The bucket of a point, or none where there are no buckets.
+fn bucket_of(p: Point, width: usize) -> Option<usize>
+    ensures within { IfSome result (λ b. b < width) }
+    ensures own { IfSome result (λ b. b ≡ own_bucket p width) }
+    ensures none { IfNone result (width ≡ 0) }
+{
+    if width == 0 {
+        return None;
+    }
+    Some(p.node.slot % width)
+}
+
+// How much room is made for `n` more points: at least twice what there was, so that growing takes constant time a point.
+fn room_for(len: usize, spare: usize, n: usize) -> Option<usize>
+    ensures { IfSome result (λ room. len + n ≤ room) }
+{
+    let least = len.checked_add(n)?;
+    Some(least.max(len.saturating_add(spare).saturating_mul(2)))
+}
+
+// Empty buckets for so many points. Their number is odd, as slots of one kind are often an even number apart.
+fn buckets_for<R>(alloc: Global, room: usize) -> Result<Buckets<R>, AllocError>
+    ensures empty { IfOk result (λ b. b.kept ≡ []) }
+    ensures spare { IfOk result (λ b. b.spare ≡ room) }
+    ensures by_slot { IfOk result (λ b. IsBySlot b) }
+{
+    Buckets::new(alloc, room | 1, room)
+}
+
+// Puts a point that isn't there into its bucket.
+fn put<R>(buckets: &mut Buckets<R>, p: Point, row: R)
+    requires by_slot { IsBySlot buckets.old }
+    requires absent { at (rows_of buckets.old) p ≡ None }
+    requires spare { 0 < buckets.old.spare }
+    ensures by_slot { IsBySlot buckets.new }
+    ensures changes { Changes (rows_of buckets.old) (rows_of buckets.new) p (Some row) }
+    ensures count { kept_count buckets.new ≡ kept_count buckets.old + 1 }
+    ensures width { buckets.new.width ≡ buckets.old.width }
+    ensures spare { buckets.new.spare + 1 ≡ buckets.old.spare }
+{
+    let bucket = p.node.slot % buckets.width();
+    let _place = buckets.push(bucket, p, row);
+}
+
+// Moves every point over, each into its bucket.
+fn move_points<R: Drop>(mut from: Buckets<R>, to: &mut Buckets<R>)
+    requires from_by_slot { IsBySlot from }
+    requires to_by_slot { IsBySlot to.old }
+    requires empty { to.old.kept ≡ [] }
+    requires room { kept_count from ≤ to.old.spare }
+    ensures by_slot { IsBySlot to.new }
+    ensures rows { KeepsRows (rows_of from) (rows_of to.new) }
+    ensures count { kept_count to.new ≡ kept_count from }
+    ensures spare { to.new.spare + kept_count from ≡ to.old.spare }
+{
+    for bucket in 0..from.width() {
+        while let Some((_place, p, row)) = from.pop(bucket) {
+            put(to, p, row);
+        }
+    }
 }
 
 impl<R> PointMap<R> {
@@ -48,13 +101,16 @@ impl<R> PointMap<R> {
         ensures spare { result.spare ≡ 0 }
     {
         PointMap {
-            cells: Slab::new(alloc),
-            spare: 0,
+            buckets: Buckets::none(alloc),
+            alloc,
         }
     }
 
     /// Makes room for `n` more points, so that as many inserts need no memory. Without memory the map stays as it is.
+    /// Where there is too little room each point is moved, and the room is at least doubled.
     pub fn reserve(&mut self, n: usize) -> Result<(), AllocError>
+    where
+        R: Drop,
         ensures rows { KeepsRows self.old self.new }
         ensures count { count self.new ≡ count self.old }
         ensures room { OnOk result (n ≤ self.new.spare) }
@@ -63,11 +119,14 @@ impl<R> PointMap<R> {
         ensures had_room { n ≤ self.old.spare → self.new ≡ self.old }
         ensures succeeds { n ≤ self.old.spare → IsOk result }
     {
-        if n <= self.spare {
+        let spare = self.buckets.spare();
+        if n <= spare {
             return Ok(());
         }
-        self.cells.reserve(n)?;
-        self.spare = n;
+        let room = room_for(self.buckets.len(), spare, n).ok_or(AllocError)?;
+        let grown = buckets_for(self.alloc, room)?;
+        let old = mem::replace(&mut self.buckets, grown);
+        move_points(old, &mut self.buckets);
         Ok(())
     }
 
@@ -75,7 +134,7 @@ impl<R> PointMap<R> {
     pub fn len(&self) -> usize
         ensures { result ≡ count self.now }
     {
-        self.cells.len()
+        self.buckets.len()
     }
 
     /// Whether the point is there.
@@ -99,8 +158,7 @@ impl<R> PointMap<R> {
         ensures value { option_copied_mut result ≡ at self.old p }
     {
         let i = self.place_of(p)?;
-        let cell = self.cells.get_mut(i)?;
-        Some(&mut cell.row)
+        self.buckets.get_mut(i)
     }
 
     /// Inserts a point that isn't there. This takes one of the spare places and no memory.
@@ -111,8 +169,7 @@ impl<R> PointMap<R> {
         ensures count { count self.new ≡ count self.old + 1 }
         ensures spare { self.new.spare + 1 ≡ self.old.spare }
     {
-        self.cells.insert_reserved(Cell { point: p, row });
-        self.spare -= 1;
+        put(&mut self.buckets, p, row);
     }
 
     /// Puts another row in place of that of a point, which is given back.
@@ -124,9 +181,8 @@ impl<R> PointMap<R> {
         ensures count { count self.new ≡ count self.old }
         ensures spare { self.new.spare ≡ self.old.spare }
     {
-        let i = self.place_of(p).unwrap();
-        let cell = self.cells.get_mut(i).unwrap();
-        mem::replace(&mut cell.row, row)
+        let there = self.get_mut(p).unwrap();
+        mem::replace(there, row)
     }
 
     /// Takes a point off, and gives its row. Its place is spare again.
@@ -138,10 +194,7 @@ impl<R> PointMap<R> {
         ensures spare { self.new.spare ≡ self.old.spare + 1 }
     {
         let i = self.place_of(p).unwrap();
-        let Cell { point: _, row } = self.cells.try_remove(i).unwrap();
-        // The capacity is what says that `spare + 1` fits.
-        let _room = self.cells.capacity();
-        self.spare += 1;
+        let (_point, row) = self.buckets.take(i);
         row
     }
 
@@ -149,32 +202,20 @@ impl<R> PointMap<R> {
     pub fn places(&self) -> usize
         ensures { IsWalk self.now result }
     {
-        self.cells.capacity()
+        self.buckets.places()
     }
 
     /// The point at a place, if one stands there.
     pub fn point_at(&self, i: usize) -> Option<Point>
         ensures { result ≡ option_map (λ e. e.0) (standing self.now i) }
     {
-        let cell = self.cells.get(i)?;
-        Some(cell.point)
+        self.buckets.point_at(i)
     }
 
     fn row_at(&self, i: usize) -> Option<&R>
         ensures { option_copied result ≡ option_map (λ e. e.1) (standing self.now i) }
     {
-        let cell = self.cells.get(i)?;
-        Some(&cell.row)
-    }
-
-    fn stands_at(&self, p: Point, i: usize) -> bool
-        ensures stands { IsTrue result → IsSome (standing self.now i) }
-        ensures same { result ≡ is_at (standing self.now i) p }
-    {
-        match self.cells.get(i) {
-            Some(cell) => cell.point == p,
-            None => false,
-        }
+        self.buckets.get(i)
     }
 
     // The place of a point.
@@ -183,11 +224,7 @@ impl<R> PointMap<R> {
         ensures row { IfSome result (λ i. option_map (λ e. e.1) (standing self.now i) ≡ at self.now p) }
         ensures absent { IfNone result (at self.now p ≡ None) }
     {
-        for i in 0..self.cells.capacity() {
-            if self.stands_at(p, i) {
-                return Some(i);
-            }
-        }
-        None
+        let bucket = bucket_of(p, self.buckets.width())?;
+        self.buckets.find(bucket, p)
     }
 }

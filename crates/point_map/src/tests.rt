@@ -60,3 +60,21 @@ fn points_of_one_slot(rt: HostRuntime) -> Result<(), Fail> {
     }
     Ok(())
 }
+
+// Slots far apart by a power of two, with room made for one at a time.
+#[test]
+fn grown_by_ones(rt: HostRuntime) -> Result<(), Fail> {
+    let mut map = PointMap::new(rt.alloc());
+    let slots = [0, 1024, 2048, 3072, 4096, 5120, 1];
+    for slot in slots {
+        put(&mut map, point(slot, 3, Part::Main), 5)?;
+        put(&mut map, point(slot, 8, Part::Main), 7)?;
+    }
+    for slot in slots {
+        assert_eq!(rt; map.get(point(slot, 3, Part::Main)), Some(&5));
+        assert_eq!(rt; map.get(point(slot, 8, Part::Main)), Some(&7));
+        assert_eq!(rt; map.get(point(slot, 3, Part::Change)), None);
+    }
+    assert_eq!(rt; map.len(), 14);
+    Ok(())
+}

@@ -1,13 +1,13 @@
 -- Places and buckets that agree: what each change leaves.
-use Rattle.std.proofs.Common.{◌≡◌, ◌≢◌, ◌∙◌, ◌⊎◌, ℕ, zero, suc, ◌+◌, ◌<◌, ◌≤◌, List, [], ◌∷◌, length, refl, count_by, ap, sym, subst, inl, inr, arith, map, false, is_some, IsSome, option_map}
+use Rattle.std.proofs.Common.{◌≡◌, ◌≢◌, ◌∙◌, ℕ, ◌<◌, ◌≤◌, List, [], ◌∷◌, refl, count_by, ap, sym, subst, inl, inr, arith, false, is_some, IsSome, option_map}
 use Rattle.std.specs.Prelude.{Option, Some, None, slice_index_or, option_and_then}
 use Rattle.std.proofs.Math.ListN.{get_or-map}
 use Rattle.std.proofs.lemmas.Bool.{cases_eq}
 use Rattle.std.proofs.lemmas.Grind.{common_steps}
 use Rattle.inc_value.specs.declared.node.Point.{Point}
-use Rattle.point_map.specs.Rows.{Rows, at, row_in, StandsOnce}
+use Rattle.point_map.specs.Rows.{row_in, StandsOnce}
 use Rattle.point_map.specs.Buckets.{Kept, Buckets, kept_at, KeptChanges, IsTaken}
-use Rattle.point_map.proofs.Places.{point_cases, point_of_pair, row_of_pair, Stands, row_once, row_absent, row_found}
+use Rattle.point_map.proofs.Places.{point_cases, point_of_pair, row_once, row_absent, row_found}
 use Rattle.recompute_heap.specs.Agree.{leveled, heights_of, Agree, EveryKept, NoneBelow, NoneAbove}
 
 some_same : {A : Type 0} (a b : A) → Some a ≡ Some b → a ≡ b

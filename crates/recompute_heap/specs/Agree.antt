@@ -1,5 +1,5 @@
 -- How the places of a heap's points agree with its buckets.
-use Rattle.std.specs.Prelude.{◌≡◌, ◌<◌, ◌≤◌, ℕ, List, Option, Some, None, map, option_map}
+use Rattle.std.specs.Prelude.{◌≡◌, ◌≤◌, ℕ, List, Option, Some, None, map, option_map}
 use Rattle.inc_value.specs.declared.node.Point.{Point}
 use Rattle.point_map.specs.Rows.{Rows, at}
 use Rattle.point_map.specs.Buckets.{Kept, Buckets, kept_at}

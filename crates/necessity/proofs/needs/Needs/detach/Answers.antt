@@ -1,22 +1,38 @@
-use Rattle.std.proofs.Common.{ap, sym, ◌∙◌}
-use Rattle.necessity.proofs.Counts.{link_found, link_removed}
-use Rattle.necessity.proofs.Marking.{blank, some_of, written_back}
+use Rattle.std.proofs.Common.{◌∙◌, ap, arith}
+use Rattle.necessity.proofs.Starts.{length_more}
+use Rattle.necessity.proofs.Reaching.{acyclic_fewer}
+use Rattle.necessity.proofs.Sound.{roots_kept, detach_due, detach_due_room}
 use Rattle.necessity.proofs.needs.Needs.detach.Goals as goal
 
-pub unwrap-i-requires : goal.unwrap-i-requires
-unwrap-i-requires c =
-    let there = rw (← ap (λ w. w.links) c.self.view_is) at c.requires.there in
-    let found = link_found c.self.inside.links.items c.args.p c.args.q there in
-    some_of c.link_place.result c.link_place.ensures.none (λ none. none found.0 (rw c.deref.ensures.value found.1) found.2)
+pub recount_link-requires : goal.recount_link-requires
+recount_link-requires c =
+    let l = c.self.inside.links in
+    let new = c.remove.new.self in
+    let one = c.remove.ensures.removed in
+    let long = length_more new l c.args.p c.args.q one in
+    let room = detach_due_room l new c.self.inside.rows c.args.p c.args.q one c.self.invariant.at_rest in
+    record {
+      under_way = detach_due l new c.self.inside.rows c.args.p c.args.q one c.self.invariant.at_rest;
+      fits = omega (arith, long, c.self.invariant.all, c.self.invariant.fit, c.self.inside.waiting.small);
+      none_wait = c.self.invariant.none_wait;
+      room = omega (arith, room, c.self.invariant.all, c.self.invariant.fit);
+    }
 
 pub invariant_of-self : goal.invariant_of-self
 invariant_of-self c =
-    let whole = written_back c.remove.new.self.len c.mark.new.all c.remove.new.self.items (sym (c.mark.auto.all ∙ c.deref_mut.ensures.len)) in
-    rw (whole, ← c.deref-2.ensures.value) c.mark.ensures.marked
+    let one = c.remove.ensures.removed in
+    let long = length_more c.remove.new.self c.self.inside.links c.args.p c.args.q one in
+    record {
+      at_rest = c.forget-2.ensures.at_rest;
+      acyclic = acyclic_fewer c.remove.new.self c.self.inside.links c.args.p c.args.q one c.self.invariant.acyclic;
+      none_wait = c.recount_link.ensures.none_wait;
+      all = omega (arith, long, c.self.invariant.all);
+      fit = omega (arith, c.self.invariant.fit, c.recount_link.ensures.capacity);
+    }
 
-pub returns-clause-link : goal.returns-clause-link
-returns-clause-link c =
-    let whole = written_back c.remove.new.self.len c.mark.new.all c.remove.new.self.items (sym (c.mark.auto.all ∙ c.deref_mut.ensures.len)) in
-    let place = rw (c.unwrap-i.ensures, c.deref.ensures.value) at c.link_place.ensures.some in
-    let removed = link_removed c.self.inside.links.items c.unwrap-i.result blank c.args.p c.args.q place.0 (place.1 blank) in
-    rw (whole, c.mark.ensures.links, c.deref_mut.ensures.value, c.remove.ensures.items, ← ap (λ w. w.links) c.self.view_is) removed
+pub returns : goal.returns
+returns c = record {
+  link = rw (← ap (λ w. w.links) c.self.view_is) c.remove.ensures.removed;
+  roots = rw (← ap (λ w. w.roots) c.self.view_is) (roots_kept c.self.inside.rows c.forget-2.new.rows (λ k.
+      ap (λ n. n.roots) (c.forget-2.ensures.needs k ∙ c.forget.ensures.needs k) ∙ c.recount_link.ensures.roots k));
+}

@@ -1,7 +1,15 @@
-use Rattle.std.proofs.Common.{◌≡◌, ◌∙◌, ap, arith}
-use Rattle.necessity.specs.Links.{times}
-use Rattle.necessity.proofs.Marking.{leads_to_itself}
+use Rattle.std.proofs.Common.{◌∙◌, ap, arith}
+use Rattle.necessity.proofs.Reaching.{leads_to_itself, none_counted}
 use Rattle.necessity.proofs.needs.tests.links_are_counted.Goals as goal
+
+pub attach-requires : goal.attach-requires
+attach-requires g c = record {
+  acyclic = λ leads.
+      let same = leads_to_itself c.new-needs.result.links c.point-b.result c.point-a.result
+      (λ x. none_counted c.new-needs.result.links c.new-needs.ensures.links c.point-b.result x) leads in
+      let slots = ap (λ p. p.node.slot) same in
+      omega (arith, slots, c.point-a.ensures, c.point-b.ensures);
+}
 
 pub attach-requires-2 : goal.attach-requires-2
 attach-requires-2 g c = record {
@@ -9,7 +17,7 @@ attach-requires-2 g c = record {
       let same = leads_to_itself c.attach.new.self.links c.point-b.result c.point-a.result
       (λ x. c.in_ok-attach.ensures.link.others c.point-b.result x
       (λ e. let slots = ap (λ l. l.reader.node.slot) e in omega (arith, slots, c.point-a.ensures, c.point-b.ensures))
-      ∙ ap (λ l. times l c.point-b.result x) c.new-needs.ensures.links) leads in
+      ∙ none_counted c.new-needs.result.links c.new-needs.ensures.links c.point-b.result x) leads in
       let slots = ap (λ p. p.node.slot) same in
       omega (arith, slots, c.point-a.ensures, c.point-b.ensures);
 }

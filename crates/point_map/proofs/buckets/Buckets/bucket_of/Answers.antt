@@ -1,4 +1,4 @@
-use Rattle.std.proofs.Common.{◌≡◌, ◌<◌, Some, ap, sym, subst, ◌∙◌, option_map}
+use Rattle.std.proofs.Common.{◌≡◌, ◌<◌, Some, ap, sym, subst, option_map}
 use Rattle.slab.specs.Slab.{get}
 use Rattle.point_map.proofs.buckets.Buckets.bucket_of.Goals as goal
 

@@ -1,7 +1,6 @@
-use Rattle.std.proofs.Common.{ap, sym, subst, None, option_map, slice_index_or, ◌∙◌, arith}
-use Rattle.std.specs.Prelude.{option_and_then}
+use Rattle.std.proofs.Common.{ap, None, option_map, slice_index_or, ◌∙◌, arith}
 use Rattle.point_map.proofs.Chains.{links_empty}
-use Rattle.point_map.proofs.Links.{next_at, bucket_at, nothing_there}
+use Rattle.point_map.proofs.Links.{nothing_there}
 use Rattle.point_map.proofs.buckets.Buckets.new.Goals as goal
 
 pub invariant_of-result : goal.invariant_of-result

@@ -1,4 +1,4 @@
-use Rattle.std.proofs.Common.{◌≡◌, ◌<◌, ◌≤◌, Some, None, ap, sym, subst, ◌∙◌, refl, option_map, slice_index_or, slice_set, arith, IsSome, IfNone}
+use Rattle.std.proofs.Common.{◌≡◌, ◌<◌, Some, None, ap, sym, subst, ◌∙◌, refl, option_map, slice_index_or, slice_set, arith, IsSome, IfNone}
 use Rattle.std.specs.Prelude.{option_and_then}
 use Rattle.slab.specs.Slab.{get}
 use Rattle.point_map.specs.Buckets.{IsEmptyBucket}

@@ -1,4 +1,4 @@
-use Rattle.std.proofs.Common.{◌≡◌, ◌<◌, Some, None, ap, sym, subst, ◌∙◌, refl, option_map, slice_index_or, arith}
+use Rattle.std.proofs.Common.{◌<◌, Some, None, ap, sym, subst, ◌∙◌, refl, option_map, arith}
 use Rattle.std.specs.Prelude.{option_and_then}
 use Rattle.point_map.proofs.Chains.{links_pushed}
 use Rattle.point_map.proofs.Links.{index_is, next_at, bucket_at, kept_changes}

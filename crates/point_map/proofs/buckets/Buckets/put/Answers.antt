@@ -1,7 +1,7 @@
 use Rattle.std.proofs.Common.{◌≡◌, Some, None, refl, IsSome, option_map, slice_index_or, ap, sym, subst, ◌∙◌, arith}
 use Rattle.slab.specs.Slab.{get, with_value}
 use Rattle.slab.proofs.SlabLemmas.{Updates-with_value}
-use Rattle.point_map.specs.Buckets.{Kept, kept_count}
+use Rattle.point_map.specs.Buckets.{kept_count}
 use Rattle.point_map.proofs.Links.{put_links, kept_changes, seen_at, kept_of, kept_in, count_kept, count_link_set}
 use Rattle.point_map.proofs.buckets.Buckets.put.Goals as goal
 

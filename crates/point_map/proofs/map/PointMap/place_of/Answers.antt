@@ -1,16 +1,18 @@
-use Rattle.std.proofs.Common.{ap, sym, arith}
-use Rattle.point_map.proofs.Cells.{seen_once, seen_length}
-use Rattle.point_map.proofs.Places.{row_is, absent_below}
+use Rattle.std.proofs.Common.{◌∙◌, ap, sym}
+use Rattle.point_map.specs.BySlot.{own_bucket}
+use Rattle.point_map.proofs.KeptPlaces.{no_buckets, row_found_at, absent_at}
 use Rattle.point_map.proofs.map.PointMap.place_of.Goals as goal
 
-pub returns-then-stands_at-clause-row : goal.returns-then-stands_at-clause-row
-returns-then-stands_at-clause-row g c =
-    let once = seen_once c.args.self.now c.self.inside.cells.slots (ap (λ m. m.places) c.self.view_is) c.self.invariant.0 in
-    (row_is c.args.self.now.places c.loop-i.i c.args.p once (sym c.if-stands_at.ensures.same)).1
+pub returns-in_err-bucket-clause-absent : goal.returns-in_err-bucket-clause-absent
+returns-in_err-bucket-clause-absent g c =
+    rw c.from_residual.ensures (no_buckets c.self.inside.buckets c.args.self.now c.args.p c.self.view_is c.self.invariant
+    (sym c.width.ensures ∙ c.in_err-bucket.ensures.none))
+
+pub returns-clause-row : goal.returns-clause-row
+returns-clause-row g c =
+    row_found_at c.self.inside.buckets c.args.self.now c.args.p c.find.result c.self.view_is c.self.invariant c.find.ensures.found
 
 pub returns-clause-absent : goal.returns-clause-absent
 returns-clause-absent g c =
-    let long = seen_length c.args.self.now c.self.inside.cells.slots c.capacity-i-end.result (ap
-    (λ m. m.places) c.self.view_is) c.capacity-i-end.ensures.slots in
-    absent_below c.args.self.now.places c.args.p c.capacity-i-end.result long
-    (λ j r below there. c.loop-i.invariant j r (let h = c.loop-i-test.false in omega (arith, h, below)) there)
+    absent_at c.self.inside.buckets c.args.self.now c.args.p c.in_ok-bucket.bucket c.find.result c.self.view_is c.self.invariant
+    (c.in_ok-bucket.ensures.own ∙ ap (own_bucket c.args.p) c.width.ensures) c.find.ensures.absent

@@ -1,4 +1,4 @@
-use Rattle.std.proofs.Common.{◌≡◌, ◌≤◌, None, refl, ap, sym, ◌∙◌, arith}
+use Rattle.std.proofs.Common.{◌≤◌, refl, ap, sym, ◌∙◌, arith}
 use Rattle.point_map.specs.Rows.{at}
 use Rattle.point_map.specs.Buckets.{kept_at}
 use Rattle.recompute_heap.proofs.Agreeing.{absent_place, agree_put, height_put, height_new, view_at, every_put}

@@ -1,7 +1,7 @@
-use Rattle.std.proofs.Common.{◌≡◌, ◌≤◌, Some, None, refl, ap, sym, subst, ◌∙◌, is_some, option_map, arith}
+use Rattle.std.proofs.Common.{◌≡◌, ◌≤◌, Some, ap, sym, subst, ◌∙◌, is_some, option_map, arith}
 use Rattle.std.specs.Prelude.{option_and_then}
 use Rattle.point_map.specs.Rows.{at}
-use Rattle.point_map.specs.Buckets.{Kept, kept_at}
+use Rattle.point_map.specs.Buckets.{kept_at}
 use Rattle.recompute_heap.specs.Agree.{Agree, heights_of}
 use Rattle.recompute_heap.proofs.Agreeing.{agree_off, height_off, height_none, view_at, every_off, every_height, none_there}
 use Rattle.recompute_heap.proofs.heap.RecomputeHeap.pop_least.Goals as goal

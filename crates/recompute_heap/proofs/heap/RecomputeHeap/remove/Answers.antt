@@ -1,6 +1,6 @@
-use Rattle.std.proofs.Common.{◌≡◌, ◌≤◌, Some, None, IsSome, refl, ap, sym, subst, ◌∙◌, is_some, option_map, arith}
+use Rattle.std.proofs.Common.{◌≤◌, ap, sym, ◌∙◌, is_some, arith}
 use Rattle.point_map.specs.Rows.{at}
-use Rattle.point_map.specs.Buckets.{Kept, kept_at}
+use Rattle.point_map.specs.Buckets.{kept_at}
 use Rattle.recompute_heap.proofs.Agreeing.{some_height, agree_off, height_off, height_none, agree_moved, height_moved, height_gone, view_at, every_taken, vacated_is, point_from, point_none}
 use Rattle.recompute_heap.proofs.heap.RecomputeHeap.remove.Goals as goal
 

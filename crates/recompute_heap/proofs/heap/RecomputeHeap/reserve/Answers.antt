@@ -1,4 +1,4 @@
-use Rattle.std.proofs.Common.{ℕ, ◌≡◌, ◌∙◌, ap, subst, sym, arith}
+use Rattle.std.proofs.Common.{ℕ, ◌≡◌, ◌∙◌, ap, sym, arith}
 use Rattle.std.specs.Prelude.{slice_index_or, None}
 use Rattle.point_map.specs.Rows.{at}
 use Rattle.point_map.specs.Buckets.{kept_at}

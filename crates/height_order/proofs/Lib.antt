@@ -1,0 +1,12 @@
+pub mod Points
+pub mod Walking
+pub mod Chaining
+pub mod Covering
+pub mod Levelling
+pub mod Lifting
+pub mod Climbing
+pub mod Ending
+pub mod Pending
+pub mod Queuing
+pub mod Moving
+pub mod Sounding

@@ -1,0 +1,14 @@
+use Rattle.point_map.specs.Rows.{Holds}
+use Rattle.link_table.specs.Links.{Reads}
+use Rattle.height_order.specs.Chains.{IsPath}
+use Rattle.height_order.specs.Levels.{level}
+use Rattle.height_order.proofs.climb.climb.Given as goal
+
+abbrev pub invariant-loop-new : goal.invariant-loop-new
+invariant-loop-new l = record {
+  path : IsPath (Reads l.links) l.list.items l.new.kid l.last;
+  lifted : Holds l.lifts l.last;
+}
+
+abbrev pub decreases-loop-new : goal.decreases-loop-new
+decreases-loop-new l = level l.heights l.last

@@ -1,0 +1,49 @@
+use Rattle.std.proofs.Common.{◌≡◌, ◌≢◌, ap, sym, subst, rules, arith}
+use Rattle.std.proofs.lemmas.Grind.{common_steps}
+use Rattle.height_order.proofs.Points.{sameb_self}
+use Rattle.inc_value.specs.declared.node.Point.{Point}
+use Rattle.link_table.specs.Links.{Reads}
+use Rattle.link_table.specs.Walks.{readers_left}
+use Rattle.height_order.specs.Levels.{level}
+use Rattle.height_order.specs.Climbs.{IsClimbing}
+use Rattle.height_order.proofs.Covering.{Occurs, occurs_first, occurs_later, among_readers}
+use Rattle.height_order.proofs.Climbing.{climbing_next}
+use Rattle.height_order.proofs.climb.lift_readers.Goals as goal
+
+pub loop-reader-init : goal.loop-reader-init
+loop-reader-init c =
+    let left = readers_left c.readers-reader-items.result in
+    let same = ap readers_left (sym c.into_iter-reader-iterator.ensures.into_iter_gives) in
+    let x = c.args.x in
+    record {
+      climbing = subst (IsClimbing c.args.heights.now c.args.links.now c.args.new.reader c.args.new.kid c.args.lifts.now c.args.queue.now (level c.args.heights.now x) x)
+          same (c.requires.climbing left c.readers-reader-items.ensures);
+      among = subst (λ rs. (r : Point) → Occurs rs r → Reads c.args.links.now r x) same (among_readers c.args.links.now x left c.readers-reader-items.ensures);
+      kept = λ y d. d;
+    }
+
+pub returns-then-eq-clause-met : goal.returns-then-eq-clause-met
+returns-then-eq-clause-met c _ =
+    let x = c.args.x in
+    let among = subst (λ rs. (r : Point) → Occurs rs r → Reads c.args.links.now r x) c.in-Some.ensures.steps c.loop-reader.invariant.among in
+    let same : c.in-Some.reader ≡ c.args.new.kid = search rules in
+    subst (λ r. Reads c.args.links.now r x) same (among c.in-Some.reader (occurs_first c.in-Some.reader (readers_left c.next.new.self)))
+
+pub loop-reader-preserved : goal.loop-reader-preserved
+loop-reader-preserved c =
+    let x = c.args.x in
+    let reader = c.in-Some.reader in
+    let rest = readers_left c.next.new.self in
+    let so = c.loop-reader.invariant in
+    let among = subst (λ rs. (r : Point) → Occurs rs r → Reads c.args.links.now r x) c.in-Some.ensures.steps so.among in
+    let climbing = subst (IsClimbing c.args.heights.now c.args.links.now c.args.new.reader c.args.new.kid c.loop-reader.lifts c.loop-reader.queue (level c.args.heights.now x) x)
+    c.in-Some.ensures.steps so.climbing in
+    let other : reader ≢ c.args.new.kid = (λ e. let n = rw e at c.if-eq.ensures in
+    let k = sameb_self c.args.new.kid.part in absurd (grind (arith, common_steps, n, k))) in
+    let next = climbing_next c.args.heights.now c.args.links.now c.args.new.reader c.args.new.kid c.requires.sound c.loop-reader.lifts c.loop-reader.queue x reader rest climbing
+    c.lift_above.new.lifts c.lift_above.new.queue (so.kept x c.requires.done) (among reader (occurs_first reader rest)) other c.in_ok-lift_above.ensures in
+    record {
+      climbing = next.0;
+      among = λ r h. among r (occurs_later reader r rest h);
+      kept = λ y d. next.1 y (so.kept y d);
+    }

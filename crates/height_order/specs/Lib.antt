@@ -1,0 +1,4 @@
+pub mod Chains
+pub mod Levels
+pub mod Climbs
+pub mod Faults

@@ -1,0 +1,147 @@
+//! Heights that climb for one link more, and the search for a cycle on the way.
+ghost use Rattle.std.specs.Prelude.{[], ◌≡◌, ◌≢◌, ◌+◌, ◌<◌, ◌≤◌, None, Some, List, IfOk, OnOk, IfSome, IfNone, IsTrue, IsFalse};
+ghost use Rattle.inc_value.specs.declared.node.Point.{Point};
+ghost use Rattle.point_map.specs.Rows.{at, Holds};
+ghost use Rattle.link_table.specs.Links.{Reads, AreReaders};
+ghost use Rattle.height_order.specs.Chains.{IsPath};
+ghost use Rattle.height_order.specs.Levels.{level, IsSound};
+ghost use Rattle.height_order.specs.Climbs.{AllAsked, IsDone, IsClimbing, IsClimbed, IsLifted, ComesAbove, KeepsDone};
+
+use crate::levels::level_of;
+use crate::lifts::{Lift, lifted_level};
+use inc_value::Point;
+use link_table::{Link, LinkTable};
+use point_map::PointMap;
+use recompute_heap::RecomputeHeap;
+use std::alloc::{AllocError, Global};
+
+/// Lifts points until heights rise along the links with the new one, or tells the path from its kid to its
+/// reader, if there is one: that path is met on the way, since all its points are lifted.
+pub fn climb(
+    alloc: Global,
+    links: &LinkTable,
+    heights: &PointMap<u32>,
+    new: Link,
+    lifts: &mut PointMap<Lift>,
+) -> Result<Option<Vec<Point>>, AllocError>
+    requires sound { IsSound heights.now links.now }
+    requires reader { Holds heights.now new.reader }
+    requires none { lifts.old.places ≡ [] }
+    ensures path { IfOk result (λ o. IfSome o (λ list. IsPath (Reads links.now) list.items new.kid new.reader)) }
+    ensures climbed { IfOk result (λ o. IfNone o (IsClimbed heights.now links.now new.reader new.kid lifts.new)) }
+{
+    let mut list = Vec::new(alloc);
+    list.push(new.kid)?;
+    if new.reader == new.kid {
+        return Ok(Some(list));
+    }
+    let Some(met) = lift_all(alloc, links, heights, new, lifts)? else {
+        return Ok(None);
+    };
+    let mut last = met;
+    list.push(last)?;
+    while last != new.reader {
+        last = lifts.get(last).unwrap().kid;
+        list.push(last)?;
+    }
+    Ok(Some(list))
+}
+
+/// Lifts the new link's reader above its kid, and then readers above what they read, until heights rise or a
+/// point is met that the kid reads. Only readers of lifted points are looked at, each point's once.
+fn lift_all(
+    alloc: Global,
+    links: &LinkTable,
+    heights: &PointMap<u32>,
+    new: Link,
+    lifts: &mut PointMap<Lift>,
+) -> Result<Option<Point>, AllocError>
+    requires sound { IsSound heights.now links.now }
+    requires reader { Holds heights.now new.reader }
+    requires other { new.reader ≢ new.kid }
+    requires none { lifts.old.places ≡ [] }
+    ensures met { IfOk result (λ o. IfSome o (λ x. Reads links.now new.kid x × Holds lifts.new x)) }
+    ensures asked { IfOk result (λ _. AllAsked links.now new.reader new.kid lifts.new) }
+    ensures climbed { IfOk result (λ o. IfNone o (IsClimbed heights.now links.now new.reader new.kid lifts.new)) }
+{
+    let mut queue = RecomputeHeap::new(alloc)?;
+    let height = level_of(heights, new.kid) + 1;
+    if level_of(heights, new.reader) < height {
+        let kid = new.kid;
+        lift(heights, lifts, &mut queue, new.reader, Lift { height, kid })?;
+    }
+    while let Some((x, _height)) = queue.pop_least() {
+        if lift_readers(links, heights, new, lifts, &mut queue, x)? {
+            return Ok(Some(x));
+        }
+    }
+    Ok(None)
+}
+
+/// Lifts each reader of a point above it. Where the new link's kid reads it, that is the answer, and the rest is left.
+fn lift_readers(
+    links: &LinkTable,
+    heights: &PointMap<u32>,
+    new: Link,
+    lifts: &mut PointMap<Lift>,
+    queue: &mut RecomputeHeap,
+    x: Point,
+) -> Result<bool, AllocError>
+    requires sound { IsSound heights.now links.now }
+    requires done { IsDone lifts.old queue.old x }
+    requires climbing { (left : List Point) → AreReaders links.now x left → IsClimbing heights.now links.now new.reader new.kid lifts.old queue.old (level heights.now x) x left }
+    ensures met { IfOk result (λ met. IsTrue met → Reads links.now new.kid x) }
+    ensures climbing { IfOk result (λ met. IsFalse met → IsClimbing heights.now links.now new.reader new.kid lifts.new queue.new (level heights.now x) x []) }
+    ensures asked { IfOk result (λ _. AllAsked links.now new.reader new.kid lifts.new) }
+    ensures kept { IfOk result (λ _. KeepsDone lifts.old lifts.new queue.old queue.new) }
+{
+    for reader in links.readers(x) {
+        if reader == new.kid {
+            return Ok(true);
+        }
+        lift_above(heights, lifts, queue, reader, x)?;
+    }
+    Ok(false)
+}
+
+/// Lifts a point above another that it reads, if it isn't higher already. No height passes 129.
+fn lift_above(
+    heights: &PointMap<u32>,
+    lifts: &mut PointMap<Lift>,
+    queue: &mut RecomputeHeap,
+    reader: Point,
+    kid: Point,
+) -> Result<(), AllocError>
+    requires low { level heights.now reader ≤ 128 }
+    requires fresh { at lifts.old reader ≡ None → at queue.old reader ≡ None }
+    ensures { OnOk result (ComesAbove heights.now lifts.old lifts.new queue.old queue.new reader kid) }
+{
+    let height = lifted_level(heights, lifts, kid).min(128) + 1;
+    if lifted_level(heights, lifts, reader) < height {
+        lift(heights, lifts, queue, reader, Lift { height, kid })?;
+    }
+    Ok(())
+}
+
+/// Lifts a point, and puts it into the queue by its old height if it isn't lifted yet.
+fn lift(
+    heights: &PointMap<u32>,
+    lifts: &mut PointMap<Lift>,
+    queue: &mut RecomputeHeap,
+    p: Point,
+    lift: Lift,
+) -> Result<(), AllocError>
+    requires low { level heights.now p ≤ 128 }
+    requires fresh { at lifts.old p ≡ None → at queue.old p ≡ None }
+    ensures { OnOk result (IsLifted heights.now lifts.old lifts.new queue.old queue.new p lift) }
+{
+    if lifts.holds(p) {
+        lifts.replace(p, lift);
+        return Ok(());
+    }
+    lifts.reserve(1)?;
+    queue.reserve(1)?;
+    lifts.insert(p, lift);
+    queue.insert(p, level_of(heights, p));
+    Ok(())
+}

@@ -1,0 +1,77 @@
+-- Lists by place, and the tests of points.
+use Rattle.std.proofs.Common.{◌≡◌, ◌≢◌, ◌⊎◌, inl, inr, ℕ, zero, suc, ◌+◌, ◌<◌, Bool, true, false, List, [], ◌∷◌, ◌++◌, length, refl, ap, sym, arith, rules}
+use Rattle.std.specs.Prelude.{Some, Result, Ok, Err, OnErr, slice_get, slice_set, map, sum_by}
+use Rattle.std.proofs.lemmas.Bool.{cases_eq}
+use Rattle.std.proofs.lemmas.List.Sums.{sum_by-cons}
+use Rattle.inc_value.specs.declared.node.Point.{Point}
+use Rattle.point_map.specs.Rows.{same_point}
+use Rattle.point_map.proofs.Places.{same_point_eq, point_cases}
+use Rattle.link_table.specs.Links.{is_point, link}
+
+-- a fact that holds, also where there is an error
+pub on_err : {T E Q : Type 0} (r : Result T E) → Q → OnErr r Q
+on_err (Ok x) q = search rules
+on_err (Err e) q = q
+
+-- a test passes or fails
+pub split : (b : Bool) → (b ≡ true) ⊎ (b ≡ false)
+split true = inl refl
+split false = inr refl
+
+pub other_point : (y p : Point) → y ≢ p → is_point y p ≡ false
+other_point y p other = elim (split (same_point p y)) [ inl same ↦ absurd (other (sym (same_point_eq p y same))) | inr differs ↦ differs ]
+
+-- a place of a point is this one or not
+pub place_cases : (x p : Point) (k i : ℕ) → ((x ≡ p) × (k ≡ i)) ⊎ (x ≡ p → k ≡ i → ⊥)
+place_cases x p k i = elim (point_cases x p) [
+  | inl at_p ↦ elim (cases_eq k i) [ inl at_i ↦ inl (at_p, at_i) | inr other ↦ inr (λ _ e. other e) ]
+  | inr other ↦ inr (λ e _. other e)
+]
+
+-- a link is this one or not
+pub link_cases : (x p y q : Point) → ((x ≡ p) × (y ≡ q)) ⊎ (link x y ≢ link p q)
+link_cases x p y q = elim (point_cases x p) [
+  | inl at_p ↦ elim (point_cases y q) [ inl at_q ↦ inl (at_p, at_q) | inr other ↦ inr (λ e. other (ap (λ l. l.kid) e)) ]
+  | inr other ↦ inr (λ e. other (ap (λ l. l.reader) e))
+]
+
+module _ {X : Type 0} where
+  pub get_set_same : (xs : List X) (i : ℕ) (y : X) → i < length xs → slice_get (slice_set xs i y) i ≡ Some y
+  get_set_same [] i y h = absurd (omega (arith, h))
+  get_set_same (x ∷ xs) zero y h = refl
+  get_set_same (x ∷ xs) (suc i) y h = get_set_same xs i y (omega (arith, h))
+
+  pub get_set_other : (xs : List X) (i k : ℕ) (y : X) → k ≢ i → slice_get (slice_set xs i y) k ≡ slice_get xs k
+  get_set_other [] i k y other = refl
+  get_set_other (x ∷ xs) zero zero y other = absurd (other refl)
+  get_set_other (x ∷ xs) zero (suc k) y other = refl
+  get_set_other (x ∷ xs) (suc i) zero y other = refl
+  get_set_other (x ∷ xs) (suc i) (suc k) y other = get_set_other xs i k y (λ e. other (ap suc e))
+
+  pub get_append_last : (xs : List X) (y : X) → slice_get (xs ++ y ∷ []) (length xs) ≡ Some y
+  get_append_last [] y = refl
+  get_append_last (x ∷ xs) y = get_append_last xs y
+
+  pub get_append_other : (xs : List X) (y : X) (k : ℕ) → k ≢ length xs → slice_get (xs ++ y ∷ []) k ≡ slice_get xs k
+  get_append_other [] y zero other = absurd (other refl)
+  get_append_other [] y (suc k) other = refl
+  get_append_other (x ∷ xs) y zero other = refl
+  get_append_other (x ∷ xs) y (suc k) other = get_append_other xs y k (λ e. other (ap suc e))
+
+  pub length_more : (xs : List X) (y : X) → length (xs ++ y ∷ []) ≡ length xs + 1
+  length_more [] y = refl
+  length_more (x ∷ xs) y = let next = length_more xs y in omega (arith, next)
+
+  -- two lists with one element behind them
+  pub front_same : (xs ys : List X) (x y : X) → xs ++ x ∷ [] ≡ ys ++ y ∷ [] → xs ≡ ys
+  front_same [] [] x y h = refl
+  front_same [] (b ∷ ys) x y h = absurd (let l = ap length h in let m = length_more ys y in omega (arith, l, m))
+  front_same (a ∷ xs) [] x y h = absurd (let l = ap length h in let m = length_more xs x in omega (arith, l, m))
+  front_same (a ∷ xs) (b ∷ ys) x y h =
+      let parts : (a ≡ b) × (xs ++ x ∷ [] ≡ ys ++ y ∷ []) = (cc, cc) in
+      rw (parts.0, front_same xs ys x y parts.1) refl
+
+module _ {X Y : Type 0} (f : Y → ℕ) (g : X → Y) where
+  pub sum_of_map : (xs : List X) → sum_by f (map g xs) ≡ sum_by (λ x. f (g x)) xs
+  sum_of_map [] = refl
+  sum_of_map (x ∷ xs) = let next = sum_of_map xs in rw (sum_by-cons f (g x) (map g xs), sum_by-cons (λ y. f (g y)) x xs, next) refl

@@ -1,0 +1,22 @@
+use Rattle.std.proofs.Common.{length, ap}
+use Rattle.link_table.proofs.Put.{two_way_more, two_way_kept, put_and_taken}
+use Rattle.link_table.proofs.sides.add_ends.Goals as goal
+
+pub returns-in-Err-clause-two_way : goal.returns-in-Err-clause-two_way
+returns-in-Err-clause-two_way c =
+    let kept = put_and_taken c.args.kids.now c.push.new.self c.pop.new.self c.args.p _ _ c.in_ok-push.ensures.more c.pop.ensures.less in
+    two_way_kept c.args.kids.now c.args.readers.now c.pop.new.self c.push-2.new.self kept c.in-Err.ensures.err c.requires.two_way
+
+pub returns-in-Err-clause-err : goal.returns-in-Err-clause-err
+returns-in-Err-clause-err c =
+    put_and_taken c.args.kids.now c.push.new.self c.pop.new.self c.args.p _ _ c.in_ok-push.ensures.more c.pop.ensures.less
+
+pub returns-clause-two_way : goal.returns-clause-two_way
+returns-clause-two_way c =
+    two_way_more c.args.kids.now c.push.new.self c.args.readers.now c.push-2.new.self c.args.p c.args.q (length c.of-i.result.now)
+    (length c.of-back.result.now) (record {
+      this = c.in_ok-push.ensures.more;
+      that = c.in_default.ensures.more;
+      this_last = ap length c.of-i.ensures;
+      that_last = ap length c.of-back.ensures;
+    }) c.requires.two_way

@@ -1,0 +1,14 @@
+//! Counted links between points, with a walk over what a point reads and one over its readers.
+#![tactic(auto)]
+
+mod ends;
+mod link;
+mod sides;
+mod table;
+#[cfg(test)]
+mod tests;
+mod walks;
+
+pub use link::Link;
+pub use table::LinkTable;
+pub use walks::{Kids, Readers};

@@ -1,0 +1,10 @@
+//! Links between points.
+
+use inc_value::Point;
+
+/// One link: `reader` reads `kid`.
+#[derive(Clone, Copy, Debug, PartialEq, Eq)]
+pub struct Link {
+    pub reader: Point,
+    pub kid: Point,
+}

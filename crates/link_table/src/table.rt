@@ -1,0 +1,94 @@
+//! The table of links.
+ghost use Rattle.std.specs.Prelude.{[], ◌≡◌, ◌↔◌, IsTrue, OnOk, OnErr};
+ghost use Rattle.link_table.specs.Links.{Reads, KeepsLinks, OneLinkMore, AreKids, AreReaders};
+ghost use Rattle.link_table.specs.Walks.{kids_left, readers_left};
+
+use crate::ends::EndLists;
+use crate::sides::{add_ends, kid_place, remove_ends};
+use crate::walks::{Kids, Readers};
+use inc_value::Point;
+use std::alloc::{AllocError, Global};
+use std::marker::Model;
+
+/// Links between points. A point may read another more than once, and each link is taken off for
+/// itself. A contract sees a bag of links.
+///
+/// Each link has an end among the kids of its reader and one among the readers of its kid, and each of
+/// the two tells the place of the other. So a link goes in constant time, however many others its points have,
+/// but for a search through the shorter of the two lists.
+#[derive(Drop)]
+pub struct LinkTable {
+    kids: EndLists,
+    readers: EndLists,
+}
+
+impl Model for LinkTable {
+    ghost use Rattle.link_table.specs.Links.{Links};
+
+    ghost Value = { Links };
+
+    ghost use Rattle.link_table.specs.Ends.{links_of, IsLinked};
+
+    ghost view = { λ t. record { all = links_of t.kids } };
+
+    ghost invariant = { λ t. IsLinked t.kids t.readers };
+}
+
+impl LinkTable {
+    /// No links. This takes no memory.
+    pub fn new(alloc: Global) -> LinkTable
+        ensures none { result.all ≡ [] }
+    {
+        LinkTable {
+            kids: EndLists::new(alloc),
+            readers: EndLists::new(alloc),
+        }
+    }
+
+    /// Makes p read q, once more. Without memory the links stay as they are.
+    pub fn add(&mut self, p: Point, q: Point) -> Result<(), AllocError>
+        ensures added { OnOk result (OneLinkMore self.old self.new p q) }
+        ensures err { OnErr result (KeepsLinks self.old self.new) }
+    {
+        let done = add_ends(&mut self.kids, &mut self.readers, p, q);
+        // The walk over its places is what says that each point has one row.
+        let _places = self.kids.rows.places();
+        done
+    }
+
+    /// Takes a link from p to q off, once. This takes no memory.
+    pub fn remove(&mut self, p: Point, q: Point)
+        requires there { Reads self.old p q }
+        ensures removed { OneLinkMore self.new self.old p q }
+    {
+        let i = kid_place(&self.kids, &self.readers, p, q).unwrap();
+        remove_ends(&mut self.kids, &mut self.readers, p, q, i);
+        // The walk over its places is what says that each point has one row.
+        let _places = self.kids.rows.places();
+    }
+
+    /// Whether p reads q.
+    pub fn reads(&self, p: Point, q: Point) -> bool
+        ensures { IsTrue result ↔ Reads self.now p q }
+    {
+        kid_place(&self.kids, &self.readers, p, q).is_some()
+    }
+
+    /// The points that p reads, each once for each link.
+    pub fn kids(&self, p: Point) -> Kids<'_>
+        ensures { AreKids self.now p (kids_left result) }
+    {
+        Kids {
+            ends: self.kids.of(p),
+        }
+    }
+
+    /// The points that read q, each once for each link.
+    pub fn readers(&self, q: Point) -> Readers<'_>
+        ensures { AreReaders self.now q (readers_left result) }
+    {
+        Readers {
+            ends: self.readers.of(q),
+        }
+    }
+}

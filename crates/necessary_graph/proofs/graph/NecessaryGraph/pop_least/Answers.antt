@@ -1,0 +1,13 @@
+use Rattle.necessary_graph.specs.Part.{part_of}
+use Rattle.necessary_graph.proofs.Room.{room_taken}
+use Rattle.necessary_graph.proofs.Standing.{taken_in_step}
+use Rattle.necessary_graph.proofs.graph.NecessaryGraph.pop_least.Goals as goal
+
+pub invariant_of-self-2 : goal.invariant_of-self-2
+invariant_of-self-2 c =
+    let i = c.self.inside in
+    let e = c.in_ok-p.ensures in (
+      c.self.invariant.0,
+      taken_in_step (part_of i.heights i.needs i.heap) c.self.invariant.1 c.pop_least.new.self c.in_ok-p.p e.changes,
+      room_taken i.heights.heights i.heap c.pop_least.new.self i.points c.in_ok-p.p c.self.invariant.2 e.changes e.count e.spare,
+    )

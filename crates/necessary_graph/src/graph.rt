@@ -1,0 +1,268 @@
+//! The necessary part of a graph.
+ghost use Rattle.std.specs.Prelude.{[], ◌≡◌, ◌⊎◌, ◌<◌, ◌≤◌, ◌↔◌, None, Some, is_some, IsTrue, IsFalse, IsOk, IfOk, OnOk, OnErr, IfErr, IfSome, IfNone, length};
+ghost use Rattle.inc_value.specs.declared.node.Point.{Point};
+ghost use Rattle.point_map.specs.Rows.{at, Holds, Changes, KeepsRows};
+ghost use Rattle.link_table.specs.Links.{times, Reads, KeepsLinks, OneLinkMore, AreReaders, AreKids};
+ghost use Rattle.link_table.specs.Walks.{readers_left, kids_left};
+ghost use Rattle.recompute_heap.specs.Agree.{IsLeast, IsEmpty};
+ghost use Rattle.necessity.specs.Need.{root_times, KeepsRoots, OneRootMore, IsRoot};
+ghost use Rattle.height_order.specs.Chains.{ReadsWith, IsChain, IsPath, Leads, HasChain, NoRepeats};
+ghost use Rattle.height_order.specs.Levels.{level, KeepsPoints, IsExact};
+ghost use Rattle.height_order.specs.Faults.{IfPath, IfOver};
+ghost use Rattle.necessary_graph.specs.Part.{web, Needed, IsInStep, AlsoNeeded};
+ghost use Rattle.necessary_graph.specs.Sweep.{IsUnlinked, IsUnrooted};
+
+use crate::sweep::{raise_moved, sweep, take_out};
+use height_order::{Heights, LinkFault};
+use inc_value::Point;
+use necessity::{Kids, Needs, Readers};
+use recompute_heap::RecomputeHeap;
+use std::alloc::{AllocError, Global};
+use std::marker::Model;
+
+/// Points with heights, roots, counted links, and the points that are to be recomputed. Only needed points have
+/// links of their own or are to be recomputed, and each stands higher than all that it reads.
+#[derive(Drop)]
+pub struct NecessaryGraph {
+    heights: Heights,
+    needs: Needs,
+    heap: RecomputeHeap,
+    points: usize,
+    moved: Vec<Point>,
+}
+
+impl Model for NecessaryGraph {
+    ghost use Rattle.necessary_graph.specs.Part.{NecessaryPart, IsInStep};
+    ghost use Rattle.necessary_graph.specs.Room.{HasRoom};
+    ghost use Rattle.necessary_graph.specs.Part.{part_of};
+    ghost use Rattle.link_table.specs.Links.{KeepsLinks};
+
+    ghost Value = { NecessaryPart };
+
+    ghost view = { λ g. part_of g.heights g.needs g.heap };
+
+    ghost invariant = { λ g.
+        KeepsLinks g.heights.links g.needs.links
+        × IsInStep (part_of g.heights g.needs g.heap)
+        × HasRoom g.heights.heights g.heap g.points };
+}
+
+impl NecessaryGraph {
+    /// No points. The error is want of memory.
+    pub fn new(alloc: Global) -> Result<NecessaryGraph, AllocError>
+        ensures points { IfOk result (λ g. (p : Point) → at g.heights p ≡ None) }
+        ensures roots { IfOk result (λ g. (p : Point) → root_times g.roots p ≡ 0) }
+        ensures links { IfOk result (λ g. (p q : Point) → times g.links p q ≡ 0) }
+        ensures heap { IfOk result (λ g. IsEmpty g.heap) }
+    {
+        Ok(NecessaryGraph {
+            heights: Heights::new(alloc),
+            needs: Needs::new(alloc),
+            heap: RecomputeHeap::new(alloc)?,
+            points: 0,
+            moved: Vec::new(alloc),
+        })
+    }
+
+    /// What stands between any two calls: heights rise along links and are at most 128, only needed points have links
+    /// of their own, needed points are there, and the points that are to be recomputed are needed, each at its
+    /// height. This does nothing.
+    pub fn stands(&self)
+        ensures { IsInStep self.now }
+    {
+        let _points = self.points;
+    }
+
+    /// Adds a point that isn't there, at height 0, and makes room for it in the heap. Without memory nothing changes.
+    pub fn add(&mut self, p: Point) -> Result<(), AllocError>
+        requires absent { at self.old.heights p ≡ None }
+        ensures added { OnOk result (Changes self.old.heights self.new.heights p (Some 0)) }
+        ensures err { OnErr result (KeepsRows self.old.heights self.new.heights) }
+        ensures roots { self.new.roots ≡ self.old.roots }
+        ensures links { self.new.links ≡ self.old.links }
+        ensures heap { KeepsRows self.old.heap self.new.heap }
+    {
+        let points = self.points.checked_add(1).ok_or(AllocError)?;
+        self.heap.reserve(points - self.heap.len())?;
+        self.heights.add(p)?;
+        self.points = points;
+        Ok(())
+    }
+
+    /// Drops a point that isn't needed: it is no root, has no links either way and isn't in the heap.
+    pub fn drop_point(&mut self, p: Point)
+        requires there { Holds self.old.heights p }
+        requires unneeded { Needed self.old p → ⊥ }
+        ensures dropped { Changes self.old.heights self.new.heights p None }
+        ensures roots { self.new.roots ≡ self.old.roots }
+        ensures links { self.new.links ≡ self.old.links }
+        ensures heap { self.new.heap ≡ self.old.heap }
+    {
+        self.heights.drop_point(p);
+        self.points -= 1;
+    }
+
+    /// Puts a root on, once more, and answers whether the point wasn't needed before. Without memory nothing changes.
+    pub fn root_on(&mut self, p: Point) -> Result<bool, AllocError>
+        requires there { Holds self.old.heights p }
+        ensures rooted { OnOk result (OneRootMore self.old.roots self.new.roots p) }
+        ensures newly { IfOk result (λ newly. IsFalse newly ↔ Needed self.old p) }
+        ensures needed { OnOk result (AlsoNeeded self.old self.new p) }
+        ensures err { OnErr result (KeepsRoots self.old.roots self.new.roots) }
+        ensures heights { self.new.heights ≡ self.old.heights }
+        ensures links { KeepsLinks self.old.links self.new.links }
+        ensures heap { self.new.heap ≡ self.old.heap }
+    {
+        let newly = !self.needs.is_needed(p);
+        self.needs.make_needed(p)?;
+        Ok(newly)
+    }
+
+    /// Takes a root off, once. What is no longer needed then loses its links and leaves the heap. This takes no memory.
+    pub fn root_off(&mut self, p: Point)
+        requires root { IsRoot (web self.old) p }
+        ensures { IsUnrooted self.old self.new p }
+    {
+        self.needs.make_unneeded(p);
+        if !self.needs.is_needed(p) {
+            sweep(&mut self.heights, &mut self.needs, &mut self.heap, p);
+        }
+    }
+
+    /// Makes `p` read `q`, once more, and answers whether `q` wasn't needed before. Heights of all kinds may change,
+    /// and those in the heap follow. `Path`: `q` leads to `p`. `Over`: with the link some chain would have 130 points.
+    /// A refusal leaves links, roots and the points of the heap, and `Path` the heights too.
+    pub fn link(&mut self, p: Point, q: Point) -> Result<bool, LinkFault>
+        requires needed { Needed self.old p }
+        requires kid { Holds self.old.heights q }
+        ensures linked { OnOk result (OneLinkMore self.old.links self.new.links p q) }
+        ensures newly { IfOk result (λ newly. IsFalse newly ↔ Needed self.old q) }
+        ensures needed { OnOk result (AlsoNeeded self.old self.new q) }
+        ensures err { OnErr result (KeepsLinks self.old.links self.new.links) }
+        ensures roots { KeepsRoots self.old.roots self.new.roots }
+        ensures points { KeepsPoints self.old.heights self.new.heights }
+        ensures heap { KeepsPoints self.old.heap self.new.heap }
+        ensures path { IfErr result (λ e. IfPath (λ list. IsPath (Reads self.old.links) list q p) e) }
+        ensures path_once { IfErr result (λ e. IfPath NoRepeats e) }
+        ensures path_kept { IfErr result (λ e. IfPath (λ _. KeepsRows self.old.heights self.new.heights) e) }
+        ensures no_path { OnOk result (Leads (Reads self.old.links) q p → ⊥) }
+        ensures over { IfErr result (λ e. IfOver (λ list. IsChain (ReadsWith self.old.links p q) list) e) }
+        ensures over_length { IfErr result (λ e. IfOver (λ list. length list ≡ 130) e) }
+        ensures over_no_path { IfErr result (λ e. IfOver (λ _. Leads (Reads self.old.links) q p → ⊥) e) }
+        ensures over_levelled { IfErr result (λ e. IfOver (λ _. IsExact self.new.heights self.new.links) e) }
+        ensures no_over { OnOk result (HasChain (ReadsWith self.old.links p q) 130 → ⊥) }
+        ensures still { level self.old.heights q < level self.old.heights p → KeepsRows self.old.heights self.new.heights }
+    {
+        let newly = !self.needs.is_needed(q);
+        self.moved.clear();
+        let linked = self.heights.link(p, q, &mut self.moved);
+        raise_moved(&self.heights, &mut self.heap, &self.moved);
+        linked?;
+        match self.needs.attach(p, q) {
+            Ok(()) => Ok(newly),
+            Err(AllocError) => {
+                self.heights.unlink(p, q);
+                Err(LinkFault::Memory)
+            }
+        }
+    }
+
+    /// Takes a link from `p` to `q` off, once. What is no longer needed then loses its links and leaves the heap.
+    /// This takes no memory.
+    pub fn unlink(&mut self, p: Point, q: Point)
+        requires linked { Reads self.old.links p q }
+        ensures { IsUnlinked self.old self.new p q }
+    {
+        self.needs.detach(p, q);
+        self.heights.unlink(p, q);
+        if !self.needs.is_needed(q) {
+            sweep(&mut self.heights, &mut self.needs, &mut self.heap, q);
+        }
+    }
+
+    /// Puts a needed point into the heap at its height, unless it is in. This takes no memory.
+    pub fn insert(&mut self, p: Point)
+        requires needed { Needed self.old p }
+        ensures inserted { Changes self.old.heap self.new.heap p (at self.old.heights p) }
+        ensures rest { self.new ≡ record self.old { heap = self.new.heap } }
+    {
+        if !self.heap.holds(p) {
+            self.heap.insert(p, self.heights.height(p));
+        }
+    }
+
+    /// Takes a point from the heap, if it is in.
+    pub fn remove(&mut self, p: Point)
+        ensures removed { Changes self.old.heap self.new.heap p None }
+        ensures rest { self.new ≡ record self.old { heap = self.new.heap } }
+    {
+        take_out(&mut self.heap, p);
+    }
+
+    /// Takes a point of least height from the heap and gives it, any one of them. None where the heap is empty.
+    pub fn pop_least(&mut self) -> Option<Point>
+        ensures was { IfSome result (λ p. Holds self.old.heap p) }
+        ensures least { IfSome result (λ p. IsLeast self.old.heap (level self.old.heights p)) }
+        ensures removed { IfSome result (λ p. Changes self.old.heap self.new.heap p None) }
+        ensures none { IfNone result (IsEmpty self.old.heap) }
+        ensures unchanged { IfNone result (self.new ≡ self.old) }
+        ensures rest { self.new ≡ record self.old { heap = self.new.heap } }
+    {
+        let (p, _height) = self.heap.pop_least()?;
+        Some(p)
+    }
+
+    /// Whether the point is in the heap.
+    pub fn holds(&self, p: Point) -> bool
+        ensures { result ≡ is_some (at self.now.heap p) }
+    {
+        self.heap.holds(p)
+    }
+
+    /// Whether the point is there.
+    pub fn is_there(&self, p: Point) -> bool
+        ensures { result ≡ is_some (at self.now.heights p) }
+    {
+        self.heights.holds(p)
+    }
+
+    /// Whether the point is a root.
+    pub fn is_root(&self, p: Point) -> bool
+        ensures { IsTrue result ↔ IsRoot (web self.now) p }
+    {
+        self.needs.is_root(p)
+    }
+
+    /// Whether the point is a root, or reached from one over links.
+    pub fn is_needed(&self, p: Point) -> bool
+        ensures { IsTrue result ↔ Needed self.now p }
+    {
+        self.needs.is_needed(p)
+    }
+
+    /// The height of a point, at most 128.
+    pub fn height(&self, p: Point) -> u32
+        requires there { Holds self.now.heights p }
+        ensures height { result ≡ level self.now.heights p }
+        ensures low { result ≤ 128 }
+    {
+        self.heights.height(p)
+    }
+
+    /// The points that read `q`, each once for each link.
+    pub fn readers(&self, q: Point) -> Readers<'_>
+        ensures { AreReaders self.now.links q (readers_left result) }
+    {
+        self.needs.readers(q)
+    }
+
+    /// The points that `p` reads, each once for each link.
+    pub fn kids(&self, p: Point) -> Kids<'_>
+        ensures { AreKids self.now.links p (kids_left result) }
+    {
+        self.needs.kids(p)
+    }
+}
+
+#[cfg(test)]
+mod tests;
