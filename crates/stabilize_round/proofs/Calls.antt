@@ -1,0 +1,146 @@
+-- How many calls a round makes.
+use Rattle.std.proofs.Common.{◌≡◌, inl, inr, ℕ, suc, ◌+◌, List, [], ◌∷◌, length, Option, None, Some, refl, sym, subst, ap, ◌∙◌, arith}
+use Rattle.std.specs.List.{sum_by}
+use Rattle.std.proofs.lemmas.List.Sums.{sum_by-cons}
+use Rattle.inc_value.specs.declared.function.FnRef.{FnRef}
+use Rattle.inc_value.specs.declared.node.NodeId.{NodeId}
+use Rattle.inc_value.specs.declared.node.Part.TheVariants.{Change, Main}
+use Rattle.inc_value.specs.declared.node.Point.{Point}
+use Rattle.inc_value.specs.Choice.{Among, NoRepeats, Every, Reaches}
+use Rattle.inc_terms.specs.Term.{Functions}
+use Rattle.inc_terms.specs.Graph.{Row, Map}
+use Rattle.inc_terms.specs.Depend.{Depends, main}
+use Rattle.inc_terms.specs.Need.{Beside, Observed, nodes_of, Held, Met, from_root, from_held}
+use Rattle.inc_terms.specs.Work.{Visit, other, IsDueVisit}
+use Rattle.stabilize_round.specs.Counts.{RoseBy}
+use Rattle.stabilize_round.specs.State.{State, Start, Call}
+use Rattle.stabilize_round.specs.Invariant as invariant
+use Rattle.stabilize_round.specs.Invariant.{Invariant, MetNow, HasCalled}
+use Rattle.stabilize_round.specs.Machine.{as_it_is, unbuilt, unkept}
+use Rattle.stabilize_round.specs.Ended.{RootsAre}
+use Rattle.stabilize_round.specs.Calls.{BeginsFrom, RoundIsWithinWork, RefusedCalls}
+use Rattle.stabilize_round.proofs.Counts.{one_more}
+use Rattle.stabilize_round.proofs.Entry.{entry_holds}
+use Rattle.stabilize_round.proofs.Machine.{moves_keep}
+use Rattle.stabilize_round.proofs.Rebuilding.{rebuild_keeps}
+
+module _ (F : Functions) (z : Start) (t : State) (inv : Invariant F z t) (before : Beside) (observers : List Observed)
+    (are : RootsAre t (nodes_of observers)) (from : BeginsFrom z before observers) where
+  is_met : (p : Point) → MetNow F z t.graph t.died t.root p → Met F t.graph t.died (nodes_of observers) (Held before observers) p
+  is_met p (invariant.from_root {r} root way) =
+      let l = are.listed r root in
+      from_root l.1 (subst (λ (y : Point). Reaches (Depends F t.graph t.died) y p) l.2 way)
+  is_met p (invariant.from_held {h} held row stands way) = from_held (from.held h held) row stands way
+
+  abbrev Called : NodeId → Type 0
+  Called n = HasCalled F z t.graph t.died t.root t.settled t.last n
+
+  visit_of : (n : NodeId) → Called n → Visit
+  visit_of n c = record { node = n; values = c.values; cost = 1 }
+
+  other_arguments : (n : NodeId) (c : Called n) (x : Option Call) → z.last n ≡ x → before.last n ≡ Some c.values → ⊥
+  other_arguments n c None e last = let k = from.last n in let k' = rw e at k in let x : None ≡ Some c.values = sym k' ∙ last in cc
+  other_arguments n c (Some call) e last =
+      let k = from.last n in
+      let k' = rw e at k in
+      let x : Some call.arguments ≡ Some c.values = sym k' ∙ last in
+      c.reason call e (cc)
+
+  due : (n : NodeId) (c : Called n) → IsDueVisit F t.graph t.died observers before (visit_of n c)
+  unfolding visit_of
+  due n c = record {
+    visit = record {
+      row = c.row;
+      is_row = c.is_row;
+      stands = ((inv.settled.done (main n) c.is_settled).exact c.row c.is_row).0;
+      values = rw c.is_map c.gives;
+      cost = rw c.is_map refl;
+    };
+    met = is_met (main n) c.met;
+    reason = other (λ last. other_arguments n c (z.last n) refl last);
+  }
+
+  abbrev visits : (ns : List NodeId) → ((n : NodeId) → Among n ns → Called n) → List Visit
+  visits [] called = []
+  visits (n ∷ ns) called = visit_of n (called n (inl refl)) ∷ visits ns (λ m a. called m (inr a))
+
+  visited : (v : Visit) (ns : List NodeId) (called : (n : NodeId) → Among n ns → Called n) → Among v (visits ns called) → Among v.node ns
+  unfolding visit_of
+  visited v [] called a = a
+  visited v (n ∷ ns) called (inl e) = inl (ap (λ (x : Visit). x.node) e)
+  visited v (n ∷ ns) called (inr a) = inr (visited v ns (λ m h. called m (inr h)) a)
+
+  distinct : (ns : List NodeId) (called : (n : NodeId) → Among n ns → Called n) → NoRepeats ns → NoRepeats (visits ns called)
+  unfolding visit_of
+  distinct [] called once = tt
+  distinct (n ∷ ns) called once =
+      ((λ a. once.0 (visited (visit_of n (called n (inl refl))) ns (λ m h. called m (inr h)) a)), distinct ns (λ m h. called m (inr h)) once.1)
+
+  all_due : (ns : List NodeId) (called : (n : NodeId) → Among n ns → Called n)
+      → Every (IsDueVisit F t.graph t.died observers before) (visits ns called)
+  all_due [] called = tt
+  all_due (n ∷ ns) called = (due n (called n (inl refl)), all_due ns (λ m h. called m (inr h)))
+
+  one_on : (a b : ℕ) → a ≡ b → 1 + a ≡ suc b
+  one_on a b e = omega arith
+
+  costs : (ns : List NodeId) (called : (n : NodeId) → Among n ns → Called n) → sum_by (λ (v : Visit). v.cost) (visits ns called) ≡ length ns
+  unfolding visit_of
+  costs [] called = refl
+  costs (n ∷ ns) called =
+      let e = costs ns (λ m h. called m (inr h)) in
+      let one = sum_by-cons (λ (v : Visit). v.cost) (visit_of n (called n (inl refl))) (visits ns (λ m h. called m (inr h))) in
+      one ∙ one_on _ _ e
+
+pub round_is_within_work : RoundIsWithinWork
+round_is_within_work F z s t before observers calls entry run are from is =
+    let inv = moves_keep F z s t run (entry_holds F z s entry) in
+    let k = inv.accounts.calls in
+    let most = k.most in
+    let e = costs F z t inv before observers are from t.ran inv.accounts.called in
+    record {
+      visits = visits F z t inv before observers are from t.ran inv.accounts.called;
+      distinct = distinct F z t inv before observers are from t.ran inv.accounts.called inv.accounts.once;
+      due = all_due F z t inv before observers are from t.ran inv.accounts.called;
+      enough = omega arith;
+    }
+
+-- ---- a round that is refused
+
+module _ (F : Functions) (z : Start) (u : State) (inv : Invariant F z u) where
+  ran_maps : (n : NodeId) → Among n u.ran → (r : Row) × (f : FnRef) × (kids : List NodeId) × (u.graph.row n ≡ Some r) × (r.def ≡ Map f kids)
+  ran_maps n a = let c = inv.accounts.called n a in (c.row, c.function, c.kids, c.is_row, c.is_map)
+
+abbrev CalledAtMost : Start → State → Type 0
+CalledAtMost z u =
+    (called : List NodeId) × NoRepeats called × RoseBy z.calls (length called) u.calls
+    × ((n : NodeId) → Among n called → (r : Row) × (f : FnRef) × (kids : List NodeId) × (u.graph.row n ≡ Some r) × (r.def ≡ Map f kids))
+
+ran_alone : (F : Functions) (z : Start) (u : State) → Invariant F z u → CalledAtMost z u
+ran_alone F z u inv = (u.ran, inv.accounts.once, inv.accounts.calls, (λ n a. ran_maps F z u inv n a))
+
+pub refused_calls : RefusedCalls
+refused_calls F z s t u entry run (as_it_is e) =
+    subst (λ (x : State). CalledAtMost z x) (sym e) (ran_alone F z t (moves_keep F z s t run (entry_holds F z s entry)))
+refused_calls F z s t u entry run (unbuilt {b} {now} {m} r none e) =
+    subst (λ (x : State). CalledAtMost z x) (sym e)
+    (ran_alone F z _ (rebuild_keeps F z t (moves_keep F z s t run (entry_holds F z s entry)) b now m r (inl none)))
+refused_calls F z s t u entry run (unkept {n} {r} {f} {kids} {calls'} quiet taken row def count e) =
+    subst (λ (x : State). CalledAtMost z x) (sym e) (n ∷ t.ran, (not_ran, inv.accounts.once), counted, maps)
+  where
+    inv : Invariant F z t
+    inv = moves_keep F z s t run (entry_holds F z s entry)
+
+    not_ran : Among n t.ran → ⊥
+    not_ran a = let x : Main ≡ Change = inv.settled.twice (main n) (inv.accounts.called n a).is_settled taken.heap in cc
+
+    counted : RoseBy z.calls (length (n ∷ t.ran)) calls'
+    counted =
+        let k = one_more inv.accounts.calls count in
+        let a = k.kept in
+        let b = k.most in
+        record { kept = a; most = omega arith; exact = λ h. let c = k.exact h in omega arith }
+
+    maps : (m : NodeId) → Among m (n ∷ t.ran) → (r : Row) × (f : FnRef) × (kids : List NodeId) × (t.graph.row m ≡ Some r) × (r.def ≡ Map f kids)
+    maps m (inl is) = (r, f, kids, subst (λ (y : NodeId). t.graph.row y ≡ Some r) (sym is) row, def)
+    maps m (inr a) = ran_maps F z t inv m a

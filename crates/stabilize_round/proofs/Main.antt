@@ -1,0 +1,449 @@
+-- A main's step keeps the invariant.
+use Rattle.std.proofs.Common.{◌≡◌, ◌⊎◌, inl, inr, ℕ, zero, suc, ◌<◌, Bool, true, false, List, [], ◌∷◌, map, Option, None, Some, refl, sym, ap, subst}
+use Rattle.std.proofs.Common.{◌∙◌, arith}
+use Rattle.inc_value.specs.declared.function.FnRef.{FnRef}
+use Rattle.inc_value.specs.declared.node.NodeId.{NodeId}
+use Rattle.inc_value.specs.declared.node.Part.TheVariants.{Change, Main}
+use Rattle.inc_value.specs.declared.node.Point.{Point}
+use Rattle.inc_value.specs.declared.outcome.Outcome.{Outcome}
+use Rattle.inc_value.specs.declared.outcome.Outcome.TheVariants.{Val, Invalid}
+use Rattle.inc_value.specs.declared.value.Value.{Value}
+use Rattle.inc_value.specs.Choice.{Among, here}
+use Rattle.inc_terms.specs.Term.{Functions, refs}
+use Rattle.inc_terms.specs.Graph.{Graph, Row, Map}
+use Rattle.inc_terms.specs.Evaluate.{Gathered, Unknown, SomeInvalid, Values, gathered, GiveAll, Stands}
+use Rattle.inc_terms.specs.Depend.{Depends, fixed, main, change, fixed_reads}
+use Rattle.inc_terms.specs.Local.{shown, by_sight, Agrees, Exact, Sees}
+use Rattle.inc_terms.specs.Plan.{gate_of, plan}
+use Rattle.inc_terms.proofs.Evaluation.{one_outcome}
+use Rattle.inc_terms.proofs.Full.{full_exact}
+use Rattle.inc_terms.proofs.Local.{main_sees}
+use Rattle.inc_terms.proofs.Plan.{among_left, among_right, plan_depends, depends_plan}
+use Rattle.stabilize_round.specs.State.{State, Start, Call, Stage, Bare, Gated, Static, Full, Linked, count, ghost_plan, at_point, at_node}
+use Rattle.stabilize_round.specs.Invariant.{Invariant, Web, Rows, Waits, IsRight, IsDone, Recalls, Settled, Strict, MetNow, from_held, LastSettled}
+use Rattle.stabilize_round.specs.Invariant.{HasCalled, Accounts}
+use Rattle.stabilize_round.specs.Moves.{Quiet, Calls, computed, StepMain}
+use Rattle.stabilize_round.proofs.Counts.{none_more, one_more}
+use Rattle.stabilize_round.proofs.Points.{same_or_other, node_or_other, is_or_not, at_same, at_other, node_same, node_other, count_among}
+use Rattle.stabilize_round.proofs.Low.{Low, gate_among, links_are, plan_links, is_full, low_points}
+use Rattle.inc_terms.proofs.Seeing.{own_same, gathered_same, shown_same, agrees_same, exact_same}
+use Rattle.stabilize_round.proofs.Planned.{recalls_same, plan_same}
+
+pub at_false : (p : Point) (f : Point → Bool) (q : Point) → at_point p false f q ≡ true → (f q ≡ true) × (p ≡ q → ⊥)
+at_false p f q h = elim (same_or_other p q) [
+  | inl e ↦ let a = at_same p false f in let b : at_point p false f p ≡ true = rw (← e) at h in absurd (cc)
+  | inr n ↦ let a = at_other p false f q n in ((cc), n)
+]
+
+pub main_change : (n m : NodeId) → main n ≡ change m → ⊥
+main_change n m e = let x : Main ≡ Change = ap (λ (p : Point). p.part) e in cc
+
+pub gathered_gives : (F : Functions) (G : Graph) (out : Point → Option Outcome) (kids : List NodeId) (vs : List Value)
+    → ((k : NodeId) → Among (main k) (map main kids) → Sees F G out k)
+    → gathered (by_sight (shown G out)) (refs kids) ≡ Values vs → GiveAll F G kids vs
+gathered_gives F G out [] vs sees e = let same : [] ≡ vs = cc in by_empty vs same
+  where
+    by_empty : (ws : List Value) → [] ≡ ws → GiveAll F G [] ws
+    by_empty [] e = tt
+    by_empty (w ∷ ws) e = absurd (cc)
+gathered_gives F G out (k ∷ ks) vs sees e = first (sees k (inl refl)).0 (sees k (inl refl)).1 (gathered (by_sight (shown G out)) (refs ks)) refl
+    (λ ws. gathered_gives F G out ks ws (λ m a. sees m (inr a)))
+  where
+    last : (v : Value) (ws us : List Value) → (v ∷ ws) ≡ us → Sees F G out k → shown G out (main k) ≡ Some (Val v) → GiveAll F G ks ws
+        → GiveAll F G (k ∷ ks) us
+    last v ws [] same see is rest = absurd (cc)
+    last v ws (u ∷ us) same see is rest = let a : v ≡ u = cc in let b : ws ≡ us = cc in let x = see.1 in let c : see.0 ≡ Val u = cc in
+        (rw c at see.2, rw b at rest)
+
+    first : (o : Outcome) → shown G out (main k) ≡ Some o → (g : Gathered) → gathered (by_sight (shown G out)) (refs ks) ≡ g
+        → ((ws : List Value) → gathered (by_sight (shown G out)) (refs ks) ≡ Values ws → GiveAll F G ks ws) → GiveAll F G (k ∷ ks) vs
+    first Invalid is Unknown g rest = absurd (let x = rw (is, g) at e in cc)
+    first Invalid is SomeInvalid g rest = absurd (let x = rw (is, g) at e in cc)
+    first Invalid is (Values ws) g rest = absurd (let x = rw (is, g) at e in cc)
+    first (Val v) is Unknown g rest = absurd (let x = rw (is, g) at e in cc)
+    first (Val v) is SomeInvalid g rest = absurd (let x = rw (is, g) at e in cc)
+    first (Val v) is (Values ws) g rest = let x = rw (is, g) at e in last v ws vs (cc) (sees k (inl refl)) is (rest ws g)
+
+module _ (F : Functions) (z : Start) (s : State) (inv : Invariant F z s) (quiet : Quiet s) (n : NodeId) (o : Outcome) (heap' : Point → Bool)
+    (last' : Option Call) (called : Bool) (calls' : ℕ)
+    (move : StepMain F s n o heap' last' called calls') where
+  abbrev G : Graph
+  G = s.graph
+
+  abbrev out' : Point → Option Outcome
+  out' = at_point (main n) (Some o) s.out
+
+  abbrev after : State
+  after = computed s n o heap' last' called calls'
+
+  below : (q : Point) → Linked s (main n) q → Low F z s inv quiet q
+  below q l = let k = inv.web.rises (main n) q l in low_points F z s inv quiet (s.height (main n)) move.taken.least q k (inv.web.onto (main n) q l)
+
+  need : s.needed (main n) ≡ true
+  need = inv.web.heap (main n) move.taken.heap
+
+  full : s.stage (main n) ≡ Full
+  full = is_full F z s inv quiet (main n) need below move.row move.is_row
+
+  linked : (q : Point) → Among q (plan G s.out (main n) move.row) → Linked s (main n) q
+  linked q a = plan_links F z s inv quiet (main n) q move.row Full move.is_row full need a
+
+  not_self : (q : Point) → Linked s (main n) q → main n ≡ q → ⊥
+  not_self q l e = let k = inv.web.rises (main n) q l in let k' : s.height (main n) < s.height (main n) = rw (← e) at k in omega arith
+
+  same_at : (q : Point) → Linked s (main n) q → out' q ≡ s.out q
+  same_at q l = at_other (main n) (Some o) s.out q (not_self q l)
+
+  at_change : (m : NodeId) → out' (change m) ≡ s.out (change m)
+  at_change m = at_other (main n) (Some o) s.out (change m) (main_change n m)
+
+  -- the taken point agrees and is exact
+  agrees : Agrees F G out' (main n)
+  agrees r row =
+      let is = move.is_row in
+      let same : r ≡ move.row = cc in
+      let shown_change : shown G s.out (change n) ≡ s.out (change n) = rw is refl in
+      let e = own_same F G (shown G s.out) (shown G out') n move.row.def
+      (λ q a. shown_same F G s.out out' q
+      (same_at q (linked q (among_right q (gate_of move.row.scope) _ (among_left q (fixed_reads G n move.row.def Main) _ a)))))
+      (λ q a. shown_same F G s.out out' q
+      (same_at q (linked q (among_right q (gate_of move.row.scope) _
+      (among_right q (fixed_reads G n move.row.def Main) _ (rw shown_change at a)))))) in
+      rw same (o, at_same (main n) (Some o) s.out, e ∙ move.own)
+
+  exact_here : Exact F G out' (main n)
+  exact_here = full_exact F G out' inv.scoped (main n) agrees (λ r row q among.
+      let is = move.is_row in
+      let same : r ≡ move.row = cc in
+      let e = at_change n in
+      let l = linked q (rw (← same) (rw e at among)) in
+      exact_same F G s.out out' q (same_at q l) (below q l).exact)
+
+  -- what was exact stays so
+  exact_stays : (q : Point) → Exact F G s.out q → Exact F G out' q
+  exact_stays q x = elim (same_or_other (main n) q) [
+    | inl e ↦ subst (λ (y : Point). Exact F G out' y) e exact_here
+    | inr ne ↦ exact_same F G s.out out' q (at_other (main n) (Some o) s.out q ne) x
+  ]
+
+  -- where it was exact, its outcome stays
+  news : Exact F G s.out (main n) → s.out (main n) ≡ Some o
+  news x =
+      let before = main_sees F G s.out n x in
+      let later = main_sees F G out' n exact_here in
+      let a : shown G s.out (main n) ≡ s.out (main n) = rw move.is_row refl in
+      let b : shown G out' (main n) ≡ out' (main n) = rw move.is_row refl in
+      let c = at_same (main n) (Some o) s.out in
+      let d : before.0 ≡ later.0 = one_outcome F G _ before.0 later.0 before.2 later.2 in
+      let e = before.1 in let f = later.1 in
+      cc
+
+  done_links : (q : Point) (d : IsDone F G s.out s.died s.last q) (m : Point) → Among m (plan G s.out q d.row) → Depends F G s.died q m
+  done_links q d m among =
+      let st : Stands F G d.row.scope = (d.exact d.row d.is_row).0 in
+      plan_depends F G s.out s.died q m d.row d.is_row st
+      (λ part k sub. ((d.below (change q.node) (fixed d.is_row st (rw (part, sub) (inl refl)))) d.row d.is_row).1 k sub) among
+
+  out_stays : Exact F G s.out (main n) → (q : Point) → out' q ≡ s.out q
+  out_stays x q = elim (same_or_other (main n) q) [
+    | inl e ↦ let a = news x in let b = at_same (main n) (Some o) s.out in rw (← e) (cc)
+    | inr ne ↦ at_other (main n) (Some o) s.out q ne
+  ]
+
+  last_stays : (q : Point) → (main n ≡ q → ⊥) → q.part ≡ Main → at_node n last' s.last q.node ≡ s.last q.node
+  last_stays q ne part = node_other n last' s.last q.node (λ e. ne (λ i. record { node = e i; part = (sym part) i }))
+
+  done_stays : (q : Point) → (main n ≡ q → ⊥) → IsDone F G s.out s.died s.last q → IsDone F G out' s.died (at_node n last' s.last) q
+  done_stays q ne d = record {
+    row = d.row;
+    is_row = d.is_row;
+    agrees = agrees_same F G s.out out' q d.row d.is_row (at_other (main n) (Some o) s.out q ne) (λ m among. elim (same_or_other (main n) m) [
+      | inl e ↦ let x = d.below m (done_links q d m among) in out_stays (subst (λ (y : Point). Exact F G s.out y) (sym e) x) m
+      | inr other ↦ at_other (main n) (Some o) s.out m other
+    ]) d.agrees;
+    recalls = recalls_same F G G (shown G s.out) (shown G out') s.last (at_node n last' s.last) q d.row d.is_row d.is_row
+        (λ m among. shown_same F G s.out out' m (elim (same_or_other (main n) m) [
+          | inl e ↦ let x = d.below m (done_links q d m
+              (among_right m (gate_of d.row.scope) _ (among_left m (fixed_reads G q.node d.row.def q.part) _ among))) in
+              out_stays (subst (λ (y : Point). Exact F G s.out y) (sym e) x) m
+          | inr other ↦ at_other (main n) (Some o) s.out m other
+        ])) (last_stays q ne) d.recalls;
+    exact = exact_stays q d.exact;
+    below = λ m dep. exact_stays m (d.below m dep);
+  }
+
+  recalls_by : (was : Bool) → called ≡ was → Calls F s n move.row.def last' was → Recalls G (shown G out') (at_node n last' s.last) (main n)
+  recalls_by was is h r f kids values row part def shows =
+      let mine = move.is_row in
+      let same : r ≡ move.row = cc in
+      let def' : move.row.def ≡ Map f kids = rw (← same) def in
+      let seen = gathered_same F G (shown G s.out) (shown G out') kids
+      (λ q a. shown_same F G s.out out' q
+      (same_at q (linked q (among_right q (gate_of move.row.scope) _ (among_left q (fixed_reads G n move.row.def Main) _ (rw def' a)))))) in
+      by_call was h f kids values def' (sym seen ∙ shows)
+    where
+      by_call : (was : Bool) → Calls F s n move.row.def last' was → (f : FnRef) (kids : List NodeId) (values : List Value)
+          → move.row.def ≡ Map f kids → gathered (by_sight (shown G s.out)) (refs kids) ≡ Values values
+          → (c : Call) × (at_node n last' s.last n ≡ Some c) × (c.arguments ≡ values)
+      by_call false h f kids values def' before = let c = h.1 f kids values def' before in (c.0, node_same n last' s.last ∙ h.0 ∙ c.1, c.2)
+      by_call true h f kids values def' before =
+          let a = h.3 in let b = h.4 in
+          let ks : h.1 ≡ kids = cc in
+          let b' : gathered (by_sight (shown G s.out)) (refs kids) ≡ Values h.2 = subst
+          (λ (y : List NodeId). gathered (by_sight (shown G s.out)) (refs y) ≡ Values h.2) ks b in
+          let vs : h.2 ≡ values = cc in
+          (record { arguments = h.2; result = F.value h.0 h.2 }, node_same n last' s.last ∙ h.6, vs)
+
+  done_here : IsDone F G out' s.died (at_node n last' s.last) (main n)
+  done_here = record {
+    row = move.row;
+    is_row = move.is_row;
+    agrees = agrees;
+    recalls = recalls_by called refl move.calls;
+    exact = exact_here;
+    below = λ m dep.
+        let st : Stands F G move.row.scope = (exact_here move.row move.is_row).0 in
+        let among = depends_plan F G s.out s.died (main n) m move.row move.is_row st
+        (λ part k sub. ((below (change n)
+        (linked (change n) (among_right (change n) (gate_of move.row.scope) _
+        (among_left (change n) (fixed_reads G n move.row.def Main) _ (rw sub (inl refl)))))).exact move.row move.is_row).1 k sub) dep in
+        exact_stays m (below m (linked m among)).exact;
+  }
+
+  settled_more : (q : Point) → s.settled q ≡ true → at_point (main n) true s.settled q ≡ true
+  settled_more q h = elim (same_or_other (main n) q) [
+    | inl e ↦ rw (← e) (at_same (main n) true s.settled)
+    | inr ne ↦ at_other (main n) true s.settled q ne ∙ h
+  ]
+
+  heap_more : (q : Point) → (main n ≡ q → ⊥) → s.heap q ≡ true → heap' q ≡ true
+  heap_more q ne h = move.heap.kept q (at_other (main n) false s.heap q ne ∙ h)
+
+  web : Web after
+  web = record {
+    from = inv.web.from;
+    onto = inv.web.onto;
+    rooted = inv.web.rooted;
+    reached = inv.web.reached;
+    rises = inv.web.rises;
+    low = inv.web.low;
+    heap = λ q h. elim (move.heap.new q h) [
+      | inl k ↦ inv.web.heap q (at_false (main n) s.heap q k).0
+      | inr k ↦ inv.web.from q (main n) k.0
+    ];
+  }
+
+  -- what reads a main is live
+  reader_alive : (q : Point) → Linked s q (main n) → (x : Option Row) → G.row q.node ≡ x → (r : Row) × (G.row q.node ≡ Some r)
+  reader_alive q l (Some r) row = (r, row)
+  reader_alive q l None row = absurd (by_stage (s.stage q) refl)
+    where
+      by_gates : Among (main n) (gate_of (s.died q.node)) → ⊥
+      by_gates a = let g = gate_among (s.died q.node) (main n) a in main_change n g.0 g.2
+
+      by_count : (st : Stage) → s.links q (main n) ≡ count (main n) (ghost_plan (s.died q.node) st) → ⊥
+      by_count Bare e = omega arith
+      by_count Gated e = by_gates (count_among (main n) (gate_of (s.died q.node)) (omega arith))
+      by_count Static e = by_gates (count_among (main n) (gate_of (s.died q.node)) (omega arith))
+      by_count Full e = by_gates (count_among (main n) (gate_of (s.died q.node)) (omega arith))
+
+      by_stage : (st : Stage) → s.stage q ≡ st → ⊥
+      by_stage st is = by_count st (rw (row, is) at (links_are F z s inv quiet q (main n) (inv.web.from q (main n) l)))
+
+  alive : (q : Point) → heap' q ≡ true → (r : Row) × (G.row q.node ≡ Some r)
+  alive q h = elim (move.heap.new q h) [
+    | inl k ↦ inv.alive q (at_false (main n) s.heap q k).0
+    | inr k ↦ reader_alive q k.0 (G.row q.node) refl
+  ]
+
+  rows : Rows after
+  rows = record {
+    links = λ q m nd. let e = plan_same G s.out out' s.died q (G.row q.node) (s.stage q) (at_change q.node) in rw e (inv.rows.links q m nd);
+    bare = inv.rows.bare;
+    owed = inv.rows.owed;
+  }
+
+  waits : Waits after
+  waits = record {
+    gated = λ q r row nd td st. let w = inv.waits.gated q r row nd td st in
+        (w.0, w.1, at_other (main n) true s.settled (change w.0) (main_change n w.0) ∙ w.2, heap_more (change w.0) (main_change n w.0) w.3);
+    static = λ q r row nd td st. let w = inv.waits.static q r row nd td st in (w.0, w.1, w.2, heap_more (change q.node) (main_change n q.node) w.3);
+  }
+
+  right_stays : (q : Point) (r : Row) → G.row q.node ≡ Some r → s.needed q ≡ true → (main n ≡ q → ⊥) → IsRight F s q
+      → (heap' q ≡ true) ⊎ (at_point (main n) true s.settled q ≡ true) ⊎ IsRight F after q
+  right_stays q r row nd ne right = by_count (s.links q (main n)) refl
+    where
+      keeps : ((m : Point) → Among m (plan G s.out q r) → out' m ≡ s.out m) → IsRight F after q
+      keeps h = (
+        right.0,
+        agrees_same F G s.out out' q r row (at_other (main n) (Some o) s.out q ne) h right.1,
+        recalls_same F G G (shown G s.out) (shown G out') s.last (at_node n last' s.last) q r row row
+            (λ m a. shown_same F G s.out out' m (h m (among_right m (gate_of r.scope) _ (among_left m (fixed_reads G q.node r.def q.part) _ a))))
+            (last_stays q ne) right.2,
+      )
+
+      same_out : s.out (main n) ≡ Some o → (m : Point) → out' m ≡ s.out m
+      same_out e m = elim (same_or_other (main n) m) [
+        | inl is ↦ let b = at_same (main n) (Some o) s.out in subst (λ (y : Point). out' y ≡ s.out y) is (b ∙ sym e)
+        | inr other ↦ at_other (main n) (Some o) s.out m other
+      ]
+
+      by_out : Linked s q (main n) → (s.out (main n) ≡ Some o) ⊎ (s.out (main n) ≡ Some o → ⊥) → (heap' q ≡ true)
+          ⊎ (at_point (main n) true s.settled q ≡ true) ⊎ IsRight F after q
+      by_out l (inl e) = inr (inr (keeps (λ m a. same_out e m)))
+      by_out l (inr other) = elim (move.heap.told q (l, other)) [ inl h ↦ inl h | inr st ↦ inr (inl (settled_more q st)) ]
+
+      by_count : (k : ℕ) → s.links q (main n) ≡ k → (heap' q ≡ true) ⊎ (at_point (main n) true s.settled q ≡ true) ⊎ IsRight F after q
+      by_count zero e = inr (inr (keeps (λ m among. elim (same_or_other (main n) m) [
+        | inl is ↦ let l : Linked s q (main n) = subst (λ (y : Point). Linked s q y) (sym is)
+            (plan_links F z s inv quiet q m r Full row right.0 nd among) in absurd (omega arith)
+        | inr other ↦ at_other (main n) (Some o) s.out m other
+      ])))
+      by_count (suc k) e = by_out (omega arith) (is_or_not (s.out (main n)) o)
+
+  fresh : (q : Point) (r : Row) → G.row q.node ≡ Some r → s.needed q ≡ true → (heap' q ≡ true) ⊎ (at_point (main n) true s.settled q ≡ true)
+      ⊎ IsRight F after q
+  fresh q r row nd = elim (same_or_other (main n) q) [
+    | inl e ↦ inr (inl (subst (λ (y : Point). at_point (main n) true s.settled y ≡ true) e (at_same (main n) true s.settled)))
+    | inr ne ↦ elim (inv.fresh q r row nd) [
+      | inl h ↦ inl (heap_more q ne h)
+      | inr (inl h) ↦ inr (inl (settled_more q h))
+      | inr (inr right) ↦ right_stays q r row nd ne right
+    ]
+  ]
+
+  settled : Settled F after
+  settled = record {
+    done = λ q h. elim (same_or_other (main n) q) [
+      | inl e ↦ subst (λ (y : Point). IsDone F G out' s.died (at_node n last' s.last) y) e done_here
+      | inr ne ↦ let b = at_other (main n) true s.settled q ne in done_stays q ne (inv.settled.done q (sym b ∙ h))
+    ];
+    twice = λ q h k. elim (move.heap.new q k) [
+      | inl old ↦ let a = at_false (main n) s.heap q old in let b = at_other (main n) true s.settled q a.1 in inv.settled.twice q (sym b ∙ h) a.0
+      | inr new ↦ let l = not_self q in elim (same_or_other (main n) q) [
+        | inl e ↦ absurd (not_self q (subst (λ (y : Point). Linked s y q) (sym e) (subst (λ (y : Point). Linked s q y) e new.0)) e)
+        | inr ne ↦ let b = at_other (main n) true s.settled q ne in absurd (let x = new.1 in cc)
+      ]
+    ];
+  }
+
+  strict : Strict after
+  strict = record {
+    gates = λ st q r b row nd sc stage. at_other (main n) true s.settled (change b) (main_change n b) ∙ inv.strict.gates st q r b row nd sc stage;
+    rights = λ st m r q row nd stage among. let e = at_change m in
+        at_other (main n) true s.settled (change m) (main_change n m) ∙ inv.strict.rights st m r q row nd stage (rw e at among);
+  }
+
+  -- what is taken is met
+  is_met : MetNow F z G s.died s.root (main n)
+  is_met = elim (inv.met.needed (main n) need) [ inl m ↦ m | inr h ↦ from_held h move.is_row (exact_here move.row move.is_row).0 here ]
+
+  not_ran : (m : NodeId) → Among m s.ran → n ≡ m → ⊥
+  not_ran m a e =
+      let c = inv.accounts.called m a in
+      let st : s.settled (main n) ≡ true = subst (λ (y : NodeId). s.settled (main y) ≡ true) (sym e) c.is_settled in
+      let x = inv.settled.twice (main n) st move.taken.heap in cc
+
+  called_stays : (m : NodeId) → Among m s.ran → HasCalled F z G s.died s.root (at_point (main n) true s.settled) (at_node n last' s.last) m
+  called_stays m a =
+      let c = inv.accounts.called m a in
+      record {
+        row = c.row;
+        function = c.function;
+        kids = c.kids;
+        values = c.values;
+        is_row = c.is_row;
+        is_map = c.is_map;
+        is_settled = settled_more (main m) c.is_settled;
+        met = c.met;
+        gives = c.gives;
+        is_last = node_other n last' s.last m (not_ran m a) ∙ c.is_last;
+        reason = c.reason;
+      }
+
+  accounts : (was : Bool) → called ≡ was → Calls F s n move.row.def last' was → Accounts F z after
+  accounts false is h =
+      let same : (m : NodeId) → at_node n last' s.last m ≡ s.last m = λ m. elim (node_or_other n m) [
+        | inl e ↦ let b = node_same n last' s.last in subst (λ (y : NodeId). at_node n last' s.last y ≡ s.last y) e (b ∙ h.0)
+        | inr ne ↦ node_other n last' s.last m ne
+      ] in
+      record {
+        once = rw is inv.accounts.once;
+        called = λ m a. called_stays m (rw is at a);
+        kept = λ m r row a. same m ∙ inv.accounts.kept m r row (λ x. a (rw is x));
+        calls = rw is (none_more inv.accounts.calls (rw is at move.count));
+        answers = λ m r f kids c row def l. inv.accounts.answers m r f kids c row def (sym (same m) ∙ l);
+      }
+  accounts true is h =
+      let fresh_here : Among n s.ran → ⊥ = λ a. not_ran n a refl in
+      let at_kid = λ (q : Point) (a : Among q (map main h.1)). linked q
+      (among_right q (gate_of move.row.scope) _ (among_left q (fixed_reads G n move.row.def Main) _ (rw h.3 a))) in
+      let gives = gathered_gives F G s.out h.1 h.2 (λ k a. main_sees F G s.out k (below (main k) (at_kid (main k) a)).exact) h.4 in
+      let mine : at_node n last' s.last n ≡ Some (record { arguments = h.2; result = F.value h.0 h.2 }) = node_same n last' s.last ∙ h.6 in
+      let mine_called : HasCalled F z G s.died s.root (at_point (main n) true s.settled) (at_node n last' s.last) n = record {
+        row = move.row;
+        function = h.0;
+        kids = h.1;
+        values = h.2;
+        is_row = move.is_row;
+        is_map = h.3;
+        is_settled = at_same (main n) true s.settled;
+        met = is_met;
+        gives = gives;
+        is_last = mine;
+        reason = λ c l e. h.5 c (inv.accounts.kept n move.row move.is_row fresh_here ∙ l) e;
+      } in
+      record {
+        once = rw is (fresh_here, inv.accounts.once);
+        called = λ m a. called_more m (rw is at a) mine_called;
+        kept = λ m r row a. let a' : Among m (n ∷ s.ran) → ⊥ = λ x. a (rw is x) in
+            node_other n last' s.last m (λ e. a' (inl (sym e))) ∙ inv.accounts.kept m r row (λ x. a' (inr x));
+        calls = rw is (let e = one_more inv.accounts.calls (rw is at move.count) in let k = e.kept in let m = e.most in
+            record { kept = k; most = omega arith; exact = λ h. let x = e.exact h in omega arith });
+        answers = λ m r f kids c row def l. elim (node_or_other n m) [
+          | inl e ↦ by_call m r f kids c row def e (subst (λ (y : NodeId). at_node n last' s.last y ≡ Some c) (sym e) l) h
+          | inr ne ↦ inv.accounts.answers m r f kids c row def (sym (node_other n last' s.last m ne) ∙ l)
+        ];
+      }
+    where
+      called_more : (m : NodeId) → Among m (n ∷ s.ran) → HasCalled F z G s.died s.root (at_point (main n) true s.settled) (at_node n last' s.last) n
+          → HasCalled F z G s.died s.root (at_point (main n) true s.settled) (at_node n last' s.last) m
+      called_more m (inl e) c = subst (λ (y : NodeId). HasCalled F z G s.died s.root (at_point (main n) true s.settled) (at_node n last' s.last) y)
+          (sym e) c
+      called_more m (inr a) c = called_stays m a
+
+      by_call : (m : NodeId) (r : Row) (f : FnRef) (kids : List NodeId) (c : Call) → G.row m ≡ Some r → r.def ≡ Map f kids → n ≡ m
+          → at_node n last' s.last n ≡ Some c → Calls F s n move.row.def last' true → c.result ≡ F.value f c.arguments
+      by_call m r f kids c row def e l h =
+          let row' : G.row n ≡ Some r = subst (λ (y : NodeId). G.row y ≡ Some r) (sym e) row in
+          let is' = move.is_row in
+          let same : r ≡ move.row = cc in
+          let def' : move.row.def ≡ Map f kids = rw (← same) def in
+          let def'' = h.3 in
+          let ff : h.0 ≡ f = cc in
+          let mine = node_same n last' s.last in
+          let l' = h.6 in
+          let cs : record { arguments = h.2; result = F.value h.0 h.2 } ≡ c = cc in
+          rw (← cs) (rw ff refl)
+
+  last_settled : LastSettled after
+  last_settled q e = let same : main n ≡ q = cc in
+      subst (λ (y : Point). at_point (main n) true s.settled y ≡ true) same (at_same (main n) true s.settled)
+
+  pub main_keeps : Invariant F z after
+  main_keeps = record {
+    web = web;
+    alive = alive;
+    rows = rows;
+    scoped = inv.scoped;
+    rooted = inv.rooted;
+    built = λ m r x row e. inv.built m r x row (sym (at_change m) ∙ e);
+    waits = waits;
+    fresh = fresh;
+    settled = settled;
+    strict = strict;
+    last_settled = last_settled;
+    met = record { needed = inv.met.needed; todo = inv.met.todo };
+    accounts = accounts called refl move.calls;
+  }

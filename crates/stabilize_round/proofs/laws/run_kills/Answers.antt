@@ -1,0 +1,5 @@
+use Rattle.stabilize_round.proofs.Runs as law
+use Rattle.stabilize_round.proofs.laws.run_kills.Goals as goal
+
+pub returns : goal.returns
+returns c = law.run_kills

@@ -1,0 +1,38 @@
+-- How many calls a round makes.
+use Rattle.std.specs.Prelude.{◌≡◌, ◌+◌, ℕ, true, List, length, Option, None, Some}
+use Rattle.inc_value.specs.declared.function.FnRef.{FnRef}
+use Rattle.inc_value.specs.declared.node.NodeId.{NodeId}
+use Rattle.inc_value.specs.declared.node.Point.{Point}
+use Rattle.inc_value.specs.declared.value.Value.{Value}
+use Rattle.inc_value.specs.Choice.{Among, NoRepeats}
+use Rattle.inc_terms.specs.Term.{Functions}
+use Rattle.inc_terms.specs.Graph.{Row, Map}
+use Rattle.inc_terms.specs.Need.{Beside, Observed, nodes_of, Held}
+use Rattle.inc_terms.specs.Work.{WithinWork}
+use Rattle.stabilize_round.specs.Counts.{RoseBy}
+use Rattle.stabilize_round.specs.State.{State, Start, Call}
+use Rattle.stabilize_round.specs.Machine.{Entry, Moves, Stops}
+use Rattle.stabilize_round.specs.Ended.{RootsAre}
+
+-- the arguments of a call
+abbrev pub arguments_of : Option Call → Option (List Value)
+arguments_of None = None
+arguments_of (Some c) = Some c.arguments
+
+-- a round begins with what stood beside the graph: what is held for it was held there, and last calls have the arguments that are kept there
+pub record BeginsFrom (z : Start) (before : Beside) (observers : List Observed) : Type 0 where
+  pub held : (p : Point) → z.held p ≡ true → Held before observers p
+  pub last : (n : NodeId) → before.last n ≡ arguments_of (z.last n)
+
+-- whatever was called so far is within the work
+abbrev pub RoundIsWithinWork : Type 0
+RoundIsWithinWork =
+    (F : Functions) (z : Start) (s t : State) (before : Beside) (observers : List Observed) (calls : ℕ) → Entry F z s → Moves F z s t
+    → RootsAre t (nodes_of observers) → BeginsFrom z before observers → t.calls ≡ z.calls + calls → WithinWork F t.graph t.died observers before calls
+
+-- where a refused round stops, the count of calls rose by at most one for each of some live maps
+abbrev pub RefusedCalls : Type 0
+RefusedCalls =
+    (F : Functions) (z : Start) (s t u : State) → Entry F z s → Moves F z s t → Stops F z t u
+    → (called : List NodeId) × NoRepeats called × RoseBy z.calls (length called) u.calls
+    × ((n : NodeId) → Among n called → (r : Row) × (f : FnRef) × (kids : List NodeId) × (u.graph.row n ≡ Some r) × (r.def ≡ Map f kids))

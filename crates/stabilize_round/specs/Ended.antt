@@ -1,0 +1,40 @@
+-- What holds once the heap and the worklist are empty.
+use Rattle.std.specs.Prelude.{◌≡◌, ◌<◌, ℕ, Bool, true, false, cond, List, length, Some}
+use Rattle.inc_value.specs.declared.node.NodeId.{NodeId}
+use Rattle.inc_value.specs.declared.node.Point.{Point}
+use Rattle.inc_value.specs.Choice.{Among, NoRepeats}
+use Rattle.inc_value.specs.Walk.{IsDeep, IsOnCycle}
+use Rattle.inc_terms.specs.Term.{Functions}
+use Rattle.inc_terms.specs.Graph.{Row}
+use Rattle.inc_terms.specs.Depend.{Depends, main}
+use Rattle.inc_terms.specs.Local.{shown, Exact, Sees, Local}
+use Rattle.inc_terms.specs.Need.{IsRoot, Needed}
+use Rattle.stabilize_round.specs.Counts.{RoseBy, number_of}
+use Rattle.stabilize_round.specs.State.{State, Start, Full, Linked}
+use Rattle.stabilize_round.specs.Invariant.{HasCalled, Recalls}
+
+-- the roots are the mains of these nodes, at which observers look, and of freezes that keep no value yet
+pub record RootsAre (s : State) (observed : List NodeId) : Type 0 where
+  pub on : (n : NodeId) → IsRoot s.graph observed n → 0 < s.root (main n)
+  pub listed : (p : Point) → 0 < s.root p → (n : NodeId) × IsRoot s.graph observed n × (p ≡ main n)
+
+-- all that is needed has all its links and is exact; what is linked is what is depended on, and what is needed is so over what points depend on,
+-- without cycles and walks of 130; a node whose function wasn't called was last called as before
+pub record Ended (F : Functions) (z : Start) (s : State) (observed : List NodeId) : Type 0 where
+  pub full : (p : Point) (r : Row) → s.graph.row p.node ≡ Some r → s.needed p ≡ true → s.stage p ≡ Full
+  pub exact : (p : Point) → s.needed p ≡ true → Exact F s.graph s.out p
+  pub links : (p q : Point) → s.needed p ≡ true → (Linked s p q → Depends F s.graph s.died p q) × (Depends F s.graph s.died p q → Linked s p q)
+  pub needs : (p : Point) → (s.needed p ≡ true → Needed F s.graph s.died observed p) × (Needed F s.graph s.died observed p → s.needed p ≡ true)
+  pub acyclic : (p : Point) → Needed F s.graph s.died observed p → IsOnCycle (Depends F s.graph s.died) p → ⊥
+  pub shallow : (p : Point) → Needed F s.graph s.died observed p → IsDeep (Depends F s.graph s.died) p → ⊥
+  pub local : Local F s.graph s.out s.died observed
+  pub sees : (n : NodeId) → Needed F s.graph s.died observed (main n) → Sees F s.graph s.out n
+  pub recalls : (p : Point) → s.needed p ≡ true → Recalls s.graph (shown s.graph s.out) s.last p
+  pub kept : (n : NodeId) (r : Row) → s.graph.row n ≡ Some r → (Among n s.ran → ⊥) → s.last n ≡ z.last n
+  pub once : NoRepeats s.ran
+  pub ran : (n : NodeId) → Among n s.ran → HasCalled F z s.graph s.died s.root s.settled s.last n
+  pub calls : RoseBy z.calls (length s.ran) s.calls
+
+-- how many of the points aren't settled
+abbrev pub unsettled : (Point → Bool) → List Point → ℕ
+unsettled settled points = number_of (λ (p : Point). cond (settled p) false true) points

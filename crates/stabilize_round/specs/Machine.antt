@@ -1,0 +1,85 @@
+-- A round: what it begins with, its moves, and runs of them.
+use Rattle.std.specs.Prelude.{◌≡◌, ◌⊎◌, ℕ, true, false, Bool, List, [], Option, None, Some}
+use Rattle.inc_value.specs.declared.function.FnRef.{FnRef}
+use Rattle.inc_value.specs.declared.node.NodeId.{NodeId}
+use Rattle.inc_value.specs.declared.node.Point.{Point}
+use Rattle.inc_value.specs.declared.outcome.Outcome.{Outcome}
+use Rattle.inc_value.specs.Choice.{Reaches}
+use Rattle.inc_terms.specs.Term.{Functions}
+use Rattle.inc_terms.specs.Graph.{Row, Map}
+use Rattle.inc_terms.specs.Depend.{main}
+use Rattle.inc_terms.specs.Local.{shown, Agrees, Scoped}
+use Rattle.stabilize_round.specs.Counts.{RoseBy}
+use Rattle.stabilize_round.specs.State.{State, Start, Call, Stage, Bare, Full, count, planned}
+use Rattle.stabilize_round.specs.Invariant.{Recalls, Web, Alive, Rooted, BuiltFor, Strict}
+use Rattle.stabilize_round.specs.Moves.{Quiet, IsLeast, Enqueues, computed, StepMain, changed, StepChange}
+use Rattle.stabilize_round.specs.Rebuilding.{Remade, remade, Rebuild, IsBuiltAnew}
+use Rattle.stabilize_round.specs.Wire.{linked, newly, rooted, IsIt, Link, levelled, Level, raised, Raise, finished, Finish, heaped, Schedule}
+use Rattle.stabilize_round.specs.Wire.{made_strict, dropped, Drop, swept, Sweep}
+
+-- a round begins: all that is needed has all its links, and is in the heap or agrees
+pub record Entry (F : Functions) (z : Start) (s : State) : Type 0 where
+  pub web : Web s
+  pub alive : Alive s
+  pub links : (p q : Point) → s.needed p ≡ true → s.links p q ≡ count q (planned s p)
+  pub full : (p : Point) (r : Row) → s.graph.row p.node ≡ Some r → s.needed p ≡ true → s.stage p ≡ Full
+  pub bare : (p : Point) → s.needed p ≡ true → s.stage p ≡ Bare → ⊥
+  pub scoped : Scoped s.graph
+  pub rooted : Rooted F s.graph
+  pub built : BuiltFor F s
+  pub fresh : (p : Point) (r : Row) → s.graph.row p.node ≡ Some r → s.needed p ≡ true → (s.heap p ≡ true)
+      ⊎ (Agrees F s.graph s.out p × Recalls s.graph (shown s.graph s.out) s.last p)
+  pub settled : (p : Point) → s.settled p ≡ false
+  pub owed : (p : Point) → s.owed p ≡ []
+  pub todo : (p : Point) → s.todo p ≡ false
+  pub strict : s.strict ≡ false
+  pub ran : s.ran ≡ []
+  pub taken : s.taken ≡ None
+  pub died : (n : NodeId) → s.died n ≡ None
+  pub held : (p : Point) → z.held p ≡ s.needed p
+  pub last : (n : NodeId) → z.last n ≡ s.last n
+  pub calls : z.calls ≡ s.calls
+  pub answers : (n : NodeId) (r : Row) (f : FnRef) (kids : List NodeId) (c : Call) → s.graph.row n ≡ Some r → r.def ≡ Map f kids → s.last n ≡ Some c
+      → c.result ≡ F.value f c.arguments
+
+-- a move: a main is computed, a change is settled, a link or a root is put on, a point of the worklist goes up a stage or leaves it, more is put into
+-- the heap, a point goes back to a lower stage, a bind is built anew, heights change, refusals become final
+pub data Move (F : Functions) (z : Start) (s t : State) : Type 0 where
+  step_main : {n : NodeId} {o : Outcome} {heap' : Point → Bool} {last' : Option Call} {called : Bool} {calls' : ℕ} → Quiet s
+      → StepMain F s n o heap' last' called calls' → t ≡ computed s n o heap' last' called calls' → Move F z s t
+  step_change : {n : NodeId} {o : Outcome} {todo' : Point → Bool} → Quiet s → StepChange F s n o todo' → t ≡ changed s n o todo' → Move F z s t
+  link : {p q : Point} {rest : List Point} {height' : Point → ℕ} → Link F s p q rest height' → s.needed q ≡ true → t ≡ linked s p q rest height'
+      → Move F z s t
+  link_new : {p q : Point} {rest : List Point} {height' : Point → ℕ} {heap' : Point → Bool} → Link F s p q rest height' → s.needed q ≡ false
+      → Enqueues s s.heap heap' (IsIt s q) (IsIt s q)
+      → t ≡ newly (linked s p q rest height') q heap' → Move F z s t
+  root : {p : Point} → s.needed p ≡ true → t ≡ rooted s p → Move F z s t
+  root_new : {p : Point} {heap' : Point → Bool} → s.needed p ≡ false → Enqueues s s.heap heap' (IsIt s p) (IsIt s p) → t ≡ newly (rooted s p) p heap'
+      → Move F z s t
+  raise : {p : Point} {st : Stage} {extra : List Point} → Raise s p st extra → t ≡ raised s p st extra → Move F z s t
+  finish : {p : Point} → Finish s p → t ≡ finished s p → Move F z s t
+  schedule : {heap' : Point → Bool} → Schedule s heap' → t ≡ heaped s heap' → Move F z s t
+  cut : {p : Point} {r : Row} {st : Stage} {row' : Point → ℕ} {needed' : Point → Bool} {links' : Point → Point → ℕ} {heap' : Point
+      → Bool} {owed' : Point → List Point}
+      → Drop s p r st row' → Sweep (dropped s p st row') needed' links' heap' owed' → t ≡ swept (dropped s p st row') needed' links' heap' owed'
+      → Move F z s t
+  rebuild : {b : NodeId} {now : Outcome} {m : Remade} → (r : Rebuild F z s b now m)
+      → IsBuiltAnew F m.graph b r.step.due.function r.step.due.captures now → t ≡ remade s m → Move F z s t
+  level : {height' : Point → ℕ} → Level s height' → t ≡ levelled s height' → Move F z s t
+  turn_strict : s.strict ≡ false → Strict (made_strict s) → t ≡ made_strict s → Move F z s t
+
+-- the count of calls is another
+abbrev pub called_more : State → ℕ → State
+called_more s calls' = record s { calls = calls' }
+
+-- how a round stops that is refused: as it is; with a bind whose scope died and that couldn't be built; or with a call of a map's function whose
+-- result couldn't be kept
+pub data Stops (F : Functions) (z : Start) (s t : State) : Type 0 where
+  as_it_is : t ≡ s → Stops F z s t
+  unbuilt : {b : NodeId} {now : Outcome} {m : Remade} → Rebuild F z s b now m → m.graph.built b ≡ None → t ≡ remade s m → Stops F z s t
+  unkept : {n : NodeId} {r : Row} {f : FnRef} {kids : List NodeId} {calls' : ℕ} → Quiet s → IsLeast s (main n) → s.graph.row n ≡ Some r
+      → r.def ≡ Map f kids → RoseBy s.calls 1 calls' → t ≡ called_more s calls' → Stops F z s t
+
+-- any number of moves
+abbrev pub Moves : Functions → Start → State → State → Type 0
+Moves F z s t = Reaches (Move F z) s t

@@ -1,0 +1,103 @@
+-- Steps, and rounds of them.
+use Rattle.std.specs.Prelude.{◌≡◌, ◌⊎◌, true, false}
+use Rattle.inc_value.specs.declared.node.NodeId.{NodeId}
+use Rattle.inc_value.specs.declared.node.Point.{Point}
+use Rattle.inc_value.specs.Choice.{Reaches}
+use Rattle.inc_terms.specs.Term.{Functions}
+use Rattle.inc_terms.specs.Depend.{main, change}
+use Rattle.stabilize_round.specs.State.{State, Start, Static, Full}
+use Rattle.stabilize_round.specs.Moves.{Quiet, IsLeast}
+use Rattle.stabilize_round.specs.Machine.{Entry, Move, step_main, step_change, link, link_new, root, root_new, raise, finish, schedule, cut, rebuild}
+use Rattle.stabilize_round.specs.Machine.{level, turn_strict}
+
+-- a move that comes before the point is settled that was taken: more is put into the heap, a point goes back to a lower stage, or the bind is built
+-- anew whose change was taken
+abbrev pub Prepares : {F : Functions} {z : Start} {s t : State} → Point → Move F z s t → Type 0
+Prepares p (schedule m e) = Unit {0}
+Prepares p (cut d w e) = Unit {0}
+Prepares p (rebuild {b} r made e) = p ≡ change b
+Prepares p m = ⊥
+
+-- the move that settles it
+abbrev pub Settles : {F : Functions} {z : Start} {s t : State} → Point → Move F z s t → Type 0
+Settles p (step_main {n} quiet m e) = p ≡ main n
+Settles p (step_change {n} quiet m e) = p ≡ change n
+Settles p m = ⊥
+
+-- a move that gives points of the worklist their links
+abbrev pub Wires : {F : Functions} {z : Start} {s t : State} → Move F z s t → Type 0
+Wires (link m need e) = Unit {0}
+Wires (link_new m need h e) = Unit {0}
+Wires (raise m e) = Unit {0}
+Wires (finish m e) = Unit {0}
+Wires (schedule m e) = Unit {0}
+Wires (level m e) = Unit {0}
+Wires m = ⊥
+
+-- a move that takes links off
+abbrev pub TakesOff : {F : Functions} {z : Start} {s t : State} → Move F z s t → Type 0
+TakesOff (schedule m e) = Unit {0}
+TakesOff (cut d w e) = Unit {0}
+TakesOff m = ⊥
+
+-- the move after which refusals are final
+abbrev pub Turns : {F : Functions} {z : Start} {s t : State} → Move F z s t → Type 0
+Turns (turn_strict u k e) = Unit {0}
+Turns m = ⊥
+
+-- a move that puts a root on
+abbrev pub Roots : {F : Functions} {z : Start} {s t : State} → Move F z s t → Type 0
+Roots (root need e) = Unit {0}
+Roots (root_new need h e) = Unit {0}
+Roots m = ⊥
+
+-- a move that prepares, between states
+abbrev pub Preparing : Functions → Start → Point → State → State → Type 0
+Preparing F z p s t = (m : Move F z s t) × Prepares p m
+
+-- a move that wires, between states
+abbrev pub Wiring : Functions → Start → State → State → Type 0
+Wiring F z s t = (m : Move F z s t) × Wires m
+
+-- a move that takes links off, between states
+abbrev pub TakingOff : Functions → Start → State → State → Type 0
+TakingOff F z s t = (m : Move F z s t) × TakesOff m
+
+-- points get their links; where a link is refused the links are taken off whose gates or changes didn't run, once in a round, and points go on
+-- getting theirs
+pub data Wired (F : Functions) (z : Start) (s t : State) : Type 0 where
+  plainly : Reaches (Wiring F z) s t → Wired F z s t
+  after_refusal : {u v w : State} → Reaches (Wiring F z) s u → Reaches (TakingOff F z) u v → (m : Move F z v w) → Turns m
+      → Reaches (Wiring F z) w t → Wired F z s t
+
+-- one step: a least point of the heap is taken, settled, and what follows from it gets its links. Before it is settled for the first time links are
+-- taken off and its bind is built anew, where it is the change of one. Where it is taken again its main, if it waits, gets its right side
+pub record Step (F : Functions) (z : Start) (s t : State) : Type 0 where
+  pub point : Point
+  pub begins : Quiet s
+  pub least : IsLeast s point
+  pub ready : State
+  pub prepared : Reaches (Preparing F z point) s ready
+  pub next : State
+  pub settles : Move F z ready next
+  pub it : Settles point settles
+  pub wired : Wired F z next t
+  pub ends : Quiet t
+  pub again : s.settled point ≡ true → ready ≡ s
+  pub attaches : (n : NodeId) → point ≡ change n → s.settled point ≡ true → s.needed (main n) ≡ true → s.stage (main n) ≡ Static
+      → ((t.needed (main n) ≡ true) × (t.stage (main n) ≡ Full)) ⊎ ((s.strict ≡ false) × (t.strict ≡ true))
+
+-- a root is put on, and what is newly needed gets its links
+pub record Rooting (F : Functions) (z : Start) (s t : State) : Type 0 where
+  pub next : State
+  pub puts : Move F z s next
+  pub it : Roots puts
+  pub wired : Wired F z next t
+  pub ends : Quiet t
+
+-- a round: from the state in which it begins roots are put on, and steps are made
+pub record Round (F : Functions) (z : Start) (s t : State) : Type 0 where
+  pub entry : Entry F z s
+  pub begun : State
+  pub rooted : Reaches (Rooting F z) s begun
+  pub steps : Reaches (Step F z) begun t
