@@ -145,3 +145,18 @@ fn heights_are_levelled_for_a_link(rt: HostRuntime) -> Result<(), Fail> {
     assert_eq!(rt; moved.as_slice(), [point(129), point(130)].as_slice());
     Ok(())
 }
+
+#[test]
+fn a_point_added_above_moves_nothing(rt: HostRuntime) -> Result<(), Fail> {
+    let alloc = rt.alloc();
+    let (a, b) = (point(0), point(1));
+    let mut heights = points(alloc, 1)?;
+    if !heights.holds(b) {
+        heights.add_at(b, 7)?;
+    }
+    let mut moved = Vec::new(alloc);
+    assert!(rt; link(&mut heights, b, a, &mut moved).is_ok());
+    assert_eq!(rt; height(&heights, b), Some(7));
+    assert_eq!(rt; moved.len(), 0);
+    Ok(())
+}

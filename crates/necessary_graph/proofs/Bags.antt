@@ -7,7 +7,8 @@ use Rattle.inc_value.specs.declared.node.Point.{Point}
 use Rattle.point_map.proofs.Places.{same_point_self}
 use Rattle.link_table.specs.declared.link.Link.{Link}
 use Rattle.link_table.specs.Links.{Links, link, same_link, times, Reads, KeepsLinks, OneLinkMore, is_point, occurrences, AreKids}
-use Rattle.link_table.proofs.Counts.{link_found, link_removed, same_link_self, other_link}
+use Rattle.necessity.proofs.Counts.{same_link_self, other_link}
+use Rattle.necessary_graph.proofs.Found.{link_found, link_removed}
 use Rattle.necessary_graph.proofs.Sweeping.{link_cases}
 
 -- the links of a list

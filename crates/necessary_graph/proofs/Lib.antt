@@ -1,5 +1,6 @@
 pub mod Bags
 pub mod Cutting
+pub mod Found
 pub mod Linking
 pub mod Raising
 pub mod Reaching
