@@ -1,0 +1,127 @@
+-- A round begins: at the count of calls of now, with the last calls that the rows keep.
+use Rattle.std.proofs.Common.{◌≡◌, inl, inr, ℕ, true, List, Option, None, Some, refl, sym, ap, ◌∙◌}
+use Rattle.std.specs.Prelude.{is_some, ◌↔◌}
+use Rattle.std.proofs.Math.Path.{fun_ext}
+use Rattle.inc_value.specs.declared.function.FnRef.{FnRef}
+use Rattle.inc_value.specs.declared.node.NodeId.{NodeId}
+use Rattle.inc_value.specs.declared.node.Point.{Point}
+use Rattle.inc_value.specs.declared.value.Value.{Value}
+use Rattle.inc_terms.specs.Depend.{main}
+use Rattle.inc_terms.specs.Graph.{Row}
+use Rattle.inc_terms.specs.Local.{shown}
+use Rattle.inc_terms.specs.Term.{Functions}
+use Rattle.point_map.specs.Rows.{at}
+use Rattle.necessary_graph.specs.Part.{Needed}
+use Rattle.node_arena.specs.Arena.{Arena, row_at}
+use Rattle.node_arena.specs.Meanings.{SameValues}
+use Rattle.stabilize_round.specs.Invariant.{Recalls}
+use Rattle.stabilize_round.specs.Machine.{Entry}
+use Rattle.stabilize_round.specs.State.{State, Start}
+use Rattle.stabilizer.specs.Round.{IsReady, last_of, last_call}
+use Rattle.stabilizer.specs.Stands.{Stands}
+use Rattle.stabilizer.specs.declared.work.Work.{Work}
+
+-- functions with the same values mean the same
+pub same_meaning : (v w : FnRef → List Value → Value) → SameValues v w → w ≡ v
+same_meaning v w same = fun_ext (λ f. fun_ext (λ xs. same f xs))
+
+-- what there is in one is there in the other
+pub there_as : {A B : Type 0} (x : Option A) (y : Option B) (b : B) → is_some x ≡ is_some y → y ≡ Some b → (a : A) × (x ≡ Some a)
+there_as None y b same e = absurd (let k = same ∙ ap is_some e in cc)
+there_as (Some a) y b same e = (a, refl)
+
+-- a round may begin here, and this is what it begins with
+pub record Begun (F : Functions) (arena : Arena) (work : Work) (count : ℕ) : Type 0 where
+  pub start : Start
+  pub state : State
+  pub stands : Stands arena work count None state
+  pub entry : Entry F start state
+  pub calls : start.calls ≡ count
+  pub last : (n : NodeId) → start.last n ≡ last_call work n
+  pub held : (p : Point) → (start.held p ≡ true) ↔ Needed work.graph p
+
+module _ (F : Functions) (arena : Arena) (work : Work) (ready : IsReady F arena work) (count : ℕ) where
+  abbrev old : State
+  old = ready.state
+
+  abbrev state : State
+  state = record old { calls = count; last = last_call work }
+
+  abbrev start : Start
+  start = record ready.start { calls = count; last = last_call work; held = old.needed }
+
+  -- of a live node the state knew this last call
+  last_known : (n : NodeId) (r : Row) → old.graph.row n ≡ Some r → last_call work n ≡ old.last n
+  last_known n r row =
+      let there = there_as (at work.rows (main n)) (row_at arena n) r (ready.kept.rows n)
+      (sym (ap (λ G. G.row n) ready.stands.graph) ∙ row) in
+      ap last_of there.1 ∙ sym (ready.stands.last n there.0 there.1)
+
+  recalls : (p : Point) → Recalls old.graph (shown old.graph old.out) old.last p → Recalls old.graph (shown old.graph old.out) (last_call work) p
+  recalls p was r f kids values row part def gives =
+      let c = was r f kids values row part def gives in
+      (c.0, last_known p.node r row ∙ c.1, c.2)
+
+  stands : Stands arena work count None state
+  stands = record {
+    graph = ready.stands.graph;
+    out = ready.stands.out;
+    last = λ n k e. ap last_of e;
+    links = ready.stands.links;
+    root = ready.stands.root;
+    needed = ready.stands.needed;
+    height = ready.stands.height;
+    heap = ready.stands.heap;
+    settled = ready.stands.settled;
+    stage = ready.stands.stage;
+    owed = ready.stands.owed;
+    todo = ready.stands.todo;
+    strict = ready.stands.strict;
+    died = ready.stands.died;
+    ran = ready.stands.ran;
+    calls = refl;
+    given = ready.stands.given;
+  }
+
+  entry : Entry F start state
+  entry = record {
+    web = record {
+      from = ready.entry.web.from;
+      onto = ready.entry.web.onto;
+      rooted = ready.entry.web.rooted;
+      reached = ready.entry.web.reached;
+      rises = ready.entry.web.rises;
+      low = ready.entry.web.low;
+      heap = ready.entry.web.heap;
+    };
+    alive = ready.entry.alive;
+    links = ready.entry.links;
+    full = ready.entry.full;
+    bare = ready.entry.bare;
+    scoped = ready.entry.scoped;
+    rooted = ready.entry.rooted;
+    built = ready.entry.built;
+    fresh = λ p r row need. elim (ready.entry.fresh p r row need) [ inl h ↦ inl h | inr a ↦ inr (a.0, recalls p a.1) ];
+    settled = ready.entry.settled;
+    owed = ready.entry.owed;
+    todo = ready.entry.todo;
+    strict = ready.entry.strict;
+    ran = ready.entry.ran;
+    taken = ready.entry.taken;
+    died = ready.entry.died;
+    held = λ p. refl;
+    last = λ n. refl;
+    calls = refl;
+    answers = λ n r f kids c row def e. ready.entry.answers n r f kids c row def (sym (last_known n r row) ∙ e);
+  }
+
+  pub begun : Begun F arena work count
+  begun = record {
+    start = start;
+    state = state;
+    stands = stands;
+    entry = entry;
+    calls = refl;
+    last = λ n. refl;
+    held = ready.stands.needed;
+  }

@@ -1,0 +1,161 @@
+-- What the parts keep stays so while a point is taken from the heap, settled, or put back.
+use Rattle.std.proofs.Common.{◌≡◌, inl, inr, ℕ, ◌≤◌, Bool, true, Option, None, Some, refl, sym, ap, subst, ◌∙◌, arith}
+use Rattle.std.specs.Prelude.{is_some}
+use Rattle.inc_value.specs.Value.{type_of}
+use Rattle.inc_value.specs.declared.node.NodeId.{NodeId}
+use Rattle.inc_value.specs.declared.node.Point.{Point}
+use Rattle.inc_value.specs.declared.outcome.Outcome.{Outcome}
+use Rattle.inc_value.specs.declared.outcome.Outcome.TheVariants.{Val}
+use Rattle.inc_value.specs.declared.value.Value.{Value}
+use Rattle.inc_terms.specs.Depend.{main}
+use Rattle.inc_terms.specs.Graph.{Row}
+use Rattle.point_map.specs.Rows.{Rows, at, Holds, Changes, KeepsRows}
+use Rattle.point_map.proofs.Places.{point_cases}
+use Rattle.link_table.specs.Links.{Links, Reads}
+use Rattle.necessary_graph.specs.Part.{NecessaryPart, Needed, IsInStep}
+use Rattle.necessary_graph.proofs.Standing.{has_level, put_in_step, taken_in_step}
+use Rattle.height_order.specs.Levels.{level}
+use Rattle.node_arena.specs.Arena.{Arena, row_at}
+use Rattle.stabilize_round.specs.State.{Call}
+use Rattle.stabilizer.specs.Kept.{IsKept}
+use Rattle.stabilizer.specs.Settling.{IsSettled}
+use Rattle.stabilizer.specs.Wiring.{KeepsGraph}
+use Rattle.stabilizer.specs.declared.row.Progress.{Progress}
+use Rattle.stabilizer.specs.declared.work.Work.{Work}
+
+-- what needs the same roots and links is needed alike
+module _ (old new : NecessaryPart) (same : KeepsGraph old new) where
+  pub needed_now : (p : Point) → Needed old p → Needed new p
+  needed_now p n = rw (same.roots, same.links) n
+
+  pub needed_before : (p : Point) → Needed new p → Needed old p
+  needed_before p n = rw (same.roots, same.links) at n
+
+-- the same points have rows, and roots, links and heights stay
+module _ (arena : Arena) (old new : Work) (kept : IsKept arena old) (rows : (p : Point) → is_some (at new.rows p) ≡ is_some (at old.rows p))
+    (same : KeepsGraph old.graph new.graph) (step : IsInStep new.graph) (heap : (p : Point) → Holds new.graph.heap p → Holds old.rows p)
+    (outcomes : (n : NodeId) (r : Row) (k : Progress) (v : Value) → row_at arena n ≡ Some r → at new.rows (main n) ≡ Some k
+    → k.outcome ≡ Some (Val v) → type_of v ≡ r.ty)
+    (calls : (n : NodeId) (r : Row) (k : Progress) (c : Call) → row_at arena n ≡ Some r → at new.rows (main n) ≡ Some k
+    → k.last ≡ Some c → type_of c.result ≡ r.ty)
+    (rounds : (p : Point) (k : Progress) → at new.rows p ≡ Some k → k.settled ≤ new.round) where
+  before : (p : Point) → Holds new.rows p → Holds old.rows p
+  before p h = sym (rows p) ∙ h
+
+  now : (p : Point) → Holds old.rows p → Holds new.rows p
+  now p h = rows p ∙ h
+
+  there_before : (p : Point) → Holds new.graph.heights p → Holds old.graph.heights p
+  there_before p h = subst (λ (m : Rows ℕ). Holds m p) same.heights h
+
+  pub kept_with : IsKept arena new
+  kept_with = record {
+    step = step;
+    rows = λ n. rows (main n) ∙ kept.rows n;
+    row_mains = λ p h. kept.row_mains p (before p h);
+    mains = λ p h. kept.mains p (there_before p h);
+    there = λ p h. subst (λ (m : Rows ℕ). Holds m p) (sym same.heights) (kept.there p (before p h));
+    given = λ p h. kept.given p (there_before p h);
+    links = λ p q r. now p (kept.links p q (subst (λ (l : Links). Reads l p q) same.links r));
+    heap = λ p h. now p (heap p h);
+    flat = kept.flat;
+    outcomes = outcomes;
+    calls = calls;
+    rounds = rounds;
+  }
+
+-- all rows stay
+pub kept_same : (arena : Arena) (old new : Work) → IsKept arena old → KeepsRows old.rows new.rows → KeepsGraph old.graph new.graph → IsInStep new.graph
+    → ((p : Point) → Holds new.graph.heap p → Holds old.rows p) → new.round ≡ old.round → IsKept arena new
+kept_same arena old new kept rows same step heap round = kept_with arena old new kept (λ p. ap is_some (rows p)) same step heap
+    (λ n r k v live is o. kept.outcomes n r k v live (sym (rows (main n)) ∙ is) o)
+    (λ n r k c live is l. kept.calls n r k c live (sym (rows (main n)) ∙ is) l)
+    (λ p k is. subst (λ (m : ℕ). k.settled ≤ m) (sym round) (kept.rounds p k (sym (rows p) ∙ is)))
+
+-- ---- a point leaves the heap, and comes back
+
+module _ (arena : Arena) (old : Work) (g : NecessaryPart) (rest : g ≡ record old.graph { heap = g.heap }) where
+  pub heap_graph : KeepsGraph old.graph g
+  heap_graph = record {
+    links = ap (λ (x : NecessaryPart). x.links) rest;
+    roots = ap (λ (x : NecessaryPart). x.roots) rest;
+    heights = ap (λ (x : NecessaryPart). x.heights) rest;
+  }
+
+  heap_kept : IsKept arena old → IsInStep (record old.graph { heap = g.heap }) → ((p : Point) → Holds g.heap p → Holds old.rows p)
+      → IsKept arena (record old { graph = g })
+  heap_kept kept step heap = kept_same arena old (record old { graph = g }) kept (λ p. refl) heap_graph (subst IsInStep (sym rest) step) heap refl
+
+  pub taken_kept : (p : Point) → IsKept arena old → Changes old.graph.heap g.heap p None → IsKept arena (record old { graph = g })
+  taken_kept p kept c = heap_kept kept (taken_in_step old.graph kept.step g.heap p c)
+      (λ a h. elim (point_cases a p) [
+        | inl e ↦ absurd (let there = subst (λ (x : Point). Holds g.heap x) e h in let gone = c.changed in cc)
+        | inr ne ↦ kept.heap a (subst (λ (x : Option ℕ). is_some x ≡ true) (c.others a ne) h)
+      ])
+
+  pub back_kept : (p : Point) → IsKept arena old → Needed old.graph p → Holds old.rows p → Changes old.graph.heap g.heap p (at old.graph.heights p)
+      → IsKept arena (record old { graph = g })
+  back_kept p kept need row c =
+      let height : at old.graph.heights p ≡ Some (level old.graph.heights p) = has_level (at old.graph.heights p) (kept.step.there p need) in
+      let put : Changes old.graph.heap g.heap p (Some (level old.graph.heights p)) = record { changed = c.changed ∙ height; others = c.others } in
+      heap_kept kept (put_in_step old.graph kept.step g.heap p (level old.graph.heights p) need refl put)
+      (λ a h. elim (point_cases a p) [
+        | inl e ↦ subst (λ (x : Point). Holds old.rows x) (sym e) row
+        | inr ne ↦ kept.heap a (subst (λ (x : Option ℕ). is_some x ≡ true) (c.others a ne) h)
+      ])
+
+-- ---- a main was settled
+
+some_row : (a b : Progress) → ◌≡◌ {A = Option Progress} (Some a) (Some b) → a ≡ b
+some_row a b e = cc
+
+module _ (arena : Arena) (old new : Work) (n : NodeId) (o : Outcome) (last : Option Call) (called : Bool)
+    (kept : IsKept arena old) (w : IsSettled old new n o last called) (step : IsInStep new.graph)
+    (typed : (r : Row) (v : Value) → row_at arena n ≡ Some r → o ≡ Val v → type_of v ≡ r.ty)
+    (answer_typed : (r : Row) (c : Call) → row_at arena n ≡ Some r → last ≡ Some c → type_of c.result ≡ r.ty) where
+  abbrev fresh : Progress
+  fresh = record { stage = w.row.stage; settled = old.round; outcome = Some o; last = last }
+
+  row_is : (k : Progress) → at new.rows (main n) ≡ Some k → fresh ≡ k
+  row_is k e = some_row fresh k (sym w.now ∙ e)
+
+  rows_stay : (p : Point) → is_some (at new.rows p) ≡ is_some (at old.rows p)
+  rows_stay p = elim (point_cases p (main n)) [
+    | inl e ↦ subst (λ (x : Point). is_some (at new.rows x) ≡ is_some (at old.rows x)) (sym e) (ap is_some w.now ∙ sym (ap is_some w.was))
+    | inr ne ↦ ap is_some (w.others p ne)
+  ]
+
+  heap_rows : (p : Point) → Holds new.graph.heap p → Holds old.rows p
+  heap_rows p h = elim (point_cases p (main n)) [
+    | inl e ↦ subst (λ (x : Point). Holds old.rows x) (sym e) (ap is_some w.was)
+    | inr ne ↦ elim (w.only p ne h) [
+      | inl k ↦ kept.heap p k
+      | inr k ↦ kept.links p (main n) k.0
+    ]
+  ]
+
+  pub settled_kept : IsKept arena new
+  settled_kept = kept_with arena old new kept rows_stay w.graph step heap_rows
+      (λ m r k v live is out. elim (point_cases (main m) (main n)) [
+        | inl e ↦
+            let same : m ≡ n = ap (λ (x : Point). x.node) e in
+            let f = row_is k (subst (λ (x : NodeId). at new.rows (main x) ≡ Some k) same is) in
+            let out' : Some o ≡ Some (Val v) = ap (λ (x : Progress). x.outcome) f ∙ out in
+            typed r v (subst (λ (x : NodeId). row_at arena x ≡ Some r) same live) (cc)
+        | inr ne ↦ kept.outcomes m r k v live (sym (w.others (main m) ne) ∙ is) out
+      ])
+      (λ m r k c live is l. elim (point_cases (main m) (main n)) [
+        | inl e ↦
+            let same : m ≡ n = ap (λ (x : Point). x.node) e in
+            let f = row_is k (subst (λ (x : NodeId). at new.rows (main x) ≡ Some k) same is) in
+            answer_typed r c (subst (λ (x : NodeId). row_at arena x ≡ Some r) same live) (ap (λ (x : Progress). x.last) f ∙ l)
+        | inr ne ↦ kept.calls m r k c live (sym (w.others (main m) ne) ∙ is) l
+      ])
+      (λ p k is. elim (point_cases p (main n)) [
+        | inl e ↦
+            let f = ap (λ (x : Progress). x.settled) (row_is k (subst (λ (x : Point). at new.rows x ≡ Some k) e is)) in
+            let r = w.round in omega arith
+        | inr ne ↦
+            let before = kept.rounds p k (sym (w.others p ne) ∙ is) in
+            let r = w.round in omega arith
+      ])

@@ -1,0 +1,400 @@
+-- What a node gives by what its children show.
+use Rattle.std.proofs.Common.{◌≡◌, ◌⊎◌, inl, inr, ℕ, ◌<◌, ◌+◌, ◌++◌, Bool, true, false, List, [], ◌∷◌, length, take, get_or, Option, None, Some}
+use Rattle.std.proofs.Common.{refl, sym, ap, subst, ◌∙◌, IsTrue, IsSome, arith, append-nil}
+use Rattle.std.specs.Prelude.{is_some, IfSome, option_and_then}
+use Rattle.std.specs.List.{AllZip, filter_map}
+use Rattle.std.proofs.lemmas.List.{take_more}
+use Rattle.std.proofs.lemmas.List.Elements.{filter_map-append}
+use Rattle.std.proofs.lemmas.Option.{none-some, same_Some}
+use Rattle.inc_value.specs.Choice.{Every}
+use Rattle.inc_value.specs.Value.{type_of, HaveTypes}
+use Rattle.inc_value.specs.declared.function.FnRef.{FnRef}
+use Rattle.inc_value.specs.declared.node.NodeId.{NodeId}
+use Rattle.inc_value.specs.declared.outcome.Outcome.{Outcome}
+use Rattle.inc_value.specs.declared.outcome.Outcome.TheVariants.{Val, Invalid}
+use Rattle.inc_value.specs.declared.ty.Ty.{Ty}
+use Rattle.inc_value.specs.declared.value.Value.{Value}
+use Rattle.inc_terms.specs.declared.def.Def as declared
+use Rattle.inc_terms.specs.declared.def.Def.TheVariants as form
+use Rattle.inc_terms.specs.Code.{def_of}
+use Rattle.inc_terms.specs.Depend.{main}
+use Rattle.inc_terms.specs.Evaluate.{Gathered, Unknown, SomeInvalid, Values, joined, given}
+use Rattle.inc_terms.specs.Graph.{Row, Def, Const, Var, Map, kids}
+use Rattle.inc_terms.specs.Local.{own}
+use Rattle.point_map.specs.Rows.{Rows, at, Holds}
+use Rattle.node_arena.specs.Arena.{Arena, row_at}
+use Rattle.node_arena.specs.Graph.{graph_of}
+use Rattle.node_arena.specs.Sound.{IsSound}
+use Rattle.node_arena.specs.Typing.{Fits, Makes, MapMakes}
+use Rattle.stabilize_round.specs.Counts.{RoseBy}
+use Rattle.stabilize_round.specs.State.{Call}
+use Rattle.stabilizer.specs.Computing.{seen, seen_of, seen_together, value_shown, ShowsValue, CallsSeen, KeepsRest}
+use Rattle.stabilizer.specs.Computing.{IsCalled, ComputesMap, Computes}
+use Rattle.stabilizer.specs.Kept.{IsKept}
+use Rattle.stabilizer.specs.Meaning.{functions_of}
+use Rattle.stabilizer.specs.Row.{IsRewritten, with_last, value_of, value_in}
+use Rattle.stabilizer.specs.declared.row.Progress.{Progress}
+use Rattle.stabilizer.specs.declared.work.Work.{Work}
+
+some_is : {A : Type 0} (x : Option A) → IsSome x → (a : A) × (x ≡ Some a)
+some_is None h = cc
+some_is (Some a) h = (a, refl)
+
+-- ---- what is seen, and which value is shown
+
+shown_outcome : (o : Option Outcome) (v : Value) → value_of o ≡ Some v → o ≡ Some (Val v)
+shown_outcome None v e = cc
+shown_outcome (Some Invalid) v e = cc
+shown_outcome (Some (Val w)) v e = cc
+
+outcome_shown : (o : Option Outcome) (v : Value) → o ≡ Some (Val v) → value_of o ≡ Some v
+outcome_shown o v e = rw e refl
+
+shown_is_seen : (k : Option Progress) (v : Value) → value_in k ≡ Some v → seen_of k ≡ Some (Val v)
+shown_is_seen None v e = cc
+shown_is_seen (Some k) v e = shown_outcome k.outcome v e
+
+seen_is_shown : (k : Option Progress) (v : Value) → seen_of k ≡ Some (Val v) → value_in k ≡ Some v
+seen_is_shown None v e = cc
+seen_is_shown (Some k) v e = outcome_shown k.outcome v e
+
+-- values are put together of a first and the rest
+record Joins (o : Option Outcome) (g : Gathered) (values : List Value) : Type 0 where
+  first : Value
+  rest : List Value
+  is_first : o ≡ Some (Val first)
+  is_rest : g ≡ Values rest
+  both : values ≡ first ∷ rest
+
+joins : (o : Option Outcome) (g : Gathered) (values : List Value) → joined o g ≡ Values values → Joins o g values
+joins None g values e = cc
+joins (Some Invalid) Unknown values e = cc
+joins (Some Invalid) SomeInvalid values e = cc
+joins (Some Invalid) (Values vs) values e = cc
+joins (Some (Val v)) Unknown values e = cc
+joins (Some (Val v)) SomeInvalid values e = cc
+joins (Some (Val v)) (Values vs) values e = record { first = v; rest = vs; is_first = refl; is_rest = refl; both = cc }
+
+module _ (rows : Rows Progress) where
+  -- where nodes show values, these are put together
+  together_from_shown : (nodes : List NodeId) (values : List Value) → AllZip (ShowsValue rows) nodes values → seen_together rows nodes ≡ Values values
+  together_from_shown [] [] h = refl
+  together_from_shown [] (v ∷ vs) h = absurd h
+  together_from_shown (n ∷ ns) [] h = absurd h
+  together_from_shown (n ∷ ns) (v ∷ vs) h =
+      ap (λ (o : Option Outcome). joined o (seen_together rows ns)) (shown_is_seen (at rows (main n)) v h.0)
+      ∙ ap (λ (g : Gathered). joined (Some (Val v)) g) (together_from_shown ns vs h.1)
+
+  -- values that are put together are shown
+  shown_from_together : (nodes : List NodeId) (values : List Value) → seen_together rows nodes ≡ Values values → AllZip (ShowsValue rows) nodes values
+  shown_from_together [] [] e = tt
+  shown_from_together [] (v ∷ vs) e = cc
+  shown_from_together (n ∷ ns) [] e = let j = joins _ _ _ e in cc
+  shown_from_together (n ∷ ns) (v ∷ vs) e =
+      let j = joins (seen rows (main n)) (seen_together rows ns) (v ∷ vs) e in
+      let first : j.first ≡ v = cc in let rest : j.rest ≡ vs = cc in (
+        seen_is_shown (at rows (main n)) v (j.is_first ∙ ap (λ (x : Value). Some (Val x)) first),
+        shown_from_together ns vs (j.is_rest ∙ ap Values rest),
+      )
+
+  abbrev AllShow : List NodeId → Type 0
+  AllShow nodes = Every (λ (n : NodeId). IsSome (value_shown rows n)) nodes
+
+  -- nodes that all show a value show their values
+  values_of_all : (nodes : List NodeId) → AllShow nodes → (values : List Value) × AllZip (ShowsValue rows) nodes values
+  values_of_all [] h = ([], tt)
+  values_of_all (n ∷ ns) h =
+      let first = some_is (value_shown rows n) h.0 in let rest = values_of_all ns h.1 in
+      (first.0 ∷ rest.0, (first.1, rest.1))
+
+  all_of_values : (nodes : List NodeId) (values : List Value) → AllZip (ShowsValue rows) nodes values → AllShow nodes
+  all_of_values [] [] h = tt
+  all_of_values [] (v ∷ vs) h = absurd h
+  all_of_values (n ∷ ns) [] h = absurd h
+  all_of_values (n ∷ ns) (v ∷ vs) h = (ap is_some h.0, all_of_values ns vs h.1)
+
+  -- the values that nodes show
+  filter_is_values : (nodes : List NodeId) (values : List Value) → AllZip (ShowsValue rows) nodes values → filter_map (value_shown rows) nodes ≡ values
+  filter_is_values [] [] h = refl
+  filter_is_values [] (v ∷ vs) h = absurd h
+  filter_is_values (n ∷ ns) [] h = absurd h
+  filter_is_values (n ∷ ns) (v ∷ vs) h = rw (h.0, filter_is_values ns vs h.1) refl
+
+  filter_is_shown : (nodes : List NodeId) → AllShow nodes → AllZip (ShowsValue rows) nodes (filter_map (value_shown rows) nodes)
+  filter_is_shown nodes all =
+      let w = values_of_all nodes all in
+      subst (λ (vs : List Value). AllZip (ShowsValue rows) nodes vs) (sym (filter_is_values nodes w.0 w.1)) w.1
+
+  -- one node more, which shows a value
+  pub filter_some : (nodes : List NodeId) (i : ℕ) (d : NodeId) (v : Value) → i < length nodes → value_shown rows (get_or nodes i d) ≡ Some v
+      → filter_map (value_shown rows) (take (i + 1) nodes) ≡ filter_map (value_shown rows) (take i nodes) ++ v ∷ []
+  filter_some nodes i d v h e = rw (take_more nodes i d h, filter_map-append (value_shown rows) (take i nodes) (get_or nodes i d ∷ []), e) refl
+
+  -- one node more, which shows none
+  pub filter_none : (nodes : List NodeId) (i : ℕ) (d : NodeId) → i < length nodes → value_shown rows (get_or nodes i d) ≡ None
+      → filter_map (value_shown rows) (take (i + 1) nodes) ≡ filter_map (value_shown rows) (take i nodes)
+  filter_none nodes i d h e =
+      rw (take_more nodes i d h, filter_map-append (value_shown rows) (take i nodes) (get_or nodes i d ∷ []), e) (append-nil _)
+
+  -- what children that all show a value show has the types that the function takes
+  pub all_fit : (nodes : List NodeId) (takes : List Ty) → ((values : List Value) → AllZip (ShowsValue rows) nodes values → HaveTypes values takes)
+      → AllShow nodes → HaveTypes (filter_map (value_shown rows) nodes) takes
+  all_fit nodes takes fit all = fit (filter_map (value_shown rows) nodes) (filter_is_shown nodes all)
+
+  -- the test tells that the children don't show what the function was last called on
+  pub not_last : (nodes : List NodeId) (x : Option Call) (a b : Call) (values : List Value) (shows : Bool)
+      → Some a ≡ x → x ≡ Some b → values ≡ a.arguments → shows ≡ false → (AllZip (ShowsValue rows) nodes values → IsTrue shows)
+      → AllZip (ShowsValue rows) nodes b.arguments → ⊥
+  not_last nodes x a b values shows was is same not tells shown =
+      let arguments : values ≡ b.arguments = same ∙ ap (λ (c : Call). c.arguments) (same_Some a b (was ∙ is)) in
+      let h : IsTrue shows = tells (subst (λ (vs : List Value). AllZip (ShowsValue rows) nodes vs) (sym arguments) shown) in
+      cc
+
+-- it was never called
+pub never_last : (x : Option Call) (b : Call) → None ≡ x → x ≡ Some b → ⊥
+never_last x b none some = none-some b (none ∙ some)
+
+-- ---- what a map gives
+
+unmoved : (rows : Rows Progress) (n : NodeId) (kept : Progress) → at rows (main n) ≡ Some kept → IsRewritten rows rows (main n) (with_last kept.last)
+unmoved rows n kept e = record { changed = rw e refl; others = λ q ne. refl; points = λ i. refl }
+
+same_rest : (work : Work) → KeepsRest work work
+same_rest work = record { graph = refl; todo = refl; readers = refl; strict = refl; round = refl }
+
+no_rise : (n : ℕ) → RoseBy n 0 n
+no_rise n = record { kept = omega arith; most = omega arith; exact = λ h. omega arith }
+
+last_of_kept : (x : Option Progress) (kept : Progress) → x ≡ Some kept → option_and_then (λ (k : Progress). k.last) x ≡ kept.last
+last_of_kept x kept e = rw e refl
+
+-- where some is Invalid and none unknown, the function isn't called
+invalid_gives : (f : List Value → Value) (g : Gathered) → (g ≡ Unknown → ⊥) → ((values : List Value) → g ≡ Values values → ⊥)
+    → given f g ≡ Some Invalid
+invalid_gives f Unknown known some = absurd (known refl)
+invalid_gives f SomeInvalid known some = refl
+invalid_gives f (Values vs) known some = absurd (some vs refl)
+
+-- the children of a map are those that its definition lists
+relisted : (rows : Rows Progress) (f g : FnRef) (nodes others : List NodeId) (values : List Value) → Map f nodes ≡ Map g others
+    → seen_together rows others ≡ Values values → seen_together rows nodes ≡ Values values
+relisted rows f g nodes others values def e = let same : nodes ≡ others = cc in ap (seen_together rows) same ∙ e
+
+module _ (value : FnRef → List Value → Value) (old : Work) (n : NodeId) (f : FnRef) (nodes : List NodeId) (there : Holds old.rows (main n)) where
+  abbrev kept : Progress
+  kept = (some_is (at old.rows (main n)) there).0
+
+  is_kept : at old.rows (main n) ≡ Some kept
+  is_kept = (some_is (at old.rows (main n)) there).1
+
+  abbrev LastWas : Call → Type 0
+  LastWas call = option_and_then (λ (k : Progress). k.last) (at old.rows (main n)) ≡ Some call
+
+  -- a child shows no value
+  pub invalid_computes : (before : ℕ) → (AllShow old.rows nodes → ⊥) → ComputesMap value old old n f nodes Invalid before before
+  invalid_computes before some = record {
+    kept = kept;
+    is_kept = is_kept;
+    last = kept.last;
+    called = false;
+    calls = (refl, λ g others values def e. absurd (none values (relisted old.rows f g nodes others values def e)));
+    gives = λ answers known. invalid_gives (value f) (seen_together old.rows nodes) known none;
+    row = unmoved old.rows n kept is_kept;
+    ran = refl;
+    rest = same_rest old;
+    count = no_rise before;
+    shows = λ v e. cc;
+    answer = λ c e. inl e;
+  } where
+    none : (values : List Value) → seen_together old.rows nodes ≡ Values values → ⊥
+    none values e = some (all_of_values old.rows nodes values (shown_from_together old.rows nodes values e))
+
+  -- the children show what the function was last called on
+  pub last_computes : (before : ℕ) (call : Call) (v : Value) → LastWas call → AllZip (ShowsValue old.rows) nodes call.arguments → v ≡ call.result
+      → ComputesMap value old old n f nodes (Val v) before before
+  last_computes before call v was shown is = record {
+    kept = kept;
+    is_kept = is_kept;
+    last = kept.last;
+    called = false;
+    calls = (refl, λ g others values def e. (call, is_last, same values (relisted old.rows f g nodes others values def e)));
+    gives = λ answers known. gives answers;
+    row = unmoved old.rows n kept is_kept;
+    ran = refl;
+    rest = same_rest old;
+    count = no_rise before;
+    shows = λ w e. (call, is_last, cc);
+    answer = λ c e. inl e;
+  } where
+    is_last : kept.last ≡ Some call
+    is_last = sym (last_of_kept (at old.rows (main n)) kept is_kept) ∙ was
+
+    together : seen_together old.rows nodes ≡ Values call.arguments
+    together = together_from_shown old.rows nodes call.arguments shown
+
+    same : (values : List Value) → seen_together old.rows nodes ≡ Values values → call.arguments ≡ values
+    same values e = let t = together in cc
+
+    gives : ((c : Call) → kept.last ≡ Some c → c.result ≡ value f c.arguments) → given (value f) (seen_together old.rows nodes) ≡ Some (Val v)
+    gives answers = ap (given (value f)) together ∙ (let e = answers call is_last in cc)
+
+  abbrev now_shown : List Value
+  now_shown = filter_map (value_shown old.rows) nodes
+
+  abbrev now_called : Call
+  now_called = record { arguments = now_shown; result = value f now_shown }
+
+  -- the function was called
+  pub called_computes : (new : Work) (o : Outcome) (before after : ℕ) → AllShow old.rows nodes
+      → ((call : Call) → LastWas call → AllZip (ShowsValue old.rows) nodes call.arguments → ⊥)
+      → IsCalled value old new n f now_shown o before after
+      → ComputesMap value old new n f nodes o before after
+  called_computes new o before after all other called = record {
+    kept = kept;
+    is_kept = is_kept;
+    last = Some now_called;
+    called = true;
+    calls = (f, nodes, now_shown, refl, together, others, refl);
+    gives = λ answers known. ap (given (value f)) together ∙ sym (ap Some called.outcome);
+    row = called.row;
+    ran = called.ran;
+    rest = called.rest;
+    count = called.count;
+    shows = λ v e. (now_called, refl, let h = called.outcome in cc);
+    answer = λ c e. inr (ap (λ (x : Call). type_of x.result) (sym (same_Some now_called c e)) ∙ called.type);
+  } where
+    shown : AllZip (ShowsValue old.rows) nodes now_shown
+    shown = filter_is_shown old.rows nodes all
+
+    together : seen_together old.rows nodes ≡ Values now_shown
+    together = together_from_shown old.rows nodes now_shown shown
+
+    others : (c : Call) → kept.last ≡ Some c → c.arguments ≡ now_shown → ⊥
+    others c e same = other c (last_of_kept (at old.rows (main n)) kept is_kept ∙ e)
+        (subst (λ (vs : List Value). AllZip (ShowsValue old.rows) nodes vs) (sym same) shown)
+
+-- ---- what a node gives
+
+-- what shows a value has a row that does
+record ShownBy (rows : Rows Progress) (n : NodeId) (v : Value) : Type 0 where
+  row : Progress
+  is_row : at rows (main n) ≡ Some row
+  outcome : row.outcome ≡ Some (Val v)
+
+shown_by : (rows : Rows Progress) (n : NodeId) (v : Value) → ShowsValue rows n v → ShownBy rows n v
+shown_by rows n v e = go (at rows (main n)) refl e
+  where
+    go : (x : Option Progress) → at rows (main n) ≡ x → value_in x ≡ Some v → ShownBy rows n v
+    go None is h = cc
+    go (Some k) is h = record { row = k; is_row = is; outcome = shown_outcome k.outcome v h }
+
+module _ (arena : Arena) (work : Work) (kept : IsKept arena work) where
+  -- what a node shows has the type that it fits
+  shown_type : (n : NodeId) (t : Ty) (v : Value) → Fits arena n t → ShowsValue work.rows n v → type_of v ≡ t
+  shown_type n t v fits shows =
+      let b = shown_by work.rows n v shows in
+      let r = some_is (row_at arena n) (sym (kept.rows n) ∙ ap is_some b.is_row) in
+      kept.outcomes n r.0 b.row v r.1 b.is_row b.outcome
+      ∙ subst (λ (x : Option Row). IfSome x (λ (k : Row). k.ty ≡ t)) r.1 fits
+
+  -- so what children show has the types that their function takes
+  types_fit : (nodes : List NodeId) (takes : List Ty) (values : List Value) → AllZip (Fits arena) nodes takes
+      → AllZip (ShowsValue work.rows) nodes values → HaveTypes values takes
+  types_fit [] [] [] fits shows = refl
+  types_fit [] [] (v ∷ vs) fits shows = absurd shows
+  types_fit [] (t ∷ ts) values fits shows = absurd fits
+  types_fit (n ∷ ns) [] values fits shows = absurd fits
+  types_fit (n ∷ ns) (t ∷ ts) [] fits shows = absurd shows
+  types_fit (n ∷ ns) (t ∷ ts) (v ∷ vs) fits shows =
+      let first = shown_type n t v fits.0 shows.0 in let rest = types_fit ns ts vs fits.1 shows.1 in cc
+
+-- what the code's definition holds
+pub holds_value : (d : declared.Def) (v w : Value) → w ≡ v → (d ≡ form.Const v) ⊎ (d ≡ form.Var v) → (def_of d ≡ Const w) ⊎ (def_of d ≡ Var w)
+holds_value d v w same (inl h) = inl (ap def_of h ∙ ap Const (sym same))
+holds_value d v w same (inr h) = inr (ap def_of h ∙ ap Var (sym same))
+
+module _ (value : FnRef → List Value → Value) (arena : Arena) (old : Work) (n : NodeId) (row : Row) (kept : IsKept arena old) (sound : IsSound arena)
+    (is_row : row_at arena n ≡ Some row) where
+  there : Holds old.rows (main n)
+  there = kept.rows n ∙ ap is_some is_row
+
+  abbrev progress : Progress
+  progress = (some_is (at old.rows (main n)) there).0
+
+  is_progress : at old.rows (main n) ≡ Some progress
+  is_progress = (some_is (at old.rows (main n)) there).1
+
+  same_row : (r : Row) → row_at arena n ≡ Some r → row ≡ r
+  same_row r e = same_Some row r (sym is_row ∙ e)
+
+  abbrev gives_own : Def → Option Outcome
+  gives_own d = own (functions_of value) (graph_of arena) (seen old.rows) n d
+
+  -- what holds a value gives it
+  pub holder_computes : (v : Value) (before : ℕ) → (row.def ≡ Const v) ⊎ (row.def ≡ Var v) → Computes value arena old old n (Val v) before before
+  holder_computes v before holds = record {
+    last = progress.last;
+    called = false;
+    computed = record {
+      row = row;
+      is_row = is_row;
+      kept = progress;
+      is_kept = is_progress;
+      calls = (refl, λ f nodes values def e. absurd (no_map f nodes def holds));
+      own = λ answers known. gives holds;
+    };
+    row = unmoved old.rows n progress is_progress;
+    ran = refl;
+    rest = same_rest old;
+    count = no_rise before;
+    typed = λ r w e is. let type = typed holds in let same = same_row r e in cc;
+    answer_typed = λ r c e is. kept.calls n r progress c e is_progress is;
+  } where
+    no_map : (f : FnRef) (nodes : List NodeId) → row.def ≡ Map f nodes → (row.def ≡ Const v) ⊎ (row.def ≡ Var v) → ⊥
+    no_map f nodes def (inl h) = cc
+    no_map f nodes def (inr h) = cc
+
+    gives : (row.def ≡ Const v) ⊎ (row.def ≡ Var v) → gives_own row.def ≡ Some (Val v)
+    gives (inl h) = ap gives_own h
+    gives (inr h) = ap gives_own h
+
+    typed : (row.def ≡ Const v) ⊎ (row.def ≡ Var v) → type_of v ≡ row.ty
+    typed (inl h) = (subst (λ (d : Def). Makes arena d row.ty) h (sound.types n row is_row)).type
+    typed (inr h) = (subst (λ (d : Def). Makes arena d row.ty) h (sound.types n row is_row)).type
+
+  module _ (f : FnRef) (nodes : List NodeId) (is_map : row.def ≡ Map f nodes) where
+    makes : MapMakes arena f nodes row.ty
+    makes = subst (λ (d : Def). Makes arena d row.ty) is_map (sound.types n row is_row)
+
+    -- what the children of a map show has the types that its function takes
+    pub map_fits : (values : List Value) → AllZip (ShowsValue old.rows) nodes values → HaveTypes values f.sig.takes
+    map_fits values shows = types_fit arena old kept nodes f.sig.takes values makes.children shows
+
+    -- a live map was computed
+    pub map_computes : (new : Work) (o : Outcome) (before after : ℕ) → ComputesMap value old new n f nodes o before after
+        → Computes value arena old new n o before after
+    map_computes new o before after m = record {
+      last = m.last;
+      called = m.called;
+      computed = record {
+        row = row;
+        is_row = is_row;
+        kept = m.kept;
+        is_kept = m.is_kept;
+        calls = subst (λ (d : Def). CallsSeen value old.rows d m.kept.last m.last m.called) (sym is_map) m.calls;
+        own = λ answers known. subst (λ (d : Def). gives_own d ≡ Some o) (sym is_map)
+            (m.gives (λ c is. answers n row f nodes m.kept c is_row is_map m.is_kept is)
+            (subst (λ (d : Def). seen_together old.rows (kids d) ≡ Unknown → ⊥) is_map known));
+      };
+      row = m.row;
+      ran = m.ran;
+      rest = m.rest;
+      count = m.count;
+      typed = λ r v e is. let w = m.shows v is in ap type_of (sym w.2) ∙ answer r w.0 e w.1;
+      answer_typed = answer;
+    } where
+      answer : (r : Row) (c : Call) → row_at arena n ≡ Some r → m.last ≡ Some c → type_of c.result ≡ r.ty
+      answer r c e is = elim (m.answer c is) [
+        | inl was ↦ kept.calls n r m.kept c e m.is_kept was
+        | inr type ↦ type ∙ (makes.gives ∙ ap (λ (x : Row). x.ty) (same_row r e))
+      ]

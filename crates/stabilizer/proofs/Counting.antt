@@ -1,0 +1,106 @@
+-- The calls of a round are within the work.
+use Rattle.std.proofs.Common.{◌≡◌, inl, inr, ℕ, suc, ◌≤◌, ◌+◌, List, [], ◌∷◌, length, Option, None, Some, refl, sym, subst, ap, ◌∙◌, arith}
+use Rattle.std.specs.List.{sum_by}
+use Rattle.std.proofs.lemmas.List.Sums.{sum_by-cons}
+use Rattle.inc_value.specs.declared.node.NodeId.{NodeId}
+use Rattle.inc_value.specs.declared.node.Point.{Point}
+use Rattle.inc_value.specs.Choice.{Among, NoRepeats, Every}
+use Rattle.inc_terms.specs.Depend.{main, none_died}
+use Rattle.inc_terms.specs.Evaluate.{Stands, answer}
+use Rattle.inc_terms.specs.Graph.{Graph}
+use Rattle.inc_terms.specs.Need.{IsRoot, Beside, Observed, nodes_of, Held, Met, from_root, from_held}
+use Rattle.inc_terms.specs.Term.{Functions}
+use Rattle.inc_terms.specs.Work.{Visit, other, IsDueVisit, WithinWork}
+use Rattle.necessary_graph.specs.Part.{Needed}
+use Rattle.node_arena.specs.Arena.{Arena}
+use Rattle.node_arena.specs.Graph.{graph_of, NoScopes}
+use Rattle.stabilize_round.specs.Calls.{arguments_of}
+use Rattle.stabilize_round.specs.State.{Call}
+use Rattle.stabilizer.specs.Round.{last_call, WasCalled, StoodBeside}
+use Rattle.stabilizer.specs.declared.work.Work.{Work}
+
+-- what stands in no scope stands
+top_stands : (F : Functions) (G : Graph) → Stands F G None
+unfolding answer
+top_stands F G = (1, refl)
+
+module _ (F : Functions) (arena : Arena) (flat : NoScopes arena) (old new : Work) (observed : List NodeId)
+    (roots : (n : NodeId) → IsRoot (graph_of arena) observed n → Among n observed) (before : Beside) (observers : List Observed)
+    (stood : StoodBeside before old observers) (looks : (n : NodeId) → Among n observed → Among n (nodes_of observers)) where
+  abbrev G : Graph
+  G = graph_of arena
+
+  abbrev Called : NodeId → Type 0
+  Called n = WasCalled F arena old new observed n
+
+  is_met : (p : Point) → Met F G none_died observed (λ (q : Point). Needed old.graph q) p → Met F G none_died (nodes_of observers) (Held before observers) p
+  is_met p (from_root {n} root way) = from_root (inl (looks n (roots n root))) way
+  is_met p (from_held {h} held row stands way) = from_held (stood.held h held) row stands way
+
+  visit_of : (n : NodeId) → Called n → Visit
+  visit_of n c = record { node = n; values = c.values; cost = 1 }
+
+  other_arguments : (n : NodeId) (c : Called n) (x : Option Call) → last_call old n ≡ x → before.last n ≡ Some c.values → ⊥
+  other_arguments n c None e last =
+      let k : before.last n ≡ None = stood.last n ∙ ap arguments_of e in let x : None ≡ Some c.values = sym k ∙ last in cc
+  other_arguments n c (Some call) e last =
+      let k : before.last n ≡ Some call.arguments = stood.last n ∙ ap arguments_of e in
+      let x : Some call.arguments ≡ Some c.values = sym k ∙ last in
+      c.reason call e (cc)
+
+  due : (n : NodeId) (c : Called n) → IsDueVisit F G none_died observers before (visit_of n c)
+  unfolding visit_of
+  due n c = record {
+    visit = record {
+      row = c.row;
+      is_row = c.is_row;
+      stands = subst (Stands F G) (sym (flat n c.row c.is_row)) (top_stands F G);
+      values = rw c.is_map c.gives;
+      cost = rw c.is_map refl;
+    };
+    met = is_met (main n) c.met;
+    reason = other (λ last. other_arguments n c (last_call old n) refl last);
+  }
+
+  abbrev visits : (ns : List NodeId) → ((n : NodeId) → Among n ns → Called n) → List Visit
+  visits [] called = []
+  visits (n ∷ ns) called = visit_of n (called n (inl refl)) ∷ visits ns (λ m a. called m (inr a))
+
+  visited : (v : Visit) (ns : List NodeId) (called : (n : NodeId) → Among n ns → Called n) → Among v (visits ns called) → Among v.node ns
+  unfolding visit_of
+  visited v [] called a = a
+  visited v (n ∷ ns) called (inl e) = inl (ap (λ (x : Visit). x.node) e)
+  visited v (n ∷ ns) called (inr a) = inr (visited v ns (λ m h. called m (inr h)) a)
+
+  distinct : (ns : List NodeId) (called : (n : NodeId) → Among n ns → Called n) → NoRepeats ns → NoRepeats (visits ns called)
+  unfolding visit_of
+  distinct [] called once = tt
+  distinct (n ∷ ns) called once =
+      ((λ a. once.0 (visited (visit_of n (called n (inl refl))) ns (λ m h. called m (inr h)) a)), distinct ns (λ m h. called m (inr h)) once.1)
+
+  all_due : (ns : List NodeId) (called : (n : NodeId) → Among n ns → Called n)
+      → Every (IsDueVisit F G none_died observers before) (visits ns called)
+  all_due [] called = tt
+  all_due (n ∷ ns) called = (due n (called n (inl refl)), all_due ns (λ m h. called m (inr h)))
+
+  one_on : (a b : ℕ) → a ≡ b → 1 + a ≡ suc b
+  one_on a b e = omega arith
+
+  costs : (ns : List NodeId) (called : (n : NodeId) → Among n ns → Called n) → sum_by (λ (v : Visit). v.cost) (visits ns called) ≡ length ns
+  unfolding visit_of
+  costs [] called = refl
+  costs (n ∷ ns) called =
+      let e = costs ns (λ m h. called m (inr h)) in
+      let one = sum_by-cons (λ (v : Visit). v.cost) (visit_of n (called n (inl refl))) (visits ns (λ m h. called m (inr h))) in
+      one ∙ one_on _ _ e
+
+  pub within : (ran : List NodeId) → NoRepeats ran → ((n : NodeId) → Among n ran → Called n) → (calls : ℕ) → calls ≤ length ran
+      → WithinWork F G none_died observers before calls
+  within ran once called calls few =
+      let e = costs ran called in
+      record {
+        visits = visits ran called;
+        distinct = distinct ran called once;
+        due = all_due ran called;
+        enough = omega arith;
+      }

@@ -1,0 +1,518 @@
+-- A round ends: what is needed is up to date, and another round may begin.
+use Rattle.std.proofs.Common.{◌≡◌, ◌⊎◌, inl, inr, ℕ, zero, suc, ◌<◌, ◌≤◌, ◌+◌, ◌++◌, Bool, true, false}
+use Rattle.std.proofs.Common.{List, [], ◌∷◌, length, map, Option, None, Some, refl, sym, ap, subst, ◌∙◌, arith}
+use Rattle.std.specs.Prelude.{is_some, ◌↔◌, ◌==◌, reverse, slice_index_or, if◌then◌else◌}
+use Rattle.std.proofs.Math.Path.{fun_ext}
+use Rattle.std.proofs.lemmas.Grind.{common_steps}
+use Rattle.std.proofs.lemmas.List.{length-reverse, reverse-append}
+use Rattle.inc_value.specs.declared.function.FnRef.{FnRef}
+use Rattle.inc_value.specs.declared.node.NodeId.{NodeId}
+use Rattle.inc_value.specs.declared.node.Part.TheVariants.{Main}
+use Rattle.inc_value.specs.declared.node.Point.{Point}
+use Rattle.inc_value.specs.declared.outcome.Outcome.{Outcome}
+use Rattle.inc_value.specs.declared.outcome.Outcome.TheVariants.{Val}
+use Rattle.inc_value.specs.declared.value.Value.{Value}
+use Rattle.inc_value.specs.Choice.{Among, NoRepeats, Reaches, here, and_then}
+use Rattle.inc_terms.specs.declared.def.Def as declared
+use Rattle.inc_terms.specs.declared.def.Def.TheVariants as form
+use Rattle.inc_terms.specs.Code.{def_of}
+use Rattle.inc_terms.specs.Depend.{Depends, main, none_died, fixed, fixed_reads}
+use Rattle.inc_terms.specs.Evaluate.{Of, Values, gathered, NodeGives, GiveAll}
+use Rattle.inc_terms.specs.Graph.{Graph, Row, Def, Map, Freeze}
+use Rattle.inc_terms.specs.Local.{shown, shown_of, by_sight, Sees}
+use Rattle.inc_terms.specs.Need.{IsRoot, Needed, Met, from_root, from_held}
+use Rattle.inc_terms.specs.Term as term
+use Rattle.inc_terms.specs.Term.{Functions, refs}
+use Rattle.inc_terms.proofs.Evaluation.{one_outcome}
+use Rattle.inc_terms.proofs.Local.{needed_more}
+use Rattle.inc_terms.proofs.Plan.{among_left, among_right, among_parts, among_map}
+use Rattle.point_map.specs.Rows.{Place, row_in, same_point, at}
+use Rattle.point_map.proofs.Places.{same_point_eq}
+use Rattle.link_table.specs.Links.{Reads}
+use Rattle.necessary_graph.specs.Part as part
+use Rattle.necessity.specs.Need.{Roots, root_times}
+use Rattle.recompute_heap.specs.Agree.{IsEmpty}
+use Rattle.node_arena.specs.Arena.{Arena, row_at, row_of}
+use Rattle.node_arena.specs.declared.arena.Entry as arena_entry
+use Rattle.node_arena.specs.Graph.{graph_of}
+use Rattle.stabilize_round.specs.Closing.{closed, Close, next_start}
+use Rattle.stabilize_round.specs.Counts.{RoseBy}
+use Rattle.stabilize_round.specs.Ended.{RootsAre, Ended}
+use Rattle.stabilize_round.specs.Invariant as invariant
+use Rattle.stabilize_round.specs.Invariant.{Invariant, MetNow, HasCalled}
+use Rattle.stabilize_round.specs.Machine.{Entry, Moves}
+use Rattle.stabilize_round.specs.Moves.{Quiet}
+use Rattle.stabilize_round.specs.State as machine
+use Rattle.stabilize_round.specs.State.{State, Start, Call, Linked, count, ghost_plan}
+use Rattle.stabilize_round.proofs.Low.{links_are}
+use Rattle.stabilize_round.proofs.Meanings.{round_keeps, round_is_right, round_again}
+use Rattle.stabilize_round.proofs.Parts.{bool_cases}
+use Rattle.stabilize_round.proofs.Points.{count_among, among_count}
+use Rattle.stabilizer.specs.Computing.{seen, seen_of}
+use Rattle.stabilizer.specs.Kept.{IsKept}
+use Rattle.stabilizer.specs.Round.{IsReady, AreRooted, last_of, last_call, WasCalled, IsUpToDate}
+use Rattle.stabilizer.specs.Row.{settled_in}
+use Rattle.stabilizer.specs.Stands.{Stands}
+use Rattle.stabilizer.specs.declared.row.Progress.{Progress}
+use Rattle.stabilizer.specs.declared.work.Work.{Work}
+use Rattle.stabilizer.proofs.Beginning.{Begun}
+use Rattle.stabilizer.proofs.Counting.{within}
+
+-- ---- states
+
+-- where no node died and the graph is this one, the state is so by itself
+pub as_graph : (G : Graph) (t : State) → t.graph ≡ G → ((n : NodeId) → t.died n ≡ None) → t ≡ record t { graph = G; died = none_died }
+as_graph G t graph died =
+    let e : t.died ≡ none_died = fun_ext died in
+    ap (λ (x : Graph). record t { graph = x }) graph ∙ ap (λ (x : NodeId → Option NodeId). record t { graph = G; died = x }) e
+
+-- with an empty worklist the state is quiet
+pub quiet_of : (arena : Arena) (work : Work) (calls : ℕ) (t : State) → Stands arena work calls None t → work.todo.items ≡ [] → Quiet t
+quiet_of arena work calls t st idle p = elim (bool_cases (t.todo p)) [
+  | inr e ↦ e
+  | inl e ↦ absurd (elim (st.todo p e) [
+    | inl a ↦ subst (λ (xs : List Point). Among p xs) idle a
+    | inr h ↦ h
+  ])
+]
+
+-- with an empty heap none is in the state's
+no_heap : (arena : Arena) (work : Work) (calls : ℕ) (t : State) → Stands arena work calls None t → IsEmpty work.graph.heap
+    → (p : Point) → t.heap p ≡ true → ⊥
+no_heap arena work calls t st empty p e = absurd (let a = st.heap p in let b = ap is_some (empty p) in cc)
+
+none_then : (n : ℕ) → (0 < n → ⊥) → n ≡ 0
+none_then zero h = refl
+none_then (suc n) h = absurd (h (omega arith))
+
+leaf_plan : (q : Point) (st : machine.Stage) → count q (ghost_plan None st) ≡ 0
+leaf_plan q machine.Bare = refl
+leaf_plan q machine.Gated = refl
+leaf_plan q machine.Static = refl
+leaf_plan q machine.Full = refl
+
+-- where no node died nothing is let go when the round is closed
+module _ (F : Functions) (z : Start) (t : State) (inv : Invariant F z t) (quiet : Quiet t) (died : (n : NodeId) → t.died n ≡ None) where
+  gone : (a b : Point) → t.needed a ≡ false → t.links a b ≡ 0
+  gone a b e = none_then (t.links a b) (λ l. let k = inv.web.from a b l in absurd (cc))
+
+  dead : (a b : Point) → t.graph.row a.node ≡ None → t.links a b ≡ 0
+  dead a b row = elim (bool_cases (t.needed a)) [
+    | inr e ↦ gone a b e
+    | inl need ↦ rw (row, died a.node) at (links_are F z t inv quiet a b need) ∙ leaf_plan b (t.stage a)
+  ]
+
+  pub closes : Close t t.links t.needed
+  closes = record {
+    live = λ a b r row need. refl;
+    dead = dead;
+    gone = gone;
+    was = λ a need. need;
+    onto = inv.web.onto;
+    rooted = inv.web.rooted;
+    reached = inv.web.reached;
+  }
+
+-- ---- what rows show
+
+-- what is seen of a node is what is shown of it
+seen_case : (x : Option Progress) (y : Option Row) (o : Option Outcome) → is_some x ≡ is_some y → ((k : Progress) → x ≡ Some k → o ≡ k.outcome)
+    → seen_of x ≡ shown_of y o
+seen_case None None o same is = refl
+seen_case None (Some r) o same is = absurd (cc)
+seen_case (Some k) None o same is = absurd (cc)
+seen_case (Some k) (Some r) o same is = sym (is k refl)
+
+-- of a live node the state knows the last call
+last_case : (x : Option Progress) (y : Option Row) (r : Row) (c : Option Call) → is_some x ≡ is_some y → y ≡ Some r
+    → ((k : Progress) → x ≡ Some k → c ≡ k.last) → last_of x ≡ c
+last_case None y r c same e is = absurd (let k = same ∙ ap is_some e in cc)
+last_case (Some k) y r c same e is = sym (is k refl)
+
+-- a dead node has none
+last_none : (x : Option Progress) (y : Option Row) → is_some x ≡ is_some y → y ≡ None → last_of x ≡ None
+last_none None y same e = refl
+last_none (Some k) y same e = absurd (let h = same ∙ ap is_some e in cc)
+
+-- what nodes give that show what they give, put together
+gathered_by : (F : Functions) (G : Graph) (out : Point → Option Outcome) (ns : List NodeId) (vs : List Value) → GiveAll F G ns vs
+    → ((k : NodeId) → Among k ns → Sees F G out k) → gathered (by_sight (shown G out)) (refs ns) ≡ Values vs
+gathered_by F G out [] [] gives sees = refl
+gathered_by F G out [] (v ∷ vs) gives sees = absurd gives
+gathered_by F G out (n ∷ ns) [] gives sees = absurd gives
+gathered_by F G out (n ∷ ns) (v ∷ vs) gives sees =
+    let s = sees n (inl refl) in
+    let same = one_outcome F G (Of (term.Ref n)) s.0 (Val v) s.2 gives.0 in
+    let first : shown G out (main n) ≡ Some (Val v) = s.1 ∙ ap (λ (o : Outcome). Some o) same in
+    let rest = gathered_by F G out ns vs gives.1 (λ k a. sees k (inr a)) in
+    rw (first, rest) refl
+
+-- ---- today's forms
+
+-- a row's definition is one of the code's
+pub code_def : (arena : Arena) (n : NodeId) (r : Row) → row_at arena n ≡ Some r → (d : declared.Def) × (r.def ≡ def_of d)
+code_def arena n r is = by_entry (slice_index_or arena.slots n.slot None) is
+  where
+    by_test : (entry : arena_entry.Entry) (b : Bool) → (if b then Some (row_of entry.row) else None) ≡ Some r → row_of entry.row ≡ r
+    by_test entry true e = cc
+    by_test entry false e = absurd (cc)
+
+    by_entry : (x : Option arena_entry.Entry) → and_then x (λ (e : arena_entry.Entry). if e.gen_ == n.gen_ then Some (row_of e.row) else None) ≡ Some r
+        → (d : declared.Def) × (r.def ≡ def_of d)
+    by_entry None e = absurd (cc)
+    by_entry (Some entry) e = (entry.row.def, sym (ap (λ (x : Row). x.def) (by_test entry (entry.gen_ == n.gen_) e)))
+
+no_freeze : (d : declared.Def) (kid : NodeId) (f : FnRef) → def_of d ≡ Freeze kid f → ⊥
+no_freeze (form.Const v) kid f e = absurd (cc)
+no_freeze (form.Var v) kid f e = absurd (cc)
+no_freeze (form.Map g ks) kid f e = absurd (cc)
+
+-- so none of them is a freeze that keeps no value yet, and roots are what is observed
+pub root_observed : (arena : Arena) (observed : List NodeId) (n : NodeId) → IsRoot (graph_of arena) observed n → Among n observed
+root_observed arena observed n (inl a) = a
+root_observed arena observed n (inr u) =
+    let d = code_def arena n u.row u.is_row in absurd (no_freeze d.0 u.kid u.predicate (sym d.1 ∙ u.is_freeze))
+
+pub among_main : (p : Point) (ns : List NodeId) → Among p (map main ns) → (n : NodeId) × Among n ns × (p ≡ main n)
+among_main p [] a = absurd a
+among_main p (n ∷ ns) (inl e) = (n, inl refl, e)
+among_main p (n ∷ ns) (inr a) = let k = among_main p ns a in (k.0, inr k.1, k.2)
+
+-- ---- roots
+
+-- the roots are the mains of these nodes
+pub record AreObserved (work : Work) (observed : List NodeId) : Type 0 where
+  pub on : (n : NodeId) → Among n observed → 0 < root_times work.graph.roots (main n)
+  pub listed : (p : Point) → 0 < root_times work.graph.roots p → (n : NodeId) × Among n observed × (p ≡ main n)
+
+pub rooted_observed : (work : Work) (observed : List NodeId) → AreRooted work observed → AreObserved work observed
+rooted_observed work observed roots = record {
+  on = λ n a. subst (λ (k : ℕ). 0 < k) (sym (roots (main n))) (among_count (main n) (map main observed) (among_map main n observed a));
+  listed = λ p h. among_main p observed (count_among p (map main observed) (subst (λ (k : ℕ). 0 < k) (roots p) h));
+}
+
+-- the list with this node first, unless the number is 0
+abbrev pub if_any : ℕ → NodeId → List NodeId → List NodeId
+if_any zero n ns = ns
+if_any (suc k) n ns = n ∷ ns
+
+-- the nodes of places whose mains are roots
+abbrev pub root_nodes : Roots → List (Place ℕ) → List NodeId
+root_nodes roots [] = []
+root_nodes roots (None ∷ rest) = root_nodes roots rest
+root_nodes roots (Some e ∷ rest) = if_any (root_times roots (main e.0.node)) e.0.node (root_nodes roots rest)
+
+among_any : (k : ℕ) (m n : NodeId) (ns : List NodeId) → Among n (if_any k m ns) → ((n ≡ m) × (0 < k)) ⊎ Among n ns
+among_any zero m n ns a = inr a
+among_any (suc k) m n ns (inl e) = inl (e, omega arith)
+among_any (suc k) m n ns (inr a) = inr a
+
+any_first : (k : ℕ) (m : NodeId) (ns : List NodeId) → 0 < k → Among m (if_any k m ns)
+any_first zero m ns h = absurd (omega arith)
+any_first (suc k) m ns h = inl refl
+
+any_rest : (k : ℕ) (m n : NodeId) (ns : List NodeId) → Among n ns → Among n (if_any k m ns)
+any_rest zero m n ns a = a
+any_rest (suc k) m n ns a = inr a
+
+nodes_on : (roots : Roots) (places : List (Place ℕ)) (n : NodeId) → Among n (root_nodes roots places) → 0 < root_times roots (main n)
+nodes_on roots [] n a = absurd a
+nodes_on roots (None ∷ rest) n a = nodes_on roots rest n a
+nodes_on roots (Some e ∷ rest) n a = elim (among_any (root_times roots (main e.0.node)) e.0.node n (root_nodes roots rest) a) [
+  | inl h ↦ subst (λ (m : NodeId). 0 < root_times roots (main m)) (sym h.0) h.1
+  | inr b ↦ nodes_on roots rest n b
+]
+
+nodes_list : (roots : Roots) (places : List (Place ℕ)) (n : NodeId) (k : ℕ) → row_in places (main n) ≡ Some k → 0 < root_times roots (main n)
+    → Among n (root_nodes roots places)
+nodes_list roots [] n k row h = absurd (cc)
+nodes_list roots (None ∷ rest) n k row h = nodes_list roots rest n k row h
+nodes_list roots (Some e ∷ rest) n k row h = by_test (same_point e.0 (main n)) refl (λ r. nodes_list roots rest n k r h)
+  where
+    by_test : (b : Bool) → same_point e.0 (main n) ≡ b → (row_in rest (main n) ≡ Some k → Among n (root_nodes roots rest))
+        → Among n (if_any (root_times roots (main e.0.node)) e.0.node (root_nodes roots rest))
+    by_test true t later =
+        let is : e.0.node ≡ n = ap (λ (x : Point). x.node) (same_point_eq e.0 (main n) t) in
+        subst (λ (m : NodeId). Among m (if_any (root_times roots (main e.0.node)) e.0.node (root_nodes roots rest))) is
+        (any_first (root_times roots (main e.0.node)) e.0.node (root_nodes roots rest)
+        (subst (λ (m : NodeId). 0 < root_times roots (main m)) (sym is) h))
+    by_test false t later = any_rest (root_times roots (main e.0.node)) e.0.node n (root_nodes roots rest) (later (rw t at row))
+
+-- some nodes are so
+pub all_observed : (arena : Arena) (work : Work) → IsKept arena work → AreObserved work (root_nodes work.graph.roots work.graph.roots.counts)
+all_observed arena work kept = record {
+  on = nodes_on work.graph.roots work.graph.roots.counts;
+  listed = λ p h. (p.node, listed p h (row_in work.graph.roots.counts p) refl, is_main p h);
+}
+  where
+    is_main : (p : Point) → 0 < root_times work.graph.roots p → p ≡ main p.node
+    is_main p h =
+        let part = kept.mains p (kept.step.there p (record { root = p; is_root = h; leads = here })) in
+        λ i. record { node = p.node; part = part i }
+
+    listed : (p : Point) → 0 < root_times work.graph.roots p → (x : Option ℕ) → row_in work.graph.roots.counts p ≡ x
+        → Among p.node (root_nodes work.graph.roots work.graph.roots.counts)
+    listed p h None e = absurd (let k = rw e at h in omega (arith, k))
+    listed p h (Some k) e = nodes_list work.graph.roots work.graph.roots.counts p.node k
+        (subst (λ (q : Point). row_in work.graph.roots.counts q ≡ Some k) (is_main p h) e)
+        (subst (λ (q : Point). 0 < root_times work.graph.roots q) (is_main p h) h)
+
+-- ---- a list from its end
+
+among_reverse : (n : NodeId) (ns : List NodeId) → Among n ns → Among n (reverse ns)
+among_reverse n [] a = absurd a
+among_reverse n (m ∷ ms) (inl e) = subst (λ (xs : List NodeId). Among n xs) (sym (reverse-append (m ∷ []) ms)) (among_right n (reverse ms) (m ∷ []) (inl e))
+among_reverse n (m ∷ ms) (inr a) =
+    subst (λ (xs : List NodeId). Among n xs) (sym (reverse-append (m ∷ []) ms)) (among_left n (reverse ms) (m ∷ []) (among_reverse n ms a))
+
+reverse_among : (n : NodeId) (ns : List NodeId) → Among n (reverse ns) → Among n ns
+reverse_among n [] a = absurd a
+reverse_among n (m ∷ ms) a = elim (among_parts n (reverse ms) (m ∷ []) (subst (λ (xs : List NodeId). Among n xs) (reverse-append (m ∷ []) ms) a)) [
+  | inl h ↦ inr (reverse_among n ms h)
+  | inr (inl e) ↦ inl e
+  | inr (inr h) ↦ absurd h
+]
+
+last_apart : (ns : List NodeId) (n : NodeId) → NoRepeats (ns ++ n ∷ []) → NoRepeats ns × (Among n ns → ⊥)
+last_apart [] n once = (tt, λ a. a)
+last_apart (m ∷ ms) n once =
+    let rest = last_apart ms n once.1 in
+    let apart : Among n (m ∷ ms) → ⊥ = λ a. elim a [ inl e ↦ once.0 (among_right m ms (n ∷ []) (inl (sym e))) | inr h ↦ rest.1 h ] in
+    (((λ a. once.0 (among_left m ms (n ∷ []) a)), rest.0), apart)
+
+once_reverse : (ns : List NodeId) → NoRepeats (reverse ns) → NoRepeats ns
+once_reverse [] once = tt
+once_reverse (m ∷ ms) once =
+    let parts = last_apart (reverse ms) m (subst (λ (xs : List NodeId). NoRepeats xs) (reverse-append (m ∷ []) ms) once) in
+    ((λ a. parts.1 (among_reverse m ms a)), once_reverse ms parts.0)
+
+-- ---- a round that ended
+
+module _ (F : Functions) (arena : Arena) (old mid : Work) (before after : ℕ) (first : IsKept arena old) (begun : Begun F arena old before)
+    (kept : IsKept arena mid) (t : State) (run : Moves F begun.start begun.state t) (stands : Stands arena mid after None t)
+    (idle : mid.todo.items ≡ []) (empty : IsEmpty mid.graph.heap) (observed : List NodeId) (looks : AreObserved mid observed) where
+  abbrev G : Graph
+  G = graph_of arena
+
+  abbrev last : State
+  last = record t { graph = G; died = none_died }
+
+  moves : Moves F begun.start begun.state last
+  moves = subst (λ (x : State). Moves F begun.start begun.state x) (as_graph G t stands.graph stands.died) run
+
+  inv : Invariant F begun.start last
+  inv = round_keeps F begun.start begun.state last begun.entry moves
+
+  quiet : Quiet last
+  quiet = quiet_of arena mid after t stands idle
+
+  none : (p : Point) → last.heap p ≡ true → ⊥
+  none = no_heap arena mid after t stands empty
+
+  are : RootsAre last observed
+  are = record {
+    on = λ n r. subst (λ (k : ℕ). 0 < k) (sym (stands.root (main n))) (looks.on n (root_observed arena observed n r));
+    listed = λ p h. let a = looks.listed p (subst (λ (k : ℕ). 0 < k) (stands.root p) h) in (a.0, inl a.1, a.2);
+  }
+
+  ended : Ended F begun.start last observed
+  ended = round_is_right F begun.start begun.state last observed begun.entry moves are quiet none
+
+  again : Entry F (next_start begun.start last last.needed) (closed last last.links last.needed)
+  again = (round_again F begun.start begun.state last observed begun.entry moves are quiet none last.links last.needed
+      (closes F begun.start last inv quiet (λ n. refl))).0
+
+  abbrev IsWanted : Point → Type 0
+  IsWanted p = Needed F G none_died observed p
+
+  -- ---- what is needed
+
+  wanted : (p : Point) → part.Needed mid.graph p → IsWanted p
+  wanted p need = (ended.needs p).0 ((stands.needed p).1 need)
+
+  needed : (p : Point) → IsWanted p → part.Needed mid.graph p
+  needed p want = (stands.needed p).0 ((ended.needs p).1 want)
+
+  seen_is : (n : NodeId) → seen mid.rows (main n) ≡ shown G t.out (main n)
+  seen_is n = seen_case (at mid.rows (main n)) (row_at arena n) (t.out (main n)) (kept.rows n) (λ k e. stands.out (main n) k e)
+
+  sees : (n : NodeId) → IsWanted (main n) → (o : Outcome) × (seen mid.rows (main n) ≡ Some o) × NodeGives F G n o
+  sees n want = let s = ended.sees n want in (s.0, seen_is n ∙ s.1, s.2)
+
+  links : (p q : Point) → part.Needed mid.graph p → Reads mid.graph.links p q ↔ Depends F G none_died p q
+  links p q need =
+      let l = ended.links p q ((stands.needed p).1 need) in
+      (λ r. l.0 (subst (λ (k : ℕ). 0 < k) (sym (stands.links p q)) r), λ d. subst (λ (k : ℕ). 0 < k) (stands.links p q) (l.1 d))
+
+  -- ---- last calls
+
+  last_is : (n : NodeId) (r : Row) → row_at arena n ≡ Some r → last_call mid n ≡ t.last n
+  last_is n r row = last_case (at mid.rows (main n)) (row_at arena n) r (t.last n) (kept.rows n) row (λ k e. stands.last n k e)
+
+  kid_wanted : (n : NodeId) (r : Row) (f : FnRef) (nodes : List NodeId) (k : NodeId) → part.Needed mid.graph (main n) → row_at arena n ≡ Some r
+      → r.def ≡ Map f nodes → Among k nodes → IsWanted (main k)
+  kid_wanted n r f nodes k need row def a =
+      let among : Among (main k) (fixed_reads G n r.def Main) =
+      subst (λ (d : Def). Among (main k) (fixed_reads G n d Main)) (sym def) (among_map main k nodes a) in
+      needed_more F G none_died observed (main n) (main k) (wanted (main n) need)
+      (fixed row (ended.exact (main n) ((stands.needed (main n)).1 need) r row).0 among)
+
+  recalls : (n : NodeId) (r : Row) (f : FnRef) (nodes : List NodeId) (values : List Value) → part.Needed mid.graph (main n) → row_at arena n ≡ Some r
+      → r.def ≡ Map f nodes → GiveAll F G nodes values → (c : Call) × (last_call mid n ≡ Some c) × (c.arguments ≡ values)
+  recalls n r f nodes values need row def gives =
+      let all = gathered_by F G t.out nodes values gives (λ k a. ended.sees k (kid_wanted n r f nodes k need row def a)) in
+      let c = ended.recalls (main n) ((stands.needed (main n)).1 need) r f nodes values row refl def all in
+      (c.0, last_is n r row ∙ c.1, c.2)
+
+  uncalled : (n : NodeId) → (Among n mid.ran.items → ⊥) → last_call mid n ≡ last_call old n
+  uncalled n not = by_row (row_at arena n) refl
+    where
+      by_row : (x : Option Row) → row_at arena n ≡ x → last_call mid n ≡ last_call old n
+      by_row None e = last_none (at mid.rows (main n)) (row_at arena n) (kept.rows n) e
+          ∙ sym (last_none (at old.rows (main n)) (row_at arena n) (first.rows n) e)
+      by_row (Some r) e = last_is n r e
+          ∙ (ended.kept n r e (λ a. not (reverse_among n mid.ran.items (subst (λ (ns : List NodeId). Among n ns) stands.ran a)))
+          ∙ begun.last n)
+
+  is_met : (p : Point) → MetNow F begun.start G none_died t.root p → Met F G none_died observed (λ (q : Point). part.Needed old.graph q) p
+  is_met p (invariant.from_root {r} root way) =
+      let l = are.listed r root in
+      from_root l.1 (subst (λ (y : Point). Reaches (Depends F G none_died) y p) l.2 way)
+  is_met p (invariant.from_held {h} held row stands way) = from_held ((begun.held h).0 held) row stands way
+
+  called : (n : NodeId) → Among n mid.ran.items → WasCalled F arena old mid observed n
+  called n a =
+      let c = ended.ran n (subst (λ (ns : List NodeId). Among n ns) (sym stands.ran) (among_reverse n mid.ran.items a)) in
+      record {
+        row = c.row;
+        function = c.function;
+        nodes = c.kids;
+        values = c.values;
+        is_row = c.is_row;
+        is_map = c.is_map;
+        gives = c.gives;
+        reason = λ k e. c.reason k (begun.last n ∙ e);
+        is_last = last_is n c.row c.is_row ∙ c.is_last;
+        met = is_met (main n) c.met;
+      }
+
+  -- the count of calls rose by one for each
+  pub counted : RoseBy before (length mid.ran.items) after
+  counted = subst (λ (k : ℕ). RoseBy before k after) (ap length stands.ran ∙ length-reverse mid.ran.items)
+      (subst (λ (k : ℕ). RoseBy k (length t.ran) after) begun.calls (subst (λ (k : ℕ). RoseBy begun.start.calls (length t.ran) k) stands.calls ended.calls))
+
+  once : NoRepeats mid.ran.items
+  once = once_reverse mid.ran.items (subst (λ (ns : List NodeId). NoRepeats ns) stands.ran ended.once)
+
+  up_to_date : AreRooted mid observed → IsUpToDate F arena old mid observed mid.ran.items
+  up_to_date roots = record {
+    rooted = roots;
+    needs = λ p. (wanted p, needed p);
+    sees = sees;
+    acyclic = ended.acyclic;
+    shallow = ended.shallow;
+    links = links;
+    recalls = recalls;
+    kept = uncalled;
+    once = once;
+    called = called;
+    work = λ beside observers stood are_on calls few. within F arena kept.flat old mid observed (root_observed arena observed) beside observers stood are_on
+        mid.ran.items once called calls few;
+  }
+
+  -- ---- the next round
+
+  later : (n m : ℕ) → n ≤ m → (n == m + 1) ≡ false
+  later n m le = grind (arith, common_steps)
+
+  module _ (new : Work) (graph : new.graph ≡ mid.graph) (rows : new.rows ≡ mid.rows) (todo : new.todo ≡ mid.todo) (ran : new.ran.items ≡ [])
+      (strict : new.strict ≡ false) (round : new.round ≡ mid.round + 1) where
+    abbrev next : Work
+    next = record mid { readers = new.readers; ran = new.ran; strict = new.strict; round = new.round }
+
+    is_next : next ≡ new
+    is_next =
+        ap (λ g. record next { graph = g }) (sym graph) ∙ (ap (λ r. record next { graph = new.graph; rows = r }) (sym rows)
+        ∙ ap (λ x. record next { graph = new.graph; rows = new.rows; todo = x }) (sym todo))
+
+    unsettled : (x : Option Progress) → ((k : Progress) → x ≡ Some k → k.settled ≤ mid.round) → settled_in (mid.round + 1) x ≡ false
+    unsettled None low = refl
+    unsettled (Some k) low = later k.settled mid.round (low k refl)
+
+    keeps : IsKept arena next
+    keeps = record {
+      step = kept.step;
+      rows = kept.rows;
+      row_mains = kept.row_mains;
+      mains = kept.mains;
+      there = kept.there;
+      given = kept.given;
+      links = kept.links;
+      heap = kept.heap;
+      flat = kept.flat;
+      outcomes = kept.outcomes;
+      calls = kept.calls;
+      rounds = λ p k e. let l = kept.rounds p k e in rw round (omega arith);
+    }
+
+    stands_next : Stands arena next t.calls None (closed last last.links last.needed)
+    stands_next = record {
+      graph = refl;
+      out = stands.out;
+      last = stands.last;
+      links = stands.links;
+      root = stands.root;
+      needed = stands.needed;
+      height = stands.height;
+      heap = stands.heap;
+      settled = λ p. sym (ap (λ (k : ℕ). settled_in k (at mid.rows p)) round ∙ unsettled (at mid.rows p) (kept.rounds p));
+      stage = stands.stage;
+      owed = stands.owed;
+      todo = stands.todo;
+      strict = sym strict;
+      died = λ n. refl;
+      ran = sym (ap reverse ran);
+      calls = refl;
+      given = stands.given;
+    }
+
+    pub ready_again : IsReady F arena new
+    ready_again = subst (λ (w : Work). IsReady F arena w) is_next (record {
+      kept = keeps;
+      start = next_start begun.start last last.needed;
+      state = closed last last.links last.needed;
+      stands = stands_next;
+      entry = again;
+      todo = idle;
+      ran = ran;
+      numbered = rw round (omega arith);
+    })
+
+    up_next : AreRooted mid observed → IsUpToDate F arena old next observed mid.ran.items
+    up_next roots = let up = up_to_date roots in record {
+      rooted = up.rooted;
+      needs = up.needs;
+      sees = up.sees;
+      acyclic = up.acyclic;
+      shallow = up.shallow;
+      links = up.links;
+      recalls = up.recalls;
+      kept = up.kept;
+      once = up.once;
+      called = λ n a. let c = up.called n a in record {
+        row = c.row;
+        function = c.function;
+        nodes = c.nodes;
+        values = c.values;
+        is_row = c.is_row;
+        is_map = c.is_map;
+        gives = c.gives;
+        reason = c.reason;
+        is_last = c.is_last;
+        met = c.met;
+      };
+      work = up.work;
+    }
+
+    pub right_again : AreRooted mid observed → IsUpToDate F arena old new observed mid.ran.items
+    right_again roots = subst (λ (w : Work). IsUpToDate F arena old w observed mid.ran.items) is_next (up_next roots)

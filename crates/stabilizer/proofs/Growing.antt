@@ -1,0 +1,75 @@
+-- The worklist is no longer than newly needed points make it.
+use Rattle.std.proofs.Common.{◌≡◌, inl, inr, ◌<◌, ◌≤◌, Bool, true, false, not, List, [], ◌∷◌, None, Some, refl, sym, ◌∙◌, arith}
+use Rattle.std.specs.Prelude.{is_some}
+use Rattle.inc_value.specs.declared.node.Point.{Point}
+use Rattle.inc_value.specs.Choice.{Among}
+use Rattle.point_map.specs.Rows.{Place, at, row_in, same_point}
+use Rattle.point_map.proofs.Places.{same_point_eq}
+use Rattle.necessity.proofs.Counts.{split}
+use Rattle.necessary_graph.specs.Part.{NecessaryPart, Needed, IsInStep}
+use Rattle.stabilize_round.proofs.Counts.{no_more, fewer_than}
+use Rattle.stabilizer.specs.Deciding.{is_needed}
+use Rattle.stabilizer.specs.Growing.{PushesOne, unneeded, Grows}
+use Rattle.stabilizer.specs.declared.row.Progress.{Progress}
+use Rattle.stabilizer.specs.declared.work.Work.{Work}
+use Rattle.stabilizer.proofs.Deciding.{decides_needed}
+
+-- ---- who isn't needed
+
+not_true : (b : Bool) → (b ≡ true → ⊥) → not b ≡ true
+not_true true h = absurd (h refl)
+not_true false h = refl
+
+true_not : (b : Bool) → b ≡ true → not b ≡ false
+true_not b h = rw h refl
+
+not_fails : (b : Bool) → not b ≡ true → b ≡ true → ⊥
+not_fails true h t = let e = h in cc
+not_fails false h t = let e = t in cc
+
+module _ (g h : NecessaryPart) (g_step : IsInStep g) (h_step : IsInStep h) (more : (p : Point) → Needed g p → Needed h p) where
+  still_out : (p : Point) → not (is_needed h p) ≡ true → not (is_needed g p) ≡ true
+  still_out p out = not_true (is_needed g p) (λ t. not_fails (is_needed h p) out ((decides_needed h h_step p).1 (more p ((decides_needed g g_step p).0 t))))
+
+  pub no_more_unneeded : (points : List Point) → unneeded h points ≤ unneeded g points
+  unfolding unneeded
+  no_more_unneeded points = no_more (λ (p : Point). not (is_needed g p)) (λ (p : Point). not (is_needed h p)) still_out points
+
+  pub fewer_unneeded : (points : List Point) (q : Point) → Among q points → (Needed g q → ⊥) → Needed h q → unneeded h points < unneeded g points
+  unfolding unneeded
+  fewer_unneeded points q among fresh now = fewer_than (λ (p : Point). not (is_needed g p)) (λ (p : Point). not (is_needed h p)) still_out q points
+      (not_true (is_needed g q) (λ t. fresh ((decides_needed g g_step q).0 t))) (true_not (is_needed h q) ((decides_needed h h_step q).1 now)) among
+
+-- ---- the worklist
+
+-- a point that is pushed was newly needed
+pub grows_by_one : (old new : Work) → IsInStep old.graph → IsInStep new.graph → ((p : Point) → Needed old.graph p → Needed new.graph p)
+    → PushesOne old new → Grows old new
+grows_by_one old new before after more (inl same) points covers =
+    let fewer = no_more_unneeded old.graph new.graph before after more points in omega (arith, same, fewer)
+grows_by_one old new before after more (inr pushed) points covers =
+    let fewer = fewer_unneeded old.graph new.graph before after more points pushed.point (covers pushed.point pushed.rowed) pushed.fresh pushed.needed in
+    let longer = pushed.longer in
+    omega (arith, longer, fewer)
+
+-- one after the other
+pub grows_then : (old mid new : Work) → ((p : Point) → is_some (at mid.rows p) ≡ is_some (at old.rows p)) → Grows old mid → Grows mid new → Grows old new
+grows_then old mid new rows first next points covers =
+    let a = first points covers in
+    let b = next points (λ p h. covers p (sym (rows p) ∙ h)) in
+    omega (arith, a, b)
+
+-- ---- the points of rows
+
+abbrev pub points_of : List (Place Progress) → List Point
+points_of [] = []
+points_of (None ∷ rest) = points_of rest
+points_of (Some e ∷ rest) = e.0 ∷ points_of rest
+
+pub row_is_listed : (places : List (Place Progress)) (p : Point) → is_some (row_in places p) ≡ true → Among p (points_of places)
+row_is_listed [] p h = absurd (let e = h in cc)
+row_is_listed (None ∷ rest) p h = row_is_listed rest p h
+row_is_listed (Some e ∷ rest) p h = elim (split (same_point e.0 p)) [
+  | inl same ↦ inl (sym (same_point_eq e.0 p same))
+  | inr other ↦ inr (row_is_listed rest p (rw other at h))
+]

@@ -1,0 +1,167 @@
+-- A main is listed, computed and settled, or left as it was.
+use Rattle.std.proofs.Common.{◌≡◌, ◌≢◌, inl, inr, ℕ, List, Option, None, Some, sym, ap, subst, ◌∙◌, arith}
+use Rattle.std.specs.Prelude.{Contains, ◌↔◌, option_map}
+use Rattle.inc_value.specs.declared.function.FnRef.{FnRef}
+use Rattle.inc_value.specs.declared.node.NodeId.{NodeId}
+use Rattle.inc_value.specs.declared.node.Point.{Point}
+use Rattle.inc_value.specs.declared.outcome.Outcome.{Outcome}
+use Rattle.inc_value.specs.declared.value.Value.{Value}
+use Rattle.inc_terms.specs.Depend.{main}
+use Rattle.point_map.specs.Rows.{Rows, at, Holds, KeepsRows}
+use Rattle.link_table.specs.Links.{Reads}
+use Rattle.height_order.specs.Levels.{level}
+use Rattle.necessary_graph.specs.Part.{NecessaryPart, Needed, IsInStep}
+use Rattle.node_arena.specs.Arena.{Arena}
+use Rattle.stabilizer.specs.Computing.{IsComputed, Computes, KeepsRest, NotComputed}
+use Rattle.stabilizer.specs.Kept.{IsKept}
+use Rattle.stabilizer.specs.Row.{IsRewritten, with_last, with_outcome, settled_in}
+use Rattle.stabilizer.specs.Settling.{IsSettled, ran_then}
+use Rattle.stabilizer.specs.Stepping.{MainIsSettled}
+use Rattle.stabilizer.specs.Wiring.{KeepsGraph, KeepsRound, IsTold, Shows}
+use Rattle.stabilizer.specs.declared.row.Progress.{Progress}
+use Rattle.stabilizer.specs.declared.work.Work.{Work}
+use Rattle.stabilizer.proofs.Carrying.{kept_same, settled_kept}
+
+some_row : (a b : Progress) → ◌≡◌ {A = Option Progress} (Some a) (Some b) → a ≡ b
+some_row a b e = cc
+
+-- a point with a row is its node's main
+pub is_main : (arena : Arena) (work : Work) → IsKept arena work → (p : Point) → Holds work.rows p → p ≡ main p.node
+is_main arena work kept p h = λ i. record { node = p.node; part = (kept.row_mains p h) i }
+
+module _ (value : FnRef → List Value → Value) (arena : Arena) (old list mid new : Work) (p : Point) (o : Outcome) (before after : ℕ)
+    (kept : IsKept arena old) (row : Holds old.rows p) (gone : at old.graph.heap p ≡ None)
+    (rest : list ≡ record old { readers = list.readers })
+    (lists : (r : Point) → Contains list.readers.items r ↔ Reads old.graph.links r p)
+    (c : Computes value arena list mid p.node o before after)
+    (rewritten : IsRewritten mid.rows new.rows p (with_outcome o mid.round)) (graph : KeepsGraph mid.graph new.graph)
+    (tells : IsTold mid new p o) (round : KeepsRound mid new) (todo : new.todo ≡ mid.todo) where
+  abbrev n : NodeId
+  n = p.node
+
+  same : p ≡ main n
+  same = is_main arena old kept p row
+
+  taken : at old.graph.heap (main n) ≡ None
+  taken = subst (λ (x : Point). at old.graph.heap x ≡ None) same gone
+
+  listed : (r : Point) → Contains list.readers.items r ↔ Reads old.graph.links r (main n)
+  listed r = subst (λ (x : Point). Contains list.readers.items r ↔ Reads old.graph.links r x) same (lists r)
+
+  rows : IsRewritten mid.rows new.rows (main n) (with_outcome o mid.round)
+  rows = subst (λ (x : Point). IsRewritten mid.rows new.rows x (with_outcome o mid.round)) same rewritten
+
+  told : IsTold mid new (main n) o
+  told = subst (λ (x : Point). IsTold mid new x o) same tells
+
+  graph_is : mid.graph ≡ old.graph
+  graph_is = c.rest.graph ∙ ap (λ (w : Work). w.graph) rest
+
+  rows_are : list.rows ≡ old.rows
+  rows_are = ap (λ (w : Work). w.rows) rest
+
+  round_is : mid.round ≡ old.round
+  round_is = c.rest.round ∙ ap (λ (w : Work). w.round) rest
+
+  was : at old.rows (main n) ≡ Some c.computed.kept
+  was = ap (λ (m : Rows Progress). at m (main n)) (sym rows_are) ∙ c.computed.is_kept
+
+  between : at mid.rows (main n) ≡ Some (with_last c.last c.computed.kept)
+  between = c.row.changed ∙ ap (option_map (with_last c.last)) c.computed.is_kept
+
+  now : at new.rows (main n) ≡ Some (with_outcome o mid.round (with_last c.last c.computed.kept))
+  now = rows.changed ∙ ap (option_map (with_outcome o mid.round)) between
+
+  others : (p : Point) → p ≢ main n → at new.rows p ≡ at old.rows p
+  others p ne = rows.others p ne ∙ (c.row.others p ne ∙ ap (λ (m : Rows Progress). at m p) rows_are)
+
+  reads : (p : Point) → Contains mid.readers.items p → Reads old.graph.links p (main n)
+  reads p r = (listed p).0 (subst (λ (xs : List Point). Contains xs p) c.rest.readers r)
+
+  readers : (p : Point) → Reads old.graph.links p (main n) → Contains mid.readers.items p
+  readers p r = subst (λ (xs : List Point). Contains xs p) (sym c.rest.readers) ((listed p).1 r)
+
+  other : (p : Point) → Reads old.graph.links p (main n) → p ≢ main n
+  other p r = λ e. absurd (let l = kept.step.rises p (main n) r in
+      let h = ap (level old.graph.heights) e in omega (arith, l, h))
+
+  settled_as : (p : Point) → p ≢ main n → settled_in new.round (at new.rows p) ≡ settled_in old.round (at old.rows p)
+  settled_as p ne = ap (λ (m : ℕ). settled_in m (at new.rows p)) (round.round ∙ round_is) ∙ ap (settled_in old.round) (others p ne)
+
+  before_in : (p : Point) → Holds mid.graph.heap p → Holds old.graph.heap p
+  before_in p h = subst (λ (g : NecessaryPart). Holds g.heap p) graph_is h
+
+  is_settled : IsSettled old new n o c.last c.called
+  is_settled = record {
+    row = c.computed.kept;
+    was = was;
+    now = now ∙ ap (λ (m : ℕ). Some (record { stage = c.computed.kept.stage; settled = m; outcome = Some o; last = c.last })) round_is;
+    others = others;
+    graph = record {
+      links = graph.links ∙ ap (λ (g : NecessaryPart). g.links) graph_is;
+      roots = graph.roots ∙ ap (λ (g : NecessaryPart). g.roots) graph_is;
+      heights = graph.heights ∙ ap (λ (g : NecessaryPart). g.heights) graph_is;
+    };
+    kept = λ p ne h. told.kept p (subst (λ (g : NecessaryPart). Holds g.heap p) (sym graph_is) h);
+    out = λ h. elim (told.only (main n) h) [
+      | inl k ↦ absurd (let there = before_in (main n) k in let gone = taken in cc)
+      | inr k ↦ reads (main n) k.0
+    ];
+    told = λ ne p r. elim (told.told (λ s. ne (shows s)) p (readers p r)) [
+      | inl k ↦ inl k
+      | inr k ↦ inr (sym (settled_as p (other p r)) ∙ k)
+    ];
+    only = λ p ne h. elim (told.only p h) [
+      | inl k ↦ inl (before_in p k)
+      | inr k ↦ inr (reads p k.0, sym (settled_as p ne) ∙ k.1)
+    ];
+    ran = round.ran ∙ (c.ran ∙ ap (λ (w : Work). ran_then c.called w.ran.items n) rest);
+    todo = rw todo (c.rest.todo ∙ ap (λ (w : Work). w.todo.items) rest);
+    strict = round.strict ∙ (c.rest.strict ∙ ap (λ (w : Work). w.strict) rest);
+    round = round.round ∙ round_is;
+  }
+    where
+      shows : Shows mid (main n) o → c.computed.kept.outcome ≡ Some o
+      shows s = ap (λ (x : Progress). x.outcome) (some_row (with_last c.last c.computed.kept) s.0 (sym between ∙ s.1)) ∙ s.2
+
+  pub main_settled : MainIsSettled value arena old new n before after
+  main_settled = record {
+    outcome = o;
+    last = c.last;
+    called = c.called;
+    computed = subst (λ (m : Rows Progress). IsComputed value arena m n o c.last c.called) rows_are c.computed;
+    settled = is_settled;
+    count = c.count;
+  }
+
+  pub main_kept : IsInStep new.graph → IsKept arena new
+  main_kept step = settled_kept arena old new n o c.last c.called kept is_settled step c.typed c.answer_typed
+
+-- ---- what stays where a main is left
+
+pub left_kept : (arena : Arena) (old new : Work) → IsKept arena old → KeepsRows old.rows new.rows → new.graph ≡ old.graph → new.round ≡ old.round
+    → IsKept arena new
+left_kept arena old new kept rows graph round = kept_same arena old new kept rows
+    (record {
+      links = ap (λ (g : NecessaryPart). g.links) graph;
+      roots = ap (λ (g : NecessaryPart). g.roots) graph;
+      heights = ap (λ (g : NecessaryPart). g.heights) graph;
+    })
+    (subst IsInStep (sym graph) kept.step)
+    (λ p h. kept.heap p (subst (λ (g : NecessaryPart). Holds g.heap p) graph h)) round
+
+module _ (arena : Arena) (old list : Work) (kept : IsKept arena old) (rest : list ≡ record old { readers = list.readers }) where
+  graph_stays : list.graph ≡ old.graph
+  graph_stays = ap (λ (w : Work). w.graph) rest
+
+  pub list_kept : IsKept arena list
+  list_kept = left_kept arena old list kept (λ p. ap (λ (w : Work). at w.rows p) rest) graph_stays (ap (λ (w : Work). w.round) rest)
+
+  pub uncomputed_kept : (mid : Work) (n : NodeId) (before after : ℕ) → NotComputed arena list mid n before after → IsKept arena mid
+  uncomputed_kept mid n before after c = left_kept arena list mid list_kept c.rows c.rest.graph c.rest.round
+
+  -- the points that are listed are needed
+  pub listed_needed : (mid : Work) (p : Point) → ((r : Point) → Contains list.readers.items r ↔ Reads old.graph.links r p) → KeepsRest list mid
+      → (r : Point) → Contains mid.readers.items r → Needed mid.graph r
+  listed_needed mid p listed stays r among = subst (λ (g : NecessaryPart). Needed g r) (sym (stays.graph ∙ graph_stays))
+      (kept.step.readers r p ((listed r).0 (subst (λ (xs : List Point). Contains xs r) stays.readers among)))

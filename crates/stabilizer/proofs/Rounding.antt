@@ -1,0 +1,369 @@
+-- Roots are put on one by one, and steps are made one by one.
+use Rattle.std.proofs.Common.{◌≡◌, ◌≢◌, ◌⊎◌, inl, inr, ℕ, ◌<◌, ◌+◌, ◌++◌, zero, suc, Bool, true, false, cond}
+use Rattle.std.proofs.Common.{List, [], ◌∷◌, length, map, take, drop, get_or, Option, None, Some, refl, sym, ap, subst, ◌∙◌, arith}
+use Rattle.std.specs.Prelude.{Result, Ok, Err, OnErr, IfErr, is_some}
+use Rattle.std.specs.Result.{IsErrAnd}
+use Rattle.std.proofs.lemmas.List.{take_more, map-append, take-append-drop}
+use Rattle.inc_value.specs.declared.function.FnRef.{FnRef}
+use Rattle.inc_value.specs.declared.node.NodeId.{NodeId}
+use Rattle.inc_value.specs.declared.node.Point.{Point}
+use Rattle.inc_value.specs.declared.value.Value.{Value}
+use Rattle.inc_value.specs.Choice.{Among, here}
+use Rattle.inc_terms.specs.Depend.{main}
+use Rattle.inc_terms.specs.Graph.{Graph}
+use Rattle.inc_terms.specs.Term.{Functions}
+use Rattle.inc_terms.proofs.Plan.{among_left, among_map}
+use Rattle.point_map.specs.Rows.{Rows, Place, row_in, same_point, at}
+use Rattle.point_map.proofs.Places.{same_point_eq}
+use Rattle.recompute_heap.specs.Agree.{IsEmpty}
+use Rattle.necessity.specs.Need.{Roots, root_times, OneRootMore}
+use Rattle.node_arena.specs.Arena.{Arena}
+use Rattle.node_arena.specs.Graph.{graph_of}
+use Rattle.node_arena.specs.Meanings.{SameValues}
+use Rattle.stabilize_round.specs.Counts.{RoseBy, number_of}
+use Rattle.stabilize_round.specs.Invariant.{Invariant}
+use Rattle.stabilize_round.specs.Machine.{Move, Moves, Stops, as_it_is, unkept, called_more}
+use Rattle.stabilize_round.specs.State.{State, count}
+use Rattle.stabilize_round.proofs.Calls.{refused_calls}
+use Rattle.stabilize_round.proofs.Counts.{fewer_than}
+use Rattle.stabilize_round.proofs.Entry.{entry_holds}
+use Rattle.stabilize_round.proofs.Machine.{moves_keep}
+use Rattle.stabilize_round.proofs.Points.{same_or_other, one_same, one_other, count_append, count_among}
+use Rattle.stabilize_round.proofs.Steps.{joined, step_moves}
+use Rattle.stabilizer.specs.Kept.{IsKept}
+use Rattle.stabilizer.specs.Meaning.{functions_of}
+use Rattle.stabilizer.specs.Round.{IsReady, AreRooted, IsUpToDate, HasCalledFew, IsInRound, RootsMore, OnlyRoots, Settles, SettleRefused}
+use Rattle.stabilizer.specs.Row.{settled_in}
+use Rattle.stabilizer.specs.Stands.{Stands}
+use Rattle.stabilizer.specs.Stepping.{Steps, StepRefused, SettledOneMore, SettlesOne}
+use Rattle.stabilizer.specs.Wiring.{Wires, WireRefused}
+use Rattle.stabilizer.specs.declared.row.Progress.{Progress}
+use Rattle.stabilizer.specs.declared.work.Work.{Work}
+use Rattle.stabilizer.proofs.Beginning.{Begun, begun, same_meaning, there_as}
+use Rattle.stabilizer.proofs.Ending.{quiet_of, root_nodes, rooted_observed, all_observed, counted, ready_again, right_again}
+
+-- what holds anyhow holds on an error
+pub on_err : {A E P : Type 0} (r : Result A E) → P → OnErr r P
+on_err (Ok x) h = tt
+on_err (Err e) h = h
+
+-- ---- roots
+
+-- one root more at a point
+roots_one : (old new : Roots) (p : Point) → OneRootMore old new p → RootsMore old new (p ∷ [])
+roots_one old new p more a = elim (same_or_other a p) [
+  | inl e ↦
+      let r = more.raised in let s = one_same p in
+      subst (λ (x : Point). root_times new x ≡ root_times old x + count x (p ∷ [])) (sym e) (omega arith)
+  | inr ne ↦ let o = more.others a ne in let n = one_other a p ne in omega arith
+]
+
+roots_join : (old mid new : Roots) (ps qs : List Point) → RootsMore old mid ps → RootsMore mid new qs → RootsMore old new (ps ++ qs)
+roots_join old mid new ps qs first next a = let x = first a in let y = next a in let c = count_append a ps qs in omega arith
+
+zero_or_more : (n : ℕ) → (n ≡ 0) ⊎ (0 < n)
+zero_or_more zero = inl refl
+zero_or_more (suc n) = inr (omega arith)
+
+-- what is a root now was one, or is one of those that were put on
+pub roots_only : (old new : Roots) (points : List Point) → RootsMore old new points → OnlyRoots old new points
+roots_only old new points more p is = elim (zero_or_more (root_times old p)) [
+  | inl z ↦ inr (count_among p points (let m = more p in omega arith))
+  | inr h ↦ inl h
+]
+
+-- the roots that were put on so far are so, and what is newly needed has its links
+pub record ArePut (arena : Arena) (old now : Work) (nodes : List NodeId) : Type 0 where
+  pub kept : IsKept arena now
+  pub quiet : now.todo.items ≡ []
+  pub more : RootsMore old.graph.roots now.graph.roots (map main nodes)
+  pub wired : Wires arena old now None
+  pub round : now.round ≡ old.round
+
+pub none_put : (arena : Arena) (old : Work) → IsKept arena old → old.todo.items ≡ [] → ArePut arena old old []
+none_put arena old kept quiet = record {
+  kept = kept;
+  quiet = quiet;
+  more = λ p. omega arith;
+  wired = λ F z s calls inv st. (s, here, st);
+  round = refl;
+}
+
+wires_join : (arena : Arena) (old mid new : Work) → Wires arena old mid None → Wires arena mid new None → Wires arena old new None
+wires_join arena old mid new first next F z s calls inv st =
+    let m = first F z s calls inv st in
+    let k = next F z m.0 calls (moves_keep F z s m.0 m.1 inv) m.2 in
+    (k.0, joined (Move F z) s m.0 k.0 m.1 k.1, k.2)
+
+-- one more of them
+pub one_put : (arena : Arena) (old mid new : Work) (nodes : List NodeId) (i : ℕ) (d : NodeId) → i < length nodes → ArePut arena old mid (take i nodes)
+    → OneRootMore mid.graph.roots new.graph.roots (main (get_or nodes i d)) → Wires arena mid new None → new.todo.items ≡ [] → new.round ≡ mid.round
+    → IsKept arena new → ArePut arena old new (take (i + 1) nodes)
+one_put arena old mid new nodes i d within put more wired quiet round kept = record {
+  kept = kept;
+  quiet = quiet;
+  more = subst (λ (ps : List Point). RootsMore old.graph.roots new.graph.roots ps) (sym listed)
+      (roots_join old.graph.roots mid.graph.roots new.graph.roots (map main (take i nodes)) (main (get_or nodes i d) ∷ []) put.more
+      (roots_one mid.graph.roots new.graph.roots (main (get_or nodes i d)) more));
+  wired = wires_join arena old mid new put.wired wired;
+  round = round ∙ put.round;
+}
+  where
+    listed : map main (take (i + 1) nodes) ≡ map main (take i nodes) ++ main (get_or nodes i d) ∷ []
+    listed = ap (map main) (take_more nodes i d within) ∙ map-append main (take i nodes) (get_or nodes i d ∷ [])
+
+among_at : (nodes : List NodeId) (i : ℕ) (d : NodeId) → i < length nodes → Among (get_or nodes i d) nodes
+among_at [] i d within = absurd (omega arith)
+among_at (n ∷ ns) zero d within = inl refl
+among_at (n ∷ ns) (suc i) d within = inr (among_at ns i d (omega arith))
+
+among_take : (p : Point) (nodes : List NodeId) (i : ℕ) → Among p (map main (take i nodes)) → Among p (map main nodes)
+among_take p nodes i a = subst (λ (ns : List NodeId). Among p (map main ns)) (take-append-drop i nodes)
+    (subst (λ (ps : List Point). Among p ps) (sym (map-append main (take i nodes) (drop i nodes)))
+    (among_left p (map main (take i nodes)) (map main (drop i nodes)) a))
+
+-- where one more was tried
+pub roots_tried : (old mid new : Roots) (nodes : List NodeId) (i : ℕ) (d : NodeId) → i < length nodes → RootsMore old mid (map main (take i nodes))
+    → ((a : Point) → a ≢ main (get_or nodes i d) → root_times new a ≡ root_times mid a) → OnlyRoots old new (map main nodes)
+roots_tried old mid new nodes i d within more others p is = elim (same_or_other p (main (get_or nodes i d))) [
+  | inl e ↦ inr (subst (λ (x : Point). Among x (map main nodes)) (sym e) (among_map main (get_or nodes i d) nodes (among_at nodes i d within)))
+  | inr ne ↦ elim (roots_only old mid (map main (take i nodes)) more p (subst (λ (k : ℕ). 0 < k) (others p ne) is)) [
+    | inl h ↦ inl h
+    | inr a ↦ inr (among_take p nodes i a)
+  ]
+]
+
+-- where one was refused
+pub put_refused : (arena : Arena) (old mid new : Work) → Wires arena old mid None → WireRefused arena mid new None → WireRefused arena old new None
+put_refused arena old mid new first next F z s calls inv st =
+    let m = first F z s calls inv st in
+    let k = next F z m.0 calls (moves_keep F z s m.0 m.1 inv) m.2 in
+    (k.0, k.1, joined (Move F z) s m.0 k.0 m.1 k.2, k.3)
+
+-- ---- steps
+
+pub none_settled : (F : Functions) (arena : Arena) (work : Work) (calls : ℕ) → Settles F arena work work calls calls
+none_settled F arena work calls z s inv st = (s, here, st)
+
+pub settles_more : (F : Functions) (arena : Arena) (old mid new : Work) (before between after : ℕ) → Settles F arena old mid before between
+    → mid.todo.items ≡ [] → Steps F arena mid new between after → Settles F arena old new before after
+settles_more F arena old mid new before between after first idle next z s inv st =
+    let m = first z s inv st in
+    let k = next z m.0 (moves_keep F z s m.0 m.1 inv) (quiet_of arena mid between m.0 m.2 idle) m.2 in
+    (k.0, joined (Move F z) s m.0 k.0 m.1 (step_moves F z m.0 k.0 k.1), k.2)
+
+pub settle_stops : (F : Functions) (arena : Arena) (old mid new : Work) (before between after : ℕ) → Settles F arena old mid before between
+    → mid.todo.items ≡ [] → StepRefused arena mid new between after → SettleRefused F arena old before after
+settle_stops F arena old mid new before between after first idle next z s inv st =
+    let m = first z s inv st in
+    let quiet = quiet_of arena mid between m.0 m.2 idle in
+    let k = next m.0 quiet m.2 in
+    record {
+      state = m.0;
+      moves = m.1;
+      graph = m.2.graph;
+      quiet = quiet;
+      calls = elim k.1 [
+        | inl e ↦ inl (e ∙ sym m.2.calls)
+        | inr c ↦ inr (c.0, c.1, c.2, subst (λ (x : ℕ). RoseBy x 1 after) (sym m.2.calls) c.3)
+      ];
+    }
+
+-- ---- how many points are left to settle
+
+-- the points that stand at some places
+abbrev pub points_at : List (Place Progress) → List Point
+points_at [] = []
+points_at (None ∷ rest) = points_at rest
+points_at (Some e ∷ rest) = e.0 ∷ points_at rest
+
+-- the point isn't settled
+abbrev pub is_unsettled : ℕ → Rows Progress → Point → Bool
+is_unsettled round rows p = cond (settled_in round (at rows p)) false true
+
+-- how many of the points aren't settled
+abbrev pub unsettled_in : ℕ → Rows Progress → List Point → ℕ
+unsettled_in round rows points = number_of (is_unsettled round rows) points
+
+-- a point that has a row stands there
+row_listed : (places : List (Place Progress)) (p : Point) (k : Progress) → row_in places p ≡ Some k → Among p (points_at places)
+row_listed [] p k e = absurd (cc)
+row_listed (None ∷ rest) p k e = row_listed rest p k e
+row_listed (Some x ∷ rest) p k e = by_test (same_point x.0 p) refl (row_listed rest p k)
+  where
+    by_test : (b : Bool) → same_point x.0 p ≡ b → (row_in rest p ≡ Some k → Among p (points_at rest)) → Among p (points_at (Some x ∷ rest))
+    by_test true t later = inl (sym (same_point_eq x.0 p t))
+    by_test false t later = inr (later (rw t at e))
+
+is_less : (old new : Work) (more : SettledOneMore old new) (x : Point) → is_unsettled old.round new.rows x ≡ true → is_unsettled old.round old.rows x ≡ true
+is_less old new more x h = elim (same_or_other x more.point) [
+  | inl e ↦ subst (λ (y : Point). is_unsettled old.round old.rows y ≡ true) (sym e) (rw (more.unsettled) refl)
+  | inr ne ↦ subst (λ (r : Option Progress). cond (settled_in old.round r) false true ≡ true) (more.others x ne) h
+]
+
+-- a step leaves fewer of the points that had rows
+pub fewer_left : (first old new : Work) (round : ℕ) → old.round ≡ round → ((p : Point) → is_some (at old.rows p) ≡ is_some (at first.rows p))
+    → SettledOneMore old new
+    → unsettled_in round new.rows (points_at first.rows.places) < unsettled_in round old.rows (points_at first.rows.places)
+fewer_left first old new round is there more =
+    let k = there_as (at first.rows more.point) (at old.rows more.point) more.row (sym (there more.point)) more.row_before in
+    subst (λ (r : ℕ). unsettled_in r new.rows (points_at first.rows.places) < unsettled_in r old.rows (points_at first.rows.places)) is
+    (fewer_than (is_unsettled old.round old.rows) (is_unsettled old.round new.rows) (is_less old new more) more.point (points_at first.rows.places)
+    (rw (more.unsettled) refl) (rw (more.settled) refl) (row_listed first.rows.places more.point k.0 k.1))
+
+-- rows stay where they are
+there_still : (old new : Work) → SettledOneMore old new → (p : Point) → is_some (at new.rows p) ≡ is_some (at old.rows p)
+there_still old new more p = elim (same_or_other p more.point) [
+  | inl e ↦ subst (λ (x : Point). is_some (at new.rows x) ≡ is_some (at old.rows x)) (sym e)
+      (is_there (at new.rows more.point) more.settled ∙ sym (ap is_some more.row_before))
+  | inr ne ↦ ap is_some (more.others p ne)
+]
+  where
+    is_there : (x : Option Progress) → settled_in old.round x ≡ true → is_some x ≡ true
+    is_there None e = absurd (cc)
+    is_there (Some k) e = refl
+
+-- the steps so far settled points
+pub record AreSettled (F : Functions) (arena : Arena) (old now : Work) (before between : ℕ) : Type 0 where
+  pub kept : IsKept arena now
+  pub quiet : now.todo.items ≡ []
+  pub settled : Settles F arena old now before between
+  pub roots : now.graph.roots ≡ old.graph.roots
+  pub round : now.round ≡ old.round
+  pub there : (p : Point) → is_some (at now.rows p) ≡ is_some (at old.rows p)
+
+pub no_step : (F : Functions) (arena : Arena) (old : Work) (before : ℕ) → IsKept arena old → old.todo.items ≡ [] → AreSettled F arena old old before before
+no_step F arena old before kept quiet = record {
+  kept = kept;
+  quiet = quiet;
+  settled = none_settled F arena old before;
+  roots = refl;
+  round = refl;
+  there = λ p. refl;
+}
+
+-- one step more
+pub one_step : (F : Functions) (arena : Arena) (old mid new : Work) (before between after : ℕ) → AreSettled F arena old mid before between
+    → IsKept arena new → new.todo.items ≡ [] → Steps F arena mid new between after → new.graph.roots ≡ mid.graph.roots → new.round ≡ mid.round
+    → SettledOneMore mid new → AreSettled F arena old new before after
+one_step F arena old mid new before between after so kept quiet steps roots round more = record {
+  kept = kept;
+  quiet = quiet;
+  settled = settles_more F arena old mid new before between after so.settled so.quiet steps;
+  roots = roots ∙ so.roots;
+  round = round ∙ so.round;
+  there = λ p. there_still mid new more p ∙ so.there p;
+}
+
+-- a step of functions that mean the same, over the same arena
+module _ (v w : FnRef → List Value → Value) (same : SameValues v w) (arena a : Arena) (is : a ≡ arena) where
+  steps_as : (mid new : Work) (between after : ℕ) → Steps (functions_of w) a mid new between after → Steps (functions_of v) arena mid new between after
+  steps_as mid new between after steps =
+      subst (λ (x : Arena). Steps (functions_of v) x mid new between after) is
+      (subst (λ (u : FnRef → List Value → Value). Steps (functions_of u) a mid new between after) (same_meaning v w same) steps)
+
+  -- it settled one more point
+  pub one_more : (old mid new : Work) (before between : ℕ) → IsInRound (functions_of v) arena old before
+      → AreSettled (functions_of v) arena old mid before between → SettlesOne (functions_of w) a mid new between → SettledOneMore mid new
+  one_more old mid new before between round so settles =
+      let m = so.settled round.start round.state round.holds round.stands in
+      let one = subst (λ (x : Arena). SettlesOne (functions_of v) x mid new between) is
+      (subst (λ (u : FnRef → List Value → Value). SettlesOne (functions_of u) a mid new between) (same_meaning v w same) settles) in
+      one round.start m.0 (moves_keep (functions_of v) round.start round.state m.0 m.1 round.holds) m.2
+
+  pub next_step : (b : Arena) (old mid new : Work) (before between after : ℕ) → IsInRound (functions_of v) arena old before
+      → AreSettled (functions_of v) arena old mid before between → b ≡ a
+      → IsKept b new → new.todo.items ≡ [] → Steps (functions_of w) a mid new between after → new.graph.roots ≡ mid.graph.roots → new.round ≡ mid.round
+      → SettlesOne (functions_of w) a mid new between → AreSettled (functions_of v) arena old new before after
+  next_step b old mid new before between after begins so e kept quiet steps roots round settles =
+      one_step (functions_of v) arena old mid new before between after so (subst (λ (x : Arena). IsKept x new) (e ∙ is) kept) quiet
+      (steps_as mid new between after steps) roots round (one_more old mid new before between begins so settles)
+
+  pub step_stops : (old mid new : Work) (before between after : ℕ) → AreSettled (functions_of v) arena old mid before between
+      → StepRefused a mid new between after → SettleRefused (functions_of v) arena old before after
+  step_stops old mid new before between after so refused =
+      settle_stops (functions_of v) arena old mid new before between after so.settled so.quiet
+      (subst (λ (x : Arena). StepRefused x mid new between after) is refused)
+
+-- ---- a whole round
+
+-- what holds of any error holds of this one
+pub exit_is : {A E : Type 0} (r : Result A E) (e : E) (P : E → Type 0) → IsErrAnd r (λ x. x ≡ e) → P e → IfErr r P
+exit_is (Ok x) e P is h = absurd is
+exit_is (Err x) e P is h = rw is h
+
+module _ (F : Functions) (arena : Arena) (old rooted : Work) (before : ℕ) (ready : IsReady F arena old) (wired : Wires arena old rooted None) where
+  abbrev first : Begun F arena old before
+  first = begun F arena old ready before
+
+  inv : Invariant F first.start first.state
+  inv = entry_holds F first.start first.state first.entry
+
+  pub in_round : IsInRound F arena rooted before
+  in_round =
+      let w = wired F first.start first.state before inv first.stands in
+      record { start = first.start; state = w.0; holds = moves_keep F first.start first.state w.0 w.1 inv; stands = w.2 }
+
+  -- a refused round called each of some maps once at most
+  module _ (after : ℕ) (stopped : SettleRefused F arena rooted before after) where
+    few_of : (t u : State) → Moves F first.start first.state t → Stops F first.start t u → u.graph ≡ graph_of arena → u.calls ≡ after
+        → HasCalledFew arena before after
+    few_of t u moves stops graph calls =
+        let k = refused_calls F first.start first.state t u first.entry moves stops in
+        record {
+          nodes = k.0;
+          once = k.1;
+          maps = λ n a. let m = k.3 n a in record {
+            row = m.0;
+            function = m.1;
+            nodes = m.2;
+            is_row = subst (λ (G : Graph). G.row n ≡ Some m.0) graph m.3;
+            is_map = m.4;
+          };
+          count = subst (λ (x : ℕ). RoseBy before (length k.0) x) calls (subst (λ (x : ℕ). RoseBy x (length k.0) u.calls) first.calls k.2);
+        }
+
+    pub few_called : HasCalledFew arena before after
+    few_called =
+        let w = wired F first.start first.state before inv first.stands in
+        let k = stopped first.start w.0 (moves_keep F first.start first.state w.0 w.1 inv) w.2 in
+        let run = joined (Move F first.start) first.state w.0 k.state w.1 k.moves in
+        elim k.calls [
+          | inl e ↦ few_of k.state k.state run (as_it_is refl) k.graph (sym e)
+          | inr c ↦ few_of k.state (called_more k.state after) run
+              (unkept k.quiet c.1 (subst (λ (G : Graph). G.row c.0 ≡ Some c.2.row) (sym k.graph) c.2.is_row) c.2.is_map c.3 refl) k.graph refl
+        ]
+
+  -- a round that ended
+  module _ (settled : Work) (after : ℕ) (steps : Settles F arena rooted settled before after) (kept : IsKept arena settled)
+      (idle : settled.todo.items ≡ []) (empty : IsEmpty settled.graph.heap) where
+    last : (t : State) × Moves F first.start first.state t × Stands arena settled after None t
+    last =
+        let w = wired F first.start first.state before inv first.stands in
+        let k = steps first.start w.0 (moves_keep F first.start first.state w.0 w.1 inv) w.2 in
+        (k.0, joined (Move F first.start) first.state w.0 k.0 w.1 k.1, k.2)
+
+    pub round_counts : RoseBy before (length settled.ran.items) after
+    round_counts = counted F arena old settled before after ready.kept first kept last.0 last.1 last.2 idle empty
+        (root_nodes settled.graph.roots settled.graph.roots.counts) (all_observed arena settled kept)
+
+    module _ (new : Work) (graph : new.graph ≡ settled.graph) (rows : new.rows ≡ settled.rows) (todo : new.todo ≡ settled.todo) (ran : new.ran.items ≡ [])
+        (strict : new.strict ≡ false) (round : new.round ≡ settled.round + 1) where
+      pub round_readies : IsReady F arena new
+      round_readies = ready_again F arena old settled before after ready.kept first kept last.0 last.1 last.2 idle empty
+          (root_nodes settled.graph.roots settled.graph.roots.counts) (all_observed arena settled kept) new graph rows todo ran strict round
+
+      module _ (nodes observed : List NodeId) (roots : settled.graph.roots ≡ rooted.graph.roots)
+          (more : RootsMore old.graph.roots rooted.graph.roots (map main nodes)) (looks : AreRooted old observed) where
+        all_rooted : AreRooted settled (nodes ++ observed)
+        all_rooted p =
+            let a = ap (λ (r : Roots). root_times r p) roots in
+            let b = more p in
+            let d = looks p in
+            let e = ap (count p) (map-append main nodes observed) in
+            let f = count_append p (map main nodes) (map main observed) in
+            omega arith
+
+        pub round_rights : IsUpToDate F arena old new (nodes ++ observed) settled.ran.items
+        round_rights = right_again F arena old settled before after ready.kept first kept last.0 last.1 last.2 idle empty (nodes ++ observed)
+            (rooted_observed settled (nodes ++ observed) all_rooted) new graph rows todo ran strict round all_rooted

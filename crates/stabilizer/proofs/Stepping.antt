@@ -1,0 +1,234 @@
+-- A step of the stabilizer is a step of the machine.
+use Rattle.std.proofs.Common.{◌≡◌, ◌≢◌, ◌⊎◌, inl, inr, ℕ, zero, suc, ◌<◌, ◌≤◌, Bool, true, List, Option, None, Some, refl, sym, ap, subst, ◌∙◌, arith}
+use Rattle.std.specs.Prelude.{is_some, reverse}
+use Rattle.inc_value.specs.declared.function.FnRef.{FnRef}
+use Rattle.inc_value.specs.declared.node.NodeId.{NodeId}
+use Rattle.inc_value.specs.declared.node.Point.{Point}
+use Rattle.inc_value.specs.declared.outcome.Outcome.{Outcome}
+use Rattle.inc_value.specs.declared.value.Value.{Value}
+use Rattle.inc_value.specs.Choice.{here, Among}
+use Rattle.inc_terms.specs.Depend.{main}
+use Rattle.inc_terms.specs.Term.{Functions}
+use Rattle.point_map.specs.Rows.{Rows, at, Holds, Changes}
+use Rattle.point_map.proofs.Places.{point_cases}
+use Rattle.link_table.specs.Links.{Links, times, Reads}
+use Rattle.recompute_heap.specs.Agree.{IsLeast as IsLowest}
+use Rattle.height_order.specs.Levels.{level, or_zero, KeepsPoints}
+use Rattle.necessity.specs.Need.{Roots, root_times}
+use Rattle.necessary_graph.specs.Part.{NecessaryPart, Needed}
+use Rattle.node_arena.specs.Arena.{Arena}
+use Rattle.stabilize_round.specs.Counts.{RoseBy}
+use Rattle.stabilize_round.specs.Moves.{IsLeast, StepMain, computed, calls_of}
+use Rattle.stabilize_round.specs.Machine.{step_main}
+use Rattle.stabilize_round.specs.State.{State, Call}
+use Rattle.stabilize_round.specs.Steps.{Step, plainly}
+use Rattle.stabilize_round.proofs.Parts.{bool_cases}
+use Rattle.stabilizer.specs.Kept.{IsKept}
+use Rattle.stabilizer.specs.Meaning.{functions_of}
+use Rattle.stabilizer.specs.Row.{settled_in}
+use Rattle.stabilizer.specs.Settling.{IsSettled}
+use Rattle.stabilizer.specs.Stands.{Stands}
+use Rattle.stabilizer.specs.Stepping.{MainIsSettled, MainIsLeft, Steps, StepRefused, SettlesOne}
+use Rattle.stabilizer.specs.Wiring.{KeepsGraph}
+use Rattle.stabilizer.specs.declared.work.Work.{Work}
+use Rattle.stabilizer.proofs.Carrying.{needed_now, needed_before, heap_graph, back_kept}
+use Rattle.stabilizer.proofs.Settling.{same_number, settled_stands, settled_enqueues}
+use Rattle.stabilizer.proofs.Mains.{is_main}
+use Rattle.stabilizer.proofs.Sight.{row_is, own_sees, keeps_answers, kids_known, calls_are}
+
+zero_or_more : (n : ℕ) → (n ≡ 0) ⊎ (0 < n)
+zero_or_more zero = inl refl
+zero_or_more (suc n) = inr (omega arith)
+
+-- a main that was settled after it left the heap was settled
+module _ (old new : Work) (g : NecessaryPart) (p : Point) (n : NodeId) (o : Outcome) (last : Option Call) (called : Bool)
+    (same : p ≡ main n) (graph : KeepsGraph old.graph g) (c : Changes old.graph.heap g.heap p None)
+    (w : IsSettled (record old { graph = g }) new n o last called) where
+  heap_as : (a : Point) → a ≢ main n → at g.heap a ≡ at old.graph.heap a
+  heap_as a ne = c.others a (λ e. ne (e ∙ same))
+
+  pub settled_before : IsSettled old new n o last called
+  settled_before = record {
+    row = w.row;
+    was = w.was;
+    now = w.now;
+    others = w.others;
+    graph = record { links = w.graph.links ∙ graph.links; roots = w.graph.roots ∙ graph.roots; heights = w.graph.heights ∙ graph.heights };
+    kept = λ a ne h. w.kept a ne (ap is_some (heap_as a ne) ∙ h);
+    out = λ h. subst (λ (l : Links). Reads l (main n) (main n)) graph.links (w.out h);
+    told = λ ne a r. w.told ne a (subst (λ (l : Links). Reads l a (main n)) (sym graph.links) r);
+    only = λ a ne h. elim (w.only a ne h) [
+      | inl k ↦ inl (sym (ap is_some (heap_as a ne)) ∙ k)
+      | inr k ↦ inr (subst (λ (l : Links). Reads l a (main n)) graph.links k.0, k.1)
+    ];
+    ran = w.ran;
+    todo = w.todo;
+    strict = w.strict;
+    round = w.round;
+  }
+
+-- what is lowest in the heap is least
+module _ (s : State) (arena : Arena) (old : Work) (calls : ℕ) (kept : IsKept arena old) (st : Stands arena old calls None s) (p : Point)
+    (was : Holds old.graph.heap p) (low : IsLowest old.graph.heap (level old.graph.heights p)) where
+  above : (q : Point) (x : Option ℕ) → at old.graph.heap q ≡ x → is_some x ≡ true → level old.graph.heights p ≤ level old.graph.heights q
+  above q None e h = absurd (cc)
+  above q (Some k) e h = subst (λ (m : ℕ). level old.graph.heights p ≤ m) (sym (ap or_zero (kept.step.heap q k e).0)) (low q k e)
+
+  pub is_least : IsLeast s p
+  is_least = record {
+    heap = st.heap p ∙ was;
+    least = λ q h. let l = above q (at old.graph.heap q) refl (sym (st.heap q) ∙ h) in let a = st.height p in let b = st.height q in omega arith;
+  }
+
+module _ (value : FnRef → List Value → Value) (arena : Arena) (old new : Work) (g : NecessaryPart) (p : Point) (before after : ℕ)
+    (kept : IsKept arena old) (was : Holds old.graph.heap p) (low : IsLowest old.graph.heap (level old.graph.heights p))
+    (rest : g ≡ record old.graph { heap = g.heap }) (c : Changes old.graph.heap g.heap p None)
+    (m : MainIsSettled value arena (record old { graph = g }) new p.node before after) where
+  abbrev n : NodeId
+  n = p.node
+
+  abbrev F : Functions
+  F = functions_of value
+
+  same : p ≡ main n
+  same = is_main arena old kept p (kept.heap p was)
+
+  w : IsSettled old new n m.outcome m.last m.called
+  w = settled_before old new g p n m.outcome m.last m.called same (heap_graph arena old g rest) c m.settled
+
+  pub steps : Steps F arena old new before after
+  steps z s inv quiet st = (
+    t,
+    made,
+    settled_stands s arena old new before after n m.outcome m.last m.called st w
+        (λ a. (needed_before old.graph new.graph w.graph a, needed_now old.graph new.graph w.graph a)),
+  )
+    where
+      least : IsLeast s (main n)
+      least = subst (IsLeast s) same (is_least s arena old before kept st p was low)
+
+      no_loop : s.links (main n) (main n) ≡ 0
+      no_loop = elim (zero_or_more (s.links (main n) (main n))) [
+        | inl e ↦ e
+        | inr l ↦ absurd (let r = kept.step.rises (main n) (main n) (subst (λ (k : ℕ). 0 < k) (st.links (main n) (main n)) l) in omega arith)
+      ]
+
+      main_step : StepMain F s n m.outcome (λ (a : Point). is_some (at new.graph.heap a)) m.last m.called after
+      main_step = record {
+        row = m.computed.row;
+        is_row = row_is s arena old before kept st n ∙ m.computed.is_row;
+        taken = least;
+        own = own_sees s arena old before kept st F n m.computed.row m.computed.is_row
+            ∙ m.computed.own (keeps_answers s arena old before kept st value z inv)
+            (kids_known s arena old before kept st F z inv quiet n least m.computed.row m.computed.is_row);
+        calls = calls_are s arena old before kept st value n m.computed.row.def m.computed.kept m.last m.called m.computed.is_kept m.computed.calls;
+        count = subst (λ (k : ℕ). RoseBy k (calls_of m.called) after) (sym st.calls) m.count;
+        heap = settled_enqueues s arena old new before after n m.outcome m.last m.called st w
+            (λ a. (needed_before old.graph new.graph w.graph a, needed_now old.graph new.graph w.graph a)) no_loop;
+      }
+
+      t : State
+      t = computed s n m.outcome (λ (a : Point). is_some (at new.graph.heap a)) m.last m.called after
+
+      made : Step F z s t
+      made = record {
+        point = main n;
+        begins = quiet;
+        least = least;
+        ready = s;
+        prepared = here;
+        next = t;
+        settles = step_main quiet main_step refl;
+        it = refl;
+        wired = plainly here;
+        ends = quiet;
+        again = λ e. refl;
+        attaches = λ b e. absurd (let parts = ap (λ (x : Point). x.part) e in cc);
+      }
+
+  -- what is taken wasn't settled before
+  pub settles_one : SettlesOne F arena old new before
+  settles_one z s inv st = record {
+    point = main n;
+    row = w.row;
+    row_before = w.was;
+    unsettled = sym (st.settled (main n)) ∙ elim (bool_cases (s.settled (main n))) [
+      | inl e ↦ absurd (let twice = inv.settled.twice (main n) e (subst (λ (x : Point). s.heap x ≡ true) same (st.heap p ∙ was)) in cc)
+      | inr e ↦ e
+    ];
+    settled = ap (settled_in old.round) w.now ∙ same_number old.round;
+    others = w.others;
+  }
+
+-- ---- a step that is refused
+
+module _ (arena : Arena) (old mid : Work) (g g' : NecessaryPart) (p : Point) (before after : ℕ)
+    (kept : IsKept arena old) (was : Holds old.graph.heap p) (rest : g ≡ record old.graph { heap = g.heap }) (c : Changes old.graph.heap g.heap p None)
+    (left : MainIsLeft arena (record old { graph = g }) mid p.node before after)
+    (rest' : g' ≡ record mid.graph { heap = g'.heap }) (put : Changes mid.graph.heap g'.heap p (at mid.graph.heights p)) where
+  abbrev back : Work
+  back = record mid { graph = g' }
+
+  same_graph : KeepsGraph old.graph g'
+  same_graph =
+      let first = heap_graph arena old g rest in
+      let last = heap_graph arena mid g' rest' in record {
+        links = last.links ∙ (ap (λ (x : NecessaryPart). x.links) left.graph ∙ first.links);
+        roots = last.roots ∙ (ap (λ (x : NecessaryPart). x.roots) left.graph ∙ first.roots);
+        heights = last.heights ∙ (ap (λ (x : NecessaryPart). x.heights) left.graph ∙ first.heights);
+      }
+
+  height_as : at mid.graph.heights p ≡ at old.graph.heights p
+  height_as = ap (λ (x : NecessaryPart). at x.heights p) left.graph ∙ ap (λ (x : NecessaryPart). at x.heights p) rest
+
+  in_heap : (x : Option ℕ) → at old.graph.heap p ≡ x → is_some x ≡ true → at old.graph.heights p ≡ x
+  in_heap None e h = absurd (cc)
+  in_heap (Some k) e h = (kept.step.heap p k e).0
+
+  heap_stays : KeepsPoints old.graph.heap g'.heap
+  heap_stays a = elim (point_cases a p) [
+    | inl e ↦ subst (λ (x : Point). is_some (at g'.heap x) ≡ is_some (at old.graph.heap x)) (sym e)
+        (ap is_some (put.changed ∙ (height_as ∙ in_heap (at old.graph.heap p) refl was)))
+    | inr ne ↦ ap is_some (put.others a ne ∙ (ap (λ (x : NecessaryPart). at x.heap a) left.graph ∙ c.others a ne))
+  ]
+
+  -- the state can't tell
+  pub refused_stands : (s : State) → Stands arena old before None s → Stands arena back before None s
+  refused_stands s st = record {
+    graph = st.graph;
+    out = λ a k e. st.out a k (sym (left.rows a) ∙ e);
+    last = λ m k e. st.last m k (sym (left.rows (main m)) ∙ e);
+    links = λ a b. st.links a b ∙ ap (λ (l : Links). times l a b) (sym same_graph.links);
+    root = λ a. st.root a ∙ ap (λ (r : Roots). root_times r a) (sym same_graph.roots);
+    needed = λ a. (λ t. needed_now old.graph g' same_graph a ((st.needed a).0 t), λ h. (st.needed a).1 (needed_before old.graph g' same_graph a h));
+    height = λ a. st.height a ∙ ap (λ (h : Rows ℕ). level h a) (sym same_graph.heights);
+    heap = λ a. st.heap a ∙ sym (heap_stays a);
+    settled = λ a. st.settled a ∙ (ap (settled_in old.round) (sym (left.rows a)) ∙ ap (λ (k : ℕ). settled_in k (at mid.rows a)) (sym left.round));
+    stage = λ a k e. st.stage a k (sym (left.rows a) ∙ e);
+    owed = st.owed;
+    todo = λ a t. subst (λ (xs : List Point). Among a xs ⊎ ⊥) (sym left.todo) (st.todo a t);
+    strict = st.strict ∙ sym left.strict;
+    died = st.died;
+    ran = st.ran ∙ ap reverse (sym left.ran);
+    calls = st.calls;
+    given = st.given;
+  }
+
+  pub step_refused : IsLowest old.graph.heap (level old.graph.heights p) → StepRefused arena old back before after
+  step_refused low s quiet st = (
+    refused_stands s st,
+    elim left.count [
+      | inl e ↦ inl e
+      | inr k ↦ inr (p.node, subst (IsLeast s) (is_main arena old kept p (kept.heap p was)) (is_least s arena old before kept st p was low), k.1, k.0)
+    ],
+  )
+
+  need_then : (x : Option ℕ) → at old.graph.heap p ≡ x → is_some x ≡ true → Needed old.graph p
+  need_then None e h = absurd (cc)
+  need_then (Some k) e h = (kept.step.heap p k e).1
+
+  pub refused_kept : IsKept arena mid → IsKept arena back
+  refused_kept mid_kept = back_kept arena mid g' rest' p mid_kept
+      (subst (λ (x : NecessaryPart). Needed x p) (sym left.graph)
+      (needed_now old.graph g (heap_graph arena old g rest) p (need_then (at old.graph.heap p) refl was)))
+      (ap is_some (left.rows p) ∙ kept.heap p was) put

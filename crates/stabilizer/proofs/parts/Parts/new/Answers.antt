@@ -1,0 +1,7 @@
+use Rattle.stabilizer.proofs.Empty.{empty_ready}
+use Rattle.stabilizer.proofs.parts.Parts.new.Goals as goal
+
+pub returns-clause-ready : goal.returns-clause-ready
+returns-clause-ready c F =
+    let w = c.in_ok-work.ensures in
+    empty_ready c.new-2.result c.in_ok-work.work c.stands.ensures c.new-2.ensures.empty w.rows w.heights w.links w.heap w.todo w.ran w.strict w.round F

@@ -1,0 +1,42 @@
+use Rattle.std.proofs.Common.{refl, subst}
+use Rattle.inc_value.specs.declared.node.Point.{Point}
+use Rattle.inc_terms.specs.Depend.{main}
+use Rattle.inc_terms.specs.Within.{Given, ValueWithin}
+use Rattle.node_arena.specs.Arena.{IsVariable}
+use Rattle.stabilizer.specs.Between.{IsMarked, Stays}
+use Rattle.stabilizer.specs.Kept.{IsKept}
+use Rattle.stabilizer.specs.Wiring.{KeepsRound}
+use Rattle.stabilizer.specs.declared.work.Work.{Work}
+use Rattle.stabilizer.proofs.Between.{ready_stays}
+use Rattle.stabilizer.proofs.Setting.{set_kept, set_stays}
+use Rattle.stabilizer.proofs.parts.Parts.set_var.Goals as goal
+
+module _ (c : goal.After-mark) where
+  abbrev work : Work
+  work = record c.args.self.now.work { graph = c.mark.new.graph }
+
+  marked : IsMarked c.args.self.now.work.graph c.mark.new.graph (main c.args.id)
+  marked = subst (λ (p : Point). IsMarked c.args.self.now.work.graph c.mark.new.graph p) c.main_point.ensures c.mark.ensures.marked
+
+  not_other : (IsVariable c.args.self.now.arena c.args.id → ⊥) → ⊥
+  not_other isnt = absurd (
+      let named : (Given c.args.self.now.arena.given c.args.id × ValueWithin (Given c.args.self.now.arena.given) c.args.value) → ⊥ =
+      λ given. absurd (let e = c.in_ok-set_var.ensures.not_var.1 (given.0, given.1, isnt) in cc) in
+      let e = c.in_ok-set_var.ensures.unknown.1 named in cc)
+
+  round : KeepsRound c.args.self.now.work work
+  round = record { ran = refl; strict = refl; round = refl }
+
+  kept : IsKept c.set_var.new.self work
+  kept = set_kept c.args.self.now.arena c.set_var.new.self c.args.self.now.work work c.args.id c.args.value c.requires.kept c.in_ok-set_var.ensures.set
+      not_other c.in_ok-set_var.ensures.given refl marked c.mark.ensures.step round refl
+
+  stays : Stays c.args.self.now.arena c.set_var.new.self c.args.self.now.work work
+  stays = set_stays c.args.self.now.arena c.set_var.new.self c.args.self.now.work work c.args.id c.args.value c.requires.kept c.in_ok-set_var.ensures.set
+      not_other c.in_ok-set_var.ensures.given refl marked c.mark.ensures.step round refl
+
+pub returns-clause-kept : goal.returns-clause-kept
+returns-clause-kept c = kept c
+
+pub returns-clause-ready : goal.returns-clause-ready
+returns-clause-ready c F ready = ready_stays F _ _ _ _ ready (kept c) (stays c)

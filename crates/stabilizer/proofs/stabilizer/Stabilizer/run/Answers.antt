@@ -1,0 +1,87 @@
+use Rattle.std.proofs.Common.{◌≡◌, ◌+◌, ◌++◌, ℕ, List, Option, Some, sym, ap, subst, ◌∙◌}
+use Rattle.std.specs.Option.{SomeIff}
+use Rattle.std.specs.Result.{IsErrAnd}
+use Rattle.inc_value.specs.declared.node.NodeId.{NodeId}
+use Rattle.node_arena.specs.Arena.{Arena}
+use Rattle.stabilize_round.specs.Counts.{RoseBy}
+use Rattle.stabilizer.specs.Kept.{IsKept}
+use Rattle.stabilizer.specs.Meaning.{functions_of}
+use Rattle.stabilizer.specs.Round.{IsReady, IsUpToDate, AreRooted, IsLawful}
+use Rattle.stabilizer.proofs.Beginning.{same_meaning}
+use Rattle.stabilizer.proofs.Lawful.{round_lawful}
+use Rattle.stabilizer.proofs.Rounding.{on_err, exit_is, in_round, few_called, round_counts, round_readies, round_rights}
+use Rattle.stabilizer.proofs.stabilizer.Stabilizer.run.Goals as goal
+
+pub returns-in_err-put_roots-clause-lawful : goal.returns-in_err-put_roots-clause-lawful
+returns-in_err-put_roots-clause-lawful g c =
+    let F = functions_of (g.F.Functions.value c.args.functions.now) in
+    let arena = c.args.parts.now.arena in
+    let old = c.args.parts.now.work in
+    let e = c.in_err-put_roots.field-0.0 in
+    let is : IsErrAnd c.from_residual-in_err-put_roots.result (λ x. x ≡ e) = c.from_residual-in_err-put_roots.ensures.1 in
+    exit_is c.from_residual-in_err-put_roots.result e
+    (λ x. (observed : List NodeId) → AreRooted old observed → IsLawful F arena old (c.args.roots.now ++ observed) x) is
+    (λ observed looks. round_lawful F arena old c.put_roots.new.work (g.F.Functions.calls c.args.functions.now) c.requires.ready
+    c.in_err-put_roots.ensures.refused c.args.roots.now observed c.put_roots.ensures.roots looks e c.in_err-put_roots.ensures.told)
+
+pub settle_all-requires-clause-in_round : goal.settle_all-requires-clause-in_round
+settle_all-requires-clause-in_round g c =
+    in_round (functions_of (g.F.Functions.value c.args.functions.now)) c.args.parts.now.arena c.args.parts.now.work c.put_roots.new.work
+    (g.F.Functions.calls c.args.functions.now) c.requires.ready c.in_ok-put_roots.ensures.wired
+
+pub returns-in_err-settle_all-clause-few : goal.returns-in_err-settle_all-clause-few
+returns-in_err-settle_all-clause-few g c =
+    on_err c.from_residual-in_err-settle_all.result
+    (few_called (functions_of (g.F.Functions.value c.args.functions.now)) c.args.parts.now.arena c.args.parts.now.work c.put_roots.new.work
+    (g.F.Functions.calls c.args.functions.now) c.requires.ready c.in_ok-put_roots.ensures.wired
+    (g.F.Functions.calls c.settle_all.new.functions) c.in_err-settle_all.ensures.refused)
+
+pub returns-clause-calls : goal.returns-clause-calls
+returns-clause-calls g c =
+    let before = g.F.Functions.calls c.args.functions.now in
+    let after = g.F.Functions.calls c.settle_all.new.functions in
+    let settled = c.settle_all.new.parts.work in
+    subst (λ v. RoseBy before v.len after) (sym c.swap.ensures.x_after) (subst (λ (k : ℕ). RoseBy before k after) (sym settled.ran.ok.0)
+    (round_counts (functions_of (g.F.Functions.value c.args.functions.now)) c.args.parts.now.arena c.args.parts.now.work c.put_roots.new.work before
+    c.requires.ready c.in_ok-put_roots.ensures.wired settled after c.in_ok-settle_all.ensures.settled
+    (subst (λ (a : Arena). IsKept a settled) c.settle_all.ensures.arena c.settle_all.ensures.kept) c.settle_all.ensures.quiet
+    c.in_ok-settle_all.ensures.empty))
+
+next_is : (result : Option ℕ) (P : Type 0) (v next : ℕ) → SomeIff result P v → result ≡ Some next → next ≡ v
+next_is result P v next h e = (subst (λ (r : Option ℕ). SomeIff r P v) e h).1
+
+pub returns-clause-right : goal.returns-clause-right
+returns-clause-right g c =
+    let F = functions_of (g.F.Functions.value c.args.functions.now) in
+    let arena = c.args.parts.now.arena in
+    let old = c.args.parts.now.work in
+    let new = c.end_round.new.self in
+    let settled = c.settle_all.new.parts.work in
+    let kept : IsKept arena settled = subst (λ (a : Arena). IsKept a settled) c.settle_all.ensures.arena c.settle_all.ensures.kept in
+    let round : new.round ≡ settled.round + 1 =
+    c.end_round.ensures.round ∙ (next_is c.checked_add.result _ (old.round + 1) c.in_ok-next.next c.checked_add.ensures c.in_ok-next.ensures.ok_part
+    ∙ ap (λ (k : ℕ). k + 1) (sym (c.settle_all.ensures.round ∙ c.put_roots.ensures.round))) in
+    λ observed looks.
+    subst (λ v. IsUpToDate F arena old new (c.args.roots.now ++ observed) v.items) (sym c.swap.ensures.x_after)
+    (round_rights F arena old c.put_roots.new.work (g.F.Functions.calls c.args.functions.now) c.requires.ready c.in_ok-put_roots.ensures.wired settled
+    (g.F.Functions.calls c.settle_all.new.functions) c.in_ok-settle_all.ensures.settled kept c.settle_all.ensures.quiet c.in_ok-settle_all.ensures.empty
+    new c.end_round.ensures.graph c.end_round.ensures.rows c.end_round.ensures.todo c.end_round.ensures.ran c.end_round.ensures.strict round
+    c.args.roots.now observed c.settle_all.ensures.roots c.in_ok-put_roots.ensures.rooted looks)
+
+pub returns-clause-ready : goal.returns-clause-ready
+returns-clause-ready g c =
+    let F = functions_of (g.F.Functions.value c.args.functions.now) in
+    let arena = c.args.parts.now.arena in
+    let old = c.args.parts.now.work in
+    let new = c.end_round.new.self in
+    let settled = c.settle_all.new.parts.work in
+    let kept : IsKept arena settled = subst (λ (a : Arena). IsKept a settled) c.settle_all.ensures.arena c.settle_all.ensures.kept in
+    let round : new.round ≡ settled.round + 1 =
+    c.end_round.ensures.round ∙ (next_is c.checked_add.result _ (old.round + 1) c.in_ok-next.next c.checked_add.ensures c.in_ok-next.ensures.ok_part
+    ∙ ap (λ (k : ℕ). k + 1) (sym (c.settle_all.ensures.round ∙ c.put_roots.ensures.round))) in
+    subst (λ (a : Arena). IsReady (functions_of (g.F.Functions.value c.settle_all.new.functions)) a new) (sym c.settle_all.ensures.arena)
+    (subst (λ v. IsReady (functions_of v) arena new)
+    (sym (same_meaning (g.F.Functions.value c.args.functions.now) (g.F.Functions.value c.settle_all.new.functions) c.settle_all.ensures.values))
+    (round_readies F arena old c.put_roots.new.work (g.F.Functions.calls c.args.functions.now) c.requires.ready c.in_ok-put_roots.ensures.wired settled
+    (g.F.Functions.calls c.settle_all.new.functions) c.in_ok-settle_all.ensures.settled kept c.settle_all.ensures.quiet c.in_ok-settle_all.ensures.empty
+    new c.end_round.ensures.graph c.end_round.ensures.rows c.end_round.ensures.todo c.end_round.ensures.ran c.end_round.ensures.strict round))

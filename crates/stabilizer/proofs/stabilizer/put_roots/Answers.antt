@@ -1,0 +1,40 @@
+use Rattle.std.proofs.Common.{◌≢◌, ◌≡◌, map, subst}
+use Rattle.std.proofs.lemmas.List.{take_all}
+use Rattle.inc_value.specs.declared.node.NodeId.{NodeId}
+use Rattle.inc_value.specs.declared.node.Point.{Point}
+use Rattle.necessity.specs.Need.{OneRootMore, root_times}
+use Rattle.inc_terms.specs.Depend.{main}
+use Rattle.stabilizer.specs.Round.{RootsMore}
+use Rattle.stabilizer.proofs.Rounding.{on_err, none_put, one_put, put_refused, roots_tried, roots_only}
+use Rattle.stabilizer.proofs.stabilizer.put_roots.Goals as goal
+
+abbrev other : NodeId
+other = record { slot = 0; gen_ = 0 }
+
+pub loop-node-init : goal.loop-node-init
+loop-node-init c = none_put c.args.arena.now c.args.work.now c.requires.kept c.requires.quiet
+
+pub loop-node-preserved : goal.loop-node-preserved
+loop-node-preserved c =
+    one_put c.args.arena.now c.args.work.now c.loop-node.work c.put_root.new.self c.args.roots.now c.loop-node.node-index other c.loop-node-test.true
+    c.loop-node.invariant
+    (subst (λ (p : Point). OneRootMore c.loop-node.work.graph.roots c.put_root.new.self.graph.roots p) c.main_point.ensures c.in_ok-put_root.ensures.rooted)
+    c.in_ok-put_root.ensures.wired c.in_ok-put_root.ensures.empty c.put_root.ensures.round c.in_ok-put_root.ensures.kept
+
+pub returns-in_err-put_root-clause-refused : goal.returns-in_err-put_root-clause-refused
+returns-in_err-put_root-clause-refused c =
+    on_err c.from_residual.result
+    (put_refused c.args.arena.now c.args.work.now c.loop-node.work c.put_root.new.self c.loop-node.invariant.wired c.in_err-put_root.ensures.refused)
+
+pub returns-in_err-put_root-clause-roots : goal.returns-in_err-put_root-clause-roots
+returns-in_err-put_root-clause-roots c =
+    roots_tried c.args.work.now.graph.roots c.loop-node.work.graph.roots c.put_root.new.self.graph.roots c.args.roots.now c.loop-node.node-index other
+    c.loop-node-test.true c.loop-node.invariant.more
+    (subst (λ (p : Point). (a : Point) → a ≢ p → root_times c.put_root.new.self.graph.roots a ≡ root_times c.loop-node.work.graph.roots a) c.main_point.ensures
+    c.put_root.ensures.others)
+
+pub returns-clause-roots : goal.returns-clause-roots
+returns-clause-roots c =
+    roots_only c.args.work.now.graph.roots c.loop-node.work.graph.roots (map main c.args.roots.now)
+    (subst (λ ns. RootsMore c.args.work.now.graph.roots c.loop-node.work.graph.roots (map main ns))
+    (take_all c.loop-node.node-index c.args.roots.now c.loop-node-test.false) c.loop-node.invariant.more)

@@ -1,0 +1,17 @@
+use Rattle.std.proofs.Common.{◌≡◌}
+use Rattle.node_arena.specs.Meanings.{KeepsKnown, SameValues}
+use Rattle.stabilizer.specs.Meaning.{functions_of}
+use Rattle.stabilizer.proofs.Rounding.{AreSettled, points_at, unsettled_in}
+use Rattle.stabilizer.proofs.stabilizer.settle_all.Given as goal
+
+abbrev pub invariant-loop : goal.invariant-loop
+invariant-loop g l = record {
+  arena : l.parts.arena ≡ l.fn.parts.arena;
+  so : AreSettled (functions_of (g.F.Functions.value l.fn.functions)) l.fn.parts.arena l.fn.parts.work l.parts.work
+      (g.F.Functions.calls l.fn.functions) (g.F.Functions.calls l.functions);
+  known : KeepsKnown (g.F.Functions.known l.fn.functions) (g.F.Functions.known l.functions);
+  values : SameValues (g.F.Functions.value l.fn.functions) (g.F.Functions.value l.functions);
+}
+
+abbrev pub decreases-loop : goal.decreases-loop
+decreases-loop g l = unsettled_in l.fn.parts.work.round l.parts.work.rows (points_at l.fn.parts.work.rows.places)

@@ -1,0 +1,107 @@
+-- What stands between rounds, of the parts alone, and what calls made there leave.
+use Rattle.std.specs.Prelude.{◌≡◌, ◌≢◌, ◌⊎◌, ◌<◌, ◌+◌, ℕ, false, List, [], map, Option, None, Some}
+use Rattle.inc_value.specs.declared.function.FnRef.{FnRef}
+use Rattle.inc_value.specs.declared.node.NodeId.{NodeId}
+use Rattle.inc_value.specs.declared.node.Point.{Point}
+use Rattle.inc_value.specs.declared.outcome.Outcome.{Outcome}
+use Rattle.inc_value.specs.declared.value.Value.{Value}
+use Rattle.inc_terms.specs.Depend.{main}
+use Rattle.inc_terms.specs.Evaluate.{Values}
+use Rattle.inc_terms.specs.Graph.{Row, Def, Map, kids}
+use Rattle.inc_terms.specs.Local.{own}
+use Rattle.inc_terms.specs.Term.{Functions}
+use Rattle.point_map.specs.Rows.{Rows, at, Holds, KeepsRows}
+use Rattle.link_table.specs.Links.{times}
+use Rattle.necessary_graph.specs.Part.{NecessaryPart, Needed}
+use Rattle.node_arena.specs.Arena.{Arena, row_at, live}
+use Rattle.node_arena.specs.Graph.{graph_of}
+use Rattle.stabilize_round.specs.State.{Call, count}
+use Rattle.stabilizer.specs.Computing.{seen, seen_together, KeepsAnswers}
+use Rattle.stabilizer.specs.Kept.{IsKept}
+use Rattle.stabilizer.specs.Round.{IsReady, last_of}
+use Rattle.stabilizer.specs.Row.{settled_in}
+use Rattle.stabilizer.specs.Wiring.{KeepsRound, KeepsGraph}
+use Rattle.stabilizer.specs.declared.row.Progress.{Progress}
+use Rattle.stabilizer.specs.declared.row.Stage.TheVariants.{Full}
+use Rattle.stabilizer.specs.declared.work.Work.{Work}
+
+-- the outcome of a point that has a row
+abbrev pub outcome_in : Option Progress → Option Outcome
+outcome_in None = None
+outcome_in (Some k) = k.outcome
+
+-- a live node shows what its own function gives of what is seen, and a map whose children show values was last called on these
+pub record IsFresh (F : Functions) (arena : Arena) (rows : Rows Progress) (n : NodeId) (def : Def) : Type 0 where
+  pub outcome : Outcome
+  pub shows : outcome_in (at rows (main n)) ≡ Some outcome
+  pub gives : own F (graph_of arena) (seen rows) n def ≡ Some outcome
+  pub recalls : (f : FnRef) (nodes : List NodeId) (values : List Value) → def ≡ Map f nodes → seen_together rows nodes ≡ Values values
+      → (c : Call) × (last_of (at rows (main n)) ≡ Some c) × (c.arguments ≡ values)
+
+-- a needed live point has all its links, and is in the heap or fresh; nothing was settled, called or found final since the last round
+pub record IsBetween (F : Functions) (arena : Arena) (work : Work) : Type 0 where
+  pub kept : IsKept arena work
+  pub full : (p : Point) (k : Progress) → Needed work.graph p → at work.rows p ≡ Some k → k.stage ≡ Full
+  pub links : (n : NodeId) (r : Row) → Needed work.graph (main n) → row_at arena n ≡ Some r
+      → (q : Point) → times work.graph.links (main n) q ≡ count q (map main (kids r.def))
+  pub fresh : (n : NodeId) (r : Row) → Needed work.graph (main n) → row_at arena n ≡ Some r
+      → Holds work.graph.heap (main n) ⊎ IsFresh F arena work.rows n r.def
+  pub answers : KeepsAnswers F.value arena work.rows
+  pub unsettled : (p : Point) → settled_in work.round (at work.rows p) ≡ false
+  pub numbered : 0 < work.round
+  pub strict : work.strict ≡ false
+  pub todo : work.todo.items ≡ []
+  pub ran : work.ran.items ≡ []
+
+-- every id keeps its row
+abbrev pub KeepsNodes : Arena → Arena → Type 0
+KeepsNodes old new = (n : NodeId) → row_at new n ≡ row_at old n
+
+-- a node was added and dropped again: every id keeps its row, and one id more was given
+pub record IsTakenBack (old new : Arena) : Type 0 where
+  pub rows : KeepsNodes old new
+  pub live : live new ≡ live old
+  pub given : new.given ≡ old.given + 1
+
+-- of what is kept beside the nodes all stays
+pub record KeepsWork (old new : Work) : Type 0 where
+  pub rows : KeepsRows old.rows new.rows
+  pub points : KeepsRows old.graph.heights new.graph.heights
+  pub links : new.graph.links ≡ old.graph.links
+  pub roots : new.graph.roots ≡ old.graph.roots
+  pub heap : KeepsRows old.graph.heap new.graph.heap
+  pub todo : new.todo.items ≡ old.todo.items
+  pub round : KeepsRound old new
+
+-- a needed point is in the heap, and all else stays
+pub record IsMarked (old new : NecessaryPart) (p : Point) : Type 0 where
+  pub graph : KeepsGraph old new
+  pub others : (q : Point) → q ≢ p → at new.heap q ≡ at old.heap q
+  pub told : Needed old p → Holds new.heap p
+  pub only : Holds new.heap p → Holds old.heap p ⊎ Needed old p
+
+-- between rounds this may change: less may be needed, and what is so keeps its links, its row and its place in the heap; its node stays, or has the same
+-- children and is in the heap; what was called stays called; and no row is settled that wasn't
+pub record Stays (before arena : Arena) (old work : Work) : Type 0 where
+  pub needed : (p : Point) → Needed work.graph p → Needed old.graph p
+  pub links : (p q : Point) → Needed work.graph p → times work.graph.links p q ≡ times old.graph.links p q
+  pub heap : (p : Point) → Needed work.graph p → Holds old.graph.heap p → Holds work.graph.heap p
+  pub rows : (p : Point) → Needed work.graph p → at work.rows p ≡ at old.rows p
+  pub nodes : (n : NodeId) (r : Row) → Needed work.graph (main n) → row_at arena n ≡ Some r → (row_at before n ≡ Some r)
+      ⊎ (Holds work.graph.heap (main n) × (was : Row) × (row_at before n ≡ Some was) × (kids r.def ≡ kids was.def))
+  pub calls : (n : NodeId) (r : Row) (f : FnRef) (nodes : List NodeId) (k : Progress) (c : Call) → row_at arena n ≡ Some r → r.def ≡ Map f nodes
+      → at work.rows (main n) ≡ Some k → k.last ≡ Some c → (row_at before n ≡ Some r) × (at old.rows (main n) ≡ Some k)
+  pub unsettled : (p : Point) (k : Progress) → at work.rows p ≡ Some k → (at old.rows p ≡ Some k) ⊎ (k.settled ≡ 0)
+  pub round : KeepsRound old work
+  pub todo : work.todo.items ≡ old.todo.items
+
+-- nodes whose ids were given since the count were dropped, none of them needed
+pub record HasDropped (before arena : Arena) (old work : Work) (count : ℕ) : Type 0 where
+  pub older : (n : NodeId) → n.gen_ < count → row_at arena n ≡ row_at before n
+  pub given : arena.given ≡ before.given
+  pub rows : (n : NodeId) → n.gen_ < count → at work.rows (main n) ≡ at old.rows (main n)
+  pub links : work.graph.links ≡ old.graph.links
+  pub roots : work.graph.roots ≡ old.graph.roots
+  pub heap : work.graph.heap ≡ old.graph.heap
+  pub kept : IsKept arena work
+  pub ready : (F : Functions) → IsReady F before old → IsReady F arena work

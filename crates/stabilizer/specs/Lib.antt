@@ -1,0 +1,13 @@
+pub mod Meaning
+pub mod Row
+pub mod Stands
+pub mod Kept
+pub mod Deciding
+pub mod Wiring
+pub mod Refusing
+pub mod Growing
+pub mod Settling
+pub mod Computing
+pub mod Stepping
+pub mod Round
+pub mod Between

@@ -1,0 +1,156 @@
+-- What stands between rounds, and what a round leaves.
+use Rattle.std.specs.Prelude.{◌≡◌, ◌⊎◌, ◌↔◌, ◌+◌, ◌<◌, ◌≤◌, ℕ, List, [], map, length, Option, None, Some}
+use Rattle.inc_value.specs.declared.function.FnRef.{FnRef}
+use Rattle.inc_value.specs.declared.node.NodeId.{NodeId}
+use Rattle.inc_value.specs.declared.node.Point.{Point}
+use Rattle.inc_value.specs.declared.outcome.Outcome.{Outcome}
+use Rattle.inc_value.specs.declared.value.Value.{Value}
+use Rattle.inc_value.specs.Choice.{Among, NoRepeats}
+use Rattle.inc_value.specs.Walk.{IsWalk, IsDeep, IsOnCycle}
+use Rattle.inc_terms.specs.Depend.{Depends, main, none_died}
+use Rattle.inc_terms.specs.Evaluate.{NodeGives, GiveAll}
+use Rattle.inc_terms.specs.Graph.{Row, Map}
+use Rattle.inc_terms.specs.Need.{Beside, Observed, nodes_of, Held, Needed, Met}
+use Rattle.inc_terms.specs.Term.{Functions}
+use Rattle.inc_terms.specs.Work.{WithinWork}
+use Rattle.link_table.specs.Links.{Reads}
+use Rattle.necessary_graph.specs.Part as part
+use Rattle.necessity.specs.Need.{Roots, root_times}
+use Rattle.node_arena.specs.Arena.{Arena, row_at}
+use Rattle.node_arena.specs.Graph.{graph_of}
+use Rattle.point_map.specs.Rows.{at}
+use Rattle.stabilize_round.specs.Calls.{arguments_of}
+use Rattle.stabilize_round.specs.Counts.{RoseBy}
+use Rattle.stabilize_round.specs.Invariant.{Invariant}
+use Rattle.stabilize_round.specs.Machine.{Entry, Moves}
+use Rattle.stabilize_round.specs.Moves.{Quiet, IsLeast}
+use Rattle.stabilize_round.specs.State.{State, Start, Call, count}
+use Rattle.stabilizer.specs.Computing.{seen, IsMapAt}
+use Rattle.height_order.specs.Chains.{StartsAt, EndsAt}
+use Rattle.stabilizer.specs.declared.refused.Refused.{Refused}
+use Rattle.stabilizer.specs.declared.refused.Refused.TheVariants.{Height, Cycle, Full, Memory}
+use Rattle.stabilizer.specs.Kept.{IsKept}
+use Rattle.stabilizer.specs.Stands.{Stands}
+use Rattle.stabilizer.specs.declared.row.Progress.{Progress}
+use Rattle.stabilizer.specs.declared.work.Work.{Work}
+
+-- a round may begin: the parts stand for a state in which rounds begin, and its number isn't that of what was never settled
+pub record IsReady (F : Functions) (arena : Arena) (work : Work) : Type 0 where
+  pub kept : IsKept arena work
+  pub start : Start
+  pub state : State
+  pub stands : Stands arena work state.calls None state
+  pub entry : Entry F start state
+  pub numbered : 0 < work.round
+  pub todo : work.todo.items ≡ []
+  pub ran : work.ran.items ≡ []
+
+-- the roots are the mains of these nodes, each as often as it is listed
+abbrev pub AreRooted : Work → List NodeId → Type 0
+AreRooted work nodes = (p : Point) → root_times work.graph.roots p ≡ count p (map main nodes)
+
+-- what a row keeps of the last call
+abbrev pub last_of : Option Progress → Option Call
+last_of None = None
+last_of (Some k) = k.last
+
+-- what a node's function was last called on, and what it gave
+abbrev pub last_call : Work → NodeId → Option Call
+last_call work n = last_of (at work.rows (main n))
+
+-- a map was called: it is met, its children give these values, of which it wasn't the last call before, and it is now
+pub record WasCalled (F : Functions) (arena : Arena) (old new : Work) (observed : List NodeId) (n : NodeId) : Type 0 where
+  pub row : Row
+  pub function : FnRef
+  pub nodes : List NodeId
+  pub values : List Value
+  pub is_row : row_at arena n ≡ Some row
+  pub is_map : row.def ≡ Map function nodes
+  pub gives : GiveAll F (graph_of arena) nodes values
+  pub reason : (c : Call) → last_call old n ≡ Some c → c.arguments ≡ values → ⊥
+  pub is_last : last_call new n ≡ Some (record { arguments = values; result = F.value function values })
+  pub met : Met F (graph_of arena) none_died observed (λ (p : Point). part.Needed old.graph p) (main n)
+
+-- what is kept beside a graph: what is needed is held for these observers, and each node's last arguments are kept
+pub record StoodBeside (before : Beside) (work : Work) (observers : List Observed) : Type 0 where
+  pub held : (p : Point) → part.Needed work.graph p → Held before observers p
+  pub last : (n : NodeId) → before.last n ≡ arguments_of (last_call work n)
+
+-- after a round that was accepted, with these nodes observed
+pub record IsUpToDate (F : Functions) (arena : Arena) (old new : Work) (observed : List NodeId) (ran : List NodeId) : Type 0 where
+  pub rooted : AreRooted new observed
+  pub needs : (p : Point) → part.Needed new.graph p ↔ Needed F (graph_of arena) none_died observed p
+  pub sees : (n : NodeId) → Needed F (graph_of arena) none_died observed (main n)
+      → (o : Outcome) × (seen new.rows (main n) ≡ Some o) × NodeGives F (graph_of arena) n o
+  pub acyclic : (p : Point) → Needed F (graph_of arena) none_died observed p → IsOnCycle (Depends F (graph_of arena) none_died) p → ⊥
+  pub shallow : (p : Point) → Needed F (graph_of arena) none_died observed p → IsDeep (Depends F (graph_of arena) none_died) p → ⊥
+  pub links : (p q : Point) → part.Needed new.graph p → Reads new.graph.links p q ↔ Depends F (graph_of arena) none_died p q
+  pub recalls : (n : NodeId) (r : Row) (f : FnRef) (nodes : List NodeId) (values : List Value) → part.Needed new.graph (main n)
+      → row_at arena n ≡ Some r → r.def ≡ Map f nodes → GiveAll F (graph_of arena) nodes values
+      → (c : Call) × (last_call new n ≡ Some c) × (c.arguments ≡ values)
+  pub kept : (n : NodeId) → (Among n ran → ⊥) → last_call new n ≡ last_call old n
+  pub once : NoRepeats ran
+  pub called : (n : NodeId) → Among n ran → WasCalled F arena old new observed n
+  pub work : (before : Beside) (observers : List Observed) → StoodBeside before old observers
+      → ((n : NodeId) → Among n observed → Among n (nodes_of observers))
+      → (calls : ℕ) → calls ≤ length ran → WithinWork F (graph_of arena) none_died observers before calls
+
+-- each point is linked to the next in the graph, and the first is met
+pub record IsListed (F : Functions) (arena : Arena) (old : Work) (observed : List NodeId) (points : List Point) : Type 0 where
+  pub walk : IsWalk (Depends F (graph_of arena) none_died) points
+  pub met : (p : Point) → StartsAt points p → Met F (graph_of arena) none_died observed (λ (q : Point). part.Needed old.graph q) p
+
+-- the points come back to where they begin, over one link at least
+pub record ComesBack (points : List Point) : Type 0 where
+  pub point : Point
+  pub starts : StartsAt points point
+  pub ends : EndsAt points point
+  pub long : 2 ≤ length points
+
+-- what a refusal says: a chain of 130 points, or a walk that comes back to where it began
+abbrev pub IsLawful : Functions → Arena → Work → List NodeId → Refused → Type 0
+IsLawful F arena old observed (Height points) = IsListed F arena old observed points.items × (length points.items ≡ 130)
+IsLawful F arena old observed (Cycle points) = IsListed F arena old observed points.items × ComesBack points.items
+IsLawful F arena old observed Full = ⊥
+IsLawful F arena old observed Memory = Unit {0}
+
+-- a round that was refused called each of some live maps once at most
+pub record HasCalledFew (arena : Arena) (before after : ℕ) : Type 0 where
+  pub nodes : List NodeId
+  pub once : NoRepeats nodes
+  pub maps : (n : NodeId) → Among n nodes → IsMapAt arena n
+  pub count : RoseBy before (length nodes) after
+
+-- ---- the parts of a round
+
+-- these points are roots, each as often more as it is listed
+abbrev pub RootsMore : Roots → Roots → List Point → Type 0
+RootsMore old new points = (p : Point) → root_times new p ≡ root_times old p + count p points
+
+-- what is a root was one, or is one of these points
+abbrev pub OnlyRoots : Roots → Roots → List Point → Type 0
+OnlyRoots old new points = (p : Point) → 0 < root_times new p → (0 < root_times old p) ⊎ Among p points
+
+-- the parts stand for a state of a round, with the count of calls
+pub record IsInRound (F : Functions) (arena : Arena) (work : Work) (calls : ℕ) : Type 0 where
+  pub start : Start
+  pub state : State
+  pub holds : Invariant F start state
+  pub stands : Stands arena work calls None state
+
+-- from each state that the parts stand for, with the count of calls, moves lead to one that they stand for then
+abbrev pub Settles : Functions → Arena → Work → Work → ℕ → ℕ → Type 0
+Settles F arena old new before after =
+    (z : Start) (s : State) → Invariant F z s → Stands arena old before None s → (t : State) × Moves F z s t × Stands arena new after None t
+
+-- where steps stop: in a state that moves lead to, and the function of a least point's map may have been called once more
+pub record Pauses (F : Functions) (z : Start) (s : State) (arena : Arena) (after : ℕ) : Type 0 where
+  pub state : State
+  pub moves : Moves F z s state
+  pub graph : state.graph ≡ graph_of arena
+  pub quiet : Quiet state
+  pub calls : (after ≡ state.calls) ⊎ ((n : NodeId) × IsLeast state (main n) × IsMapAt arena n × RoseBy state.calls 1 after)
+
+-- from each state that the parts stood for, with the count of calls, steps stop so
+abbrev pub SettleRefused : Functions → Arena → Work → ℕ → ℕ → Type 0
+SettleRefused F arena old before after = (z : Start) (s : State) → Invariant F z s → Stands arena old before None s → Pauses F z s arena after

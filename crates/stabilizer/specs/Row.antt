@@ -1,0 +1,58 @@
+-- What is kept of a point.
+use Rattle.std.specs.Prelude.{◌≡◌, ◌≢◌, ◌==◌, ℕ, Bool, false, Option, None, Some, option_map}
+use Rattle.inc_value.specs.declared.node.Point.{Point}
+use Rattle.inc_value.specs.declared.outcome.Outcome.{Outcome}
+use Rattle.inc_value.specs.declared.outcome.Outcome.TheVariants.{Val}
+use Rattle.inc_value.specs.declared.value.Value.{Value}
+use Rattle.point_map.specs.Rows.{Rows, at, SamePoints}
+use Rattle.stabilize_round.specs.State as machine
+use Rattle.stabilizer.specs.declared.row.Progress.{Progress}
+use Rattle.stabilizer.specs.declared.row.Stage.{Stage}
+use Rattle.stabilizer.specs.declared.row.Stage.TheVariants as stage
+
+-- the row with another stage
+abbrev pub with_stage : Stage → Progress → Progress
+with_stage s k = record { stage = s; settled = k.settled; outcome = k.outcome; last = k.last }
+
+-- the row with another outcome, settled in a round
+abbrev pub with_outcome : Outcome → ℕ → Progress → Progress
+with_outcome o round k = record { stage = k.stage; settled = round; outcome = Some o; last = k.last }
+
+-- the row with another last call
+abbrev pub with_call : machine.Call → Progress → Progress
+with_call c k = record { stage = k.stage; settled = k.settled; outcome = k.outcome; last = Some c }
+
+-- the row with another last call, or none
+abbrev pub with_last : Option machine.Call → Progress → Progress
+with_last c k = record { stage = k.stage; settled = k.settled; outcome = k.outcome; last = c }
+
+-- a point's row is changed so, and all other rows stay
+pub record IsRewritten (old new : Rows Progress) (p : Point) (change : Progress → Progress) : Type 0 where
+  pub changed : at new p ≡ option_map change (at old p)
+  pub others : (q : Point) → q ≢ p → at new q ≡ at old q
+  pub points : SamePoints old new
+
+-- the machine's stage that a row's stage stands for
+abbrev pub stage_of : Stage → machine.Stage
+stage_of stage.Bare = machine.Bare
+stage_of stage.Full = machine.Full
+
+-- whether a row was settled in the round
+abbrev pub settled_in : ℕ → Option Progress → Bool
+settled_in round None = false
+settled_in round (Some k) = k.settled == round
+
+-- the value that a row shows
+abbrev pub value_of : Option Outcome → Option Value
+value_of (Some (Val v)) = Some v
+value_of o = None
+
+-- the value that a point shows, if it has a row that does
+abbrev pub value_in : Option Progress → Option Value
+value_in None = None
+value_in (Some k) = value_of k.outcome
+
+-- the stage of a point, if it has a row
+abbrev pub stage_in : Option Progress → Option Stage
+stage_in None = None
+stage_in (Some k) = Some k.stage

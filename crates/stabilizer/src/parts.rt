@@ -1,0 +1,234 @@
+//! The nodes of a graph with all that a stabilizer keeps of them.
+ghost use Rattle.std.specs.Prelude.{◌≡◌, ◌⊎◌, ◌↔◌, ◌+◌, ◌<◌, ◌≤◌, ◌++◌, [], ◌∷◌, List, None, Some};
+ghost use Rattle.std.specs.Prelude.{IfOk, IfErr, OnOk, OnErr, IsErrOf, option_copied};
+ghost use Rattle.inc_value.specs.declared.node.NodeId.{NodeId};
+ghost use Rattle.inc_terms.specs.Code.{def_of};
+ghost use Rattle.inc_terms.specs.Depend.{main};
+ghost use Rattle.inc_terms.specs.Term.{Functions};
+ghost use Rattle.inc_terms.specs.Within.{Given, ValueWithin};
+ghost use Rattle.point_map.specs.Rows as points;
+ghost use Rattle.point_map.specs.Rows.{at, Holds, KeepsRows};
+ghost use Rattle.necessity.specs.Need.{IsRoot, OneRootMore};
+ghost use Rattle.necessary_graph.specs.Part.{web, Needed, IsInStep};
+ghost use Rattle.necessary_graph.specs.Sweep.{IsUnrooted};
+ghost use Rattle.node_arena.specs.Arena.{row_at, live, IsLive, Changes, NamesGiven, IsFull, IsVariable, IsSet};
+ghost use Rattle.node_arena.specs.Typing.{Makes, FitsNode};
+ghost use Rattle.stabilizer.specs.Between.{KeepsWork, IsTakenBack, IsMarked, outcome_in};
+ghost use Rattle.stabilizer.specs.Kept.{IsKept};
+ghost use Rattle.stabilizer.specs.Round.{IsReady, AreRooted};
+
+use crate::row::{Stage, main_point};
+use crate::work::Work;
+use inc_terms::Def;
+use inc_value::{NodeId, Outcome, Point, Ty, Value};
+use necessary_graph::NecessaryGraph;
+use node_arena::{AddFault, Arena, SetFault};
+use std::alloc::{AllocError, Global};
+
+/// The nodes of a graph with all that a stabilizer keeps of them.
+#[derive(Drop)]
+pub struct Parts {
+    pub(crate) alloc: Global,
+    pub(crate) arena: Arena,
+    pub(crate) work: Work,
+    /// The nodes whose functions were called in the last round that ended, in order.
+    pub(crate) ran: Vec<NodeId>,
+}
+
+impl Parts {
+    /// No nodes. The error is want of memory.
+    pub fn new(alloc: Global) -> Result<Parts, AllocError>
+        ensures ready { IfOk result (λ p. (F : Functions) → IsReady F p.arena p.work) }
+        ensures empty { IfOk result (λ p. (n : NodeId) → row_at p.arena n ≡ None) }
+        ensures live { IfOk result (λ p. live p.arena ≡ 0) }
+        ensures given { IfOk result (λ p. p.arena.given ≡ 0) }
+        ensures roots { IfOk result (λ p. AreRooted p.work []) }
+        ensures ran { IfOk result (λ p. p.ran.items ≡ []) }
+    {
+        let work = Work::new(alloc)?;
+        work.graph.stands();
+        Ok(Parts {
+            alloc,
+            arena: Arena::new(alloc),
+            work,
+            ran: Vec::new(alloc),
+        })
+    }
+
+    /// The nodes.
+    pub fn arena(&self) -> &Arena
+        ensures { result.now ≡ self.now.arena }
+    {
+        &self.arena
+    }
+
+    /// Adds a node outside any scope, with all memory that a round takes for it but for links and calls. What is
+    /// looked at comes in the order of the faults. A refused call leaves all nodes and all that is kept of them;
+    /// without memory an id may be used up.
+    pub fn add(&mut self, def: Def, ty: Ty) -> Result<NodeId, AddFault>
+        requires kept { IsKept self.old.arena self.old.work }
+        ensures id { IfOk result (λ id. id.gen_ ≡ self.old.arena.given) }
+        ensures slot { IfOk result (λ id. id.slot < 1048576) }
+        ensures fresh { IfOk result (λ id. row_at self.old.arena id ≡ None) }
+        ensures added { IfOk result (λ id. Changes self.old.arena self.new.arena id
+            (Some (record { def = def_of def; ty = ty; scope = None }))) }
+        ensures keeps { (n : NodeId) → Given self.old.arena.given n
+            → row_at self.new.arena n ≡ row_at self.old.arena n }
+        ensures live { OnOk result (live self.new.arena ≡ live self.old.arena + 1) }
+        ensures given { OnOk result (self.new.arena.given ≡ self.old.arena.given + 1) }
+        ensures unknown { IsErrOf result AddFault.Unknown ↔ ¬ NamesGiven self.old.arena.given (def_of def) }
+        ensures wrong_type { IsErrOf result AddFault.WrongType
+            ↔ (NamesGiven self.old.arena.given (def_of def) × ¬ Makes self.old.arena (def_of def) ty) }
+        ensures full { IsErrOf result AddFault.Full
+            ↔ (NamesGiven self.old.arena.given (def_of def) × Makes self.old.arena (def_of def) ty
+            × IsFull self.old.arena) }
+        ensures err { IfErr result (λ e. (self.new.arena ≡ self.old.arena)
+            ⊎ ((e ≡ AddFault.Memory) × IsTakenBack self.old.arena self.new.arena)) }
+        ensures err_work { OnErr result (KeepsWork self.old.work self.new.work) }
+        ensures row { IfOk result (λ id. points.Changes self.old.work.rows self.new.work.rows (main id)
+            (Some (record { stage = Stage.Bare; settled = 0; outcome = None; last = None }))) }
+        ensures point { IfOk result (λ id. points.Changes self.old.work.graph.heights self.new.work.graph.heights
+            (main id) (Some 0)) }
+        ensures rows { (n : NodeId) → Given self.old.arena.given n
+            → at self.new.work.rows (main n) ≡ at self.old.work.rows (main n) }
+        ensures links { self.new.work.graph.links ≡ self.old.work.graph.links }
+        ensures roots { self.new.work.graph.roots ≡ self.old.work.graph.roots }
+        ensures heap { KeepsRows self.old.work.graph.heap self.new.work.graph.heap }
+        ensures ran { self.new.ran ≡ self.old.ran }
+        ensures kept { IsKept self.new.arena self.new.work }
+        ensures ready { (F : Functions) → IsReady F self.old.arena self.old.work
+            → IsReady F self.new.arena self.new.work }
+    {
+        let id = self.arena.add(def, ty, None)?;
+        let added = self.work.add(main_point(id));
+        self.work.graph.stands();
+        match added {
+            Ok(()) => Ok(id),
+            Err(AllocError) => {
+                self.arena.drop_node(id);
+                Err(AddFault::Memory)
+            }
+        }
+    }
+
+    /// Sets a variable to another value of its type. What is looked at comes in the order of the faults; a refused
+    /// call changes nothing. This takes no memory.
+    pub fn set_var(&mut self, id: NodeId, value: Value) -> Result<(), SetFault>
+        requires kept { IsKept self.old.arena self.old.work }
+        ensures set { OnOk result (IsSet self.old.arena self.new.arena id value) }
+        ensures live { live self.new.arena ≡ live self.old.arena }
+        ensures given { self.new.arena.given ≡ self.old.arena.given }
+        ensures unknown { IsErrOf result SetFault.Unknown
+            ↔ ¬ (Given self.old.arena.given id × ValueWithin (Given self.old.arena.given) value) }
+        ensures not_var { IsErrOf result SetFault.NotVar
+            ↔ (Given self.old.arena.given id × ValueWithin (Given self.old.arena.given) value
+            × ¬ IsVariable self.old.arena id) }
+        ensures wrong_type { IsErrOf result SetFault.WrongType
+            ↔ (ValueWithin (Given self.old.arena.given) value × IsVariable self.old.arena id
+            × ¬ FitsNode self.old.arena id value) }
+        ensures err { OnErr result (self.new ≡ self.old) }
+        ensures told { OnOk result (Needed self.old.work.graph (main id) → Holds self.new.work.graph.heap (main id)) }
+        ensures rows { self.new.work.rows ≡ self.old.work.rows }
+        ensures heights { self.new.work.graph.heights ≡ self.old.work.graph.heights }
+        ensures links { self.new.work.graph.links ≡ self.old.work.graph.links }
+        ensures roots { self.new.work.graph.roots ≡ self.old.work.graph.roots }
+        ensures ran { self.new.ran ≡ self.old.ran }
+        ensures kept { IsKept self.new.arena self.new.work }
+        ensures ready { (F : Functions) → IsReady F self.old.arena self.old.work
+            → IsReady F self.new.arena self.new.work }
+    {
+        self.arena.set_var(id, value)?;
+        mark(&mut self.work.graph, main_point(id));
+        Ok(())
+    }
+
+    /// Takes a root off a node, once. What is no longer needed then loses its links; its outcome and its last call
+    /// stay. This takes no memory.
+    pub fn unroot(&mut self, id: NodeId)
+        requires root { IsRoot (web self.old.work.graph) (main id) }
+        requires kept { IsKept self.old.arena self.old.work }
+        ensures unrooted { IsUnrooted self.old.work.graph self.new.work.graph (main id) }
+        ensures roots { OneRootMore self.new.work.graph.roots self.old.work.graph.roots (main id) }
+        ensures rooted { (before after : List NodeId) → AreRooted self.old.work (before ++ id ∷ after)
+            → AreRooted self.new.work (before ++ after) }
+        ensures arena { self.new.arena ≡ self.old.arena }
+        ensures rows { self.new.work.rows ≡ self.old.work.rows }
+        ensures ran { self.new.ran ≡ self.old.ran }
+        ensures kept { IsKept self.new.arena self.new.work }
+        ensures ready { (F : Functions) → IsReady F self.old.arena self.old.work
+            → IsReady F self.new.arena self.new.work }
+    {
+        self.work.graph.root_off(main_point(id));
+        self.work.graph.stands();
+    }
+
+    /// Drops the nodes whose ids were given since the count; none of them is needed. Their ids stay used up. This takes
+    /// no memory.
+    pub fn back_to(&mut self, count: u64)
+        requires kept { IsKept self.old.arena self.old.work }
+        requires unneeded { (n : NodeId) → count ≤ n.gen_ → Needed self.old.work.graph (main n) → ⊥ }
+        ensures older { (n : NodeId) → n.gen_ < count → row_at self.new.arena n ≡ row_at self.old.arena n }
+        ensures dropped { (n : NodeId) → count ≤ n.gen_ → row_at self.new.arena n ≡ None }
+        ensures given { self.new.arena.given ≡ self.old.arena.given }
+        ensures rows { (n : NodeId) → n.gen_ < count
+            → at self.new.work.rows (main n) ≡ at self.old.work.rows (main n) }
+        ensures links { self.new.work.graph.links ≡ self.old.work.graph.links }
+        ensures roots { self.new.work.graph.roots ≡ self.old.work.graph.roots }
+        ensures heap { self.new.work.graph.heap ≡ self.old.work.graph.heap }
+        ensures ran { self.new.ran ≡ self.old.ran }
+        ensures kept { IsKept self.new.arena self.new.work }
+        ensures ready { (F : Functions) → IsReady F self.old.arena self.old.work
+            → IsReady F self.new.arena self.new.work }
+    {
+        while let Some(id) = self.arena.first_since(count) {
+            self.drop_node(id);
+        }
+    }
+
+    /// Drops a node that isn't needed.
+    fn drop_node(&mut self, id: NodeId)
+        requires live { IsLive self.old.arena id }
+        requires kept { IsKept self.old.arena self.old.work }
+        requires unneeded { Needed self.old.work.graph (main id) → ⊥ }
+        ensures dropped { Changes self.old.arena self.new.arena id None }
+        ensures live { live self.new.arena + 1 ≡ live self.old.arena }
+        ensures given { self.new.arena.given ≡ self.old.arena.given }
+        ensures row { points.Changes self.old.work.rows self.new.work.rows (main id) None }
+        ensures links { self.new.work.graph.links ≡ self.old.work.graph.links }
+        ensures roots { self.new.work.graph.roots ≡ self.old.work.graph.roots }
+        ensures heap { self.new.work.graph.heap ≡ self.old.work.graph.heap }
+        ensures ran { self.new.ran ≡ self.old.ran }
+        ensures kept { IsKept self.new.arena self.new.work }
+        ensures ready { (F : Functions) → IsReady F self.old.arena self.old.work
+            → IsReady F self.new.arena self.new.work }
+    {
+        self.arena.drop_node(id);
+        self.work.drop_point(main_point(id));
+        self.work.graph.stands();
+    }
+
+    /// The outcome of a live node. None before it was first brought up to date, and of a dead one, which shows Invalid.
+    pub fn outcome(&self, id: NodeId) -> Option<&Outcome>
+        ensures { option_copied result ≡ outcome_in (at self.now.work.rows (main id)) }
+    {
+        self.work.rows.get(main_point(id))?.outcome.as_ref()
+    }
+
+    /// The nodes whose functions were called in the last round that ended, in order.
+    pub fn ran(&self) -> &[NodeId]
+        ensures { result.now ≡ self.now.ran.items }
+    {
+        &self.ran
+    }
+}
+
+/// Puts a point that is needed into the heap.
+fn mark(graph: &mut NecessaryGraph, p: Point)
+    ensures marked { IsMarked graph.old graph.new p }
+    ensures step { IsInStep graph.new }
+{
+    if graph.is_needed(p) {
+        graph.insert(p);
+    }
+    graph.stands();
+}

@@ -1,0 +1,109 @@
+//! How far a point has come.
+ghost use Rattle.std.specs.Prelude.{◌≡◌, ◌↔◌, None, Some, IsTrue};
+ghost use Rattle.point_map.specs.Rows.{at, Holds};
+ghost use Rattle.inc_value.specs.declared.node.Part.TheVariants.{Main};
+ghost use Rattle.stabilizer.specs.declared.row.Progress.{Progress as Row};
+ghost use Rattle.stabilizer.specs.Row.{with_stage, with_outcome, with_call, IsRewritten};
+
+use inc_value::{NodeId, Outcome, Part, Point, Value};
+use point_map::PointMap;
+use std::marker::Model;
+
+/// Which links a needed point has.
+#[derive(Clone, Copy, Debug, PartialEq, Eq)]
+pub(crate) enum Stage {
+    /// None yet.
+    Bare,
+    /// All.
+    Full,
+}
+
+/// What a node's function was last called on, and what it gave.
+#[derive(Debug, Drop)]
+pub(crate) struct LastCall {
+    pub arguments: Vec<Value>,
+    pub result: Value,
+}
+
+impl Model for LastCall {
+    ghost use Rattle.stabilize_round.specs.State.{Call};
+
+    ghost Value = { Call };
+
+    ghost view = { λ c. record { arguments = c.arguments.items; result = c.result } };
+}
+
+/// What is kept of a point of a live node: its links' stage, the round in which it was settled last, its outcome,
+/// and the last call of its node's function. No round has the number 0.
+#[derive(Debug, Drop)]
+pub(crate) struct Progress {
+    pub stage: Stage,
+    pub settled: u64,
+    pub outcome: Option<Outcome>,
+    pub last: Option<LastCall>,
+}
+
+/// The main of a node.
+pub(crate) fn main_point(node: NodeId) -> Point
+    ensures { result ≡ record { node = node; part = Main } }
+{
+    Point {
+        node,
+        part: Part::Main,
+    }
+}
+
+/// A point that was never settled.
+pub(crate) fn unsettled() -> Progress
+    ensures { result ≡ record { stage = Stage.Bare; settled = 0; outcome = None; last = None } }
+{
+    Progress {
+        stage: Stage::Bare,
+        settled: 0,
+        outcome: None,
+        last: None,
+    }
+}
+
+/// Whether a point shows just this outcome already.
+pub(crate) fn shows(rows: &PointMap<Progress>, p: Point, outcome: &Outcome) -> bool
+    ensures { IsTrue result ↔ ((k : Row) × (at rows.now p ≡ Some k) × (k.outcome ≡ Some outcome.now)) }
+{
+    match rows.get(p) {
+        Some(
+            Progress {
+                outcome: Some(before),
+                ..
+            },
+        ) => before.same(outcome),
+        _ => false,
+    }
+}
+
+/// Gives a point another stage.
+pub(crate) fn set_stage(rows: &mut PointMap<Progress>, p: Point, stage: Stage)
+    requires there { Holds rows.old p }
+    ensures { IsRewritten rows.old rows.new p (with_stage stage) }
+{
+    let row = rows.get_mut(p).unwrap();
+    row.stage = stage;
+}
+
+/// Gives a point another outcome, settled in this round.
+pub(crate) fn set_outcome(rows: &mut PointMap<Progress>, p: Point, outcome: Outcome, round: u64)
+    requires there { Holds rows.old p }
+    ensures { IsRewritten rows.old rows.new p (with_outcome outcome round) }
+{
+    let row = rows.get_mut(p).unwrap();
+    row.outcome = Some(outcome);
+    row.settled = round;
+}
+
+/// Keeps the last call of a node's function.
+pub(crate) fn set_call(rows: &mut PointMap<Progress>, p: Point, call: LastCall)
+    requires there { Holds rows.old p }
+    ensures { IsRewritten rows.old rows.new p (with_call call) }
+{
+    let row = rows.get_mut(p).unwrap();
+    row.last = Some(call);
+}
