@@ -50,6 +50,7 @@ impl Stabilizer {
             parts.old.arena parts.old.work parts.new.work (F.calls functions.old)) }
         ensures roots { parts.new.work.graph.roots ≡ parts.old.work.graph.roots }
         ensures round { parts.new.work.round ≡ parts.old.work.round }
+        ensures ran { parts.new.ran ≡ parts.old.ran }
         ensures known { KeepsKnown (F.known functions.old) (F.known functions.new) }
         ensures values { SameValues (F.value functions.old) (F.value functions.new) }
     {
@@ -83,6 +84,7 @@ impl Stabilizer {
             → IsLawful (functions_of (F.value functions.old)) parts.old.arena parts.old.work
             (roots.now ++ observed) e) }
         ensures few { OnErr result (HasCalledFew parts.old.arena (F.calls functions.old) (F.calls functions.new)) }
+        ensures ran { OnErr result (parts.new.ran ≡ parts.old.ran) }
         ensures arena { parts.new.arena ≡ parts.old.arena }
         ensures known { KeepsKnown (F.known functions.old) (F.known functions.new) }
         ensures values { SameValues (F.value functions.old) (F.value functions.new) }
@@ -134,6 +136,7 @@ fn settle_all<F: Functions>(parts: &mut Parts, functions: &mut F) -> Result<(), 
     ensures quiet { parts.new.work.todo.items ≡ [] }
     ensures roots { parts.new.work.graph.roots ≡ parts.old.work.graph.roots }
     ensures round { parts.new.work.round ≡ parts.old.work.round }
+    ensures ran { parts.new.ran ≡ parts.old.ran }
     ensures known { KeepsKnown (F.known functions.old) (F.known functions.new) }
     ensures values { SameValues (F.value functions.old) (F.value functions.new) }
 {
@@ -153,6 +156,7 @@ fn step_main<F: Functions>(parts: &mut Parts, functions: &mut F, p: Point) -> Re
         (F.calls functions.old) (F.calls functions.new)) }
     ensures memory { IfErr result (λ e. e ≡ Refused.Memory) }
     ensures arena { parts.new.arena ≡ parts.old.arena }
+    ensures ran { parts.new.ran ≡ parts.old.ran }
     ensures kept { IsKept parts.new.arena parts.new.work }
     ensures known { KeepsKnown (F.known functions.old) (F.known functions.new) }
     ensures values { SameValues (F.value functions.old) (F.value functions.new) }

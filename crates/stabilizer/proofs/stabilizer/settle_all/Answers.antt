@@ -6,6 +6,7 @@ use Rattle.stabilizer.proofs.stabilizer.settle_all.Goals as goal
 pub loop-init : goal.loop-init
 loop-init g c = record {
   arena = refl;
+  ran = refl;
   so = no_step (functions_of (g.F.Functions.value c.args.functions.now)) c.args.parts.now.arena c.args.parts.now.work
       (g.F.Functions.calls c.args.functions.now) c.requires.kept c.requires.quiet;
   known = λ f h. h;
@@ -15,6 +16,7 @@ loop-init g c = record {
 pub loop-preserved : goal.loop-preserved
 loop-preserved g c = record {
   arena = c.step.ensures.arena ∙ c.loop.invariant.arena;
+  ran = c.step.ensures.ran ∙ c.loop.invariant.ran;
   so = next_step (g.F.Functions.value c.args.functions.now) (g.F.Functions.value c.loop.functions) c.loop.invariant.values c.args.parts.now.arena
       c.loop.parts.arena c.loop.invariant.arena c.step.new.parts.arena c.args.parts.now.work c.loop.parts.work c.step.new.parts.work
       (g.F.Functions.calls c.args.functions.now) (g.F.Functions.calls c.loop.functions) (g.F.Functions.calls c.step.new.functions)

@@ -7,6 +7,7 @@ use Rattle.stabilizer.proofs.stabilizer.settle_all.Given as goal
 abbrev pub invariant-loop : goal.invariant-loop
 invariant-loop g l = record {
   arena : l.parts.arena ≡ l.fn.parts.arena;
+  ran : l.parts.ran ≡ l.fn.parts.ran;
   so : AreSettled (functions_of (g.F.Functions.value l.fn.functions)) l.fn.parts.arena l.fn.parts.work l.parts.work
       (g.F.Functions.calls l.fn.functions) (g.F.Functions.calls l.functions);
   known : KeepsKnown (g.F.Functions.known l.fn.functions) (g.F.Functions.known l.functions);

@@ -1,0 +1,65 @@
+-- Faults of the crates below, told apart.
+use Rattle.std.proofs.Common.{◌≡◌, Ok, Err, refl, sym, ap, ◌∙◌}
+use Rattle.std.specs.Prelude.{Result, ◌↔◌}
+use Rattle.graph.specs.Fault.{of_add, of_set}
+use Rattle.graph.specs.declared.fault.GraphFault.{GraphFault}
+use Rattle.graph.specs.declared.fault.GraphFault.TheVariants as fault
+use Rattle.node_arena.specs.declared.arena.AddFault.{AddFault}
+use Rattle.node_arena.specs.declared.arena.AddFault.TheVariants as add
+use Rattle.node_arena.specs.declared.arena.variable.SetFault.{SetFault}
+use Rattle.node_arena.specs.declared.arena.variable.SetFault.TheVariants as set
+
+pub same_err : {T E : Type 0} {a b : E} → ◌≡◌ {A = Result T E} (Err a) (Err b) → a ≡ b
+same_err e = cc
+
+pub add_unknown : (e : AddFault) → of_add e ≡ fault.Unknown → e ≡ add.Unknown
+add_unknown add.Unknown h = refl
+add_unknown add.WrongType h = absurd cc
+add_unknown add.Full h = absurd cc
+add_unknown add.Memory h = absurd cc
+
+pub add_wrong_type : (e : AddFault) → of_add e ≡ fault.WrongType → e ≡ add.WrongType
+add_wrong_type add.Unknown h = absurd cc
+add_wrong_type add.WrongType h = refl
+add_wrong_type add.Full h = absurd cc
+add_wrong_type add.Memory h = absurd cc
+
+pub set_unknown : (e : SetFault) → of_set e ≡ fault.Unknown → e ≡ set.Unknown
+set_unknown set.Unknown h = refl
+set_unknown set.NotVar h = absurd cc
+set_unknown set.WrongType h = absurd cc
+
+pub set_not_var : (e : SetFault) → of_set e ≡ fault.NotVar → e ≡ set.NotVar
+set_not_var set.Unknown h = absurd cc
+set_not_var set.NotVar h = refl
+set_not_var set.WrongType h = absurd cc
+
+pub set_wrong_type : (e : SetFault) → of_set e ≡ fault.WrongType → e ≡ set.WrongType
+set_wrong_type set.Unknown h = absurd cc
+set_wrong_type set.NotVar h = absurd cc
+set_wrong_type set.WrongType h = refl
+
+-- an answer of the nodes, as a graph gives it
+abbrev pub Passes : {T : Type 0} → Result T SetFault → Result T GraphFault → Type 0
+Passes (Ok u) q = q ≡ Ok u
+Passes (Err e) q = q ≡ Err (of_set e)
+
+pub passed : {T P U : Type 0} (r : Result T SetFault) (q : Result T GraphFault) (s : SetFault) (f : GraphFault) → Passes r q
+    → ((e : SetFault) → of_set e ≡ f → e ≡ s) → of_set s ≡ f → (r ≡ Err s) ↔ P → U → (q ≡ Err f) ↔ (U × P)
+passed (Ok u) q s f m only is both unbroken = ((λ h. absurd (let x = sym m ∙ h in cc)), (λ k. absurd (let x = both.1 k.1 in cc)))
+passed (Err e) q s f m only is both unbroken = (
+  (λ h. (unbroken, both.0 (ap Err (only e (same_err (sym m ∙ h)))))),
+  (λ k. m ∙ ap Err (ap of_set (same_err (both.1 k.1)) ∙ is)),
+)
+
+abbrev pub AddPasses : {T : Type 0} → Result T AddFault → Result T GraphFault → Type 0
+AddPasses (Ok u) q = q ≡ Ok u
+AddPasses (Err e) q = q ≡ Err (of_add e)
+
+pub add_passed : {T P U : Type 0} (r : Result T AddFault) (q : Result T GraphFault) (s : AddFault) (f : GraphFault) → AddPasses r q
+    → ((e : AddFault) → of_add e ≡ f → e ≡ s) → of_add s ≡ f → (r ≡ Err s) ↔ P → U → (q ≡ Err f) ↔ (U × P)
+add_passed (Ok u) q s f m only is both unbroken = ((λ h. absurd (let x = sym m ∙ h in cc)), (λ k. absurd (let x = both.1 k.1 in cc)))
+add_passed (Err e) q s f m only is both unbroken = (
+  (λ h. (unbroken, both.0 (ap Err (only e (same_err (sym m ∙ h)))))),
+  (λ k. m ∙ ap Err (ap of_add (same_err (both.1 k.1)) ∙ is)),
+)

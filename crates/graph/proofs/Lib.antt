@@ -1,0 +1,7 @@
+pub mod Observing
+pub mod Sound
+pub mod Faulting
+pub mod Sounding
+pub mod Stabilizing
+pub mod Unobserving
+pub mod TakingBack

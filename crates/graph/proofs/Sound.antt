@@ -1,0 +1,36 @@
+-- What every graph keeps, over calls between stabilizes.
+use Rattle.std.proofs.Common.{◌≡◌, ℕ, ◌≤◌, Bool, List, take, Option, sym, subst, ◌∙◌, arith}
+use Rattle.std.specs.Prelude.{IsSome}
+use Rattle.inc_value.specs.declared.function.FnRef.{FnRef}
+use Rattle.inc_value.specs.declared.node.NodeId.{NodeId}
+use Rattle.inc_value.specs.declared.node.Point.{Point}
+use Rattle.inc_value.specs.declared.value.Value.{Value}
+use Rattle.inc_value.specs.Choice.{Among}
+use Rattle.inc_terms.specs.Depend.{main}
+use Rattle.point_map.specs.Rows.{at}
+use Rattle.necessity.specs.Need.{root_times}
+use Rattle.node_arena.specs.Graph.{AllCallFit}
+use Rattle.stabilizer.specs.Computing.{seen_of}
+use Rattle.stabilizer.specs.Meaning.{functions_of, lists_none}
+use Rattle.stabilizer.specs.Round.{IsReady}
+use Rattle.stabilizer.specs.declared.row.Progress.{Progress}
+use Rattle.stabilizer.specs.declared.parts.Parts.{Parts}
+use Rattle.graph.specs.Standing.{in_use}
+use Rattle.graph.specs.Sound.{CanStabilize}
+use Rattle.graph.specs.declared.observer.Observer.{Observer}
+
+module _ (known : FnRef → Bool) (value : FnRef → List Value → Value) (old new : Parts) (observers : List Observer) (rooted : ℕ)
+    (can : CanStabilize known value old observers rooted) where
+  -- roots, what is shown of rooted nodes and ids that were given stay
+  pub can_still : IsReady (functions_of value) new.arena new.work
+      → ((p : Point) → root_times new.work.graph.roots p ≡ root_times old.work.graph.roots p)
+      → AllCallFit known lists_none new.arena → (old.arena.given ≤ new.arena.given)
+      → ((n : NodeId) → Among n (in_use (take rooted observers)) → at new.work.rows (main n) ≡ at old.work.rows (main n))
+      → CanStabilize known value new observers rooted
+  can_still ready roots fit given rows = record {
+    ready = ready;
+    roots = λ p. roots p ∙ can.roots p;
+    fit = fit;
+    given = λ n among. let g = can.given n among in omega (arith, g, given);
+    shown = λ n among. subst (λ (k : Option Progress). IsSome (seen_of k)) (sym (rows n among)) (can.shown n among);
+  }

@@ -1,0 +1,147 @@
+-- What every graph keeps, where a node is added.
+use Rattle.std.proofs.Common.{◌≡◌, ◌⊎◌, inl, inr, ℕ, ◌+◌, ◌≤◌, Bool, List, [], ◌∷◌, Option, None, Some, Ok, Err, sym, ap, subst, ◌∙◌, arith}
+use Rattle.std.specs.Prelude.{Result, IfOk, IfErr, OnOk, OnErr}
+use Rattle.inc_value.specs.declared.function.FnRef.{FnRef}
+use Rattle.inc_value.specs.declared.node.NodeId.{NodeId}
+use Rattle.inc_value.specs.declared.node.Point.{Point}
+use Rattle.inc_value.specs.declared.value.Value.{Value}
+use Rattle.inc_terms.specs.Depend.{main}
+use Rattle.inc_terms.specs.Graph as graph
+use Rattle.inc_terms.specs.Graph.{Row, Def}
+use Rattle.inc_terms.specs.Within.{Given, Fit}
+use Rattle.inc_value.specs.declared.function.FnKind.{FnKind}
+use Rattle.inc_value.specs.declared.ty.Ty.{Ty}
+use Rattle.node_arena.specs.Meanings.{KeepsKnown}
+use Rattle.point_map.specs.Rows.{at}
+use Rattle.necessity.specs.Need.{root_times}
+use Rattle.node_arena.specs.declared.arena.AddFault.{AddFault}
+use Rattle.node_arena.specs.declared.arena.variable.SetFault.{SetFault}
+use Rattle.node_arena.specs.declared.arena.AddFault.TheVariants as add
+use Rattle.node_arena.specs.Arena.{Arena, row_at, Changes, IsSet}
+use Rattle.node_arena.specs.Graph.{AllCallFit, CallsFit}
+use Rattle.stabilize_round.proofs.Points.{node_or_other}
+use Rattle.stabilizer.specs.Between.{IsTakenBack}
+use Rattle.stabilizer.specs.Meaning.{functions_of, lists_none}
+use Rattle.stabilizer.specs.Round.{IsReady}
+use Rattle.stabilizer.specs.declared.parts.Parts.{Parts}
+use Rattle.stabilizer.specs.declared.refused.Refused.{Refused}
+use Rattle.graph.specs.Known.{CallsKnown}
+use Rattle.graph.specs.Sound.{IsSound}
+use Rattle.inc_value.specs.declared.value.Value.TheVariants as value
+use Rattle.inc_value.specs.Choice.{Every}
+use Rattle.inc_terms.specs.Within.{ValueWithin}
+use Rattle.node_arena.specs.Sound.{IsSound as IsArenaSound}
+use Rattle.node_arena.specs.Typing.{Makes}
+use Rattle.graph.specs.declared.observer.Observer.{Observer}
+use Rattle.graph.proofs.Sound.{can_still}
+use Rattle.graph.proofs.Observing.{front_is_among}
+
+-- ---- functions that fit
+
+module _ (known known' : FnRef → Bool) (keeps : KeepsKnown known known') (count count' : ℕ) where
+  fit_as : (k : FnKind) (f : FnRef) → Fit count known lists_none k f → Fit count' known' lists_none k f
+  fit_as k f h = ((keeps f h.0.0, h.0.1), λ n among. absurd among)
+
+  -- maps list no nodes, so how many ids were given makes no difference
+  pub calls_fit_as : (def : Def) → CallsFit count known lists_none def → CallsFit count' known' lists_none def
+  calls_fit_as (graph.Const v) h = h
+  calls_fit_as (graph.Var v) h = h
+  calls_fit_as (graph.Map f ns) h = (fit_as _ f h.0, h.1)
+  calls_fit_as (graph.Fold f v ns) h = (fit_as _ f h.0, h.1, h.2)
+  calls_fit_as (graph.If t a b) h = h
+  calls_fit_as (graph.Join n) h = h
+  calls_fit_as (graph.Bind l f ns) h = (fit_as _ f h.0, h.1, h.2)
+  calls_fit_as (graph.At t) h = tt
+  calls_fit_as (graph.Steps v steps) h = h
+  calls_fit_as graph.Now h = tt
+  calls_fit_as (graph.Every base span) h = tt
+  calls_fit_as (graph.Freeze n f) h = (fit_as _ f h.0, h.1)
+  calls_fit_as (graph.Expert f v ns) h = (fit_as _ f h.0, h.1, h.2)
+
+-- every id keeps its row, and no function is forgotten
+pub rows_fit : (known known' : FnRef → Bool) (old new : Arena) → KeepsKnown known known' → ((n : NodeId) → row_at new n ≡ row_at old n)
+    → AllCallFit known lists_none old → AllCallFit known' lists_none new
+rows_fit known known' old new keeps rows fit n r is = calls_fit_as known known' keeps old.given new.given r.def (fit n r (sym (rows n) ∙ is))
+
+pub itself : (known : FnRef → Bool) → KeepsKnown known known
+itself known f h = h
+
+value_within : (v : Value) → ValueWithin (λ (n : NodeId). Unit {0}) v
+value_within (value.Node n base) = tt
+value_within (value.Int z) = tt
+value_within (value.Bool z) = tt
+value_within (value.Text z) = tt
+
+every_unit : (ns : List NodeId) → Every (λ (n : NodeId). Unit {0}) ns
+every_unit [] = tt
+every_unit (n ∷ ns) = (tt, every_unit ns)
+
+-- a map that makes its type is of the kind of maps
+pub known_fits : (known : FnRef → Bool) (a : Arena) (ty : Ty) (count : ℕ) (def : Def) → CallsKnown known def → Makes a def ty
+    → CallsFit count known lists_none def
+known_fits known a ty count (graph.Const v) k m = value_within v
+known_fits known a ty count (graph.Var v) k m = value_within v
+known_fits known a ty count (graph.Map f ns) k m = (((k, m.kind), λ n among. absurd among), every_unit ns)
+known_fits known a ty count def k m = absurd m
+
+-- ---- a node is added, or not
+
+-- what the answer of adding a node says of the arena
+pub record AddAnswers (old new : Arena) (def : Def) (ty : Ty) (result : Result NodeId AddFault) : Type 0 where
+  pub added : IfOk result (λ (id : NodeId). Changes old new id (Some (record { def = def; ty = ty; scope = None })))
+  pub given : OnOk result (new.given ≡ old.given + 1)
+  pub err : IfErr result (λ (e : AddFault). (new ≡ old) ⊎ ((e ≡ add.Memory) × IsTakenBack old new))
+
+pub answer_given : (old new : Arena) (def : Def) (ty : Ty) (result : Result NodeId AddFault) → AddAnswers old new def ty result → old.given ≤ new.given
+answer_given old new def ty (Ok id) a = let g = a.given in omega (arith, g)
+answer_given old new def ty (Err e) a = elim a.err [
+  | inl same ↦ let g = ap (λ (x : Arena). x.given) same in omega (arith, g)
+  | inr back ↦ let g = back.1.given in omega (arith, g)
+]
+
+same_row : {x y : Row} → ◌≡◌ {A = Option Row} (Some x) (Some y) → x ≡ y
+same_row e = cc
+
+pub answer_fits : (known : FnRef → Bool) (old new : Arena) (def : Def) (ty : Ty) (result : Result NodeId AddFault) → AddAnswers old new def ty result
+    → CallsKnown known def → IsArenaSound new → AllCallFit known lists_none old → AllCallFit known lists_none new
+answer_fits known old new def ty (Ok id) a calls sound fit = λ n r is. elim (node_or_other id n) [
+  | inl e ↦ subst (λ (x : Row). CallsFit new.given known lists_none x.def)
+      (same_row (sym a.added.changed ∙ (ap (row_at new) e ∙ is)))
+      (known_fits known new ty new.given def calls (sound.types id (record { def = def; ty = ty; scope = None }) a.added.changed))
+  | inr ne ↦ calls_fit_as known known (itself known) old.given new.given r.def (fit n r (sym (a.added.others n (λ k. ne (sym k))) ∙ is))
+]
+answer_fits known old new def ty (Err e) a calls sound fit = elim a.err [
+  | inl same ↦ subst (λ (x : Arena). AllCallFit known lists_none x) (sym same) fit
+  | inr back ↦ rows_fit known known old new (itself known) back.1.rows fit
+]
+
+-- ---- a variable is set, or not
+
+pub on_err : {T E : Type 0} (old new : Parts) (result : Result T E) → OnErr result (new ≡ old) → OnErr result (new.arena ≡ old.arena)
+on_err old new (Ok v) h = h
+on_err old new (Err e) h = ap (λ (x : Parts). x.arena) h
+
+pub set_fits : (known : FnRef → Bool) (old new : Arena) (id : NodeId) (v : Value) (result : Result (Unit {0}) SetFault)
+    → OnOk result (IsSet old new id v) → OnErr result (new ≡ old) → AllCallFit known lists_none old → AllCallFit known lists_none new
+set_fits known old new id v (Err e) set same fit = subst (λ (x : Arena). AllCallFit known lists_none x) (sym same) fit
+set_fits known old new id v (Ok u) set same fit = λ n r is. elim (node_or_other id n) [
+  | inl e ↦ subst (λ (x : Row). CallsFit new.given known lists_none x.def)
+      (same_row (sym set.changes.changed ∙ (ap (row_at new) e ∙ is))) (value_within v)
+  | inr ne ↦ calls_fit_as known known (itself known) old.given new.given r.def (fit n r (sym (set.changes.others n (λ k. ne (sym k))) ∙ is))
+]
+
+module _ (known : FnRef → Bool) (value : FnRef → List Value → Value) (old new : Parts) (observers : List Observer) (rooted : ℕ)
+    (refused : Option Refused) (sound : IsSound known value old observers rooted refused) where
+  -- all that a call between stabilizes leaves
+  pub sound_still : (IsReady (functions_of value) old.arena old.work → IsReady (functions_of value) new.arena new.work)
+      → ((p : Point) → root_times new.work.graph.roots p ≡ root_times old.work.graph.roots p)
+      → (AllCallFit known lists_none old.arena → AllCallFit known lists_none new.arena) → (old.arena.given ≤ new.arena.given)
+      → ((n : NodeId) → Given old.arena.given n → at new.work.rows (main n) ≡ at old.work.rows (main n))
+      → IsSound known value new observers rooted refused
+  sound_still ready roots fit given rows = record {
+    few = sound.few;
+    earlier = sound.earlier;
+    unbroken = λ whole. let can = sound.unbroken whole in
+        can_still known value old new observers rooted can (ready can.ready) roots (fit can.fit) given
+        (λ n among. rows n (can.given n (front_is_among observers rooted n among)));
+  }

@@ -1,0 +1,158 @@
+-- What a round gave, over other lists of the same nodes.
+use Rattle.std.proofs.Common.{◌≡◌, inl, inr, ℕ, ◌≤◌, Bool, List, ◌++◌, length, map, take, drop, Option, None, Some, Ok, Err, refl, sym, ap, subst, ◌∙◌}
+use Rattle.std.specs.Prelude.{Result, OnOk, IfErr, IsSome}
+use Rattle.std.proofs.Math.Seq.{take-length}
+use Rattle.inc_value.specs.declared.function.FnRef.{FnRef}
+use Rattle.inc_value.specs.declared.outcome.Outcome.{Outcome}
+use Rattle.inc_value.specs.declared.value.Value.{Value}
+use Rattle.inc_value.specs.declared.node.NodeId.{NodeId}
+use Rattle.inc_value.specs.declared.node.Point.{Point}
+use Rattle.inc_value.specs.Choice.{Among, here}
+use Rattle.inc_terms.specs.Depend.{main, none_died}
+use Rattle.inc_terms.specs.Graph.{Graph}
+use Rattle.inc_terms.specs.Need.{IsRoot, Needed, Met, from_root, from_held}
+use Rattle.inc_terms.specs.Term.{Functions}
+use Rattle.inc_terms.specs.Within.{Given}
+use Rattle.necessary_graph.specs.Part as part
+use Rattle.node_arena.specs.Arena.{Arena, row_at}
+use Rattle.node_arena.specs.Graph.{graph_of}
+use Rattle.node_arena.specs.Meanings.{KeepsKnown}
+use Rattle.stabilize_round.specs.State.{count}
+use Rattle.stabilizer.specs.Computing.{seen}
+use Rattle.stabilizer.specs.Meaning.{functions_of}
+use Rattle.stabilizer.specs.Round.{AreRooted, IsReady, IsUpToDate, WasCalled, IsLawful, IsListed}
+use Rattle.stabilizer.specs.declared.parts.Parts.{Parts}
+use Rattle.stabilizer.specs.declared.refused.Refused.{Refused}
+use Rattle.stabilizer.specs.declared.refused.Refused.TheVariants.{Height, Cycle, Full, Memory}
+use Rattle.stabilizer.specs.declared.work.Work.{Work}
+use Rattle.graph.specs.Sound.{CanStabilize}
+use Rattle.graph.specs.Standing.{in_use}
+use Rattle.graph.specs.declared.observer.Observer.{Observer}
+use Rattle.graph.proofs.Observing.{in_use_split, among_swapped, among_right, count_swapped}
+use Rattle.graph.proofs.Sounding.{rows_fit}
+
+module _ (F : Functions) (G : Graph) (died : NodeId → Option NodeId) (xs ys : List NodeId) (same : (n : NodeId) → Among n xs → Among n ys) where
+  root_as : (n : NodeId) → IsRoot G xs n → IsRoot G ys n
+  root_as n (inl among) = inl (same n among)
+  root_as n (inr unfrozen) = inr unfrozen
+
+  pub needed_as : (p : Point) → Needed F G died xs p → Needed F G died ys p
+  needed_as p need = (need.0, root_as need.0 need.1, need.2)
+
+  pub met_as : (held : Point → Type 0) (p : Point) → Met F G died xs held p → Met F G died ys held p
+  met_as held p (from_root {n} root reach) = from_root (root_as n root) reach
+  met_as held p (from_held h row stands reach) = from_held h row stands reach
+
+module _ (F : Functions) (arena : Arena) (old : Work) (xs ys : List NodeId) (to : (n : NodeId) → Among n xs → Among n ys)
+    (back : (n : NodeId) → Among n ys → Among n xs) where
+  pub called_as : (new : Work) (n : NodeId) → WasCalled F arena old new xs n → WasCalled F arena old new ys n
+  called_as new n w = record {
+    row = w.row;
+    function = w.function;
+    nodes = w.nodes;
+    values = w.values;
+    is_row = w.is_row;
+    is_map = w.is_map;
+    gives = w.gives;
+    reason = w.reason;
+    is_last = w.is_last;
+    met = met_as F (graph_of arena) none_died xs ys to (λ (p : Point). part.Needed old.graph p) (main n) w.met;
+  }
+
+  pub up_to_date_as : (new : Work) (ran : List NodeId) → ((p : Point) → count p (map main xs) ≡ count p (map main ys))
+      → IsUpToDate F arena old new xs ran → IsUpToDate F arena old new ys ran
+  up_to_date_as new ran counts u = record {
+    rooted = λ p. u.rooted p ∙ counts p;
+    needs = λ p. (
+      (λ n. needed_as F (graph_of arena) none_died xs ys to p ((u.needs p).0 n)),
+      (λ n. (u.needs p).1 (needed_as F (graph_of arena) none_died ys xs back p n)),
+    );
+    sees = λ n need. u.sees n (needed_as F (graph_of arena) none_died ys xs back (main n) need);
+    acyclic = λ p need. u.acyclic p (needed_as F (graph_of arena) none_died ys xs back p need);
+    shallow = λ p need. u.shallow p (needed_as F (graph_of arena) none_died ys xs back p need);
+    links = u.links;
+    recalls = u.recalls;
+    kept = u.kept;
+    once = u.once;
+    called = λ n among. called_as new n (u.called n among);
+    work = λ before observers stood all. u.work before observers stood (λ n among. all n (to n among));
+  }
+
+  listed_as : (points : List Point) → IsListed F arena old xs points → IsListed F arena old ys points
+  listed_as points l = record {
+    walk = l.walk;
+    met = λ p starts. met_as F (graph_of arena) none_died xs ys to (λ (q : Point). part.Needed old.graph q) p (l.met p starts);
+  }
+
+  pub lawful_as : (e : Refused) → IsLawful F arena old xs e → IsLawful F arena old ys e
+  lawful_as (Height points) l = (listed_as points.items l.0, l.1)
+  lawful_as (Cycle points) l = (listed_as points.items l.0, l.1)
+  lawful_as Full l = l
+  lawful_as Memory l = l
+
+-- ---- answers
+
+pub on_ok : {T E : Type 0} {A B : Type 0} (r : Result T E) → (A → B) → OnOk r A → OnOk r B
+on_ok (Ok v) f a = f a
+on_ok (Err e) f a = a
+
+pub on_both : {T E : Type 0} {A B C : Type 0} (r : Result T E) → (A → B → C) → OnOk r A → OnOk r B → OnOk r C
+on_both (Ok v) f a b = f a b
+on_both (Err e) f a b = a
+
+pub if_err : {T E : Type 0} {P Q : E → Type 0} (r : Result T E) → ((e : E) → P e → Q e) → IfErr r P → IfErr r Q
+if_err (Ok v) f p = p
+if_err (Err e) f p = f e p
+
+-- ---- a round over observers
+
+module _ (known known' : FnRef → Bool) (value value' : FnRef → List Value → Value) (old new : Parts) (os : List Observer) (rooted : ℕ)
+    (can : CanStabilize known value old os rooted) (within : rooted ≤ length os) where
+  abbrev front : List NodeId
+  front = in_use (take rooted os)
+
+  abbrev rest : List NodeId
+  rest = in_use (drop rooted os)
+
+  to_all : (n : NodeId) → Among n (rest ++ front) → Among n (in_use os)
+  to_all n h = subst (Among n) (in_use_split os rooted) (among_swapped n rest front h)
+
+  from_all : (n : NodeId) → Among n (in_use os) → Among n (rest ++ front)
+  from_all n h = among_swapped n front rest (subst (Among n) (sym (in_use_split os rooted)) h)
+
+  counts_all : (p : Point) → count p (map main (rest ++ front)) ≡ count p (map main (in_use os))
+  counts_all p = count_swapped p rest front ∙ ap (λ (ns : List NodeId). count p (map main ns)) (in_use_split os rooted)
+
+  -- the nodes of the rest were given
+  pub rest_given : (n : NodeId) → Among n rest → Given old.arena.given n
+  rest_given n h = can.given n (subst (Among n) (in_use_split os rooted) (among_right n front rest h))
+
+  pub all_right : ((observed : List NodeId) → AreRooted old.work observed
+      → IsUpToDate (functions_of value) old.arena old.work new.work (rest ++ observed) new.ran.items)
+      → IsUpToDate (functions_of value) old.arena old.work new.work (in_use os) new.ran.items
+  all_right right = up_to_date_as (functions_of value) old.arena old.work (rest ++ front) (in_use os) to_all from_all new.work new.ran.items counts_all
+      (right front can.roots)
+
+  pub all_lawful : (e : Refused) → ((observed : List NodeId) → AreRooted old.work observed
+      → IsLawful (functions_of value) old.arena old.work (rest ++ observed) e)
+      → IsLawful (functions_of value) old.arena old.work (in_use os) e
+  all_lawful e lawful = lawful_as (functions_of value) old.arena old.work (rest ++ front) (in_use os) to_all from_all e (lawful front can.roots)
+
+  shows_some : (x : Option Outcome) (o : Outcome) → x ≡ Some o → IsSome x
+  shows_some None o e = absurd cc
+  shows_some (Some y) o e = refl
+
+  pub can_again : new.arena ≡ old.arena → KeepsKnown known known' → IsReady (functions_of value') new.arena new.work
+      → IsUpToDate (functions_of value) old.arena old.work new.work (in_use os) new.ran.items
+      → CanStabilize known' value' new os (length os)
+  can_again arena keeps ready right =
+      let whole : take (length os) os ≡ os = take-length os in
+      record {
+        ready = ready;
+        roots = subst (λ (xs : List Observer). AreRooted new.work (in_use xs)) (sym whole) right.rooted;
+        fit = rows_fit known known' old.arena new.arena keeps (λ n. ap (λ (a : Arena). row_at a n) arena) can.fit;
+        given = λ n among. subst (λ (a : Arena). Given a.given n) (sym arena) (can.given n among);
+        shown = λ n among.
+            let s = right.sees n (n, inl (subst (λ (xs : List Observer). Among n (in_use xs)) whole among), here) in
+            shows_some (seen new.work.rows (main n)) s.0 s.1;
+      }

@@ -1,0 +1,139 @@
+-- What every graph keeps, where observers are made and ended.
+use Rattle.std.proofs.Common.{◌≡◌, inl, inr, ℕ, zero, suc, ◌-◌, ◌^◌, ◌<◌, ◌≤◌, Bool, true, List, [], ◌∷◌, ◌++◌, length, take, map, Option, None, Some, refl, sym, ap, subst, ◌∙◌, arith, length-append}
+use Rattle.std.specs.Prelude.{slice_get, slice_set, IsSome, is_some}
+use Rattle.std.proofs.lemmas.List.{take-append-le}
+use Rattle.inc_value.specs.declared.function.FnRef.{FnRef}
+use Rattle.inc_value.specs.declared.node.NodeId.{NodeId}
+use Rattle.inc_value.specs.declared.node.Point.{Point}
+use Rattle.inc_value.specs.declared.outcome.Outcome.{Outcome}
+use Rattle.inc_value.specs.declared.outcome.Outcome.TheVariants.{Invalid}
+use Rattle.inc_value.specs.declared.value.Value.{Value}
+use Rattle.inc_value.specs.Choice.{Among}
+use Rattle.inc_terms.specs.Depend.{main}
+use Rattle.inc_terms.specs.Within.{Given}
+use Rattle.point_map.specs.Rows.{Rows, at}
+use Rattle.necessity.specs.Need.{Roots, root_times, OneRootMore}
+use Rattle.stabilize_round.proofs.Points.{among_count, same_or_other}
+use Rattle.stabilizer.specs.Between.{outcome_in}
+use Rattle.stabilizer.specs.Computing.{seen_of}
+use Rattle.node_arena.specs.Arena.{Arena}
+use Rattle.node_arena.specs.Graph.{AllCallFit}
+use Rattle.stabilizer.specs.Meaning.{functions_of, lists_none}
+use Rattle.stabilizer.specs.Round.{IsReady, AreRooted}
+use Rattle.stabilizer.specs.declared.row.Progress.{Progress}
+use Rattle.stabilizer.specs.declared.parts.Parts.{Parts}
+use Rattle.stabilizer.specs.declared.refused.Refused.{Refused}
+use Rattle.graph.specs.Standing.{in_use, looked_at}
+use Rattle.graph.specs.Sound.{IsSound}
+use Rattle.graph.specs.declared.observer.Observer.{Observer}
+use Rattle.graph.proofs.Observing.{IsLeftOut, ended, left_out, left_is_among, front_set, front_stays, front_same, in_use_append, among_either}
+
+abbrev pub observing : NodeId → Observer
+observing node = record { node = node; in_use = true }
+
+module _ (known : FnRef → Bool) (value : FnRef → List Value → Value) (parts : Parts) (observers : List Observer) (rooted : ℕ)
+    (refused : Option Refused) (sound : IsSound known value parts observers rooted refused) (node : NodeId) where
+  -- an observer more
+  pub sound_observed : (length observers < 2 ^ 32 - 1) → Given parts.arena.given node
+      → IsSound known value parts (observers ++ observing node ∷ []) rooted refused
+  sound_observed few given = record {
+    few = let l = length-append observers (observing node ∷ []) in omega (arith, l, few);
+    earlier = let l = length-append observers (observing node ∷ []) in omega (arith, l, sound.earlier);
+    unbroken = λ whole. let can = sound.unbroken whole in
+        let front : take rooted (observers ++ observing node ∷ []) ≡ take rooted observers = take-append-le rooted observers (observing node ∷ []) sound.earlier in
+        record {
+          ready = can.ready;
+          roots = subst (λ (os : List Observer). AreRooted parts.work (in_use os)) (sym front) can.roots;
+          fit = can.fit;
+          given = λ n among. elim (among_either n (in_use observers) (node ∷ []) (subst (Among n) (in_use_append observers (observing node ∷ [])) among)) [
+            | inl k ↦ can.given n k
+            | inr k ↦ elim k [ inl e ↦ subst (Given parts.arena.given) (sym e) given | inr none ↦ absurd none ]
+          ];
+          shown = λ n among. can.shown n (subst (λ (os : List Observer). Among n (in_use os)) front among);
+        };
+  }
+
+set_length : {A : Type 0} (xs : List A) (i : ℕ) (y : A) → length (slice_set xs i y) ≡ length xs
+set_length [] i y = refl
+set_length (x ∷ xs) zero y = refl
+set_length (x ∷ xs) (suc i) y = ap suc (set_length xs i y)
+
+-- the front of the observers, with one ended in it
+front_out : (observers : List Observer) (rooted place : ℕ) (node : NodeId) → place < rooted → looked_at (slice_get observers place) ≡ Some node
+    → IsLeftOut node (in_use (take rooted observers)) (in_use (take rooted (slice_set observers place (ended node))))
+front_out observers rooted place node below is = subst (λ (os : List Observer). IsLeftOut node (in_use (take rooted observers)) (in_use os))
+    (sym (front_set observers rooted place (ended node) below))
+    (left_out (take rooted observers) place node (ap looked_at (front_same observers rooted place below) ∙ is))
+
+pub mains_among : (n : NodeId) (ns : List NodeId) → Among n ns → Among (main n) (map main ns)
+mains_among n [] h = absurd h
+mains_among n (m ∷ ns) (inl e) = inl (ap main e)
+mains_among n (m ∷ ns) (inr h) = inr (mains_among n ns h)
+
+-- a root of an observer that was there at the last round
+pub is_root : (parts : Parts) (observers : List Observer) (rooted : ℕ) (node : NodeId) → AreRooted parts.work (in_use (take rooted observers))
+    → Among node (in_use (take rooted observers)) → 0 < root_times parts.work.graph.roots (main node)
+is_root parts observers rooted node roots among =
+    let r = roots (main node) in
+    let c = among_count (main node) (map main (in_use (take rooted observers))) (mains_among node (in_use (take rooted observers)) among) in
+    omega (arith, r, c)
+
+module _ (known : FnRef → Bool) (value : FnRef → List Value → Value) (old new : Parts) (observers : List Observer) (rooted place : ℕ)
+    (refused : Option Refused) (sound : IsSound known value old observers rooted refused) (node : NodeId)
+    (is : looked_at (slice_get observers place) ≡ Some node) where
+  -- an observer fewer that wasn't there at the last round
+  pub sound_unmade : rooted ≤ place → IsSound known value old (slice_set observers place (ended node)) rooted refused
+  sound_unmade later = record {
+    few = let l = set_length observers place (ended node) in omega (arith, l, sound.few);
+    earlier = let l = set_length observers place (ended node) in omega (arith, l, sound.earlier);
+    unbroken = λ whole. let can = sound.unbroken whole in
+        let front : take rooted (slice_set observers place (ended node)) ≡ take rooted observers = front_stays observers rooted place (ended node) later in
+        record {
+          ready = can.ready;
+          roots = subst (λ (os : List Observer). AreRooted old.work (in_use os)) (sym front) can.roots;
+          fit = can.fit;
+          given = λ n among. can.given n (left_is_among node n (in_use observers) (in_use (slice_set observers place (ended node)))
+              (left_out observers place node is) among);
+          shown = λ n among. can.shown n (subst (λ (os : List Observer). Among n (in_use os)) front among);
+        };
+  }
+
+  -- one fewer that was, whose root came off
+  pub sound_ended : place < rooted → (IsReady (functions_of value) old.arena old.work → IsReady (functions_of value) new.arena new.work)
+      → ((before after : List NodeId) → AreRooted old.work (before ++ node ∷ after) → AreRooted new.work (before ++ after))
+      → new.arena ≡ old.arena → new.work.rows ≡ old.work.rows
+      → IsSound known value new (slice_set observers place (ended node)) rooted refused
+  sound_ended below ready roots arena rows = record {
+    few = let l = set_length observers place (ended node) in omega (arith, l, sound.few);
+    earlier = let l = set_length observers place (ended node) in omega (arith, l, sound.earlier);
+    unbroken = λ whole. let can = sound.unbroken whole in
+        let out = front_out observers rooted place node below is in
+        record {
+          ready = ready can.ready;
+          roots = subst (AreRooted new.work) (sym out.now) (roots out.front out.back (subst (AreRooted old.work) out.was can.roots));
+          fit = subst (λ (a : Arena). AllCallFit known lists_none a) (sym arena) can.fit;
+          given = λ n among. subst (λ (a : Arena). Given a.given n) (sym arena)
+              (can.given n (left_is_among node n (in_use observers) (in_use (slice_set observers place (ended node)))
+              (left_out observers place node is) among));
+          shown = λ n among. subst (λ (m : Rows Progress). IsSome (seen_of (at m (main n)))) (sym rows)
+              (can.shown n (left_is_among node n (in_use (take rooted observers)) (in_use (take rooted (slice_set observers place (ended node)))) out among));
+        };
+  }
+
+-- ---- what is shown
+
+-- a node without an outcome of its own that shows one is dead
+pub shows_invalid : (k : Option Progress) → outcome_in k ≡ None → IsSome (seen_of k) → seen_of k ≡ Some Invalid
+shows_invalid None none shown = refl
+shows_invalid (Some k) none shown = absurd (let s = shown in let e = ap is_some none in cc)
+
+pub shows_own : (k : Option Progress) (o : Outcome) → outcome_in k ≡ Some o → seen_of k ≡ Some o
+shows_own None o e = absurd cc
+shows_own (Some k) o e = e
+
+-- a root fewer
+pub roots_fewer : (old new : Roots) (p : Point) → OneRootMore new old p → (a : Point) → root_times new a ≤ root_times old a
+roots_fewer old new p less a = elim (same_or_other p a) [
+  | inl e ↦ subst (λ (x : Point). root_times new x ≤ root_times old x) e (let r = less.raised in omega (arith, r))
+  | inr ne ↦ let o = less.others a (λ k. ne (sym k)) in omega (arith, o)
+]

@@ -1,0 +1,57 @@
+use Rattle.std.proofs.Common.{List, refl, sym, ap, subst, ◌∙◌}
+use Rattle.inc_terms.specs.Depend.{main}
+use Rattle.point_map.specs.Rows.{Rows, at}
+use Rattle.stabilizer.specs.Computing.{seen_of}
+use Rattle.stabilizer.specs.Round.{last_of}
+use Rattle.stabilizer.specs.declared.row.Progress.{Progress}
+use Rattle.graph.specs.Sound.{IsSound}
+use Rattle.graph.specs.declared.observer.Observer.{Observer}
+use Rattle.graph.proofs.Observing.{front_among}
+use Rattle.graph.proofs.Unobserving.{sound_unmade, sound_ended, is_root, roots_fewer}
+use Rattle.graph.proofs.graph.Graph.unobserve.Goals as goal
+
+pub unroot-requires-clause-root : goal.unroot-requires-clause-root
+unroot-requires-clause-root g c =
+    let is = rw c.deref.ensures.value at (sym c.node_at.ensures ∙ c.in-Some.is) in
+    let whole = rw (← c.self.view_is) at c.in_ok-check.ensures.unbroken in
+    is_root c.self.inside.parts c.self.inside.observers.items c.self.inside.rooted c.in-Some.node (c.self.invariant.1.unbroken whole).roots
+    (front_among c.self.inside.observers.items c.self.inside.rooted c.args.observer.0 c.in-Some.node c.if-place-self.true is)
+
+pub invariant_of-self : goal.invariant_of-self
+invariant_of-self g c = (
+  c.self.invariant.0,
+  (let is = rw c.deref.ensures.value at (sym c.node_at.ensures ∙ c.in-Some.is) in
+      let u = c.unroot.ensures in
+      subst (λ (os : List Observer). IsSound (g.F.Functions.known c.self.inside.functions) (g.F.Functions.value c.self.inside.functions)
+      c.unroot.new.self os c.self.inside.rooted c.self.inside.refused) (sym c.end.ensures)
+      (sound_ended _ _ c.self.inside.parts c.unroot.new.self c.self.inside.observers.items c.self.inside.rooted c.args.observer.0
+      c.self.inside.refused c.self.invariant.1 c.in-Some.node is c.if-place-self.true (u.ready _) u.rooted u.arena u.rows)),
+)
+
+pub invariant_of-self-else-place-self : goal.invariant_of-self-else-place-self
+invariant_of-self-else-place-self g c = (
+  c.self.invariant.0,
+  (let is = rw c.deref.ensures.value at (sym c.node_at.ensures ∙ c.in-Some.is) in
+      subst (λ (os : List Observer). IsSound (g.F.Functions.known c.self.inside.functions) (g.F.Functions.value c.self.inside.functions)
+      c.self.inside.parts os c.self.inside.rooted c.self.inside.refused) (sym c.end.ensures)
+      (sound_unmade _ _ c.self.inside.parts c.self.inside.parts c.self.inside.observers.items c.self.inside.rooted c.args.observer.0
+      c.self.inside.refused c.self.invariant.1 c.in-Some.node is c.if-place-self.false)),
+)
+
+pub returns-then-place-self-clause-ended : goal.returns-then-place-self-clause-ended
+returns-then-place-self-clause-ended g c =
+    let is = rw c.deref.ensures.value at (sym c.node_at.ensures ∙ c.in-Some.is) in
+    let u = c.unroot.ensures in
+    rw (← c.self.view_is) (record {
+      node = c.in-Some.node;
+      was = is;
+      observers = c.end.ensures;
+      functions = refl;
+      arena = u.arena;
+      rooted = refl;
+      refused = refl;
+      shown = λ n. ap (λ (m : Rows Progress). seen_of (at m (main n))) u.rows;
+      last = λ n. ap (λ (m : Rows Progress). last_of (at m (main n))) u.rows;
+      fewer = u.unrooted.sweep.fewer;
+      unrooted = roots_fewer _ _ (main c.in-Some.node) u.roots;
+    })

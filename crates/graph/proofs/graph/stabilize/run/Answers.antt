@@ -1,0 +1,37 @@
+use Rattle.std.proofs.Common.{List, subst, ◌∙◌}
+use Rattle.inc_value.specs.declared.node.NodeId.{NodeId}
+use Rattle.inc_value.specs.Choice.{Among}
+use Rattle.inc_terms.specs.Within.{Given}
+use Rattle.graph.proofs.Observing.{all_of}
+use Rattle.graph.proofs.Stabilizing.{on_ok, on_both, if_err, rest_given, all_right, all_lawful, can_again}
+use Rattle.graph.proofs.graph.stabilize.run.Goals as goal
+
+pub run-requires-clause-given : goal.run-requires-clause-given
+run-requires-clause-given g c =
+    let e = c.deref.ensures.value ∙ c.in_ok-roots.ensures in
+    all_of (Given c.args.parts.now.arena.given) c.deref.result.now
+    (λ n among. rest_given (g.F.Functions.known c.args.functions.now) (g.F.Functions.known c.args.functions.now)
+    (g.F.Functions.value c.args.functions.now) (g.F.Functions.value c.args.functions.now) c.args.parts.now c.args.parts.now c.args.observers.now c.args.rooted c.requires.can c.requires.within n
+    (subst (λ (ns : List NodeId). Among n ns) e among))
+
+pub returns-clause-right : goal.returns-clause-right
+returns-clause-right g c =
+    let e = c.deref.ensures.value ∙ c.in_ok-roots.ensures in
+    let right = rw e at c.run.ensures.right in
+    on_ok c.run.result (all_right (g.F.Functions.known c.args.functions.now) (g.F.Functions.known c.run.new.functions) (g.F.Functions.value c.args.functions.now) (g.F.Functions.value c.run.new.functions)
+    c.args.parts.now c.run.new.parts c.args.observers.now c.args.rooted c.requires.can c.requires.within) right
+
+pub returns-clause-can : goal.returns-clause-can
+returns-clause-can g c =
+    on_both c.run.result
+    (λ right ready. can_again (g.F.Functions.known c.args.functions.now) (g.F.Functions.known c.run.new.functions) (g.F.Functions.value c.args.functions.now) (g.F.Functions.value c.run.new.functions)
+    c.args.parts.now c.run.new.parts c.args.observers.now c.args.rooted c.requires.can c.requires.within
+    c.run.ensures.arena c.run.ensures.known ready right)
+    (returns-clause-right g c) c.run.ensures.ready
+
+pub returns-clause-lawful : goal.returns-clause-lawful
+returns-clause-lawful g c =
+    let e = c.deref.ensures.value ∙ c.in_ok-roots.ensures in
+    let lawful = rw e at c.run.ensures.lawful in
+    if_err c.run.result (all_lawful (g.F.Functions.known c.args.functions.now) (g.F.Functions.known c.run.new.functions) (g.F.Functions.value c.args.functions.now) (g.F.Functions.value c.run.new.functions)
+    c.args.parts.now c.run.new.parts c.args.observers.now c.args.rooted c.requires.can c.requires.within) lawful

@@ -1,0 +1,91 @@
+-- What calls do to a graph, and what they leave.
+use Rattle.std.specs.Prelude.{◌≡◌, ◌⊎◌, ◌<◌, ◌≤◌, ◌++◌, ℕ, true, false, [], ◌∷◌, length, slice_set, None, Some}
+use Rattle.inc_value.specs.declared.node.ObsId.{ObsId}
+use Rattle.inc_value.specs.declared.node.NodeId.{NodeId}
+use Rattle.inc_value.specs.declared.node.Point.{Point}
+use Rattle.inc_value.specs.declared.value.Value.{Value}
+use Rattle.inc_terms.specs.Graph.{Row}
+use Rattle.inc_terms.specs.Within.{Given}
+use Rattle.link_table.specs.Links.{times, KeepsLinks}
+use Rattle.necessity.specs.Need.{root_times, KeepsRoots}
+use Rattle.node_arena.specs.Arena.{row_at, Changes, IsSet}
+use Rattle.stabilizer.specs.Round.{last_call}
+use Rattle.graph.specs.Standing.{Standing, node_at, shown_of}
+use Rattle.graph.specs.declared.fault.Kept.{Kept}
+use Rattle.graph.specs.declared.fault.GraphFault.{GraphFault}
+use Rattle.graph.specs.declared.fault.GraphFault.TheVariants as fault
+
+module _ {F : Type 0} where
+  -- beside the nodes all stays: functions, observers, what is shown and what functions were last called on, of the ids that were given; links and
+  -- roots; and what broke the graph
+  pub record KeepsBeside (old new : Standing F) : Type 0 where
+    pub functions : new.functions ≡ old.functions
+    pub observers : new.observers ≡ old.observers
+    pub rooted : new.rooted ≡ old.rooted
+    pub refused : new.refused ≡ old.refused
+    pub shown : (n : NodeId) → Given old.parts.arena.given n → shown_of new n ≡ shown_of old n
+    pub last : (n : NodeId) → Given old.parts.arena.given n → last_call new.parts.work n ≡ last_call old.parts.work n
+    pub links : KeepsLinks old.parts.work.graph.links new.parts.work.graph.links
+    pub roots : KeepsRoots old.parts.work.graph.roots new.parts.work.graph.roots
+
+  -- no node changed, and all stays beside
+  pub record KeepsAll (old new : Standing F) : Type 0 where
+    pub beside : KeepsBeside old new
+    pub rows : (n : NodeId) → row_at new.parts.arena n ≡ row_at old.parts.arena n
+
+  -- a node was added under an id that was never given
+  pub record Adds (old new : Standing F) (id : NodeId) (row : Row) : Type 0 where
+    pub beside : KeepsBeside old new
+    pub fresh : id.gen_ ≡ old.parts.arena.given
+    pub changes : Changes old.parts.arena new.parts.arena id (Some row)
+
+  -- a variable was set
+  pub record Sets (old new : Standing F) (id : NodeId) (v : Value) : Type 0 where
+    pub beside : KeepsBeside old new
+    pub set : IsSet old.parts.arena new.parts.arena id v
+
+  -- the nodes of ids from a count on were dropped
+  pub record TakesBack (old new : Standing F) (count : ℕ) : Type 0 where
+    pub functions : new.functions ≡ old.functions
+    pub observers : new.observers ≡ old.observers
+    pub rooted : new.rooted ≡ old.rooted
+    pub refused : new.refused ≡ old.refused
+    pub older : (n : NodeId) → n.gen_ < count → row_at new.parts.arena n ≡ row_at old.parts.arena n
+    pub dropped : (n : NodeId) → count ≤ n.gen_ → row_at new.parts.arena n ≡ None
+    pub given : new.parts.arena.given ≡ old.parts.arena.given
+    pub shown : (n : NodeId) → n.gen_ < count → shown_of new n ≡ shown_of old n
+    pub last : (n : NodeId) → n.gen_ < count → last_call new.parts.work n ≡ last_call old.parts.work n
+    pub links : KeepsLinks old.parts.work.graph.links new.parts.work.graph.links
+    pub roots : KeepsRoots old.parts.work.graph.roots new.parts.work.graph.roots
+
+  -- an observer of a node was made, and nothing else changed
+  pub record Observes (old new : Standing F) (o : ObsId) (node : NodeId) : Type 0 where
+    pub id : o.0 ≡ length old.observers
+    pub rest : new ≡ record old { observers = old.observers ++ record { node = node; in_use = true } ∷ [] }
+
+  -- an observer that was in use was ended; beside it only need changed, where it was there when a stabilize was accepted last
+  pub record Ends (old new : Standing F) (o : ObsId) : Type 0 where
+    pub node : NodeId
+    pub was : node_at old.observers o ≡ Some node
+    pub observers : new.observers ≡ slice_set old.observers o.0 (record { node = node; in_use = false })
+    pub functions : new.functions ≡ old.functions
+    pub arena : new.parts.arena ≡ old.parts.arena
+    pub rooted : new.rooted ≡ old.rooted
+    pub refused : new.refused ≡ old.refused
+    pub shown : (n : NodeId) → shown_of new n ≡ shown_of old n
+    pub last : (n : NodeId) → last_call new.parts.work n ≡ last_call old.parts.work n
+    pub fewer : (p q : Point) → times new.parts.work.graph.links p q ≤ times old.parts.work.graph.links p q
+    pub unrooted : (p : Point) → root_times new.parts.work.graph.roots p ≤ root_times old.parts.work.graph.roots p
+
+-- why a node may not be added, set or observed; and why an observer may not be asked or ended
+abbrev pub IsAddFault : GraphFault → Type 0
+IsAddFault e = ((cause : Kept) × (e ≡ fault.Broken cause)) ⊎ (e ≡ fault.Unknown) ⊎ (e ≡ fault.WrongType) ⊎ (e ≡ fault.Full) ⊎ (e ≡ fault.Memory)
+
+abbrev pub IsSetFault : GraphFault → Type 0
+IsSetFault e = ((cause : Kept) × (e ≡ fault.Broken cause)) ⊎ (e ≡ fault.Unknown) ⊎ (e ≡ fault.NotVar) ⊎ (e ≡ fault.WrongType)
+
+abbrev pub IsObserveFault : GraphFault → Type 0
+IsObserveFault e = ((cause : Kept) × (e ≡ fault.Broken cause)) ⊎ (e ≡ fault.Unknown) ⊎ (e ≡ fault.TooMany) ⊎ (e ≡ fault.Memory)
+
+abbrev pub IsObserverFault : GraphFault → Type 0
+IsObserverFault e = ((cause : Kept) × (e ≡ fault.Broken cause)) ⊎ (e ≡ fault.Unknown) ⊎ (e ≡ fault.NotStabilized)

@@ -1,0 +1,31 @@
+-- How faults of the crates below are answered.
+use Rattle.graph.specs.declared.fault.Kept.{Kept}
+use Rattle.graph.specs.declared.fault.Kept.TheVariants as kept
+use Rattle.graph.specs.declared.fault.GraphFault.{GraphFault}
+use Rattle.graph.specs.declared.fault.GraphFault.TheVariants as fault
+use Rattle.node_arena.specs.declared.arena.AddFault.{AddFault}
+use Rattle.node_arena.specs.declared.arena.AddFault.TheVariants as add
+use Rattle.node_arena.specs.declared.arena.variable.SetFault.{SetFault}
+use Rattle.node_arena.specs.declared.arena.variable.SetFault.TheVariants as set
+use Rattle.stabilizer.specs.declared.refused.Refused.{Refused}
+use Rattle.stabilizer.specs.declared.refused.Refused.TheVariants as refused
+
+-- what breaks a graph
+abbrev pub kept_of : Refused → Kept
+kept_of (refused.Cycle points) = kept.Cycle
+kept_of (refused.Height points) = kept.Height
+kept_of refused.Full = kept.Full
+kept_of refused.Memory = kept.Memory
+
+-- why a node isn't added
+abbrev pub of_add : AddFault → GraphFault
+of_add add.Unknown = fault.Unknown
+of_add add.WrongType = fault.WrongType
+of_add add.Full = fault.Full
+of_add add.Memory = fault.Memory
+
+-- why a variable isn't set
+abbrev pub of_set : SetFault → GraphFault
+of_set set.Unknown = fault.Unknown
+of_set set.NotVar = fault.NotVar
+of_set set.WrongType = fault.WrongType

@@ -1,0 +1,9 @@
+-- The functions that a definition calls.
+use Rattle.std.specs.Prelude.{Bool, IsTrue}
+use Rattle.inc_value.specs.declared.function.FnRef.{FnRef}
+use Rattle.inc_terms.specs.Graph.{Def, Map}
+
+-- the function of a map is known, whatever its kind
+abbrev pub CallsKnown : (FnRef → Bool) → Def → Type 0
+CallsKnown known (Map f kids) = IsTrue (known f)
+CallsKnown known def = Unit {0}

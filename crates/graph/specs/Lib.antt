@@ -1,0 +1,6 @@
+pub mod Fault
+pub mod Standing
+pub mod Known
+pub mod Sound
+pub mod Effects
+pub mod Stabilizes

@@ -1,0 +1,107 @@
+//! Why a call of a graph is refused.
+ghost use Rattle.std.specs.Prelude.{◌≡◌};
+ghost use Rattle.graph.specs.Fault.{kept_of, of_add, of_set};
+
+use node_arena::{AddFault, SetFault};
+use stabilizer::Refused;
+use std::alloc::AllocError;
+use thiserror::Error;
+
+/// What broke a graph.
+#[derive(Clone, Copy, Debug, PartialEq, Eq)]
+pub enum Kept {
+    /// Points that read in a circle.
+    Cycle,
+    /// A chain of points that is too long.
+    Height,
+    /// No further node could be added.
+    Full,
+    /// There was no memory.
+    Memory,
+}
+
+/// Why a call of a graph is refused, in the order in which the causes are looked for.
+#[derive(Clone, Copy, Debug, PartialEq, Eq, Error)]
+pub enum GraphFault {
+    /// An earlier stabilize was refused.
+    #[error("an earlier stabilize was refused")]
+    Broken(Kept),
+    /// A node's id was never given, or an observer was never made or is ended.
+    #[error("a node or an observer isn't known")]
+    Unknown,
+    /// The node isn't a live variable.
+    #[error("the node isn't a live variable")]
+    NotVar,
+    /// The types don't fit.
+    #[error("the types don't fit")]
+    WrongType,
+    /// No stabilize was accepted since the observer was made.
+    #[error("no stabilize was accepted since the observer was made")]
+    NotStabilized,
+    /// There are 4,294,967,295 observers.
+    #[error("no further observer can be made")]
+    TooMany,
+    /// There are 1,048,576 live nodes, or every id was given.
+    #[error("no further node can be added")]
+    Full,
+    /// There is no memory.
+    #[error("out of memory")]
+    Memory,
+}
+
+/// Why a stabilize is refused. What it met is told by `Graph::broken`.
+#[derive(Clone, Copy, Debug, PartialEq, Eq, Error)]
+pub enum StabilizeFault {
+    /// This stabilize was refused, which broke the graph.
+    #[error("the stabilize was refused")]
+    Refused(Kept),
+    /// An earlier stabilize was refused.
+    #[error("an earlier stabilize was refused")]
+    Broken(Kept),
+}
+
+/// What breaks a graph where a stabilize is refused.
+pub(crate) fn cause_of(refused: &Refused) -> Kept
+    ensures { result ≡ kept_of refused.now }
+{
+    match refused {
+        Refused::Cycle(_) => Kept::Cycle,
+        Refused::Height(_) => Kept::Height,
+        Refused::Full => Kept::Full,
+        Refused::Memory => Kept::Memory,
+    }
+}
+
+/// Why a node isn't added.
+pub(crate) fn add_fault(fault: AddFault) -> GraphFault
+    ensures { result ≡ of_add fault }
+{
+    match fault {
+        AddFault::Unknown => GraphFault::Unknown,
+        AddFault::WrongType => GraphFault::WrongType,
+        AddFault::Full => GraphFault::Full,
+        AddFault::Memory => GraphFault::Memory,
+    }
+}
+
+/// Why a variable isn't set.
+pub(crate) fn set_fault(fault: SetFault) -> GraphFault
+    ensures { result ≡ of_set fault }
+{
+    match fault {
+        SetFault::Unknown => GraphFault::Unknown,
+        SetFault::NotVar => GraphFault::NotVar,
+        SetFault::WrongType => GraphFault::WrongType,
+    }
+}
+
+impl From<AllocError> for GraphFault {
+    ghost use Rattle.std.specs.Prelude.{◌≡◌};
+    ghost use Rattle.graph.specs.declared.fault.GraphFault.TheVariants.{Memory};
+
+    ghost from_gives = { λ _ f. f ≡ Memory };
+
+    fn from(_fault: AllocError) -> GraphFault {
+        GraphFault::Memory
+    }
+}

@@ -1,0 +1,135 @@
+//! Graphs.
+ghost use Rattle.std.specs.Prelude.{◌≡◌, ◌↔◌, [], None, Some, IfOk, IfErr, IfSome, IfNone, IsErrOf, OnOk, option_copied};
+ghost use Rattle.inc_value.specs.declared.node.NodeId.{NodeId};
+ghost use Rattle.node_arena.specs.Arena.{row_at, IsLive};
+ghost use Rattle.graph.specs.Standing.{IsUnbroken, IsBroken};
+ghost use Rattle.graph.specs.declared.fault.Kept.{Kept as ACause};
+
+mod build;
+mod observe;
+mod stabilize;
+
+use crate::fault::{GraphFault, Kept, cause_of};
+use crate::observer::Observer;
+pub use build::Mark;
+use inc_value::{NodeId, Outcome};
+use node_arena::Functions;
+pub use stabilize::Round;
+use stabilizer::{Parts, Refused};
+use std::alloc::{AllocError, Global};
+use std::marker::Model;
+
+/// A graph of constants, variables and maps over the functions of `F`. What is observed is brought up to date by
+/// `stabilize` and shows until the next one.
+#[derive(Drop)]
+pub struct Graph<F: Functions> {
+    alloc: Global,
+    functions: F,
+    parts: Parts,
+    observers: Vec<Observer>,
+    /// How many observers had been made when the last stabilize was accepted. Their nodes are roots, where they are in use.
+    rooted: usize,
+    /// What an observer of a dead node shows.
+    invalid: Outcome,
+    refused: Option<Refused>,
+}
+
+impl<F: Functions> Model for Graph<F> {
+    ghost use Rattle.graph.specs.Standing.{Standing};
+
+    ghost Value = { Standing F };
+
+    ghost view = { λ g. record {
+      functions = g.functions;
+      parts = g.parts;
+      observers = g.observers.items;
+      rooted = g.rooted;
+      refused = g.refused;
+    } };
+
+    ghost use Rattle.std.specs.Prelude.{◌≡◌};
+    ghost use Rattle.inc_value.specs.declared.outcome.Outcome.TheVariants.{Invalid};
+    ghost use Rattle.graph.specs.Sound.{IsSound};
+
+    ghost invariant = { λ g. (g.invalid ≡ Invalid)
+        × IsSound (F.known g.functions) (F.value g.functions) g.parts g.observers.items g.rooted g.refused };
+}
+
+impl<F: Functions> Graph<F> {
+    /// A graph without nodes. It owns the functions, which come back where there is no memory.
+    pub fn new(alloc: Global, functions: F) -> Result<Graph<F>, (AllocError, F)>
+        ensures functions { IfOk result (λ g. g.functions ≡ functions) }
+        ensures nodes { IfOk result (λ g. (n : NodeId) → row_at g.parts.arena n ≡ None) }
+        ensures observers { IfOk result (λ g. g.observers ≡ []) }
+        ensures unbroken { IfOk result (λ g. IsUnbroken g) }
+        ensures handed_back { IfErr result (λ e. e.1 ≡ functions) }
+    {
+        match Parts::new(alloc) {
+            Ok(parts) => Ok(Graph {
+                alloc,
+                functions,
+                parts,
+                observers: Vec::new(alloc),
+                rooted: 0,
+                invalid: Outcome::Invalid,
+                refused: None,
+            }),
+            Err(fault) => Err((fault, functions)),
+        }
+    }
+
+    /// The functions.
+    pub fn functions(&self) -> &F
+        ensures { result.now ≡ self.now.functions }
+    {
+        &self.functions
+    }
+
+    /// The functions, given back.
+    pub fn into_functions(self) -> F
+        ensures { result ≡ self.functions }
+    {
+        self.functions
+    }
+
+    /// What a refused stabilize met, if one was refused.
+    pub fn broken(&self) -> Option<&Refused>
+        ensures { option_copied result ≡ self.now.refused }
+    {
+        self.refused.as_ref()
+    }
+
+    /// The node itself, where it is live: no node of today stands on the right side of a bind.
+    pub fn owner(&self, node: NodeId) -> Option<NodeId>
+        ensures live { IfSome result (λ top. (top ≡ node) × IsLive self.now.parts.arena node) }
+        ensures dead { IfNone result (IsLive self.now.parts.arena node → ⊥) }
+    {
+        if self.parts.arena().is_live(node) {
+            Some(node)
+        } else {
+            None
+        }
+    }
+
+    /// What broke the graph, if it is broken.
+    fn cause(&self) -> Option<Kept>
+        ensures some { IfSome result (λ cause. IsBroken self.now cause) }
+        ensures none { IfNone result (IsUnbroken self.now) }
+    {
+        match &self.refused {
+            Some(refused) => Some(cause_of(refused)),
+            None => None,
+        }
+    }
+
+    /// Whether the graph is unbroken.
+    fn check(&self) -> Result<(), GraphFault>
+        ensures unbroken { OnOk result (IsUnbroken self.now) }
+        ensures broken { IfErr result (λ e. (cause : ACause) × IsBroken self.now cause × (e ≡ GraphFault.Broken cause)) }
+    {
+        match self.cause() {
+            Some(cause) => Err(GraphFault::Broken(cause)),
+            None => Ok(()),
+        }
+    }
+}

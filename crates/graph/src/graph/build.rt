@@ -1,0 +1,170 @@
+//! Nodes that are made, set and taken back.
+ghost use Rattle.std.specs.Prelude.{◌≡◌, ◌⊎◌, ◌↔◌, ◌<◌, ◌≤◌, None, Some, IfOk, IfErr, OnOk, OnErr, IsOk, IsErrOf, IsTrue};
+ghost use Rattle.inc_value.specs.Value.{type_of};
+ghost use Rattle.inc_value.specs.declared.node.NodeId.{NodeId};
+ghost use Rattle.inc_value.specs.declared.function.FnKind.TheVariants as kind;
+ghost use Rattle.inc_value.specs.Choice.{Among};
+ghost use Rattle.inc_terms.specs.Code.{def_of};
+ghost use Rattle.inc_terms.specs.Graph.{Row, Const, Var, Map, kids};
+ghost use Rattle.graph.specs.Known.{CallsKnown};
+ghost use Rattle.inc_terms.specs.Within.{Given, ValueWithin};
+ghost use Rattle.node_arena.specs.Arena.{row_at, IsLive, IsFull, IsVariable, NamesGiven};
+ghost use Rattle.node_arena.specs.Typing.{Makes, FitsNode};
+ghost use Rattle.graph.specs.Standing.{IsUnbroken, IsBroken, rooted_nodes};
+ghost use Rattle.graph.specs.Effects.{KeepsAll, IsAddFault, IsSetFault, Adds, Sets, TakesBack};
+ghost use Rattle.graph.specs.declared.fault.Kept.{Kept as ACause};
+
+use super::Graph;
+use crate::fault::{GraphFault, add_fault, set_fault};
+use inc_terms::{Def, Nodes};
+use inc_value::{FnRef, NodeId, Ty, Value};
+use node_arena::Functions;
+
+/// How many ids had been given.
+#[derive(Clone, Copy, Debug)]
+pub struct Mark {
+    given: u64,
+}
+
+impl<F: Functions> Graph<F> {
+    /// A node that always has the value.
+    pub fn constant(&mut self, value: Value) -> Result<NodeId, GraphFault>
+        ensures broken { (cause : ACause) → IsErrOf result (GraphFault.Broken cause) ↔ IsBroken self.old cause }
+        ensures added { IfOk result (λ id. Adds self.old self.new id (record { def = Const value; ty = (type_of value); scope = None })) }
+        ensures unknown { IsErrOf result GraphFault.Unknown ↔ (IsUnbroken self.old × ¬ NamesGiven self.old.parts.arena.given (Const value)) }
+        ensures wrong_type { IsErrOf result GraphFault.WrongType
+            ↔ (IsUnbroken self.old × (NamesGiven self.old.parts.arena.given (Const value) × ¬ Makes self.old.parts.arena (Const value) (type_of value))) }
+        ensures full { IsErrOf result GraphFault.Full
+            ↔ (IsUnbroken self.old × (NamesGiven self.old.parts.arena.given (Const value) × Makes self.old.parts.arena (Const value) (type_of value)
+            × IsFull self.old.parts.arena)) }
+        ensures adding { IfErr result IsAddFault }
+        ensures err { OnErr result (KeepsAll self.old self.new) }
+    {
+        let ty = value.ty();
+        self.add(Def::Const(value), ty)
+    }
+
+    /// A variable with its first value.
+    pub fn var(&mut self, value: Value) -> Result<NodeId, GraphFault>
+        ensures broken { (cause : ACause) → IsErrOf result (GraphFault.Broken cause) ↔ IsBroken self.old cause }
+        ensures added { IfOk result (λ id. Adds self.old self.new id (record { def = Var value; ty = (type_of value); scope = None })) }
+        ensures unknown { IsErrOf result GraphFault.Unknown ↔ (IsUnbroken self.old × ¬ NamesGiven self.old.parts.arena.given (Var value)) }
+        ensures wrong_type { IsErrOf result GraphFault.WrongType
+            ↔ (IsUnbroken self.old × (NamesGiven self.old.parts.arena.given (Var value) × ¬ Makes self.old.parts.arena (Var value) (type_of value))) }
+        ensures full { IsErrOf result GraphFault.Full
+            ↔ (IsUnbroken self.old × (NamesGiven self.old.parts.arena.given (Var value) × Makes self.old.parts.arena (Var value) (type_of value)
+            × IsFull self.old.parts.arena)) }
+        ensures adding { IfErr result IsAddFault }
+        ensures err { OnErr result (KeepsAll self.old self.new) }
+    {
+        let ty = value.ty();
+        self.add(Def::Var(value), ty)
+    }
+
+    /// A node that applies a function, which is known, to the values of one to nine nodes.
+    pub fn map(&mut self, f: FnRef, kids: &[NodeId]) -> Result<NodeId, GraphFault>
+        requires known { IsTrue (F.known self.old.functions f) }
+        ensures broken { (cause : ACause) → IsErrOf result (GraphFault.Broken cause) ↔ IsBroken self.old cause }
+        ensures added { IfOk result (λ id. Adds self.old self.new id (record { def = Map f kids.now; ty = f.sig.gives; scope = None })) }
+        ensures unknown { IsErrOf result GraphFault.Unknown → IsUnbroken self.old × ¬ NamesGiven self.old.parts.arena.given (Map f kids.now) }
+        ensures unknown_told { IsUnbroken self.old → ¬ NamesGiven self.old.parts.arena.given (Map f kids.now) → IsErrOf result GraphFault.Unknown ⊎ IsErrOf result GraphFault.Memory }
+        ensures wrong_type { IsErrOf result GraphFault.WrongType
+            → IsUnbroken self.old × (NamesGiven self.old.parts.arena.given (Map f kids.now) × ¬ Makes self.old.parts.arena (Map f kids.now) f.sig.gives) }
+        ensures wrong_type_told { IsUnbroken self.old → NamesGiven self.old.parts.arena.given (Map f kids.now) → ¬ Makes self.old.parts.arena (Map f kids.now) f.sig.gives
+            → IsErrOf result GraphFault.WrongType ⊎ IsErrOf result GraphFault.Memory }
+        ensures full { IsErrOf result GraphFault.Full
+            → IsUnbroken self.old × (NamesGiven self.old.parts.arena.given (Map f kids.now) × Makes self.old.parts.arena (Map f kids.now) f.sig.gives × IsFull self.old.parts.arena) }
+        ensures full_told { IsUnbroken self.old → NamesGiven self.old.parts.arena.given (Map f kids.now) → Makes self.old.parts.arena (Map f kids.now) f.sig.gives → IsFull self.old.parts.arena
+            → IsErrOf result GraphFault.Full ⊎ IsErrOf result GraphFault.Memory }
+        ensures adding { IfErr result IsAddFault }
+        ensures err { OnErr result (KeepsAll self.old self.new) }
+    {
+        self.check()?;
+        let nodes = Nodes::from_slice(self.alloc, kids)?;
+        self.add(Def::Map(f, nodes), f.sig.gives())
+    }
+
+    /// Adds a node.
+    fn add(&mut self, def: Def, ty: Ty) -> Result<NodeId, GraphFault>
+        requires known { CallsKnown (F.known self.old.functions) (def_of def) }
+        ensures broken { (cause : ACause) → IsErrOf result (GraphFault.Broken cause) ↔ IsBroken self.old cause }
+        ensures added { IfOk result (λ id. Adds self.old self.new id (record { def = def_of def; ty = ty; scope = None })) }
+        ensures unknown { IsErrOf result GraphFault.Unknown
+            ↔ (IsUnbroken self.old × ¬ NamesGiven self.old.parts.arena.given (def_of def)) }
+        ensures wrong_type { IsErrOf result GraphFault.WrongType
+            ↔ (IsUnbroken self.old × (NamesGiven self.old.parts.arena.given (def_of def)
+            × ¬ Makes self.old.parts.arena (def_of def) ty)) }
+        ensures full { IsErrOf result GraphFault.Full
+            ↔ (IsUnbroken self.old × (NamesGiven self.old.parts.arena.given (def_of def)
+            × Makes self.old.parts.arena (def_of def) ty × IsFull self.old.parts.arena)) }
+        ensures adding { IfErr result IsAddFault }
+        ensures err { OnErr result (KeepsAll self.old self.new) }
+    {
+        self.check()?;
+        let added = self.parts.add(def, ty);
+        self.parts.arena().is_sound();
+        match added {
+            Ok(id) => Ok(id),
+            Err(fault) => Err(add_fault(fault)),
+        }
+    }
+
+    /// Gives a variable another value. What observes it shows it after the next stabilize. This takes no memory.
+    pub fn set_var(&mut self, node: NodeId, value: Value) -> Result<(), GraphFault>
+        ensures broken { (cause : ACause) → IsErrOf result (GraphFault.Broken cause) ↔ IsBroken self.old cause }
+        ensures set { OnOk result (Sets self.old self.new node value) }
+        ensures unknown { IsErrOf result GraphFault.Unknown ↔ (IsUnbroken self.old
+            × ¬ (Given self.old.parts.arena.given node × ValueWithin (Given self.old.parts.arena.given) value)) }
+        ensures not_var { IsErrOf result GraphFault.NotVar ↔ (IsUnbroken self.old × (Given self.old.parts.arena.given node
+            × ValueWithin (Given self.old.parts.arena.given) value × ¬ IsVariable self.old.parts.arena node)) }
+        ensures wrong_type { IsErrOf result GraphFault.WrongType ↔ (IsUnbroken self.old
+            × (ValueWithin (Given self.old.parts.arena.given) value × IsVariable self.old.parts.arena node
+            × ¬ FitsNode self.old.parts.arena node value)) }
+        ensures setting { IfErr result IsSetFault }
+        ensures err { OnErr result (self.new ≡ self.old) }
+    {
+        self.check()?;
+        match self.parts.set_var(node, value) {
+            Ok(()) => Ok(()),
+            Err(fault) => Err(set_fault(fault)),
+        }
+    }
+
+    /// Whether the node is live.
+    pub fn is_live(&self, node: NodeId) -> Result<bool, GraphFault>
+        ensures broken { (cause : ACause) → IsErrOf result (GraphFault.Broken cause) ↔ IsBroken self.now cause }
+        ensures live { IfOk result (λ live. IsTrue live ↔ IsLive self.now.parts.arena node) }
+        ensures unbroken { IsOk result ↔ IsUnbroken self.now }
+    {
+        self.check()?;
+        Ok(self.parts.arena().is_live(node))
+    }
+
+    /// A mark to which `back_to` leads.
+    pub fn mark(&self) -> Result<Mark, GraphFault>
+        ensures broken { (cause : ACause) → IsErrOf result (GraphFault.Broken cause) ↔ IsBroken self.now cause }
+        ensures mark { IfOk result (λ mark. mark.given ≡ self.now.parts.arena.given) }
+        ensures unbroken { IsOk result ↔ IsUnbroken self.now }
+    {
+        self.check()?;
+        Ok(Mark {
+            given: self.parts.arena().given(),
+        })
+    }
+
+    /// Drops the nodes that were added since the mark. Since then only nodes were added: no older node reads them, and
+    /// no observer looks at them. This takes no memory.
+    pub fn back_to(&mut self, mark: Mark) -> Result<(), GraphFault>
+        requires unread { (n m : NodeId) (r : Row) → n.gen_ < mark.given → row_at self.old.parts.arena n ≡ Some r
+            → Among m (kids r.def) → m.gen_ < mark.given }
+        requires unobserved { (n : NodeId) → Among n (rooted_nodes self.old) → n.gen_ < mark.given }
+        ensures broken { (cause : ACause) → IsErrOf result (GraphFault.Broken cause) ↔ IsBroken self.old cause }
+        ensures taken { OnOk result (TakesBack self.old self.new mark.given) }
+        ensures unbroken { IsOk result ↔ IsUnbroken self.old }
+        ensures err { OnErr result (self.new ≡ self.old) }
+    {
+        self.check()?;
+        self.parts.back_to(mark.given);
+        Ok(())
+    }
+}

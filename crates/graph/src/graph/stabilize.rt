@@ -1,0 +1,99 @@
+//! One call that brings what is observed up to date.
+ghost use Rattle.std.specs.Prelude.{◌≡◌, ◌↔◌, ◌++◌, List, None, Some, IfOk, OnOk, OnErr, IfErr, IsErrOf, length, vec_len, ◌≤◌};
+ghost use Rattle.inc_value.specs.declared.node.NodeId.{NodeId};
+ghost use Rattle.node_arena.specs.Meanings.{KeepsKnown, SameValues};
+ghost use Rattle.stabilize_round.specs.Counts.{RoseBy};
+ghost use Rattle.stabilizer.specs.Meaning.{functions_of};
+ghost use Rattle.stabilizer.specs.Round.{IsUpToDate, IsLawful, HasCalledFew};
+ghost use Rattle.graph.specs.Sound.{CanStabilize};
+ghost use Rattle.graph.specs.Standing.{IsBroken, in_use};
+ghost use Rattle.graph.specs.Stabilizes.{Stabilizes, IsRefusedFor};
+ghost use Rattle.graph.specs.declared.fault.Kept.{Kept as ACause};
+
+use super::Graph;
+use crate::fault::{StabilizeFault, cause_of};
+use crate::observer::{Observer, nodes_in_use};
+use inc_value::NodeId;
+use node_arena::Functions;
+use stabilizer::{Parts, Refused, Stabilizer};
+use std::alloc::Global;
+
+/// What the last accepted stabilize did.
+#[derive(Clone, Copy)]
+pub struct Round<'a> {
+    /// The nodes whose functions were called, each once, in order.
+    pub ran: &'a [NodeId],
+}
+
+impl<F: Functions> Graph<F> {
+    /// Brings all that is observed up to date. A refusal breaks the graph: every later call but `broken`, `owner`,
+    /// `functions` and `into_functions` is refused.
+    pub fn stabilize(&mut self) -> Result<(), StabilizeFault>
+        ensures broken { (cause : ACause) → IsErrOf result (StabilizeFault.Broken cause) ↔ IsBroken self.old cause }
+        ensures brought { OnOk result (Stabilizes (functions_of (F.value self.old.functions)) self.old self.new) }
+        ensures calls { OnOk result (RoseBy (F.calls self.old.functions) (vec_len self.new.parts.ran) (F.calls self.new.functions)) }
+        ensures refused { (cause : ACause) → IsErrOf result (StabilizeFault.Refused cause)
+            → IsRefusedFor (functions_of (F.value self.old.functions)) self.old self.new cause }
+        ensures few { (cause : ACause) → IsErrOf result (StabilizeFault.Refused cause)
+            → HasCalledFew self.old.parts.arena (F.calls self.old.functions) (F.calls self.new.functions) }
+        ensures unchanged { (cause : ACause) → IsErrOf result (StabilizeFault.Broken cause) → self.new ≡ self.old }
+        ensures known { KeepsKnown (F.known self.old.functions) (F.known self.new.functions) }
+        ensures values { SameValues (F.value self.old.functions) (F.value self.new.functions) }
+    {
+        if let Some(cause) = self.cause() {
+            return Err(StabilizeFault::Broken(cause));
+        }
+        match run(
+            self.alloc,
+            &mut self.parts,
+            &mut self.functions,
+            &self.observers,
+            self.rooted,
+        ) {
+            Ok(()) => {
+                self.rooted = self.observers.len();
+                Ok(())
+            }
+            Err(refused) => {
+                let cause = cause_of(&refused);
+                self.refused = Some(refused);
+                Err(StabilizeFault::Refused(cause))
+            }
+        }
+    }
+
+    /// What the last accepted stabilize did.
+    pub fn round(&self) -> Round<'_>
+        ensures { result.ran.now ≡ self.now.parts.ran.items }
+    {
+        Round {
+            ran: self.parts.ran(),
+        }
+    }
+}
+
+/// A round over what was observed, and what is newly observed.
+fn run<F: Functions>(
+    alloc: Global,
+    parts: &mut Parts,
+    functions: &mut F,
+    observers: &[Observer],
+    rooted: usize,
+) -> Result<(), Refused>
+    requires within { rooted ≤ length observers.now }
+    requires can { CanStabilize (F.known functions.old) (F.value functions.old) parts.old observers.now rooted }
+    ensures right { OnOk result (IsUpToDate (functions_of (F.value functions.old)) parts.old.arena parts.old.work parts.new.work
+        (in_use observers.now) parts.new.ran.items) }
+    ensures calls { OnOk result (RoseBy (F.calls functions.old) (vec_len parts.new.ran) (F.calls functions.new)) }
+    ensures can { OnOk result (CanStabilize (F.known functions.new) (F.value functions.new) parts.new observers.now
+        (length observers.now)) }
+    ensures lawful { IfErr result (λ e. IsLawful (functions_of (F.value functions.old)) parts.old.arena parts.old.work
+        (in_use observers.now) e) }
+    ensures few { OnErr result (HasCalledFew parts.old.arena (F.calls functions.old) (F.calls functions.new)) }
+    ensures arena { parts.new.arena ≡ parts.old.arena }
+    ensures known { KeepsKnown (F.known functions.old) (F.known functions.new) }
+    ensures values { SameValues (F.value functions.old) (F.value functions.new) }
+{
+    let roots = nodes_in_use(alloc, observers, rooted)?;
+    Stabilizer::run(parts, functions, &roots)
+}

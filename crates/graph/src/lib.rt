@@ -1,0 +1,10 @@
+//! Incremental graphs: nodes that are made, variables that are set, observers, and one call that brings what is
+//! observed up to date.
+#![tactic(auto)]
+
+mod fault;
+mod graph;
+mod observer;
+
+pub use fault::{GraphFault, Kept, StabilizeFault};
+pub use graph::{Graph, Mark, Round};
