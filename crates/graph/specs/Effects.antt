@@ -1,23 +1,29 @@
 -- What calls do to a graph, and what they leave.
-use Rattle.std.specs.Prelude.{◌≡◌, ◌⊎◌, ◌<◌, ◌≤◌, ◌++◌, ℕ, true, false, [], ◌∷◌, length, slice_set, None, Some}
+use Rattle.std.specs.Prelude.{◌≡◌, ◌⊎◌, ◌+◌, ◌<◌, ◌≤◌, ◌++◌, ℕ, true, false, [], ◌∷◌, length, slice_set, None, Some}
 use Rattle.inc_value.specs.declared.node.ObsId.{ObsId}
 use Rattle.inc_value.specs.declared.node.NodeId.{NodeId}
 use Rattle.inc_value.specs.declared.node.Point.{Point}
 use Rattle.inc_value.specs.declared.value.Value.{Value}
-use Rattle.inc_terms.specs.Graph.{Row}
+use Rattle.inc_value.specs.declared.ty.Ty.{Ty}
+use Rattle.inc_terms.specs.Graph.{Row, Def}
 use Rattle.inc_terms.specs.Within.{Given}
 use Rattle.link_table.specs.Links.{times, KeepsLinks}
 use Rattle.necessity.specs.Need.{root_times, KeepsRoots}
-use Rattle.node_arena.specs.Arena.{row_at, Changes, IsSet}
+use Rattle.node_arena.specs.Arena.{row_at, Changes, IsFull, IsSet, NamesGiven}
+use Rattle.node_arena.specs.Typing.{Makes}
 use Rattle.stabilizer.specs.Round.{last_call}
 use Rattle.graph.specs.Standing.{Standing, node_at, shown_of}
 use Rattle.graph.specs.declared.fault.Kept.{Kept}
 use Rattle.graph.specs.declared.fault.GraphFault.{GraphFault}
 use Rattle.graph.specs.declared.fault.GraphFault.TheVariants as fault
 
+-- what a new node is, outside any scope
+abbrev pub top : Def → Ty → Row
+top def ty = record { def = def; ty = ty; scope = None }
+
 module _ {F : Type 0} where
   -- beside the nodes all stays: functions, observers, what is shown and what functions were last called on, of the ids that were given; links and
-  -- roots; and what broke the graph
+  -- roots; what broke the graph, and who was called in the last round
   pub record KeepsBeside (old new : Standing F) : Type 0 where
     pub functions : new.functions ≡ old.functions
     pub observers : new.observers ≡ old.observers
@@ -27,21 +33,37 @@ module _ {F : Type 0} where
     pub last : (n : NodeId) → Given old.parts.arena.given n → last_call new.parts.work n ≡ last_call old.parts.work n
     pub links : KeepsLinks old.parts.work.graph.links new.parts.work.graph.links
     pub roots : KeepsRoots old.parts.work.graph.roots new.parts.work.graph.roots
+    pub ran : new.parts.ran ≡ old.parts.ran
 
-  -- no node changed, and all stays beside
+  -- a definition names an id that was never given
+  abbrev pub NamesUnknown : Standing F → Def → Type 0
+  NamesUnknown s def = ¬ NamesGiven s.parts.arena.given def
+
+  -- it names given ids, and doesn't make the type
+  abbrev pub IsMistyped : Standing F → Def → Ty → Type 0
+  IsMistyped s def ty = NamesGiven s.parts.arena.given def × ¬ Makes s.parts.arena def ty
+
+  -- it makes the type, and no further node can be added
+  abbrev pub HasNoRoom : Standing F → Def → Ty → Type 0
+  HasNoRoom s def ty = NamesGiven s.parts.arena.given def × Makes s.parts.arena def ty × IsFull s.parts.arena
+
+  -- no node changed, and all stays beside; an id may have been used up
   pub record KeepsAll (old new : Standing F) : Type 0 where
     pub beside : KeepsBeside old new
+    pub given : (new.parts.arena.given ≡ old.parts.arena.given) ⊎ (new.parts.arena.given ≡ old.parts.arena.given + 1)
     pub rows : (n : NodeId) → row_at new.parts.arena n ≡ row_at old.parts.arena n
 
   -- a node was added under an id that was never given
   pub record Adds (old new : Standing F) (id : NodeId) (row : Row) : Type 0 where
     pub beside : KeepsBeside old new
     pub fresh : id.gen_ ≡ old.parts.arena.given
+    pub given : new.parts.arena.given ≡ old.parts.arena.given + 1
     pub changes : Changes old.parts.arena new.parts.arena id (Some row)
 
   -- a variable was set
   pub record Sets (old new : Standing F) (id : NodeId) (v : Value) : Type 0 where
     pub beside : KeepsBeside old new
+    pub given : new.parts.arena.given ≡ old.parts.arena.given
     pub set : IsSet old.parts.arena new.parts.arena id v
 
   -- the nodes of ids from a count on were dropped
@@ -57,6 +79,7 @@ module _ {F : Type 0} where
     pub last : (n : NodeId) → n.gen_ < count → last_call new.parts.work n ≡ last_call old.parts.work n
     pub links : KeepsLinks old.parts.work.graph.links new.parts.work.graph.links
     pub roots : KeepsRoots old.parts.work.graph.roots new.parts.work.graph.roots
+    pub ran : new.parts.ran ≡ old.parts.ran
 
   -- an observer of a node was made, and nothing else changed
   pub record Observes (old new : Standing F) (o : ObsId) (node : NodeId) : Type 0 where
@@ -75,6 +98,7 @@ module _ {F : Type 0} where
     pub shown : (n : NodeId) → shown_of new n ≡ shown_of old n
     pub last : (n : NodeId) → last_call new.parts.work n ≡ last_call old.parts.work n
     pub fewer : (p q : Point) → times new.parts.work.graph.links p q ≤ times old.parts.work.graph.links p q
+    pub ran : new.parts.ran ≡ old.parts.ran
     pub unrooted : (p : Point) → root_times new.parts.work.graph.roots p ≤ root_times old.parts.work.graph.roots p
 
 -- why a node may not be added, set or observed; and why an observer may not be asked or ended

@@ -29,6 +29,7 @@ module _ {F : Type 0} where
     pub nodes : new.parts.arena ≡ old.parts.arena
     pub observers : new.observers ≡ old.observers
     pub rooted : new.rooted ≡ old.rooted
+    pub ran : new.parts.ran ≡ old.parts.ran
     pub met : Refused
     pub broken : new.refused ≡ Some met
     pub is_cause : kept_of met ≡ cause

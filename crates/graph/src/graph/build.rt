@@ -1,17 +1,16 @@
 //! Nodes that are made, set and taken back.
-ghost use Rattle.std.specs.Prelude.{◌≡◌, ◌⊎◌, ◌↔◌, ◌<◌, ◌≤◌, None, Some, IfOk, IfErr, OnOk, OnErr, IsOk, IsErrOf, IsTrue};
+ghost use Rattle.std.specs.Prelude.{◌≡◌, ◌⊎◌, ◌↔◌, ◌<◌, Some, IfOk, IfErr, OnOk, OnErr, IsOk, IsErrOf, IsTrue};
 ghost use Rattle.inc_value.specs.Value.{type_of};
 ghost use Rattle.inc_value.specs.declared.node.NodeId.{NodeId};
-ghost use Rattle.inc_value.specs.declared.function.FnKind.TheVariants as kind;
 ghost use Rattle.inc_value.specs.Choice.{Among};
 ghost use Rattle.inc_terms.specs.Code.{def_of};
 ghost use Rattle.inc_terms.specs.Graph.{Row, Const, Var, Map, kids};
 ghost use Rattle.graph.specs.Known.{CallsKnown};
 ghost use Rattle.inc_terms.specs.Within.{Given, ValueWithin};
-ghost use Rattle.node_arena.specs.Arena.{row_at, IsLive, IsFull, IsVariable, NamesGiven};
-ghost use Rattle.node_arena.specs.Typing.{Makes, FitsNode};
+ghost use Rattle.node_arena.specs.Arena.{row_at, IsLive, IsVariable};
+ghost use Rattle.node_arena.specs.Typing.{FitsNode};
 ghost use Rattle.graph.specs.Standing.{IsUnbroken, IsBroken, rooted_nodes};
-ghost use Rattle.graph.specs.Effects.{KeepsAll, IsAddFault, IsSetFault, Adds, Sets, TakesBack};
+ghost use Rattle.graph.specs.Effects.{top, NamesUnknown, IsMistyped, HasNoRoom, KeepsAll, IsAddFault, IsSetFault, Adds, Sets, TakesBack};
 ghost use Rattle.graph.specs.declared.fault.Kept.{Kept as ACause};
 
 use super::Graph;
@@ -30,13 +29,12 @@ impl<F: Functions> Graph<F> {
     /// A node that always has the value.
     pub fn constant(&mut self, value: Value) -> Result<NodeId, GraphFault>
         ensures broken { (cause : ACause) → IsErrOf result (GraphFault.Broken cause) ↔ IsBroken self.old cause }
-        ensures added { IfOk result (λ id. Adds self.old self.new id (record { def = Const value; ty = (type_of value); scope = None })) }
-        ensures unknown { IsErrOf result GraphFault.Unknown ↔ (IsUnbroken self.old × ¬ NamesGiven self.old.parts.arena.given (Const value)) }
+        ensures added { IfOk result (λ id. Adds self.old self.new id (top (Const value) (type_of value))) }
+        ensures unknown { IsErrOf result GraphFault.Unknown ↔ (IsUnbroken self.old × NamesUnknown self.old (Const value)) }
         ensures wrong_type { IsErrOf result GraphFault.WrongType
-            ↔ (IsUnbroken self.old × (NamesGiven self.old.parts.arena.given (Const value) × ¬ Makes self.old.parts.arena (Const value) (type_of value))) }
+            ↔ (IsUnbroken self.old × IsMistyped self.old (Const value) (type_of value)) }
         ensures full { IsErrOf result GraphFault.Full
-            ↔ (IsUnbroken self.old × (NamesGiven self.old.parts.arena.given (Const value) × Makes self.old.parts.arena (Const value) (type_of value)
-            × IsFull self.old.parts.arena)) }
+            ↔ (IsUnbroken self.old × HasNoRoom self.old (Const value) (type_of value)) }
         ensures adding { IfErr result IsAddFault }
         ensures err { OnErr result (KeepsAll self.old self.new) }
     {
@@ -47,13 +45,12 @@ impl<F: Functions> Graph<F> {
     /// A variable with its first value.
     pub fn var(&mut self, value: Value) -> Result<NodeId, GraphFault>
         ensures broken { (cause : ACause) → IsErrOf result (GraphFault.Broken cause) ↔ IsBroken self.old cause }
-        ensures added { IfOk result (λ id. Adds self.old self.new id (record { def = Var value; ty = (type_of value); scope = None })) }
-        ensures unknown { IsErrOf result GraphFault.Unknown ↔ (IsUnbroken self.old × ¬ NamesGiven self.old.parts.arena.given (Var value)) }
+        ensures added { IfOk result (λ id. Adds self.old self.new id (top (Var value) (type_of value))) }
+        ensures unknown { IsErrOf result GraphFault.Unknown ↔ (IsUnbroken self.old × NamesUnknown self.old (Var value)) }
         ensures wrong_type { IsErrOf result GraphFault.WrongType
-            ↔ (IsUnbroken self.old × (NamesGiven self.old.parts.arena.given (Var value) × ¬ Makes self.old.parts.arena (Var value) (type_of value))) }
+            ↔ (IsUnbroken self.old × IsMistyped self.old (Var value) (type_of value)) }
         ensures full { IsErrOf result GraphFault.Full
-            ↔ (IsUnbroken self.old × (NamesGiven self.old.parts.arena.given (Var value) × Makes self.old.parts.arena (Var value) (type_of value)
-            × IsFull self.old.parts.arena)) }
+            ↔ (IsUnbroken self.old × HasNoRoom self.old (Var value) (type_of value)) }
         ensures adding { IfErr result IsAddFault }
         ensures err { OnErr result (KeepsAll self.old self.new) }
     {
@@ -65,16 +62,17 @@ impl<F: Functions> Graph<F> {
     pub fn map(&mut self, f: FnRef, kids: &[NodeId]) -> Result<NodeId, GraphFault>
         requires known { IsTrue (F.known self.old.functions f) }
         ensures broken { (cause : ACause) → IsErrOf result (GraphFault.Broken cause) ↔ IsBroken self.old cause }
-        ensures added { IfOk result (λ id. Adds self.old self.new id (record { def = Map f kids.now; ty = f.sig.gives; scope = None })) }
-        ensures unknown { IsErrOf result GraphFault.Unknown → IsUnbroken self.old × ¬ NamesGiven self.old.parts.arena.given (Map f kids.now) }
-        ensures unknown_told { IsUnbroken self.old → ¬ NamesGiven self.old.parts.arena.given (Map f kids.now) → IsErrOf result GraphFault.Unknown ⊎ IsErrOf result GraphFault.Memory }
+        ensures added { IfOk result (λ id. Adds self.old self.new id (top (Map f kids.now) f.sig.gives)) }
+        ensures unknown { IsErrOf result GraphFault.Unknown → IsUnbroken self.old × NamesUnknown self.old (Map f kids.now) }
+        ensures unknown_told { IsUnbroken self.old → NamesUnknown self.old (Map f kids.now)
+            → IsErrOf result GraphFault.Unknown ⊎ IsErrOf result GraphFault.Memory }
         ensures wrong_type { IsErrOf result GraphFault.WrongType
-            → IsUnbroken self.old × (NamesGiven self.old.parts.arena.given (Map f kids.now) × ¬ Makes self.old.parts.arena (Map f kids.now) f.sig.gives) }
-        ensures wrong_type_told { IsUnbroken self.old → NamesGiven self.old.parts.arena.given (Map f kids.now) → ¬ Makes self.old.parts.arena (Map f kids.now) f.sig.gives
+            → IsUnbroken self.old × IsMistyped self.old (Map f kids.now) f.sig.gives }
+        ensures wrong_type_told { IsUnbroken self.old → IsMistyped self.old (Map f kids.now) f.sig.gives
             → IsErrOf result GraphFault.WrongType ⊎ IsErrOf result GraphFault.Memory }
         ensures full { IsErrOf result GraphFault.Full
-            → IsUnbroken self.old × (NamesGiven self.old.parts.arena.given (Map f kids.now) × Makes self.old.parts.arena (Map f kids.now) f.sig.gives × IsFull self.old.parts.arena) }
-        ensures full_told { IsUnbroken self.old → NamesGiven self.old.parts.arena.given (Map f kids.now) → Makes self.old.parts.arena (Map f kids.now) f.sig.gives → IsFull self.old.parts.arena
+            → IsUnbroken self.old × HasNoRoom self.old (Map f kids.now) f.sig.gives }
+        ensures full_told { IsUnbroken self.old → HasNoRoom self.old (Map f kids.now) f.sig.gives
             → IsErrOf result GraphFault.Full ⊎ IsErrOf result GraphFault.Memory }
         ensures adding { IfErr result IsAddFault }
         ensures err { OnErr result (KeepsAll self.old self.new) }
@@ -88,15 +86,13 @@ impl<F: Functions> Graph<F> {
     fn add(&mut self, def: Def, ty: Ty) -> Result<NodeId, GraphFault>
         requires known { CallsKnown (F.known self.old.functions) (def_of def) }
         ensures broken { (cause : ACause) → IsErrOf result (GraphFault.Broken cause) ↔ IsBroken self.old cause }
-        ensures added { IfOk result (λ id. Adds self.old self.new id (record { def = def_of def; ty = ty; scope = None })) }
+        ensures added { IfOk result (λ id. Adds self.old self.new id (top (def_of def) ty)) }
         ensures unknown { IsErrOf result GraphFault.Unknown
-            ↔ (IsUnbroken self.old × ¬ NamesGiven self.old.parts.arena.given (def_of def)) }
+            ↔ (IsUnbroken self.old × NamesUnknown self.old (def_of def)) }
         ensures wrong_type { IsErrOf result GraphFault.WrongType
-            ↔ (IsUnbroken self.old × (NamesGiven self.old.parts.arena.given (def_of def)
-            × ¬ Makes self.old.parts.arena (def_of def) ty)) }
+            ↔ (IsUnbroken self.old × IsMistyped self.old (def_of def) ty) }
         ensures full { IsErrOf result GraphFault.Full
-            ↔ (IsUnbroken self.old × (NamesGiven self.old.parts.arena.given (def_of def)
-            × Makes self.old.parts.arena (def_of def) ty × IsFull self.old.parts.arena)) }
+            ↔ (IsUnbroken self.old × HasNoRoom self.old (def_of def) ty) }
         ensures adding { IfErr result IsAddFault }
         ensures err { OnErr result (KeepsAll self.old self.new) }
     {

@@ -90,6 +90,7 @@ fn run<F: Functions>(
     ensures lawful { IfErr result (λ e. IsLawful (functions_of (F.value functions.old)) parts.old.arena parts.old.work
         (in_use observers.now) e) }
     ensures few { OnErr result (HasCalledFew parts.old.arena (F.calls functions.old) (F.calls functions.new)) }
+    ensures ran { OnErr result (parts.new.ran ≡ parts.old.ran) }
     ensures arena { parts.new.arena ≡ parts.old.arena }
     ensures known { KeepsKnown (F.known functions.old) (F.known functions.new) }
     ensures values { SameValues (F.value functions.old) (F.value functions.new) }

@@ -53,5 +53,6 @@ returns-then-place-self-clause-ended g c =
       shown = λ n. ap (λ (m : Rows Progress). seen_of (at m (main n))) u.rows;
       last = λ n. ap (λ (m : Rows Progress). last_of (at m (main n))) u.rows;
       fewer = u.unrooted.sweep.fewer;
+      ran = u.ran;
       unrooted = roots_fewer _ _ (main c.in-Some.node) u.roots;
     })
