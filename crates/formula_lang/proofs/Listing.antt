@@ -68,10 +68,6 @@ Every-push : {A : Type 0} (P : A → Type 0) (xs : List A) (y : A) → Every P x
 Every-push P [] y all last = (last, tt)
 Every-push P (x ∷ xs) y all last = (all.0, Every-push P xs y all.1 last)
 
-pub length-declared_in : {K : Type 0} (es : List (K × Declared)) → length (declared_in es) ≡ length es
-length-declared_in [] = refl
-length-declared_in (e ∷ es) = ap suc (length-declared_in es)
-
 module _ {K : Type 0} (bytes_of : K → List ℕ) (eq : K → K → Bool) (same : (x y : K) → eq x y ≡ bytes_eq (bytes_of x) (bytes_of y)) (k : K)
     (v : Declared) (es new : List (K × Declared))
     (kept : AreKept bytes_of es) (fresh : first_named v.name (declared_in es) ≡ None) (named : bytes_of k ≡ v.name)

@@ -12,12 +12,6 @@ use Rattle.node_arena.specs.declared.arena.variable.SetFault.TheVariants as set
 pub same_err : {T E : Type 0} {a b : E} → ◌≡◌ {A = Result T E} (Err a) (Err b) → a ≡ b
 same_err e = cc
 
-pub add_unknown : (e : AddFault) → of_add e ≡ fault.Unknown → e ≡ add.Unknown
-add_unknown add.Unknown h = refl
-add_unknown add.WrongType h = absurd cc
-add_unknown add.Full h = absurd cc
-add_unknown add.Memory h = absurd cc
-
 pub add_wrong_type : (e : AddFault) → of_add e ≡ fault.WrongType → e ≡ add.WrongType
 add_wrong_type add.Unknown h = absurd cc
 add_wrong_type add.WrongType h = refl

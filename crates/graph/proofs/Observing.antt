@@ -153,18 +153,6 @@ left_is_among node n before after h among = subst (Among n) (sym h.was) (elim (a
 
 -- ---- the observers from a place on
 
-pub in_use_from : (os : List Observer) (i : ℕ) (d : Observer) → i < length os
-    → in_use (drop i os) ≡ cond (slice_index_or os i d).in_use ((slice_index_or os i d).node ∷ in_use (drop (suc i) os)) (in_use (drop (suc i) os))
-in_use_from [] i d h = absurd (omega (arith, h))
-in_use_from (o ∷ os) zero d h = refl
-in_use_from (o ∷ os) (suc i) d h = in_use_from os i d (omega (arith, h))
-
-pub in_use_none : (os : List Observer) (i : ℕ) → length os ≤ i → in_use (drop i os) ≡ []
-in_use_none [] zero h = refl
-in_use_none [] (suc i) h = refl
-in_use_none (o ∷ os) zero h = absurd (omega (arith, h))
-in_use_none (o ∷ os) (suc i) h = in_use_none os i (omega (arith, h))
-
 -- the nodes in use of the front and of the rest
 pub in_use_split : (os : List Observer) (r : ℕ) → in_use (take r os) ++ in_use (drop r os) ≡ in_use os
 in_use_split os r = sym (in_use_append (take r os) (drop r os)) ∙ ap in_use (take-append-drop r os)

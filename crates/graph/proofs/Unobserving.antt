@@ -5,7 +5,6 @@ use Rattle.std.proofs.lemmas.List.{take-append-le}
 use Rattle.inc_value.specs.declared.function.FnRef.{FnRef}
 use Rattle.inc_value.specs.declared.node.NodeId.{NodeId}
 use Rattle.inc_value.specs.declared.node.Point.{Point}
-use Rattle.inc_value.specs.declared.outcome.Outcome.{Outcome}
 use Rattle.inc_value.specs.declared.outcome.Outcome.TheVariants.{Invalid}
 use Rattle.inc_value.specs.declared.value.Value.{Value}
 use Rattle.inc_value.specs.Choice.{Among}
@@ -126,10 +125,6 @@ module _ (known : FnRef → Bool) (value : FnRef → List Value → Value) (old 
 pub shows_invalid : (k : Option Progress) → outcome_in k ≡ None → IsSome (seen_of k) → seen_of k ≡ Some Invalid
 shows_invalid None none shown = refl
 shows_invalid (Some k) none shown = absurd (let s = shown in let e = ap is_some none in cc)
-
-pub shows_own : (k : Option Progress) (o : Outcome) → outcome_in k ≡ Some o → seen_of k ≡ Some o
-shows_own None o e = absurd cc
-shows_own (Some k) o e = e
 
 -- a root fewer
 pub roots_fewer : (old new : Roots) (p : Point) → OneRootMore new old p → (a : Point) → root_times new a ≤ root_times old a

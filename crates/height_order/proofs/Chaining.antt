@@ -31,9 +31,6 @@ module _ (R : Reading) where
     ends = ends_push xs y;
   }
 
-  pub path_alone : (x : Point) → IsPath R (x ∷ []) x x
-  path_alone x = record { chain = (tt, tt); starts = refl; ends = refl }
-
   module _ (height : Point → ℕ) (rises : Rises R height) where
     -- a chain of n points starts n - 1 high
     pub chain_high : (p : Point) (rest : List Point) → IsChain R (p ∷ rest) → length rest ≤ height p

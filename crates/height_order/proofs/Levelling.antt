@@ -4,12 +4,12 @@ use Rattle.std.specs.Prelude.{◌⊎◌, Option, Some, None, IsSome}
 use Rattle.std.specs.Ordering.{nat_cmp, ord_max}
 use Rattle.std.proofs.lemmas.Grind.{common_steps}
 use Rattle.inc_value.specs.declared.node.Point.{Point}
-use Rattle.point_map.specs.Rows.{Rows, at, row_in, Holds, Changes, KeepsRows}
+use Rattle.point_map.specs.Rows.{Rows, at, row_in, Holds, Changes}
 use Rattle.point_map.proofs.Places.{point_cases}
 use Rattle.recompute_heap.specs.Agree.{IsLeast, IsEmpty}
 use Rattle.link_table.specs.Links.{Links, Reads}
 use Rattle.height_order.specs.Chains.{Reading}
-use Rattle.height_order.specs.Levels.{level, or_zero, IsSound, IsSupported, AllSupported, IsLevelling}
+use Rattle.height_order.specs.Levels.{level, or_zero, IsSound, IsSupported, AllSupported}
 use Rattle.height_order.proofs.Points.{level_there, level_other, row_there, some_there, not_both}
 
 -- points that have left the queue have their new heights
@@ -24,19 +24,7 @@ pub record Levelled (old : Rows ℕ) (links : Links) (queue levels : Rows ℕ) :
 pub none_at : {R : Type 0} (m : Rows R) (p : Point) → m.places ≡ [] → at m p ≡ None
 none_at m p e = ap (λ ps. row_in ps p) e
 
-pub levelled_none : (old : Rows ℕ) (links : Links) (queue levels : Rows ℕ) → KeepsRows old queue → levels.places ≡ [] → Levelled old links queue levels
-levelled_none old links queue levels kept none = record {
-  waiting = λ p h e. let f : at old p ≡ Some h = sym (kept p) ∙ e in (sym (ap or_zero f), some_there (at old p) h f, none_at levels p none);
-  every = λ p there. inl (subst IsSome (sym (kept p)) there);
-  there = λ p there. absurd (not_both (at levels p) (none_at levels p none) there);
-  rises = λ p q there. absurd (not_both (at levels p) (none_at levels p none) there);
-  supported = λ p high. absurd (let z = ap or_zero (none_at levels p none) in omega (arith, high, z));
-  under = λ p. let z = ap or_zero (none_at levels p none) in omega (arith, z);
-}
-
 module _ (old : Rows ℕ) (links : Links) (queue levels : Rows ℕ) (sound : IsSound old links) (so : Levelled old links queue levels) where
-  pub low_yet : (p : Point) → level levels p ≤ 128
-  low_yet p = let a = so.under p in let b = sound.low p in omega (arith, a, b)
 
   module _ (p : Point) (h : ℕ) (here : at queue p ≡ Some h) (least : IsLeast queue h) where
     ready_by : (q : Point) → Reads links p q → Holds queue q ⊎ Holds levels q → Holds levels q
@@ -158,15 +146,6 @@ module _ (old : Rows ℕ) (links : Links) (queue levels : Rows ℕ) (sound : IsS
     same_some (Some x) (Some y) f g = refl
     same_some None (Some y) f g = absurd (let e = g refl in cc)
     same_some (Some x) None f g = absurd (let e = f refl in cc)
-
-    -- all points have their heights
-    pub levelled_whole : IsLevelling old levels links
-    levelled_whole = record {
-      points = λ p. same_some (at old p) (at levels p) (all p) (so.there p);
-      rises = λ p q reads. (so.rises p q (all p (sound.ends p q reads).0) reads).1;
-      supported = so.supported;
-      under = so.under;
-    }
 
 -- the greater of two heights
 pub record IsGreater (a b n : ℕ) : Type 0 where

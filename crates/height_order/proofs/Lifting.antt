@@ -3,13 +3,12 @@ use Rattle.std.proofs.Common.{◌≡◌, ◌≢◌, ◌∙◌, ℕ, ◌+◌, ◌
 use Rattle.std.specs.Prelude.{◌⊎◌, Option, Some, None, IsSome, IfSome, IfNone}
 use Rattle.inc_value.specs.declared.node.Point.{Point}
 use Rattle.point_map.specs.Rows.{Rows, at, Holds, Changes}
-use Rattle.point_map.proofs.Places.{point_cases}
 use Rattle.link_table.specs.Links.{Links, Reads}
 use Rattle.height_order.specs.declared.lifts.Lift.{Lift}
 use Rattle.height_order.specs.Chains.{ReadsWith}
 use Rattle.height_order.specs.Levels.{level, KeepsPoints, IsSupported, AllSupported}
 use Rattle.height_order.specs.Climbs.{lifted_from, lifted, AreLifts}
-use Rattle.height_order.proofs.Points.{row_there, there_cases, level_there, level_other, points_kept}
+use Rattle.height_order.proofs.Points.{row_there, there_cases, level_there, level_other}
 
 module _ (heights : Rows ℕ) where
   pub lifted_some : (lifts : Rows Lift) (x : Point) (l : Lift) → at lifts x ≡ Some l → lifted heights lifts x ≡ l.height
@@ -53,21 +52,6 @@ module _ (old now next : Rows ℕ) (lifts : Rows Lift) (p : Point) (there : Hold
   each_by q (inl same) either = inr (ap (level next) same ∙ written_here ∙ ap (lifted old lifts) (sym same))
   each_by q (inr differs) (inl e) = inl (level_other now next p q (Some (lifted now lifts p)) changes differs ∙ e)
   each_by q (inr differs) (inr e) = inr (level_other now next p q (Some (lifted now lifts p)) changes differs ∙ e)
-
-  -- one more lifted point has its height
-  pub written_more : Written old now lifts → Holds now p → Written old next lifts
-  written_more so here = record {
-    points = λ q. points_kept now next p (lifted now lifts p) changes here q ∙ so.points q;
-    each = λ q. each_by q (point_cases q p) (so.each q);
-  }
-
-  written_stays_by : (q : Point) → (q ≡ p) ⊎ (q ≢ p) → level now q ≡ lifted old lifts q → level next q ≡ lifted old lifts q
-  written_stays_by q (inl same) e = ap (level next) same ∙ written_here ∙ ap (lifted old lifts) (sym same)
-  written_stays_by q (inr differs) e = level_other now next p q (Some (lifted now lifts p)) changes differs ∙ e
-
-  -- what has its lifted height keeps it
-  pub written_stays : (q : Point) → level now q ≡ lifted old lifts q → level next q ≡ lifted old lifts q
-  written_stays q e = written_stays_by q (point_cases q p) e
 
 whole_by : (old now : Rows ℕ) (lifts : Rows Lift) (p : Point) → (Holds lifts p → level now p ≡ lifted old lifts p) → (at lifts p ≡ None) ⊎ Holds lifts p
     → (level now p ≡ level old p) ⊎ (level now p ≡ lifted old lifts p) → level now p ≡ lifted old lifts p

@@ -1,5 +1,5 @@
 -- Points that are the same or not, and what is there after a change.
-use Rattle.std.proofs.Common.{◌≡◌, ◌≢◌, ℕ, true, false, refl, ap, sym, subst, inl, inr, is_some}
+use Rattle.std.proofs.Common.{◌≡◌, ◌≢◌, ℕ, true, false, refl, ap, inl, inr, is_some}
 use Rattle.std.specs.Prelude.{◌⊎◌, Option, Some, None, IsSome}
 use denote.Enum.Bare.{sameb}
 use Rattle.inc_value.specs.contracts.node.Part.{the_type}
@@ -7,7 +7,6 @@ use Rattle.inc_value.specs.declared.node.Part.{Part}
 use Rattle.inc_value.specs.declared.node.Part.TheVariants.{Change, Main}
 use Rattle.inc_value.specs.declared.node.Point.{Point}
 use Rattle.point_map.specs.Rows.{Rows, at, Holds, Changes, KeepsRows}
-use Rattle.point_map.proofs.Places.{point_cases}
 use Rattle.height_order.specs.Levels.{level, or_zero, KeepsPoints}
 
 -- a part is the same as itself
@@ -26,15 +25,6 @@ level_other old new p q row c differs = ap or_zero (c.others q differs)
 -- rows that stay keep their heights
 pub level_kept : (old new : Rows ℕ) (p : Point) → KeepsRows old new → level new p ≡ level old p
 level_kept old new p kept = ap or_zero (kept p)
-
-points_by : (old new : Rows ℕ) (p q : Point) (h : ℕ) → Changes old new p (Some h) → is_some (at old p) ≡ true
-    → (q ≡ p) ⊎ (q ≢ p) → is_some (at new q) ≡ is_some (at old q)
-points_by old new p q h c there (inl e) = subst (λ x. is_some (at new x) ≡ is_some (at old x)) (sym e) (let k = ap is_some c.changed in cc)
-points_by old new p q h c there (inr differs) = ap is_some (c.others q differs)
-
--- a change of a height keeps the points
-pub points_kept : (old new : Rows ℕ) (p : Point) (h : ℕ) → Changes old new p (Some h) → Holds old p → KeepsPoints old new
-points_kept old new p h c there q = points_by old new p q h c there (point_cases q p)
 
 -- a point that was there is there
 pub still_there : (old new : Rows ℕ) (p : Point) → KeepsPoints old new → Holds old p → Holds new p

@@ -1,13 +1,12 @@
 -- All points put into a queue by their heights.
-use Rattle.std.proofs.Common.{◌≡◌, ◌≢◌, ◌∙◌, ℕ, ◌+◌, ◌<◌, ◌≤◌, [], ap, sym, subst, inl, inr, arith, option_map}
+use Rattle.std.proofs.Common.{◌≡◌, ◌≢◌, ◌∙◌, ℕ, ◌+◌, ◌<◌, ◌≤◌, [], ap, sym, subst, inl, inr, arith}
 use Rattle.std.specs.Prelude.{◌⊎◌, Option, Some, None, IsSome}
 use Rattle.inc_value.specs.declared.node.Point.{Point}
-use Rattle.point_map.specs.Rows.{Rows, at, Holds, Changes, KeepsRows, IsWalk, standing}
+use Rattle.point_map.specs.Rows.{Rows, at, Holds, Changes, KeepsRows, IsWalk}
 use Rattle.point_map.proofs.Places.{point_cases}
 use Rattle.height_order.specs.Levels.{level, or_zero}
 use Rattle.height_order.proofs.Points.{row_there, some_there, not_both, none_or_there}
-use Rattle.height_order.proofs.Walking.{PointAt, EachBelow, each_point, each_vacant, each_whole, stands_once, stands_there}
-use Rattle.height_order.proofs.Levelling.{none_at}
+use Rattle.height_order.proofs.Walking.{PointAt, EachBelow, each_point, each_whole, stands_there}
 
 -- the points at the places below i are in the queue, by their heights, and no others
 pub record Queued (heights queue : Rows ℕ) (i : ℕ) : Type 0 where
@@ -15,23 +14,11 @@ pub record Queued (heights queue : Rows ℕ) (i : ℕ) : Type 0 where
   pub seen : (p : Point) → Holds queue p → (k : ℕ) × (k < i) × PointAt heights k p
   pub each : EachBelow heights (λ p. at queue p ≡ at heights p) i
 
-pub queued_none : (heights queue : Rows ℕ) → queue.places ≡ [] → Queued heights queue 0
-queued_none heights queue none = record {
-  from = λ p h e. absurd (not_both (at queue p) (none_at queue p none) (some_there (at queue p) h e));
-  seen = λ p there. absurd (not_both (at queue p) (none_at queue p none) there);
-  each = λ k p less. absurd (omega (arith, less));
-}
-
 none_by : (o : Option ℕ) → (IsSome o → ⊥) → (o ≡ None) ⊎ IsSome o → o ≡ None
 none_by o h (inl none) = none
 none_by o h (inr there) = absurd (h there)
 
 module _ (heights : Rows ℕ) (n i : ℕ) (p : Point) (walk : IsWalk heights n) (here : PointAt heights i p) where
-  -- the point at the next place isn't in the queue yet
-  pub queued_absent : (queue : Rows ℕ) → Queued heights queue i → at queue p ≡ None
-  queued_absent queue so = none_by (at queue p)
-      (λ there. let s = so.seen p there in let e = stands_once heights n s.0 i p walk s.2 here in let lt = s.1 in omega (arith, e, lt))
-      (none_or_there (at queue p))
 
   row_here : at heights p ≡ Some (level heights p)
   row_here = let r = row_there heights p (stands_there heights n i p walk here) in
@@ -65,14 +52,6 @@ module _ (heights : Rows ℕ) (n i : ℕ) (p : Point) (walk : IsWalk heights n) 
       each = each_point heights (λ q. at next q ≡ at heights q) i p
           (λ k q less at_k. each_by q (point_cases q p) (so.each k q less at_k)) here next_here;
     }
-
--- nothing stands at the next place
-pub queued_vacant : (heights queue : Rows ℕ) (i : ℕ) → Queued heights queue i → option_map (λ e. e.0) (standing heights i) ≡ None → Queued heights queue (i + 1)
-queued_vacant heights queue i so vacant = record {
-  from = so.from;
-  seen = λ p there. let s = so.seen p there in let lt = s.1 in (s.0, omega (arith, lt), s.2);
-  each = each_vacant heights (λ q. at queue q ≡ at heights q) i so.each vacant;
-}
 
 -- all points are in the queue
 pub queued_whole : (heights queue : Rows ℕ) (n i : ℕ) → IsWalk heights n → n ≤ i → Queued heights queue i → KeepsRows heights queue

@@ -130,9 +130,6 @@ module _ (F : Functions) (P : NodeId → Type 0) (Q : FnKind → FnRef → Type 
   pub node_agrees : (n : NodeId) → P n → (o : Outcome) → NodeGives F G n o → NodeGives F G' n o × OutcomeWithin P o
   node_agrees n p o g = rw g.1 at ((all_after g.0).0 (Ref n) (Ref n) (base (itself n p)))
 
-  pub term_agrees : (t : Term) → TermWithin P Q t → (o : Outcome) → Gives F G (Of t) o → Gives F G' (Of t) o × OutcomeWithin P o
-  term_agrees t p o g = rw g.1 at ((all_after g.0).0 t t (self_like F P Q (Itself P) itself t p))
-
   -- a scope of a kept bind stands in both or in neither
   pub scope_agrees : (s : Option NodeId) → GoodScope s → (o : Outcome) → Gives F G (Around s) o → Gives F G' (Around s) o
   scope_agrees s h o g = (rw g.1 at ((all_after g.0).1 s h)).0

@@ -1,8 +1,6 @@
 -- A main's own function in two graphs that are alike at its node.
 use Rattle.std.proofs.Common.{◌≡◌, true, false, Option, None, Some, refl}
 use Rattle.inc_value.specs.declared.node.NodeId.{NodeId}
-use Rattle.inc_value.specs.declared.node.Part.{Part}
-use Rattle.inc_value.specs.declared.node.Part.TheVariants.{Change, Main}
 use Rattle.inc_value.specs.declared.node.Point.{Point}
 use Rattle.inc_value.specs.declared.outcome.Outcome.{Outcome}
 use Rattle.inc_value.specs.declared.outcome.Outcome.TheVariants.{Val, Invalid}
@@ -10,11 +8,11 @@ use Rattle.inc_value.specs.declared.value.Value.{Value}
 use Rattle.inc_value.specs.declared.value.Value.TheVariants as value
 use Rattle.inc_terms.specs.Term.{Functions}
 use Rattle.inc_terms.specs.Graph as graph
-use Rattle.inc_terms.specs.Graph.{Graph, Row, Def}
+use Rattle.inc_terms.specs.Graph.{Graph, Def}
 use Rattle.inc_terms.specs.Evaluate.{with_value}
 use Rattle.inc_terms.specs.Depend.{change, right_of}
 use Rattle.inc_terms.specs.Local.{see_right, own}
-use Rattle.inc_terms.specs.Plan.{targets, right_links}
+use Rattle.inc_terms.specs.Plan.{targets}
 
 module _ (G G' : Graph) (n : NodeId) where
   pub same_choice : (def : Def) (o : Outcome) → G'.built n ≡ G.built n → right_of G' n def o ≡ right_of G n def o
@@ -27,11 +25,6 @@ module _ (G G' : Graph) (n : NodeId) where
   pub same_targets : (def : Def) (x : Option Outcome) → G'.built n ≡ G.built n → targets G' n def x ≡ targets G n def x
   same_targets def None e = refl
   same_targets def (Some o) e = rw (same_choice def o e) refl
-
-  pub same_right_links : (out : Point → Option Outcome) (def : Def) (part : Part) → G'.built n ≡ G.built n
-      → right_links G' out n def part ≡ right_links G out n def part
-  same_right_links out def Change e = refl
-  same_right_links out def Main e = same_targets def (out (change n)) e
 
   module _ (F : Functions) (see : Point → Option Outcome) (clock : G'.now ≡ G.now)
       (frozen : G'.frozen n ≡ G.frozen n) (lists : G'.lists n ≡ G.lists n) (built : G'.built n ≡ G.built n) where

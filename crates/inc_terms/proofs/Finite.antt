@@ -50,6 +50,3 @@ module _ {A : Type 0} (R : A → A → Type 0) (N : A → Type 0) (closed : (a b
   under : (n : ℕ) (a : A) → height a < n → N a → Ends R a
   under zero a le na = absurd (omega arith)
   under (suc n) a le na = ends (λ b r. let f = falls a b na r in under n b (omega arith) (closed a b na r))
-
-  pub falling_end : (a : A) → N a → Ends R a
-  falling_end a na = under (suc (height a)) a (omega arith) na

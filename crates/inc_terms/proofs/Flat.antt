@@ -9,11 +9,8 @@ use Rattle.inc_terms.specs.Term.{Functions}
 use Rattle.inc_terms.specs.Graph.{Graph, Row}
 use Rattle.inc_terms.specs.Evaluate.{answer, Stands}
 use Rattle.inc_terms.specs.Depend.{Depends, gate, ghost, fixed, right, fixed_reads, none_died, IsFlat, ReadsKid, FlatDepends, LostAreDeaths}
-use Rattle.inc_terms.specs.Local.{Scoped}
 
 module _ (F : Functions) (G : Graph) (flat : IsFlat G) where
-  pub flat_scoped : Scoped G
-  flat_scoped n r b e s = absurd (let top = flat.no_scope n r e in cc)
 
   pub flat_stands : (n : NodeId) (r : Row) → G.row n ≡ Some r → Stands F G r.scope
   unfolding answer

@@ -6,7 +6,7 @@ use Rattle.inc_value.specs.declared.node.NodeId.{NodeId}
 use Rattle.inc_terms.specs.Term.{Term, Terms, Const, Ref, Cap, Map, Fold, If, Join, Bind, At, Steps, Now, End, More, refs}
 use Rattle.inc_terms.specs.Graph.{Graph, Row, Def, present_def}
 use Rattle.inc_terms.specs.Within.{TermWithin, TermsWithin}
-use Rattle.inc_terms.specs.Unfold.{IsIn, Outside, Unfolds, UnfoldsAll}
+use Rattle.inc_terms.specs.Unfold.{IsIn, Unfolds, UnfoldsAll}
 use Rattle.inc_terms.specs.Rebuild.{Inside, direct, nested, Names, Rebuilt}
 use Rattle.inc_terms.specs.Stay.{KeepsScope}
 use Rattle.inc_terms.specs.Laws.{IsApart}
@@ -69,13 +69,6 @@ other_scope P G G' live b c re apart out = record {
     not_in n r e s (direct {r = r'} e' s') = apart (let same : r ≡ r' = cc in let s'' : r'.scope ≡ Some c = rw (← same) s in cc)
     not_in n r e s (nested {r = r'} {c = d} e' s' i) = out
         (let same : r ≡ r' = cc in let s'' : r'.scope ≡ Some c = rw (← same) s in let cd : d ≡ c = cc in rw (← cd) i)
-
--- what was given before is outside the scope that is built anew
-pub fresh_outside : (P : NodeId → Type 0) (G G' : Graph) (b : NodeId) → Rebuilt P G G' b → (n : NodeId) → P n → Outside G' (Some b) n
-fresh_outside P G G' b re n p r e s = elim (re.rows n p) [
-  | inl h ↦ absurd (let x = h.1 in cc)
-  | inr h ↦ absurd (h.0 (direct (sym h.1 ∙ e) s))
-]
 
 -- the top is kept
 pub top_scope : (P : NodeId → Type 0) (G G' : Graph) → ((n : NodeId) (r : Row) → G.row n ≡ Some r → P n) → (b : NodeId)

@@ -35,9 +35,6 @@ module _ (k0 r0 k1 r1 k2 r2 k3 r3 : EndLists) (p q : Point) (b : ℕ) (e f : End
   kid_place : ℕ
   kid_place = length (ends_at k3 p)
 
-  reader_place : ℕ
-  reader_place = length (ends_at r3 q)
-
   kid_length : length (ends_at k0 p) - 1 ≡ length (ends_at k3 p)
   kid_length = let l = put_length k3 k2 p e h.popped in let a = h.kept.lengths p in let b = h.kept_too.lengths p in omega (arith, l, a, b)
 

@@ -72,13 +72,6 @@ room_taken heights old new points p r c counted spare = record {
   room = omega (arith, r.room, counted, spare);
 }
 
--- a point that is there and not in the heap can be inserted
-pub room_spare : (heights heap : Rows ℕ) (points : ℕ) (p : Point) → HasRoom heights heap points → Holds heights p → at heap p ≡ None → 0 < heap.spare
-room_spare heights heap points p r there out = elim (r.every p there) [
-  | inl inn ↦ absurd (let e = sym (ap is_some out) ∙ inn in cc)
-  | inr c ↦ omega (arith, r.counted, r.room, c.1)
-]
-
 -- a point that is there comes into the heap
 pub room_put : (heights old new : Rows ℕ) (points : ℕ) (p : Point) (h : ℕ) → HasRoom heights old points → Holds heights p → at old p ≡ None
     → Changes old new p (Some h) → count new ≡ count old + 1 → new.spare + 1 ≡ old.spare → HasRoom heights new points

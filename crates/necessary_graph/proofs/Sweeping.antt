@@ -4,7 +4,7 @@ use Rattle.std.specs.Prelude.{Option, None}
 use Rattle.std.proofs.lemmas.Bool.{cases_lt}
 use Rattle.std.proofs.lemmas.Option.{none-some}
 use Rattle.inc_value.specs.declared.node.Point.{Point}
-use Rattle.point_map.specs.Rows.{Rows, at, Changes}
+use Rattle.point_map.specs.Rows.{at}
 use Rattle.point_map.proofs.Places.{point_cases}
 use Rattle.link_table.specs.Links.{link, times, Reads, KeepsLinks, OneLinkMore}
 use Rattle.necessity.specs.Need.{KeepsRoots}
@@ -55,19 +55,6 @@ swept_then s t u f g = record {
   ];
   heap_kept = λ a n. g.heap_kept a (thinned_up s t f.thinned a n) ∙ f.heap_kept a n;
   heap_fewer = λ a h e. f.heap_fewer a h (g.heap_fewer a h e);
-}
-
--- a point that isn't needed is taken from the heap
-pub taken_swept : (s : NecessaryPart) (heap : Rows ℕ) (p : Point) → (Needed s p → ⊥) → Changes s.heap heap p None → IsSwept s (record s { heap = heap })
-taken_swept s heap p unneeded c = record {
-  thinned = record { roots = λ a. refl; fewer = λ a b. omega arith; kept = λ a b n. refl };
-  heights = refl;
-  followed = λ a b less. absurd (omega (arith, less));
-  heap_kept = λ a n. c.others a (λ e. unneeded (rw e at n));
-  heap_fewer = λ a h e. elim (point_cases a p) [
-    | inl same ↦ absurd (none-some h (sym (ap (at heap) same ∙ c.changed) ∙ e))
-    | inr other ↦ sym (c.others a other) ∙ e
-  ];
 }
 
 -- a link of p is off, and all else is as it was

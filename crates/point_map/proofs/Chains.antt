@@ -251,9 +251,6 @@ abbrev pub Ahead : (ℕ → Option ℕ) → Option ℕ → ℕ → (ℕ → Type
 Ahead next first bound P at steps = (ks : List ℕ) → Chain next first ks → length ks ≤ bound
     → (rest : List ℕ) × Chain next at rest × (length rest + steps ≤ bound) × ((k : ℕ) → Among ks k → P k → Among rest k)
 
-pub ahead_start : (next : ℕ → Option ℕ) (first : Option ℕ) (bound : ℕ) (P : ℕ → Type 0) → Ahead next first bound P first 0
-ahead_start next first bound P ks chain short = (ks, chain, omega (arith, short), λ k a p. a)
-
 step_of : (next : ℕ → Option ℕ) (place bound steps : ℕ) (P : ℕ → Type 0) (ks rest : List ℕ) → (P place → ⊥) → Chain next (Some place) rest
     → length rest + steps ≤ bound → ((k : ℕ) → Among ks k → P k → Among rest k)
     → (left : List ℕ) × Chain next (next place) left × (length left + (steps + 1) ≤ bound) × ((k : ℕ) → Among ks k → P k → Among left k)
@@ -283,16 +280,6 @@ pub ahead_none : (next : ℕ → Option ℕ) (first : Option ℕ) (bound : ℕ) 
     → Ahead next first bound P None steps → NoneOnChain next first bound P
 ahead_none next first bound P steps ahead ks chain short k a p =
     let h = ahead ks chain short in none_ahead next k h.0 h.1 (h.3 k a p)
-
-spent : (k : ℕ) (rest : List ℕ) → length rest ≤ 0 → Among rest k → ⊥
-spent k [] short a = a
-spent k (j ∷ rest) short a = absurd (omega (arith, short))
-
--- after as many steps as the bound there is none
-pub ahead_spent : (next : ℕ → Option ℕ) (first : Option ℕ) (bound : ℕ) (P : ℕ → Type 0) (at : Option ℕ) (steps : ℕ)
-    → Ahead next first bound P at steps → bound ≤ steps → NoneOnChain next first bound P
-ahead_spent next first bound P at steps ahead done ks chain short k a p =
-    let h = ahead ks chain short in spent k h.0 (let s = h.2 in omega (arith, s, done)) (h.3 k a p)
 
 among_any : (ks : List ℕ) (k : ℕ) → list_any (eqb k) ks ≡ true → Among ks k
 among_any [] k h = absurd (let e = h in cc)

@@ -1,11 +1,11 @@
 -- Points that are moved from buckets to others, one after the other.
-use Rattle.std.proofs.Common.{◌≡◌, ◌∙◌, ◌⊎◌, ℕ, ◌+◌, ◌<◌, ◌≤◌, [], refl, ap, sym, subst, inl, inr, arith, is_some, count_by}
+use Rattle.std.proofs.Common.{◌≡◌, ◌∙◌, ◌⊎◌, ℕ, ◌+◌, ◌<◌, ◌≤◌, [], ap, sym, subst, inl, inr, arith}
 use Rattle.std.specs.Prelude.{Option, Some, None}
 use Rattle.std.proofs.lemmas.Bool.{cases_eq}
 use Rattle.std.proofs.lemmas.Nat.{mod_below}
 use Rattle.inc_value.specs.declared.node.Point.{Point}
 use Rattle.point_map.specs.Rows.{row_in, Changes}
-use Rattle.point_map.specs.Buckets.{Kept, Buckets, kept_at, kept_count, KeptChanges, IsEmptyBucket}
+use Rattle.point_map.specs.Buckets.{Kept, Buckets, kept_at, kept_count, KeptChanges}
 use Rattle.point_map.specs.BySlot.{places_of, rows_of, IsBySlot}
 use Rattle.point_map.proofs.Places.{point_cases, row_once}
 use Rattle.point_map.proofs.KeptPlaces.{stands, slot_off, none_counted, absent_everywhere, no_some}
@@ -27,15 +27,6 @@ module _ {R : Type 0} where
   abbrev pub EmptyBelow : Buckets R → ℕ → Type 0
   EmptyBelow b bound = (i : ℕ) (k : Kept R) → kept_at b i ≡ Some k → bound ≤ k.bucket
 
-  pub moving_start : (all to : Buckets R) → IsBySlot all → IsBySlot to → to.kept ≡ [] → Moving all all to to.spare
-  moving_start all to all_by_slot to_by_slot empty = record {
-    from_by_slot = all_by_slot;
-    to_by_slot = to_by_slot;
-    split = λ p. inl (refl, ap (λ ks. row_in (places_of ks) p) empty);
-    count = let e = ap (count_by is_some) empty in omega (arith, e);
-    spare = let e = ap (count_by is_some) empty in omega (arith, e);
-  }
-
   not_there : (all from to : Option R) (row : R) → IsSplit all from to → from ≡ Some row → (from ≡ all) × (to ≡ None)
   not_there all from to row (inl h) there = h
   not_there all from to row (inr h) there = absurd (no_some row (sym h.0 ∙ there))
@@ -49,10 +40,6 @@ module _ {R : Type 0} where
   moving_absent all from to room i k moving there =
       (not_there (row_in (places_of all.kept) k.point) (row_in (places_of from.kept) k.point) (row_in (places_of to.kept) k.point) k.row
       (moving.split k.point) (at_point from i k moving.from_by_slot there)).1
-
-  -- there is room for a point that is still to be moved
-  pub moving_room : (all from to : Buckets R) (room : ℕ) → Moving all from to room → kept_count all ≤ room → 0 < kept_count from → 0 < to.spare
-  moving_room all from to room moving enough some = let c = moving.count in let s = moving.spare in omega (arith, c, s, enough, some)
 
   -- one more point is moved
   pub moving_step : (all from left to more : Buckets R) (room i : ℕ) (k : Kept R) → Moving all from to room
@@ -84,16 +71,6 @@ module _ {R : Type 0} where
       elim (cases_eq j i) [
         | inl same ↦ absurd (no_some k (sym off.changed ∙ ap (kept_at left) (sym same) ∙ there))
         | inr differs ↦ empty j k (sym (off.others j differs) ∙ there)
-      ]
-
-  -- one more bucket is empty
-  pub below_next : (from : Buckets R) (bound : ℕ) → EmptyBelow from bound → IsEmptyBucket from bound → EmptyBelow from (bound + 1)
-  below_next from bound empty none i k there =
-      let at_least = empty i k there in
-      let differs = none i k there in
-      elim (cases_eq k.bucket bound) [
-        | inl same ↦ absurd (differs same)
-        | inr other ↦ omega (arith, at_least, other)
       ]
 
   -- every bucket is empty

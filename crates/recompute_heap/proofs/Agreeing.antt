@@ -1,9 +1,8 @@
 -- Places and buckets that agree: what each change leaves.
-use Rattle.std.proofs.Common.{◌≡◌, ◌≢◌, ◌∙◌, ℕ, ◌<◌, ◌≤◌, List, [], ◌∷◌, refl, count_by, ap, sym, subst, inl, inr, arith, false, is_some, IsSome, option_map}
+use Rattle.std.proofs.Common.{◌≡◌, ◌≢◌, ◌∙◌, ℕ, ◌<◌, ◌≤◌, List, [], ◌∷◌, refl, ap, sym, subst, inl, inr, arith, false, is_some, IsSome, option_map}
 use Rattle.std.specs.Prelude.{Option, Some, None, slice_index_or, option_and_then}
 use Rattle.std.proofs.Math.ListN.{get_or-map}
 use Rattle.std.proofs.lemmas.Bool.{cases_eq}
-use Rattle.std.proofs.lemmas.Grind.{common_steps}
 use Rattle.inc_value.specs.declared.node.Point.{Point}
 use Rattle.point_map.specs.Rows.{row_in, StandsOnce}
 use Rattle.point_map.specs.Buckets.{Kept, Buckets, kept_at, KeptChanges, IsTaken}
@@ -273,12 +272,6 @@ module _ {R : Type 0} where
   pub point_from : (o : Option (Kept R)) (q : Point) → option_map (λ k. k.point) o ≡ Some q → (k : Kept R) × (o ≡ Some k) × (k.point ≡ q)
   point_from None q h = absurd (no_some q h)
   point_from (Some k) q h = (k, refl, some_same k.point q h)
-
-  -- as many points have a height as are kept
-  pub count_heights : (kept : List (Option (Kept R))) → count_by is_some (heights_of kept) ≡ count_by is_some kept
-  count_heights [] = refl
-  count_heights (None ∷ rest) = grind (arith, common_steps, count_heights rest)
-  count_heights (Some k ∷ rest) = grind (arith, common_steps, count_heights rest)
 
   -- each height is one of a point that is kept
   pub every_height : (P : ℕ → Type 0) (b : Buckets R) (p : Point) (h : ℕ) → EveryKept (λ k. P k.bucket) b → row_in

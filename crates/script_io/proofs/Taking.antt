@@ -4,7 +4,7 @@ use Rattle.std.proofs.lemmas.List.{take_all, take-append-le, length-take, length
 use Rattle.std.proofs.lemmas.Bool.{cases_lt}
 use Rattle.std.specs.List.{Contains}
 use Rattle.std.specs.Io.KnownBytes.{Appends, Consumes, IsAtEnd}
-use Rattle.std.proofs.KnownBytes.{Appends-trans, Appends-nil, Consumes-trans}
+use Rattle.std.proofs.KnownBytes.{Appends-trans, Consumes-trans}
 use Rattle.script_io.specs.Bytes.{AreOfferedWhole, stream_ahead}
 use Rattle.script_io.specs.Lines.{HasNoNewline, Stream, Reader, Takes, EndsLine, Means, HoldsEnough, ahead}
 use Rattle.script_io.specs.declared.line_reader.Got.{Got}
@@ -28,10 +28,6 @@ no_newline : (bytes : List ℕ) → HasNoNewline bytes → Contains bytes 10 →
 no_newline [] h c = omega (arith, c.1)
 no_newline (b ∷ bytes) h (zero, within, is) = h.0 is
 no_newline (b ∷ bytes) h (suc k, within, is) = no_newline bytes h.1 (k, omega arith, is)
-
--- no read was offered anything so far
-pub none_offered : (before : Option (List ℕ)) → AreOfferedWhole before before
-none_offered before = (0, Appends-nil before)
 
 -- reads after reads
 pub AreOfferedWhole-trans : (a b c : Option (List ℕ)) → AreOfferedWhole a b → AreOfferedWhole b c → AreOfferedWhole a c

@@ -51,13 +51,6 @@ push_some [] fresh c lt = absurd (omega arith)
 push_some (o ∷ last) [] c lt = ap (λ (l : List (Option LastCall)). Some c ∷ l) (merged_none last)
 push_some (o ∷ last) (d ∷ fresh) c lt = ap (λ (l : List (Option LastCall)). later o d ∷ l) (push_some last fresh c (omega arith))
 
--- a fresh call is kept
-pub keep_some : (last fresh : List (Option LastCall)) (c : LastCall) → length fresh < length last
-    → merged last (fresh ++ Some c ∷ []) ≡ merged (set last (length fresh) (Some c)) fresh
-keep_some [] fresh c lt = absurd (omega arith)
-keep_some (o ∷ last) [] c lt = ap (λ (l : List (Option LastCall)). Some c ∷ l) (merged_none last)
-keep_some (o ∷ last) (d ∷ fresh) c lt = ap (λ (l : List (Option LastCall)). later o d ∷ l) (keep_some last fresh c (omega arith))
-
 -- ---- a call at a place
 
 pub last_set_same : (last : List (Option LastCall)) (i : ℕ) (o : Option LastCall) → i < length last → last_at (set last i o) i ≡ o

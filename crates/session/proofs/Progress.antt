@@ -11,7 +11,7 @@ use Rattle.session.specs.Calling.{HaveTargetValues, IsReady, IsCurrentAt, IsDueA
 use Rattle.session.specs.Kept.{AreTargets}
 use Rattle.session.specs.LastCall.{LastCall}
 use Rattle.session.specs.Places.{last_at, value_at, values_at, calls_at, calls_among, AreSoundPlaces, AreTypedCalls, AreRightCalls, WasCalled}
-use Rattle.session.specs.Settling.{IsMarked, ReadsPlace, AreNeeded, IsCurrent, AreCurrentBelow, IsMade, Calls, merged}
+use Rattle.session.specs.Settling.{IsMarked, ReadsPlace, AreNeeded, IsCurrent, AreCurrentBelow, IsMade, merged}
 use Rattle.session.specs.declared.place.Observer.{Observer}
 use Rattle.session.specs.declared.place.Place.{Place}
 use Rattle.session.specs.declared.place.Place.TheVariants.{Literal, Variable, Application}
@@ -67,18 +67,6 @@ marked_has n marks places now j current lt within m = let x = at_place places j 
 
 module _ (value : FnRef → List Value → Value) (marks : List Bool) (places : List Place) (old now : List (Option LastCall)) (i before after : ℕ)
     (u : IsUnderway value marks places old now i before after) where
-  pub calls_made : Calls value marks places old now before after
-  calls_made = record {
-    size = u.size;
-    typed = u.typed;
-    right = u.right;
-    reached = i;
-    current = u.current;
-    made = u.made;
-    each = u.each;
-    distinct = u.distinct;
-    within = u.within;
-  }
 
   -- the arguments at a marked place have values
   pub ready_at : AreSoundPlaces places → ((m n : ℕ) → IsMarked marks m → ReadsPlace places m n → IsMarked marks n) → IsMarked marks i

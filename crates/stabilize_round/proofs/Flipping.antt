@@ -10,7 +10,6 @@ use Rattle.inc_value.specs.declared.outcome.Outcome.TheVariants.{Val}
 use Rattle.inc_value.specs.declared.value.Value.TheVariants.{Int, Bool}
 use Rattle.inc_value.specs.Choice.{Among, Reaches, here, step}
 use Rattle.inc_terms.specs.Term.{Functions}
-use Rattle.inc_value.specs.declared.function.FnRef.{FnRef}
 use Rattle.inc_terms.specs.Graph as graph
 use Rattle.inc_terms.specs.Graph.{Row}
 use Rattle.inc_terms.specs.Local.{shown, own, IsBuilt, PartAgrees, Agrees}
@@ -283,15 +282,6 @@ fresh F p need = elim (needed_case p need) [
   | inr (inr (inr e)) ↦ inr (subst (λ (y : Point). Rights F y) e (agrees_m F, no_map M))
 ]
 
-pub no_bind : (n : NodeId) (r : Row) (l : NodeId) (f : FnRef) (captures : List NodeId) → before.graph.row n ≡ Some r
-    → r.def ≡ graph.Bind l f captures → ⊥
-no_bind n r l f captures row def = elim (row_case n r row) [
-  | inl k ↦ let e = ap (λ (y : Row). y.def) k.1 in cc
-  | inr (inl k) ↦ let e = ap (λ (y : Row). y.def) k.1 in cc
-  | inr (inr (inl k)) ↦ let e = ap (λ (y : Row). y.def) k.1 in cc
-  | inr (inr (inr k)) ↦ let e = ap (λ (y : Row). y.def) k.1 in cc
-]
-
 pub built : (F : Functions) (n : NodeId) (r : Row) (o : Outcome) → before.graph.row n ≡ Some r → IsBuilt F before.graph n r.def o
 built F n r o row = elim (row_case n r row) [
   | inl k ↦ subst (λ (y : Row). IsBuilt F before.graph n y.def o) k.1 tt
@@ -392,9 +382,6 @@ first F = record {
 
 pub quiet : Quiet before
 quiet p = refl
-
-pub unsettled_t : before.settled T ≡ true → ⊥
-unsettled_t h = never h
 
 pub step1 : (F : Functions) → Step F beginning before s1
 step1 F = record {

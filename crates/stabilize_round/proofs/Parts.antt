@@ -4,7 +4,7 @@ use Rattle.inc_value.specs.Choice.{Reaches, here, step}
 use Rattle.inc_terms.specs.Term.{Functions}
 use Rattle.inc_terms.specs.Local.{Scoped}
 use Rattle.stabilize_round.specs.State.{State, Start}
-use Rattle.stabilize_round.specs.Invariant.{Invariant, Rows, Rooted, BuiltFor, Waits, Fresh, Settled, Strict, LastSettled, Accounts}
+use Rattle.stabilize_round.specs.Invariant.{Rows, Rooted, BuiltFor, Waits, Fresh, Settled, Strict, LastSettled, Accounts}
 
 pub record Parts (F : Functions) (z : Start) (s : State) : Type 0 where
   pub rows : Rows s
@@ -17,20 +17,6 @@ pub record Parts (F : Functions) (z : Start) (s : State) : Type 0 where
   pub strict : Strict s
   pub last_settled : LastSettled s
   pub accounts : Accounts F z s
-
-pub parts_of : (F : Functions) (z : Start) (s : State) → Invariant F z s → Parts F z s
-parts_of F z s inv = record {
-  rows = inv.rows;
-  scoped = inv.scoped;
-  rooted = inv.rooted;
-  built = inv.built;
-  waits = inv.waits;
-  fresh = inv.fresh;
-  settled = inv.settled;
-  strict = inv.strict;
-  last_settled = inv.last_settled;
-  accounts = inv.accounts;
-}
 
 pub reaches_map : {A : Type 0} (R S : A → A → Type 0) → ((a b : A) → R a b → S a b) → (a b : A) → Reaches R a b → Reaches S a b
 reaches_map R S f a b here = here

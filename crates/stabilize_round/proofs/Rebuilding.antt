@@ -1,5 +1,5 @@
 -- Building a bind anew keeps the invariant.
-use Rattle.std.proofs.Common.{◌≡◌, ◌⊎◌, inl, inr, ◌<◌, Bool, true, List, [], ◌∷◌, map, Option, None, Some, refl, sym, ap, subst, ◌∙◌, arith}
+use Rattle.std.proofs.Common.{◌≡◌, ◌⊎◌, inl, inr, ◌<◌, Bool, true, List, [], ◌∷◌, map, Option, None, Some, refl, sym, ap, subst, ◌∙◌}
 use Rattle.std.proofs.lemmas.Bool.{cases_lt}
 use Rattle.inc_value.specs.declared.function.FnKind.{FnKind}
 use Rattle.inc_value.specs.declared.function.FnRef.{FnRef}
@@ -14,7 +14,7 @@ use Rattle.inc_terms.specs.Term.{Functions}
 use Rattle.inc_terms.specs.Graph as graph
 use Rattle.inc_terms.specs.Graph.{Graph, Row, Def, Built}
 use Rattle.inc_terms.specs.Evaluate.{NodeGives, Stands, GiveAll}
-use Rattle.inc_terms.specs.Rebuild.{Inside, direct, nested}
+use Rattle.inc_terms.specs.Rebuild.{Inside, nested}
 use Rattle.inc_terms.specs.Within.{Given, Fit, FunctionsWithin}
 use Rattle.inc_terms.specs.Depend.{Depends, fixed, main, change, fixed_reads, subject_of}
 use Rattle.inc_terms.specs.Local.{shown, Scoped, IsRooted, IsBuilt, PartAgrees, Agrees, PartExact, Exact, HasRun}
@@ -30,8 +30,7 @@ use Rattle.stabilize_round.specs.State.{State, Start, Call, Stage, Bare, Gated, 
 use Rattle.stabilize_round.specs.Invariant.{Invariant, Rooted, Waits, IsRight, Recalls, IsDone, Strict, MetNow, from_root, from_held, HasCalled}
 use Rattle.stabilize_round.specs.Rebuilding.{Remade, remade, Rebuild, IsBuiltAnew}
 use Rattle.stabilize_round.proofs.Points.{same_or_other, node_or_other}
-use Rattle.stabilize_round.specs.Moves.{IsLeast}
-use Rattle.stabilize_round.proofs.Low.{among_gate, plan_links}
+use Rattle.stabilize_round.proofs.Low.{plan_links}
 use Rattle.inc_terms.proofs.Seeing.{looks, own_same}
 use Rattle.stabilize_round.proofs.Planned.{recalls_same, looks_main}
 use Rattle.stabilize_round.proofs.Main.{main_change}
@@ -496,31 +495,6 @@ module _ (F : Functions) (z : Start) (s : State) (inv : Invariant F z s) (b : No
   -- what dies wasn't settled
   pub settled_kept : (q : Point) → s.settled q ≡ true → Inside G b q.node → ⊥
   settled_kept q h = (q_kept q (inv.settled.done q h)).1
-
-  -- what dies is higher than the bind's change, and so is what reads it
-  dead_higher : (n : NodeId) → Inside G b n → (p : Point) → p.node ≡ n → s.needed p ≡ true → s.height (change b) < s.height p
-  dead_higher n (direct {r} row sc) p is need =
-      let i : Inside G b p.node = subst (λ (y : NodeId). Inside G b y) (sym is) (direct row sc) in
-      let l = plan_links F z s inv move.quiet p (change b) r Gated (subst (λ (y : NodeId). G.row y ≡ Some r) (sym is) row) (move.gated p i need) need
-      (among_gate r.scope b sc) in
-      inv.web.rises p (change b) l
-  dead_higher n (nested {r} {c} row sc inner) p is need =
-      let i : Inside G b p.node = subst (λ (y : NodeId). Inside G b y) (sym is) (nested row sc inner) in
-      let l = plan_links F z s inv move.quiet p (change c) r Gated (subst (λ (y : NodeId). G.row y ≡ Some r) (sym is) row) (move.gated p i need) need
-      (among_gate r.scope c sc) in
-      let k = inv.web.rises p (change c) l in
-      let h = dead_higher c inner (change c) refl (inv.web.onto p (change c) l) in
-      omega arith
-
-  -- the bind's change is still the least
-  pub least_stays : IsLeast after (change b)
-  least_stays = record {
-    heap = move.heap.kept (change b) bind_kept.1 move.taken.heap;
-    least = λ q h. elim (move.heap.new q h) [
-      | inl k ↦ move.taken.least q k.0
-      | inr k ↦ let a = inv.web.rises q k.5 k.7 in let c = dead_higher k.5.node k.6 k.5 refl (inv.web.onto q k.5 k.7) in omega arith
-    ];
-  }
 
   -- ---- scopes and roots
 

@@ -27,9 +27,6 @@ module _ (F : Functions) (z : Start) (s : State) (inv : Invariant F z s) where
         let l = rw move.owed at (inv.rows.links p b need) in
         rw (o, t) (omega arith)
 
-    stage_here : (x : Stage) → s.stage p ≡ x → (x ≡ Full → ⊥)
-    stage_here x e f = move.lower (e ∙ f)
-
     gates_at : s.strict ≡ true → (a : Point) (r' : Row) (b : NodeId) → s.graph.row a.node ≡ Some r' → s.needed a ≡ true → r'.scope ≡ Some b
         → (at_point p st s.stage a ≡ Static) ⊎ (at_point p st s.stage a ≡ Full) → s.settled (change b) ≡ true
     gates_at strict a r' b row need sc stage = elim (same_or_other p a) [

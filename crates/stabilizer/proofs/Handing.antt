@@ -212,8 +212,6 @@ HandsOn arena old new p owed =
     → (t : State) × Moves F z s t × Stands arena new calls (Some (hand p owed)) t
 
 module _ (arena : Arena) (p : Point) (d : declared.Def) (top : IsTop arena p d) where
-  row_in_state : (s : State) (G : Graph) → s.graph ≡ G → G.row p.node ≡ Some top.row → s.graph.row p.node ≡ Some top.row
-  row_in_state s G e row = ap (λ (H : Graph). H.row p.node) e ∙ row
 
   -- it is given its stage, and owed its links
   pub raised_hands : (old new : Work) → Needed old.graph p → stage_in (at old.rows p) ≡ Some code.Bare

@@ -252,9 +252,6 @@ module _ (arena : Arena) (old mid popped : Work) (p : Point) (so : IsWiring aren
       let b = refused F z a.0 calls (moves_keep F z s a.0 a.1 inv) (popped_stands arena mid popped p pop a.0 calls a.2) in
       (b.0, b.1, moves_then F z a.1 b.2, b.3)
 
-  pub wiring_need : (new : Work) → KeepsNeed popped new → KeepsNeed old new
-  wiring_need new need = need_then old popped new (need_then old mid popped so.need (popped_need arena mid popped p pop)) need
-
   -- what is to be done falls
   pub one_less : (new : Work) → Grows popped new → length new.todo.items + unneeded new.graph (points_of old.rows.places)
       < length mid.todo.items + unneeded mid.graph (points_of old.rows.places)
