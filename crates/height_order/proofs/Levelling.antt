@@ -25,7 +25,6 @@ pub none_at : {R : Type 0} (m : Rows R) (p : Point) → m.places ≡ [] → at m
 none_at m p e = ap (λ ps. row_in ps p) e
 
 module _ (old : Rows ℕ) (links : Links) (queue levels : Rows ℕ) (sound : IsSound old links) (so : Levelled old links queue levels) where
-
   module _ (p : Point) (h : ℕ) (here : at queue p ≡ Some h) (least : IsLeast queue h) where
     ready_by : (q : Point) → Reads links p q → Holds queue q ⊎ Holds levels q → Holds levels q
     ready_by q reads (inr there) = there

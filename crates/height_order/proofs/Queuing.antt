@@ -19,7 +19,6 @@ none_by o h (inl none) = none
 none_by o h (inr there) = absurd (h there)
 
 module _ (heights : Rows ℕ) (n i : ℕ) (p : Point) (walk : IsWalk heights n) (here : PointAt heights i p) where
-
   row_here : at heights p ≡ Some (level heights p)
   row_here = let r = row_there heights p (stands_there heights n i p walk here) in
       let e = ap or_zero r.1 in r.1 ∙ ap (λ h. Some h) (sym e)

@@ -11,7 +11,6 @@ use Rattle.inc_terms.specs.Evaluate.{answer, Stands}
 use Rattle.inc_terms.specs.Depend.{Depends, gate, ghost, fixed, right, fixed_reads, none_died, IsFlat, ReadsKid, FlatDepends, LostAreDeaths}
 
 module _ (F : Functions) (G : Graph) (flat : IsFlat G) where
-
   pub flat_stands : (n : NodeId) (r : Row) → G.row n ≡ Some r → Stands F G r.scope
   unfolding answer
   flat_stands n r e = (1, rw (flat.no_scope n r e) refl)

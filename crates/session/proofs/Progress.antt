@@ -67,7 +67,6 @@ marked_has n marks places now j current lt within m = let x = at_place places j 
 
 module _ (value : FnRef → List Value → Value) (marks : List Bool) (places : List Place) (old now : List (Option LastCall)) (i before after : ℕ)
     (u : IsUnderway value marks places old now i before after) where
-
   -- the arguments at a marked place have values
   pub ready_at : AreSoundPlaces places → ((m n : ℕ) → IsMarked marks m → ReadsPlace places m n → IsMarked marks n) → IsMarked marks i
       → IsReady places now i

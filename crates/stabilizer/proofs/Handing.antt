@@ -212,7 +212,6 @@ HandsOn arena old new p owed =
     → (t : State) × Moves F z s t × Stands arena new calls (Some (hand p owed)) t
 
 module _ (arena : Arena) (p : Point) (d : declared.Def) (top : IsTop arena p d) where
-
   -- it is given its stage, and owed its links
   pub raised_hands : (old new : Work) → Needed old.graph p → stage_in (at old.rows p) ≡ Some code.Bare
       → IsRewritten old.rows new.rows p (with_stage code.Full) → new.graph ≡ old.graph → KeepsRound old new → new.todo.items ≡ old.todo.items
