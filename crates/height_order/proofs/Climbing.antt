@@ -9,10 +9,10 @@ use Rattle.link_table.specs.Links.{Links, Reads, AreReaders}
 use Rattle.height_order.specs.declared.lifts.Lift.{Lift}
 use Rattle.height_order.specs.Levels.{level, IsSound}
 use Rattle.height_order.specs.Climbs.{lifted, IsRaised, IsAsked, AllAsked, IsDone, IsAboveSoon, IsClimbing, IsLifted, GoesAbove, ComesAbove, KeepsDone}
-use Rattle.height_order.proofs.Points.{some_there, not_both, there_cases}
+use Rattle.height_order.proofs.Points.{row_there, some_there, not_both, there_cases}
 use Rattle.height_order.proofs.Covering.{Occurs, occurs_none, occurs_cases}
 use Rattle.height_order.proofs.Levelling.{none_at}
-use Rattle.height_order.proofs.Lifting.{lifted_none, lifted_there, lifted_other}
+use Rattle.height_order.proofs.Lifting.{lifted_some, lifted_none, lifted_there, lifted_other, not_under}
 
 -- the least of a height and the greatest
 pub record IsCapped (n m : ℕ) : Type 0 where
@@ -222,6 +222,16 @@ module _ (heights : Rows ℕ) (links : Links) (p q : Point) (sound : IsSound hei
     queue_other : (y : Point) → y ≢ r → at queue_new y ≡ at queue y
     queue_other y differs = queue_by y differs (there_cases lifts r)
 
+    done_before : (y : Point) → IsDone lifts_new queue_new y → IsDone lifts queue y
+    done_before y d = let n = not_r y d in
+        record { lifted = subst IsSome (changes.others y n) d.lifted; out = sym (queue_other y n) ∙ d.out }
+
+    -- what was done is done
+    pub goes_keeps : KeepsDone lifts lifts_new queue queue_new
+    goes_keeps y d =
+        let n : y ≢ r = λ e. not_r_done (subst (IsDone lifts queue) e d) in
+        record { lifted = subst IsSome (sym (changes.others y n)) d.lifted; out = queue_other y n ∙ d.out }
+
     holds_by : (y : Point) → (y ≡ r) ⊎ (y ≢ r) → Holds lifts y → Holds lifts_new y
     holds_by y (inl e) there = some_there (at lifts_new y) new_lift (ap (at lifts_new) e ∙ changes.changed)
     holds_by y (inr differs) there = subst IsSome (sym (changes.others y differs)) there
@@ -245,6 +255,37 @@ module _ (heights : Rows ℕ) (links : Links) (p q : Point) (sound : IsSound hei
     cap : IsCapped (lifted heights lifts x) (min (lifted heights lifts x) 128)
     cap = capped (lifted heights lifts x)
 
+    above_kid_by : (lifted heights lifts x ≤ 128) ⊎ (128 < lifted heights lifts x) → level heights q < goes.height
+    above_kid_by (inl low) =
+        let s = row_there lifts x done_x.lifted in
+        let a = (so.raised x s.0 s.1).above_kid in
+        let e = lifted_some heights lifts x s.0 s.1 in
+        let c = cap.same low in let o = goes.one_above in omega (arith, a, e, c, o)
+    above_kid_by (inr high) = let c = cap.cap high in let o = goes.one_above in let s = sound.low q in omega (arith, c, o, s)
+
+    raised_r : (y : Point) → y ≡ r → IsRaised heights q y goes.height
+    raised_r y e = record {
+      more = (let f = ap (level heights) e in
+          let u = not_under heights lifts r (λ z l h. (so.raised z l h).more) in
+          let m = goes.more in omega (arith, f, u, m));
+      above_kid = above_kid_by (two_cases (lifted heights lifts x));
+      low = (let o = goes.one_above in let c = cap.low in omega (arith, o, c));
+    }
+
+    raised_by : (y : Point) (l : Lift) → at lifts_new y ≡ Some l → (y ≡ r) ⊎ (y ≢ r) → IsRaised heights q y l.height
+    raised_by y l e (inl same) = subst (λ k. IsRaised heights q y k.height) (sym (is_new y l e same)) (raised_r y same)
+    raised_by y l e (inr differs) = so.raised y l (was y l e differs)
+
+    asked_kept : (y k : Point) → IsAsked links p q lifts y k → IsAsked links p q lifts_new y k
+    asked_kept y k (inl new) = inl new
+    asked_kept y k (inr w) = inr (w.0, holds k w.1)
+
+    asked_by : (y : Point) (l : Lift) → at lifts_new y ≡ Some l → (y ≡ r) ⊎ (y ≢ r) → IsAsked links p q lifts_new y l.kid
+    asked_by y l e (inl same) =
+        subst (λ k. IsAsked links p q lifts_new y k.kid) (sym (is_new y l e same))
+        (inr (subst (λ z. Reads links z x) (sym same) reads, holds x done_x.lifted))
+    asked_by y l e (inr differs) = asked_kept y l.kid (so.asked y l (was y l e differs))
+
     near_r : goes.height ≤ lifted heights lifts_new x + 1
     near_r = let s = other_now x not_x in let o = goes.one_above in let c = cap.under in omega (arith, s, o, c)
 
@@ -256,9 +297,20 @@ module _ (heights : Rows ℕ) (links : Links) (p q : Point) (sound : IsSound hei
     queued_at h e (inl none) = let f : ◌≡◌ {A = Option ℕ} (Some h) (Some (level heights r)) = sym e ∙ (goes.lifts.first none).changed in cc
     queued_at h e (inr there) = (so.queued r h (sym (goes.lifts.again there r) ∙ e)).0
 
+    queued_by : (y : Point) (h : ℕ) → at queue_new y ≡ Some h → (y ≡ r) ⊎ (y ≢ r) → (h ≡ level heights y) × Holds lifts_new y
+    queued_by y h e (inl same) = (
+      queued_at h (ap (at queue_new) (sym same) ∙ e) (there_cases lifts r) ∙ ap (level heights) (sym same),
+      some_there (at lifts_new y) new_lift (ap (at lifts_new) same ∙ changes.changed),
+    )
+    queued_by y h e (inr differs) = let w = so.queued y h (sym (queue_other y differs) ∙ e) in (w.0, holds y w.1)
+
     there_by : (y : Point) → (y ≡ r) ⊎ Holds lifts y → Holds heights y
     there_by y (inl e) = subst (Holds heights) (sym e) (sound.ends r x reads).0
     there_by y (inr there) = so.there y there
+
+    not_below_by : (y : Point) → (y ≡ r) ⊎ Holds lifts y → level heights p ≤ level heights y
+    not_below_by y (inl e) = let f = ap (level heights) e in let u = rises_x in let n = so.not_below x done_x.lifted in omega (arith, f, u, n)
+    not_below_by y (inr there) = so.not_below y there
 
     high_r : goes.height ≤ 128 → lifted heights lifts x < goes.height
     high_r low = high_r_by low (two_cases (lifted heights lifts x))
@@ -286,6 +338,22 @@ module _ (heights : Rows ℕ) (links : Links) (p q : Point) (sound : IsSound hei
     waiting_by y h e (inl same) =
         let f = queued_at h (ap (at queue_new) (sym same) ∙ e) (there_cases lifts r) in let u = rises_x in omega (arith, f, u)
     waiting_by y h e (inr differs) = so.waiting y h (sym (queue_other y differs) ∙ e)
+
+    -- the next reader is lifted
+    pub climbing_goes : IsClimbing heights links p q lifts_new queue_new (level heights x) x left
+    climbing_goes = record {
+      there = λ y there. there_by y (held y there);
+      raised = λ y l e. raised_by y l e (point_cases y r);
+      asked = λ y l e. asked_by y l e (point_cases y r);
+      near = λ y l e. near_by y l e (point_cases y r);
+      queued = λ y h e. queued_by y h e (point_cases y r);
+      not_below = λ y there. not_below_by y (held y there);
+      unmet = changes.others q (λ e. other (sym e)) ∙ so.unmet;
+      start = (let a = so.start in let g = grows p in omega (arith, a, g));
+      above = λ y s d reads_y. soon y s d (so.above y s (done_before y d) reads_y);
+      done = λ y d. so.done y (done_before y d);
+      waiting = λ y h e. waiting_by y h e (point_cases y r);
+    }
 
 module _ (heights : Rows ℕ) (links : Links) (p q : Point) (sound : IsSound heights links) where
   -- the next reader comes above x, lifted or not

@@ -30,12 +30,6 @@ pub record AreLaid (roots : List ℕ) (old : List Place) (fs : List Formula) (i 
   pub whole : laid_each roots (length old) (in_view fs) ≡ behind more values (laid_each roots (length places) (in_view (drop i fs)))
   pub names : EveryNameOfAll (λ n. n < length roots) (in_view (drop i fs))
 
-module _ (roots : List ℕ) (old : List Place) (fs : List Formula) (i : ℕ) (places : List Place) (values : List ℕ)
-    (h : AreLaid roots old fs i places values) where
-  module _ (f : Formula) (within : i < length fs) (is : f ≡ get_or fs i f) where
-
-  module _ (past : length fs ≤ i) where
-
 -- what stands behind places that stand behind others
 pub further_behind : (old more places new : List Place) → places ≡ old ++ more → (further : List Place) × (new ≡ places ++ further)
     → (further : List Place) × (new ≡ old ++ further)

@@ -8,7 +8,7 @@ use Rattle.session.specs.Places.{AreTypedCalls, through_model}
 use Rattle.session.specs.Settling.{IsMarked, merged}
 use Rattle.session.proofs.Lists.{at_place}
 use Rattle.session.proofs.Merging.{merged_none}
-use Rattle.session.proofs.Progress.{underway_start, underway_next, calls_left, calls_made, ready_at}
+use Rattle.session.proofs.Progress.{underway_start, underway_next, calls_left, ready_at}
 use Rattle.session.proofs.call.call_needed.Goals as goal
 
 pub loop-i-init : goal.loop-i-init
