@@ -1,6 +1,6 @@
 -- What every graph keeps, where a node is added.
-use Rattle.std.proofs.Common.{◌≡◌, ◌⊎◌, inl, inr, ℕ, ◌+◌, ◌≤◌, Bool, List, [], ◌∷◌, Option, None, Some, Ok, Err, sym, ap, subst, ◌∙◌, arith}
-use Rattle.std.specs.Prelude.{Result, IfOk, IfErr, OnOk, OnErr}
+use Rattle.std.proofs.Common.{◌≡◌, ◌⊎◌, inl, inr, ℕ, zero, suc, ◌+◌, ◌<◌, ◌≤◌, Bool, List, [], ◌∷◌, Option, None, Some, Ok, Err, sym, ap, subst, ◌∙◌, arith}
+use Rattle.std.specs.Prelude.{Result, IfOk, IfErr, OnOk, OnErr, IsErrOf}
 use Rattle.inc_value.specs.declared.function.FnRef.{FnRef}
 use Rattle.inc_value.specs.declared.node.NodeId.{NodeId}
 use Rattle.inc_value.specs.declared.node.Point.{Point}
@@ -8,7 +8,7 @@ use Rattle.inc_value.specs.declared.value.Value.{Value}
 use Rattle.inc_terms.specs.Depend.{main}
 use Rattle.inc_terms.specs.Graph as graph
 use Rattle.inc_terms.specs.Graph.{Row, Def}
-use Rattle.inc_terms.specs.Within.{Given, Fit}
+use Rattle.inc_terms.specs.Within.{Given, Fit, DefWithin}
 use Rattle.inc_value.specs.declared.function.FnKind.{FnKind}
 use Rattle.inc_value.specs.declared.ty.Ty.{Ty}
 use Rattle.node_arena.specs.Meanings.{KeepsKnown}
@@ -17,7 +17,7 @@ use Rattle.necessity.specs.Need.{root_times}
 use Rattle.node_arena.specs.declared.arena.AddFault.{AddFault}
 use Rattle.node_arena.specs.declared.arena.variable.SetFault.{SetFault}
 use Rattle.node_arena.specs.declared.arena.AddFault.TheVariants as add
-use Rattle.node_arena.specs.Arena.{Arena, row_at, Changes, IsSet}
+use Rattle.node_arena.specs.Arena.{Arena, row_at, Changes, IsSet, NamesGiven}
 use Rattle.node_arena.specs.Graph.{AllCallFit, CallsFit}
 use Rattle.stabilize_round.proofs.Points.{node_or_other}
 use Rattle.stabilizer.specs.Between.{IsTakenBack}
@@ -26,9 +26,9 @@ use Rattle.stabilizer.specs.Round.{IsReady}
 use Rattle.stabilizer.specs.declared.parts.Parts.{Parts}
 use Rattle.stabilizer.specs.declared.refused.Refused.{Refused}
 use Rattle.graph.specs.Known.{CallsKnown}
-use Rattle.graph.specs.Sound.{IsSound}
+use Rattle.graph.specs.Sound.{IsSound, ReadOlder}
 use Rattle.inc_value.specs.declared.value.Value.TheVariants as value
-use Rattle.inc_value.specs.Choice.{Every}
+use Rattle.inc_value.specs.Choice.{Every, Among}
 use Rattle.inc_terms.specs.Within.{ValueWithin}
 use Rattle.node_arena.specs.Sound.{IsSound as IsArenaSound}
 use Rattle.node_arena.specs.Typing.{Makes}
@@ -91,6 +91,13 @@ pub record AddAnswers (old new : Arena) (def : Def) (ty : Ty) (result : Result N
   pub added : IfOk result (λ (id : NodeId). Changes old new id (Some (record { def = def; ty = ty; scope = None })))
   pub given : OnOk result (new.given ≡ old.given + 1)
   pub err : IfErr result (λ (e : AddFault). (new ≡ old) ⊎ ((e ≡ add.Memory) × IsTakenBack old new))
+  pub fresh : IfOk result (λ (id : NodeId). id.gen_ ≡ old.given)
+  pub unknown : (¬ NamesGiven old.given def) → IsErrOf result add.Unknown
+
+below_or_not : (m n : ℕ) → (m < n) ⊎ (n ≤ m)
+below_or_not m zero = inr (omega arith)
+below_or_not zero (suc n) = inl (omega arith)
+below_or_not (suc m) (suc n) = elim (below_or_not m n) [ inl h ↦ inl (omega (arith, h)) | inr h ↦ inr (omega (arith, h)) ]
 
 pub answer_given : (old new : Arena) (def : Def) (ty : Ty) (result : Result NodeId AddFault) → AddAnswers old new def ty result → old.given ≤ new.given
 answer_given old new def ty (Ok id) a = let g = a.given in omega (arith, g)
@@ -115,6 +122,46 @@ answer_fits known old new def ty (Err e) a calls sound fit = elim a.err [
   | inr back ↦ rows_fit known known old new (itself known) back.1.rows fit
 ]
 
+-- every id keeps its row
+pub rows_older : (old new : Arena) → ((n : NodeId) → row_at new n ≡ row_at old n) → ReadOlder old → ReadOlder new
+rows_older old new rows older n m r is = older n m r (sym (rows n) ∙ is)
+
+every_among : (P : NodeId → Type 0) (ns : List NodeId) (m : NodeId) → Every P ns → Among m ns → P m
+every_among P [] m all h = absurd h
+every_among P (n ∷ ns) m all (inl e) = subst P (sym e) all.0
+every_among P (n ∷ ns) m all (inr h) = every_among P ns m all.1 h
+
+-- the children of a definition that names such nodes alone
+kids_within : (P : NodeId → Type 0) (Q : FnKind → FnRef → Type 0) (def : Def) (m : NodeId) → DefWithin P Q def → Among m (graph.kids def) → P m
+kids_within P Q (graph.Map f ns) m w h = every_among P ns m w.1 h
+kids_within P Q (graph.Fold f v ns) m w h = every_among P ns m w.2 h
+kids_within P Q (graph.Freeze n f) m w h = every_among P (n ∷ []) m (w.1, tt) h
+kids_within P Q (graph.Expert f v ns) m w h = every_among P ns m w.2 h
+kids_within P Q def m w h = absurd h
+
+-- the children of a node that is added were given before it
+added_older : (old : Arena) (def : Def) (id : NodeId) → id.gen_ ≡ old.given
+    → ((¬ NamesGiven old.given def) → ◌≡◌ {A = Result NodeId AddFault} (Ok id) (Err add.Unknown))
+    → (m : NodeId) → Among m (graph.kids def) → m.gen_ < id.gen_
+added_older old def id fresh unknown m h = elim (below_or_not m.gen_ id.gen_) [
+  | inl below ↦ below
+  | inr past ↦ absurd (let e = unknown (λ names. let k = kids_within (Given old.given) (λ kind f. Unit {0}) def m names h in omega (arith, k, past, fresh)) in cc)
+]
+
+pub answer_older : (old new : Arena) (def : Def) (ty : Ty) (result : Result NodeId AddFault) → AddAnswers old new def ty result
+    → ReadOlder old → ReadOlder new
+answer_older old new def ty (Ok id) a older = λ n m r is h. elim (node_or_other id n) [
+  | inl e ↦
+      let row = same_row (sym a.added.changed ∙ (ap (row_at new) e ∙ is)) in
+      subst (λ (x : NodeId). m.gen_ < x.gen_) e
+      (added_older old def id a.fresh a.unknown m (subst (λ (x : Row). Among m (graph.kids x.def)) (sym row) h))
+  | inr ne ↦ older n m r (sym (a.added.others n (λ k. ne (sym k))) ∙ is) h
+]
+answer_older old new def ty (Err e) a older = elim a.err [
+  | inl same ↦ subst ReadOlder (sym same) older
+  | inr back ↦ rows_older old new back.1.rows older
+]
+
 -- ---- a variable is set, or not
 
 pub on_err : {T E : Type 0} (old new : Parts) (result : Result T E) → OnErr result (new ≡ old) → OnErr result (new.arena ≡ old.arena)
@@ -130,18 +177,27 @@ set_fits known old new id v (Ok u) set same fit = λ n r is. elim (node_or_other
   | inr ne ↦ calls_fit_as known known (itself known) old.given new.given r.def (fit n r (sym (set.changes.others n (λ k. ne (sym k))) ∙ is))
 ]
 
+pub set_older : (old new : Arena) (id : NodeId) (v : Value) (result : Result (Unit {0}) SetFault)
+    → OnOk result (IsSet old new id v) → OnErr result (new ≡ old) → ReadOlder old → ReadOlder new
+set_older old new id v (Err e) set same older = subst ReadOlder (sym same) older
+set_older old new id v (Ok u) set same older = λ n m r is h. elim (node_or_other id n) [
+  | inl e ↦ absurd (subst (λ (x : Row). Among m (graph.kids x.def)) (sym (same_row (sym set.changes.changed ∙ (ap (row_at new) e ∙ is)))) h)
+  | inr ne ↦ older n m r (sym (set.changes.others n (λ k. ne (sym k))) ∙ is) h
+]
+
 module _ (known : FnRef → Bool) (value : FnRef → List Value → Value) (old new : Parts) (observers : List Observer) (rooted : ℕ)
     (refused : Option Refused) (sound : IsSound known value old observers rooted refused) where
   -- all that a call between stabilizes leaves
   pub sound_still : (IsReady (functions_of value) old.arena old.work → IsReady (functions_of value) new.arena new.work)
       → ((p : Point) → root_times new.work.graph.roots p ≡ root_times old.work.graph.roots p)
-      → (AllCallFit known lists_none old.arena → AllCallFit known lists_none new.arena) → (old.arena.given ≤ new.arena.given)
+      → (AllCallFit known lists_none old.arena → AllCallFit known lists_none new.arena) → (ReadOlder old.arena → ReadOlder new.arena)
+      → (old.arena.given ≤ new.arena.given)
       → ((n : NodeId) → Given old.arena.given n → at new.work.rows (main n) ≡ at old.work.rows (main n))
       → IsSound known value new observers rooted refused
-  sound_still ready roots fit given rows = record {
+  sound_still ready roots fit older given rows = record {
     few = sound.few;
     earlier = sound.earlier;
     unbroken = λ whole. let can = sound.unbroken whole in
-        can_still known value old new observers rooted can (ready can.ready) roots (fit can.fit) given
+        can_still known value old new observers rooted can (ready can.ready) roots (fit can.fit) (older can.older) given
         (λ n among. rows n (can.given n (front_is_among observers rooted n among)));
   }

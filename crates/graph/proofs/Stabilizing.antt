@@ -25,7 +25,7 @@ use Rattle.stabilizer.specs.declared.parts.Parts.{Parts}
 use Rattle.stabilizer.specs.declared.refused.Refused.{Refused}
 use Rattle.stabilizer.specs.declared.refused.Refused.TheVariants.{Height, Cycle, Full, Memory}
 use Rattle.stabilizer.specs.declared.work.Work.{Work}
-use Rattle.graph.specs.Sound.{CanStabilize}
+use Rattle.graph.specs.Sound.{CanStabilize, ReadOlder}
 use Rattle.graph.specs.Standing.{in_use}
 use Rattle.graph.specs.declared.observer.Observer.{Observer}
 use Rattle.graph.proofs.Observing.{in_use_split, among_swapped, among_right, count_swapped}
@@ -151,6 +151,7 @@ module _ (known known' : FnRef → Bool) (value value' : FnRef → List Value �
         ready = ready;
         roots = subst (λ (xs : List Observer). AreRooted new.work (in_use xs)) (sym whole) right.rooted;
         fit = rows_fit known known' old.arena new.arena keeps (λ n. ap (λ (a : Arena). row_at a n) arena) can.fit;
+        older = subst ReadOlder (sym arena) can.older;
         given = λ n among. subst (λ (a : Arena). Given a.given n) (sym arena) (can.given n among);
         shown = λ n among.
             let s = right.sees n (n, inl (subst (λ (xs : List Observer). Among n (in_use xs)) whole among), here) in

@@ -8,7 +8,7 @@ use Rattle.inc_value.specs.declared.node.NodeId.{NodeId}
 use Rattle.inc_value.specs.declared.node.Point.{Point}
 use Rattle.inc_value.specs.Choice.{Among, Reaches, here, step}
 use Rattle.inc_terms.specs.Depend.{main}
-use Rattle.inc_terms.specs.Graph.{Row, kids}
+use Rattle.inc_terms.specs.Graph.{kids}
 use Rattle.inc_terms.specs.Term.{Functions}
 use Rattle.link_table.specs.Links.{Reads}
 use Rattle.necessary_graph.specs.Part.{NecessaryPart, Needed}
@@ -25,7 +25,7 @@ use Rattle.stabilizer.specs.declared.parts.Parts.{Parts}
 use Rattle.stabilizer.specs.declared.refused.Refused.{Refused}
 use Rattle.stabilizer.specs.declared.work.Work.{Work}
 use Rattle.graph.specs.Standing.{in_use}
-use Rattle.graph.specs.Sound.{IsSound}
+use Rattle.graph.specs.Sound.{IsSound, ReadOlder}
 use Rattle.graph.specs.declared.observer.Observer.{Observer}
 use Rattle.graph.proofs.Sound.{can_still}
 use Rattle.graph.proofs.Sounding.{calls_fit_as, itself}
@@ -49,15 +49,15 @@ needed_more : (g : NecessaryPart) (p q : Point) → Needed g p → Reads g.links
 needed_more g p q need reads = record { root = need.root; is_root = need.is_root; leads = reaches_end need.root p q need.leads reads }
 
 module _ (F : Functions) (arena : Arena) (work : Work) (between : IsBetween F arena work) (nodes : List NodeId) (roots : AreRooted work nodes) (count : ℕ)
-    (unread : (n m : NodeId) (r : Row) → n.gen_ < count → row_at arena n ≡ Some r → Among m (kids r.def) → m.gen_ < count)
+    (ordered : ReadOlder arena)
     (young : (n : NodeId) → Among n nodes → n.gen_ < count) where
   kid_older : (n : NodeId) (q : Point) → Needed work.graph (main n) → Reads work.graph.links (main n) q → n.gen_ < count → q.node.gen_ < count
   kid_older n q need reads below =
       let r = some_of (row_at arena n) (sym (between.kept.rows n) ∙ between.kept.links (main n) q reads) in
       let t = between.links n r.0 need r.1 q in
       let m = main_among q (kids r.0.def) (count_among q (map main (kids r.0.def)) (omega (arith, t, reads))) in
-      let low = unread n m.0 r.0 below r.1 m.1 in
-      subst (λ (x : Point). x.node.gen_ < count) (sym m.2) low
+      let low = ordered n m.0 r.0 r.1 m.1 in
+      subst (λ (x : Point). x.node.gen_ < count) (sym m.2) (omega (arith, low, below))
 
   step_older : (p q : Point) → Needed work.graph p → Reads work.graph.links p q → p.node.gen_ < count → q.node.gen_ < count
   step_older p q need reads below =
@@ -95,6 +95,12 @@ module _ (known : FnRef → Bool) (value : FnRef → List Value → Value) (old 
     | inr h ↦ absurd (none-some r (sym (dropped n h) ∙ is))
   ]
 
+  reads_back : ReadOlder old.arena → ReadOlder new.arena
+  reads_back reads n m r is h = elim (at_or_past n.gen_ count) [
+    | inl below ↦ reads n m r (sym (older n below) ∙ is) h
+    | inr past ↦ absurd (none-some r (sym (dropped n past) ∙ is))
+  ]
+
   pub sound_back : (IsReady (functions_of value) old.arena old.work → IsReady (functions_of value) new.arena new.work)
       → new.work.graph.roots ≡ old.work.graph.roots → new.arena.given ≡ old.arena.given
       → ((n : NodeId) → n.gen_ < count → at new.work.rows (main n) ≡ at old.work.rows (main n))
@@ -105,5 +111,5 @@ module _ (known : FnRef → Bool) (value : FnRef → List Value → Value) (old 
     earlier = sound.earlier;
     unbroken = λ whole. let can = sound.unbroken whole in
         can_still known value old new observers rooted can (ready can.ready) (λ p. ap (λ (r : Roots). root_times r p) roots) (fits_back can.fit)
-        (omega (arith, given)) (λ n among. rows n (young n among));
+        (reads_back can.older) (omega (arith, given)) (λ n among. rows n (young n among));
   }

@@ -2,6 +2,8 @@
 ghost use Rattle.std.specs.Prelude.{◌≡◌, ◌↔◌, [], None, Some, IfOk, IfErr, IfSome, IfNone, IsErrOf, OnOk, option_copied};
 ghost use Rattle.inc_value.specs.declared.node.NodeId.{NodeId};
 ghost use Rattle.node_arena.specs.Arena.{row_at, IsLive};
+ghost use Rattle.node_arena.specs.Sound.{IsSound as IsSoundArena};
+ghost use Rattle.graph.specs.Sound.{IsSound};
 ghost use Rattle.graph.specs.Standing.{IsUnbroken, IsBroken};
 ghost use Rattle.graph.specs.declared.fault.Kept.{Kept as ACause};
 
@@ -109,6 +111,15 @@ impl<F: Functions> Graph<F> {
         } else {
             None
         }
+    }
+
+    /// What is kept fits together: a fact for a caller's proof. Nothing runs.
+    pub fn keeps_sound(&self)
+        ensures sound { IsSound (F.known self.entry.now.functions) (F.value self.entry.now.functions) self.entry.now.parts
+            self.entry.now.observers self.entry.now.rooted self.entry.now.refused }
+        ensures arena { IsSoundArena self.entry.now.parts.arena }
+    {
+        self.parts.arena().is_sound();
     }
 
     /// What broke the graph, if it is broken.

@@ -8,3 +8,4 @@ mod observer;
 
 pub use fault::{GraphFault, Kept, StabilizeFault};
 pub use graph::{Graph, Mark, Round};
+pub use stabilizer::Refused;

@@ -2,6 +2,9 @@
 ghost use Rattle.std.specs.Prelude.{IsTrue};
 ghost use Rattle.node_arena.specs.Arithmetic.{is_function};
 
+mod broken;
+mod marks;
+
 use graph::{Graph, GraphFault};
 use inc_value::{FnId, FnKind, FnRef, NodeId, ObsId, Outcome, Sig, Ty, Value};
 use node_arena::Functions;
@@ -15,8 +18,11 @@ struct Arithmetic {
 }
 
 impl Functions for Arithmetic {
+    ghost use Rattle.std.specs.Prelude.{None};
     ghost use Rattle.node_arena.specs.Arithmetic.{is_function, value_of};
     ghost use Rattle.node_arena.specs.ArithmeticLaws.{known_is_map, value_is_base, value_is_given, value_is_proper};
+
+    ghost named = { λ _ _. None };
 
     ghost known = { λ _ f. is_function f };
 

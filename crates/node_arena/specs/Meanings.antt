@@ -1,5 +1,5 @@
 -- What every keeper of functions promises of the maps that it knows, and of what a call leaves alone.
-use Rattle.std.specs.Prelude.{◌≡◌, Bool, List, All, IsTrue}
+use Rattle.std.specs.Prelude.{◌≡◌, ℕ, Bool, List, Option, All, IsTrue}
 use Rattle.inc_value.specs.Sig.{IsMapSig}
 use Rattle.inc_value.specs.Ty.{IsBase}
 use Rattle.inc_value.specs.Value.{type_of, HaveTypes, IsProper}
@@ -12,6 +12,10 @@ use Rattle.inc_terms.specs.Within.{KnownAs, ValueWithin}
 -- a known function stays known
 abbrev pub KeepsKnown : (FnRef → Bool) → (FnRef → Bool) → Type 0
 KeepsKnown old new = (f : FnRef) → IsTrue (old f) → IsTrue (new f)
+
+-- a name stands for the function that it stood for before
+abbrev pub SameNames : (List ℕ → Option FnRef) → (List ℕ → Option FnRef) → Type 0
+SameNames old new = (name : List ℕ) → new name ≡ old name
 
 -- a function gives for its arguments what it gave before
 abbrev pub SameValues : (FnRef → List Value → Value) → (FnRef → List Value → Value) → Type 0

@@ -6,13 +6,17 @@ use std::alloc::{AllocError, Global};
 /// The functions that the nodes of a graph call. Each map that is known has a value for all values
 /// of the types that it takes, and the value is the same at each call.
 pub trait Functions: Drop {
-    ghost use Rattle.std.specs.Prelude.{◌≡◌, ◌≤◌, ℕ, Bool, List, IfOk, IsTrue};
+    ghost use Rattle.std.specs.Prelude.{◌≡◌, ◌≤◌, ℕ, Bool, List, Option, IfOk, IsTrue};
     ghost use Rattle.inc_value.specs.Value.{type_of, HaveTypes, IsProper};
     ghost use Rattle.inc_value.specs.declared.function.FnRef.{FnRef};
     ghost use Rattle.inc_value.specs.declared.function.FnKind.TheVariants.{Map};
     ghost use Rattle.inc_value.specs.declared.value.Value.{Value};
     ghost use Rattle.inc_value.specs.Counts.{raised, raised_on_err};
-    ghost use Rattle.node_arena.specs.Meanings.{KeepsKnown, SameValues, HaveMapSigs, GiveTypes, GiveProper, GiveNoReference};
+    ghost use Rattle.node_arena.specs.Meanings.{SameNames, KeepsKnown, SameValues, HaveMapSigs};
+    ghost use Rattle.node_arena.specs.Meanings.{GiveTypes, GiveProper, GiveNoReference};
+
+    // the function that a name stands for, where functions have names
+    ghost named: { Self → List ℕ → Option FnRef };
 
     // whether a function is known
     ghost known: { Self → FnRef → Bool };
@@ -31,7 +35,7 @@ pub trait Functions: Drop {
         ensures { result ≡ known self.now f };
 
     /// What the map gives for the arguments. Each call is counted, also one that finds no memory
-    /// for the value. Values stay, and no function is forgotten.
+    /// for the value. Names and values stay, and no function is forgotten.
     fn apply(&mut self, alloc: Global, f: FnRef, args: &[Value]) -> Result<Value, AllocError>
         requires known { IsTrue (known self.old f) }
         requires kind { f.id.kind ≡ Map }
@@ -44,6 +48,7 @@ pub trait Functions: Drop {
         ensures calls_grow { calls self.old ≤ calls self.new }
         ensures wants { wants self.new ≡ raised_on_err result (wants self.old) }
 
+        ensures same_names { SameNames (named self.old) (named self.new) }
         ensures keeps_known { KeepsKnown (known self.old) (known self.new) }
         ensures same_values { SameValues (value self.old) (value self.new) };
 

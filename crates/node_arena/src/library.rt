@@ -13,7 +13,8 @@ pub trait Library: Drop {
     ghost use Rattle.inc_value.specs.declared.function.FnKind.TheVariants.{Map};
     ghost use Rattle.inc_value.specs.declared.value.Value.{Value};
     ghost use Rattle.inc_value.specs.Counts.{raised, raised_on_err};
-    ghost use Rattle.node_arena.specs.Meanings.{KeepsKnown, SameValues, HaveMapSigs, GiveTypes, GiveProper, GiveNoReference};
+    ghost use Rattle.node_arena.specs.Meanings.{SameNames, KeepsKnown, SameValues, HaveMapSigs};
+    ghost use Rattle.node_arena.specs.Meanings.{GiveTypes, GiveProper, GiveNoReference};
 
     // the function that a name stands for
     ghost named: { Self → List ℕ → Option FnRef };
@@ -52,7 +53,7 @@ pub trait Library: Drop {
         ensures calls_grow { calls self.old ≤ calls self.new }
         ensures wants { wants self.new ≡ raised_on_err result (wants self.old) }
 
-        ensures same_names { (name : List ℕ) → named self.new name ≡ named self.old name }
+        ensures same_names { SameNames (named self.old) (named self.new) }
         ensures keeps_known { KeepsKnown (known self.old) (known self.new) }
         ensures same_values { SameValues (value self.old) (value self.new) };
 

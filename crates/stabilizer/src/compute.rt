@@ -7,7 +7,7 @@ ghost use Rattle.inc_terms.specs.Depend.{main};
 ghost use Rattle.point_map.specs.Rows.{Holds};
 ghost use Rattle.node_arena.specs.Arena.{IsLive};
 ghost use Rattle.node_arena.specs.Graph.{AllCallFit};
-ghost use Rattle.node_arena.specs.Meanings.{KeepsKnown, SameValues};
+ghost use Rattle.node_arena.specs.Meanings.{SameNames, KeepsKnown, SameValues};
 ghost use Rattle.stabilizer.specs.Computing.{Computes, NotComputed, ComputesMap, IsCalled, KeepsAllButCount};
 ghost use Rattle.stabilizer.specs.Computing.{ShowsValue, value_shown};
 ghost use Rattle.stabilizer.specs.Kept.{IsKept};
@@ -37,6 +37,7 @@ pub(crate) fn compute<F: Functions>(
     ensures refused { OnErr result (NotComputed arena.now work.old work.new node
         (F.calls functions.old) (F.calls functions.new)) }
     ensures memory { IfErr result (λ e. e ≡ Refused.Memory) }
+    ensures names { SameNames (F.named functions.old) (F.named functions.new) }
     ensures known { KeepsKnown (F.known functions.old) (F.known functions.new) }
     ensures values { SameValues (F.value functions.old) (F.value functions.new) }
 {
@@ -67,6 +68,7 @@ fn compute_map<F: Functions>(
     ensures refused { OnErr result (KeepsAllButCount work.old work.new
         (F.calls functions.old) (F.calls functions.new)) }
     ensures memory { IfErr result (λ e. e ≡ Refused.Memory) }
+    ensures names { SameNames (F.named functions.old) (F.named functions.new) }
     ensures known { KeepsKnown (F.known functions.old) (F.known functions.new) }
     ensures values { SameValues (F.value functions.old) (F.value functions.new) }
 {
@@ -99,6 +101,7 @@ fn call_map<F: Functions>(
     ensures refused { OnErr result (KeepsAllButCount work.old work.new
         (F.calls functions.old) (F.calls functions.new)) }
     ensures memory { IfErr result (λ e. e ≡ Refused.Memory) }
+    ensures names { SameNames (F.named functions.old) (F.named functions.new) }
     ensures known { KeepsKnown (F.known functions.old) (F.known functions.new) }
     ensures values { SameValues (F.value functions.old) (F.value functions.new) }
 {

@@ -8,7 +8,7 @@ ghost use Rattle.point_map.specs.Rows.{at, Holds};
 ghost use Rattle.stabilize_round.specs.Counts.{RoseBy};
 ghost use Rattle.recompute_heap.specs.Agree.{IsEmpty};
 ghost use Rattle.node_arena.specs.Graph.{AllCallFit};
-ghost use Rattle.node_arena.specs.Meanings.{KeepsKnown, SameValues};
+ghost use Rattle.node_arena.specs.Meanings.{SameNames, KeepsKnown, SameValues};
 ghost use Rattle.stabilizer.specs.Kept.{IsKept};
 ghost use Rattle.stabilizer.specs.Meaning.{functions_of, lists_none};
 ghost use Rattle.stabilizer.specs.Refusing.{TellsWhy};
@@ -51,6 +51,7 @@ impl Stabilizer {
         ensures roots { parts.new.work.graph.roots ≡ parts.old.work.graph.roots }
         ensures round { parts.new.work.round ≡ parts.old.work.round }
         ensures ran { parts.new.ran ≡ parts.old.ran }
+        ensures names { SameNames (F.named functions.old) (F.named functions.new) }
         ensures known { KeepsKnown (F.known functions.old) (F.known functions.new) }
         ensures values { SameValues (F.value functions.old) (F.value functions.new) }
     {
@@ -86,6 +87,7 @@ impl Stabilizer {
         ensures few { OnErr result (HasCalledFew parts.old.arena (F.calls functions.old) (F.calls functions.new)) }
         ensures ran { OnErr result (parts.new.ran ≡ parts.old.ran) }
         ensures arena { parts.new.arena ≡ parts.old.arena }
+        ensures names { SameNames (F.named functions.old) (F.named functions.new) }
         ensures known { KeepsKnown (F.known functions.old) (F.known functions.new) }
         ensures values { SameValues (F.value functions.old) (F.value functions.new) }
     {
@@ -137,6 +139,7 @@ fn settle_all<F: Functions>(parts: &mut Parts, functions: &mut F) -> Result<(), 
     ensures roots { parts.new.work.graph.roots ≡ parts.old.work.graph.roots }
     ensures round { parts.new.work.round ≡ parts.old.work.round }
     ensures ran { parts.new.ran ≡ parts.old.ran }
+    ensures names { SameNames (F.named functions.old) (F.named functions.new) }
     ensures known { KeepsKnown (F.known functions.old) (F.known functions.new) }
     ensures values { SameValues (F.value functions.old) (F.value functions.new) }
 {
@@ -158,6 +161,7 @@ fn step_main<F: Functions>(parts: &mut Parts, functions: &mut F, p: Point) -> Re
     ensures arena { parts.new.arena ≡ parts.old.arena }
     ensures ran { parts.new.ran ≡ parts.old.ran }
     ensures kept { IsKept parts.new.arena parts.new.work }
+    ensures names { SameNames (F.named functions.old) (F.named functions.new) }
     ensures known { KeepsKnown (F.known functions.old) (F.known functions.new) }
     ensures values { SameValues (F.value functions.old) (F.value functions.new) }
 {

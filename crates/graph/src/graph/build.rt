@@ -1,15 +1,15 @@
 //! Nodes that are made, set and taken back.
-ghost use Rattle.std.specs.Prelude.{◌≡◌, ◌⊎◌, ◌↔◌, ◌<◌, Some, IfOk, IfErr, OnOk, OnErr, IsOk, IsErrOf, IsTrue};
+ghost use Rattle.std.specs.Prelude.{◌≡◌, ◌⊎◌, ◌↔◌, ◌<◌, IfOk, IfErr, OnOk, OnErr, IsOk, IsErrOf, IsTrue};
 ghost use Rattle.inc_value.specs.Value.{type_of};
 ghost use Rattle.inc_value.specs.declared.node.NodeId.{NodeId};
 ghost use Rattle.inc_value.specs.Choice.{Among};
 ghost use Rattle.inc_terms.specs.Code.{def_of};
-ghost use Rattle.inc_terms.specs.Graph.{Row, Const, Var, Map, kids};
+ghost use Rattle.inc_terms.specs.Graph.{Const, Var, Map};
 ghost use Rattle.graph.specs.Known.{CallsKnown};
 ghost use Rattle.inc_terms.specs.Within.{Given, ValueWithin};
-ghost use Rattle.node_arena.specs.Arena.{row_at, IsLive, IsVariable};
+ghost use Rattle.node_arena.specs.Arena.{IsLive, IsVariable};
 ghost use Rattle.node_arena.specs.Typing.{FitsNode};
-ghost use Rattle.graph.specs.Standing.{IsUnbroken, IsBroken, rooted_nodes};
+ghost use Rattle.graph.specs.Standing.{IsUnbroken, IsBroken, in_use, rooted_nodes};
 ghost use Rattle.graph.specs.Effects.{top, NamesUnknown, IsMistyped, HasNoRoom, KeepsAll, IsAddFault, IsSetFault, Adds, Sets, TakesBack};
 ghost use Rattle.graph.specs.declared.fault.Kept.{Kept as ACause};
 
@@ -140,6 +140,8 @@ impl<F: Functions> Graph<F> {
     pub fn mark(&self) -> Result<Mark, GraphFault>
         ensures broken { (cause : ACause) → IsErrOf result (GraphFault.Broken cause) ↔ IsBroken self.now cause }
         ensures mark { IfOk result (λ mark. mark.given ≡ self.now.parts.arena.given) }
+        ensures observed { IfOk result (λ mark. (n : NodeId) → Among n (in_use self.now.observers) → n.gen_ < mark.given) }
+        ensures rooted { IfOk result (λ mark. (n : NodeId) → Among n (rooted_nodes self.now) → n.gen_ < mark.given) }
         ensures unbroken { IsOk result ↔ IsUnbroken self.now }
     {
         self.check()?;
@@ -148,11 +150,9 @@ impl<F: Functions> Graph<F> {
         })
     }
 
-    /// Drops the nodes that were added since the mark. Since then only nodes were added: no older node reads them, and
-    /// no observer looks at them. This takes no memory.
+    /// Drops the nodes that were added since the mark. No observer that was there when a stabilize was accepted last
+    /// looks at one of them; `mark` says so of those that were there then. This takes no memory.
     pub fn back_to(&mut self, mark: Mark) -> Result<(), GraphFault>
-        requires unread { (n m : NodeId) (r : Row) → n.gen_ < mark.given → row_at self.old.parts.arena n ≡ Some r
-            → Among m (kids r.def) → m.gen_ < mark.given }
         requires unobserved { (n : NodeId) → Among n (rooted_nodes self.old) → n.gen_ < mark.given }
         ensures broken { (cause : ACause) → IsErrOf result (GraphFault.Broken cause) ↔ IsBroken self.old cause }
         ensures taken { OnOk result (TakesBack self.old self.new mark.given) }

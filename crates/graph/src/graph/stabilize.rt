@@ -1,7 +1,7 @@
 //! One call that brings what is observed up to date.
 ghost use Rattle.std.specs.Prelude.{◌≡◌, ◌↔◌, ◌++◌, List, None, Some, IfOk, OnOk, OnErr, IfErr, IsErrOf, length, vec_len, ◌≤◌};
 ghost use Rattle.inc_value.specs.declared.node.NodeId.{NodeId};
-ghost use Rattle.node_arena.specs.Meanings.{KeepsKnown, SameValues};
+ghost use Rattle.node_arena.specs.Meanings.{SameNames, KeepsKnown, SameValues};
 ghost use Rattle.stabilize_round.specs.Counts.{RoseBy};
 ghost use Rattle.stabilizer.specs.Meaning.{functions_of};
 ghost use Rattle.stabilizer.specs.Round.{IsUpToDate, IsLawful, HasCalledFew};
@@ -36,7 +36,9 @@ impl<F: Functions> Graph<F> {
             → IsRefusedFor (functions_of (F.value self.old.functions)) self.old self.new cause }
         ensures few { (cause : ACause) → IsErrOf result (StabilizeFault.Refused cause)
             → HasCalledFew self.old.parts.arena (F.calls self.old.functions) (F.calls self.new.functions) }
+        ensures calls_grow { F.calls self.old.functions ≤ F.calls self.new.functions }
         ensures unchanged { (cause : ACause) → IsErrOf result (StabilizeFault.Broken cause) → self.new ≡ self.old }
+        ensures names { SameNames (F.named self.old.functions) (F.named self.new.functions) }
         ensures known { KeepsKnown (F.known self.old.functions) (F.known self.new.functions) }
         ensures values { SameValues (F.value self.old.functions) (F.value self.new.functions) }
     {
@@ -92,6 +94,7 @@ fn run<F: Functions>(
     ensures few { OnErr result (HasCalledFew parts.old.arena (F.calls functions.old) (F.calls functions.new)) }
     ensures ran { OnErr result (parts.new.ran ≡ parts.old.ran) }
     ensures arena { parts.new.arena ≡ parts.old.arena }
+    ensures names { SameNames (F.named functions.old) (F.named functions.new) }
     ensures known { KeepsKnown (F.known functions.old) (F.known functions.new) }
     ensures values { SameValues (F.value functions.old) (F.value functions.new) }
 {

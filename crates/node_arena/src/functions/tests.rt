@@ -15,6 +15,8 @@ struct LibraryFunctions<L: Library> {
 }
 
 impl<L: Library> Functions for LibraryFunctions<L> {
+    ghost named = { λ s. L.named s.library };
+
     ghost known = { λ s. L.known s.library };
 
     ghost value = { λ s. L.value s.library };

@@ -9,6 +9,7 @@ loop-init g c = record {
   ran = refl;
   so = no_step (functions_of (g.F.Functions.value c.args.functions.now)) c.args.parts.now.arena c.args.parts.now.work
       (g.F.Functions.calls c.args.functions.now) c.requires.kept c.requires.quiet;
+  names = λ name. refl;
   known = λ f h. h;
   values = λ f xs. refl;
 }
@@ -22,6 +23,7 @@ loop-preserved g c = record {
       (g.F.Functions.calls c.args.functions.now) (g.F.Functions.calls c.loop.functions) (g.F.Functions.calls c.step.new.functions)
       c.requires.in_round c.loop.invariant.so c.step.ensures.arena c.step.ensures.kept c.step.ensures.quiet
       (c.in_ok-step.ensures.stepped c.if-branch.true) c.step.ensures.roots c.step.ensures.round (c.in_ok-step.ensures.settled_one c.if-branch.true);
+  names = λ name. c.step.ensures.names name ∙ c.loop.invariant.names name;
   known = λ f h. c.step.ensures.known f (c.loop.invariant.known f h);
   values = λ f xs. c.step.ensures.values f xs ∙ c.loop.invariant.values f xs;
 }

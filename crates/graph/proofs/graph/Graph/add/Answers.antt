@@ -4,7 +4,7 @@ use Rattle.graph.specs.declared.fault.GraphFault.TheVariants as fault
 use Rattle.graph.proofs.Faulting.{AddPasses, add_passed, add_wrong_type}
 use Rattle.inc_terms.specs.Code.{def_of}
 use Rattle.necessity.specs.Need.{Roots, root_times}
-use Rattle.graph.proofs.Sounding.{AddAnswers, sound_still, answer_fits, answer_given}
+use Rattle.graph.proofs.Sounding.{AddAnswers, sound_still, answer_fits, answer_older, answer_given}
 use Rattle.graph.proofs.graph.Graph.add.Goals as goal
 use Rattle.graph.proofs.graph.Graph.add.Goals.{in-Ok, in-Err}
 
@@ -13,12 +13,13 @@ invariant_of-self g c = (
   c.self.invariant.0,
   (let a = c.add-added.ensures in
       let answers : AddAnswers c.self.inside.parts.arena c.add-added.new.self.arena (def_of c.args.def) c.args.ty c.add-added.result
-      = record { added = a.added; given = a.given; err = a.err } in
+      = record { added = a.added; given = a.given; err = a.err; fresh = a.id; unknown = a.unknown.1 } in
       let sound = rw c.arena.ensures at c.is_sound.ensures in
       let known = rw (← c.self.view_is) at c.requires.known in
       sound_still _ _ c.self.inside.parts c.add-added.new.self c.self.inside.observers.items c.self.inside.rooted c.self.inside.refused c.self.invariant.1
       (a.ready _) (λ p. ap (λ (r : Roots). root_times r p) a.roots)
       (answer_fits _ _ _ (def_of c.args.def) c.args.ty c.add-added.result answers known sound)
+      (answer_older _ _ (def_of c.args.def) c.args.ty c.add-added.result answers)
       (answer_given _ _ (def_of c.args.def) c.args.ty c.add-added.result answers) a.rows),
 )
 

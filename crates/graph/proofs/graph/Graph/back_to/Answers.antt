@@ -7,11 +7,10 @@ use Rattle.graph.proofs.graph.Graph.back_to.Goals as goal
 pub back_to-requires-clause-unneeded : goal.back_to-requires-clause-unneeded
 back_to-requires-clause-unneeded g c n since need =
     let whole = rw (← c.self.view_is) at c.in_ok-check.ensures.unbroken in
-    let unread = rw (← c.self.view_is) at c.requires.unread in
     let young = rw (← c.self.view_is) at c.requires.unobserved in
     let can = c.self.invariant.1.unbroken whole in
     let low = needed_older _ c.self.inside.parts.arena c.self.inside.parts.work (ready_is_between _ _ _ can.ready) _ can.roots c.args.mark.given
-    unread young (main n) need in omega (arith, low, since)
+    can.older young (main n) need in omega (arith, low, since)
 
 pub invariant_of-self : goal.invariant_of-self
 invariant_of-self g c = (

@@ -1,0 +1,15 @@
+use Rattle.graph.proofs.Observing.{front_is_among}
+use Rattle.graph.proofs.graph.Graph.mark.Goals as goal
+
+pub returns-clause-observed : goal.returns-clause-observed
+returns-clause-observed g c n among =
+    let whole = rw (← c.self.view_is) at c.in_ok-check.ensures.unbroken in
+    let can = c.self.invariant.1.unbroken whole in
+    rw (c.given.ensures, c.arena.ensures) (can.given n (rw (← c.self.view_is) at among))
+
+pub returns-clause-rooted : goal.returns-clause-rooted
+returns-clause-rooted g c n among =
+    let whole = rw (← c.self.view_is) at c.in_ok-check.ensures.unbroken in
+    let can = c.self.invariant.1.unbroken whole in
+    let front = front_is_among c.self.inside.observers.items c.self.inside.rooted n (rw (← c.self.view_is) at among) in
+    rw (c.given.ensures, c.arena.ensures) (can.given n front)
