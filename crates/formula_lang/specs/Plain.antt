@@ -11,7 +11,7 @@ use Rattle.script_model.specs.Literals.{Literal, Integer}
 use Rattle.script_model.specs.Language.{is_name, integer_of}
 use Rattle.script_model.specs.Check.{type_of_base}
 use Rattle.script_model.specs.Parsing.{Read, read, base_named, name_front, named_front, one_name, tally, two_names, whole}
-use Rattle.script_model.specs.Tokens.{Token, Word, Number, Text, Punctuation, Open}
+use Rattle.script_model.specs.Tokens.{Token, Word, Number, Text}
 
 -- a line, where it is of today's forms
 abbrev pub where_here : Option Line → Option Line
@@ -57,11 +57,6 @@ plain_literal (t ∷ rest) = and_then (literal_in t) (λ l. read l rest)
 abbrev pub plain_type : List Token → Read Ty
 plain_type [] = None
 plain_type (t ∷ rest) = and_then (base_in t) (λ b. read (type_of_base b) rest)
-
--- what is left behind a `(`
-abbrev pub behind_open : List Token → Option (List Token)
-behind_open (Punctuation Open ∷ rest) = Some rest
-behind_open tokens = None
 
 -- a formula, behind its first token: a name or a function where that is a name, else a literal
 abbrev pub behind_first : (List Token → Read Tree) → Token → List Token → Option (List ℕ) → Read Tree

@@ -10,6 +10,7 @@ use std::alloc::{AllocError, Global};
 use thiserror::Error;
 
 mod command;
+mod cursor;
 mod formula;
 mod literal;
 mod word;

@@ -1,96 +1,96 @@
 //! Commands, read from tokens.
-ghost use Rattle.std.specs.Prelude.{◌≡◌, IfOk, map, option_map, suc};
-ghost use Rattle.formula_lang.specs.Plain.{plain_command, plain_let, plain_observing, plain_read, plain_set, plain_stabilize, plain_var, plain_with};
-ghost use Rattle.formula_lang.specs.TreeView.{line_view, tree_view};
+ghost use Rattle.std.specs.Prelude.{◌≡◌, IfOk, map, option_map};
+ghost use Rattle.formula_lang.specs.Plain.{plain_command, plain_let, plain_observing, plain_set, plain_stabilize, plain_var, plain_with};
+ghost use Rattle.formula_lang.specs.TreeView.{line_view};
 ghost use Rattle.formula_lang.specs.View.{token_view};
 ghost use Rattle.script_model.specs.Grammar.{Observe, Show};
-ghost use Rattle.script_model.specs.Parsing.{one_name, tally, two_names, whole};
+ghost use Rattle.script_model.specs.Parsing.{one_name, two_names};
 
-use super::formula::{formula_of, token_at};
+use super::cursor::Cursor;
+use super::formula::formula_of;
 use super::literal::literal_of;
 use super::word::{name_of, type_of, word_in};
 use crate::name::Name;
 use crate::token::Token;
-use crate::tree::{Line, Tree};
+use crate::tree::Line;
 use std::alloc::{AllocError, Global};
 
 /// `var NAME TYPE LITERAL`, behind its first word.
-fn var_of<'a>(alloc: Global, tokens: &[Token<'a>]) -> Result<Option<Line>, AllocError>
-    ensures { IfOk result (λ found. option_map line_view found ≡ plain_var (map token_view tokens.now)) }
+fn var_of(alloc: Global, tokens: &mut Cursor<'_, '_>) -> Result<Option<Line>, AllocError>
+    ensures { IfOk result (λ found. option_map line_view found ≡ plain_var tokens.old) }
 {
-    let Some((name, rest)) = name_of(tokens) else {
+    let Some(name) = name_of(tokens) else {
         return Ok(None);
     };
-    let Some((ty, rest)) = type_of(rest) else {
+    let Some(ty) = type_of(tokens) else {
         return Ok(None);
     };
-    let Some((first, [])) = literal_of(alloc, rest)? else {
+    let Some(first) = literal_of(alloc, tokens)? else {
         return Ok(None);
     };
+    if !tokens.is_empty() {
+        return Ok(None);
+    }
     let name = Name::new(alloc, name)?;
     Ok(Some(Line::Var { name, ty, first }))
 }
 
 /// `set NAME LITERAL`, behind its first word.
-fn set_of<'a>(alloc: Global, tokens: &[Token<'a>]) -> Result<Option<Line>, AllocError>
-    ensures { IfOk result (λ found. option_map line_view found ≡ plain_set (map token_view tokens.now)) }
+fn set_of(alloc: Global, tokens: &mut Cursor<'_, '_>) -> Result<Option<Line>, AllocError>
+    ensures { IfOk result (λ found. option_map line_view found ≡ plain_set tokens.old) }
 {
-    let Some((name, rest)) = name_of(tokens) else {
+    let Some(name) = name_of(tokens) else {
         return Ok(None);
     };
-    let Some((value, [])) = literal_of(alloc, rest)? else {
+    let Some(value) = literal_of(alloc, tokens)? else {
         return Ok(None);
     };
+    if !tokens.is_empty() {
+        return Ok(None);
+    }
     let name = Name::new(alloc, name)?;
     Ok(Some(Line::Set { name, value }))
 }
 
-/// The formula that all of the tokens are.
-fn whole_of<'a>(alloc: Global, tokens: &[Token<'a>]) -> Result<Option<Tree>, AllocError>
-    ensures { IfOk result (λ found. option_map tree_view found
-        ≡ whole (plain_read (suc (tally (map token_view tokens.now))) (map token_view tokens.now)) (λ t. t)) }
-{
-    let Some((formula, end)) = formula_of(alloc, tokens.len() + 1, tokens, 0)? else {
-        return Ok(None);
-    };
-    match token_at(tokens, end) {
-        Some(_) => Ok(None),
-        None => Ok(Some(formula)),
-    }
-}
-
 /// `let NAME FORMULA`, behind its first word.
-fn let_of<'a>(alloc: Global, tokens: &[Token<'a>]) -> Result<Option<Line>, AllocError>
-    ensures { IfOk result (λ found. option_map line_view found ≡ plain_let (map token_view tokens.now)) }
+fn let_of(alloc: Global, tokens: &mut Cursor<'_, '_>) -> Result<Option<Line>, AllocError>
+    ensures { IfOk result (λ found. option_map line_view found ≡ plain_let tokens.old) }
 {
-    let Some((name, rest)) = name_of(tokens) else {
+    let Some(name) = name_of(tokens) else {
         return Ok(None);
     };
-    let Some(formula) = whole_of(alloc, rest)? else {
+    let depth = tokens.len() + 1;
+    let Some(formula) = formula_of(alloc, depth, tokens)? else {
         return Ok(None);
     };
+    if !tokens.is_empty() {
+        return Ok(None);
+    }
     let name = Name::new(alloc, name)?;
     Ok(Some(Line::Let { name, formula }))
 }
 
 /// `observe NAME NAME`, behind its first word.
-fn observe_of<'a>(alloc: Global, tokens: &[Token<'a>]) -> Result<Option<Line>, AllocError>
-    ensures { IfOk result (λ found. option_map line_view found ≡ two_names Observe (map token_view tokens.now)) }
+fn observe_of(alloc: Global, tokens: &mut Cursor<'_, '_>) -> Result<Option<Line>, AllocError>
+    ensures { IfOk result (λ found. option_map line_view found ≡ two_names Observe tokens.old) }
 {
-    let Some((observer, rest)) = name_of(tokens) else {
+    let Some(observer) = name_of(tokens) else {
         return Ok(None);
     };
-    let Some((name, [])) = name_of(rest) else {
+    let Some(name) = name_of(tokens) else {
         return Ok(None);
     };
+    if !tokens.is_empty() {
+        return Ok(None);
+    }
     let observer = Name::new(alloc, observer)?;
     let name = Name::new(alloc, name)?;
     Ok(Some(Line::Observe { observer, name }))
 }
 
 /// `stabilize`, where that is the word and nothing stands behind it.
-fn stabilize_of<'a>(word: &[u8], tokens: &[Token<'a>]) -> Option<Line>
-    ensures { option_map line_view result ≡ plain_stabilize word.now (map token_view tokens.now) }
+fn stabilize_of(word: &[u8], tokens: &mut Cursor<'_, '_>) -> Option<Line>
+    ensures { option_map line_view result ≡ plain_stabilize word.now tokens.old }
 {
     if word == b"stabilize".as_slice() && tokens.is_empty() {
         Some(Line::Stabilize)
@@ -100,23 +100,26 @@ fn stabilize_of<'a>(word: &[u8], tokens: &[Token<'a>]) -> Option<Line>
 }
 
 /// `show NAME`, behind its first word.
-fn show_of<'a>(alloc: Global, tokens: &[Token<'a>]) -> Result<Option<Line>, AllocError>
-    ensures { IfOk result (λ found. option_map line_view found ≡ one_name Show (map token_view tokens.now)) }
+fn show_of(alloc: Global, tokens: &mut Cursor<'_, '_>) -> Result<Option<Line>, AllocError>
+    ensures { IfOk result (λ found. option_map line_view found ≡ one_name Show tokens.old) }
 {
-    let Some((observer, [])) = name_of(tokens) else {
+    let Some(observer) = name_of(tokens) else {
         return Ok(None);
     };
+    if !tokens.is_empty() {
+        return Ok(None);
+    }
     let observer = Name::new(alloc, observer)?;
     Ok(Some(Line::Show { observer }))
 }
 
 /// The command that begins with `word` and goes on with `tokens`.
-fn command_with<'a>(
+fn command_with(
     alloc: Global,
     word: &[u8],
-    tokens: &[Token<'a>],
+    tokens: &mut Cursor<'_, '_>,
 ) -> Result<Option<Line>, AllocError>
-    ensures { IfOk result (λ found. option_map line_view found ≡ plain_with word.now (map token_view tokens.now)) }
+    ensures { IfOk result (λ found. option_map line_view found ≡ plain_with word.now tokens.old) }
 {
     match word {
         b"var" => var_of(alloc, tokens),
@@ -127,12 +130,12 @@ fn command_with<'a>(
 }
 
 /// The command on observers, or the stabilize, that begins with `word` and goes on with `tokens`.
-fn observing_with<'a>(
+fn observing_with(
     alloc: Global,
     word: &[u8],
-    tokens: &[Token<'a>],
+    tokens: &mut Cursor<'_, '_>,
 ) -> Result<Option<Line>, AllocError>
-    ensures { IfOk result (λ found. option_map line_view found ≡ plain_observing word.now (map token_view tokens.now)) }
+    ensures { IfOk result (λ found. option_map line_view found ≡ plain_observing word.now tokens.old) }
 {
     match word {
         b"observe" => observe_of(alloc, tokens),
@@ -142,17 +145,15 @@ fn observing_with<'a>(
 }
 
 /// The command that the tokens are.
-pub(super) fn command_of<'a>(
-    alloc: Global,
-    tokens: &[Token<'a>],
-) -> Result<Option<Line>, AllocError>
+pub(super) fn command_of(alloc: Global, tokens: &[Token<'_>]) -> Result<Option<Line>, AllocError>
     ensures { IfOk result (λ found. option_map line_view found ≡ plain_command (map token_view tokens.now)) }
 {
-    let [first, rest @ ..] = tokens else {
+    let mut tokens = Cursor::new(tokens);
+    let Some(first) = tokens.next() else {
         return Ok(None);
     };
     match word_in(first) {
-        Some(word) => command_with(alloc, word, rest),
+        Some(word) => command_with(alloc, word, &mut tokens),
         None => Ok(None),
     }
 }

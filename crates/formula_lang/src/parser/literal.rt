@@ -2,10 +2,10 @@
 ghost use Rattle.std.specs.Prelude.{◌≡◌, All, IfOk, map, option_map};
 ghost use Rattle.inc_value.specs.Text.{IsPrintable};
 ghost use Rattle.formula_lang.specs.Plain.{literal_in, plain_literal, truth_in};
-ghost use Rattle.formula_lang.specs.Reading.{literal_front_view};
 ghost use Rattle.formula_lang.specs.View.{literal_view, token_view};
 ghost use Rattle.script_model.specs.Tokens as model;
 
+use super::cursor::Cursor;
 use crate::number::integer;
 use crate::token::{Content, Token};
 use crate::tree::Literal;
@@ -56,18 +56,15 @@ pub(super) fn literal_in<'a>(
     }
 }
 
-/// The literal at the front, and what is left behind it.
-pub(super) fn literal_of<'t, 'a>(
+/// Reads a literal.
+pub(super) fn literal_of(
     alloc: Global,
-    tokens: &'t [Token<'a>],
-) -> Result<Option<(Literal, &'t [Token<'a>])>, AllocError>
-    ensures { IfOk result (λ found. option_map literal_front_view found ≡ plain_literal (map token_view tokens.now)) }
+    tokens: &mut Cursor<'_, '_>,
+) -> Result<Option<Literal>, AllocError>
+    ensures { IfOk result (λ found. option_map (λ literal. (literal_view literal, tokens.new)) found ≡ plain_literal tokens.old) }
 {
-    let [first, rest @ ..] = tokens else {
-        return Ok(None);
-    };
-    match literal_in(alloc, first)? {
-        Some(literal) => Ok(Some((literal, rest))),
+    match tokens.next() {
+        Some(token) => literal_in(alloc, token),
         None => Ok(None),
     }
 }

@@ -4,8 +4,8 @@ ghost use Rattle.formula_lang.specs.Plain.{base_in, name_in, plain_type, word_in
 ghost use Rattle.formula_lang.specs.View.{token_view};
 ghost use Rattle.script_model.specs.Check.{type_of_base};
 ghost use Rattle.script_model.specs.Parsing.{base_named, name_front};
-ghost use Rattle.formula_lang.specs.Reading.{name_view, type_view};
 
+use super::cursor::Cursor;
 use crate::reserved::is_name;
 use crate::token::Token;
 use inc_value::{Base, Ty};
@@ -63,24 +63,17 @@ fn type_of_base(base: Base) -> Ty
     }
 }
 
-/// The name at the front, and what is left behind it.
-pub(super) fn name_of<'t, 'a>(tokens: &'t [Token<'a>]) -> Option<(&'t [u8], &'t [Token<'a>])>
-    ensures { option_map name_view result ≡ name_front (map token_view tokens.now) }
+/// Reads a name.
+pub(super) fn name_of<'t>(tokens: &mut Cursor<'t, '_>) -> Option<&'t [u8]>
+    ensures { option_map (λ name. (name.now, tokens.new)) result ≡ name_front tokens.old }
 {
-    let [first, rest @ ..] = tokens else {
-        return None;
-    };
-    let name = name_in(first)?;
-    Some((name, rest))
+    name_in(tokens.next()?)
 }
 
-/// The type at the front, and what is left behind it.
-pub(super) fn type_of<'t, 'a>(tokens: &'t [Token<'a>]) -> Option<(Ty, &'t [Token<'a>])>
-    ensures { option_map type_view result ≡ plain_type (map token_view tokens.now) }
+/// Reads a base type.
+pub(super) fn type_of(tokens: &mut Cursor<'_, '_>) -> Option<Ty>
+    ensures { option_map (λ ty. (ty, tokens.new)) result ≡ plain_type tokens.old }
 {
-    let [first, rest @ ..] = tokens else {
-        return None;
-    };
-    let base = base_in(first)?;
-    Some((type_of_base(base), rest))
+    let base = base_in(tokens.next()?)?;
+    Some(type_of_base(base))
 }

@@ -1,7 +1,6 @@
-use Rattle.std.proofs.Common.{◌≡◌, ◌+◌, ◌-◌, ◌*◌, [], map, drop}
+use Rattle.std.proofs.Common.{◌≡◌, ◌+◌, ◌-◌, ◌*◌, [], map}
 use Rattle.formula_lang.specs.Plain.{plain_read}
 use Rattle.formula_lang.specs.TreeView.{tree_view}
-use Rattle.formula_lang.specs.View.{token_view}
 use Rattle.script_model.specs.Parsing.{list_front}
 use Rattle.formula_lang.proofs.parser.formula.+formula.Given as goal
 
@@ -17,5 +16,5 @@ decreases-arguments_of l = 3 * l.depth + 1
 -- the arguments so far and those that are read of what is left
 abbrev pub invariant-arguments_of-loop-count : goal.invariant-arguments_of-loop-count
 invariant-arguments_of-loop-count l =
-    list_front (plain_read l.depth) 41 (9 - l._count) (map tree_view l.arguments.items) (map token_view (drop l.next l.tokens))
-    ≡ list_front (plain_read l.depth) 41 9 [] (map token_view (drop l.fn.place l.tokens))
+    list_front (plain_read l.depth) 41 (9 - l._count) (map tree_view l.arguments.items) l.tokens
+    ≡ list_front (plain_read l.depth) 41 9 [] l.fn.tokens
