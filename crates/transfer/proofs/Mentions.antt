@@ -1,0 +1,47 @@
+-- What names and references a formula mentions.
+use Rattle.std.proofs.Common.{ℕ, true, false, Option, None, Some}
+use Rattle.inc_value.specs.Choice.{Every as Each}
+use Rattle.script_model.specs.Values.{Value, Reference}
+use Rattle.script_model.specs.Formula.{Formula, Formulas, TimedValue, Body, Literal, Name, Bound, Apply, Fold, If, Join, Bind, At, Steps, Now, End, More, Variable, Computed, Freeze, After, Every, Expert, Grab}
+
+-- a reference is to a name of the set
+abbrev pub ValueMentions : (ℕ → Type 0) → Value → Type 0
+ValueMentions P (Reference target base) = P target
+ValueMentions P v = Unit {0}
+
+abbrev mutual
+  -- all names and references in the formula are of the set
+  pub Mentions : (ℕ → Type 0) → Formula → Type 0
+  Mentions P (Literal v) = ValueMentions P v
+  Mentions P (Name k) = P k
+  Mentions P (Bound k) = Unit {0}
+  Mentions P (Apply f fs) = AllMention P fs
+  Mentions P (Fold f v fs) = ValueMentions P v × AllMention P fs
+  Mentions P (If test a b) = Mentions P test × Mentions P a × Mentions P b
+  Mentions P (Join child) = Mentions P child
+  Mentions P (Bind left body) = Mentions P left × Mentions P body
+  Mentions P (At time) = Unit {0}
+  Mentions P (Steps v steps) = ValueMentions P v × Each (λ (s : TimedValue). ValueMentions P s.value) steps
+  Mentions P Now = Unit {0}
+
+  -- so in each of the formulas
+  pub AllMention : (ℕ → Type 0) → Formulas → Type 0
+  AllMention P End = Unit {0}
+  AllMention P (More f fs) = Mentions P f × AllMention P fs
+
+-- the value that a freeze keeps, if it keeps one
+abbrev pub KeptMentions : (ℕ → Type 0) → Option Value → Type 0
+KeptMentions P None = Unit {0}
+KeptMentions P (Some v) = ValueMentions P v
+
+-- so in what is declared
+abbrev pub BodyMentions : (ℕ → Type 0) → Option Body → Type 0
+BodyMentions P None = Unit {0}
+BodyMentions P (Some (Variable v)) = ValueMentions P v
+BodyMentions P (Some (Computed f kept)) = Mentions P f
+BodyMentions P (Some (Freeze child predicate frozen)) = Mentions P child × KeptMentions P frozen
+BodyMentions P (Some (After t)) = Unit {0}
+BodyMentions P (Some (Every base span)) = Unit {0}
+BodyMentions P (Some (Expert f first links stale)) = ValueMentions P first × Each P links
+BodyMentions P (Some (Grab bind v false)) = Unit {0}
+BodyMentions P (Some (Grab bind v true)) = P bind × ValueMentions P v
