@@ -1,0 +1,98 @@
+-- What is laid for a formula needs only nodes that are made before it.
+use Rattle.std.proofs.Common.{◌≡◌, ℕ, suc, zero, ◌+◌, ◌<◌, ◌≤◌, List, [], ◌∷◌, ◌++◌, length, map, get_or, All, Option, None, Some, IfSome, arith, refl, sym, ◌∙◌, ap, subst}
+use Rattle.std.proofs.lemmas.List.{length-append}
+use Rattle.std.specs.List.{slice_get}
+use Rattle.std.proofs.lemmas.List.Elements.{All-nil, All-cons}
+use Rattle.inc_value.specs.declared.node.NodeId.{NodeId}
+use Rattle.script_model.specs.Check as command
+use Rattle.script_model.specs.Formula.{Formula, Formulas, Body, Literal, Name, Apply, End, More, Variable, Computed}
+use Rattle.formula_elab.specs.Laying.{laid, laid_each, laid_body, makes_of, root_of}
+use Rattle.formula_elab.specs.Made.{LaidInOrder}
+use Rattle.formula_elab.specs.Opened.{IsEarlier, NeedsEarlier, AreInOrder}
+use Rattle.formula_elab.specs.declared.opened.Open.{Open}
+use Rattle.formula_elab.specs.declared.opened.Open.TheVariants.{Const, Var, Map}
+use Rattle.formula_elab.specs.declared.opened.Part.{Part}
+use Rattle.formula_elab.specs.declared.opened.Part.TheVariants.{Given, Made}
+
+earlier_weaker : (a b : ℕ) (p : Part) → a ≤ b → IsEarlier a p → IsEarlier b p
+earlier_weaker a b (Given n) le h = tt
+earlier_weaker a b (Made i) le h = omega (arith, le, h)
+
+all_earlier_weaker : (a b : ℕ) (ps : List Part) → a ≤ b → All (IsEarlier a) ps → All (IsEarlier b) ps
+all_earlier_weaker a b ps le h = λ i d within. earlier_weaker a b (get_or ps i d) le (h i d within)
+
+pub needs_weaker : (a b : ℕ) (x : Open) → a ≤ b → NeedsEarlier a x → NeedsEarlier b x
+needs_weaker a b (Const v) le h = tt
+needs_weaker a b (Var v) le h = tt
+needs_weaker a b (Map f parts) le h = all_earlier_weaker a b parts le h
+
+order_append : (start : ℕ) (xs ys : List Open) → AreInOrder start xs → AreInOrder (start + length xs) ys
+    → AreInOrder start (xs ++ ys)
+order_append start [] ys first rest =
+    let same : start + 0 ≡ start = omega arith in subst (λ n. AreInOrder n ys) same rest
+order_append start (x ∷ xs) ys first rest =
+    let same : start + suc (length xs) ≡ suc start + length xs = omega arith in
+    (first.0, order_append (suc start) xs ys first.1 (subst (λ n. AreInOrder n ys) same rest))
+
+order_at : (start : ℕ) (xs : List Open) (i : ℕ) (x : Open) → AreInOrder start xs → slice_get xs i ≡ Some x
+    → NeedsEarlier (start + i) x
+order_at start [] i x order at = absurd cc
+order_at start (y ∷ xs) zero x order at =
+    let same : y ≡ x = cc in
+    let here : start ≡ start + 0 = omega arith in
+    subst (λ n. NeedsEarlier n x) here (subst (λ z. NeedsEarlier start z) same order.0)
+order_at start (y ∷ xs) (suc i) x order at =
+    let there : suc start + i ≡ start + suc i = omega arith in
+    subst (λ n. NeedsEarlier n x) there (order_at (suc start) xs i x order.1 at)
+
+pub order_of : (xs : List Open) (i : ℕ) (x : Open) → AreInOrder 0 xs → slice_get xs i ≡ Some x → NeedsEarlier i x
+order_of xs i x order at =
+    let here : 0 + i ≡ i = omega arith in
+    subst (λ n. NeedsEarlier n x) here (order_at 0 xs i x order at)
+
+module _ (nodes : ℕ → NodeId) where
+  mutual
+    formula_in_order : (start : ℕ) (f : Formula)
+        → AreInOrder start (laid nodes start f).makes
+        × IsEarlier (start + length (laid nodes start f).makes) (laid nodes start f).root
+    formula_in_order start (Literal v) = ((tt, tt), omega arith)
+    formula_in_order start (Name n) = (tt, tt)
+    formula_in_order start (Apply function arguments) =
+        let each = laid_each nodes start arguments in
+        let parts = formulas_in_order start arguments in
+        let last = Map function each.roots in
+        let size = length-append each.makes (last ∷ []) in
+        (order_append start each.makes (last ∷ []) parts.0 (parts.1, tt), omega (arith, size))
+    formula_in_order start f = (tt, tt)
+
+    formulas_in_order : (start : ℕ) (fs : Formulas)
+        → AreInOrder start (laid_each nodes start fs).makes
+        × All (IsEarlier (start + length (laid_each nodes start fs).makes)) (laid_each nodes start fs).roots
+    formulas_in_order start End = (tt, All-nil (IsEarlier (start + 0)))
+    formulas_in_order start (More f rest) =
+        let first = laid nodes start f in
+        let next = start + length first.makes in
+        let others = laid_each nodes next rest in
+        let here = formula_in_order start f in
+        let later = formulas_in_order next rest in
+        let size = length-append first.makes others.makes in
+        let end = start + length (first.makes ++ others.makes) in
+        let far : next ≤ end = omega (arith, size) in
+        let same : next + length others.makes ≡ end = omega (arith, size) in (
+          order_append start first.makes others.makes here.0 later.0,
+          All-cons (IsEarlier end) first.root others.roots (earlier_weaker next end first.root far here.1)
+              (subst (λ n. All (IsEarlier n) others.roots) same later.1),
+        )
+
+  pub body_in_order : (body : Body)
+      → AreInOrder 0 (laid_body nodes 0 body).makes
+      × IsEarlier (length (laid_body nodes 0 body).makes) (laid_body nodes 0 body).root
+  body_in_order (Variable v) = ((tt, tt), omega arith)
+  body_in_order (Computed f kept) =
+      let h = formula_in_order 0 f in
+      let here : 0 + length (laid nodes 0 f).makes ≡ length (laid nodes 0 f).makes = omega arith in
+      (h.0, subst (λ n. IsEarlier n (laid nodes 0 f).root) here h.1)
+  body_in_order body = (tt, tt)
+
+pub laid_in_order : LaidInOrder
+laid_in_order nodes body = (body_in_order nodes body).0

@@ -1,0 +1,7 @@
+pub mod Fitting
+pub mod InOrder
+pub mod LaidInTurn
+pub mod Next
+pub mod Places
+pub mod Showing
+pub mod Standing

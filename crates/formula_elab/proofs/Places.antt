@@ -1,0 +1,40 @@
+-- One node is made for each place.
+use Rattle.std.proofs.Common.{◌≡◌, ℕ, ◌+◌, List, [], ◌∷◌, ◌++◌, length, arith, refl, sym, ◌∙◌, ap}
+use Rattle.std.proofs.lemmas.List.{length-append}
+use Rattle.inc_value.specs.declared.node.NodeId.{NodeId}
+use Rattle.script_model.specs.Check as command
+use Rattle.script_model.specs.Formula.{Formula, Formulas, Body, Literal, Name, Apply, End, More, Variable, Computed}
+use Rattle.script_model.specs.Formula.{places_in, places_in_all, places_of_body}
+use Rattle.formula_elab.specs.Laying.{laid, laid_each, laid_body, makes_of, places_of_command}
+use Rattle.formula_elab.specs.Made.{OneMakeEach}
+use Rattle.formula_elab.specs.Names.{EveryName, EveryNameOfAll, EveryNameOf, EveryNameIn}
+use Rattle.formula_elab.specs.declared.opened.Open.TheVariants.{Map}
+
+module _ (P : ℕ → Type 0) (nodes : ℕ → NodeId) where
+  mutual
+    one_each : (start : ℕ) (f : Formula) → EveryName P f → length (laid nodes start f).makes ≡ places_in f
+    one_each start (Literal v) names = refl
+    one_each start (Name n) names = refl
+    one_each start (Apply function arguments) names =
+        let each = laid_each nodes start arguments in
+        let size = length-append each.makes (Map function each.roots ∷ []) in
+        omega (arith, size, one_each_of_all start arguments names)
+    one_each start f names = absurd names
+
+    one_each_of_all : (start : ℕ) (fs : Formulas) → EveryNameOfAll P fs
+        → length (laid_each nodes start fs).makes ≡ places_in_all fs
+    one_each_of_all start End names = refl
+    one_each_of_all start (More f rest) names =
+        let first = laid nodes start f in
+        let next = start + length first.makes in
+        let size = length-append first.makes (laid_each nodes next rest).makes in
+        omega (arith, size, one_each start f names.0, one_each_of_all next rest names.1)
+
+  pub one_each_of_body : (body : Body) → EveryNameOf P body
+      → length (laid_body nodes 0 body).makes ≡ places_of_body body
+  one_each_of_body (Variable v) names = refl
+  one_each_of_body (Computed f kept) names = one_each 0 f names
+  one_each_of_body body names = absurd names
+
+pub one_make_each : OneMakeEach
+one_make_each nodes body names = one_each_of_body (λ n. Unit {0}) nodes body names

@@ -1,0 +1,115 @@
+-- The root of what was made shows what it was made for.
+use Rattle.std.proofs.Common.{◌≡◌, ℕ, zero, suc, ◌+◌, ◌<◌, ◌≤◌, List, [], ◌∷◌, ◌++◌, length, map, Option, None, Some, arith, refl, sym, ◌∙◌, ap, subst}
+use Rattle.std.proofs.lemmas.Option.{slice_get_within}
+use Rattle.std.specs.List.{slice_get}
+use Rattle.inc_value.specs.Ty.{IsBase}
+use Rattle.inc_value.specs.declared.function.FnRef.{FnRef}
+use Rattle.inc_value.specs.declared.node.NodeId.{NodeId}
+use Rattle.inc_terms.specs.Graph as graph
+use Rattle.inc_terms.specs.Graph.{Graph, Row, Def}
+use Rattle.inc_terms.specs.Term as term
+use Rattle.inc_terms.specs.Term.{Term, Terms, refs}
+use Rattle.script_model.specs.Formula.{Formula, Formulas, Body, Literal, Name, Apply, End, More, Variable, Computed}
+use Rattle.script_model.specs.Values.{Value, Int, Bool, Text, Reference, type_of, to_engine}
+use Rattle.transfer.specs.Both.{Both, graph_value}
+use Rattle.transfer.specs.Shows.{Mode, Spelled, Built, Shows, ShowsAll, Opens, IsTop, Declares, plain}
+use Rattle.formula_elab.specs.Laying.{laid, laid_each, laid_body}
+use Rattle.formula_elab.specs.Made.{StandsIn, HoldsNoReference, HoldNoReference, BodyHoldsNoReference, RootDeclares}
+use Rattle.formula_elab.specs.Names.{EveryName, EveryNameOfAll, EveryNameOf}
+use Rattle.formula_elab.specs.Opened.{node_at, node_of, filled}
+use Rattle.formula_elab.specs.declared.opened.Open.{Open}
+use Rattle.formula_elab.specs.declared.opened.Open.TheVariants.{Const, Var, Map}
+
+-- a value that is no reference is the same in the graph
+value_same : (nodes : ℕ → NodeId) (v : Value) → IsBase (type_of v) → to_engine v ≡ graph_value nodes v
+value_same nodes (Int z) base = refl
+value_same nodes (Bool b) base = refl
+value_same nodes (Text bytes) base = refl
+value_same nodes (Reference target b) base = absurd base
+
+-- ---- nodes that stand one after the other
+
+-- from the start-th on, the nodes are live nodes outside all scopes, so defined
+abbrev AreTop : Graph → List NodeId → ℕ → List Open → Type 0
+AreTop G made start [] = Unit {0}
+AreTop G made start (x ∷ xs) = IsTop G (node_at made start) (filled made x) × AreTop G made (suc start) xs
+
+module _ (G : Graph) (made : List NodeId) where
+  top_each : (start : ℕ) (xs : List Open)
+      → ((i : ℕ) (x : Open) → slice_get xs i ≡ Some x → IsTop G (node_at made (start + i)) (filled made x))
+      → AreTop G made start xs
+  top_each start [] h = tt
+  top_each start (x ∷ xs) h =
+      let here : start + 0 ≡ start = omega arith in (
+        subst (λ i. IsTop G (node_at made i) (filled made x)) here (h 0 x refl),
+        top_each (suc start) xs (λ i y at. let there : start + suc i ≡ suc start + i = omega arith in
+            subst (λ j. IsTop G (node_at made j) (filled made y)) there (h (suc i) y at)),
+      )
+
+  top_split : (start : ℕ) (xs ys : List Open) → AreTop G made start (xs ++ ys)
+      → AreTop G made start xs × AreTop G made (start + length xs) ys
+  top_split start [] ys h = let same : start ≡ start + 0 = omega arith in (tt, subst (λ i. AreTop G made i ys) same h)
+  top_split start (x ∷ xs) ys h =
+      let rest = top_split (suc start) xs ys h.1 in
+      let same : suc start + length xs ≡ start + suc (length xs) = omega arith in
+      ((h.0, rest.0), subst (λ i. AreTop G made i ys) same rest.1)
+
+-- ---- formulas
+
+opens_const : (G : Graph) (n : NodeId) (v w : _) → v ≡ w → IsTop G n (graph.Const v)
+    → Opens G (Built None) (term.Ref n) (term.Const w)
+opens_const G n v w same top = (n, top.0, refl, top.1, top.2, ap plain top.3 ∙ ap (λ u. Some (term.Const u)) same)
+
+opens_map : (G : Graph) (n : NodeId) (f : FnRef) (kids : List NodeId) → IsTop G n (graph.Map f kids)
+    → Opens G (Built None) (term.Ref n) (term.Map f (refs kids))
+opens_map G n f kids top = (n, top.0, refl, top.1, top.2, ap plain top.3)
+
+module _ (x : Both) (nodes : ℕ → NodeId) (made : List NodeId) where
+  mutual
+    shows : (start : ℕ) (f : Formula) → HoldsNoReference f → EveryName (λ n. nodes n ≡ x.nodes n) f
+        → AreTop x.graph made start (laid nodes start f).makes
+        → Shows x (Built None) [] (term.Ref (node_of made (laid nodes start f).root)) f
+    shows start (Literal v) base names top =
+        let same = value_same x.nodes v base in
+        opens_const x.graph (node_at made start) (to_engine v) (graph_value x.nodes v) same top.0
+    shows start (Name n) base names top = ap term.Ref names
+    shows start (Apply function arguments) base names top =
+        let each = laid_each nodes start arguments in
+        let kids = map (node_of made) each.roots in
+        let parts = top_split x.graph made start each.makes (Map function each.roots ∷ []) top in (
+          refs kids,
+          opens_map x.graph (node_at made (start + length each.makes)) function kids parts.1.0,
+          shows_each start arguments base names parts.0,
+        )
+    shows start f base names top = absurd base
+
+    shows_each : (start : ℕ) (fs : Formulas) → HoldNoReference fs → EveryNameOfAll (λ n. nodes n ≡ x.nodes n) fs
+        → AreTop x.graph made start (laid_each nodes start fs).makes
+        → ShowsAll x (Built None) [] (refs (map (node_of made) (laid_each nodes start fs).roots)) fs
+    shows_each start End base names top = tt
+    shows_each start (More f rest) base names top =
+        let first = laid nodes start f in
+        let next = start + length first.makes in
+        let parts = top_split x.graph made start first.makes (laid_each nodes next rest).makes top in
+        (shows start f base.0 names.0 parts.0, shows_each next rest base.1 names.1 parts.1)
+
+  body_declares : (body : Body) → BodyHoldsNoReference body → EveryNameOf (λ n. nodes n ≡ x.nodes n) body
+      → AreTop x.graph made 0 (laid_body nodes 0 body).makes
+      → Declares x (node_of made (laid_body nodes 0 body).root) (Some body)
+  body_declares (Variable v) base names top =
+      (top.0.0, top.0.1, top.0.2, top.0.3 ∙ ap graph.Var (value_same x.nodes v base))
+  body_declares (Computed f kept) base names top = shows 0 f base names top
+  body_declares body base names top = absurd base
+
+pub root_declares : RootDeclares
+root_declares x nodes made body base names stands all =
+    body_declares x nodes made body base names (top_each x.graph made 0 makes top)
+  where
+    makes : List Open
+    makes = (laid_body nodes 0 body).makes
+
+    top : (i : ℕ) (o : Open) → slice_get makes i ≡ Some o → IsTop x.graph (node_at made (0 + i)) (filled made o)
+    top i o at =
+        let here : i ≡ 0 + i = omega arith in
+        let within : i < length made = omega (arith, slice_get_within makes i o at, all) in
+        subst (λ j. IsTop x.graph (node_at made j) (filled made o)) here (stands.top i o at within)

@@ -1,0 +1,89 @@
+-- The nodes to be made for a formula: those of arguments before their application, and none for a bare name.
+use Rattle.std.specs.Prelude.{◌+◌, ℕ, List, [], ◌∷◌, ◌++◌, length, Option, None, Some}
+use Rattle.inc_value.specs.declared.function.FnRef.{FnRef}
+use Rattle.inc_value.specs.declared.node.NodeId.{NodeId}
+use Rattle.script_model.specs.Check as command
+use Rattle.script_model.specs.Formula.{Formula, Formulas, Body, Literal, Name, Apply, End, More, Variable, Computed}
+use Rattle.script_model.specs.Formula.{places_of_body}
+use Rattle.script_model.specs.Values.{to_engine}
+use Rattle.formula_elab.specs.Opened.{no_node, node_at}
+use Rattle.formula_elab.specs.declared.opened.Open.{Open}
+use Rattle.formula_elab.specs.declared.opened.Open.TheVariants.{Const, Var, Map}
+use Rattle.formula_elab.specs.declared.opened.Part.{Part}
+use Rattle.formula_elab.specs.declared.opened.Part.TheVariants.{Given, Made}
+
+-- what is to be made, and the node of what it is made for
+pub record Laid : Type 0 where
+  pub makes : List Open
+  pub root : Part
+
+-- what is to be made, and for each of the formulas that it is made for its node
+pub record LaidEach : Type 0 where
+  pub makes : List Open
+  pub roots : List Part
+
+-- one node as the start-th
+abbrev pub laid_one : ℕ → Open → Laid
+laid_one start x = record { makes = x ∷ []; root = Made start }
+
+-- a node that was given, and nothing to make
+abbrev pub laid_given : NodeId → Laid
+laid_given n = record { makes = []; root = Given n }
+
+-- a function behind its arguments
+abbrev pub laid_behind : ℕ → FnRef → LaidEach → Laid
+laid_behind start function arguments = record {
+  makes = arguments.makes ++ Map function arguments.roots ∷ [];
+  root = Made (start + length arguments.makes);
+}
+
+-- what is to be made for one formula before that for others
+abbrev pub laid_before : Laid → LaidEach → LaidEach
+laid_before first rest = record { makes = first.makes ++ rest.makes; roots = first.root ∷ rest.roots }
+
+abbrev mutual
+  -- what is to be made for a formula, the first as the start-th, over the nodes of names; no other form is laid out
+  pub laid : (ℕ → NodeId) → ℕ → Formula → Laid
+  laid nodes start (Literal v) = laid_one start (Const (to_engine v))
+  laid nodes start (Name n) = laid_given (nodes n)
+  laid nodes start (Apply function arguments) = laid_behind start function (laid_each nodes start arguments)
+  laid nodes start f = laid_given no_node
+
+  -- what is to be made for formulas, one after the other
+  pub laid_each : (ℕ → NodeId) → ℕ → Formulas → LaidEach
+  laid_each nodes start End = record { makes = []; roots = [] }
+  laid_each nodes start (More f rest) =
+      laid_before (laid nodes start f) (laid_each nodes (start + length (laid nodes start f).makes) rest)
+
+-- what is to be made for what is declared: a variable is one node
+abbrev pub laid_body : (ℕ → NodeId) → ℕ → Body → Laid
+laid_body nodes start (Variable v) = laid_one start (Var (to_engine v))
+laid_body nodes start (Computed f kept) = laid nodes start f
+laid_body nodes start body = laid_given no_node
+
+-- what is to be made for a formula behind others, where the nodes of names stand in a list
+abbrev pub laid_next : List NodeId → List Open → Formula → Laid
+laid_next ids makes f = laid (node_at ids) (length makes) f
+
+-- so for formulas
+abbrev pub each_laid_next : List NodeId → List Open → Formulas → LaidEach
+each_laid_next ids makes fs = laid_each (node_at ids) (length makes) fs
+
+-- so for what is declared
+abbrev pub body_laid_next : List NodeId → List Open → Body → Laid
+body_laid_next ids makes body = laid_body (node_at ids) (length makes) body
+
+-- what is to be made for a command: only a declaration needs any
+abbrev pub makes_of : (ℕ → NodeId) → command.Command → List Open
+makes_of nodes (command.Declare name ty body) = (laid_body nodes 0 body).makes
+makes_of nodes other = []
+
+-- the node of what a command declares
+abbrev pub root_of : (ℕ → NodeId) → command.Command → Option Part
+root_of nodes (command.Declare name ty body) = Some (laid_body nodes 0 body).root
+root_of nodes other = None
+
+-- the places of what a command declares
+abbrev pub places_of_command : command.Command → ℕ
+places_of_command (command.Declare name ty body) = places_of_body body
+places_of_command other = 0

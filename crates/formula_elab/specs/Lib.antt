@@ -1,0 +1,7 @@
+pub mod Laying
+pub mod Made
+pub mod Names
+pub mod Opened
+pub mod Plan
+pub mod Unnamed
+pub mod UnnamedLaws

@@ -1,0 +1,28 @@
+-- The names in a formula.
+use Rattle.std.specs.Prelude.{ℕ}
+use Rattle.script_model.specs.Check as command
+use Rattle.script_model.specs.Formula.{Formula, Formulas, Body, Literal, Name, Apply, End, More, Variable, Computed}
+
+abbrev mutual
+  -- the formula is of a form that is laid out, and every name in it has the property
+  pub EveryName : (ℕ → Type 0) → Formula → Type 0
+  EveryName P (Literal v) = Unit {0}
+  EveryName P (Name n) = P n
+  EveryName P (Apply function arguments) = EveryNameOfAll P arguments
+  EveryName P f = ⊥
+
+  -- so are all of the formulas
+  pub EveryNameOfAll : (ℕ → Type 0) → Formulas → Type 0
+  EveryNameOfAll P End = Unit {0}
+  EveryNameOfAll P (More f rest) = EveryName P f × EveryNameOfAll P rest
+
+-- so is what is declared
+abbrev pub EveryNameOf : (ℕ → Type 0) → Body → Type 0
+EveryNameOf P (Variable v) = Unit {0}
+EveryNameOf P (Computed f kept) = EveryName P f
+EveryNameOf P body = ⊥
+
+-- so is what the command declares, if anything
+abbrev pub EveryNameIn : (ℕ → Type 0) → command.Command → Type 0
+EveryNameIn P (command.Declare name ty body) = EveryNameOf P body
+EveryNameIn P other = Unit {0}

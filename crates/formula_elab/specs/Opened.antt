@@ -1,0 +1,59 @@
+-- Nodes to be made, some of whose nodes aren't made yet.
+use Rattle.std.specs.Prelude.{◌≡◌, ◌<◌, ℕ, suc, List, [], ◌∷◌, All, map, slice_index_or}
+use Rattle.inc_value.specs.declared.node.NodeId.{NodeId}
+use Rattle.inc_terms.specs.Code.{def_of}
+use Rattle.inc_terms.specs.Graph as graph
+use Rattle.inc_terms.specs.Graph.{Def}
+use Rattle.formula_elab.specs.declared.make.Make.{Make}
+use Rattle.formula_elab.specs.declared.make.Make.TheVariants.{Node as MakeNode}
+use Rattle.formula_elab.specs.declared.make.Made.{Made}
+use Rattle.formula_elab.specs.declared.make.Made.TheVariants.{Node as MadeNode}
+use Rattle.formula_elab.specs.declared.opened.Open.{Open}
+use Rattle.formula_elab.specs.declared.opened.Open.TheVariants.{Const, Var, Map}
+use Rattle.formula_elab.specs.declared.opened.Part.{Part}
+use Rattle.formula_elab.specs.declared.opened.Part.TheVariants.{Given, Made as Numbered}
+
+-- what is read past the end of a list of nodes
+abbrev pub no_node : NodeId
+no_node = record { slot = 0; gen_ = 0 }
+
+-- the i-th of the nodes
+abbrev pub node_at : List NodeId → ℕ → NodeId
+node_at nodes i = slice_index_or nodes i no_node
+
+-- the node that was given, or made as the i-th
+abbrev pub node_of : List NodeId → Part → NodeId
+node_of made (Given n) = n
+node_of made (Numbered i) = node_at made i
+
+-- the definition, with the nodes that were made
+abbrev pub filled : List NodeId → Open → Def
+filled made (Const v) = graph.Const v
+filled made (Var v) = graph.Var v
+filled made (Map f parts) = graph.Map f (map (node_of made) parts)
+
+-- the definition of the node that is to be made
+abbrev pub def_to_make : Make → Def
+def_to_make (MakeNode def) = def_of def
+
+-- the node that was made
+abbrev pub node_made : Made → NodeId
+node_made (MadeNode n) = n
+
+-- ---- order
+
+-- was given, or is the i-th made for an i below the count
+abbrev pub IsEarlier : ℕ → Part → Type 0
+IsEarlier count (Given n) = Unit {0}
+IsEarlier count (Numbered i) = i < count
+
+-- needs only such nodes
+abbrev pub NeedsEarlier : ℕ → Open → Type 0
+NeedsEarlier count (Const v) = Unit {0}
+NeedsEarlier count (Var v) = Unit {0}
+NeedsEarlier count (Map f parts) = All (IsEarlier count) parts
+
+-- from the start on, each needs only nodes that are made before it
+abbrev pub AreInOrder : ℕ → List Open → Type 0
+AreInOrder start [] = Unit {0}
+AreInOrder start (x ∷ xs) = NeedsEarlier start x × AreInOrder (suc start) xs

@@ -1,0 +1,122 @@
+//! Laying formulas out as nodes to be made.
+ghost use Rattle.std.specs.Prelude.{◌≡◌, ◌<◌, ◌++◌, [], false, Some, length, map, IfOk, OnOk};
+ghost use Rattle.formula_lang.specs.CommandView.{body_view, command_view, formula_view, formulas_of};
+ghost use Rattle.script_model.specs.Formula.{places_of_body};
+ghost use Rattle.formula_elab.specs.Laying.{laid_body, makes_of, root_of, places_of_command};
+ghost use Rattle.formula_elab.specs.Laying.{laid_next, each_laid_next, body_laid_next};
+ghost use Rattle.formula_elab.specs.Names.{EveryName, EveryNameOfAll, EveryNameOf, EveryNameIn};
+ghost use Rattle.formula_elab.specs.Opened.{node_at};
+
+use crate::opened::{Open, Part, Parts};
+use crate::plan::Plan;
+use formula_lang::{Command, Declaration, Formula};
+use inc_value::NodeId;
+use std::alloc::{AllocError, Global};
+
+/// What is to be made in a graph for a command, where the nodes of the declarations stand by position. Only a
+/// declaration has something to be made: a node for each place of its formula, inner ones first.
+pub fn elaborate(alloc: Global, command: &Command, ids: &[NodeId]) -> Result<Plan, AllocError>
+    requires names { EveryNameIn (λ n. n < length ids.now) (command_view command.now) }
+    ensures makes { IfOk result (λ plan. plan.makes ≡ makes_of (node_at ids.now) (command_view command.now)) }
+    ensures root { IfOk result (λ plan. plan.root ≡ root_of (node_at ids.now) (command_view command.now)) }
+    ensures made { IfOk result (λ plan. plan.made ≡ []) }
+    ensures waits { IfOk result (λ plan. plan.is_waiting ≡ false) }
+    ensures places { IfOk result (λ plan. length plan.makes ≡ places_of_command (command_view command.now)) }
+{
+    match command {
+        Command::Declare { body, .. } => elaborate_body(alloc, body, ids),
+        Command::Assign { .. }
+        | Command::Observe { .. }
+        | Command::Stabilize
+        | Command::Show { .. } => Ok(Plan::new(alloc, Vec::new(alloc), None)),
+    }
+}
+
+/// What is to be made for what is declared.
+fn elaborate_body(alloc: Global, body: &Declaration, ids: &[NodeId]) -> Result<Plan, AllocError>
+    requires names { EveryNameOf (λ n. n < length ids.now) (body_view body.now) }
+    ensures makes { IfOk result (λ plan. plan.makes ≡ (laid_body (node_at ids.now) 0 (body_view body.now)).makes) }
+    ensures root { IfOk result (λ plan. plan.root ≡ Some (laid_body (node_at ids.now) 0 (body_view body.now)).root) }
+    ensures made { IfOk result (λ plan. plan.made ≡ []) }
+    ensures waits { IfOk result (λ plan. plan.is_waiting ≡ false) }
+    ensures places { IfOk result (λ plan. length plan.makes ≡ places_of_body (body_view body.now)) }
+{
+    let mut makes = Vec::new(alloc);
+    let root = lay_body(alloc, body, ids, &mut makes)?;
+    Ok(Plan::new(alloc, makes, Some(root)))
+}
+
+/// Lays out what is declared behind what is to be made already. The answer is its node.
+fn lay_body(
+    alloc: Global,
+    body: &Declaration,
+    ids: &[NodeId],
+    makes: &mut Vec<Open>,
+) -> Result<Part, AllocError>
+    requires names { EveryNameOf (λ n. n < length ids.now) (body_view body.now) }
+    ensures root { IfOk result (λ root. root ≡ (body_laid_next ids.now makes.old.items (body_view body.now)).root) }
+    ensures makes { OnOk result (makes.new.items
+        ≡ makes.old.items ++ (body_laid_next ids.now makes.old.items (body_view body.now)).makes) }
+{
+    match body {
+        Declaration::Variable(value) => {
+            let root = Part::Made(makes.len());
+            makes.push(Open::Var(value.value(alloc)?))?;
+            Ok(root)
+        }
+        Declaration::Computed(formula) => lay(alloc, formula, ids, makes),
+    }
+}
+
+/// Lays a formula out behind what is to be made already. The answer is its node.
+#[cycle(lay)]
+fn lay(
+    alloc: Global,
+    formula: &Formula,
+    ids: &[NodeId],
+    makes: &mut Vec<Open>,
+) -> Result<Part, AllocError>
+    requires names { EveryName (λ n. n < length ids.now) (formula_view formula.now) }
+    ensures root { IfOk result (λ root. root ≡ (laid_next ids.now makes.old.items (formula_view formula.now)).root) }
+    ensures makes { OnOk result (makes.new.items
+        ≡ makes.old.items ++ (laid_next ids.now makes.old.items (formula_view formula.now)).makes) }
+{
+    match formula {
+        Formula::Literal(value) => {
+            let root = Part::Made(makes.len());
+            makes.push(Open::Const(value.value(alloc)?))?;
+            Ok(root)
+        }
+        Formula::Name(position) => Ok(Part::Given(ids[*position])),
+        Formula::Apply {
+            function,
+            arguments,
+        } => {
+            let arguments = Parts::new(lay_each(alloc, arguments, ids, makes)?);
+            let root = Part::Made(makes.len());
+            makes.push(Open::Map(*function, arguments))?;
+            Ok(root)
+        }
+    }
+}
+
+/// Lays formulas out one after the other. The answer is their nodes.
+#[cycle(lay)]
+fn lay_each(
+    alloc: Global,
+    formulas: &[Formula],
+    ids: &[NodeId],
+    makes: &mut Vec<Open>,
+) -> Result<Vec<Part>, AllocError>
+    requires names { EveryNameOfAll (λ n. n < length ids.now) (formulas_of (map formula_view formulas.now)) }
+    ensures roots { IfOk result (λ roots. roots.items
+        ≡ (each_laid_next ids.now makes.old.items (formulas_of (map formula_view formulas.now))).roots) }
+    ensures makes { OnOk result (makes.new.items ≡ makes.old.items
+        ++ (each_laid_next ids.now makes.old.items (formulas_of (map formula_view formulas.now))).makes) }
+{
+    let mut nodes = Vec::new(alloc);
+    for formula in formulas {
+        nodes.push(lay(alloc, formula, ids, makes)?)?;
+    }
+    Ok(nodes)
+}

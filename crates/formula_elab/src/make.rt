@@ -1,0 +1,18 @@
+//! What is to be made in a graph, and what was made.
+
+use inc_terms::Def;
+use inc_value::NodeId;
+
+/// What is to be made in a graph.
+#[derive(Debug, Drop)]
+pub enum Make {
+    /// A node that is so defined.
+    Node(Def),
+}
+
+/// What was made in a graph.
+#[derive(Clone, Copy, Debug, PartialEq, Eq)]
+pub enum Made {
+    /// The node.
+    Node(NodeId),
+}

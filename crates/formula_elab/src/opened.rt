@@ -1,0 +1,99 @@
+//! Nodes to be made, some of whose nodes aren't made yet.
+ghost use Rattle.std.specs.Prelude.{◌≡◌, ◌<◌, All, length, map, IfOk};
+ghost use Rattle.inc_terms.specs.Code.{def_of};
+ghost use Rattle.formula_elab.specs.Opened.{node_of, filled, IsEarlier, NeedsEarlier};
+
+use inc_terms::{Def, Nodes};
+use inc_value::{FnRef, NodeId, Value};
+use std::alloc::{AllocError, Global};
+use std::marker::Model;
+
+/// A node that a node is made of.
+#[derive(Clone, Copy, Debug, PartialEq, Eq)]
+pub(crate) enum Part {
+    /// One that is there before anything is made.
+    Given(NodeId),
+    /// The one that is made as the i-th.
+    Made(usize),
+}
+
+impl Part {
+    /// The node, where the nodes were made.
+    pub(crate) fn node(self, made: &[NodeId]) -> NodeId
+        requires earlier { IsEarlier (length made.now) self }
+        ensures { result ≡ node_of made.now self }
+    {
+        match self {
+            Part::Given(node) => node,
+            Part::Made(number) => made[number],
+        }
+    }
+}
+
+/// The nodes of a function's arguments in order, seen as a list.
+#[derive(Debug, Drop)]
+pub(crate) struct Parts {
+    parts: Vec<Part>,
+}
+
+impl Model for Parts {
+    ghost use Rattle.std.specs.Prelude.{List};
+    ghost use Rattle.formula_elab.specs.declared.opened.Part.{Part};
+
+    ghost Value = { List Part };
+
+    ghost view = { λ p. p.parts.items };
+}
+
+impl Parts {
+    /// The nodes in this order.
+    pub(crate) fn new(parts: Vec<Part>) -> Parts
+        ensures { result ≡ parts.items }
+    {
+        Parts { parts }
+    }
+
+    /// The nodes in order.
+    fn as_slice(&self) -> &[Part]
+        ensures { result.now ≡ self.now }
+    {
+        &self.parts
+    }
+}
+
+/// What a node is to be, over nodes that may not be made yet.
+#[derive(Debug, Drop)]
+pub(crate) enum Open {
+    Const(Value),
+    Var(Value),
+    Map(FnRef, Parts),
+}
+
+impl Open {
+    /// The definition, with the nodes that were made.
+    pub(crate) fn filled(&self, alloc: Global, made: &[NodeId]) -> Result<Def, AllocError>
+        requires earlier { NeedsEarlier (length made.now) self.now }
+        ensures { IfOk result (λ def. def_of def ≡ filled made.now self.now) }
+    {
+        Ok(match self {
+            Open::Const(value) => Def::Const(value.copy(alloc)?),
+            Open::Var(value) => Def::Var(value.copy(alloc)?),
+            Open::Map(function, parts) => {
+                let kids = nodes_of(alloc, parts.as_slice(), made)?;
+                Def::Map(*function, Nodes::from_slice(alloc, &kids)?)
+            }
+        })
+    }
+}
+
+/// The nodes in order, where the nodes were made.
+fn nodes_of(alloc: Global, parts: &[Part], made: &[NodeId]) -> Result<Vec<NodeId>, AllocError>
+    requires earlier { All (IsEarlier (length made.now)) parts.now }
+    ensures { IfOk result (λ nodes. nodes.items ≡ map (node_of made.now) parts.now) }
+{
+    let mut nodes = Vec::new(alloc);
+    for part in parts {
+        nodes.push(part.node(made))?;
+    }
+    Ok(nodes)
+}
