@@ -1,0 +1,4 @@
+pub mod Chance
+pub mod Jobs
+pub mod Plain
+pub mod Status

@@ -1,0 +1,31 @@
+-- How a run ends that stops before its end.
+use Rattle.std.specs.Prelude.{◌≡◌, ◌⊎◌, ℕ}
+use Rattle.graph.specs.declared.fault.Kept.TheVariants as kept
+use Rattle.graph.specs.declared.fault.GraphFault.{GraphFault}
+use Rattle.graph.specs.declared.fault.GraphFault.TheVariants as graph
+use Rattle.graph.specs.declared.fault.StabilizeFault.{StabilizeFault}
+use Rattle.graph.specs.declared.fault.StabilizeFault.TheVariants as stabilize
+use Rattle.incr_bench.specs.declared.fault.Fault.{Fault}
+use Rattle.incr_bench.specs.declared.fault.Fault.TheVariants.{Refused, Written, Memory}
+
+-- the status that the program ends with
+abbrev pub status_of : Fault → ℕ
+status_of Refused = 1
+status_of Written = 4
+status_of Memory = 5
+
+-- why a call of a graph stops a run
+abbrev pub of_graph : GraphFault → Fault
+of_graph graph.Memory = Memory
+of_graph (graph.Broken kept.Memory) = Memory
+of_graph _ = Refused
+
+-- why a refused stabilize stops a run
+abbrev pub of_stabilize : StabilizeFault → Fault
+of_stabilize (stabilize.Refused kept.Memory) = Memory
+of_stabilize (stabilize.Broken kept.Memory) = Memory
+of_stabilize _ = Refused
+
+-- the status of a run: 0, or that of a fault
+abbrev pub IsRunStatus : ℕ → Type 0
+IsRunStatus n = (n ≡ 0) ⊎ ((fault : Fault) × (n ≡ status_of fault))

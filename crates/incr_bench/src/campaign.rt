@@ -1,0 +1,271 @@
+//! A graph by chance, compared with plain evaluation after each stabilize.
+ghost use Rattle.std.specs.Prelude.{◌≡◌, ◌↔◌, IfOk, IsTrue, map};
+ghost use Rattle.incr_bench.specs.Plain.{at};
+
+use crate::clock::{begin, since};
+use crate::definition::{Definition, at, evaluate};
+use crate::fault::Fault;
+use crate::generator::Generator;
+use crate::lists::append;
+use crate::live::Live;
+use std::alloc::{AllocError, Global};
+use std::time::Clock;
+
+/// An observer in use, with the node that it looks at.
+#[derive(Clone, Copy, Debug)]
+struct Watch {
+    node: usize,
+    observer: usize,
+}
+
+/// How long a campaign took in nanoseconds, how many functions were called, the last value, how many stabilizes were
+/// accepted, how often what an observer shows was compared, and after how many stabilizes one showed another value.
+#[derive(Clone, Copy, Debug)]
+pub struct Tally {
+    pub running: u64,
+    pub calls: u64,
+    pub last: i64,
+    pub stabilizes: u64,
+    pub comparisons: u64,
+    pub disagreements: u64,
+}
+
+/// A graph by chance, beside the definitions of its nodes.
+#[derive(Drop)]
+pub struct Campaign {
+    alloc: Global,
+    live: Live,
+    generator: Generator,
+
+    /// What the nodes are, with the values that the variables have now.
+    definitions: Vec<Definition>,
+
+    /// The nodes that are numbers, and those that are truths.
+    numbers: Vec<usize>,
+    truths: Vec<usize>,
+
+    /// How many of the first nodes are variables.
+    variables: usize,
+
+    /// The observers in use, and how many were made.
+    watched: Vec<Watch>,
+    observers: usize,
+
+    stabilizes: u64,
+    comparisons: u64,
+    disagreements: u64,
+}
+
+/// One of the places of a list, by chance; 0 where it is empty.
+fn any_of(generator: &mut Generator, places: &[usize]) -> usize {
+    if places.is_empty() {
+        return 0;
+    }
+    places[generator.below(places.len())]
+}
+
+/// A small number by chance.
+fn small(generator: &mut Generator) -> i64 {
+    generator.below(7) as i64 - 3
+}
+
+/// What the watched nodes are worth, in the order of the observers.
+fn meant(alloc: Global, values: &[i64], watched: &[Watch]) -> Result<Vec<i64>, AllocError>
+    ensures { IfOk result (λ all. all.items ≡ map (λ w. at values.now w.node) watched.now) }
+{
+    let mut all = Vec::new(alloc);
+    for watch in watched {
+        all.push(at(values, watch.node))?;
+    }
+    Ok(all)
+}
+
+/// What the observers show, in order.
+fn shown(alloc: Global, live: &Live, watched: &[Watch]) -> Result<Vec<i64>, Fault> {
+    let mut all = Vec::new(alloc);
+    for watch in watched {
+        let number = live.shown(watch.observer)?;
+        append(&mut all, number)?;
+    }
+    Ok(all)
+}
+
+/// Whether two lists are the same.
+fn agree(left: &[i64], right: &[i64]) -> bool
+    ensures { IsTrue result ↔ (left.now ≡ right.now) }
+{
+    left == right
+}
+
+impl Campaign {
+    /// A graph of so many nodes, some of them observed, not yet stabilized.
+    pub fn new(alloc: Global, size: usize) -> Result<Campaign, Fault> {
+        let live = Live::new(alloc)?;
+        let mut campaign = Campaign {
+            alloc,
+            live,
+            generator: Generator::new(size as u64),
+            definitions: Vec::new(alloc),
+            numbers: Vec::new(alloc),
+            truths: Vec::new(alloc),
+            variables: size / 4 + 1,
+            watched: Vec::new(alloc),
+            observers: 0,
+            stabilizes: 0,
+            comparisons: 0,
+            disagreements: 0,
+        };
+        campaign.fill(size)?;
+        campaign.watch_some(size / 8 + 1)?;
+        Ok(campaign)
+    }
+
+    /// Makes a node, beside its definition.
+    fn add(&mut self, definition: Definition) -> Result<(), Fault> {
+        let place = self.definitions.len();
+        self.live.add(definition)?;
+        append(&mut self.definitions, definition)?;
+        match definition {
+            Definition::Less(..) => append(&mut self.truths, place)?,
+            _ => append(&mut self.numbers, place)?,
+        }
+        Ok(())
+    }
+
+    /// A node that is a number, by chance.
+    fn number(&mut self) -> usize {
+        any_of(&mut self.generator, &self.numbers)
+    }
+
+    /// A map of earlier nodes, by chance.
+    fn chosen(&mut self) -> Definition {
+        match self.generator.below(8) {
+            0 => Definition::Neg(self.number()),
+            1 | 2 | 3 => Definition::Sum(self.number(), self.number()),
+            4 | 5 if !self.truths.is_empty() => {
+                let test = any_of(&mut self.generator, &self.truths);
+                Definition::Pick(test, self.number(), self.number())
+            }
+            _ => Definition::Less(self.number(), self.number()),
+        }
+    }
+
+    /// Makes the nodes.
+    fn fill(&mut self, size: usize) -> Result<(), Fault> {
+        for _ in 0..self.variables {
+            let value = small(&mut self.generator);
+            self.add(Definition::Var(value))?;
+        }
+        for _ in self.variables..size {
+            let definition = self.chosen();
+            self.add(definition)?;
+        }
+        Ok(())
+    }
+
+    /// Observes a node by chance.
+    fn watch(&mut self) -> Result<(), Fault> {
+        if self.definitions.is_empty() {
+            return Ok(());
+        }
+        let node = self.generator.below(self.definitions.len());
+        self.live.observe(node)?;
+        let observer = self.observers;
+        append(&mut self.watched, Watch { node, observer })?;
+        self.observers = observer.saturating_add(1);
+        Ok(())
+    }
+
+    /// Observes so many nodes by chance.
+    fn watch_some(&mut self, count: usize) -> Result<(), Fault> {
+        for _ in 0..count {
+            self.watch()?;
+        }
+        Ok(())
+    }
+
+    /// Ends an observer by chance, if there is one.
+    fn end(&mut self) -> Result<(), Fault> {
+        if self.watched.is_empty() {
+            return Ok(());
+        }
+        let place = self.generator.below(self.watched.len());
+        let watch = self.watched.swap_remove(place);
+        self.live.unobserve(watch.observer)
+    }
+
+    /// Gives a variable a value, both by chance.
+    fn set(&mut self) -> Result<(), Fault> {
+        let place = self.generator.below(self.variables.max(1));
+        let value = small(&mut self.generator);
+        self.live.set(place, value)?;
+        if place < self.definitions.len() {
+            self.definitions[place] = Definition::Var(value);
+        }
+        Ok(())
+    }
+
+    /// One to three changes of variables, and at times an observer made or ended.
+    fn change(&mut self) -> Result<(), Fault> {
+        for _ in 0..1 + self.generator.below(3) {
+            self.set()?;
+        }
+        match self.generator.below(4) {
+            0 if self.watched.len() < self.definitions.len() => self.watch(),
+            1 => self.end(),
+            _ => Ok(()),
+        }
+    }
+
+    /// Compares what is shown with what plain evaluation gives.
+    fn compare(&mut self) -> Result<(), Fault> {
+        let values = evaluate(self.alloc, &self.definitions)?;
+        let meant = meant(self.alloc, &values, &self.watched)?;
+        let shown = shown(self.alloc, &self.live, &self.watched)?;
+        self.comparisons = self.comparisons.saturating_add(meant.len() as u64);
+        if !agree(&meant, &shown) {
+            self.disagreements = self.disagreements.saturating_add(1);
+        }
+        Ok(())
+    }
+
+    /// One round.
+    fn round(&mut self) -> Result<(), Fault> {
+        self.change()?;
+        self.live.stabilize()?;
+        self.stabilizes = self.stabilizes.saturating_add(1);
+        self.compare()
+    }
+
+    /// So many rounds.
+    fn run(&mut self, rounds: u64) -> Result<(), Fault> {
+        for _ in 0..rounds {
+            self.round()?;
+        }
+        Ok(())
+    }
+
+    /// What the last observer in use shows, 0 where there is none.
+    fn last(&self) -> Result<i64, Fault> {
+        match self.watched.last() {
+            Some(watch) => self.live.shown(watch.observer),
+            None => Ok(0),
+        }
+    }
+
+    /// So many rounds, timed.
+    pub fn measure<C: Clock>(&mut self, clock: &C, rounds: u64) -> Result<Tally, Fault> {
+        let start = begin(clock);
+        self.run(rounds)?;
+        let running = since(clock, start);
+        let last = self.last()?;
+        Ok(Tally {
+            running,
+            calls: self.live.calls(),
+            last,
+            stabilizes: self.stabilizes,
+            comparisons: self.comparisons,
+            disagreements: self.disagreements,
+        })
+    }
+}

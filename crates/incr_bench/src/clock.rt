@@ -1,0 +1,22 @@
+//! Times in nanoseconds.
+use std::time::{Clock, Duration, Instant};
+
+/// The time that the clock shows, if it can be read.
+pub fn begin<C: Clock>(clock: &C) -> Option<Instant> {
+    Instant::now(clock).ok()
+}
+
+/// The nanoseconds of a duration, up to 2^64 - 1.
+fn nanoseconds(time: Duration) -> u64 {
+    time.as_secs()
+        .saturating_mul(1_000_000_000)
+        .saturating_add(time.subsec_nanos() as u64)
+}
+
+/// The nanoseconds since a time; 0 where the clock can't be read.
+pub fn since<C: Clock>(clock: &C, start: Option<Instant>) -> u64 {
+    match (start, begin(clock)) {
+        (Some(start), Some(end)) => nanoseconds(end.duration_since(start)),
+        _ => 0,
+    }
+}

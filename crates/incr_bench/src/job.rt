@@ -1,0 +1,100 @@
+//! The words of the command line, and what they ask for.
+ghost use Rattle.std.specs.Prelude.{◌≤◌, IfSome};
+ghost use Rattle.incr_bench.specs.Jobs.{IsWithin};
+
+use script_io::Word;
+use std::convert::AsStr;
+
+/// What is measured.
+#[derive(Clone, Copy, Debug, PartialEq, Eq)]
+pub enum Shape {
+    /// One variable under a chain of negations, of which the last is observed.
+    Chain,
+
+    /// One variable under many negations, all observed.
+    Fan,
+
+    /// Variables that are summed pairwise.
+    Tree,
+
+    /// A comparison that stays as it is, with readers behind it.
+    Cut,
+
+    /// A chain of 10 that changes, beside nodes that don't.
+    Idle,
+
+    /// A graph by chance, compared with plain evaluation after each stabilize.
+    Random,
+
+    /// Observers that are made and ended.
+    Needs,
+}
+
+/// What the words ask for.
+#[derive(Clone, Copy, Debug)]
+pub struct Job {
+    pub shape: Shape,
+    pub size: usize,
+    pub rounds: u64,
+}
+
+/// The largest size of a shape: as long as a chain may be, and as many nodes as a graph may have.
+fn most(shape: Shape) -> usize
+    ensures { result ≤ 1000000 }
+{
+    match shape {
+        Shape::Chain => 128,
+        Shape::Tree => 524_288,
+        Shape::Random => 10_000,
+        Shape::Fan | Shape::Cut | Shape::Idle | Shape::Needs => 1_000_000,
+    }
+}
+
+/// The shape that a word names.
+fn shape_named(name: &str) -> Option<Shape> {
+    match name {
+        "chain" => Some(Shape::Chain),
+        "fan" => Some(Shape::Fan),
+        "tree" => Some(Shape::Tree),
+        "cut" => Some(Shape::Cut),
+        "idle" => Some(Shape::Idle),
+        "random" => Some(Shape::Random),
+        _ => None,
+    }
+}
+
+/// The number that a word writes.
+fn number(word: &Word) -> Option<u64> {
+    word.as_str().parse::<u64>().ok()
+}
+
+/// A job of a shape, where its size is from 1 to the shape's largest.
+fn sized(shape: Shape, size: u64, rounds: u64) -> Option<Job>
+    ensures { IfSome result IsWithin }
+{
+    let size = size as usize;
+    if size >= 1 && size <= most(shape) {
+        Some(Job {
+            shape,
+            size,
+            rounds,
+        })
+    } else {
+        None
+    }
+}
+
+/// What the words of the command line ask for, of which the first is the program's name.
+pub fn asked(words: &[Word]) -> Option<Job>
+    ensures { IfSome result IsWithin }
+{
+    match words {
+        [_, name, size] if name.as_str() == "needs" => sized(Shape::Needs, number(size)?, 1),
+        [_, name, size, rounds] => sized(
+            shape_named(name.as_str())?,
+            number(size)?,
+            number(rounds)?,
+        ),
+        _ => None,
+    }
+}

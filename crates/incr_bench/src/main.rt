@@ -1,0 +1,41 @@
+//! What the engine costs: `incr_bench SHAPE SIZE ROUNDS` builds a graph of the shape, changes it in rounds, and
+//! tells how many functions were called and how long it took.
+#![tactic(auto)]
+
+mod adapter;
+mod campaign;
+mod clock;
+mod definition;
+mod fault;
+mod generator;
+mod job;
+mod lists;
+mod live;
+mod needs;
+mod perform;
+mod report;
+mod shapes;
+
+use crate::fault::Fault;
+use crate::job::asked;
+use crate::perform::perform;
+use script_io::{StdSink, tell_usage, words};
+use std::alloc::AllocError;
+use std::process::ExitCode;
+
+/// What is written where the words ask for nothing.
+const USAGE: &[u8] =
+    b"usage: incr_bench chain|fan|tree|cut|idle|random SIZE ROUNDS | incr_bench needs SIZE\n";
+
+fn main(rt: HostRuntime) -> ExitCode {
+    let words = match words(&rt) {
+        Ok(words) => words,
+        Err(AllocError) => return ExitCode::from(Fault::Memory.status()),
+    };
+    let mut out = StdSink::new(rt.stdout());
+    let mut notes = StdSink::new(rt.stderr());
+    match asked(&words) {
+        Some(job) => ExitCode::from(perform(rt.alloc(), &rt, job, &mut out, &mut notes)),
+        None => ExitCode::from(tell_usage(&mut out, USAGE)),
+    }
+}

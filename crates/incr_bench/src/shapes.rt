@@ -1,0 +1,244 @@
+//! Graphs of the shapes that are changed in rounds.
+ghost use Rattle.std.specs.Prelude.{◌≤◌, ◌<◌};
+
+use crate::clock::{begin, since};
+use crate::fault::Fault;
+use crate::job::Shape;
+use crate::live::Live;
+use std::alloc::Global;
+use std::time::Clock;
+
+/// How many negations the chain has that changes beside nodes at rest.
+const IDLE_CHAIN: usize = 10;
+
+/// What was measured, in nanoseconds, how many functions were called in the rounds, and the last value.
+#[derive(Clone, Copy, Debug)]
+pub struct Rounds {
+    pub building: u64,
+    pub running: u64,
+    pub calls: u64,
+    pub last: i64,
+}
+
+/// A stabilized graph, in which the first `variables` nodes take turns as the variable that a round changes, and
+/// which tells the observer `told` at the end.
+#[derive(Drop)]
+pub struct Steady {
+    live: Live,
+    variables: usize,
+    told: usize,
+}
+
+/// One variable under a chain of negations, of which the last is observed.
+fn chain(live: &mut Live, size: usize) -> Result<(), Fault> {
+    live.var(1)?;
+    for i in 0..size {
+        live.neg(i)?;
+    }
+    live.observe(size)
+}
+
+/// Negations of the first node.
+fn negations(live: &mut Live, size: usize) -> Result<(), Fault> {
+    for _ in 0..size {
+        live.neg(0)?;
+    }
+    Ok(())
+}
+
+/// Observes so many nodes, from a place on.
+pub fn observe_all(live: &mut Live, start: usize, size: usize) -> Result<(), Fault> {
+    for i in 0..size {
+        live.observe(start.saturating_add(i))?;
+    }
+    Ok(())
+}
+
+/// One variable under negations.
+pub fn star(live: &mut Live, size: usize) -> Result<(), Fault> {
+    live.var(1)?;
+    negations(live, size)
+}
+
+/// One variable under negations, all observed.
+fn fan(live: &mut Live, size: usize) -> Result<(), Fault> {
+    star(live, size)?;
+    observe_all(live, 1, size)
+}
+
+/// Variables.
+fn variables(live: &mut Live, size: usize) -> Result<(), Fault> {
+    for _ in 0..size {
+        live.var(-1)?;
+    }
+    Ok(())
+}
+
+/// Sums of the nodes, pairwise, until one is left.
+fn sums(live: &mut Live, size: usize) -> Result<(), Fault>
+    requires { size ≤ 1000000 }
+{
+    for k in 1..size {
+        live.sum(2 * (k - 1), 2 * k - 1)?;
+    }
+    Ok(())
+}
+
+/// Variables that are summed pairwise, with the whole sum observed.
+fn tree(live: &mut Live, size: usize) -> Result<(), Fault>
+    requires small { size ≤ 1000000 }
+    requires some { 0 < size }
+{
+    variables(live, size)?;
+    sums(live, size)?;
+    live.observe(2 * size - 2)
+}
+
+/// A variable that is compared with 0, two numbers, and the outcome of the comparison: four variables and node 4.
+fn comparison(live: &mut Live) -> Result<(), Fault> {
+    live.var(1)?;
+    live.var(0)?;
+    live.var(10)?;
+    live.var(20)?;
+    live.less(1, 0)
+}
+
+/// Readers of the comparison.
+fn readers(live: &mut Live, size: usize) -> Result<(), Fault> {
+    for _ in 0..size {
+        live.pick(4, 2, 3)?;
+    }
+    Ok(())
+}
+
+/// A comparison that stays as it is, with readers behind it, all observed.
+fn cut(live: &mut Live, size: usize) -> Result<(), Fault> {
+    comparison(live)?;
+    readers(live, size)?;
+    observe_all(live, 5, size)
+}
+
+/// A variable and its negation, which is observed in every second pair.
+fn pair(live: &mut Live, i: usize) -> Result<(), Fault> {
+    let place = live.len();
+    live.var(7)?;
+    live.neg(place)?;
+    if i % 2 == 0 {
+        live.observe(place.saturating_add(1))
+    } else {
+        Ok(())
+    }
+}
+
+/// Nodes at rest: variables with their negations.
+fn rest(live: &mut Live, size: usize) -> Result<(), Fault> {
+    for i in 0..size / 2 {
+        pair(live, i)?;
+    }
+    Ok(())
+}
+
+/// A chain that changes, beside nodes at rest.
+fn idle(live: &mut Live, size: usize) -> Result<(), Fault> {
+    chain(live, IDLE_CHAIN)?;
+    rest(live, size)
+}
+
+/// Makes the nodes and observers of a shape.
+fn fill(live: &mut Live, shape: Shape, size: usize) -> Result<(), Fault>
+    requires small { size ≤ 1000000 }
+    requires some { 0 < size }
+{
+    match shape {
+        Shape::Chain => chain(live, size),
+        Shape::Tree => tree(live, size),
+        Shape::Cut => cut(live, size),
+        Shape::Idle => idle(live, size),
+        Shape::Fan | Shape::Random | Shape::Needs => fan(live, size),
+    }
+}
+
+/// How many variables take turns.
+fn turns(shape: Shape, size: usize) -> usize {
+    match shape {
+        Shape::Tree => size,
+        _ => 1,
+    }
+}
+
+/// The observer that is told at the end.
+fn told(shape: Shape, size: usize) -> usize
+    requires { 0 < size }
+{
+    match shape {
+        Shape::Fan | Shape::Cut => size - 1,
+        _ => 0,
+    }
+}
+
+/// The variable that a round changes.
+fn turn(round: u64, variables: usize) -> usize {
+    let place = round.wrapping_mul(7919) as usize;
+    if variables == 0 { 0 } else { place % variables }
+}
+
+/// The value that a round gives it, another one than any of the last 2,000,000,000 rounds gave.
+fn fresh(round: u64) -> i64 {
+    (round % 2_000_000_000) as i64 + 2
+}
+
+/// Changes a variable and stabilizes.
+pub fn change(live: &mut Live, place: usize, value: i64) -> Result<(), Fault> {
+    live.set(place, value)?;
+    live.stabilize()
+}
+
+impl Steady {
+    /// A stabilized graph of a shape.
+    pub fn new(alloc: Global, shape: Shape, size: usize) -> Result<Steady, Fault>
+        requires small { size ≤ 1000000 }
+        requires some { 0 < size }
+    {
+        let mut live = Live::new(alloc)?;
+        fill(&mut live, shape, size)?;
+        live.stabilize()?;
+        Ok(Steady {
+            live,
+            variables: turns(shape, size),
+            told: told(shape, size),
+        })
+    }
+
+    /// One round.
+    fn round(&mut self, round: u64) -> Result<(), Fault> {
+        change(&mut self.live, turn(round, self.variables), fresh(round))
+    }
+
+    /// So many rounds.
+    fn run(&mut self, rounds: u64) -> Result<(), Fault> {
+        for round in 0..rounds {
+            self.round(round)?;
+        }
+        Ok(())
+    }
+
+    /// So many rounds, timed.
+    pub fn measure<C: Clock>(
+        &mut self,
+        clock: &C,
+        rounds: u64,
+        building: u64,
+    ) -> Result<Rounds, Fault> {
+        let before = self.live.calls();
+        let start = begin(clock);
+        self.run(rounds)?;
+        let running = since(clock, start);
+        let last = self.live.shown(self.told)?;
+        Ok(Rounds {
+            building,
+            running,
+            calls: self.live.calls().saturating_sub(before),
+            last,
+        })
+    }
+}
