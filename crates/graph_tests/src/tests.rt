@@ -2,9 +2,6 @@
 ghost use Rattle.std.specs.Prelude.{IsTrue};
 ghost use Rattle.node_arena.specs.Arithmetic.{is_function};
 
-mod broken;
-mod marks;
-
 use graph::{Graph, GraphFault};
 use inc_value::{FnId, FnKind, FnRef, NodeId, ObsId, Outcome, Sig, Ty, Value};
 use node_arena::Functions;
