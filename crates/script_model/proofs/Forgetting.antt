@@ -10,28 +10,12 @@ use Rattle.script_model.specs.Evaluate.{level, body_level, name_level, value_at,
 use Rattle.script_model.specs.Formula as model
 use Rattle.script_model.specs.Formula.{Formula, Body, Entry, State, Meanings, entry_at, body_at, bind_at, bind_of, links_at, places_of, places_of_body, Literal, Name, Bound, Apply, Fold, If, Join, Bind, At, Steps, Now, Variable, Computed, Freeze, After, Expert, Grab, nothing_kept}
 use Rattle.script_model.specs.Grammar.{Line}
+use Rattle.script_model.specs.Laws.{forget_body, forget_entry, forget_all, forget, forget_moment}
 use Rattle.script_model.specs.Step.{Moment, with_body, linked, unlinked, staled, effect, is_barred, bars, holds, order, verdict_for, verdict_of, name_of}
 use Rattle.script_model.specs.Values.{Value, Outcome}
 use Rattle.script_model.proofs.Evaluation.{Under, level_under, one_outcome}
 
 -- ---- states
-
--- a declaration, a state and a moment without what was built
-abbrev pub forget_body : Body → Body
-forget_body (Computed f kept) = Computed f nothing_kept
-forget_body body = body
-
-abbrev pub forget_entry : Entry → Entry
-forget_entry e = record e { body = forget_body e.body }
-
-abbrev pub forget_all : List Entry → List Entry
-forget_all es = map forget_entry es
-
-abbrev pub forget : State → State
-forget s = record s { entries = forget_all s.entries }
-
-abbrev pub forget_moment : Moment → Moment
-forget_moment m = record { settled = forget m.settled; present = forget m.present; broken = m.broken }
 
 twice : (b : Body) → forget_body (forget_body b) ≡ forget_body b
 twice (Computed f kept) = refl

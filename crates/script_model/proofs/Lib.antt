@@ -34,3 +34,6 @@ pub mod Visits
 pub mod Agreement
 pub mod Forgetting
 pub mod Transcripts
+pub mod Refusing
+pub mod Today
+pub mod Names

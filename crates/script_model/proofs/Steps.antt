@@ -37,10 +37,10 @@ reason_is_plain m r = refl
 
 stabilize_leads : (F : Meanings) (m after : Moment) (why : Refusal) (rest : List Reply) → Stabilizes F m after (Refused why ∷ rest) → Refused-leads F m after why
 stabilize_leads F m after why rest (settles notices free s settled unbroken is) = absurd (cc)
-stabilize_leads F m after why rest (by_cycle targets n judged cycle among met leads is) =
+stabilize_leads F m after why rest (by_cycle targets n come cycle among met leads is) =
     let e : why ≡ Cycle targets = cc in
     record { nothing = λ h. absurd (let f : breaks why ≡ true = rw e refl in cc); broken = λ h. rw e leads }
-stabilize_leads F m after why rest (by_height target i judged met deep printed leads is) =
+stabilize_leads F m after why rest (by_height target i met deep printed leads is) =
     let e : why ≡ Height target = cc in
     record { nothing = λ h. absurd (let f : breaks why ≡ true = rw e refl in cc); broken = λ h. rw e leads }
 
@@ -151,11 +151,11 @@ one_effect one_request F m a b line rs qs other h k =
 
 -- ---- a refused stabilize breaks
 
-broken_first : (F : Meanings) (m : Moment) (l : Line) (b : Option ℕ) → m.broken ≡ b → verdict_of F m l ≡ Settle → m.broken ≡ None
+pub broken_first : (F : Meanings) (m : Moment) (l : Line) (b : Option ℕ) → m.broken ≡ b → verdict_of F m l ≡ Settle → m.broken ≡ None
 broken_first F m l None none is = none
 broken_first F m l (Some k) some is = absurd (let e = rw some at is in cc)
 
-breaking_follows : (F : Meanings) (m after : Moment) (why : Refusal) (rest : List Reply) (v : Verdict) → ((r : Refusal) → v ≡ Refuse r → breaks r ≡ false) → breaks why ≡ true
+pub breaking_follows : (F : Meanings) (m after : Moment) (why : Refusal) (rest : List Reply) (v : Verdict) → ((r : Refusal) → v ≡ Refuse r → breaks r ≡ false) → breaks why ≡ true
     → Follows F m v after (Refused why ∷ rest) → v ≡ Settle
 breaking_follows F m after why rest (Refuse r) plain breaking h = let is = h.1 in let e : why ≡ r = cc in let f = plain r refl in absurd (let g : breaks why ≡ false = rw e f in cc)
 breaking_follows F m after why rest Settle plain breaking h = refl

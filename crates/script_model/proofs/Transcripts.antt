@@ -1,5 +1,7 @@
 -- The same lines print the same bytes.
 use Rattle.std.proofs.Common.{◌≡◌, ℕ, zero, suc, ◌+◌, Bool, true, false, cond, List, [], ◌∷◌, ◌++◌, map, Option, None, Some, refl, ap, sym, subst, ◌∙◌}
+use Rattle.std.proofs.lemmas.List.{take-map}
+use Rattle.std.specs.Prelude.{take}
 use Rattle.std.specs.List.{flat_map}
 use Rattle.inc_value.specs.Ty.{same_ty, same_types}
 use Rattle.inc_value.specs.declared.function.FnRef.{FnRef}
@@ -13,15 +15,16 @@ use Rattle.script_model.specs.Formula as model
 use Rattle.script_model.specs.Formula.{Body, Entry, Observer, State, Meanings, start, Name, Variable, Computed, Freeze, After, Expert, Grab, nothing_kept}
 use Rattle.script_model.specs.Grammar as grammar
 use Rattle.script_model.specs.Grammar.{Line, Tree, is_here}
-use Rattle.script_model.specs.Laws.{IsUnbroken, GrabsNothing, OneTranscript, OneTranscriptToday}
+use Rattle.script_model.specs.Laws.{IsUnbroken, GrabsNothing, PrintAlike, broken_after, OneTranscript, OneBeginning, OneTranscriptPastRefusals, OneEnd, forget_body, forget_entry, forget_all, forget, forget_moment}
 use Rattle.script_model.specs.Request.{Request, TooLong, Blank, Malformed, TooDeep, Asks, IsRequest}
-use Rattle.script_model.specs.Run.{Turn, IsTurn, Chain, bytes_of, lines_read, transcript}
+use Rattle.script_model.specs.Run.{Turn, IsTurn, IsRun, Chain, bytes_of, lines_read, transcript}
 use Rattle.script_model.specs.Settle.{Notice, ShowAll, showing, notices_of, recorded, Becomes, BecomeAll, Settles}
 use Rattle.script_model.specs.Step as steps
 use Rattle.script_model.specs.Step.{Moment, Verdict, Refuse, Settle, Act, Reply, Tells, Stable, Stabilizes, settles, by_cycle, by_height, effect, moved, with_body, Follows, Answers, verdict_of, reply_to, printed, printed_reply, name_of, first_moment}
 use Rattle.script_model.specs.Values.{Outcome}
-use Rattle.script_model.proofs.Forgetting.{forget_body, forget_entry, forget_all, forget, forget_moment, same_outcomes, name_of_forgotten, extensional, NoGrab, GrabsNone, verdict_forgotten, effect_forgotten}
+use Rattle.script_model.proofs.Forgetting.{same_outcomes, name_of_forgotten, extensional, NoGrab, GrabsNone, verdict_forgotten, effect_forgotten}
 use Rattle.script_model.proofs.Requests.{one_request}
+use Rattle.script_model.proofs.Steps.{broken_first}
 
 -- ---- lines without grabs
 
@@ -95,7 +98,7 @@ grabs_none F names grammar.Stabilize other = tt
 
 -- ---- states without grabs
 
-abbrev NoGrabs : List Entry → Type 0
+abbrev pub NoGrabs : List Entry → Type 0
 NoGrabs entries = Every (λ (e : Entry). NoGrab e.body) entries
 
 one_more : (es : List Entry) (e : Entry) → NoGrabs es → NoGrab e.body → NoGrabs (es ++ e ∷ [])
@@ -217,7 +220,7 @@ all_show_alike F s t same (x ∷ xs) (y ∷ ys) (y' ∷ ys') notices notices' h 
     (rw (firsts, later.0) refl, h.4 ∙ (tells ∙ sym k.4))
 
 -- states that differ by what was built settle alike
-settle_alike : (F : Meanings) (before s after before' t after' : State) (notices notices' : List Notice) → forget s ≡ forget t
+pub settle_alike : (F : Meanings) (before s after before' t after' : State) (notices notices' : List Notice) → forget s ≡ forget t
     → NoGrabs s.entries → NoGrabs t.entries
     → Settles F before s after notices → Settles F before' t after' notices' → (forget after ≡ forget after') × (notices ≡ notices')
 settle_alike F before s after before' t after' notices notices' same none none' h k =
@@ -242,26 +245,47 @@ record Alike (m n : Moment) : Type 0 where
   none : NoGrabs m.present.entries
   none' : NoGrabs n.present.entries
 
--- they are alike afterwards, and the replies are the same
-record Ends (after after' : Moment) (replies replies' : List Reply) : Type 0 where
+-- they are alike afterwards, and the replies are the same unless a stabilize was refused
+record Ends (m after after' : Moment) (replies replies' : List Reply) : Type 0 where
   alike : Alike after after'
-  said : replies ≡ replies'
+  said : after.broken ≡ m.broken → replies ≡ replies'
 
 unchanged : (m n after after' : Moment) (replies replies' said : List Reply) → Alike m n → (after ≡ m) × (replies ≡ said)
-    → (after' ≡ n) × (replies' ≡ said) → Ends after after' replies replies'
-unchanged m n after after' replies replies' said alike h k = record { alike = rw (h.0, k.0) alike; said = h.1 ∙ sym k.1 }
+    → (after' ≡ n) × (replies' ≡ said) → Ends m after after' replies replies'
+unchanged m n after after' replies replies' said alike h k = record { alike = rw (h.0, k.0) alike; said = λ stays. h.1 ∙ sym k.1 }
 
-stabilizes_alike : (F : Meanings) (m n after after' : Moment) (replies replies' : List Reply) → Alike m n → after.broken ≡ None → after'.broken ≡ None
-    → Stabilizes F m after replies → Stabilizes F n after' replies' → Ends after after' replies replies'
-stabilizes_alike F m n after after' replies replies' alike whole whole' (by_cycle targets k judged cycle among met leads is) other =
-    absurd (let e : after.broken ≡ Some 20 = rw leads refl in cc)
-stabilizes_alike F m n after after' replies replies' alike whole whole' (by_height target i judged met deep named leads is) other =
-    absurd (let e : after.broken ≡ Some 21 = rw leads refl in cc)
-stabilizes_alike F m n after after' replies replies' alike whole whole' one (by_cycle targets k judged cycle among met leads is) =
-    absurd (let e : after'.broken ≡ Some 20 = rw leads refl in cc)
-stabilizes_alike F m n after after' replies replies' alike whole whole' one (by_height target i judged met deep named leads is) =
-    absurd (let e : after'.broken ≡ Some 21 = rw leads refl in cc)
-stabilizes_alike F m n after after' replies replies' alike whole whole' (settles notices free s settled broken is)
+-- both are refused, with one number
+both_break : (m n after after' : Moment) (replies replies' : List Reply) (k : ℕ) → Alike m n → m.broken ≡ None
+    → after ≡ record m { broken = Some k } → after' ≡ record n { broken = Some k } → Ends m after after' replies replies'
+both_break m n after after' replies replies' k alike whole leads leads' =
+    let settled : forget m.settled ≡ forget n.settled = ap (λ (x : Moment). x.settled) alike.same in
+    let presents : forget m.present ≡ forget n.present = ap (λ (x : Moment). x.present) alike.same in
+    record {
+      alike = rw (leads, leads') (record { same = rw (settled, presents) refl; none = alike.none; none' = alike.none' });
+      said = λ stays. absurd (let e : after.broken ≡ Some k = rw leads refl in cc);
+    }
+
+stabilizes_alike : (F : Meanings) (m n after after' : Moment) (replies replies' : List Reply) → Alike m n → m.broken ≡ None
+    → after.broken ≡ after'.broken → Stabilizes F m after replies → Stabilizes F n after' replies' → Ends m after after' replies replies'
+stabilizes_alike F m n after after' replies replies' alike whole same (by_cycle targets k come cycle among met leads is)
+    (by_cycle targets' k' come' cycle' among' met' leads' is') = both_break m n after after' replies replies' 20 alike whole leads leads'
+stabilizes_alike F m n after after' replies replies' alike whole same (by_cycle targets k come cycle among met leads is)
+    (by_height target i met' deep named leads' is') =
+    absurd (let e : after.broken ≡ Some 20 = rw leads refl in let f : after'.broken ≡ Some 21 = rw leads' refl in cc)
+stabilizes_alike F m n after after' replies replies' alike whole same (by_cycle targets k come cycle among met leads is)
+    (settles notices free s settled broken is') = absurd (let e : after.broken ≡ Some 20 = rw leads refl in cc)
+stabilizes_alike F m n after after' replies replies' alike whole same (by_height target i met deep named leads is)
+    (by_cycle targets k come cycle among met' leads' is') =
+    absurd (let e : after.broken ≡ Some 21 = rw leads refl in let f : after'.broken ≡ Some 20 = rw leads' refl in cc)
+stabilizes_alike F m n after after' replies replies' alike whole same (by_height target i met deep named leads is)
+    (by_height target' i' met' deep' named' leads' is') = both_break m n after after' replies replies' 21 alike whole leads leads'
+stabilizes_alike F m n after after' replies replies' alike whole same (by_height target i met deep named leads is)
+    (settles notices free s settled broken is') = absurd (let e : after.broken ≡ Some 21 = rw leads refl in cc)
+stabilizes_alike F m n after after' replies replies' alike whole same (settles notices free s settled broken is)
+    (by_cycle targets k come cycle among met leads is') = absurd (let e : after'.broken ≡ Some 20 = rw leads refl in cc)
+stabilizes_alike F m n after after' replies replies' alike whole same (settles notices free s settled broken is)
+    (by_height target i met deep named leads is') = absurd (let e : after'.broken ≡ Some 21 = rw leads refl in cc)
+stabilizes_alike F m n after after' replies replies' alike whole same (settles notices free s settled broken is)
     (settles notices' free' s' settled' broken' is') =
     let presents : forget m.present ≡ forget n.present = ap (λ (x : Moment). x.present) alike.same in
     let ends =
@@ -275,7 +299,7 @@ stabilizes_alike F m n after after' replies replies' alike whole whole' (settles
         none = all_become_none F m.settled m.present after.present 0 m.present.entries after.present.entries alike.none s.entries;
         none' = all_become_none F n.settled n.present after'.present 0 n.present.entries after'.present.entries alike.none' s'.entries;
       };
-      said = is ∙ (said ∙ sym is');
+      said = λ stays. is ∙ (said ∙ sym is');
     }
 
 moved_alike : (m n : Moment) (c : Command) → GrabsNone (Some c) → Alike m n → Alike (moved m c) (moved n c)
@@ -311,111 +335,118 @@ verdict_plainly m c None h = allowed_plainly c h
 verdict_plainly m c (Some why) h = tt
 
 follow_alike : (F : Meanings) (m n after after' : Moment) (v : Verdict) (replies replies' : List Reply) → Alike m n → ActsPlainly v
-    → after.broken ≡ None → after'.broken ≡ None
-    → Follows F m v after replies → Follows F n v after' replies' → Ends after after' replies replies'
-follow_alike F m n after after' (Refuse why) replies replies' alike plain whole whole' h k = unchanged m n after after' replies replies' _ alike h k
-follow_alike F m n after after' Settle replies replies' alike plain whole whole' h k =
-    stabilizes_alike F m n after after' replies replies' alike whole whole' h k
-follow_alike F m n after after' (Act c) replies replies' alike plain whole whole' h k =
+    → (v ≡ Settle → m.broken ≡ None) → after.broken ≡ after'.broken
+    → Follows F m v after replies → Follows F n v after' replies' → Ends m after after' replies replies'
+follow_alike F m n after after' (Refuse why) replies replies' alike plain whole same h k = unchanged m n after after' replies replies' _ alike h k
+follow_alike F m n after after' Settle replies replies' alike plain whole same h k =
+    stabilizes_alike F m n after after' replies replies' alike (whole refl) same h k
+follow_alike F m n after after' (Act c) replies replies' alike plain whole same h k =
     let said : reply_to m.present c ∷ [] ≡ reply_to n.present c ∷ [] = rw (shown_alike m n c alike) refl in
-    record { alike = rw (h.0, k.0) (moved_alike m n c plain alike); said = h.1 ∙ (said ∙ sym k.1) }
+    record { alike = rw (h.0, k.0) (moved_alike m n c plain alike); said = λ stays. h.1 ∙ (said ∙ sym k.1) }
 
 answer_alike : (F : Meanings) (m n after after' : Moment) (r : Request) (replies replies' : List Reply) → Alike m n
-    → ((name bind : List ℕ) → r ≡ Asks (grammar.Grab name bind) → ⊥)
-    → after.broken ≡ None → after'.broken ≡ None → Answers F m r after replies → Answers F n r after' replies' → Ends after after' replies replies'
-answer_alike F m n after after' TooLong replies replies' alike other whole whole' h k = unchanged m n after after' replies replies' _ alike h k
-answer_alike F m n after after' Blank replies replies' alike other whole whole' h k = unchanged m n after after' replies replies' _ alike h k
-answer_alike F m n after after' Malformed replies replies' alike other whole whole' h k = unchanged m n after after' replies replies' _ alike h k
-answer_alike F m n after after' TooDeep replies replies' alike other whole whole' h k = unchanged m n after after' replies replies' _ alike h k
-answer_alike F m n after after' (Asks l) replies replies' alike other whole whole' h k =
+    → ((name bind : List ℕ) → r ≡ Asks (grammar.Grab name bind) → ⊥) → after.broken ≡ after'.broken
+    → Answers F m r after replies → Answers F n r after' replies' → Ends m after after' replies replies'
+answer_alike F m n after after' TooLong replies replies' alike other same h k = unchanged m n after after' replies replies' _ alike h k
+answer_alike F m n after after' Blank replies replies' alike other same h k = unchanged m n after after' replies replies' _ alike h k
+answer_alike F m n after after' Malformed replies replies' alike other same h k = unchanged m n after after' replies replies' _ alike h k
+answer_alike F m n after after' TooDeep replies replies' alike other same h k = unchanged m n after after' replies replies' _ alike h k
+answer_alike F m n after after' (Asks l) replies replies' alike other same h k =
     let none = grabs_none F (names_of m.present) l (λ name bind is. other name bind (ap (λ x. Asks x) is)) in
     let none' = grabs_none F (names_of n.present) l (λ name bind is. other name bind (ap (λ x. Asks x) is)) in
-    let same : verdict_of F m l ≡ verdict_of F n l =
+    let verdicts : verdict_of F m l ≡ verdict_of F n l =
     sym (verdict_forgotten F m l none) ∙ (ap (λ x. verdict_of F x l) alike.same ∙ verdict_forgotten F n l none') in
     let plain : ActsPlainly (verdict_of F n l) =
     verdict_plainly n (command_of F (names_of n.present) l) (check.first_that (steps.holds F n l) steps.order) none' in
-    follow_alike F m n after after' (verdict_of F n l) replies replies' alike plain whole whole' (subst (λ v. Follows F m v after replies) same h) k
+    follow_alike F m n after after' (verdict_of F n l) replies replies' alike plain (λ is. broken_first F m l m.broken refl (verdicts ∙ is)) same
+    (subst (λ v. Follows F m v after replies) verdicts h) k
 
 -- ---- what is printed
 
 names_alike : (s t : State) → forget s ≡ forget t → name_of s ≡ name_of t
 names_alike s t same = extensional (name_of s) (name_of t) (λ n. sym (name_of_forgotten s n) ∙ (ap (λ x. name_of x n) same ∙ name_of_forgotten t n))
 
-bytes_alike : (t u : Turn) → Ends t.after u.after t.replies u.replies → bytes_of t ≡ bytes_of u
-bytes_alike t u ends =
-    let presents : forget t.after.present ≡ forget u.after.present = ap (λ (x : Moment). x.present) ends.alike.same in
+bytes_alike : (t u : Turn) → Alike t.after u.after → t.replies ≡ u.replies → bytes_of t ≡ bytes_of u
+bytes_alike t u alike said =
+    let presents : forget t.after.present ≡ forget u.after.present = ap (λ (x : Moment). x.present) alike.same in
     ap (λ names. flat_map (λ reply. printed_reply names reply ++ 10 ∷ []) t.replies) (names_alike t.after.present u.after.present presents)
-    ∙ ap (λ replies. flat_map (printed u.after.present) replies) ends.said
+    ∙ ap (λ replies. flat_map (printed u.after.present) replies) said
 
 -- ---- runs
 
-turns_alike : (F : Meanings) (m n : Moment) (t u : Turn) → Alike m n → t.before ≡ m → u.before ≡ n → t.line ≡ u.line → IsUnbroken t
-    → IsUnbroken u → GrabsNothing t
-    → IsTurn F t → IsTurn F u → Ends t.after u.after t.replies u.replies
-turns_alike F m n t u alike begins begins' line whole whole' nothing h k =
+turns_alike : (F : Meanings) (m n : Moment) (t u : Turn) → Alike m n → t.before ≡ m → u.before ≡ n → t.line ≡ u.line
+    → t.after.broken ≡ u.after.broken → GrabsNothing t → IsTurn F t → IsTurn F u → Ends m t.after u.after t.replies u.replies
+turns_alike F m n t u alike begins begins' line same nothing h k =
     let asks : IsRequest u.line t.request = rw line at h.asks in
     let request = one_request u.line t.request u.request asks k.asks in
     let answers : Answers F m t.request t.after t.replies = rw begins at h.answers in
     let answers' : Answers F n t.request u.after u.replies = subst (λ r. Answers F n r u.after u.replies) (sym request) (rw begins' at k.answers) in
-    answer_alike F m n t.after u.after t.request t.replies u.replies alike nothing whole whole' answers answers'
+    answer_alike F m n t.after u.after t.request t.replies u.replies alike nothing same answers answers'
 
-chains_alike : (F : Meanings) (m n : Moment) (ts us : List Turn) (end end' : Moment) → Alike m n → Every IsUnbroken ts → Every IsUnbroken us
-    → Every GrabsNothing ts
-    → Chain F m ts end → Chain F n us end' → lines_read ts ≡ lines_read us → transcript ts ≡ transcript us
-chains_alike F m n [] [] end end' alike whole whole' nothing h k lines = refl
-chains_alike F m n [] (u ∷ us) end end' alike whole whole' nothing h k lines = absurd (cc)
-chains_alike F m n (t ∷ ts) [] end end' alike whole whole' nothing h k lines = absurd (cc)
-chains_alike F m n (t ∷ ts) (u ∷ us) end end' alike whole whole' nothing h k lines =
+-- they print alike, and end alike
+chains_alike : (F : Meanings) (m n : Moment) (ts us : List Turn) (end end' : Moment) → Alike m n → broken_after ts ≡ broken_after us
+    → Every GrabsNothing ts → Chain F m ts end → Chain F n us end' → lines_read ts ≡ lines_read us
+    → PrintAlike ts us × (forget_moment end ≡ forget_moment end')
+chains_alike F m n [] [] end end' alike same nothing h k lines = (tt, rw (← h, ← k) alike.same)
+chains_alike F m n [] (u ∷ us) end end' alike same nothing h k lines = absurd (cc)
+chains_alike F m n (t ∷ ts) [] end end' alike same nothing h k lines = absurd (cc)
+chains_alike F m n (t ∷ ts) (u ∷ us) end end' alike same nothing h k lines =
     let line : t.line ≡ u.line = cc in
     let later : lines_read ts ≡ lines_read us = cc in
-    let ends = turns_alike F m n t u alike h.0 k.0 line whole.0 whole'.0 nothing.0 h.1 k.1 in
-    let rest = chains_alike F t.after u.after ts us end end' ends.alike whole.1 whole'.1 nothing.1 h.2 k.2 later in
-    rw (bytes_alike t u ends, rest) refl
+    let broken : t.after.broken ≡ u.after.broken = cc in
+    let later_broken : broken_after ts ≡ broken_after us = cc in
+    let ends = turns_alike F m n t u alike h.0 k.0 line broken nothing.0 h.1 k.1 in
+    let rest = chains_alike F t.after u.after ts us end end' ends.alike later_broken nothing.1 h.2 k.2 later in
+    ((λ stays. bytes_alike t u ends.alike (ends.said (stays ∙ ap (λ (x : Moment). x.broken) h.0)), rest.0), rest.1)
 
 start_alike : Alike first_moment first_moment
 start_alike = record { same = refl; none = tt; none' = tt }
 
+runs_alike : (F : Meanings) (lines : List (List ℕ)) (ts us : List Turn) (h : IsRun F lines ts) (k : IsRun F lines us) → broken_after ts ≡ broken_after us
+    → Every GrabsNothing ts → PrintAlike ts us × (forget_moment h.end ≡ forget_moment k.end)
+runs_alike F lines ts us h k same nothing =
+    chains_alike F first_moment first_moment ts us h.end k.end start_alike same nothing h.chain k.chain (h.reads ∙ sym k.reads)
+
+pub one_transcript_past_refusals : OneTranscriptPastRefusals
+one_transcript_past_refusals F lines ts us h k same nothing = (runs_alike F lines ts us h k same nothing).0
+
+pub one_end : OneEnd
+one_end F lines ts us h k same nothing = (runs_alike F lines ts us h k same nothing).1
+
+-- ---- no stabilize is refused
+
+both_unbroken : (ts us : List Turn) → Every IsUnbroken ts → Every IsUnbroken us → lines_read ts ≡ lines_read us → broken_after ts ≡ broken_after us
+both_unbroken [] [] whole whole' lines = refl
+both_unbroken [] (u ∷ us) whole whole' lines = absurd (cc)
+both_unbroken (t ∷ ts) [] whole whole' lines = absurd (cc)
+both_unbroken (t ∷ ts) (u ∷ us) whole whole' lines =
+    let later : lines_read ts ≡ lines_read us = cc in rw (whole.0, whole'.0, both_unbroken ts us whole.1 whole'.1 later) refl
+
+pub all_printed : (F : Meanings) (m end : Moment) (ts us : List Turn) → m.broken ≡ None → Every IsUnbroken ts → Chain F m ts end → PrintAlike ts us
+    → transcript ts ≡ transcript us
+all_printed F m end [] [] unbroken whole h alike = refl
+all_printed F m end [] (u ∷ us) unbroken whole h alike = absurd alike
+all_printed F m end (t ∷ ts) [] unbroken whole h alike = absurd alike
+all_printed F m end (t ∷ ts) (u ∷ us) unbroken whole h alike =
+    let before : t.before.broken ≡ None = ap (λ (x : Moment). x.broken) h.0 ∙ unbroken in
+    rw (alike.0 (whole.0 ∙ sym before), all_printed F t.after end ts us whole.0 whole.1 h.2 alike.1) refl
+
 pub one_transcript : OneTranscript
 one_transcript F lines ts us h k whole whole' nothing =
-    chains_alike F first_moment first_moment ts us h.end k.end start_alike whole whole' nothing h.chain k.chain (h.reads ∙ sym k.reads)
+    all_printed F first_moment h.end ts us refl whole h.chain
+    (one_transcript_past_refusals F lines ts us h k (both_unbroken ts us whole whole' (h.reads ∙ sym k.reads)) nothing)
 
--- ---- today's forms
+chain_begins : (F : Meanings) (m end : Moment) (n : ℕ) (ts : List Turn) → Chain F m ts end → (mid : Moment) × Chain F m (take n ts) mid
+chain_begins F m end zero ts h = (m, refl)
+chain_begins F m end (suc n) [] h = (m, refl)
+chain_begins F m end (suc n) (t ∷ ts) h = let rest = chain_begins F t.after end n ts h.2 in (rest.0, (h.0, h.1, rest.1))
 
--- no turn grabs, since no grab is read
-grabs_nothing : (F : Meanings) (t : Turn) → IsTurn F t → GrabsNothing t
-grabs_nothing F t h name bind is =
-    let asks : IsRequest t.line (Asks (grammar.Grab name bind)) = subst (λ r. IsRequest t.line r) is h.asks in
-    let here = asks.1.1.here in
-    cc
+-- the first turns of a run are one over the first lines
+run_begins : (F : Meanings) (lines : List (List ℕ)) (n : ℕ) (ts : List Turn) → IsRun F lines ts → IsRun F (take n lines) (take n ts)
+run_begins F lines n ts h =
+    let begins = chain_begins F first_moment h.end n ts h.chain in
+    record { end = begins.0; chain = begins.1; reads = sym (take-map (λ (t : Turn). t.line) n ts) ∙ ap (take n) h.reads }
 
-stabilize_stays : (F : Meanings) (m after : Moment) (replies : List Reply) → Stabilizes F m after replies → after.broken ≡ None
-stabilize_stays F m after replies (settles notices free s settled broken is) = broken
-stabilize_stays F m after replies (by_cycle targets k judged cycle among met leads is) = absurd (cc)
-stabilize_stays F m after replies (by_height target i judged met deep named leads is) = absurd (cc)
-
-follow_stays : (F : Meanings) (m after : Moment) (v : Verdict) (replies : List Reply) → m.broken ≡ None → Follows F m v after replies
-    → after.broken ≡ None
-follow_stays F m after (Refuse why) replies whole h = rw h.0 whole
-follow_stays F m after Settle replies whole h = stabilize_stays F m after replies h
-follow_stays F m after (Act c) replies whole h = rw h.0 whole
-
-answer_stays : (F : Meanings) (m after : Moment) (r : Request) (replies : List Reply) → m.broken ≡ None → Answers F m r after replies
-    → after.broken ≡ None
-answer_stays F m after TooLong replies whole h = rw h.0 whole
-answer_stays F m after Blank replies whole h = rw h.0 whole
-answer_stays F m after Malformed replies whole h = rw h.0 whole
-answer_stays F m after TooDeep replies whole h = rw h.0 whole
-answer_stays F m after (Asks l) replies whole h = follow_stays F m after (verdict_of F m l) replies whole h
-
-all_plain : (F : Meanings) (m : Moment) (ts : List Turn) (end : Moment) → m.broken ≡ None → Chain F m ts end
-    → Every IsUnbroken ts × Every GrabsNothing ts
-all_plain F m [] end whole h = (tt, tt)
-all_plain F m (t ∷ ts) end whole h =
-    let first : IsUnbroken t = answer_stays F m t.after t.request t.replies whole (rw h.0 at h.1.answers) in
-    let rest = all_plain F t.after ts end first h.2 in
-    ((first, rest.0), (grabs_nothing F t h.1, rest.1))
-
-pub one_transcript_today : OneTranscriptToday
-one_transcript_today F lines ts us h k =
-    let plain = all_plain F first_moment ts h.end refl h.chain in
-    one_transcript F lines ts us h k plain.0 (all_plain F first_moment us k.end refl k.chain).0 plain.1
+pub one_beginning : OneBeginning
+one_beginning F lines ts us n h k whole whole' nothing =
+    one_transcript F (take n lines) (take n ts) (take n us) (run_begins F lines n ts h) (run_begins F lines n us k) whole whole' nothing

@@ -31,7 +31,7 @@ use Rattle.script_model.proofs.Settling.{settles_valid}
 
 -- ---- no reason stands against a line
 
-none_at : (test : Reason → std.Bool) (rs : List Reason) → first_that test rs ≡ None → (k : ℕ) (r : Reason) → slice_get rs k ≡ Some r → test r ≡ false
+pub none_at : (test : Reason → std.Bool) (rs : List Reason) → first_that test rs ≡ None → (k : ℕ) (r : Reason) → slice_get rs k ≡ Some r → test r ≡ false
 none_at test [] none k r at = absurd (cc)
 none_at test (x ∷ rs) none k r at = go (test x) refl none k at (none_at test rs)
   where
@@ -270,8 +270,8 @@ module _ (F : Meanings) (keep : KeepToTypes F) (m after : Moment) (replies : Lis
   stabilizes_valid (settles notices free s settled unbroken is) =
       let present = settles_valid F m.settled m.present after.present notices keep valid.1 s in
       (rw settled present, present)
-  stabilizes_valid (by_cycle targets n judged cycle among met leads is) = rw leads valid
-  stabilizes_valid (by_height target i judged met deep printed leads is) = rw leads valid
+  stabilizes_valid (by_cycle targets n come cycle among met leads is) = rw leads valid
+  stabilizes_valid (by_height target i met deep printed leads is) = rw leads valid
 
   allowed_valid : (c : Command) → Valid F (effect m.present c) → Follows F m (allowed (Some c)) after replies → ValidMoment F after
   allowed_valid Stabilize present h = stabilizes_valid h

@@ -34,15 +34,14 @@ IsCycle F s (x ∷ names) = EachReads F s x names × LastIs x names × NoRepeats
 abbrev pub OnCycle : Meanings → State → ℕ → Type 0
 OnCycle F s x = (y : ℕ) × NameReads F s x y × Reaches (NameReads F s) y x
 
--- whether a stabilize is refused for a cycle or for what is too deep: not yet, since today's forms make no cycle, and heights are
--- not kept yet
-abbrev pub is_judged : Bool
-is_judged = false
+-- whether a stabilize is refused for a cycle: not yet, since today's forms make none
+abbrev pub cycles_come : Bool
+cycles_come = false
 
 -- what stands in the way of a stabilize that meets it: a name on a cycle, and an item that is too deep
 pub data InTheWay (F : Meanings) (s : State) : Item → Type 0 where
-  on_cycle : {n : ℕ} → is_judged ≡ true → OnCycle F s n → InTheWay F s (Named n)
-  too_deep : {i : Item} → is_judged ≡ true → TooDeep F s i → InTheWay F s i
+  on_cycle : {n : ℕ} → cycles_come ≡ true → OnCycle F s n → InTheWay F s (Named n)
+  too_deep : {i : Item} → TooDeep F s i → InTheWay F s i
 
 -- the name is the item, or its formula holds it
 abbrev pub Holds : ℕ → Item → Type 0

@@ -5,7 +5,7 @@ use Rattle.inc_value.specs.declared.function.FnRef.{FnRef}
 use Rattle.inc_value.specs.declared.ty.Ty.{Ty}
 use Rattle.inc_value.specs.declared.value.Value as engine
 use Rattle.inc_value.specs.Choice.{and_then}
-use Rattle.script_model.specs.Values.{Value, Outcome, to_engine, from_engine}
+use Rattle.script_model.specs.Values.{Value, Outcome, to_engine, from_engine, seen_value}
 
 -- a value from a time on
 pub record TimedValue : Type 0 where
@@ -87,9 +87,9 @@ pub record Meanings : Type 0 where
   pub named : List ℕ → Option FnRef
   pub value : FnRef → List Value → Value
 
--- the functions of a library, by what its names stand for and what they give
+-- the functions of a library, by what its names stand for and what they give; they don't see which node a reference leads to
 abbrev pub meanings_of : (List ℕ → Option FnRef) → (FnRef → List engine.Value → engine.Value) → Meanings
-meanings_of named value = record { named = named; value = λ f values. from_engine (value f (map to_engine values)) }
+meanings_of named value = record { named = named; value = λ f values. from_engine (seen_value value f (map to_engine values)) }
 
 -- the declaration at a position
 abbrev pub entry_at : State → ℕ → Option Entry

@@ -241,6 +241,7 @@ is_here (Var name t first) = is_base_type t && is_plain_literal first
 is_here (Set name value) = is_plain_literal value
 is_here (Let name formula) = is_plain formula
 is_here (Observe observer name) = true
+is_here (Unobserve observer) = true
 is_here (Show observer) = true
 is_here Stabilize = true
 is_here command = false

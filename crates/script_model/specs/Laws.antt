@@ -1,17 +1,18 @@
 -- Laws of the definitions: what holds of every script, whatever runs it.
-use Rattle.std.specs.Prelude.{◌≡◌, ℕ, ◌≤◌, true, false, List, ◌∷◌, None, Some, length, Option, [], map}
+use Rattle.std.specs.Prelude.{◌≡◌, ℕ, ◌≤◌, true, false, List, ◌∷◌, None, Some, length, Option, [], map, take}
 use Rattle.inc_value.specs.Choice.{Every, Reaches}
-use Rattle.script_model.specs.Values.{Value, Outcome, Bool}
+use Rattle.script_model.specs.Values as value
+use Rattle.script_model.specs.Values.{Value, Outcome}
 use Rattle.inc_value.specs.declared.ty.Ty.{Ty}
-use Rattle.script_model.specs.Formula.{Formula, Entry, State, Meanings, entry_at, meanings_of, Name}
+use Rattle.script_model.specs.Formula.{Formula, Body, Computed, nothing_kept, Entry, State, Meanings, entry_at, meanings_of, Name}
 use Rattle.script_model.specs.Evaluate.{value_at, Gives, NameGives}
 use Rattle.script_model.specs.Grammar.{Line, IsLine, Stabilize, Grab}
 use Rattle.script_model.specs.Need.{Item, Named, Needed, ItemGives, WithinWork, Met, Visit, IsVisit, Edge, Inside, Place, Reads}
-use Rattle.script_model.specs.Blocked.{OnCycle, Holds}
+use Rattle.script_model.specs.Blocked.{OnCycle, Holds, InTheWay}
 use Rattle.script_model.specs.Valid.{HasType, BoundsFit, OutcomeHasType, Valid, KeepToTypes, LibraryKeepsToTypes}
 use Rattle.script_model.specs.Request.{Request, Asks, IsRequest}
-use Rattle.script_model.specs.Run.{Turn, IsRun, Halts, IsTurn, transcript}
-use Rattle.script_model.specs.Step.{Moment, Reply, Refusal, Refused, Step, breaks, number_of, first_moment, Follows, verdict_of}
+use Rattle.script_model.specs.Run.{Turn, IsRun, Halts, IsTurn, bytes_of, transcript}
+use Rattle.script_model.specs.Step.{Moment, Reply, Refusal, Refused, Height, Stabilizes, Step, breaks, number_of, first_moment, Follows, verdict_of}
 use Rattle.inc_value.specs.declared.function.FnRef.{FnRef}
 use Rattle.inc_value.specs.declared.value.Value as engine
 use Rattle.script_model.specs.Calls.{IsTyped, calls_of}
@@ -69,7 +70,7 @@ OneVisit = (F : Meanings) (s : State) (v w : Visit) → IsVisit F s v → IsVisi
 
 -- an edge, whatever the value
 abbrev pub bare : Edge → Edge
-bare (Inside v) = Inside (Bool true)
+bare (Inside v) = Inside (value.Bool true)
 bare edge = edge
 
 -- a place that is met has one list of values of the binds round it
@@ -147,9 +148,15 @@ RunsAreValid =
     (F : Meanings) (lines : List (List ℕ)) (turns : List Turn) → KeepToTypes F → IsRun F lines turns
     → Every (λ (t : Turn). ValidMoment F t.before × ValidMoment F t.after) turns
 
--- the turn ends unbroken: it refused no stabilize
+-- ---- one transcript
+
+-- the turn ends unbroken: no stabilize was refused in it or before
 abbrev pub IsUnbroken : Turn → Type 0
 IsUnbroken t = t.after.broken ≡ None
+
+-- the turn refuses no stabilize, in an unbroken session or in a broken one
+abbrev pub BreaksNothing : Turn → Type 0
+BreaksNothing t = t.after.broken ≡ t.before.broken
 
 -- the turn grabs no bind
 abbrev pub GrabsNothing : Turn → Type 0
@@ -164,6 +171,93 @@ OneTranscript =
     → Every GrabsNothing ts
     → transcript ts ≡ transcript us
 
--- the same lines print the same bytes, as long as those forms alone are read that are read today
+-- so do the lines before the first refused stabilize, whatever follows
+abbrev pub OneBeginning : Type 0
+OneBeginning =
+    (F : Meanings) (lines : List (List ℕ)) (ts us : List Turn) (n : ℕ) → IsRun F lines ts → IsRun F lines us
+    → Every IsUnbroken (take n ts) → Every IsUnbroken (take n us) → Every GrabsNothing (take n ts)
+    → transcript (take n ts) ≡ transcript (take n us)
+
+-- each turn prints what the other prints at its place, but for those that refuse a stabilize
+abbrev pub PrintAlike : List Turn → List Turn → Type 0
+PrintAlike [] [] = Unit {0}
+PrintAlike [] (u ∷ us) = ⊥
+PrintAlike (t ∷ ts) [] = ⊥
+PrintAlike (t ∷ ts) (u ∷ us) = (BreaksNothing t → bytes_of t ≡ bytes_of u) × PrintAlike ts us
+
+-- the numbers that broke the session, after each turn
+abbrev pub broken_after : List Turn → List (Option ℕ)
+broken_after turns = map (λ (t : Turn). t.after.broken) turns
+
+-- where the same stabilizes are refused, with the same numbers, and no bind is grabbed, the same lines print the same bytes,
+-- also behind the refusal: of the refused stabilize itself alone the names are free that it tells
+abbrev pub OneTranscriptPastRefusals : Type 0
+OneTranscriptPastRefusals =
+    (F : Meanings) (lines : List (List ℕ)) (ts us : List Turn) → IsRun F lines ts → IsRun F lines us → broken_after ts ≡ broken_after us
+    → Every GrabsNothing ts
+    → PrintAlike ts us
+
+-- a declaration, a state and a moment without what binds were last built for
+abbrev pub forget_body : Body → Body
+forget_body (Computed f kept) = Computed f nothing_kept
+forget_body body = body
+
+abbrev pub forget_entry : Entry → Entry
+forget_entry e = record e { body = forget_body e.body }
+
+abbrev pub forget_all : List Entry → List Entry
+forget_all es = map forget_entry es
+
+abbrev pub forget : State → State
+forget s = record s { entries = forget_all s.entries }
+
+abbrev pub forget_moment : Moment → Moment
+forget_moment m = record { settled = forget m.settled; present = forget m.present; broken = m.broken }
+
+-- then they also lead to one end, but for what binds were last built for
+abbrev pub OneEnd : Type 0
+OneEnd =
+    (F : Meanings) (lines : List (List ℕ)) (ts us : List Turn) (run : IsRun F lines ts) (other : IsRun F lines us) → broken_after ts ≡ broken_after us
+    → Every GrabsNothing ts
+    → forget_moment run.end ≡ forget_moment other.end
+
+-- a stabilize is accepted where nothing that it meets stands in the way
+abbrev pub UnblockedIsAccepted : Type 0
+UnblockedIsAccepted =
+    (F : Meanings) (m after : Moment) (replies : List Reply) → Stabilizes F m after replies
+    → ((i : Item) → Met F m.settled m.present i → InTheWay F m.present i → ⊥)
+    → after.broken ≡ None
+
+-- and refused where something that is needed does
+abbrev pub BlockedIsRefused : Type 0
+BlockedIsRefused =
+    (F : Meanings) (m after : Moment) (replies : List Reply) (i : Item) → Stabilizes F m after replies → Needed F m.present i → InTheWay F m.present i
+    → (why : Refusal) × (replies ≡ Refused why ∷ []) × (breaks why ≡ true)
+
+-- ---- today's forms alone
+
+-- a stabilize is refused for what is too deep alone, so its number is 21
+abbrev pub HeightsAloneToday : Type 0
+HeightsAloneToday =
+    (F : Meanings) (m after : Moment) (line : List ℕ) (why : Refusal) (rest : List Reply) → Step F m line after (Refused why ∷ rest) → breaks why ≡ true
+    → (target : ℕ) × (why ≡ Height target)
+
+-- what a stabilize behind a run would meet is needed, so it is refused exactly where something that is needed is too deep
+abbrev pub MetIsNeededToday : Type 0
+MetIsNeededToday =
+    (F : Meanings) (lines : List (List ℕ)) (turns : List Turn) (run : IsRun F lines turns) (i : Item) → Met F run.end.settled run.end.present i
+    → Needed F run.end.present i
+
+-- the same lines print the same bytes, also behind a refused stabilize: of its own line alone the name is free
+abbrev pub OneTranscriptPastRefusalsToday : Type 0
+OneTranscriptPastRefusalsToday = (F : Meanings) (lines : List (List ℕ)) (ts us : List Turn) → IsRun F lines ts → IsRun F lines us → PrintAlike ts us
+
+-- so they print the same bytes where one run refused no stabilize
 abbrev pub OneTranscriptToday : Type 0
-OneTranscriptToday = (F : Meanings) (lines : List (List ℕ)) (ts us : List Turn) → IsRun F lines ts → IsRun F lines us → transcript ts ≡ transcript us
+OneTranscriptToday =
+    (F : Meanings) (lines : List (List ℕ)) (ts us : List Turn) → IsRun F lines ts → IsRun F lines us → Every IsUnbroken ts
+    → transcript ts ≡ transcript us
+
+-- and lead to one end
+abbrev pub OneEndToday : Type 0
+OneEndToday = (F : Meanings) (lines : List (List ℕ)) (ts us : List Turn) (run : IsRun F lines ts) (other : IsRun F lines us) → run.end ≡ other.end

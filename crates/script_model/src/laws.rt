@@ -1,6 +1,6 @@
 //! Laws of the definitions. Each function does nothing: its contract is the law.
 ghost use Rattle.script_model.specs.GrammarLaws.{OneWriting, OneCommand, CommandsAreShallow, CommandsAreWellFormed, DeepLinesAreWellFormed, WhatIsReadIsWritten};
-ghost use Rattle.script_model.specs.Laws.{NothingDueAfterSettling, EveryDepthAgrees, OneOutcome, RefusalsChangeNothing, RefusedStabilizesBreak, OneRequest, OneEffect, StartIsValid, StepsKeepValidity, LinesKeepValidity, HaltsKeepValidity, RunsAreValid, ValuesHaveTypes, DeclarationsHaveTypes, CallsAreTyped, VisitsCountCalls, NeededGives, LibrariesKeepToTypes, EveryLineAsks, OnlyStabilizesCall, OneVisit, MeetsOnce, ReadsSuffice, OneTranscript, OneTranscriptToday};
+ghost use Rattle.script_model.specs.Laws.{NothingDueAfterSettling, EveryDepthAgrees, OneOutcome, RefusalsChangeNothing, RefusedStabilizesBreak, OneRequest, OneEffect, StartIsValid, StepsKeepValidity, LinesKeepValidity, HaltsKeepValidity, RunsAreValid, ValuesHaveTypes, DeclarationsHaveTypes, CallsAreTyped, VisitsCountCalls, NeededGives, LibrariesKeepToTypes, EveryLineAsks, OnlyStabilizesCall, OneVisit, MeetsOnce, ReadsSuffice, OneTranscript, OneBeginning, OneTranscriptPastRefusals, OneEnd, UnblockedIsAccepted, BlockedIsRefused, HeightsAloneToday, MetIsNeededToday, OneTranscriptPastRefusalsToday, OneTranscriptToday, OneEndToday};
 ghost use Rattle.script_model.specs.TokenLaws.{OneSpelling};
 ghost use Rattle.script_model.specs.Row.{SumIsShown, SumIsOneCall, BindIsShown, BindIsOneCall, NameIsOnCycle, GrabDies, ChainIsTooDeep, GrabStateIsValid};
 
@@ -203,7 +203,54 @@ pub fn one_transcript()
     ensures { OneTranscript }
 {}
 
-/// The same lines print the same bytes, as long as no other forms are read than today.
+/// What the same lines print before the first refused stabilize is the same, whatever follows.
+pub fn one_beginning()
+    ensures { OneBeginning }
+{}
+
+/// Where the same stabilizes are refused with the same numbers and no bind is grabbed, the same
+/// lines print the same bytes, but for the names that a refused stabilize tells.
+pub fn one_transcript_past_refusals()
+    ensures { OneTranscriptPastRefusals }
+{}
+
+/// Then they lead to one end, but for what binds were last built for.
+pub fn one_end()
+    ensures { OneEnd }
+{}
+
+/// A stabilize is accepted where nothing that it meets stands in the way.
+pub fn unblocked_is_accepted()
+    ensures { UnblockedIsAccepted }
+{}
+
+/// A stabilize is refused where something that is needed stands in the way.
+pub fn blocked_is_refused()
+    ensures { BlockedIsRefused }
+{}
+
+/// Of today's forms a stabilize is refused for what is too deep alone: its number is 21.
+pub fn heights_alone_today()
+    ensures { HeightsAloneToday }
+{}
+
+/// Of today's forms what a stabilize meets is needed.
+pub fn met_is_needed_today()
+    ensures { MetIsNeededToday }
+{}
+
+/// The same lines of today's forms print the same bytes, but for the names that a refused stabilize
+/// tells.
+pub fn one_transcript_past_refusals_today()
+    ensures { OneTranscriptPastRefusalsToday }
+{}
+
+/// They print the same bytes where one run refused no stabilize.
 pub fn one_transcript_today()
     ensures { OneTranscriptToday }
+{}
+
+/// They lead to one end.
+pub fn one_end_today()
+    ensures { OneEndToday }
 {}

@@ -1,4 +1,4 @@
-use Rattle.script_model.proofs.Transcripts.{one_transcript_today}
+use Rattle.script_model.proofs.Today.{one_transcript_today}
 use Rattle.script_model.proofs.laws.one_transcript_today.Goals as goal
 
 pub returns : goal.returns

@@ -1,0 +1,5 @@
+use Rattle.script_model.proofs.Refusing.{heights_alone_today}
+use Rattle.script_model.proofs.laws.heights_alone_today.Goals as goal
+
+pub returns : goal.returns
+returns c = heights_alone_today
