@@ -1,13 +1,13 @@
 -- What fits the names of a script holds no reference.
-use Rattle.std.proofs.Common.{◌≡◌, ℕ, Bool, List, [], ◌∷◌, sym, subst}
+use Rattle.std.proofs.Common.{◌≡◌, Bool, List, [], ◌∷◌, sym, subst}
 use Rattle.inc_value.specs.Ty.{IsBase}
 use Rattle.inc_value.specs.declared.function.FnRef.{FnRef}
 use Rattle.inc_value.specs.declared.ty.Ty.{Ty}
-use Rattle.formula_lang.specs.Fits.{ArgumentsFit, BodyFits, FormulaFits}
+use Rattle.formula_lang.specs.Fits.{ArgumentsFit, FormulaFits}
 use Rattle.script_model.specs.Check.{Names}
-use Rattle.script_model.specs.Formula.{Formula, Formulas, Body, Literal, Name, Apply, End, More, Variable, Computed}
+use Rattle.script_model.specs.Formula.{Formula, Formulas, Literal, Name, Apply, End, More, Variable, Computed}
 use Rattle.script_model.specs.Values.{Value, type_of}
-use Rattle.formula_elab.specs.Made.{HoldsNoReference, HoldNoReference, BodyHoldsNoReference, FittingHoldsNoReference}
+use Rattle.formula_elab.specs.Made.{HoldsNoReference, HoldNoReference, FittingHoldsNoReference}
 
 value_is_base : (v : Value) (ty : Ty) → type_of v ≡ ty → IsBase ty → IsBase (type_of v)
 value_is_base v ty is base = subst (λ t. IsBase t) (sym is) base

@@ -1,12 +1,11 @@
 -- What is laid for a formula needs only nodes that are made before it.
-use Rattle.std.proofs.Common.{◌≡◌, ℕ, suc, zero, ◌+◌, ◌<◌, ◌≤◌, List, [], ◌∷◌, ◌++◌, length, map, get_or, All, Option, None, Some, IfSome, arith, refl, sym, ◌∙◌, ap, subst}
+use Rattle.std.proofs.Common.{◌≡◌, ℕ, suc, zero, ◌+◌, ◌≤◌, List, [], ◌∷◌, ◌++◌, length, get_or, All, Some, arith, subst}
 use Rattle.std.proofs.lemmas.List.{length-append}
 use Rattle.std.specs.List.{slice_get}
 use Rattle.std.proofs.lemmas.List.Elements.{All-nil, All-cons}
 use Rattle.inc_value.specs.declared.node.NodeId.{NodeId}
-use Rattle.script_model.specs.Check as command
 use Rattle.script_model.specs.Formula.{Formula, Formulas, Body, Literal, Name, Apply, End, More, Variable, Computed}
-use Rattle.formula_elab.specs.Laying.{laid, laid_each, laid_body, makes_of, root_of}
+use Rattle.formula_elab.specs.Laying.{laid, laid_each, laid_body}
 use Rattle.formula_elab.specs.Made.{LaidInOrder}
 use Rattle.formula_elab.specs.Opened.{IsEarlier, NeedsEarlier, AreInOrder}
 use Rattle.formula_elab.specs.declared.opened.Open.{Open}

@@ -1,13 +1,12 @@
 -- One node is made for each place.
-use Rattle.std.proofs.Common.{◌≡◌, ℕ, ◌+◌, List, [], ◌∷◌, ◌++◌, length, arith, refl, sym, ◌∙◌, ap}
+use Rattle.std.proofs.Common.{◌≡◌, ℕ, ◌+◌, [], ◌∷◌, length, arith, refl}
 use Rattle.std.proofs.lemmas.List.{length-append}
 use Rattle.inc_value.specs.declared.node.NodeId.{NodeId}
-use Rattle.script_model.specs.Check as command
 use Rattle.script_model.specs.Formula.{Formula, Formulas, Body, Literal, Name, Apply, End, More, Variable, Computed}
 use Rattle.script_model.specs.Formula.{places_in, places_in_all, places_of_body}
-use Rattle.formula_elab.specs.Laying.{laid, laid_each, laid_body, makes_of, places_of_command}
+use Rattle.formula_elab.specs.Laying.{laid, laid_each, laid_body}
 use Rattle.formula_elab.specs.Made.{OneMakeEach}
-use Rattle.formula_elab.specs.Names.{EveryName, EveryNameOfAll, EveryNameOf, EveryNameIn}
+use Rattle.formula_elab.specs.Names.{EveryName, EveryNameOfAll, EveryNameOf}
 use Rattle.formula_elab.specs.declared.opened.Open.TheVariants.{Map}
 
 module _ (P : ℕ → Type 0) (nodes : ℕ → NodeId) where

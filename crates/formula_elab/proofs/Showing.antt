@@ -1,5 +1,5 @@
 -- The root of what was made shows what it was made for.
-use Rattle.std.proofs.Common.{◌≡◌, ℕ, zero, suc, ◌+◌, ◌<◌, ◌≤◌, List, [], ◌∷◌, ◌++◌, length, map, Option, None, Some, arith, refl, sym, ◌∙◌, ap, subst}
+use Rattle.std.proofs.Common.{◌≡◌, ℕ, suc, ◌+◌, ◌<◌, List, [], ◌∷◌, ◌++◌, length, map, None, Some, arith, refl, ◌∙◌, ap, subst}
 use Rattle.std.proofs.lemmas.Option.{slice_get_within}
 use Rattle.std.specs.List.{slice_get}
 use Rattle.inc_value.specs.Ty.{IsBase}
@@ -12,13 +12,13 @@ use Rattle.inc_terms.specs.Term.{Term, Terms, refs}
 use Rattle.script_model.specs.Formula.{Formula, Formulas, Body, Literal, Name, Apply, End, More, Variable, Computed}
 use Rattle.script_model.specs.Values.{Value, Int, Bool, Text, Reference, type_of, to_engine}
 use Rattle.transfer.specs.Both.{Both, graph_value}
-use Rattle.transfer.specs.Shows.{Mode, Spelled, Built, Shows, ShowsAll, Opens, IsTop, Declares, plain}
+use Rattle.transfer.specs.Shows.{Built, Shows, ShowsAll, Opens, IsTop, Declares, plain}
 use Rattle.formula_elab.specs.Laying.{laid, laid_each, laid_body}
-use Rattle.formula_elab.specs.Made.{StandsIn, HoldsNoReference, HoldNoReference, BodyHoldsNoReference, RootDeclares}
+use Rattle.formula_elab.specs.Made.{HoldsNoReference, HoldNoReference, BodyHoldsNoReference, RootDeclares}
 use Rattle.formula_elab.specs.Names.{EveryName, EveryNameOfAll, EveryNameOf}
 use Rattle.formula_elab.specs.Opened.{node_at, node_of, filled}
 use Rattle.formula_elab.specs.declared.opened.Open.{Open}
-use Rattle.formula_elab.specs.declared.opened.Open.TheVariants.{Const, Var, Map}
+use Rattle.formula_elab.specs.declared.opened.Open.TheVariants.{Map}
 
 -- a value that is no reference is the same in the graph
 value_same : (nodes : ℕ → NodeId) (v : Value) → IsBase (type_of v) → to_engine v ≡ graph_value nodes v

@@ -1,5 +1,5 @@
 -- What was made stands, and one more of it does.
-use Rattle.std.proofs.Common.{◌≡◌, ◌⊎◌, inl, inr, ℕ, zero, suc, ◌+◌, ◌<◌, ◌≤◌, List, [], ◌∷◌, ◌++◌, length, map, All, Option, None, Some, option_map, get_or, arith, refl, sym, ◌∙◌, ap, subst}
+use Rattle.std.proofs.Common.{◌≡◌, ◌⊎◌, inl, inr, ℕ, ◌+◌, ◌<◌, ◌≤◌, List, [], ◌∷◌, ◌++◌, length, map, All, Some, option_map, arith, refl, sym, ◌∙◌, ap, subst}
 use Rattle.std.proofs.lemmas.List.{length-append, get_or_append_left, get_or_at}
 use Rattle.std.specs.List.{slice_get}
 use Rattle.std.proofs.lemmas.List.Elements.{All-head, All-tail}
@@ -7,8 +7,8 @@ use Rattle.inc_value.specs.declared.node.NodeId.{NodeId}
 use Rattle.inc_terms.specs.Graph as graph
 use Rattle.inc_terms.specs.Graph.{Graph, Row, Def}
 use Rattle.transfer.specs.Shows.{IsTop}
-use Rattle.formula_elab.specs.Made.{StandsIn, RowsStay, NoneStands, OneMoreStands}
-use Rattle.formula_elab.specs.Opened.{no_node, node_at, node_of, filled, IsEarlier, NeedsEarlier, AreInOrder}
+use Rattle.formula_elab.specs.Made.{NoneStands, OneMoreStands}
+use Rattle.formula_elab.specs.Opened.{no_node, node_at, node_of, filled, IsEarlier, NeedsEarlier}
 use Rattle.formula_elab.specs.Plan.{next_def}
 use Rattle.formula_elab.specs.declared.opened.Open.{Open}
 use Rattle.formula_elab.specs.declared.opened.Open.TheVariants.{Const, Var, Map}

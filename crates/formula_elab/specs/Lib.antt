@@ -3,5 +3,4 @@ pub mod Made
 pub mod Names
 pub mod Opened
 pub mod Plan
-pub mod Unnamed
 pub mod UnnamedLaws

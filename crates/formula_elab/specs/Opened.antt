@@ -1,5 +1,5 @@
 -- Nodes to be made, some of whose nodes aren't made yet.
-use Rattle.std.specs.Prelude.{◌≡◌, ◌<◌, ℕ, suc, List, [], ◌∷◌, All, map, slice_index_or}
+use Rattle.std.specs.Prelude.{◌<◌, ℕ, suc, List, [], ◌∷◌, All, map, slice_index_or}
 use Rattle.inc_value.specs.declared.node.NodeId.{NodeId}
 use Rattle.inc_terms.specs.Code.{def_of}
 use Rattle.inc_terms.specs.Graph as graph

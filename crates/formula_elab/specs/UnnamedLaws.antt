@@ -10,8 +10,8 @@ use Rattle.inc_value.specs.declared.function.FnKind.TheVariants.{Map}
 use Rattle.inc_value.specs.declared.ty.Ty.{Ty}
 use Rattle.inc_value.specs.declared.value.Value.{Value}
 use Rattle.inc_value.specs.declared.value.Value.TheVariants.{Int, Bool, Text, Node}
-use Rattle.node_arena.specs.Meanings.{GiveTypes, GiveProper, HaveMapSigs}
-use Rattle.formula_elab.specs.Unnamed.{unnamed, of_unnamed}
+use Rattle.node_arena.specs.Meanings.{GiveTypes, GiveProper, GiveNoReference, HaveMapSigs, SameValues}
+use Rattle.script_model.specs.Values.{unnamed, unreferred, seen_value}
 
 unnamed_type : (v : Value) → type_of (unnamed v) ≡ type_of v
 unnamed_type (Int z) = refl
@@ -54,19 +54,48 @@ bases_are_unnamed (v ∷ vs) h =
 pub still_have_types : (vs : List Value) (tys : List Ty) → HaveTypes vs tys → HaveTypes (map unnamed vs) tys
 still_have_types vs tys h = unnamed_types vs ∙ h
 
+-- a value of a base type is no reference
+pub base_is_unreferred : (v : Value) → IsBase (type_of v) → unreferred v ≡ v
+base_is_unreferred (Int z) h = refl
+base_is_unreferred (Bool b) h = refl
+base_is_unreferred (Text bytes) h = refl
+base_is_unreferred (Node id base) h = absurd h
+
+-- what is seen of a value is of a base type
+unreferred_base : (v : Value) → IsBase (type_of (unreferred v))
+unreferred_base (Int z) = tt
+unreferred_base (Bool b) = tt
+unreferred_base (Text bytes) = tt
+unreferred_base (Node id base) = tt
+
 module _ (known : FnRef → std.Bool) (value : FnRef → List Value → Value) where
-  -- functions that give the types that they say still do
-  pub still_typed : GiveTypes known value → GiveTypes known (of_unnamed value)
-  still_typed typed f args is_known kind proper fit =
-      typed f (map unnamed args) is_known kind (all_unnamed_proper args proper) (still_have_types args f.sig.takes fit)
+  -- no function is seen to give a reference
+  pub none_seen : GiveNoReference known (seen_value value)
+  none_seen f args is_known kind = unreferred_base (value f (map unnamed args))
 
-  -- functions that give proper values still do
-  pub still_proper : GiveProper known value → GiveProper known (of_unnamed value)
-  still_proper gives f args is_known kind proper fit =
-      gives f (map unnamed args) is_known kind (all_unnamed_proper args proper) (still_have_types args f.sig.takes fit)
+  module _ (bases : GiveNoReference known value) where
+    seen : (f : FnRef) (args : List Value) → IsTrue (known f) → f.id.kind ≡ Map → seen_value value f args ≡ value f (map unnamed args)
+    seen f args is_known kind = base_is_unreferred (value f (map unnamed args)) (bases f (map unnamed args) is_known kind)
 
-  -- of values of the types that it takes, a map gives the same
-  pub same_given : HaveMapSigs known → (f : FnRef) (args : List Value) → IsTrue (known f) → f.id.kind ≡ Map
-      → HaveTypes args f.sig.takes → value f args ≡ of_unnamed value f args
-  same_given maps f args is_known kind fit =
-      ap (value f) (sym (bases_are_unnamed args (subst (λ tys. All IsBase tys) (sym fit) (maps f is_known kind).1)))
+    -- functions that give the types that they say still do
+    pub still_typed : GiveTypes known value → GiveTypes known (seen_value value)
+    still_typed typed f args is_known kind proper fit =
+        ap type_of (seen f args is_known kind)
+        ∙ typed f (map unnamed args) is_known kind (all_unnamed_proper args proper) (still_have_types args f.sig.takes fit)
+
+    -- functions that give proper values still do
+    pub still_proper : GiveProper known value → GiveProper known (seen_value value)
+    still_proper gives f args is_known kind proper fit =
+        subst IsProper (sym (seen f args is_known kind))
+        (gives f (map unnamed args) is_known kind (all_unnamed_proper args proper) (still_have_types args f.sig.takes fit))
+
+    -- of values of the types that it takes, a map gives the same
+    pub same_given : HaveMapSigs known → (f : FnRef) (args : List Value) → IsTrue (known f) → f.id.kind ≡ Map
+        → HaveTypes args f.sig.takes → value f args ≡ seen_value value f args
+    same_given maps f args is_known kind fit =
+        ap (value f) (sym (bases_are_unnamed args (subst (λ tys. All IsBase tys) (sym fit) (maps f is_known kind).1)))
+        ∙ sym (seen f args is_known kind)
+
+-- where a function gives what it gave it is seen to give what it was
+pub same_seen : (value value' : FnRef → List Value → Value) → SameValues value value' → SameValues (seen_value value) (seen_value value')
+same_seen value value' same f args = ap unreferred (same f (map unnamed args))

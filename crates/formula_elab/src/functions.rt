@@ -36,15 +36,14 @@ impl<L: Library> ScriptFns<L> {
 }
 
 impl<L: Library> Functions for ScriptFns<L> {
-    ghost use Rattle.std.specs.Prelude.{map};
-    ghost use Rattle.formula_elab.specs.Unnamed.{unnamed, of_unnamed};
-    ghost use Rattle.formula_elab.specs.UnnamedLaws.{still_typed, still_proper};
+    ghost use Rattle.script_model.specs.Values.{seen_value};
+    ghost use Rattle.formula_elab.specs.UnnamedLaws.{still_typed, still_proper, none_seen};
 
     ghost named = { λ s. L.named s.library };
 
     ghost known = { λ s. L.known s.library };
 
-    ghost value = { λ s. of_unnamed (L.value s.library) };
+    ghost value = { λ s. seen_value (L.value s.library) };
 
     ghost calls = { λ s. L.calls s.library };
 
@@ -60,9 +59,9 @@ impl<L: Library> Functions for ScriptFns<L> {
 
     ghost known_maps = { λ s. L.known_maps s.library };
 
-    ghost typed = { λ s. still_typed (L.known s.library) (L.value s.library) (L.typed s.library) };
+    ghost typed = { λ s. still_typed (L.known s.library) (L.value s.library) (L.no_reference s.library) (L.typed s.library) };
 
-    ghost proper = { λ s. still_proper (L.known s.library) (L.value s.library) (L.proper s.library) };
+    ghost proper = { λ s. still_proper (L.known s.library) (L.value s.library) (L.no_reference s.library) (L.proper s.library) };
 
-    ghost no_reference = { λ s f args. L.no_reference s.library f (map unnamed args) };
+    ghost no_reference = { λ s. none_seen (L.known s.library) (L.value s.library) };
 }

@@ -27,6 +27,7 @@ pub fn elaborate(alloc: Global, command: &Command, ids: &[NodeId]) -> Result<Pla
         Command::Declare { body, .. } => elaborate_body(alloc, body, ids),
         Command::Assign { .. }
         | Command::Observe { .. }
+        | Command::Unobserve { .. }
         | Command::Stabilize
         | Command::Show { .. } => Ok(Plan::new(alloc, Vec::new(alloc), None)),
     }

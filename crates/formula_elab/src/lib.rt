@@ -17,3 +17,6 @@ pub use laws::{
 pub use lay::elaborate;
 pub use make::{Made, Make};
 pub use plan::Plan;
+
+#[cfg(test)]
+mod tests;

@@ -7,7 +7,7 @@ use Rattle.inc_value.proofs.SameTypes.{ty_true, types_true}
 use Rattle.inc_value.specs.Ty.{IsBase, same_ty, same_types}
 use Rattle.inc_value.specs.declared.function.FnRef.{FnRef}
 use Rattle.inc_value.specs.declared.ty.Ty.{Ty}
-use Rattle.script_model.specs.Check.{Command, Declare, Assign, Observe, Stabilize, Show, Declared, Names, Reason, NameTaken, ObserverTaken, NotVariable, ObserverUnknown, TypedFormula, TypedFormulas, TypedValue, first_named, find_declared, is_among, is_variable, kind_of, typed, typed_each, typed_as, typed_literal, literal_of_type, where_same, applied, before, command_of, body_as, target_of_body, first_that, is_against, line_order}
+use Rattle.script_model.specs.Check.{Command, Declare, Assign, Observe, Unobserve, Stabilize, Show, Declared, Names, Reason, NameTaken, ObserverTaken, NotVariable, ObserverUnknown, TypedFormula, TypedFormulas, TypedValue, first_named, find_declared, is_among, is_variable, kind_of, typed, typed_each, typed_as, typed_literal, literal_of_type, where_same, applied, before, command_of, body_as, target_of_body, first_that, is_against, line_order}
 use Rattle.inc_value.specs.Choice.{and_then}
 use Rattle.script_model.specs.Formula as model
 use Rattle.script_model.specs.Formula.{Formula, Meanings, nothing_kept}
@@ -228,6 +228,10 @@ module _ (F : Meanings) (known : FnRef → Bool) (names : Names) (earlier : AreE
   check_fits (grammar.Observe observer name) c plain none e =
       let taken = none_holds (Stands (grammar.Observe observer name)) line_order ObserverTaken none (inr (inl refl)) in
       observe_fits observer name (find_declared names name) c refl (or_false (is_among names.observers observer) taken) e
+  check_fits (grammar.Unobserve observer) c plain none e =
+      let unknown = none_holds (Stands (grammar.Unobserve observer)) line_order ObserverUnknown none (inr (inr (inr (inl refl)))) in
+      subst (FitsNames known names) (some_is (Unobserve observer) c e)
+      (not_false (is_among names.observers observer) (or_false (not (is_among names.observers observer)) unknown))
   check_fits grammar.Stabilize c plain none e = subst (FitsNames known names) (some_is Stabilize c e) tt
   check_fits (grammar.Show observer) c plain none e =
       let unknown = none_holds (Stands (grammar.Show observer)) line_order ObserverUnknown none (inr (inr (inr (inl refl)))) in

@@ -390,7 +390,7 @@ with_same w tokens =
     either (CommandSame tokens) w (codes "stale") (never_whole grammar.Stale (name_front tokens) (λ x. refl)) (λ e7.
     either (CommandSame tokens) w (codes "grab") (never_two grammar.Grab (name_front tokens) (λ x y. refl)) (λ e8.
     either (CommandSame tokens) w (codes "observe") (observe_same (name_front tokens)) (λ e9.
-    either (CommandSame tokens) w (codes "unobserve") (never_whole grammar.Unobserve (name_front tokens) (λ x. refl)) (λ e10.
+    either (CommandSame tokens) w (codes "unobserve") (always_whole grammar.Unobserve (name_front tokens) (λ x. refl)) (λ e10.
     either (CommandSame tokens) w (codes "watch") (never_whole grammar.Watch (name_front tokens) (λ x. refl)) (λ e11.
     either (CommandSame tokens) w (codes "show") (always_whole grammar.Show (name_front tokens) (λ x. refl)) (λ e12.
     either (CommandSame tokens) w (codes "advance") (never_whole grammar.Advance (time_front tokens) (λ x. refl)) (λ e13.

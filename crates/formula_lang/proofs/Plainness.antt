@@ -5,7 +5,7 @@ use Rattle.script_model.specs.Check.{Names, NotWhole, NotBind, NotExpert, TimeTo
 use Rattle.inc_value.specs.Choice.{Every, and_then}
 use Rattle.script_model.specs.Formula.{Computed, Meanings, nothing_kept}
 use Rattle.script_model.specs.Grammar as grammar
-use Rattle.script_model.specs.Grammar.{Line, Tree, Trees, Call, End, More, Var, Set, Let, Observe, Show, Stabilize, is_plain, are_plain, is_plain_literal}
+use Rattle.script_model.specs.Grammar.{Line, Tree, Trees, Call, End, More, Var, Set, Let, Observe, Unobserve, Show, Stabilize, is_plain, are_plain, is_plain_literal}
 use Rattle.script_model.specs.Literals as literals
 use Rattle.script_model.specs.Literals.{Literal, Integer}
 use Rattle.script_model.specs.Parsing.{trees_of}
@@ -50,6 +50,7 @@ is_plain_line (Var name t first) = is_plain_literal first
 is_plain_line (Set name value) = is_plain_literal value
 is_plain_line (Let name formula) = is_plain formula
 is_plain_line (Observe observer name) = true
+is_plain_line (Unobserve observer) = true
 is_plain_line (Show observer) = true
 is_plain_line Stabilize = true
 is_plain_line l = false
@@ -60,6 +61,7 @@ line_plain (line.Set name value) = literal_plain value
 line_plain (line.Let name formula) = view_plain formula
 line_plain (line.Observe observer name) = refl
 line_plain line.Stabilize = refl
+line_plain (line.Unobserve observer) = refl
 line_plain (line.Show observer) = refl
 
 -- ---- the formulas in one
@@ -184,6 +186,7 @@ module _ (F : Meanings) (names : Names) where
   not_bind (Set name value) h = refl
   not_bind (Let name t) h = refl
   not_bind (Observe observer name) h = refl
+  not_bind (Unobserve observer) h = refl
   not_bind (Show observer) h = refl
   not_bind Stabilize h = refl
   not_bind _ h = absurd (cc)
@@ -193,6 +196,7 @@ module _ (F : Meanings) (names : Names) where
   not_expert (Set name value) h = refl
   not_expert (Let name t) h = refl
   not_expert (Observe observer name) h = refl
+  not_expert (Unobserve observer) h = refl
   not_expert (Show observer) h = refl
   not_expert Stabilize h = refl
   not_expert _ h = absurd (cc)
@@ -202,6 +206,7 @@ module _ (F : Meanings) (names : Names) where
   no_large_time (Var name t first) h = refl
   no_large_time (Set name value) h = refl
   no_large_time (Observe observer name) h = refl
+  no_large_time (Unobserve observer) h = refl
   no_large_time (Show observer) h = refl
   no_large_time Stabilize h = refl
   no_large_time _ h = absurd (cc)
@@ -219,6 +224,7 @@ module _ (F : Meanings) (names : Names) where
   not_back (Set name value) h = refl
   not_back (Let name t) h = refl
   not_back (Observe observer name) h = refl
+  not_back (Unobserve observer) h = refl
   not_back (Show observer) h = refl
   not_back Stabilize h = refl
   not_back _ h = absurd (cc)

@@ -47,5 +47,6 @@ abbrev pub command_view : Command → model.Command
 command_view (command.Declare name ty body) = model.Declare name ty (body_view body)
 command_view (command.Assign target value) = model.Assign target (constant_view value)
 command_view (command.Observe observer target) = model.Observe observer target
+command_view (command.Unobserve observer) = model.Unobserve observer
 command_view command.Stabilize = model.Stabilize
 command_view (command.Show observer) = model.Show observer

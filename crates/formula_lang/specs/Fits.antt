@@ -5,7 +5,7 @@ use Rattle.inc_value.specs.Ty.{IsBase}
 use Rattle.inc_value.specs.declared.function.FnKind.TheVariants.{Map}
 use Rattle.inc_value.specs.declared.function.FnRef.{FnRef}
 use Rattle.inc_value.specs.declared.ty.Ty.{Ty}
-use Rattle.script_model.specs.Check.{Command, Declare, Assign, Observe, Stabilize, Show, Declared, Names, first_named, is_among, is_variable, target_of_body}
+use Rattle.script_model.specs.Check.{Command, Declare, Assign, Observe, Unobserve, Stabilize, Show, Declared, Names, first_named, is_among, is_variable, target_of_body}
 use Rattle.inc_value.specs.Choice.{and_then}
 use Rattle.script_model.specs.Formula.{Formula, Formulas, Body, Literal, Name, Apply, End, More, Variable, Computed, nothing_kept}
 use Rattle.script_model.specs.Values.{type_of}
@@ -68,6 +68,7 @@ abbrev pub FitsNames : (FnRef → Bool) → Names → Command → Type 0
 FitsNames known names (Declare name ty body) = DeclarationFits known names name ty body
 FitsNames known names (Assign target value) = AssignmentFits names target (type_of value)
 FitsNames known names (Observe observer target) = ObserverFits names observer target
+FitsNames known names (Unobserve observer) = IsTrue (is_among names.observers observer)
 FitsNames known names Stabilize = Unit {0}
 FitsNames known names (Show observer) = IsTrue (is_among names.observers observer)
 FitsNames known names command = ⊥

@@ -5,7 +5,7 @@ use Rattle.inc_value.specs.declared.ty.Base.{Base}
 use Rattle.inc_value.specs.declared.ty.Ty.{Ty}
 use Rattle.inc_value.specs.Choice.{and_then}
 use Rattle.script_model.specs.Grammar as grammar
-use Rattle.script_model.specs.Grammar.{Tree, Line, Var, Set, Let, Observe, Show, Stabilize, is_here}
+use Rattle.script_model.specs.Grammar.{Tree, Line, Var, Set, Let, Observe, Unobserve, Show, Stabilize, is_here}
 use Rattle.script_model.specs.Literals as literals
 use Rattle.script_model.specs.Literals.{Literal, Integer}
 use Rattle.script_model.specs.Language.{is_name, integer_of}
@@ -91,11 +91,17 @@ alone tokens = None
 abbrev pub plain_stabilize : List ℕ → List Token → Option Line
 plain_stabilize w tokens = if bytes_eq w (codes "stabilize") then alone tokens else None
 
--- a command on observers, by the word that it begins with
+-- a show or a stabilize, by the word that it begins with
+abbrev pub plain_showing : List ℕ → List Token → Option Line
+plain_showing w tokens = if bytes_eq w (codes "show") then one_name Show tokens else plain_stabilize w tokens
+
+-- so, or the ending of an observer
+abbrev pub plain_ending : List ℕ → List Token → Option Line
+plain_ending w tokens = if bytes_eq w (codes "unobserve") then one_name Unobserve tokens else plain_showing w tokens
+
+-- a command on observers, or a stabilize, by the word that it begins with
 abbrev pub plain_observing : List ℕ → List Token → Option Line
-plain_observing w tokens =
-    if bytes_eq w (codes "observe") then two_names Observe tokens
-    else (if bytes_eq w (codes "show") then one_name Show tokens else plain_stabilize w tokens)
+plain_observing w tokens = if bytes_eq w (codes "observe") then two_names Observe tokens else plain_ending w tokens
 
 -- a command by the word that it begins with
 abbrev pub plain_with : List ℕ → List Token → Option Line

@@ -25,5 +25,6 @@ line_view (line.Var name ty first) = grammar.Var name ty (literal_view first)
 line_view (line.Set name value) = grammar.Set name (literal_view value)
 line_view (line.Let name formula) = grammar.Let name (tree_view formula)
 line_view (line.Observe observer name) = grammar.Observe observer name
+line_view (line.Unobserve observer) = grammar.Unobserve observer
 line_view line.Stabilize = grammar.Stabilize
 line_view (line.Show observer) = grammar.Show observer

@@ -2,7 +2,7 @@
 ghost use Rattle.std.specs.Prelude.{◌≡◌, ℕ, IfOk, IsErrOf, None, Some, option_map};
 ghost use Rattle.script_model.specs.Check.{Names as AllNames, Reason as AReason, command_of, first_that, is_against, line_order, reason_number};
 ghost use Rattle.script_model.specs.Formula.{Meanings, meanings_of};
-ghost use Rattle.script_model.specs.Grammar.{Var, Set, Let, Observe, Show};
+ghost use Rattle.script_model.specs.Grammar.{Var, Set, Let, Observe, Show, Unobserve};
 ghost use Rattle.formula_lang.specs.CommandView.{command_view};
 ghost use Rattle.formula_lang.specs.Fits.{FitsNames};
 ghost use Rattle.formula_lang.specs.TreeView.{line_view, tree_view};
@@ -88,6 +88,7 @@ fn command_of<L: Library>(
         Line::Set { name, value } => assignment(alloc, names, name, value),
         Line::Let { name, formula } => definition(alloc, names, library, name, formula),
         Line::Observe { observer, name } => observation(alloc, names, observer, name),
+        Line::Unobserve { observer } => ending(alloc, observer),
         Line::Stabilize => Ok(Some(Command::Stabilize)),
         Line::Show { observer } => showing(alloc, observer),
     }
@@ -170,6 +171,15 @@ fn observation(
     Ok(Some(Command::Observe {
         observer: Name::new(alloc, observer.bytes())?,
         target: declared.target,
+    }))
+}
+
+/// The ending of an observer.
+fn ending(alloc: Global, observer: &Name) -> Result<Option<Command>, AllocError>
+    ensures { (F : Meanings) (names : AllNames) → IfOk result (λ c. option_map command_view c ≡ command_of F names (Unobserve observer.now)) }
+{
+    Ok(Some(Command::Unobserve {
+        observer: Name::new(alloc, observer.bytes())?,
     }))
 }
 

@@ -96,6 +96,10 @@ pub enum Command {
         observer: Name,
         target: usize,
     },
+    /// Ends an observer.
+    Unobserve {
+        observer: Name,
+    },
     /// Stabilizes.
     Stabilize,
     /// Shows what an observer has.

@@ -131,7 +131,9 @@ fn is_observer_unknown(line: &Line, names: &Names) -> bool
     ensures { result ≡ list_any (is_no_observer names.entry.now) (observers_of (line_view line.now)) }
 {
     match line {
-        Line::Show { observer } => !names.is_in_use(observer.bytes()),
+        Line::Unobserve { observer } | Line::Show { observer } => !names.is_in_use(
+            observer.bytes(),
+        ),
         _ => false,
     }
 }

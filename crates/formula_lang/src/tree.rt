@@ -38,6 +38,8 @@ pub enum Line {
     Let { name: Name, formula: Tree },
     /// `observe OBSERVER NAME`.
     Observe { observer: Name, name: Name },
+    /// `unobserve OBSERVER`.
+    Unobserve { observer: Name },
     /// `stabilize`.
     Stabilize,
     /// `show OBSERVER`.

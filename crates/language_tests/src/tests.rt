@@ -35,6 +35,8 @@ fn tells_bytes(rt: HostRuntime) -> Result<(), Fail> {
             ("show ", "", letter),
             ("show o", "", letter || digit || space),
             ("", "show o", space),
+            ("unobserve", "o", space),
+            ("unobserve o", "", letter || digit || space),
             ("set x 1", "", digit || space),
             ("set x \"", "\"", plain),
             ("set x \"\\", "\"", escaped),

@@ -1,9 +1,9 @@
 //! Commands, read from tokens.
 ghost use Rattle.std.specs.Prelude.{◌≡◌, IfOk, map, option_map};
-ghost use Rattle.formula_lang.specs.Plain.{plain_command, plain_let, plain_observing, plain_set, plain_stabilize, plain_var, plain_with};
+ghost use Rattle.formula_lang.specs.Plain.{plain_command, plain_ending, plain_let, plain_observing, plain_set, plain_showing, plain_stabilize, plain_var, plain_with};
 ghost use Rattle.formula_lang.specs.TreeView.{line_view};
 ghost use Rattle.formula_lang.specs.View.{token_view};
-ghost use Rattle.script_model.specs.Grammar.{Observe, Show};
+ghost use Rattle.script_model.specs.Grammar.{Observe, Show, Unobserve};
 ghost use Rattle.script_model.specs.Parsing.{one_name, two_names};
 
 use super::cursor::Cursor;
@@ -88,6 +88,20 @@ fn observe_of(alloc: Global, tokens: &mut Cursor<'_, '_>) -> Result<Option<Line>
     Ok(Some(Line::Observe { observer, name }))
 }
 
+/// `unobserve NAME`, behind its first word.
+fn unobserve_of(alloc: Global, tokens: &mut Cursor<'_, '_>) -> Result<Option<Line>, AllocError>
+    ensures { IfOk result (λ found. option_map line_view found ≡ one_name Unobserve tokens.old) }
+{
+    let Some(observer) = name_of(tokens) else {
+        return Ok(None);
+    };
+    if !tokens.is_empty() {
+        return Ok(None);
+    }
+    let observer = Name::new(alloc, observer)?;
+    Ok(Some(Line::Unobserve { observer }))
+}
+
 /// `stabilize`, where that is the word and nothing stands behind it.
 fn stabilize_of(word: &[u8], tokens: &mut Cursor<'_, '_>) -> Option<Line>
     ensures { option_map line_view result ≡ plain_stabilize word.now tokens.old }
@@ -139,6 +153,35 @@ fn observing_with(
 {
     match word {
         b"observe" => observe_of(alloc, tokens),
+        _ => ending_with(alloc, word, tokens),
+    }
+}
+
+/// The ending of an observer, the show or the stabilize that begins with `word` and goes on with
+/// `tokens`.
+fn ending_with(
+    alloc: Global,
+    word: &[u8],
+    tokens: &mut Cursor<'_, '_>,
+) -> Result<Option<Line>, AllocError>
+    ensures { IfOk result (λ found. option_map line_view found ≡ plain_ending word.now tokens.old) }
+{
+    if word == b"unobserve".as_slice() {
+        unobserve_of(alloc, tokens)
+    } else {
+        showing_with(alloc, word, tokens)
+    }
+}
+
+/// The show or the stabilize that begins with `word` and goes on with `tokens`.
+fn showing_with(
+    alloc: Global,
+    word: &[u8],
+    tokens: &mut Cursor<'_, '_>,
+) -> Result<Option<Line>, AllocError>
+    ensures { IfOk result (λ found. option_map line_view found ≡ plain_showing word.now tokens.old) }
+{
+    match word {
         b"show" => show_of(alloc, tokens),
         _ => Ok(stabilize_of(word, tokens)),
     }

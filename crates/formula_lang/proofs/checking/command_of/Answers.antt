@@ -15,3 +15,7 @@ returns-in-Observe g c = rw c.in-Observe.is
 pub returns-in-Show : goal.returns-in-Show
 returns-in-Show g c = rw c.in-Show.is (c.showing.ensures
     (meanings_of (g.L.Library.named c.args.library.now) (g.L.Library.value c.args.library.now)) c.args.names.now)
+
+pub returns-in-Unobserve : goal.returns-in-Unobserve
+returns-in-Unobserve g c = rw c.in-Unobserve.is (c.ending.ensures
+    (meanings_of (g.L.Library.named c.args.library.now) (g.L.Library.value c.args.library.now)) c.args.names.now)
