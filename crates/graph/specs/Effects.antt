@@ -101,7 +101,7 @@ module _ {F : Type 0} where
     pub ran : new.parts.ran ≡ old.parts.ran
     pub unrooted : (p : Point) → root_times new.parts.work.graph.roots p ≤ root_times old.parts.work.graph.roots p
 
--- why a node may not be added, set or observed; and why an observer may not be asked or ended
+-- why a node may not be added, set or observed; why an observer may not be ended, and why not asked
 abbrev pub IsAddFault : GraphFault → Type 0
 IsAddFault e = ((cause : Kept) × (e ≡ fault.Broken cause)) ⊎ (e ≡ fault.Unknown) ⊎ (e ≡ fault.WrongType) ⊎ (e ≡ fault.Full) ⊎ (e ≡ fault.Memory)
 
@@ -110,6 +110,9 @@ IsSetFault e = ((cause : Kept) × (e ≡ fault.Broken cause)) ⊎ (e ≡ fault.U
 
 abbrev pub IsObserveFault : GraphFault → Type 0
 IsObserveFault e = ((cause : Kept) × (e ≡ fault.Broken cause)) ⊎ (e ≡ fault.Unknown) ⊎ (e ≡ fault.TooMany) ⊎ (e ≡ fault.Memory)
+
+abbrev pub IsEndFault : GraphFault → Type 0
+IsEndFault e = ((cause : Kept) × (e ≡ fault.Broken cause)) ⊎ (e ≡ fault.Unknown)
 
 abbrev pub IsObserverFault : GraphFault → Type 0
 IsObserverFault e = ((cause : Kept) × (e ≡ fault.Broken cause)) ⊎ (e ≡ fault.Unknown) ⊎ (e ≡ fault.NotStabilized)

@@ -1,7 +1,7 @@
 //! Graphs.
 ghost use Rattle.std.specs.Prelude.{◌≡◌, ◌↔◌, [], None, Some, IfOk, IfErr, IfSome, IfNone, IsErrOf, OnOk, option_copied};
 ghost use Rattle.inc_value.specs.declared.node.NodeId.{NodeId};
-ghost use Rattle.node_arena.specs.Arena.{row_at, IsLive};
+ghost use Rattle.node_arena.specs.Arena.{row_at, live, IsLive};
 ghost use Rattle.node_arena.specs.Sound.{IsSound as IsSoundArena};
 ghost use Rattle.graph.specs.Sound.{IsSound};
 ghost use Rattle.graph.specs.Standing.{IsUnbroken, IsBroken};
@@ -62,7 +62,10 @@ impl<F: Functions> Graph<F> {
     pub fn new(alloc: Global, functions: F) -> Result<Graph<F>, (AllocError, F)>
         ensures functions { IfOk result (λ g. g.functions ≡ functions) }
         ensures nodes { IfOk result (λ g. (n : NodeId) → row_at g.parts.arena n ≡ None) }
+        ensures live { IfOk result (λ g. live g.parts.arena ≡ 0) }
+        ensures given { IfOk result (λ g. g.parts.arena.given ≡ 0) }
         ensures observers { IfOk result (λ g. g.observers ≡ []) }
+        ensures rooted { IfOk result (λ g. g.rooted ≡ 0) }
         ensures unbroken { IfOk result (λ g. IsUnbroken g) }
         ensures handed_back { IfErr result (λ e. e.1 ≡ functions) }
     {

@@ -2,7 +2,7 @@
 ghost use Rattle.std.specs.Prelude.{IsTrue};
 ghost use Rattle.node_arena.specs.Arithmetic.{is_function};
 
-use graph::{Graph, GraphFault};
+use graph::{Graph, GraphFault, Kept, Refused, StabilizeFault};
 use inc_value::{FnId, FnKind, FnRef, NodeId, ObsId, Outcome, Sig, Ty, Value};
 use node_arena::Functions;
 use std::alloc::{AllocError, Global};
@@ -61,6 +61,7 @@ impl Functions for Arithmetic {
 /// What is done to a graph. Nodes and observers go by the order in which they were made.
 #[derive(Clone, Copy)]
 enum Act {
+    Constant(i64),
     Var(i64),
     Neg(usize),
     Sum(usize, usize),
@@ -68,7 +69,21 @@ enum Act {
     Observe(usize),
     Unobserve(u32),
     Stabilize,
+    /// Stabilizes, and where that is refused tries to go back to a mark made before it.
+    StabilizeOrBack,
     Show(u32),
+    /// Makes the negation of a node and the negation of that, and takes both back.
+    TakeBack(usize),
+    /// Whether a node is live.
+    Live(usize),
+    /// Whether a node is its own owner.
+    Owner(usize),
+    /// How often a node's function was called in the last accepted stabilize.
+    Ran(usize),
+    /// How many functions were called since the graph was made.
+    Calls,
+    /// How many points a refused stabilize met.
+    Points,
 }
 
 /// The sum of two integers.
@@ -100,7 +115,8 @@ fn negation() -> FnRef
 /// A number for each fault.
 fn code(fault: GraphFault) -> i64 {
     match fault {
-        GraphFault::Broken(_) => -101,
+        GraphFault::Broken(Kept::Height) => -101,
+        GraphFault::Broken(_) => -100,
         GraphFault::Unknown => -102,
         GraphFault::NotVar => -103,
         GraphFault::WrongType => -104,
@@ -147,11 +163,95 @@ fn shown(graph: &Graph<Arithmetic>, observer: u32) -> i64 {
     }
 }
 
-/// How many functions were called, or that the graph is broken.
+/// A number for why a stabilize is refused.
+fn refusal(fault: StabilizeFault) -> i64 {
+    match fault {
+        StabilizeFault::Refused(Kept::Height) => -112,
+        StabilizeFault::Broken(Kept::Height) => -101,
+        _ => -100,
+    }
+}
+
+/// How many functions were called, or why none was.
 fn stabilized(graph: &mut Graph<Arithmetic>) -> i64 {
     match graph.stabilize() {
         Ok(()) => graph.round().ran.len() as i64,
-        Err(_) => -101,
+        Err(fault) => refusal(fault),
+    }
+}
+
+/// As `stabilized`. Where a stabilize is refused, `back_to` is refused too.
+fn stabilized_or_back(graph: &mut Graph<Arithmetic>) -> i64 {
+    let mark = match graph.mark() {
+        Ok(mark) => mark,
+        Err(fault) => return code(fault),
+    };
+    match graph.stabilize() {
+        Ok(()) => graph.round().ran.len() as i64,
+        Err(fault) => match graph.back_to(mark) {
+            Err(GraphFault::Broken(Kept::Height)) => refusal(fault),
+            _ => -111,
+        },
+    }
+}
+
+/// Makes the negation of a node and the negation of that, and takes both back. Their ids are kept.
+fn taken_back(graph: &mut Graph<Arithmetic>, nodes: &mut Vec<NodeId>, kid: NodeId) -> i64 {
+    let mark = match graph.mark() {
+        Ok(mark) => mark,
+        Err(fault) => return code(fault),
+    };
+    let first = made(nodes, graph.map(negation(), &[kid]));
+    let made_now = nth(nodes, nodes.len().saturating_sub(1));
+    let second = made(nodes, graph.map(negation(), &[made_now]));
+    match graph.back_to(mark) {
+        Ok(()) => first.min(second),
+        Err(fault) => code(fault),
+    }
+}
+
+/// 1 where the node is live, else 0, or the fault's number.
+fn live(graph: &Graph<Arithmetic>, node: NodeId) -> i64 {
+    match graph.is_live(node) {
+        Ok(true) => 1,
+        Ok(false) => 0,
+        Err(fault) => code(fault),
+    }
+}
+
+/// 1 where the node is its own owner, else 0.
+fn owned(graph: &Graph<Arithmetic>, node: NodeId) -> i64 {
+    match graph.owner(node) {
+        Some(owner) if owner == node => 1,
+        _ => 0,
+    }
+}
+
+/// How often a node's function was called in the last accepted stabilize.
+fn times_run(graph: &Graph<Arithmetic>, node: NodeId) -> i64 {
+    let mut times: i64 = 0;
+    for ran in graph.round().ran {
+        if *ran == node {
+            times = times.saturating_add(1);
+        }
+    }
+    times
+}
+
+/// How many functions were called since the graph was made.
+fn called(graph: &Graph<Arithmetic>) -> i64 {
+    match i64::try_from(graph.functions().calls) {
+        Ok(calls) => calls,
+        Err(_) => -114,
+    }
+}
+
+/// How many points a refused stabilize met in a row; 0 of an unbroken graph.
+fn points(graph: &Graph<Arithmetic>) -> i64 {
+    match graph.broken() {
+        Some(Refused::Height(points)) => points.len() as i64,
+        Some(_) => -110,
+        None => 0,
     }
 }
 
@@ -164,6 +264,7 @@ fn observed(graph: &mut Graph<Arithmetic>, node: NodeId) -> i64 {
 
 fn perform(graph: &mut Graph<Arithmetic>, nodes: &mut Vec<NodeId>, act: Act) -> i64 {
     match act {
+        Act::Constant(value) => made(nodes, graph.constant(Value::Int(value))),
         Act::Var(value) => made(nodes, graph.var(Value::Int(value))),
         Act::Neg(kid) => {
             let kid = nth(nodes, kid);
@@ -177,7 +278,14 @@ fn perform(graph: &mut Graph<Arithmetic>, nodes: &mut Vec<NodeId>, act: Act) -> 
         Act::Observe(i) => observed(graph, nth(nodes, i)),
         Act::Unobserve(observer) => told(graph.unobserve(ObsId(observer))),
         Act::Stabilize => stabilized(graph),
+        Act::StabilizeOrBack => stabilized_or_back(graph),
         Act::Show(observer) => shown(graph, observer),
+        Act::TakeBack(kid) => taken_back(graph, nodes, nth(nodes, kid)),
+        Act::Live(i) => live(graph, nth(nodes, i)),
+        Act::Owner(i) => owned(graph, nth(nodes, i)),
+        Act::Ran(i) => times_run(graph, nth(nodes, i)),
+        Act::Calls => called(graph),
+        Act::Points => points(graph),
     }
 }
 
@@ -195,32 +303,44 @@ fn answers(alloc: Global, acts: &[Act]) -> Result<Vec<i64>, AllocError> {
     Ok(numbers)
 }
 
-/// A variable with so many negations over it, observed and stabilized, and what a broken graph answers.
+/// A variable with so many negations over it, observed and stabilized; then every call once.
 fn chain(alloc: Global, length: usize) -> Result<Vec<i64>, AllocError> {
     let mut acts = Vec::new(alloc);
     acts.push(Act::Var(1))?;
     for i in 0..length {
         acts.push(Act::Neg(i))?;
     }
-    acts.push(Act::Observe(length))?;
-    acts.push(Act::Stabilize)?;
-    acts.push(Act::Show(0))?;
-    acts.push(Act::Var(1))?;
-    acts.push(Act::Set(0, 2))?;
-    acts.push(Act::Unobserve(0))?;
-    acts.push(Act::Stabilize)?;
+    let then = [
+        Act::Observe(length),
+        Act::StabilizeOrBack,
+        Act::Show(0),
+        Act::Observe(0),
+        Act::Unobserve(0),
+        Act::Set(0, 2),
+        Act::Constant(1),
+        Act::Var(1),
+        Act::Neg(0),
+        Act::TakeBack(0),
+        Act::Live(0),
+        Act::Stabilize,
+        Act::Owner(0),
+        Act::Points,
+    ];
+    for act in &then {
+        acts.push(*act)?;
+    }
     answers(alloc, &acts)
 }
 
-/// Six of the numbers, from a place on. One that isn't there is -1.
-fn six_from(numbers: &[i64], start: usize) -> [i64; 6] {
-    let mut six = [-1; 6];
-    for i in 0..6 {
+/// Thirteen of the numbers, from a place on. One that isn't there is -1.
+fn thirteen_from(numbers: &[i64], start: usize) -> [i64; 13] {
+    let mut some = [-1; 13];
+    for i in 0..13 {
         if let Some(number) = numbers.get(start.saturating_add(i)) {
-            six[i] = *number;
+            some[i] = *number;
         }
     }
-    six
+    some
 }
 
 #[test]
@@ -233,14 +353,24 @@ fn a_diamond_is_run_once_a_node(rt: HostRuntime) -> Result<(), Fail> {
         Act::Observe(3),
         Act::Show(0),
         Act::Stabilize,
+        Act::Calls,
         Act::Set(0, 3),
         Act::Show(0),
         Act::Stabilize,
         Act::Show(0),
+        Act::Calls,
+        Act::Ran(0),
+        Act::Ran(1),
+        Act::Ran(2),
+        Act::Ran(3),
+        Act::Stabilize,
         Act::Set(0, 3),
         Act::Stabilize,
+        Act::Calls,
     ];
-    let want = [0, 0, 0, 0, 0, -105, 3, 0, -4, 3, -6, 0, 0];
+    let want = [
+        0, 0, 0, 0, 0, -105, 3, 3, 0, -4, 3, -6, 6, 0, 1, 1, 1, 0, 0, 0, 6,
+    ];
     assert_eq!(rt; answers(rt.alloc(), &acts)?.as_slice(), want.as_slice());
     Ok(())
 }
@@ -270,11 +400,37 @@ fn what_is_not_observed_is_not_run(rt: HostRuntime) -> Result<(), Fail> {
 #[test]
 fn a_chain_of_130_breaks_the_graph(rt: HostRuntime) -> Result<(), Fail> {
     let fits = chain(rt.alloc(), 128)?;
-    assert_eq!(rt; six_from(&fits, 130), [128, 1, 0, 0, 0, 0]);
+    let want = [128, 1, 0, 0, 0, 0, 0, 0, 0, 1, 0, 1, 0];
+    assert_eq!(rt; thirteen_from(&fits, 130), want);
     let breaks = chain(rt.alloc(), 129)?;
-    assert_eq!(rt;
-        six_from(&breaks, 131),
-        [-101, -101, -101, -101, -101, -101]
-    );
+    let want = [
+        -112, -101, -101, -101, -101, -101, -101, -101, -101, -101, -101, 1, 130,
+    ];
+    assert_eq!(rt; thirteen_from(&breaks, 131), want);
+    Ok(())
+}
+
+#[test]
+fn what_is_taken_back_is_dead(rt: HostRuntime) -> Result<(), Fail> {
+    let acts = [
+        Act::Var(2),
+        Act::Neg(0),
+        Act::TakeBack(1),
+        Act::Live(0),
+        Act::Live(1),
+        Act::Live(2),
+        Act::Live(3),
+        Act::Owner(3),
+        Act::Set(2, 1),
+        Act::Var(5),
+        Act::Live(4),
+        Act::Observe(1),
+        Act::Observe(2),
+        Act::Stabilize,
+        Act::Show(0),
+        Act::Show(1),
+    ];
+    let want = [0, 0, 0, 1, 1, 0, 0, 0, -103, 0, 1, 0, 0, 1, -2, -109];
+    assert_eq!(rt; answers(rt.alloc(), &acts)?.as_slice(), want.as_slice());
     Ok(())
 }

@@ -74,6 +74,20 @@ fn scripts(rt: HostRuntime) -> Result<(), Fail> {
             3,
         ),
         (
+            "var x int 3\nlet y add(x, 4)\nobserve o y\nstabilize\nshow o\n\
+             unobserve o\nset x 9\nstabilize\nshow o\n",
+            "ok\nok\nok\nstable 1\no = 7\nok\nok\nstable 2\nrefused 11\n",
+            1,
+            1,
+        ),
+        (
+            "var x int 3\nlet y add(x, 4)\nobserve o y\nstabilize\nshow o\n\
+             unobserve o\nobserve q y\nstabilize\nshow q\n",
+            "ok\nok\nok\nstable 1\no = 7\nok\nok\nstable 2\nq = 7\n",
+            0,
+            1,
+        ),
+        (
             "var t text \"a\\\"b\"\nlet u t\nset u \"\\\\\"\nobserve o u\nstabilize\nshow o",
             "ok\nok\nok\nok\nstable 1\no = \"\\\\\"\n",
             0,
@@ -192,6 +206,27 @@ fn ten_thousand_lines(rt: HostRuntime) -> Result<(), Fail> {
     let (sink, status) = transcribed(alloc, &script)?;
     assert_eq!(rt; sink.written(), output.as_bytes());
     assert_eq!(rt; status, 0);
+    Ok(())
+}
+
+#[test]
+fn a_chain_that_is_too_long(rt: HostRuntime) -> Result<(), Fail> {
+    let alloc = rt.alloc();
+    let mut script = "var n0 int 1\n".to_string(alloc)?;
+    let mut output = "ok\n".to_string(alloc)?;
+    let mut below = 0;
+    for number in 1..129u64 {
+        script.push_str(&format!(in alloc; "let n{number} neg(n{below})\n")?)?;
+        output.push_str("ok\n")?;
+        below = number;
+    }
+    script.push_str("observe o n128\nstabilize\nshow o\n")?;
+    output.push_str("ok\nstable 1\no = 1\n")?;
+    script.push_str("let n129 neg(n128)\nobserve p n129\nstabilize\nshow o\n")?;
+    output.push_str("ok\nok\nrefused 21 height n129\nrefused 22 21\n")?;
+    let (sink, status) = transcribed(alloc, &script)?;
+    assert_eq!(rt; sink.written(), output.as_bytes());
+    assert_eq!(rt; status, 1);
     Ok(())
 }
 

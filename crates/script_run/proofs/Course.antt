@@ -17,8 +17,8 @@ use Rattle.script_model.specs.Run.{Turn, IsTurn, unchanged, Chain, bytes_of, is_
 use Rattle.script_model.specs.Step.{Moment, Reply, Refusal, Refused, is_refusal, first_moment}
 use Rattle.session.specs.declared.answer.Did.{Did}
 use Rattle.session.specs.declared.answer.Did.TheVariants as did
-use Rattle.session.specs.Kept.{Kept}
-use Rattle.session.specs.State.{Stands}
+use Rattle.script_graph.specs.Kept.{Kept}
+use Rattle.script_graph.specs.State.{Stands}
 use Rattle.session.specs.Taken.{Says, Takes, Stops}
 use Rattle.script_run.proofs.Counts.{AreCounts-more}
 use Rattle.script_run.proofs.Turns.{turn_tells, turn_is_alike}

@@ -1,7 +1,6 @@
 -- What a turn's replies tell: whether it was an accepted stabilize, and whether it was refused.
 use Rattle.std.proofs.Common.{◌≡◌, ℕ, ◌+◌, Bool, true, false, ◌||◌, List, [], ◌∷◌, Option, None, Some, map, refl, sym, ◌∙◌, ap, subst, arith}
 use Rattle.std.specs.List.{list_any}
-use Rattle.script_model.specs.Blocked.{is_judged}
 use Rattle.script_model.specs.Check.{Command, Declare, Assign, Link, Unlink, Stale, Take, Observe, Unobserve, Watch, Show, Advance, Stabilize}
 use Rattle.script_model.specs.Formula.{Meanings, State}
 use Rattle.script_model.specs.Request.{Request, TooLong, Blank, Malformed, TooDeep, Asks}
@@ -78,8 +77,8 @@ stabilize_told F m after replies (settles notices free s settled unbroken is) = 
   round = record { rose = λ told. s.accepted; stayed = λ none. absurd (let told = ap (list_any tells_stable) is in cc) };
   alike = λ first more are plain. ap (list_any is_refusal) is ∙ notices_plain notices;
 }
-stabilize_told F m after replies (by_cycle targets n judged cycle among met leads is) = refusal_told m after _ replies (ap (λ (x : Moment). x.present) leads) is
-stabilize_told F m after replies (by_height target i judged met deep printed leads is) = refusal_told m after _ replies (ap (λ (x : Moment). x.present) leads) is
+stabilize_told F m after replies (by_cycle targets n come cycle among met leads is) = refusal_told m after _ replies (ap (λ (x : Moment). x.present) leads) is
+stabilize_told F m after replies (by_height target i met deep printed leads is) = refusal_told m after _ replies (ap (λ (x : Moment). x.present) leads) is
 
 command_told : (m after : Moment) (c : Command) (replies : List Reply) → after.present ≡ effect m.present c → replies ≡ reply_to m.present c ∷ [] → AreTold m after replies
 command_told m after c replies leads is =

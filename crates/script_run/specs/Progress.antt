@@ -6,8 +6,8 @@ use Rattle.script_io.specs.Reading.{ReadSoFar}
 use Rattle.script_model.specs.Formula.{Meanings}
 use Rattle.script_model.specs.Run.{Chain, lines_read, any_refused}
 use Rattle.script_model.specs.Step.{Moment, first_moment}
-use Rattle.session.specs.Kept.{Kept}
-use Rattle.session.specs.State.{Stands}
+use Rattle.script_graph.specs.Kept.{Kept}
+use Rattle.script_graph.specs.State.{Stands}
 use Rattle.script_run.specs.Counts.{Counted, AreCounts, turns_of}
 use Rattle.script_run.specs.Running.{Outside}
 use Rattle.script_run.specs.Telling.{Behind, all_told}

@@ -1,19 +1,21 @@
 -- From what a command leads to, to what the line is answered with.
 use Rattle.std.proofs.Common.{◌≡◌, ℕ, Bool, true, false, List, [], ◌∷◌, ◌++◌, ◌||◌, cond, Option, None, Some, refl, sym, ◌∙◌, ap, subst, arith}
 use Rattle.script_model.specs.Check as check
-use Rattle.script_model.specs.Check.{Command, Names, Reason, SessionBroken, NameTaken, NotStabilized, NotBuilt, NotLinked, TooManyLinks, TooManyPlaces, command_of, first_that, is_against, line_order, names_of, reason_number}
+use Rattle.script_model.specs.Check.{Command, Declared, Names, Reason, SessionBroken, NameTaken, NotStabilized, NotBuilt, NotLinked, TooManyLinks, TooManyPlaces, command_of, first_that, is_against, line_order, names_of, reason_number}
 use Rattle.inc_value.specs.Choice.{Every}
 use Rattle.script_model.specs.Formula.{Meanings, State}
 use Rattle.script_model.specs.Grammar as grammar
 use Rattle.script_model.specs.Grammar.{Line}
-use Rattle.script_model.specs.Request.{Request, TooLong, Malformed, TooDeep, Asks, IsRequest}
+use Rattle.script_model.specs.Request.{Request, TooLong, Asks, IsRequest}
 use Rattle.script_model.specs.Run as run
-use Rattle.script_model.specs.Step.{Moment, Refusal, Reply, Verdict, LineTooLong, NoCommand, LineTooDeep, Because, Broken, Refuse, Refused, Refuses, Follows, Answers, bars, holds, is_barred, number_of, order, printed, verdict_for, verdict_of}
+use Rattle.script_model.specs.Step.{Moment, Refusal, LineTooLong, Because, Broken, Refuse, Refused, Follows, Answers, bars, holds, is_barred, number_of, order, printed, verdict_for, verdict_of}
+use Rattle.script_model.proofs.Names.{command_same, against_same}
 use Rattle.script_model.proofs.Steps.{Never, only_stabilize}
 use Rattle.session.specs.Answered.{IsAnswered, state_order, verdict_on}
-use Rattle.session.specs.Kept.{Kept}
+use Rattle.script_graph.specs.Kept.{Kept}
 use Rattle.session.specs.Replies.{broken_line, refused_line}
-use Rattle.session.specs.State.{Stands}
+use Rattle.script_graph.specs.Represents.{AreNames}
+use Rattle.script_graph.specs.State.{Stands}
 use Rattle.session.specs.Taken.{Takes}
 use Rattle.session.specs.declared.answer.Did.{Did}
 use Rattle.session.specs.declared.answer.Did.TheVariants as did
@@ -139,6 +141,33 @@ pub stabilize_line : (F : Meanings) (names : Names) (l : Line) → command_of F 
 stabilize_line F names grammar.Stabilize is = refl
 stabilize_line F names l is = absurd (subst Never is (only_stabilize F names l (λ same. absurd (cc))))
 
+-- ---- names
+
+-- the names are those of the state, but for the order of the observers'
+names_are : (names : Names) (s : State) → AreNames names s → names ≡ record (names_of s) { observers = names.observers }
+names_are names s are =
+    let declared : names ≡ record names { declared = (names_of s).declared } =
+    ap (λ (ds : List Declared). record names { declared = ds }) are.declared in
+    declared ∙ ap (λ (n : ℕ). record (names_of s) { observers = names.observers; now = n }) are.now
+
+-- what a line comes to is the same over both
+command_there : (F : Meanings) (names : Names) (s : State) (l : Line) → AreNames names s → command_of F names l ≡ command_of F (names_of s) l
+command_there F names s l are = ap (λ (n : Names). command_of F n l) (names_are names s are) ∙ command_same F (names_of s) names.observers l
+
+against_there : (F : Meanings) (names : Names) (s : State) (l : Line) (r : Reason) → AreNames names s
+    → is_against F names l r ≡ is_against F (names_of s) l r
+against_there F names s l r are =
+    ap (λ (n : Names). is_against F n l r) (names_are names s are) ∙ against_same F (names_of s) names.observers are.in_use l r
+
+every_one : {A : Type 0} (P : A → Type 0) (xs : List A) → ((x : A) → P x) → Every P xs
+every_one P [] all = tt
+every_one P (x ∷ xs) all = (all x, every_one P xs all)
+
+first_there : (F : Meanings) (names : Names) (s : State) (l : Line) → AreNames names s
+    → first_that (is_against F (names_of s) l) line_order ≡ first_that (is_against F names l) line_order
+first_there F names s l are =
+    first_same (is_against F (names_of s) l) (is_against F names l) line_order (every_one _ line_order (λ r. sym (against_there F names s l r are)))
+
 -- ---- lines
 
 pub answered_followed : (F : Meanings) (k new : Kept) (m : Moment) (l : Line) (c : Command) (written appended : List ℕ) (called calls : ℕ) (how : Did)
@@ -147,8 +176,8 @@ pub answered_followed : (F : Meanings) (k new : Kept) (m : Moment) (l : Line) (c
     → IsAnswered F m (Follows F m (verdict_on m c)) new written appended called calls how
     → IsAnswered F m (Answers F m (Asks l)) new written appended called calls how
 answered_followed F k new m l c written appended called calls how st unbroken none is h =
-    let none_there = subst (λ (n : Names). first_that (is_against F n l) line_order ≡ None) st.names none in
-    let there = subst (λ (n : Names). command_of F n l ≡ Some c) st.names is in
+    let none_there = first_there F k.names m.present l st.names ∙ none in
+    let there = sym (command_there F k.names m.present l st.names) ∙ is in
     let verdict = verdict_allowed F m l c (st.broken ∙ unbroken) none_there there in
     record {
       after = h.after;
@@ -184,7 +213,7 @@ pub answered_refused : (F : Meanings) (k : Kept) (m : Moment) (l : Line) (why : 
     → first_that (is_against F k.names l) line_order ≡ Some why → reason_number why ≡ n → appended ≡ written ++ refused_line n
     → IsAnswered F m (Answers F m (Asks l)) k written appended calls calls (did.Refused n)
 answered_refused F k m l why n written appended calls st unbroken is number print =
-    let there = subst (λ (x : Names). first_that (is_against F x l) line_order ≡ Some why) st.names is in
+    let there = first_there F k.names m.present l st.names ∙ is in
     let verdict = verdict_refused F m l why (st.broken ∙ unbroken) there in
     subst (λ j. IsAnswered F m (Answers F m (Asks l)) k written appended calls calls (did.Refused j)) number
     (refused_with F k m (Asks l) (Because why) written appended calls st

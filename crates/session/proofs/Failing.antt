@@ -44,3 +44,7 @@ no_ok (Err e) P is = tt
 pub none_of : {A : Type 0} (o : Option A) → ((x : A) → o ≡ Some x → ⊥) → o ≡ None
 none_of None not_some = refl
 none_of (Some x) not_some = absurd (not_some x refl)
+
+pub on_ok_both : {T E : Type 0} (r : Result T E) (A B : Type 0) → OnOk r A → OnOk r B → OnOk r (A × B)
+on_ok_both (Ok x) A B a b = (a, b)
+on_ok_both (Err e) A B a b = tt

@@ -1,41 +1,31 @@
--- What commands that are carried out or refused lead to: observing, showing, stabilizing.
-use Rattle.std.proofs.Common.{◌≡◌, ℕ, zero, suc, ◌+◌, ◌<◌, ◌≤◌, Bool, true, false, cond, List, [], ◌∷◌, ◌++◌, length, map, slice_get, Option, None, Some, option_map, append_assoc, refl, sym, ◌∙◌, ap, subst, append-nil, arith}
-use Rattle.std.proofs.lemmas.List.{map-append}
-use Rattle.std.proofs.lemmas.Slice.Eq.{bytes_eq-Decides}
+-- What commands that are carried out or refused lead to.
+use Rattle.std.proofs.Common.{◌≡◌, ℕ, zero, suc, ◌+◌, ◌<◌, ◌≤◌, true, false, List, [], ◌∷◌, ◌++◌, map, slice_get, None, Some, refl, sym, ◌∙◌, ap, subst, append-nil, arith}
+use Rattle.std.proofs.lemmas.Bool.{le-ltb, lt-ltb}
+use Rattle.std.proofs.Math.Dec.{ltb}
 use Rattle.std.specs.List.{flat_map}
 use Rattle.std.specs.Prelude.{codes}
-use Rattle.std.specs.Str.{bytes_eq}
 use Rattle.inc_value.specs.Outcome as engine
 use Rattle.inc_value.specs.declared.outcome.Outcome as declared
-use Rattle.inc_value.specs.declared.outcome.Outcome.TheVariants as outcome
-use Rattle.inc_value.specs.declared.value.Value.{Value}
-use Rattle.inc_value.specs.declared.value.Value.TheVariants as value
-use Rattle.script_model.specs.Blocked.{InTheWay, on_cycle, too_deep}
-use Rattle.script_model.specs.Check.{Names, Observe, Show, Stabilize, NotStabilized, names_of}
-use Rattle.script_model.specs.Formula as model
-use Rattle.script_model.specs.Formula.{Meanings, State}
+use Rattle.inc_value.specs.Value as held
+use Rattle.inc_value.specs.declared.ty.Ty.{Ty}
+use Rattle.script_model.specs.Check as check
+use Rattle.script_model.specs.Check.{Command, Declare, Declared, Names, Show, Stabilize, NotStabilized, TooManyPlaces, declared_of, names_of}
+use Rattle.script_model.specs.Formula.{Body, Entry, Meanings, State, places_of, places_of_body}
 use Rattle.script_model.specs.Grammar as grammar
-use Rattle.script_model.specs.Need.{Item}
-use Rattle.script_model.specs.Request.{Asks}
 use Rattle.script_model.specs.Run as run
 use Rattle.script_model.specs.Run.{Halts, most_calls}
-use Rattle.script_model.specs.Step.{Moment, Reply, name_of, Done, Stable, Shown, Refused, Because, Refusal, Verdict, Settle, Act, Refuse, printed, find_observer, shown_by, new_observer, Follows, Stabilizes, settles, verdict_of}
-use Rattle.script_model.specs.Values.{printed_outcome}
+use Rattle.script_model.specs.Step.{Moment, Reply, name_of, moved, reply_to, Done, Stable, Shown, Refused, Height, Because, Settle, Act, Refuse, printed, Follows, Stabilizes, settles, by_cycle, by_height, verdict_of}
+use Rattle.script_model.specs.Values.{Outcome, Val, Invalid, Int, Text, Reference, printed_outcome}
+use Rattle.script_model.specs.Values as values
+use Rattle.script_graph.specs.Kept.{Kept}
+use Rattle.script_graph.specs.Represents.{AreNames, IsBaseOutcome}
+use Rattle.script_graph.specs.Shown.{ShowsIt, ShowsNothing, engine_outcome}
+use Rattle.script_graph.specs.Stabilizing.{IsAccepted, IsTooDeep, IsCutShort}
+use Rattle.script_graph.specs.State.{Stands}
 use Rattle.session.specs.Answered.{Extends, IsAnswered, verdict_on}
-use Rattle.session.specs.Declaring.{with_break, with_observer}
-use Rattle.session.specs.Kept.{IsNoReference, Kept, IsSound, ShowsNoReference}
-use Rattle.session.specs.LastCall.{LastCall}
-use Rattle.session.specs.Places.{calls_among, held_value}
-use Rattle.session.specs.Replies.{line_of, done_line, shown_line, refused_line, stable_line}
-use Rattle.session.specs.Settling.{IsUpdate, shown_with}
-use Rattle.session.specs.Standing.{observer_of, observers_of, outcome_from_engine, settled_state}
-use Rattle.session.specs.State.{Stands}
+use Rattle.session.specs.Replies.{line_of, done_line, shown_line, refused_line, stable_line, too_deep_line, name_in}
 use Rattle.session.specs.Taken.{AsksStabilize, Stops}
 use Rattle.session.specs.declared.answer.Did.TheVariants as did
-use Rattle.session.specs.declared.place.Observer.{Observer}
-use Rattle.session.proofs.Extended.{same_represents}
-use Rattle.session.proofs.Lists.{every_at}
-use Rattle.session.proofs.Updated.{update_settles}
 
 -- ---- replies
 
@@ -47,267 +37,221 @@ appended_one s written appended r h = h ∙ ap (λ l. written ++ l) (sym (append
 pub nothing_more : (old new : List ℕ) → new ≡ old → Extends old new
 nothing_more old new same = ([], same ∙ sym (append-nil old))
 
--- an outcome that is no reference prints the same in the model
-printed_same : (names : ℕ → List ℕ) (o : declared.Outcome) → IsNoReference o
-    → printed_outcome names (outcome_from_engine o) ≡ engine.printed_outcome [] o
-printed_same names (outcome.Val (value.Int z)) base = refl
-printed_same names (outcome.Val (value.Bool b)) base = refl
-printed_same names (outcome.Val (value.Text bytes)) base = refl
-printed_same names (outcome.Val (value.Node id b)) base = absurd base
-printed_same names outcome.Invalid base = refl
-
-shown_same : (s : State) (name : List ℕ) (o : declared.Outcome) → IsNoReference o → shown_line name o ≡ printed s (Shown name (outcome_from_engine o))
-shown_same s name o base = ap (λ l. line_of (name ++ codes " = " ++ l)) (sym (printed_same (name_of s) o base))
-
 -- ---- want of memory
 
-pub stops_idle : (F : Meanings) (k : Kept) (m : Moment) (line : List ℕ) (calls : ℕ) → Stands F k m → Stops F m line k calls calls
-stops_idle F k m line calls st = record { after = m; due = 0; halts = run.unchanged refl refl; stands = st; within = omega arith }
+-- a line that changed nothing that counts
+pub stops_standing : (F : Meanings) (new : Kept) (m : Moment) (line : List ℕ) (calls : ℕ) → Stands F new m → Stops F m line new calls calls
+stops_standing F new m line calls st = record { after = m; due = 0; halts = run.unchanged refl refl; stands = st; within = omega arith }
 
--- a stabilize that found no memory, and breaks the session
-pub stops_broken : (F : Meanings) (k : Kept) (m : Moment) (line : List ℕ) (called calls : ℕ) → AsksStabilize line → k.broken ≡ None → Stands F k m
-    → calls ≤ called + calls_among k.places
-    → Stops F m line (with_break k 0) called calls
-stops_broken F k m line called calls asks unbroken st bound = record {
+-- a stabilize that breaks the session
+stops_broken : (F : Meanings) (new : Kept) (m : Moment) (line : List ℕ) (called calls : ℕ) → AsksStabilize line → m.broken ≡ None
+    → Stands F new (record m { broken = Some 0 }) → calls ≤ called + most_calls m.present → Stops F m line new called calls
+stops_broken F new m line called calls asks unbroken st bound = record {
   after = record m { broken = Some 0 };
   due = most_calls m.present;
-  halts = run.broken asks (st.broken ∙ unbroken) refl (omega arith);
-  stands = record {
-    names = st.names;
-    observers = st.observers;
-    accepted = st.accepted;
-    broken = refl;
-    items = st.items;
-    represents = st.represents;
-    right = st.right;
-    ran = st.ran;
-  };
-  within = omega (arith, bound, st.represents.calls);
+  halts = run.broken asks unbroken refl (omega arith);
+  stands = st;
+  within = bound;
 }
 
--- ---- observing
+-- ---- commands that are accepted
 
-abbrev fresh : ℕ → Observer
-fresh target = record { target = target; shown = None }
-
-observers-more : (names : List (List ℕ)) (os : List Observer) (name : List ℕ) (target : ℕ) → length os ≡ length names
-    → observers_of (names ++ name ∷ []) (os ++ fresh target ∷ []) ≡ observers_of names os ++ new_observer name target ∷ []
-observers-more [] [] name target e = refl
-observers-more [] (o ∷ os) name target e = absurd (omega arith)
-observers-more (n ∷ ns) [] name target e = absurd (omega arith)
-observers-more (n ∷ ns) (o ∷ os) name target e = ap (λ rest. observer_of n o ∷ rest) (observers-more ns os name target (omega arith))
-
--- the state with an observer more
-abbrev pub observed_state : State → List ℕ → ℕ → State
-observed_state s name target = record s { observers = s.observers ++ new_observer name target ∷ [] }
-
-names_observing : (s : State) (name : List ℕ) (target : ℕ) → record (names_of s) { observers = (names_of s).observers ++ name ∷ [] } ≡ names_of
-    (observed_state s name target)
-names_observing s name target =
-    ap (λ (os : List (List ℕ)). record (names_of s) { observers = os })
-    (sym (map-append (λ (o : model.Observer). o.name) s.observers (new_observer name target ∷ [])))
-
-observing_stands : (F : Meanings) (k : Kept) (m : Moment) (name : List ℕ) (target : ℕ) → Stands F k m → IsSound k
-    → Stands F (with_observer k name target) (record m { present = observed_state m.present name target })
-observing_stands F k m name target st sound = record {
-  names = ap (λ (n : Names). record n { observers = n.observers ++ name ∷ [] }) st.names ∙ names_observing m.present name target;
-  observers = ap (λ os. os ++ new_observer name target ∷ []) st.observers
-      ∙ sym (observers-more k.names.observers k.observers name target sound.one_observer_each);
-  accepted = st.accepted;
-  broken = st.broken;
-  items = st.items;
-  represents = same_represents m.present (m.present.observers ++ new_observer name target ∷ []) m.present.accepted k.roots k.places st.items
-      st.represents;
-  right = st.right;
-  ran = st.ran;
+-- a command against which nothing stands, and that is answered so
+pub followed_done : (F : Meanings) (new : Kept) (m : Moment) (command : Command) (calls : ℕ) (written appended : List ℕ)
+    → verdict_on m command ≡ Act command → reply_to m.present command ≡ Done → Stands F new (moved m command) → appended ≡ written ++ done_line
+    → IsAnswered F m (Follows F m (verdict_on m command)) new written appended calls calls did.Accepted
+followed_done F new m command calls written appended acts reply st print = record {
+  after = moved m command;
+  replies = Done ∷ [];
+  leads = subst (λ v. Follows F m v (moved m command) (Done ∷ [])) (sym acts) (refl, ap (λ r. r ∷ []) (sym reply));
+  work = 0;
+  due = refl;
+  stands = st;
+  printed_are = appended_one (moved m command).present written appended Done print;
+  within = omega arith;
+  says = (Done, [], refl, refl);
 }
 
-pub followed_observe : (F : Meanings) (k new : Kept) (m : Moment) (name : List ℕ) (target calls : ℕ) (written appended : List ℕ) → Stands F k m
-    → IsSound k
-    → new ≡ with_observer k name target → appended ≡ written ++ done_line
-    → IsAnswered F m (Follows F m (verdict_on m (Observe name target))) new written appended calls calls did.Accepted
-followed_observe F k new m name target calls written appended st sound is print =
-    let after = record m { present = observed_state m.present name target } in
-    record {
-      after = after;
-      replies = Done ∷ [];
-      leads = (refl, refl);
-      work = 0;
-      due = refl;
-      stands = subst (λ (x : Kept). Stands F x after) (sym is) (observing_stands F k m name target st sound);
-      printed_are = appended_one after.present written appended Done print;
-      within = omega arith;
-      says = (Done, [], refl, refl);
-    }
+-- a refusal that changes nothing
+refused_because : (F : Meanings) (k : Kept) (m : Moment) (command : Command) (why : check.Reason) (calls : ℕ) (written appended : List ℕ)
+    → verdict_on m command ≡ Refuse (Because why) → Stands F k m → appended ≡ written ++ printed m.present (Refused (Because why))
+    → IsAnswered F m (Follows F m (verdict_on m command)) k written appended calls calls (did.Refused (check.reason_number why))
+refused_because F k m command why calls written appended refuses st print = record {
+  after = m;
+  replies = Refused (Because why) ∷ [];
+  leads = subst (λ v. Follows F m v m (Refused (Because why) ∷ [])) (sym refuses) (refl, refl);
+  work = 0;
+  due = refl;
+  stands = st;
+  printed_are = appended_one m.present written appended (Refused (Because why)) print;
+  within = omega arith;
+  says = (Because why, refl, refl);
+}
+
+-- ---- declarations
+
+module _ (F : Meanings) (k : Kept) (m : Moment) (st : Stands F k m) (unbroken : k.broken ≡ None) (name : List ℕ) (ty : Ty) (body : Body) where
+  room_is : k.room + places_of m.present ≡ 1048575
+  room_is = (st.holds (st.broken ∙ unbroken)).represents.room
+
+  pub followed_declare : (new : Kept) (calls : ℕ) (written appended : List ℕ) → places_of_body body ≤ k.room
+      → Stands F new (moved m (Declare name ty body)) → appended ≡ written ++ done_line
+      → IsAnswered F m (Follows F m (verdict_on m (Declare name ty body))) new written appended calls calls did.Accepted
+  followed_declare new calls written appended enough now print =
+      let few : ltb 1048575 (places_of m.present + places_of_body body) ≡ false =
+      le-ltb 1048575 (places_of m.present + places_of_body body) (omega (arith, room_is, enough)) in
+      followed_done F new m (Declare name ty body) calls written appended (rw few refl) refl now print
+
+  pub refused_declare : (calls : ℕ) (written appended : List ℕ) → k.room < places_of_body body → appended ≡ written ++ refused_line 19
+      → IsAnswered F m (Follows F m (verdict_on m (Declare name ty body))) k written appended calls calls (did.Refused 19)
+  refused_declare calls written appended short print =
+      let many : ltb 1048575 (places_of m.present + places_of_body body) ≡ true =
+      lt-ltb 1048575 (places_of m.present + places_of_body body) (omega (arith, room_is, short)) in
+      refused_because F k m (Declare name ty body) TooManyPlaces calls written appended (rw many refl) st print
 
 -- ---- showing
 
--- the observer of a name, by the first place where the name stands
-find_by_place : (names : List (List ℕ)) (os : List Observer) (i : ℕ) (name : List ℕ) (o : Observer) → slice_get names i ≡ Some name
-    → ((j : ℕ) → j < i → slice_get names j ≡ Some name → ⊥) → slice_get os i ≡ Some o
-    → find_observer (observers_of names os) name ≡ Some (observer_of name o)
-find_by_place [] os i name o at first there = absurd (cc)
-find_by_place (n ∷ ns) [] i name o at first there = absurd (cc)
-find_by_place (n ∷ ns) (p ∷ os) zero name o at first there =
-    let same_name : n ≡ name = cc in
-    let same : p ≡ o = cc in
-    let test : bytes_eq name n ≡ true = (bytes_eq-Decides name n).1 (sym same_name) in
-    rw (test, same_name, same) refl
-find_by_place (n ∷ ns) (p ∷ os) (suc i) name o at first there = go (bytes_eq name n) refl
-    (find_by_place ns os i name o at (λ j h e. first (suc j) (omega arith) e) there)
-  where
-    go : (b : Bool) → bytes_eq name n ≡ b → find_observer (observers_of ns os) name ≡ Some (observer_of name o)
-        → cond b (Some (observer_of n p)) (find_observer (observers_of ns os) name) ≡ Some (observer_of name o)
-    go true is rest = let same : name ≡ n = (bytes_eq-Decides name n).0 is in absurd (first 0 (omega arith) (ap (λ x. Some x) (sym same)))
-    go false is rest = rest
+-- an outcome that is no reference prints the same in the model
+printed_same : (names : ℕ → List ℕ) (p : Outcome) → IsBaseOutcome p → printed_outcome names p ≡ engine.printed_outcome [] (engine_outcome p)
+printed_same names (Val (Int z)) base = refl
+printed_same names (Val (values.Bool b)) base = refl
+printed_same names (Val (Text bytes)) base = refl
+printed_same names (Val (Reference n b)) base = absurd base
+printed_same names Invalid base = refl
 
--- where an observer shows what
-pub record IsShownAt (k : Kept) (name : List ℕ) (shown : Option declared.Outcome) : Type 0 where
-  pub place : ℕ
-  pub named : slice_get k.names.observers place ≡ Some name
-  pub first : (j : ℕ) → j < place → slice_get k.names.observers j ≡ Some name → ⊥
-  pub observer : Observer
-  pub at : slice_get k.observers place ≡ Some observer
-  pub shows : observer.shown ≡ shown
-
-shown_there : (F : Meanings) (k : Kept) (m : Moment) (name : List ℕ) (shown : Option declared.Outcome) → Stands F k m → (h : IsShownAt k name shown)
-    → shown_by m.present name ≡ option_map outcome_from_engine shown
-shown_there F k m name shown st h =
-    let found : find_observer m.present.observers name ≡ Some (observer_of name h.observer) = ap (λ os. find_observer os name) st.observers
-    ∙ find_by_place k.names.observers k.observers h.place name h.observer h.named h.first h.at in
-    rw found (ap (option_map outcome_from_engine) h.shows)
-
--- what an observer shows is no reference
-shown_base : (k : Kept) (name : List ℕ) (o : declared.Outcome) → IsSound k → IsShownAt k name (Some o) → IsNoReference o
-shown_base k name o sound h =
-    let mine = every_at ShowsNoReference k.observers h.place h.observer sound.shown h.at in
-    let as_shown : ShowsNoReference (record h.observer { shown = Some o }) = subst (λ s. ShowsNoReference (record h.observer { shown = s })) h.shows
-    mine in
-    as_shown
+shown_same : (s : State) (name : List ℕ) (o : declared.Outcome) (h : ShowsIt s name o) → shown_line name o ≡ printed s (Shown name h.outcome)
+shown_same s name o h =
+    ap (λ l. line_of (name ++ codes " = " ++ l)) (ap (engine.printed_outcome []) (sym h.same) ∙ sym (printed_same (name_of s) h.outcome h.base))
 
 pub followed_show : (F : Meanings) (k : Kept) (m : Moment) (name : List ℕ) (o : declared.Outcome) (calls : ℕ) (written appended : List ℕ)
-    → Stands F k m → IsSound k
-    → IsShownAt k name (Some o) → appended ≡ written ++ shown_line name o
+    → Stands F k m → ShowsIt m.present name o → appended ≡ written ++ shown_line name o
     → IsAnswered F m (Follows F m (verdict_on m (Show name))) k written appended calls calls did.Accepted
-followed_show F k m name o calls written appended st sound h print =
-    let reply = Shown name (outcome_from_engine o) in
-    let shown = shown_there F k m name (Some o) st h in
-    let acts : verdict_on m (Show name) ≡ Act (Show name) = rw shown refl in
+followed_show F k m name o calls written appended st h print =
+    let reply = Shown name h.outcome in
+    let acts : verdict_on m (Show name) ≡ Act (Show name) = rw h.is_shown refl in
     record {
       after = m;
       replies = reply ∷ [];
-      leads = subst (λ v. Follows F m v m (reply ∷ [])) (sym acts) (refl, rw shown refl);
+      leads = subst (λ v. Follows F m v m (reply ∷ [])) (sym acts) (refl, rw h.is_shown refl);
       work = 0;
       due = refl;
       stands = st;
-      printed_are = appended_one m.present written appended reply (print
-          ∙ ap (λ l. written ++ l) (shown_same m.present name o (shown_base k name o sound h)));
+      printed_are = appended_one m.present written appended reply (print ∙ ap (λ l. written ++ l) (shown_same m.present name o h));
       within = omega arith;
       says = (reply, [], refl, refl);
     }
 
 pub refused_show : (F : Meanings) (k : Kept) (m : Moment) (name : List ℕ) (calls : ℕ) (written appended : List ℕ) → Stands F k m
-    → IsShownAt k name None → appended ≡ written ++ refused_line 13 → IsAnswered F m (Follows F m (verdict_on m (Show name))) k written appended calls
-    calls (did.Refused 13)
-refused_show F k m name calls written appended st h print =
-    let reply = Refused (Because NotStabilized) in
-    let shown = shown_there F k m name None st h in
-    let refused : verdict_on m (Show name) ≡ Refuse (Because NotStabilized) = rw shown refl in
-    record {
-      after = m;
-      replies = reply ∷ [];
-      leads = subst (λ v. Follows F m v m (reply ∷ [])) (sym refused) (refl, refl);
-      work = 0;
-      due = refl;
-      stands = st;
-      printed_are = appended_one m.present written appended reply print;
-      within = omega arith;
-      says = (Because NotStabilized, refl, refl);
-    }
+    → ShowsNothing m.present name → appended ≡ written ++ refused_line 13
+    → IsAnswered F m (Follows F m (verdict_on m (Show name))) k written appended calls calls (did.Refused 13)
+refused_show F k m name calls written appended st none print =
+    refused_because F k m (Show name) NotStabilized calls written appended (rw none refl) st print
 
 -- ---- stabilizing
-
--- what is kept after a stabilize
-abbrev pub kept_settled : Kept → List (Option LastCall) → List Value → Kept
-kept_settled k new values = record k { last = new; observers = shown_with k.observers values; accepted = k.accepted + 1 }
-
-names-shown : (names : List (List ℕ)) (os : List Observer) (vs : List Value)
-    → map (λ (o : model.Observer). o.name) (observers_of names (shown_with os vs)) ≡ map (λ (o : model.Observer). o.name) (observers_of names os)
-names-shown [] os vs = refl
-names-shown (n ∷ ns) [] vs = refl
-names-shown (n ∷ ns) (o ∷ os) [] = refl
-names-shown (n ∷ ns) (o ∷ os) (v ∷ vs) = ap (λ rest. n ∷ rest) (names-shown ns os vs)
-
-names_settled : (s : State) (names : List (List ℕ)) (os : List Observer) (vs : List Value) → s.observers ≡ observers_of names os
-    → names_of s ≡ names_of (settled_state s names os vs)
-names_settled s names os vs is =
-    let same : map (λ (o : model.Observer). o.name) s.observers ≡ map (λ (o : model.Observer). o.name) (observers_of names (shown_with os vs)) =
-    ap (map (λ (o : model.Observer). o.name)) is ∙ sym (names-shown names os vs) in
-    ap (λ (ns : List (List ℕ)). record (names_of s) { observers = ns }) same
-
--- nothing stands in the way of today's forms
-nothing_in_the_way : (F : Meanings) (s : State) (i : Item) → InTheWay F s i → ⊥
-nothing_in_the_way F s i (on_cycle judged cycle) = cc
-nothing_in_the_way F s i (too_deep judged deep) = cc
 
 -- a session that isn't broken settles
 asks_to_settle : (F : Meanings) (m : Moment) → m.broken ≡ None → verdict_of F m grammar.Stabilize ≡ Settle
 asks_to_settle F m unbroken = rw unbroken refl
 
-module _ (F : Meanings) (k now : Kept) (m : Moment) (new : List (Option LastCall)) (values : List Value) (called calls : ℕ) (st : Stands F k m)
-    (sound : IsSound k) (unbroken : k.broken ≡ None)
-    (update : IsUpdate (held_value F) k.places k.roots k.observers k.last new called calls values) (is : now ≡ kept_settled k new values) where
-  abbrev after : Moment
-  after = let s = settled_state m.present k.names.observers k.observers values in record { settled = s; present = s; broken = None }
+-- an accepted one raises the count
+count_of : (F : Meanings) (m after : Moment) (round : ℕ) (replies : List Reply) → Stabilizes F m after (Stable round ∷ replies)
+    → after.present.accepted ≡ m.present.accepted + 1
+count_of F m after round replies (settles notices free settled same unbroken is) = settled.accepted
+count_of F m after round replies (by_cycle targets n come cycle among met is replied) = absurd (cc)
+count_of F m after round replies (by_height target i met deep printed is replied) = absurd (cc)
 
+module _ (F : Meanings) (new : Kept) (m : Moment) (called calls : ℕ) (h : IsAccepted F m new called calls) where
   abbrev reply : Reply
   reply = Stable (m.present.accepted + 1)
 
-  settled_now : Stabilizes F m after (reply ∷ []) × Stands F now after × ((work : ℕ) × run.MayCall F m (reply ∷ []) work × (calls ≤ called + work))
-  settled_now =
-      let done = update_settles F m.settled m.present k.roots k.places st.items st.represents sound.places k.names.observers k.observers
-      sound.one_observer_each st.observers k.last new st.ran st.right called calls values
-      sound.targets update in (
-        settles [] (λ i is_needed blocked. nothing_in_the_way F m.present i blocked) done.settles refl refl refl,
-        subst (λ (x : Kept). Stands F x after) (sym is) (record {
-          names = st.names ∙ names_settled m.present k.names.observers k.observers values st.observers;
-          observers = refl;
-          accepted = ap (λ n. n + 1) st.accepted;
-          broken = sym unbroken;
-          items = st.items;
-          represents = done.represents;
-          right = done.right;
-          ran = done.ran;
-        }),
-        (done.work, done.due, done.within),
-      )
+  count_is : new.accepted ≡ m.present.accepted + 1
+  count_is = sym h.stands.accepted ∙ count_of F m h.after (m.present.accepted + 1) [] h.stabilizes
 
-  pub followed_stabilize : (written appended : List ℕ) → appended ≡ written ++ stable_line (k.accepted + 1)
-      → IsAnswered F m (Follows F m (verdict_on m Stabilize)) now written appended called calls did.Accepted
-  followed_stabilize written appended print =
-      let done = settled_now in
-      let same_count : stable_line (k.accepted + 1) ≡ printed after.present reply = ap (λ n. stable_line (n + 1)) (sym st.accepted) in
-      record {
-        after = after;
-        replies = reply ∷ [];
-        leads = done.0;
-        work = done.2.0;
-        due = done.2.1;
-        stands = done.1;
-        printed_are = appended_one after.present written appended reply (print ∙ ap (λ l. written ++ l) same_count);
-        within = done.2.2;
-        says = (reply, [], refl, refl);
-      }
+  pub followed_stabilize : (written appended : List ℕ) → appended ≡ written ++ stable_line new.accepted
+      → IsAnswered F m (Follows F m (verdict_on m Stabilize)) new written appended called calls did.Accepted
+  followed_stabilize written appended print = record {
+    after = h.after;
+    replies = reply ∷ [];
+    leads = h.stabilizes;
+    work = h.work;
+    due = h.due;
+    stands = h.stands;
+    printed_are = appended_one h.after.present written appended reply (print ∙ ap (λ n. written ++ stable_line n) count_is);
+    within = h.within;
+    says = (reply, [], refl, refl);
+  }
 
   -- where its line finds no memory
-  pub stops_accepted : (line : List ℕ) → AsksStabilize line → Stops F m line now called calls
-  stops_accepted line asks =
-      let done = settled_now in
+  pub stops_accepted : (line : List ℕ) → AsksStabilize line → m.broken ≡ None → Stops F m line new called calls
+  stops_accepted line asks unbroken = record {
+    after = h.after;
+    due = h.work;
+    halts = run.accepted (m.present.accepted + 1) [] asks
+        (subst (λ v. Follows F m v h.after (reply ∷ [])) (sym (asks_to_settle F m unbroken)) h.stabilizes) h.due;
+    stands = h.stands;
+    within = h.within;
+  }
+
+-- the name at a position is that of the entry there
+name_of_entry : (es : List Entry) (n : ℕ) → ◌≡◌ {A = List ℕ} (elim (slice_get (map declared_of es) n) [ None ↦ [] | Some d ↦ d.name ])
+    (elim (slice_get es n) [ None ↦ [] | Some e ↦ e.name ])
+name_of_entry [] n = refl
+name_of_entry (e ∷ es) zero = refl
+name_of_entry (e ∷ es) (suc n) = name_of_entry es n
+
+name_there : (names : Names) (s : State) (n : ℕ) → AreNames names s → name_in names n ≡ name_of s n
+name_there names s n are =
+    let declared : name_in names n ≡ name_in (names_of s) n = ap (λ (ds : List Declared). name_in (record names { declared = ds }) n) are.declared in
+    declared ∙ name_of_entry s.entries n
+
+-- a refusal for depth changes the number alone
+broken_by_height : (F : Meanings) (m after : Moment) (target : ℕ) → Stabilizes F m after (Refused (Height target) ∷ [])
+    → after ≡ record m { broken = Some 21 }
+broken_by_height F m after target (settles notices free settled same unbroken is) = absurd (cc)
+broken_by_height F m after target (by_cycle targets n come cycle among met is replied) = absurd (cc)
+broken_by_height F m after target (by_height other i met deep printed is replied) = is
+
+module _ (F : Meanings) (new : Kept) (m : Moment) (target called calls : ℕ) (h : IsTooDeep F m new target called calls) where
+  abbrev height : Reply
+  height = Refused (Height target)
+
+  pub refused_too_deep : (written appended : List ℕ) → appended ≡ written ++ too_deep_line (name_in new.names target)
+      → IsAnswered F m (Follows F m (verdict_on m Stabilize)) new written appended called calls (did.Refused 21)
+  refused_too_deep written appended print =
+      let same : name_in new.names target ≡ name_of h.after.present target = name_there new.names h.after.present target h.stands.names in
       record {
-        after = after;
-        due = done.2.0;
-        halts = run.accepted (m.present.accepted + 1) [] asks (subst (λ v. Follows F m v after (reply ∷ []))
-            (sym (asks_to_settle F m (st.broken ∙ unbroken))) done.0) done.2.1;
-        stands = done.1;
-        within = done.2.2;
+        after = h.after;
+        replies = height ∷ [];
+        leads = h.stabilizes;
+        work = most_calls m.present;
+        due = omega arith;
+        stands = h.stands;
+        printed_are = appended_one h.after.present written appended height (print ∙ ap (λ n. written ++ too_deep_line n) same);
+        within = h.within;
+        says = (Height target, refl, refl);
       }
+
+  -- where its line finds no memory, the session is broken for want of it
+  pub stops_too_deep : (line : List ℕ) → AsksStabilize line → m.broken ≡ None → Stops F m line (record new { broken = Some 0 }) called calls
+  stops_too_deep line asks unbroken =
+      let is = broken_by_height F m h.after target h.stabilizes in
+      let there : Stands F (record new { broken = Some 0 }) (record h.after { broken = Some 0 }) = record {
+        names = h.stands.names;
+        accepted = h.stands.accepted;
+        broken = refl;
+        holds = λ none. absurd (cc);
+      } in
+      stops_broken F (record new { broken = Some 0 }) m line called calls asks unbroken
+      (subst (λ (x : Moment). Stands F (record new { broken = Some 0 }) (record x { broken = Some 0 })) is there) h.within
+
+-- where the stabilize itself finds none
+pub stops_cut_short : (F : Meanings) (new : Kept) (m : Moment) (line : List ℕ) (called calls : ℕ) → IsCutShort F m new called calls
+    → AsksStabilize line → m.broken ≡ None → Stops F m line new called calls
+stops_cut_short F new m line called calls h asks unbroken = stops_broken F new m line called calls asks unbroken h.stands h.within
+
+-- the engine's value of a constant is of its type
+pub type_held : (v : values.Value) → held.type_of (values.to_engine v) ≡ values.type_of v
+type_held (Int z) = refl
+type_held (values.Bool b) = refl
+type_held (Text bytes) = refl
+type_held (Reference n b) = refl

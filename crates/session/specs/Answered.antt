@@ -6,8 +6,8 @@ use Rattle.script_model.specs.Formula.{Meanings}
 use Rattle.script_model.specs.Run.{MayCall}
 use Rattle.script_model.specs.Step.{Moment, Reply, Verdict, is_barred, printed, verdict_for}
 use Rattle.session.specs.declared.answer.Did.{Did}
-use Rattle.session.specs.Kept.{Kept}
-use Rattle.session.specs.State.{Stands}
+use Rattle.script_graph.specs.Kept.{Kept}
+use Rattle.script_graph.specs.State.{Stands}
 use Rattle.session.specs.Taken.{Says}
 
 -- the reasons that the state has against a command, in the order in which they are looked at

@@ -1,6 +1,7 @@
 -- The lines that a session writes.
-use Rattle.std.specs.Prelude.{ℕ, List, [], ◌∷◌, ◌++◌, codes}
+use Rattle.std.specs.Prelude.{ℕ, None, Some, slice_get, List, [], ◌∷◌, ◌++◌, codes}
 use Rattle.std.specs.Fmt.{decimal}
+use Rattle.script_model.specs.Check.{Names}
 use Rattle.inc_value.specs.Outcome.{printed_outcome}
 use Rattle.inc_value.specs.declared.outcome.Outcome.{Outcome}
 
@@ -27,3 +28,11 @@ stable_line round = line_of (codes "stable " ++ decimal round)
 -- what an observer shows
 abbrev pub shown_line : List ℕ → Outcome → List ℕ
 shown_line observer outcome = line_of (observer ++ codes " = " ++ printed_outcome [] outcome)
+
+-- to a stabilize that was refused for the depth of a declaration
+abbrev pub too_deep_line : List ℕ → List ℕ
+too_deep_line name = line_of (codes "refused 21 height " ++ name)
+
+-- the name of the declaration at a position; nothing where there is none
+abbrev pub name_in : Names → ℕ → List ℕ
+name_in names n = elim (slice_get names.declared n) [ None ↦ [] | Some d ↦ d.name ]

@@ -1,6 +1,6 @@
 -- A session as its callers see it.
 use Rattle.std.specs.Prelude.{ℕ}
-use Rattle.session.specs.Kept.{Kept}
+use Rattle.script_graph.specs.Kept.{Kept}
 
 -- the library, what is kept, and how many lines were taken
 pub record Standing (L : Type 0) : Type 0 where

@@ -7,8 +7,8 @@ use Rattle.script_model.specs.Run.{Turn, IsTurn, Halts, bytes_of}
 use Rattle.script_model.specs.Step.{Moment, Refusal, Reply, Refused, number_of, is_refusal}
 use Rattle.session.specs.declared.answer.Did.TheVariants as did
 use Rattle.session.specs.declared.answer.Did.{Did}
-use Rattle.session.specs.Kept.{Kept}
-use Rattle.session.specs.State.{Stands}
+use Rattle.script_graph.specs.Kept.{Kept}
+use Rattle.script_graph.specs.State.{Stands}
 
 -- how a line was taken, by what it prints: nothing, a line that is no refusal and maybe more, or one refusal with its number
 abbrev pub Says : Did → List Reply → Type 0
@@ -32,10 +32,11 @@ pub record Takes (F : Meanings) (m : Moment) (line : List ℕ) (new : Kept) (wri
 abbrev pub AsksStabilize : List ℕ → Type 0
 AsksStabilize line = IsRequest line (Asks Stabilize)
 
--- a line that was not accepted leaves what is kept
+-- a line that was not accepted leaves what is kept, but where a stabilize was refused for what it met
 abbrev pub KeepsUnlessAccepted : Did → Kept → Kept → Type 0
 KeepsUnlessAccepted did.Accepted old new = Unit {0}
-KeepsUnlessAccepted how old new = new ≡ old
+KeepsUnlessAccepted did.Blank old new = new ≡ old
+KeepsUnlessAccepted (did.Refused n) old new = (n ≡ 20 → ⊥) → (n ≡ 21 → ⊥) → new ≡ old
 
 -- where no memory was found, a moment is stood for at which the line may leave things, and no more functions were called than
 -- are due there

@@ -2,18 +2,12 @@
 #![tactic(auto)]
 
 mod answer;
-mod call;
-mod lay;
-mod need;
-mod place;
+mod places;
 mod refusal;
 mod reply;
 mod request;
 mod script;
 mod session;
-mod show;
-mod update;
-mod value;
 
 pub use answer::Did;
 pub use session::Session;

@@ -1,6 +1,6 @@
 //! The lines that a session writes.
 ghost use Rattle.std.specs.Prelude.{◌≡◌, ◌++◌, OnOk, OnErr};
-ghost use Rattle.session.specs.Replies.{broken_line, done_line, refused_line, shown_line, stable_line};
+ghost use Rattle.session.specs.Replies.{broken_line, done_line, refused_line, shown_line, stable_line, too_deep_line};
 
 use inc_value::Outcome;
 use std::alloc::{AllocError, Global};
@@ -30,6 +30,22 @@ pub(crate) fn write_broken(alloc: Global, number: u8, out: &mut Vec<u8>) -> Resu
 {
     let line = format!(in alloc; "refused 22 {number}\n")?;
     out.extend_from_slice(line.as_bytes())
+}
+
+/// Appends the reply to a stabilize that is refused for the depth of a declaration.
+pub(crate) fn write_too_deep(
+    alloc: Global,
+    name: &[u8],
+    out: &mut Vec<u8>,
+) -> Result<(), AllocError>
+    ensures ok { OnOk result (out.new.items ≡ out.old.items ++ too_deep_line name.now) }
+    ensures err { OnErr result (out.new.items ≡ out.old.items) }
+{
+    let mut line = Vec::new(alloc);
+    line.extend_from_slice(b"refused 21 height ")?;
+    line.extend_from_slice(name)?;
+    line.push(b'\n')?;
+    out.extend_from_slice(&line)
 }
 
 /// Appends the reply to an accepted stabilize, the `round`-th of them.

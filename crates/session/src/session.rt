@@ -15,8 +15,7 @@ use std::marker::Model;
 #[derive(Drop)]
 pub struct Session<L: Library> {
     alloc: Global,
-    library: L,
-    script: Script,
+    script: Script<L>,
     lines: u64,
 }
 
@@ -25,17 +24,18 @@ impl<L: Library> Model for Session<L> {
 
     ghost Value = { Standing L };
 
-    ghost view = { λ s. record { library = s.library; kept = s.script; lines = s.lines } };
+    ghost view = { λ s. record { library = s.script.library; kept = s.script.kept; lines = s.lines } };
 
-    ghost use Rattle.std.specs.Prelude.{◌≤◌, ◌^◌};
-    ghost use Rattle.session.specs.Settling.{AreKnown};
+    ghost use Rattle.std.specs.Prelude.{◌≤◌, ◌*◌, ◌^◌, length};
+    ghost use Rattle.script_graph.specs.Kept.{arena_of};
 
-    ghost invariant = { λ s. (s.lines ≤ 2 ^ 30) × (s.script.accepted ≤ s.lines) × AreKnown (L.known s.library) s.script.places };
+    ghost invariant = { λ s. (s.lines ≤ 2 ^ 30) × (s.script.kept.accepted ≤ s.lines)
+        × ((arena_of s.script.kept).given ≤ 2 ^ 20 * s.lines) × (length s.script.kept.graph.observers ≤ s.lines) };
 }
 
 impl<L: Library> Session<L> {
     ghost use Rattle.session.specs.declared.answer.Did.TheVariants.{Refused};
-    ghost use Rattle.session.specs.State.{Stands};
+    ghost use Rattle.script_graph.specs.State.{Stands};
     ghost use Rattle.script_model.specs.Formula.{meanings_of};
     ghost use Rattle.session.specs.Taken.{AsksStabilize, KeepsUnlessAccepted, Takes, Stops};
 
@@ -46,14 +46,13 @@ impl<L: Library> Session<L> {
         ensures first { IfOk result (λ s. Stands (meanings_of (L.named library) (L.value library)) s.kept first_moment) }
         ensures handed_back { IfErr result (λ e. e.1 ≡ library) }
     {
-        match Script::new(alloc) {
+        match Script::new(alloc, library) {
             Ok(script) => Ok(Session {
                 alloc,
-                library,
                 script,
                 lines: 0,
             }),
-            Err(fault) => Err((fault, library)),
+            Err(refused) => Err(refused),
         }
     }
 
@@ -75,18 +74,20 @@ impl<L: Library> Session<L> {
         ensures library { (AsksStabilize text.now → ⊥) → self.new.library ≡ self.old.library }
         ensures kept { IfOk result (λ how. KeepsUnlessAccepted how self.old.kept self.new.kept) }
 
+        // A broken session stays as it is, but that the count of lines rises.
+        ensures broken { (self.old.kept.broken ≡ None → ⊥) → (self.new.kept ≡ self.old.kept) × (self.new.library ≡ self.old.library) }
+
         // Without memory the count of lines has risen. A stabilize may have called functions, and then it was accepted, its
         // line alone is missing, or the session is broken.
         ensures stopped { let F = meanings_of (L.named self.old.library) (L.value self.old.library) in
             OnErr result ((m : Moment) → Stands F self.old.kept m
             → Stops F m text.now self.new.kept
             (L.calls self.old.library) (L.calls self.new.library)) }
-        ensures unchanged { OnErr result ((AsksStabilize text.now → ⊥) → self.new.kept ≡ self.old.kept) }
         ensures unwritten { OnErr result (out.new.items ≡ out.old.items) }
     {
         self.lines += 1;
         let written = out.len();
-        let taken = answer(self.alloc, &mut self.library, &mut self.script, text, out);
+        let taken = answer(self.alloc, &mut self.script, text, out);
         if taken.is_err() {
             out.truncate(written);
         }
@@ -115,14 +116,14 @@ impl<L: Library> Session<L> {
     pub fn library(&self) -> &L
         ensures { result.now ≡ self.now.library }
     {
-        &self.library
+        self.script.library()
     }
 
     /// The library, given back.
     pub fn into_library(self) -> L
         ensures { result ≡ self.library }
     {
-        self.library
+        self.script.into_library()
     }
 
     /// How many stabilizes were accepted so far.

@@ -3,7 +3,7 @@ ghost use Rattle.std.specs.Prelude.{◌≡◌, ◌↔◌, ◌<◌, ◌≤◌, �
 ghost use Rattle.inc_value.specs.declared.node.NodeId.{NodeId};
 ghost use Rattle.inc_terms.specs.Within.{Given};
 ghost use Rattle.graph.specs.Standing.{IsUnbroken, IsBroken, node_at, shown_of};
-ghost use Rattle.graph.specs.Effects.{Observes, Ends, IsObserveFault, IsObserverFault};
+ghost use Rattle.graph.specs.Effects.{Observes, Ends, IsObserveFault, IsEndFault, IsObserverFault};
 ghost use Rattle.graph.specs.declared.fault.Kept.{Kept as ACause};
 
 use super::Graph;
@@ -40,7 +40,7 @@ impl<F: Functions> Graph<F> {
         ensures broken { (cause : ACause) → IsErrOf result (GraphFault.Broken cause) ↔ IsBroken self.old cause }
         ensures ended { OnOk result (Ends self.old self.new observer) }
         ensures unknown { IsErrOf result GraphFault.Unknown ↔ (IsUnbroken self.old × (node_at self.old.observers observer ≡ None)) }
-        ensures ending { IfErr result IsObserverFault }
+        ensures ending { IfErr result IsEndFault }
         ensures err { OnErr result (self.new ≡ self.old) }
     {
         self.check()?;

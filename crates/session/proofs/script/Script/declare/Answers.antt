@@ -1,44 +1,63 @@
-use Rattle.std.proofs.Common.{◌≡◌, ◌≤◌, ◌+◌, sym, ◌∙◌, ap, subst, length, arith}
+-- With the nodes made for it a declaration is stood for; without memory they are taken back, and what is kept stands for what it stood for.
+use Rattle.std.proofs.Common.{◌∙◌}
 use Rattle.formula_lang.specs.CommandView.{body_view}
-use Rattle.formula_lang.specs.Fits.{BodyFits}
-use Rattle.script_model.specs.Formula.{places_of_body}
-use Rattle.session.specs.Kept.{Kept}
-use Rattle.script_model.specs.Check.{target_of_body}
-use Rattle.session.proofs.Failing.{on_err_at, on_err_of, on_ok_at}
-use Rattle.session.proofs.FittingNames.{names_below}
-use Rattle.session.proofs.Rows.{cut_back}
-use Rattle.session.proofs.SoundKept.{declaration_sound}
+use Rattle.script_graph.proofs.Declared.{back_extends, back_few, back_maps, declared_sound, declared_stands, returned_sound, returned_stands}
+use Rattle.session.proofs.Assigned.{rooted_still}
 use Rattle.session.proofs.script.Script.declare.Goals as goal
 
-pub lay_out-requires : goal.lay_out-requires
-lay_out-requires c =
-    let fits = subst (λ (k : Kept). BodyFits c.requires.fits.0 k.names (body_view c.args.body.now) c.args.ty) (sym c.self.view_is)
-    c.requires.fits.1.body_fits in
-    record {
-      names = names_below c.requires.fits.0 c.self.inside.names _ (body_view c.args.body.now) c.args.ty (sym c.self.invariant.one_root_each)
-          fits;
-    }
+pub take_back-requires-clause-unobserved : goal.take_back-requires-clause-unobserved
+take_back-requires-clause-unobserved g c = rw (rooted_still _ _ c.in-Err.ensures.kept) c.mark_of-mark.ensures.rooted
 
-pub invariant_of-self-else-is_err : goal.invariant_of-self-else-is_err
-invariant_of-self-else-is_err c =
-    let back = sym c.self.view_is in
-    let body = body_view c.args.body.now in
-    let fits = subst (λ (k : Kept). BodyFits c.requires.fits.0 k.names (body_view c.args.body.now) c.args.ty) back c.requires.fits.1.body_fits in
-    let target : c.target-target.result ≡ target_of_body (length c.self.inside.names.declared) body = c.target-target.ensures
-    ∙ ap (λ n. target_of_body n body) c.len.ensures in
-    let room = subst (λ (k : Kept). length k.places + places_of_body (body_view c.args.body.now) ≤ 1048575) back c.requires.room in
-    let names = on_ok_at c.declare-declared.result c.if-is_err.ensures.value c.declare-declared.ensures.ok in
-    rw (names, target, c.kind_of.ensures, c.in_ok-lay_out.ensures.roots, c.in_ok-lay_out.ensures.places, c.in_ok-lay_out.ensures.last)
-    (declaration_sound c.requires.fits.0 _ c.self.invariant c.args.name.now c.args.ty body fits room)
+pub invariant_of-self : goal.invariant_of-self
+invariant_of-self g c =
+    let s = c.self.inside in
+    let new = c.add_declared-declared.new.graph in
+    let r = rw (← c.self.view_is) at c.requires in
+    let made = c.in-Ok.ensures.made in
+    let older = (c.keeps_sound-in-Ok.ensures.sound.unbroken (made.1.extends.beside.refused ∙ c.self.invariant.unbroken r.unbroken)).older in
+    rw (c.in-Ok.ensures.names, made.3) (declared_sound s.graph new s.names s.nodes.items s.observers.items s.room s.accepted s.broken
+    c.self.invariant c.keeps_sound.ensures.arena c.keeps_sound-in-Ok.ensures.arena older _ c.args.name.now c.args.ty (body_view c.args.body.now) r.fits
+    made.0 c.args.room r.room made.1 made.2)
 
-pub returns-then-is_err-clause-err : goal.returns-then-is_err-clause-err
-returns-then-is_err-clause-err c =
-    let names = on_err_at c.declare-declared.result c.if-is_err.ensures.value c.declare-declared.ensures.err in
-    let old = c.self.inside in
-    let roots = cut_back old.roots.items _ c.lay_out.new.roots.items c.truncate.new.self.items c.len-roots.result (omega arith)
-    c.in_ok-lay_out.ensures.roots c.truncate.ensures.items in
-    let places = cut_back old.places.items _ c.lay_out.new.places.items c.truncate-then-is_err.new.self.items c.len-places.result (omega arith)
-    c.in_ok-lay_out.ensures.places c.truncate-then-is_err.ensures.items in
-    let last = cut_back old.last.items _ c.lay_out.new.last.items c.truncate-then-is_err-2.new.self.items c.len-places.result
-    (omega (arith, c.self.invariant.one_call_each)) c.in_ok-lay_out.ensures.last c.truncate-then-is_err-2.ensures.items in
-    on_err_of c.declare-declared.result (rw (names, roots, places, last) c.self.view_is)
+pub invariant_of-self-in-Err : goal.invariant_of-self-in-Err
+invariant_of-self-in-Err g c =
+    let s = c.self.inside in
+    let full = c.add_declared-declared.new.graph in
+    let now = c.take_back.new.graph in
+    let unbroken = rw (← c.self.view_is) at c.requires.unbroken in
+    let kept = c.in-Err.ensures.kept in
+    let count = c.mark_of-mark.result.given in
+    let since = c.mark_of-mark.ensures.mark in
+    let more = back_extends s.graph full now count kept c.take_back.ensures since in
+    let older = (c.keeps_sound-in-Err.ensures.sound.unbroken (more.beside.refused ∙ c.self.invariant.unbroken unbroken)).older in
+    rw (c.in-Err.ensures.names_kept, c.in-Err.ensures.nodes_kept) (returned_sound s.graph now s.names s.nodes.items s.observers.items s.room
+    s.accepted s.broken c.self.invariant c.keeps_sound.ensures.arena c.keeps_sound-in-Err.ensures.arena older more
+    (back_few s.graph full now count kept c.take_back.ensures since))
+
+pub returns-in-Ok-clause-declared : goal.returns-in-Ok-clause-declared
+returns-in-Ok-clause-declared g c =
+    let s = c.self.inside in
+    let new = c.add_declared-declared.new.graph in
+    let r = rw (← c.self.view_is) at c.requires in
+    let made = c.in-Ok.ensures.made in
+    let older = (c.keeps_sound-in-Ok.ensures.sound.unbroken (made.1.extends.beside.refused ∙ c.self.invariant.unbroken r.unbroken)).older in
+    rw (← c.self.view_is, c.in-Ok.ensures.names, made.3) (λ m. declared_stands s.graph new s.names s.nodes.items s.observers.items s.room s.accepted
+    s.broken c.self.invariant c.keeps_sound.ensures.arena c.keeps_sound-in-Ok.ensures.arena older (g.L.Library.known s.graph.functions.library)
+    c.args.name.now c.args.ty (body_view c.args.body.now) r.fits made.0 c.args.room r.room made.1 made.2
+    (g.L.Library.named s.graph.functions.library) (g.L.Library.value s.graph.functions.library) m r.unbroken)
+
+pub returns-in-Err-clause-kept : goal.returns-in-Err-clause-kept
+returns-in-Err-clause-kept g c =
+    let s = c.self.inside in
+    let full = c.add_declared-declared.new.graph in
+    let now = c.take_back.new.graph in
+    let unbroken = rw (← c.self.view_is) at c.requires.unbroken in
+    let kept = c.in-Err.ensures.kept in
+    let count = c.mark_of-mark.result.given in
+    let since = c.mark_of-mark.ensures.mark in
+    let more = back_extends s.graph full now count kept c.take_back.ensures since in
+    let older = (c.keeps_sound-in-Err.ensures.sound.unbroken (more.beside.refused ∙ c.self.invariant.unbroken unbroken)).older in
+    rw (← c.self.view_is, c.in-Err.ensures.names_kept, c.in-Err.ensures.nodes_kept) (returned_stands s.graph now s.names s.nodes.items
+    s.observers.items s.room s.accepted s.broken c.self.invariant c.keeps_sound.ensures.arena c.keeps_sound-in-Err.ensures.arena older more
+    (back_maps s.graph full now count kept c.take_back.ensures since) (g.L.Library.named s.graph.functions.library)
+    (g.L.Library.value s.graph.functions.library))

@@ -1,17 +1,45 @@
-use Rattle.std.proofs.Common.{◌≡◌, ◌<◌, length, sym, subst}
-use Rattle.std.proofs.lemmas.List.{get_or_read}
-use Rattle.std.specs.Prelude.{slice_index}
-use Rattle.formula_lang.specs.Fits.{NameFits}
-use Rattle.inc_value.specs.Value.{type_of}
-use Rattle.session.specs.Kept.{Kept}
-use Rattle.session.proofs.SoundKept.{assignment_sound, target_within}
+-- The node of what is assigned is a variable that takes the value; then what is kept fits together and stands for the moment after the assignment.
+use Rattle.std.proofs.Common.{◌∙◌, subst}
+use Rattle.inc_value.specs.declared.node.NodeId.{NodeId}
+use Rattle.graph.specs.Effects.{Sets}
+use Rattle.script_graph.proofs.Declared.{set_sound, set_stands}
+use Rattle.session.proofs.Observed.{target_node}
+use Rattle.session.proofs.Assigned.{node_takes}
 use Rattle.session.proofs.script.Script.set.Goals as goal
 
+pub set_node-requires-clause-variable : goal.set_node-requires-clause-variable
+set_node-requires-clause-variable g c =
+    let fits = rw (← c.self.view_is) at c.requires.fits in
+    (node_takes _ c.self.invariant c.keeps_sound.ensures.arena c.args.target c.args.value fits c.index.result.now c.index.ensures).variable
+
+pub set_node-requires-clause-given : goal.set_node-requires-clause-given
+set_node-requires-clause-given g c =
+    let fits = rw (← c.self.view_is) at c.requires.fits in
+    (node_takes _ c.self.invariant c.keeps_sound.ensures.arena c.args.target c.args.value fits c.index.result.now c.index.ensures).given
+
+pub set_node-requires-clause-fits : goal.set_node-requires-clause-fits
+set_node-requires-clause-fits g c =
+    let fits = rw (← c.self.view_is) at c.requires.fits in
+    (node_takes _ c.self.invariant c.keeps_sound.ensures.arena c.args.target c.args.value fits c.index.result.now c.index.ensures).fits
+
 pub invariant_of-self : goal.invariant_of-self
-invariant_of-self c =
-    let fits = subst (λ (k : Kept). NameFits k.names c.args.target (type_of c.args.value)) (sym c.self.view_is) c.requires.name in
-    let within : c.args.target < length c.self.inside.roots.items = target_within _ c.self.invariant c.args.target c.args.value fits
-    c.requires.base in
-    let root : c.index-root.result.now ≡ slice_index c.self.inside.roots.items c.args.target = get_or_read c.self.inside.roots.items _ _ within
-    c.index-root.ensures 0 in
-    rw root (assignment_sound _ c.self.invariant c.args.target c.args.value fits c.requires.base)
+invariant_of-self g c =
+    let s = c.self.inside in
+    let fits = rw (← c.self.view_is) at c.requires.fits in
+    let unbroken = rw (← c.self.view_is) at c.requires.unbroken in
+    let node = target_node _ c.self.invariant c.args.target fits.name.earlier c.index.result.now c.index.ensures in
+    let sets = subst (λ (n : NodeId). Sets s.graph c.set_node.new.graph n c.args.value) node c.set_node.ensures in
+    let older = (c.keeps_sound-2.ensures.sound.unbroken (sets.beside.refused ∙ c.self.invariant.unbroken unbroken)).older in
+    set_sound s.graph c.set_node.new.graph s.names s.nodes.items s.observers.items s.room s.accepted s.broken c.self.invariant
+    c.keeps_sound.ensures.arena c.keeps_sound-2.ensures.arena older c.args.target c.args.value sets
+
+pub returns-clause-set : goal.returns-clause-set
+returns-clause-set g c =
+    let s = c.self.inside in
+    let fits = rw (← c.self.view_is) at c.requires.fits in
+    let unbroken = rw (← c.self.view_is) at c.requires.unbroken in
+    let node = target_node _ c.self.invariant c.args.target fits.name.earlier c.index.result.now c.index.ensures in
+    let sets = subst (λ (n : NodeId). Sets s.graph c.set_node.new.graph n c.args.value) node c.set_node.ensures in
+    let older = (c.keeps_sound-2.ensures.sound.unbroken (sets.beside.refused ∙ c.self.invariant.unbroken unbroken)).older in
+    rw (← c.self.view_is) (set_stands s.graph c.set_node.new.graph s.names s.nodes.items s.observers.items s.room s.accepted s.broken c.self.invariant
+    c.keeps_sound.ensures.arena c.keeps_sound-2.ensures.arena older c.args.target c.args.value sets fits (g.L.Library.named s.graph.functions.library) (g.L.Library.value s.graph.functions.library))

@@ -2,7 +2,7 @@ use Rattle.std.proofs.Common.{◌∙◌, Vec, Global, ℕ, sym, subst}
 use Rattle.script_model.specs.Formula.{meanings_of}
 use Rattle.script_model.specs.Step.{Moment}
 use Rattle.session.specs.Session.{Standing}
-use Rattle.session.specs.State.{Stands}
+use Rattle.script_graph.specs.State.{Stands}
 use Rattle.session.specs.Taken.{Stops, Takes}
 use Rattle.session.proofs.Answering.{taken_of}
 use Rattle.session.proofs.Failing.{err_from, no_ok, ok_from}
@@ -11,30 +11,33 @@ use Rattle.session.proofs.session.Session.line.Goals as goal
 
 pub returns-clause-taken : goal.returns-clause-taken
 returns-clause-taken g c =
-    let l = c.self.inside.library in
+    let l = c.self.inside.script.library in
+    let k = c.self.inside.script.kept in
+    let now = c.answer-taken.new.script in
     elim c.if-is_err.branch [
       | then-is_err w ↦ no_ok c.answer-taken.result _ (sym c.is_err.ensures.value ∙ w.if-is_err.true)
       | else-is_err w ↦
           ok_from c.answer-taken.result _ _ c.answer-taken.ensures.answered
           (λ how answered. subst (λ (s : Standing g.row.L.Denot). (m : Moment)
           → Stands (meanings_of (g.L.Library.named s.library) (g.L.Library.value s.library)) s.kept m
-          → Takes (meanings_of (g.L.Library.named s.library) (g.L.Library.value s.library)) m c.args.text.now c.answer-taken.new.script
+          → Takes (meanings_of (g.L.Library.named s.library) (g.L.Library.value s.library)) m c.args.text.now now.kept
           c.args.out.now.items c.if-is_err.out.items
-          (g.L.Library.calls s.library) (g.L.Library.calls c.answer-taken.new.library) how)
+          (g.L.Library.calls s.library) (g.L.Library.calls now.library) how)
           c.self.view_is
-          (subst (λ (v : Vec ℕ Global). (m : Moment) → Stands (meanings_of (g.L.Library.named l) (g.L.Library.value l)) c.self.inside.script m
-          → Takes (meanings_of (g.L.Library.named l) (g.L.Library.value l)) m c.args.text.now c.answer-taken.new.script c.args.out.now.items v.items
-          (g.L.Library.calls l) (g.L.Library.calls c.answer-taken.new.library) how) (sym w.out-is)
+          (subst (λ (v : Vec ℕ Global). (m : Moment) → Stands (meanings_of (g.L.Library.named l) (g.L.Library.value l)) k m
+          → Takes (meanings_of (g.L.Library.named l) (g.L.Library.value l)) m c.args.text.now now.kept c.args.out.now.items v.items
+          (g.L.Library.calls l) (g.L.Library.calls now.library) how) (sym w.out-is)
           (λ m st. let a = answered m st in
-          taken_of (meanings_of (g.L.Library.named l) (g.L.Library.value l)) m c.args.text.now a.0 c.answer-taken.new.script c.args.out.now.items
+          taken_of (meanings_of (g.L.Library.named l) (g.L.Library.value l)) m c.args.text.now a.0 now.kept c.args.out.now.items
           c.answer-taken.new.out.items
-          (g.L.Library.calls l) (g.L.Library.calls c.answer-taken.new.library) how a.1 a.2)))
+          (g.L.Library.calls l) (g.L.Library.calls now.library) how a.1 a.2)))
     ]
 
 pub returns-clause-stopped : goal.returns-clause-stopped
 returns-clause-stopped g c =
+    let now = c.answer-taken.new.script in
     err_from c.answer-taken.result c.answer-taken.ensures.stopped
     (λ stopped. subst (λ (s : Standing g.row.L.Denot). (m : Moment) → Stands (meanings_of (g.L.Library.named s.library) (g.L.Library.value s.library))
     s.kept m
-    → Stops (meanings_of (g.L.Library.named s.library) (g.L.Library.value s.library)) m c.args.text.now c.answer-taken.new.script
-    (g.L.Library.calls s.library) (g.L.Library.calls c.answer-taken.new.library)) c.self.view_is stopped)
+    → Stops (meanings_of (g.L.Library.named s.library) (g.L.Library.value s.library)) m c.args.text.now now.kept
+    (g.L.Library.calls s.library) (g.L.Library.calls now.library)) c.self.view_is stopped)

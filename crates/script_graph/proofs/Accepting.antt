@@ -1,0 +1,284 @@
+-- A stabilize that was accepted is one of the script.
+use Rattle.std.proofs.Common.{◌≡◌, inl, ℕ, ◌+◌, suc, Bool, List, [], ◌∷◌, map, length, Option, None, Some, refl, ap, sym, subst, ◌∙◌, slice_get}
+use Rattle.inc_value.specs.Choice.{Among, and_then}
+use Rattle.inc_value.specs.declared.function.FnRef.{FnRef}
+use Rattle.inc_value.specs.declared.node.NodeId.{NodeId}
+use Rattle.inc_value.specs.declared.node.ObsId.{ObsId}
+use Rattle.inc_value.specs.declared.value.Value.{Value as GraphValue}
+use Rattle.inc_terms.specs.Depend.{IsFlat, main}
+use Rattle.inc_terms.specs.Evaluate.{NodeGives}
+use Rattle.inc_terms.specs.Term.{Functions}
+use Rattle.inc_terms.proofs.Flat.{flat_stands, reads_flat}
+use Rattle.graph.specs.Sound.{IsSound, CanStabilize}
+use Rattle.graph.specs.Stabilizes.{Stabilizes as GraphStabilizes}
+use Rattle.graph.specs.Standing.{Standing, in_use, node_at}
+use Rattle.graph.specs.declared.observer.Observer.{Observer as Looking}
+use Rattle.node_arena.specs.Arena.{Arena}
+use Rattle.node_arena.specs.Graph.{graph_of}
+use Rattle.stabilize_round.specs.Counts.{RoseBy}
+use Rattle.stabilizer.specs.Computing.{seen}
+use Rattle.stabilizer.specs.Meaning.{functions_of}
+use Rattle.stabilizer.specs.Round.{WasCalled, last_call}
+use Rattle.stabilizer.proofs.Between.{code_row}
+use Rattle.script_model.specs.Blocked.{InTheWay, on_cycle, too_deep}
+use Rattle.script_model.specs.Check.{is_among}
+use Rattle.script_model.specs.Depth.{TooDeep}
+use Rattle.script_model.specs.Formula.{State, Entry, Body, Formula, Observer, Meanings, meanings_of, Literal, Name, Apply, Variable, Computed}
+use Rattle.script_model.specs.Need.{Item, Visit, IsVisit, Needed, from_root, WithinWork}
+use Rattle.script_model.specs.Settle.{Becomes, BecomeAll, Builds, ShowAll}
+use Rattle.script_model.specs.Step.{Moment, NothingNeededIsBlocked, settles}
+use Rattle.script_model.specs.Values.{Outcome, seen_value}
+use Rattle.script_graph.specs.Kept.{Kept, arena_of, node_in, without_functions}
+use Rattle.script_graph.specs.Plain.{IsPlain, IsPlainBody, IsEarlierTarget, AllPlain}
+use Rattle.script_graph.specs.Represents.{graph_functions, beside, there_in, AreNames, Represents, Watches, WasRun, Settled}
+use Rattle.script_graph.specs.Stabilizing.{IsAccepted}
+use Rattle.script_graph.specs.State.{Holds, Stands}
+use Rattle.script_graph.proofs.Beside.{represented_fits, grabs_bind}
+use Rattle.script_graph.proofs.Deep.{deep_in_graph}
+use Rattle.script_graph.proofs.Functions.{functions_are}
+use Rattle.script_graph.proofs.Holding.{ready_is_flat}
+use Rattle.script_graph.proofs.Plain.{name_gives_base}
+use Rattle.script_graph.proofs.Recalling.{needed_is_right, visit_is_recalled}
+use Rattle.script_graph.proofs.Running.{map_ran, all_ran, one_call_each}
+use Rattle.script_graph.proofs.Same.{besides, observed_so, represents_so}
+use Rattle.script_graph.proofs.Showing.{ShowsThen, AllShow, all_show, made_then, shows_then, names_then, watches_then}
+use Rattle.script_graph.proofs.Looking.{observed_of_root}
+use Rattle.script_graph.proofs.Watching.{observed_are, watched_roots_have, can_is_ready, meeting_is_covered}
+use Rattle.transfer.specs.Both.{Both, graph_value}
+use Rattle.transfer.specs.Items.{node_of}
+use Rattle.transfer.specs.Work.{Ran}
+use Rattle.transfer.proofs.Meanings.{names_agree, needed_has_nodes, ran_is_within_work}
+use Rattle.transfer.proofs.Reaching.{needed_closed}
+
+-- ---- declarations
+
+-- what is kept of a plain formula stays
+plain_builds : (F : Meanings) (before s : State) (n : ℕ) (f : Formula) (P : ℕ → Type 0) → IsPlain P f → (was : Option Outcome)
+    → Builds F before s n f was was
+plain_builds F before s n (Literal v) P fine was = refl
+plain_builds F before s n (Name m) P fine was = refl
+plain_builds F before s n (Apply g arguments) P fine was = refl
+plain_builds F before s n f P fine was = absurd fine
+
+plain_becomes : (F : Meanings) (before s after : State) (n : ℕ) (b : Body) (P : ℕ → Type 0) → IsPlainBody P b → Becomes F before s after n b b
+plain_becomes F before s after n (Variable v) P fine = refl
+plain_becomes F before s after n (Computed f kept) P fine = (kept, refl, record { built = plain_builds F before s n f P fine.0 kept.built })
+plain_becomes F before s after n b P fine = absurd fine
+
+all_become : (F : Meanings) (before s after : State) (n : ℕ) (es : List Entry)
+    → ((j : ℕ) (e : Entry) → slice_get es j ≡ Some e → (m : ℕ) → Becomes F before s after m e.body e.body) → BecomeAll F before s after n es es
+all_become F before s after n [] each = tt
+all_become F before s after n (e ∷ es) each =
+    ((e.body, refl, each 0 e refl n), all_become F before s after (suc n) es (λ j x at. each (suc j) x at))
+
+-- the declarations of a plain state stay
+entries_become : (F : Meanings) (before s after : State) → AllPlain s → BecomeAll F before s after 0 s.entries s.entries
+entries_become F before s after plain = all_become F before s after 0 s.entries
+    (λ j e at m. plain_becomes F before s after m e.body (IsEarlierTarget s j)
+    (plain j e.body (ap (λ (x : Option Entry). and_then x (λ (y : Entry). Some y.body)) at)))
+
+-- ---- what stands in the way
+
+-- where nothing needed is too deep, nothing needed stands in the way
+pub nothing_in_the_way : (F : Meanings) (m : Moment) → ((i : Item) → Needed F m.present i → TooDeep F m.present i → ⊥) → NothingNeededIsBlocked F m
+nothing_in_the_way F m shallow i need blocked = by_cause i need blocked
+  where
+    by_cause : (j : Item) → Needed F m.present j → InTheWay F m.present j → ⊥
+    by_cause j n (on_cycle comes cycle) = cc
+    by_cause j n (too_deep deep) = shallow j n deep
+
+-- ---- the stabilize
+
+module _ (named : List ℕ → Option FnRef) (value : FnRef → List GraphValue → GraphValue) (known : FnRef → Bool) (m : Moment) (k : Kept)
+    (g : Standing (Unit {0})) (called calls : ℕ) (stands : Stands (meanings_of named value) k m) (unbroken : m.broken ≡ None)
+    (sound : IsSound known (seen_value value) k.graph.parts k.graph.observers k.graph.rooted k.graph.refused)
+    (done : GraphStabilizes (graph_functions (meanings_of named value)) k.graph g)
+    (rose : RoseBy called (length g.parts.ran.items) calls) where
+  abbrev F : Meanings
+  F = meanings_of named value
+
+  abbrev s : State
+  s = m.present
+
+  abbrev before : State
+  before = m.settled
+
+  abbrev arena : Arena
+  arena = arena_of k
+
+  abbrev observed : List NodeId
+  observed = in_use k.graph.observers
+
+  abbrev ran : List NodeId
+  ran = g.parts.ran.items
+
+  abbrev x : Both
+  x = beside F s k
+
+  abbrev new : Kept
+  new = record k { accepted = k.accepted + 1; graph = g }
+
+  holds : Holds F k m
+  holds = stands.holds unbroken
+
+  can : CanStabilize known (seen_value value) k.graph.parts k.graph.observers k.graph.rooted
+  can = sound.unbroken done.was
+
+  flat : IsFlat (graph_of arena)
+  flat = ready_is_flat (graph_functions F) arena k.graph.parts.work (can_is_ready named value known k can)
+
+  -- ---- what is too deep
+
+  shallow : (i : Item) → Needed F s i → TooDeep F s i → ⊥
+  shallow i need deep =
+      let fits = represented_fits named value s k holds.represents in
+      let grabs = grabs_bind s holds.represents.plain in
+      let n = needed_has_nodes x fits grabs observed (watched_roots_have F s k holds.represents.plain holds.watches) (seen g.parts.work.rows)
+      (needed_is_right (graph_functions F) arena flat k.graph.parts.work g.parts.work observed ran done.right) i need in
+      done.right.shallow (main n.0) n.2 (deep_in_graph x fits holds.represents.plain
+      (λ p q reads. reads_flat (graph_functions F) (graph_of arena) flat p q reads) i n.0
+      (λ owner path e. (needed_closed x grabs).there owner path (subst (Needed F s) e need)) n.1 deep)
+
+  -- ---- calls
+
+  fresh : (n : NodeId) (c : WasCalled (graph_functions F) arena k.graph.parts.work g.parts.work observed n) (v : Visit) → IsVisit F before v
+      → Needed F before v.item → node_of x v.item ≡ Some n → c.values ≡ map (graph_value (node_in k.nodes)) v.values → ⊥
+  fresh n c v is need at same =
+      let w = holds.settled.ran v is need in
+      let node : w.node ≡ n = (let e = w.is_node in cc) in
+      c.reason w.call (subst (λ (q : NodeId). last_call k.graph.parts.work q ≡ Some w.call) node w.is_last) (w.values_are ∙ sym same)
+
+  ran_each : (n : NodeId) → Among n ran → Ran x before n
+  ran_each n among =
+      let c = done.right.called n among in
+      let i = meeting_is_covered named value known s k holds.represents holds.watches can (main n) c.met in
+      map_ran x before n c.row c.function c.nodes c.values c.is_row (flat_stands (graph_functions F) (graph_of arena) flat n c.row c.is_row) c.is_map
+      c.gives (i.0, from_root i.1, i.2) (fresh n c)
+
+  due : WithinWork F before s (length ran)
+  due = ran_is_within_work x (represented_fits named value s k holds.represents) before (grabs_bind before holds.settled.plain)
+      (grabs_bind s holds.represents.plain) holds.settled.formulas ran (all_ran x before ran ran_each) (length ran) done.right.once
+      (one_call_each x before (code_row arena) ran (all_ran x before ran ran_each))
+
+  -- ---- observers
+
+  shows_one : (o : ObsId) (y : Observer) → slice_get holds.watches.made o.0 ≡ Some (Some y) → (p : Outcome) × ShowsThen F s k g y p
+  shows_one o y at =
+      let w = holds.watches.observing o y at in
+      let looks : node_at g.observers o ≡ Some (node_in k.nodes y.target) =
+      subst (λ (os : List Looking). node_at os o ≡ Some (node_in k.nodes y.target)) (sym done.observers) w.looks in
+      let q = done.shows o (node_in k.nodes y.target) looks in
+      let gives : NodeGives (graph_functions F) (graph_of arena) (node_in k.nodes y.target) q.0 =
+      subst (λ (a : Arena). NodeGives (graph_functions F) (graph_of a) (node_in k.nodes y.target) q.0) done.nodes q.2 in
+      let p = names_agree x (represented_fits named value s k holds.represents) y.target q.0 gives in (
+        p.0,
+        record {
+          gives = p.2;
+          base = name_gives_base named value s holds.represents.plain y.target p.0 p.2;
+          shown = q.1 ∙ ap (λ o. Some o) p.1;
+          unwatched = w.unwatched;
+        },
+      )
+
+  shown : AllShow F s k g holds.watches.made
+  shown = all_show F s k g holds.watches.made (λ j y at. shows_one (record { 0 = j }) y at)
+
+  abbrev then : State
+  then = observed_so s (there_in (made_then F s k g holds.watches.made shown)) (s.accepted + 1)
+
+  represented : Represents F then new
+  represented = represents_so F s (there_in (made_then F s k g holds.watches.made shown)) (s.accepted + 1) k new refl refl done.nodes holds.represents
+
+  watched : Watches then new
+  watched = watches_then F s k g holds.watches shown (s.accepted + 1) (k.accepted + 1) done.observers done.rooted
+
+  -- ---- last calls
+
+  -- the graph as it was, for the state afterwards
+  abbrev still : Kept
+  still = record k { accepted = k.accepted + 1 }
+
+  recalled : (v : Visit) → IsVisit F then v → Needed F then v.item → WasRun (beside F then new) new v
+  recalled v is need =
+      let in_old = represents_so F s (there_in (made_then F s k g holds.watches.made shown)) (s.accepted + 1) k still refl refl refl holds.represents in
+      let are = sym (ap in_use done.observers) ∙ observed_are then new watched in
+      let r = visit_is_recalled F then k.nodes arena (represented_fits named value then still in_old) (grabs_bind then represented.plain) flat
+      k.graph.parts.work g.parts.work observed ran
+      (λ t among. inl (observed_of_root then represented.plain (node_in k.nodes) observed are t among)) done.right v is need in
+      record {
+        node = r.node;
+        is_node = subst (λ (a : Arena). node_of (besides F then k.nodes a) v.item ≡ Some r.node) (sym done.nodes) r.is_node;
+        call = r.call;
+        is_last = r.is_last;
+        values_are = r.values_are;
+      }
+
+  settled : Settled F then then new
+  settled = record { formulas = λ owner path f e. e; plain = represented.plain; ran = recalled }
+
+  -- ---- the moment after it
+
+  abbrev after : Moment
+  after = record { settled = then; present = then; broken = None }
+
+  names : AreNames new.names then
+  names = record {
+    declared = stands.names.declared;
+    now = stands.names.now;
+    in_use = λ name. stands.names.in_use name ∙ ap (λ (ns : List (List ℕ)). is_among ns name)
+        (ap (map (λ (o : Observer). o.name)) holds.watches.in_order ∙ sym (names_then F s k g holds.watches.made shown));
+  }
+
+  stands_then : Stands F new after
+  stands_then = record {
+    names = names;
+    accepted = ap (λ (n : ℕ). n + 1) stands.accepted;
+    broken = sym unbroken ∙ stands.broken;
+    holds = λ e. record { represents = represented; watches = watched; settled = settled };
+  }
+
+  -- what is kept stands for the moment after it
+  pub accepted_stands : IsAccepted F m new called calls
+  accepted_stands = record {
+    after = after;
+    stabilizes = settles [] (nothing_in_the_way F m shallow) (record {
+      observers = subst (λ (xs : List Observer). ShowAll F s xs then.observers []) (sym holds.watches.in_order) (shows_then F s k g holds.watches.made shown);
+      entries = entries_become F before s then holds.represents.plain;
+      now = refl;
+      accepted = refl;
+    }) refl refl refl;
+    work = length ran;
+    due = due;
+    within = rose.most;
+    stands = stands_then;
+  }
+
+-- ---- over a graph with its functions
+
+module _ {A : Type 0} where
+  -- what is so of a graph is so of what is kept of it
+  pub kept_stabilizes : (M : Functions) (old new : Standing A) → GraphStabilizes M old new
+      → GraphStabilizes M (without_functions old) (without_functions new)
+  kept_stabilizes M old new done = record {
+    was = done.was;
+    unbroken = done.unbroken;
+    nodes = done.nodes;
+    observers = done.observers;
+    rooted = done.rooted;
+    shows = done.shows;
+    right = done.right;
+  }
+
+  -- a stabilize of a session's graph that was accepted is one of its script
+  pub session_accepted : (named : List ℕ → Option FnRef) (value : FnRef → List GraphValue → GraphValue) (known : FnRef → Bool) (k : Kept)
+      (old new : Standing A) (called calls : ℕ) → k.graph ≡ without_functions old → k.broken ≡ None
+      → IsSound known (seen_value value) old.parts old.observers old.rooted old.refused → GraphStabilizes (functions_of (seen_value value)) old new
+      → RoseBy called (length new.parts.ran.items) calls → (m : Moment) → Stands (meanings_of named value) k m
+      → IsAccepted (meanings_of named value) m (record k { accepted = k.accepted + 1; graph = without_functions new }) called calls
+  session_accepted named value known k old new called calls same unbroken sound done rose m stands =
+      accepted_stands named value known m k (without_functions new) called calls stands (stands.broken ∙ unbroken)
+      (subst (λ (h : Standing (Unit {0})). IsSound known (seen_value value) h.parts h.observers h.rooted h.refused) (sym same) sound)
+      (subst (λ (h : Standing (Unit {0})). GraphStabilizes (graph_functions (meanings_of named value)) h (without_functions new)) (sym same)
+      (subst (λ (M : Functions). GraphStabilizes M (without_functions old) (without_functions new)) (sym (functions_are named value))
+      (kept_stabilizes (functions_of (seen_value value)) old new done)))
+      rose

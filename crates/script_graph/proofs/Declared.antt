@@ -1,0 +1,262 @@
+-- A script after a declaration, after one that was taken back, and after an assignment, over a graph with its functions.
+use Rattle.std.proofs.Common.{◌≡◌, ◌⊎◌, inl, inr, ℕ, ◌+◌, ◌<◌, ◌≤◌, Bool, List, [], ◌∷◌, ◌++◌, length, Option, None, Some, IfSome, IsTrue, refl, ap, sym, subst, ◌∙◌, arith, slice_get}
+use Rattle.std.proofs.lemmas.List.{get_or_append_left, get_or_at}
+use Rattle.std.proofs.lemmas.Option.{none-some, slice_get-get_or}
+use Rattle.formula_lang.specs.Fits.{AssignmentFits, BodyFits, DeclarationFits, NameFits}
+use Rattle.formula_elab.specs.Laying.{laid_body}
+use Rattle.formula_elab.specs.Names.{EveryNameOf}
+use Rattle.formula_elab.specs.Opened.{node_at, node_of}
+use Rattle.formula_elab.specs.declared.opened.Open.{Open}
+use Rattle.formula_elab.proofs.Places.{one_each_of_body}
+use Rattle.graph.specs.Effects.{Sets, TakesBack}
+use Rattle.graph.specs.Standing.{Standing}
+use Rattle.inc_value.specs.Value as engine
+use Rattle.inc_value.specs.declared.function.FnRef.{FnRef}
+use Rattle.inc_value.specs.declared.node.NodeId.{NodeId}
+use Rattle.inc_value.specs.declared.node.ObsId.{ObsId}
+use Rattle.inc_value.specs.declared.ty.Ty.{Ty}
+use Rattle.inc_value.specs.declared.value.Value.{Value as GraphValue}
+use Rattle.inc_value.specs.Choice.{and_then}
+use Rattle.inc_terms.specs.Graph.{Row}
+use Rattle.inc_terms.specs.Within.{Given, ValueWithin}
+use Rattle.node_arena.specs.Arena.{Arena, row_at, live, IsVariable}
+use Rattle.node_arena.specs.Sound as arena
+use Rattle.node_arena.specs.Typing.{FitsNode, HasType}
+use Rattle.script_model.specs.Check.{Assign, Declare, Declared, Kind, Names, Variable as VariableKind, is_variable, kind_of_body, target_of_body}
+use Rattle.script_model.specs.Formula.{Body, meanings_of, places_of_body, Literal, Name, Apply, Variable, Computed}
+use Rattle.script_model.specs.Run.{calls_of_body}
+use Rattle.script_model.specs.Step.{Moment, declared_in, moved}
+use Rattle.script_model.specs.Values.{Value, to_engine}
+use Rattle.script_graph.specs.Growing.{Extends, IsMaking, PartFits, AllOpenFit}
+use Rattle.script_graph.specs.Kept as kept
+use Rattle.script_graph.specs.Kept.{Kept, arena_of, node_in, HasNode, AreOlder, IsSound, without_functions}
+use Rattle.script_graph.specs.Represents.{beside}
+use Rattle.script_graph.specs.State.{Stands}
+use Rattle.script_graph.proofs.Counting.{live_within}
+use Rattle.script_graph.proofs.Declaring.{declaring_stands, with_declared}
+use Rattle.script_graph.proofs.Extending.{extends_without, stands_on, taken_back_extends}
+use Rattle.script_graph.proofs.Laying.{every_name_of, laid_fits, made_declares, made_owned, made_root, made_variable}
+use Rattle.script_graph.proofs.Maps.{HasNewMaps, WereLive, made_new_maps, map_live, maps_laid_body}
+use Rattle.script_graph.proofs.Making.{reference_fits, value_given}
+use Rattle.script_graph.proofs.Setting.{setting_stands}
+use Rattle.script_graph.proofs.Sounding.{sound_declared, sound_on, sound_set}
+
+-- ---- the nodes of names
+
+same_default : (nodes : List NodeId) (n : ℕ) → n < length nodes → node_at nodes n ≡ node_in nodes n
+same_default nodes n low =
+    let e : Some (node_at nodes n) ≡ Some (node_in nodes n) = sym (slice_get-get_or nodes n _ low) ∙ slice_get-get_or nodes n _ low in cc
+
+-- what a name that fits stands for has its node, which has the name's type
+pub names_there : (a : Arena) (names : Names) (nodes : List NodeId) → length nodes ≡ length names.declared
+    → ((n : ℕ) (d : Declared) → slice_get names.declared n ≡ Some d → HasNode a nodes n d)
+    → (position : ℕ) (t : Ty) → NameFits names position t → (r : Row) × (row_at a (node_at nodes position) ≡ Some r) × (r.ty ≡ t)
+names_there a names nodes one_each has position t fits =
+    let node = has fits.place fits.declared fits.stands in
+    let low : position < length nodes = omega (arith, fits.earlier, one_each) in
+    let same : node_at nodes position ≡ node_in nodes fits.place =
+    same_default nodes position low ∙ (ap (node_in nodes) (sym fits.target) ∙ node.target) in
+    (node.row, ap (row_at a) same ∙ node.is_row, node.typed ∙ fits.typed)
+
+-- the positions of names are those of nodes
+pub names_within : (known : FnRef → Bool) (names : Names) (nodes : List NodeId) → length nodes ≡ length names.declared → (body : Body) (ty : Ty)
+    → BodyFits known names body ty → EveryNameOf (λ n. n < length nodes) body
+names_within known names nodes one_each body ty fits =
+    every_name_of known names (λ n. n < length nodes) (λ position t fine. omega (arith, fine.earlier, one_each)) body ty fits
+
+-- ---- after a declaration
+
+variable_of : (known : FnRef → Bool) (names : Names) (a : Arena) (nodes : ℕ → NodeId) (made : List NodeId) (body : Body) (ty : Ty) → BodyFits known names body ty
+    → ((v : Value) → body ≡ Variable v → IsVariable a (node_of made (laid_body nodes 0 body).root))
+    → kind_of_body body ≡ VariableKind → IsVariable a (node_of made (laid_body nodes 0 body).root)
+variable_of known names a nodes made (Variable v) ty fits is kind = is v refl
+variable_of known names a nodes made (Computed (Literal v) kept) ty fits is kind = absurd (cc)
+variable_of known names a nodes made (Computed (Name n) kept) ty fits is kind = absurd (cc)
+variable_of known names a nodes made (Computed (Apply f arguments) kept) ty fits is kind = absurd (cc)
+variable_of known names a nodes made (Computed f kept) ty fits is kind = absurd fits.0
+variable_of known names a nodes made body ty fits is kind = absurd fits
+
+-- the target of what is declared has its node
+target_node : (known : FnRef → Bool) (names : Names) (nodes : List NodeId) (made : List NodeId) (body : Body) (ty : Ty) → BodyFits known names body ty
+    → ((position : ℕ) → position < length names.declared
+    → node_at nodes position ≡ node_in (nodes ++ node_of made (laid_body (node_at nodes) 0 body).root ∷ []) position)
+    → node_in (nodes ++ node_of made (laid_body (node_at nodes) 0 body).root ∷ []) (length names.declared) ≡ node_of made (laid_body (node_at nodes) 0 body).root
+    → node_in (nodes ++ node_of made (laid_body (node_at nodes) 0 body).root ∷ []) (target_of_body (length names.declared) body)
+    ≡ node_of made (laid_body (node_at nodes) 0 body).root
+target_node known names nodes made (Computed (Name t) kept) ty fits same new = sym (same t fits.0.earlier)
+target_node known names nodes made (Computed f kept) ty fits same new = new
+target_node known names nodes made body ty fits same new = new
+
+module _ {F : Type 0} (first now : Standing F) (names : Names) (nodes : List NodeId) (observers : List ObsId) (room accepted : ℕ) (broken : Option ℕ) where
+  abbrev before : Kept
+  before = record { names = names; nodes = nodes; observers = observers; room = room; accepted = accepted; broken = broken; graph = without_functions first }
+
+  -- where nodes were added and taken back, all is as it was
+  abbrev returned : Kept
+  returned = record { names = names; nodes = nodes; observers = observers; room = room; accepted = accepted; broken = broken; graph = without_functions now }
+
+  module _ (h : IsSound before) (sound : arena.IsSound first.parts.arena) (sound' : arena.IsSound now.parts.arena)
+      (older : AreOlder now.parts.arena) where
+    pub returned_sound : Extends first now → live now.parts.arena ≤ live first.parts.arena → IsSound returned
+    returned_sound more few =
+        sound_on before h sound (without_functions now) (extends_without first now more) older (let room = h.few in omega (arith, few, room))
+
+    pub returned_stands : Extends first now → HasNewMaps first.parts.arena now.parts.arena 0 → (named : List ℕ → Option FnRef) (value : FnRef → List GraphValue → GraphValue) (m : Moment)
+        → Stands (meanings_of named value) before m → Stands (meanings_of named value) returned m
+    returned_stands more fewer named value m =
+        stands_on named value before (without_functions now) sound sound' (extends_without first now more) fewer m
+
+    module _ (known : FnRef → Bool) (name : List ℕ) (ty : Ty) (body : Body) (fits : DeclarationFits known names name ty body)
+        (made : List NodeId) (less : ℕ) (room_is : less + places_of_body body ≡ room) where
+      abbrev makes : List Open
+      makes = (laid_body (node_at nodes) 0 body).makes
+
+      abbrev root : NodeId
+      root = node_of made (laid_body (node_at nodes) 0 body).root
+
+      abbrev after : Kept
+      after = with_declared before name ty body root less (without_functions now)
+
+      module _ (making : IsMaking first now makes made) (whole : length made ≡ length makes) where
+        more : Extends (without_functions first) (without_functions now)
+        more = extends_without first now making.extends
+
+        there : (position : ℕ) (t : Ty) → NameFits names position t → (r : Row) × (row_at first.parts.arena (node_at nodes position) ≡ Some r) × (r.ty ≡ t)
+        there = names_there first.parts.arena names nodes h.one_node_each h.has_nodes
+
+        laid : AllOpenFit known first.parts.arena makes × PartFits first.parts.arena makes ty (laid_body (node_at nodes) 0 body).root
+        laid = laid_fits known first.parts.arena (node_at nodes) names there body ty fits.body_fits
+
+        typed : (r : Row) × (row_at now.parts.arena root ≡ Some r) × (r.ty ≡ ty)
+        typed = made_root known names first now (node_at nodes) made sound body ty making whole laid.1
+
+        node_new : node_in (nodes ++ root ∷ []) (length names.declared) ≡ root
+        node_new = get_or_at nodes root [] kept.no_node (length names.declared) h.one_node_each
+
+        node_same : (position : ℕ) → position < length names.declared → node_at nodes position ≡ node_in (nodes ++ root ∷ []) position
+        node_same position low =
+            let inside : position < length nodes = (let each = h.one_node_each in omega (arith, low, each)) in
+            same_default nodes position inside ∙ sym (get_or_append_left nodes (root ∷ []) kept.no_node position inside)
+
+        size : length makes ≡ places_of_body body
+        size = one_each_of_body (λ n. n < length nodes) (node_at nodes) body (names_within known names nodes h.one_node_each body ty fits.body_fits)
+
+        few : live now.parts.arena + less ≤ 1048575
+        few = let room = h.few in omega (arith, making.few, room, room_is, whole, size)
+
+        pub declared_stands : (named : List ℕ → Option FnRef) (value : FnRef → List GraphValue → GraphValue) (m : Moment) → broken ≡ None
+            → Stands (meanings_of named value) before m → Stands (meanings_of named value) after (moved m (Declare name ty body))
+        declared_stands named value m unbroken =
+            declaring_stands named value known before (without_functions now) sound sound' more m name ty body root less fits room_is
+            (made_new_maps first now makes made (calls_of_body body) making whole (maps_laid_body (node_at nodes) body))
+            (made_owned known names first now (node_at nodes) made sound body ty fits.body_fits making whole)
+            (made_declares known names (beside (meanings_of named value) (declared_in m.present name ty body) after) (node_at nodes) made body ty fits.body_fits
+            (λ position t fine. node_same position fine.earlier) making.stands whole) unbroken
+
+        pub declared_sound : IsSound after
+        declared_sound =
+            sound_declared before h sound (without_functions now) more older name ty body root less typed.0 typed.1 typed.2
+            (variable_of known names now.parts.arena (node_at nodes) made body ty fits.body_fits (λ v is. variable_here v body is making whole))
+            (target_node known names nodes made body ty fits.body_fits node_same node_new) few
+          where
+            variable_here : (v : Value) (b : Body) → b ≡ Variable v → IsMaking first now (laid_body (node_at nodes) 0 b).makes made
+                → length made ≡ length (laid_body (node_at nodes) 0 b).makes → IsVariable now.parts.arena (node_of made (laid_body (node_at nodes) 0 b).root)
+            variable_here v b is making whole =
+                subst (λ (c : Body). IsVariable now.parts.arena (node_of made (laid_body (node_at nodes) 0 c).root)) (sym is)
+                (made_variable known names first now (node_at nodes) made sound v
+                (subst (λ (c : Body). IsMaking first now (laid_body (node_at nodes) 0 c).makes made) is making)
+                (subst (λ (c : Body). length made ≡ length (laid_body (node_at nodes) 0 c).makes) is whole))
+
+  -- ---- after an assignment
+
+  module _ (h : IsSound before) (sound : arena.IsSound first.parts.arena) (sound' : arena.IsSound now.parts.arena)
+      (older : AreOlder now.parts.arena) (target : ℕ) (w : GraphValue) (sets : Sets first now (node_in nodes target) w) where
+    sets_without : Sets (without_functions first) (without_functions now) (node_in nodes target) w
+    sets_without = record {
+      beside = record {
+        functions = refl;
+        observers = sets.beside.observers;
+        rooted = sets.beside.rooted;
+        refused = sets.beside.refused;
+        shown = sets.beside.shown;
+        last = sets.beside.last;
+        links = sets.beside.links;
+        roots = sets.beside.roots;
+        ran = sets.beside.ran;
+      };
+      given = sets.given;
+      set = sets.set;
+    }
+
+    pub set_sound : IsSound returned
+    set_sound = sound_set before h sound (without_functions now) (node_in nodes target) w sets_without older
+
+    pub set_stands : AssignmentFits names target (engine.type_of w) → (named : List ℕ → Option FnRef) (value : FnRef → List GraphValue → GraphValue)
+        (m : Moment) (v : Value) → to_engine v ≡ w → Stands (meanings_of named value) before m
+        → Stands (meanings_of named value) returned (moved m (Assign target v))
+    set_stands fits named value m v is = setting_stands named value before (without_functions now) sound sound' m target w v is sets_without fits
+
+-- ---- nodes that were taken back
+
+module _ {F : Type 0} (first full now : Standing F) (count : ℕ) (more : Extends first full) (back : TakesBack full now count)
+    (since : count ≡ first.parts.arena.given) where
+  pub back_extends : Extends first now
+  back_extends = taken_back_extends first full now count more back (omega (arith, since))
+
+  below_or : (i j : ℕ) → (i < j) ⊎ (j ≤ i)
+  below_or i j = grind arith
+
+  -- what is live was live first
+  back_live : WereLive first.parts.arena now.parts.arena
+  back_live n r is = elim (below_or n.gen_ count) [
+    | inl low ↦ sym (more.rows n (omega (arith, low, since))) ∙ (sym (back.older n low) ∙ is)
+    | inr high ↦ absurd (none-some r (sym (back.dropped n high) ∙ is))
+  ]
+
+  -- no more nodes are live
+  pub back_few : live now.parts.arena ≤ live first.parts.arena
+  back_few = live_within first.parts.arena now.parts.arena (λ n r is. (r, back_live n r is))
+
+  -- nor is a map that wasn't
+  pub back_maps : HasNewMaps first.parts.arena now.parts.arena 0
+  back_maps = record {
+    maps = [];
+    few = omega arith;
+    all = λ n m. inl (map_live first.parts.arena now.parts.arena back_live n m);
+  }
+
+-- ---- a variable that may be set
+
+-- the node is a variable that takes the value
+pub record TakesValue (a : Arena) (n : NodeId) (w : GraphValue) : Type 0 where
+  pub variable : IsVariable a n
+  pub given : Given a.given n
+  pub within : ValueWithin (Given a.given) w
+  pub fits : FitsNode a n w
+
+kind_known : (o : Option Declared) → IsTrue (is_variable (and_then o (λ (d : Declared). Some d.kind)))
+    → (d : Declared) × (o ≡ Some d) × (d.kind ≡ VariableKind)
+kind_known None is = absurd (cc)
+kind_known (Some d) is = (d, refl, by_kind d.kind is)
+  where
+    by_kind : (k : Kind) → IsTrue (is_variable (Some k)) → k ≡ VariableKind
+    by_kind VariableKind is = refl
+    by_kind k is = absurd (cc)
+
+-- an assignment that fits
+pub assigned_takes : (a : Arena) (names : Names) (nodes : List NodeId) → arena.IsSound a
+    → ((n : ℕ) (d : Declared) → slice_get names.declared n ≡ Some d → HasNode a nodes n d)
+    → (target : ℕ) (w : GraphValue) → AssignmentFits names target (engine.type_of w) → TakesValue a (node_in nodes target) w
+assigned_takes a names nodes sound has target w fits =
+    let d = kind_known (slice_get names.declared target) fits.variable in
+    let here = has target d.0 d.1 in
+    let place = has fits.name.place fits.name.declared fits.name.stands in
+    let same : node_in nodes target ≡ node_in nodes fits.name.place = ap (node_in nodes) (sym fits.name.target) ∙ place.target in
+    let row : row_at a (node_in nodes target) ≡ Some place.row = ap (row_at a) same ∙ place.is_row in
+    record {
+      variable = here.variable d.2;
+      given = sound.given (node_in nodes target) (rw row refl);
+      within = value_given (Given a.given) w fits.base;
+      fits = subst (λ (o : Option Row). IfSome o (λ (r : Row). HasType a w r.ty)) (sym row)
+          (record { type = sym (place.typed ∙ fits.name.typed); reference = reference_fits a w fits.base });
+    }

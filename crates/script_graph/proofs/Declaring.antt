@@ -1,0 +1,348 @@
+-- What is kept of a script after a declaration.
+use Rattle.std.proofs.Common.{◌≡◌, ◌⊎◌, inl, inr, ℕ, suc, ◌+◌, ◌<◌, ◌≤◌, Bool, List, [], ◌∷◌, ◌++◌, map, length, Option, None, Some, option_map, refl, ap, sym, subst, ◌∙◌, arith, slice_get}
+use Rattle.std.proofs.lemmas.Option.{slice_get_within, slice_get-map}
+use Rattle.std.proofs.lemmas.List.{length-append, map-append, get_or_append_left, get_or_at}
+use Rattle.std.proofs.lemmas.List.Sums.{sum_by_push}
+use Rattle.formula_lang.specs.Fits.{ArgumentsFit, BodyFits, DeclarationFits, FormulaFits, NameFits}
+use Rattle.inc_value.specs.Choice.{and_then}
+use Rattle.inc_value.specs.Ty.{IsBase}
+use Rattle.inc_value.specs.declared.function.FnRef.{FnRef}
+use Rattle.inc_value.specs.declared.node.NodeId.{NodeId}
+use Rattle.inc_value.specs.declared.ty.Ty.{Ty}
+use Rattle.inc_value.specs.declared.value.Value.{Value as GraphValue}
+use Rattle.graph.specs.Standing.{Standing}
+use Rattle.link_table.proofs.Lists.{get_append_last, get_append_other}
+use Rattle.node_arena.specs.Arena.{row_at}
+use Rattle.node_arena.specs.Graph.{graph_of}
+use Rattle.node_arena.specs.Sound as arena
+use Rattle.script_model.specs.Check.{Declare, Declared, Names, declared_of, kind_of_body, names_of, target_of_body}
+use Rattle.script_model.specs.Formula.{State, Body, Entry, Formula, Formulas, Meanings, meanings_of, body_at, entry_at, formula_of_body, places_of_body, Literal, Name, Apply, End, More, Variable, Computed}
+use Rattle.script_model.specs.Need.{part_of}
+use Rattle.script_model.specs.Run.{calls_of_body}
+use Rattle.script_model.specs.Step.{Moment, declared_in, moved}
+use Rattle.script_model.specs.Values.{Value, type_of}
+use Rattle.script_graph.specs.Growing.{Extends}
+use Rattle.script_graph.specs.Kept.{Kept, arena_of, node_in, no_node}
+use Rattle.script_graph.specs.Plain.{IsPlain, ArePlain, IsPlainBody, IsEarlierTarget, AllPlain}
+use Rattle.script_graph.specs.Represents.{AreNames, beside, IsWithin, OwnNodesOf, Represents}
+use Rattle.script_graph.specs.State.{Holds, Stands}
+use Rattle.script_graph.proofs.Carrying.{watches_on, settled_on}
+use Rattle.script_graph.proofs.Extending.{live_stays, declares_still, body_within, body_there, node_given, formula_body, never_given, body_past, node_past}
+use Rattle.script_graph.proofs.Maps.{HasNewMaps, few_maps_on}
+use Rattle.script_graph.proofs.Owning.{own_nodes_of_on}
+use Rattle.transfer.specs.Items.{node_at, FormulasStay}
+use Rattle.transfer.specs.Keeping.{RowsStay}
+use Rattle.transfer.specs.Shows.{Declares, IsOwn}
+use Rattle.transfer.proofs.Places.{then_some}
+use Rattle.transfer.proofs.Typed.{body_entry}
+
+-- ---- plain formulas
+
+module _ (P Q : ℕ → Type 0) (more : (n : ℕ) → P n → Q n) where
+  mutual
+    plain_more : (f : Formula) → IsPlain P f → IsPlain Q f
+    plain_more (Literal v) fine = fine
+    plain_more (Name n) fine = more n fine
+    plain_more (Apply f arguments) fine = plain_all_more arguments fine
+    plain_more f fine = absurd fine
+
+    plain_all_more : (fs : Formulas) → ArePlain P fs → ArePlain Q fs
+    plain_all_more End fine = tt
+    plain_all_more (More f rest) fine = (plain_more f fine.0, plain_all_more rest fine.1)
+
+  pub plain_body_more : (b : Body) → IsPlainBody P b → IsPlainBody Q b
+  plain_body_more (Variable v) fine = fine
+  plain_body_more (Computed f kept) fine = (plain_more f fine.0, fine.1)
+  plain_body_more b fine = absurd fine
+
+value_base : (v : Value) (ty : Ty) → type_of v ≡ ty → IsBase ty → IsBase (type_of v)
+value_base v ty is base = subst (λ (t : Ty). IsBase t) (sym is) base
+
+module _ (known : FnRef → Bool) (names : Names) (P : ℕ → Type 0) (named : (position : ℕ) (ty : Ty) → NameFits names position ty → P position) where
+  mutual
+    fitting_plain : (f : Formula) (ty : Ty) → FormulaFits known names f ty → IsPlain P f
+    fitting_plain (Literal v) ty fits = value_base v ty fits.0 fits.1
+    fitting_plain (Name n) ty fits = named n ty fits
+    fitting_plain (Apply f arguments) ty fits = fitting_all_plain arguments f.sig.takes fits.1
+    fitting_plain f ty fits = absurd fits
+
+    fitting_all_plain : (fs : Formulas) (tys : List Ty) → ArgumentsFit known names fs tys → ArePlain P fs
+    fitting_all_plain End [] fits = tt
+    fitting_all_plain End (ty ∷ tys) fits = absurd fits
+    fitting_all_plain (More f rest) [] fits = absurd fits
+    fitting_all_plain (More f rest) (ty ∷ tys) fits = (fitting_plain f ty fits.0, fitting_all_plain rest tys fits.1)
+
+  -- what fits the names is plain
+  pub body_plain : (b : Body) (ty : Ty) → BodyFits known names b ty → IsPlainBody P b
+  body_plain (Variable v) ty fits = value_base v ty fits.0 fits.1
+  body_plain (Computed f kept) ty fits = (fitting_plain f ty fits.0, fits.1)
+  body_plain b ty fits = absurd fits
+
+-- ---- names stand for declarations that are no other names
+
+own_or_name : (s : State) (n : ℕ) (e : Entry) → entry_at s n ≡ Some e → AllPlain s → (b : Body) → e.body ≡ b → e.target ≡ target_of_body n b
+    → IsOwn (body_at s e.target)
+own_or_name s n e is plain (Computed (Name t) kept) body target =
+    let here : body_at s n ≡ Some (Computed (Name t) kept) = ap (λ (o : Option Entry). and_then o (λ (d : Entry). Some d.body)) is ∙ ap (λ b. Some b) body in
+    subst (λ (j : ℕ). IsOwn (body_at s j)) (sym target) (plain n (Computed (Name t) kept) here).0.1
+own_or_name s n e is plain (Computed f kept) body target = itself s n e is (Computed f kept) body target tt
+  where
+    itself : (s : State) (n : ℕ) (e : Entry) → entry_at s n ≡ Some e → (b : Body) → e.body ≡ b → e.target ≡ n → IsOwn (Some b) → IsOwn (body_at s e.target)
+    itself s n e is b body target own =
+        let here : body_at s n ≡ Some b = ap (λ (o : Option Entry). and_then o (λ (d : Entry). Some d.body)) is ∙ ap (λ b. Some b) body in
+        subst (λ (j : ℕ). IsOwn (body_at s j)) (sym target) (subst IsOwn (sym here) own)
+own_or_name s n e is plain (Variable v) body target =
+    let here : body_at s n ≡ Some (Variable v) = ap (λ (o : Option Entry). and_then o (λ (d : Entry). Some d.body)) is ∙ ap (λ b. Some b) body in
+    subst (λ (j : ℕ). IsOwn (body_at s j)) (sym target) (subst IsOwn (sym here) tt)
+own_or_name s n e is plain b body target =
+    let here : body_at s n ≡ Some b = ap (λ (o : Option Entry). and_then o (λ (d : Entry). Some d.body)) is ∙ ap (λ b. Some b) body in
+    absurd (plain n b here)
+
+-- an entry of a declared name
+pub named_entry : (names : Names) (s : State) → names.declared ≡ (names_of s).declared → (place : ℕ) (d : Declared) → slice_get names.declared place ≡ Some d
+    → (e : Entry) × (entry_at s place ≡ Some e) × (declared_of e ≡ d)
+named_entry names s same place d is =
+    go (slice_get s.entries place) refl (sym (slice_get-map declared_of s.entries place) ∙ (sym (ap (λ (ds : List Declared). slice_get ds place) same) ∙ is))
+  where
+    go : (o : Option Entry) → slice_get s.entries place ≡ o → option_map declared_of (slice_get s.entries place) ≡ Some d
+        → (e : Entry) × (entry_at s place ≡ Some e) × (declared_of e ≡ d)
+    go None at e = absurd (let none = rw at at e in cc)
+    go (Some x) at e = let some = rw at at e in (x, at, (cc))
+
+-- what a name that fits stands for is an earlier declaration that is no other name
+pub fitting_target : (names : Names) (s : State) → names.declared ≡ (names_of s).declared → AllPlain s
+    → ((n : ℕ) (e : Entry) → entry_at s n ≡ Some e → e.target ≡ target_of_body n e.body)
+    → (position : ℕ) (ty : Ty) → NameFits names position ty → IsOwn (body_at s position)
+fitting_target names s same plain targets position ty fits =
+    let e = named_entry names s same fits.place fits.declared fits.stands in
+    let own = own_or_name s fits.place e.0 e.1 plain e.0.body refl (targets fits.place e.0 e.1) in
+    let target : e.0.target ≡ position = ap (λ (d : Declared). d.target) e.2 ∙ fits.target in
+    subst (λ (j : ℕ). IsOwn (body_at s j)) target own
+
+-- ---- the state
+
+module _ (s : State) (name : List ℕ) (ty : Ty) (body : Body) where
+  abbrev then : State
+  then = declared_in s name ty body
+
+  abbrev entry : Entry
+  entry = record { name = name; ty = ty; target = target_of_body (length s.entries) body; body = body }
+
+  entry_old : (n : ℕ) → n < length s.entries → entry_at then n ≡ entry_at s n
+  entry_old n low = get_append_other s.entries entry n (λ same. omega (arith, same, low))
+
+  pub body_old : (n : ℕ) → n < length s.entries → body_at then n ≡ body_at s n
+  body_old n low = ap (λ (o : Option Entry). and_then o (λ (e : Entry). Some e.body)) (entry_old n low)
+
+  pub body_new : body_at then (length s.entries) ≡ Some body
+  body_new = ap (λ (o : Option Entry). and_then o (λ (e : Entry). Some e.body)) (get_append_last s.entries entry)
+
+  below : (n count : ℕ) → n < count + 1 → (n < count) ⊎ (n ≡ count)
+  below n count less = grind (arith, less)
+
+  place_of : (n : ℕ) → n < length then.entries → (n < length s.entries) ⊎ (n ≡ length s.entries)
+  place_of n low = let size = length-append s.entries (entry ∷ []) in below n (length s.entries) (omega (arith, low, size))
+
+  entry_of : (n : ℕ) (e : Entry) → entry_at then n ≡ Some e → ((n < length s.entries) × (entry_at s n ≡ Some e)) ⊎ ((n ≡ length s.entries) × (e ≡ entry))
+  entry_of n e is = elim (place_of n (slice_get_within then.entries n e is)) [
+    | inl low ↦ inl (low, sym (entry_old n low) ∙ is)
+    | inr same ↦ inr (same, let there : Some entry ≡ Some e = sym (get_append_last s.entries entry) ∙ (ap (λ (j : ℕ). entry_at then j) (sym same) ∙ is) in cc)
+  ]
+
+  pub body_of : (n : ℕ) (b : Body) → body_at then n ≡ Some b → ((n < length s.entries) × (body_at s n ≡ Some b)) ⊎ ((n ≡ length s.entries) × (b ≡ body))
+  body_of n b is =
+      let e = body_entry then n b is in
+      elim (entry_of n e.0 e.1) [
+        | inl h ↦ inl (h.0, ap (λ (o : Option Entry). and_then o (λ (d : Entry). Some d.body)) h.1 ∙ ap (λ c. Some c) e.2)
+        | inr h ↦ inr (h.0, sym e.2 ∙ ap (λ (d : Entry). d.body) h.1)
+      ]
+
+  -- formulas stay
+  pub declared_formulas : FormulasStay s then
+  declared_formulas owner path f is =
+      let b = then_some (body_at s owner) (λ b. and_then (formula_of_body b) (λ g. part_of g path)) f is in
+      let e = body_entry s owner b.0 b.1 in
+      ap (λ (o : Option Body). and_then o (λ c. and_then (formula_of_body c) (λ g. part_of g path))) (body_old owner (slice_get_within s.entries owner e.0 e.1)) ∙ is
+
+-- ---- what is kept
+
+-- what is kept with one declaration more
+abbrev pub with_declared : Kept → List ℕ → Ty → Body → NodeId → ℕ → Standing (Unit {0}) → Kept
+with_declared k name ty body root room g = record k {
+  names = record k.names {
+    declared = k.names.declared
+        ++ record { name = name; ty = ty; kind = kind_of_body body; target = target_of_body (length k.names.declared) body } ∷ [];
+  };
+  nodes = k.nodes ++ root ∷ [];
+  room = room;
+  graph = g;
+}
+
+module _ (named : List ℕ → Option FnRef) (value : FnRef → List GraphValue → GraphValue) (known : FnRef → Bool) (k : Kept) (g : Standing (Unit {0}))
+    (sound : arena.IsSound (arena_of k)) (sound' : arena.IsSound g.parts.arena) (more : Extends k.graph g) (m : Moment)
+    (name : List ℕ) (ty : Ty) (body : Body) (root : NodeId) (room : ℕ) (fits : DeclarationFits known k.names name ty body)
+    (room_is : room + places_of_body body ≡ k.room)
+    (fewer : HasNewMaps (arena_of k) g.parts.arena (calls_of_body body))
+    (owned : OwnNodesOf (graph_of g.parts.arena) (λ (n : NodeId). ((arena_of k).given ≤ n.gen_) × (n.gen_ ≤ root.gen_)) root body) where
+  abbrev F : Meanings
+  F = meanings_of named value
+
+  abbrev s : State
+  s = m.present
+
+  abbrev s' : State
+  s' = declared_in s name ty body
+
+  abbrev new : Kept
+  new = with_declared k name ty body root room g
+
+  stays : RowsStay (graph_of (arena_of k)) (graph_of g.parts.arena)
+  stays n r u is def = live_stays k.graph g sound more n r is
+
+  names_on : AreNames k.names s → AreNames new.names s'
+  names_on h = record {
+    declared = ap (λ (t : ℕ). k.names.declared ++ record { name = name; ty = ty; kind = kind_of_body body; target = target_of_body t body } ∷ []) size
+        ∙ (ap (λ (ds : List Declared). ds ++ declared_of (entry s name ty body) ∷ []) h.declared
+        ∙ sym (map-append declared_of s.entries (entry s name ty body ∷ [])));
+    now = h.now;
+    in_use = h.in_use;
+  }
+    where
+      mapped : (es : List Entry) → length (map declared_of es) ≡ length es
+      mapped [] = refl
+      mapped (e ∷ es) = ap (λ n. suc n) (mapped es)
+
+      size : length k.names.declared ≡ length s.entries
+      size = ap (λ (ds : List Declared). length ds) h.declared ∙ mapped s.entries
+
+  module _ (names : AreNames k.names s) (held : Represents F s k)
+      (shows : Declares (beside F s' new) root (Some body)) where
+    node_old : (n : ℕ) → n < length s.entries → node_in new.nodes n ≡ node_in k.nodes n
+    node_old n low = get_or_append_left k.nodes (root ∷ []) no_node n (omega (arith, low, held.one_node_each))
+
+    node_new : node_in new.nodes (length s.entries) ≡ root
+    node_new = get_or_at k.nodes root [] no_node (length s.entries) held.one_node_each
+
+    own_old : (n t : ℕ) → n < length s.entries → IsEarlierTarget s n t → IsEarlierTarget s' n t
+    own_old n t low early = (early.0, subst IsOwn (sym (body_old s name ty body t (omega (arith, early.0, low)))) early.1)
+
+    fitting : (position : ℕ) (t : Ty) → NameFits k.names position t → IsEarlierTarget s' (length s.entries) position
+    fitting position t fine =
+        let own = fitting_target k.names s names.declared held.plain held.targets position t fine in
+        let size = ap (λ (ds : List Declared). length ds) names.declared in
+        let low : position < length s.entries = within position (fine.earlier) in
+        (low, subst IsOwn (sym (body_old s name ty body position low)) own)
+      where
+        mapped : (es : List Entry) → length (map declared_of es) ≡ length es
+        mapped [] = refl
+        mapped (e ∷ es) = ap (λ n. suc n) (mapped es)
+
+        within : (position : ℕ) → position < length k.names.declared → position < length s.entries
+        within position low = let size = ap (λ (ds : List Declared). length ds) names.declared ∙ mapped s.entries in omega (arith, low, size)
+
+    plain_each : AllPlain s'
+    plain_each n b is = elim (body_of s name ty body n b is) [
+      | inl h ↦ plain_body_more (IsEarlierTarget s n) (IsEarlierTarget s' n) (λ t early. own_old n t h.0 early) b (held.plain n b h.1)
+      | inr h ↦ subst (λ (j : ℕ). IsPlainBody (IsEarlierTarget s' j) b) (sym h.0) (subst (λ (c : Body). IsPlainBody (IsEarlierTarget s' (length s.entries)) c) (sym h.1)
+          (body_plain known k.names (IsEarlierTarget s' (length s.entries)) fitting body ty fits.body_fits))
+    ]
+
+    same_early : (n : ℕ) → n < length s.entries → (t : ℕ) → IsEarlierTarget s n t → node_in new.nodes t ≡ node_in k.nodes t
+    same_early n low t early = node_old t (omega (arith, early.0, low))
+
+    declares_each : (n : ℕ) (b : Option Body) → body_at s' n ≡ b → Declares (beside F s' new) (node_in new.nodes n) b
+    declares_each n None is = (ap (row_at g.parts.arena) past ∙ never_given g.parts.arena sound', refl)
+      where
+        past : node_in new.nodes n ≡ no_node
+        past =
+            let size = length-append k.nodes (root ∷ []) in
+            let states = length-append s.entries (entry s name ty body ∷ []) in
+            node_past new.nodes n (omega (arith, body_past s' n is, held.one_node_each, size, states))
+    declares_each n (Some b) is = elim (body_of s name ty body n b is) [
+      | inl h ↦ declares_still (beside F s k) (beside F s' new) (IsEarlierTarget s n) (same_early n h.0) stays
+          (node_in k.nodes n) (node_in new.nodes n) b (node_old n h.0) (held.plain n b h.1) (λ v e r row. live_stays k.graph g sound more (node_in k.nodes n) r row)
+          (rw h.1 at (held.declares n))
+      | inr h ↦ subst (λ (c : Body). Declares (beside F s' new) (node_in new.nodes n) (Some c)) (sym h.1)
+          (subst (λ (q : NodeId). Declares (beside F s' new) q (Some body)) (sym (ap (node_in new.nodes) h.0 ∙ node_new)) shows)
+    ]
+
+    within_old : (n : ℕ) → n < length s.entries → (q : NodeId) → IsWithin k.nodes n q → IsWithin new.nodes n q
+    within_old n low q h = record {
+      not_later = subst (λ (r : NodeId). q.gen_ ≤ r.gen_) (sym (node_old n low)) h.not_later;
+      later = λ j less. subst (λ (r : NodeId). r.gen_ < q.gen_) (sym (node_old j (omega (arith, less, low)))) (h.later j less);
+    }
+
+    within_new : (q : NodeId) → ((arena_of k).given ≤ q.gen_) × (q.gen_ ≤ root.gen_) → IsWithin new.nodes (length s.entries) q
+    within_new q h = record {
+      not_later = subst (λ (r : NodeId). q.gen_ ≤ r.gen_) (sym node_new) h.1;
+      later = λ j less. subst (λ (r : NodeId). r.gen_ < q.gen_) (sym (node_old j less))
+          (let b = body_there F s k held j less in let low = node_given F s k held sound j b.0 b.1 in omega (arith, low, h.0));
+    }
+
+    aged_each : (n : ℕ) (b : Body) → body_at s' n ≡ Some b → OwnNodesOf (graph_of g.parts.arena) (IsWithin new.nodes n) (node_in new.nodes n) b
+    aged_each n b is = elim (body_of s name ty body n b is) [
+      | inl h ↦ subst (λ (q : NodeId). OwnNodesOf (graph_of g.parts.arena) (IsWithin new.nodes n) q b) (sym (node_old n h.0))
+          (own_nodes_of_on (graph_of (arena_of k)) (graph_of g.parts.arena) (IsWithin k.nodes n) (IsWithin new.nodes n) (within_old n h.0)
+          (λ q r f kids row def. live_stays k.graph g sound more q r row) (node_in k.nodes n) b (held.aged n b h.1))
+      | inr h ↦ subst (λ (j : ℕ). OwnNodesOf (graph_of g.parts.arena) (IsWithin new.nodes j) (node_in new.nodes j) b) (sym h.0)
+          (subst (λ (q : NodeId). OwnNodesOf (graph_of g.parts.arena) (IsWithin new.nodes (length s.entries)) q b) (sym node_new)
+          (subst (λ (c : Body). OwnNodesOf (graph_of g.parts.arena) (IsWithin new.nodes (length s.entries)) root c) (sym h.1)
+          (own_nodes_of_on (graph_of g.parts.arena) (graph_of g.parts.arena) (λ (q : NodeId). ((arena_of k).given ≤ q.gen_) × (q.gen_ ≤ root.gen_))
+          (IsWithin new.nodes (length s.entries)) within_new (λ q r f kids row def. row) root body owned)))
+    ]
+
+    targets_each : (n : ℕ) (e : Entry) → entry_at s' n ≡ Some e → e.target ≡ target_of_body n e.body
+    targets_each n e is = elim (entry_of s name ty body n e is) [
+      | inl h ↦ held.targets n e h.1
+      | inr h ↦ ap (λ (d : Entry). d.target) h.1 ∙ (ap (λ (j : ℕ). target_of_body j body) (sym h.0) ∙ ap (λ (d : Entry). target_of_body n d.body) (sym h.1))
+    ]
+
+    pub declared_represents : Represents F s' new
+    declared_represents = record {
+      room = let places = sum_by_push (λ (e : Entry). places_of_body e.body) s.entries (entry s name ty body) in omega (arith, room_is, held.room, places);
+      clock = held.clock;
+      one_node_each =
+          let size = length-append k.nodes (root ∷ []) in
+          let states = length-append s.entries (entry s name ty body ∷ []) in
+          omega (arith, held.one_node_each, size, states);
+      plain = plain_each;
+      declares = λ n. declares_each n (body_at s' n) refl;
+      targets = targets_each;
+      aged = aged_each;
+      maps = few_maps_on s s' (arena_of k) g.parts.arena (calls_of_body body) fewer
+          (let calls = sum_by_push (λ (e : Entry). calls_of_body e.body) s.entries (entry s name ty body) in omega (arith, calls)) held.maps;
+    }
+
+  holds_after : AreNames k.names s → Declares (beside F s' new) root (Some body) → Holds F k m → Holds F new (moved m (Declare name ty body))
+  holds_after names shows h = record {
+    represents = declared_represents names h.represents shows;
+    watches = watches_on s s' k new more.beside refl refl refl (λ n b is. node_old names h.represents shows n (body_within F s k h.represents n b is))
+        (node_given F s k h.represents sound)
+        (λ n b is. (b, body_old s name ty body n (body_within F s k h.represents n b is) ∙ is)) h.watches;
+    settled = settled_on named value m.settled s s' k new h.represents more.beside (declared_formulas s name ty body) stays
+        (λ owner path f is n at. whole owner n (formula_body s owner path f is) at)
+        (λ owner path f is. let b = formula_body s owner path f is in node_given F s k h.represents sound owner b.0 b.1) h.settled;
+  }
+    where
+      by_body : (owner : ℕ) (n : NodeId) (b : Body) → body_at s owner ≡ Some b → body_at s' owner ≡ Some b → node_in new.nodes owner ≡ node_in k.nodes owner
+          → IsPlainBody (IsEarlierTarget s owner) b → node_at (beside F s k) owner [] ≡ Some n → node_at (beside F s' new) owner [] ≡ Some n
+      by_body owner n (Variable v) is then node fine at = absurd (let e = rw is at at in cc)
+      by_body owner n (Computed f kept) is then node fine at =
+          let e : Some (node_in k.nodes owner) ≡ Some n = rw is at at in rw then (ap (λ (q : NodeId). Some q) node ∙ e)
+      by_body owner n b is then node fine at = absurd fine
+
+      whole : (owner : ℕ) (n : NodeId) → (b : Body) × (body_at s owner ≡ Some b)
+          → node_at (beside F s k) owner [] ≡ Some n → node_at (beside F s' new) owner [] ≡ Some n
+      whole owner n (b, is) at =
+          let low = body_within F s k h.represents owner b is in
+          by_body owner n b is (body_old s name ty body owner low ∙ is) (node_old names h.represents shows owner low) (h.represents.plain owner b is) at
+
+  -- the script with the declaration is stood for, where the new node shows it
+  pub declaring_stands : Declares (beside F s' new) root (Some body) → k.broken ≡ None → Stands F k m
+      → Stands F new (moved m (Declare name ty body))
+  declaring_stands shows whole h = record {
+    names = names_on h.names;
+    accepted = h.accepted;
+    broken = h.broken;
+    holds = λ unbroken. holds_after h.names shows (h.holds unbroken);
+  }

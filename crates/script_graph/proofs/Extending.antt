@@ -1,0 +1,302 @@
+-- A graph to which nodes were added, and what is kept of a script over it.
+use Rattle.std.proofs.Common.{◌≡◌, ◌⊎◌, inl, inr, ℕ, zero, suc, ◌+◌, ◌<◌, ◌≤◌, List, [], ◌∷◌, length, Option, None, Some, refl, ap, sym, subst, ◌∙◌, arith, slice_get}
+use Rattle.std.proofs.lemmas.Option.{slice_get_within}
+use Rattle.inc_value.specs.Choice.{and_then}
+use Rattle.inc_value.specs.declared.function.FnRef.{FnRef}
+use Rattle.inc_value.specs.declared.node.NodeId.{NodeId}
+use Rattle.inc_value.specs.declared.value.Value.{Value as GraphValue}
+use Rattle.inc_terms.specs.Graph as graph
+use Rattle.inc_terms.specs.Graph.{Graph, Row, Def}
+use Rattle.inc_terms.specs.Term as term
+use Rattle.inc_terms.specs.Term.{Term, Terms}
+use Rattle.inc_terms.specs.Within.{Given}
+use Rattle.graph.specs.Effects.{KeepsAll, Adds, TakesBack}
+use Rattle.graph.specs.Standing.{Standing}
+use Rattle.node_arena.specs.Arena.{Arena, row_at}
+use Rattle.node_arena.specs.Graph.{graph_of}
+use Rattle.node_arena.specs.Sound as arena
+use Rattle.script_model.specs.Formula.{State, Body, Entry, Formula, Formulas, Meanings, meanings_of, body_at, formula_of_body, Literal, Name, Apply, End, More, Variable, Computed}
+use Rattle.script_model.specs.Need.{Edge, part_of, formula_at}
+use Rattle.script_model.specs.Step.{Moment}
+use Rattle.script_model.specs.Values.{Value}
+use Rattle.script_graph.specs.Growing.{Extends}
+use Rattle.script_graph.specs.Kept.{Kept, arena_of, node_in, no_node, without_functions}
+use Rattle.script_graph.specs.Plain.{IsPlain, ArePlain, IsPlainBody, IsEarlierTarget}
+use Rattle.script_graph.specs.Represents.{beside, IsWithin, Represents}
+use Rattle.script_graph.specs.State.{Holds, Stands}
+use Rattle.script_graph.proofs.Carrying.{base_value, watches_on, settled_on}
+use Rattle.script_graph.proofs.Maps.{HasNewMaps, few_maps_on}
+use Rattle.script_graph.proofs.Owning.{own_nodes_of_on}
+use Rattle.transfer.specs.Both.{Both, graph_value}
+use Rattle.transfer.specs.Items.{node_at}
+use Rattle.transfer.specs.Keeping.{RowsStay}
+use Rattle.transfer.specs.Shows.{Built, Opens, Shows, ShowsAll, IsTop, Declares, IsOwn}
+use Rattle.transfer.proofs.Places.{then_some}
+use Rattle.transfer.proofs.Typed.{body_entry}
+
+-- ---- extending
+
+given_later : (a b : ℕ) → (b ≡ a) ⊎ (b ≡ a + 1) → a ≤ b
+given_later a b (inl e) = omega (arith, e)
+given_later a b (inr e) = omega (arith, e)
+
+module _ {F : Type 0} where
+  pub extends_itself : (s : Standing F) → Extends s s
+  extends_itself s = record {
+    beside = record {
+      functions = refl;
+      observers = refl;
+      rooted = refl;
+      refused = refl;
+      shown = λ n h. refl;
+      last = λ n h. refl;
+      links = λ p q. refl;
+      roots = λ p. refl;
+      ran = refl;
+    };
+    given = omega arith;
+    rows = λ n h. refl;
+  }
+
+  pub extends_on : (a b c : Standing F) → Extends a b → Extends b c → Extends a c
+  extends_on a b c g h = record {
+    beside = record {
+      functions = h.beside.functions ∙ g.beside.functions;
+      observers = h.beside.observers ∙ g.beside.observers;
+      rooted = h.beside.rooted ∙ g.beside.rooted;
+      refused = h.beside.refused ∙ g.beside.refused;
+      shown = λ n low. h.beside.shown n (omega (arith, low, g.given)) ∙ g.beside.shown n low;
+      last = λ n low. h.beside.last n (omega (arith, low, g.given)) ∙ g.beside.last n low;
+      links = λ p q. h.beside.links p q ∙ g.beside.links p q;
+      roots = λ p. h.beside.roots p ∙ g.beside.roots p;
+      ran = h.beside.ran ∙ g.beside.ran;
+    };
+    given = omega (arith, g.given, h.given);
+    rows = λ n low. h.rows n (omega (arith, low, g.given)) ∙ g.rows n low;
+  }
+
+  pub adds_extends : (a b : Standing F) (id : NodeId) (r : Row) → Adds a b id r → Extends a b
+  adds_extends a b id r h = record {
+    beside = h.beside;
+    given = omega (arith, h.given);
+    rows = λ n low. h.changes.others n (λ same. let gen = ap (λ (m : NodeId). m.gen_) same in omega (arith, low, gen, h.fresh));
+  }
+
+  pub keeps_extends : (a b : Standing F) → KeepsAll a b → Extends a b
+  keeps_extends a b h = record {
+    beside = h.beside;
+    given = given_later a.parts.arena.given b.parts.arena.given h.given;
+    rows = λ n low. h.rows n;
+  }
+
+  -- nodes that were added and taken back again
+  pub taken_back_extends : (a b c : Standing F) (count : ℕ) → Extends a b → TakesBack b c count → a.parts.arena.given ≤ count → Extends a c
+  taken_back_extends a b c count g h later = record {
+    beside = record {
+      functions = h.functions ∙ g.beside.functions;
+      observers = h.observers ∙ g.beside.observers;
+      rooted = h.rooted ∙ g.beside.rooted;
+      refused = h.refused ∙ g.beside.refused;
+      shown = λ n low. h.shown n (omega (arith, low, later)) ∙ g.beside.shown n low;
+      last = λ n low. h.last n (omega (arith, low, later)) ∙ g.beside.last n low;
+      links = λ p q. h.links p q ∙ g.beside.links p q;
+      roots = λ p. h.roots p ∙ g.beside.roots p;
+      ran = h.ran ∙ g.beside.ran;
+    };
+    given = omega (arith, g.given, h.given);
+    rows = λ n low. h.older n (omega (arith, low, later)) ∙ g.rows n low;
+  }
+
+  -- so it is but for the functions
+  pub extends_without : (a b : Standing F) → Extends a b → Extends (without_functions a) (without_functions b)
+  extends_without a b h = record {
+    beside = record {
+      functions = refl;
+      observers = h.beside.observers;
+      rooted = h.beside.rooted;
+      refused = h.beside.refused;
+      shown = h.beside.shown;
+      last = h.beside.last;
+      links = h.beside.links;
+      roots = h.beside.roots;
+      ran = h.beside.ran;
+    };
+    given = h.given;
+    rows = h.rows;
+  }
+
+  -- live nodes stay
+  pub live_stays : (a b : Standing F) → arena.IsSound a.parts.arena → Extends a b → (n : NodeId) (r : Row)
+      → row_at a.parts.arena n ≡ Some r → row_at b.parts.arena n ≡ Some r
+  live_stays a b sound h n r is = h.rows n (sound.given n (rw is refl)) ∙ is
+
+-- ---- what nodes show
+
+module _ (x y : Both) (P : ℕ → Type 0) (same : (n : ℕ) → P n → y.nodes n ≡ x.nodes n) (kept : RowsStay x.graph y.graph) where
+  opens_still : (t u : Term) → Opens x.graph (Built None) t u → Opens y.graph (Built None) t u
+  opens_still t u (n, r, e, row, scope, def) = (n, r, e, kept n r u row def, scope, def)
+
+  mutual
+    pub shows_still : (t : Term) (f : Formula) → IsPlain P f → Shows x (Built None) [] t f → Shows y (Built None) [] t f
+    shows_still t (Literal v) fine h =
+        subst (λ (w : GraphValue). Opens y.graph (Built None) t (term.Const w)) (base_value x.nodes y.nodes v fine)
+        (opens_still t (term.Const (graph_value x.nodes v)) h)
+    shows_still t (Name k) fine h = h ∙ ap (λ (n : NodeId). term.Ref n) (sym (same k fine))
+    shows_still t (Apply g fs) fine h = (h.0, opens_still t (term.Map g h.0) h.1, all_show_still h.0 fs fine h.2)
+    shows_still t f fine h = absurd fine
+
+    all_show_still : (ts : Terms) (fs : Formulas) → ArePlain P fs → ShowsAll x (Built None) [] ts fs → ShowsAll y (Built None) [] ts fs
+    all_show_still term.End End fine h = h
+    all_show_still term.End (More f fs) fine h = h
+    all_show_still (term.More t ts) End fine h = h
+    all_show_still (term.More t ts) (More f fs) fine h = (shows_still t f fine.0 h.0, all_show_still ts fs fine.1 h.1)
+
+  -- the node of a plain declaration shows it still
+  pub declares_still : (n m : NodeId) (b : Body) → m ≡ n → IsPlainBody P b → ((v : Value) → b ≡ Variable v → (r : Row) → x.graph.row n ≡ Some r
+      → y.graph.row n ≡ Some r) → Declares x n (Some b) → Declares y m (Some b)
+  declares_still n m (Variable v) node fine top (r, row, scope, def) =
+      subst (λ (q : NodeId). IsTop y.graph q (graph.Var (graph_value y.nodes v))) (sym node)
+      (r, top v refl r row, scope, def ∙ ap (λ w. graph.Var w) (base_value x.nodes y.nodes v fine))
+  declares_still n m (Computed f kept) node fine top h =
+      subst (λ (q : NodeId). Shows y (Built None) [] (term.Ref q) f) (sym node) (shows_still (term.Ref n) f fine.0 h)
+  declares_still n m b node fine top h = absurd fine
+
+-- ---- the node of a declaration is live
+
+module _ (F : Meanings) (s : State) (k : Kept) (held : Represents F s k) where
+  pub body_within : (n : ℕ) (b : Body) → body_at s n ≡ Some b → n < length s.entries
+  body_within n b is = let e = body_entry s n b is in slice_get_within s.entries n e.0 e.1
+
+  pub body_there : (n : ℕ) → n < length s.entries → (b : Body) × (body_at s n ≡ Some b)
+  body_there n low = go (slice_get s.entries n) refl
+    where
+      go : (o : Option Entry) → slice_get s.entries n ≡ o → (b : Body) × (body_at s n ≡ Some b)
+      go (Some e) is = (e.body, ap (λ (o : Option Entry). and_then o (λ (d : Entry). Some d.body)) is)
+      go None is = absurd (past is)
+        where
+          past : slice_get s.entries n ≡ None → ⊥
+          past is = inside s.entries n low is
+            where
+              inside : (es : List Entry) (i : ℕ) → i < length es → slice_get es i ≡ None → ⊥
+              inside [] i low is = absurd (omega (arith, low))
+              inside (e ∷ es) zero low is = cc
+              inside (e ∷ es) (suc i) low is = inside es i (omega (arith, low)) is
+
+  own_live : (n : ℕ) (b : Body) → IsOwn (Some b) → body_at s n ≡ Some b → (r : Row) × (row_at (arena_of k) (node_in k.nodes n) ≡ Some r)
+  own_live n (Variable v) own is = let d = rw is at (held.declares n) in (d.0, d.1)
+  own_live n (Computed (Literal v) kept) own is =
+      let d = rw is at (held.declares n) in
+      let same : node_in k.nodes n ≡ d.0 = cc in (d.1, ap (row_at (arena_of k)) same ∙ d.3)
+  own_live n (Computed (Apply f fs) kept) own is =
+      let d = rw is at (held.declares n) in
+      let o = d.1 in
+      let same : node_in k.nodes n ≡ o.0 = ref_same (node_in k.nodes n) o.0 o.2 in (o.1, ap (row_at (arena_of k)) same ∙ o.3)
+    where
+      ref_same : (n m : NodeId) → term.Ref n ≡ term.Ref m → n ≡ m
+      ref_same n m e = cc
+  own_live n (Computed (Name t) kept) own is = absurd own
+  own_live n (Computed f kept) own is = absurd (held.plain n (Computed f kept) is).0
+  own_live n b own is = absurd (held.plain n b is)
+
+  -- the node of a declaration is live
+  pub node_live : (n : ℕ) (b : Body) → body_at s n ≡ Some b → (r : Row) × (row_at (arena_of k) (node_in k.nodes n) ≡ Some r)
+  node_live n (Computed (Name t) kept) is =
+      let fine = (held.plain n (Computed (Name t) kept) is).0 in
+      let b = body_there t (omega (arith, fine.0, body_within n (Computed (Name t) kept) is)) in
+      let live = own_live t b.0 (subst IsOwn b.1 fine.1) b.1 in
+      let d = rw is at (held.declares n) in
+      let same : node_in k.nodes n ≡ node_in k.nodes t = cc in
+      (live.0, ap (row_at (arena_of k)) same ∙ live.1)
+  node_live n (Computed f kept) is = own_live n (Computed f kept) tt is
+  node_live n b is = own_live n b tt is
+
+  pub node_given : arena.IsSound (arena_of k) → (n : ℕ) (b : Body) → body_at s n ≡ Some b → Given (arena_of k).given (node_in k.nodes n)
+  node_given sound n b is = let r = node_live n b is in sound.given (node_in k.nodes n) (rw r.1 refl)
+
+-- a formula's declaration
+pub formula_body : (s : State) (owner : ℕ) (path : List Edge) (f : Formula) → formula_at s owner path ≡ Some f → (b : Body) × (body_at s owner ≡ Some b)
+formula_body s owner path f is =
+    let b = then_some (body_at s owner) (λ b. and_then (formula_of_body b) (λ g. part_of g path)) f is in (b.0, b.1)
+
+-- an id that is never given is of no node
+pub never_given : (a : Arena) → arena.IsSound a → row_at a no_node ≡ None
+never_given a sound = go (row_at a no_node) refl
+  where
+    go : (o : Option Row) → row_at a no_node ≡ o → row_at a no_node ≡ None
+    go None is = is
+    go (Some r) is = absurd (let low = sound.given no_node (rw is refl) in omega (arith, low, sound.count))
+
+pub body_past : (s : State) (n : ℕ) → body_at s n ≡ None → length s.entries ≤ n
+body_past s n is = entry_past s.entries n is
+  where
+    entry_past : (es : List Entry) (i : ℕ) → and_then (slice_get es i) (λ (e : Entry). Some e.body) ≡ None → length es ≤ i
+    entry_past [] i e = omega arith
+    entry_past (x ∷ es) zero e = absurd (cc)
+    entry_past (x ∷ es) (suc i) e = let rest = entry_past es i e in omega (arith, rest)
+
+pub node_past : (ns : List NodeId) (i : ℕ) → length ns ≤ i → node_in ns i ≡ no_node
+node_past [] i high = refl
+node_past (x ∷ ns) zero high = absurd (omega (arith, high))
+node_past (x ∷ ns) (suc i) high = node_past ns i (omega (arith, high))
+
+-- ---- what is kept
+
+module _ (named : List ℕ → Option FnRef) (value : FnRef → List GraphValue → GraphValue) (k : Kept) (g : Standing (Unit {0}))
+    (sound : arena.IsSound (arena_of k)) (sound' : arena.IsSound g.parts.arena) (more : Extends k.graph g)
+    (fewer : HasNewMaps (arena_of k) g.parts.arena 0) (m : Moment) where
+  abbrev F : Meanings
+  F = meanings_of named value
+
+  abbrev new : Kept
+  new = record k { graph = g }
+
+  stays : RowsStay (graph_of (arena_of k)) (graph_of g.parts.arena)
+  stays n r u is def = live_stays k.graph g sound more n r is
+
+  module _ (held : Represents F m.present k) where
+    declares_each : (n : ℕ) (b : Option Body) → body_at m.present n ≡ b → Declares (beside F m.present new) (node_in k.nodes n) b
+    declares_each n None is = (ap (row_at g.parts.arena) past ∙ never_given g.parts.arena sound', refl)
+      where
+        past : node_in k.nodes n ≡ no_node
+        past = node_past k.nodes n (omega (arith, body_past m.present n is, held.one_node_each))
+    declares_each n (Some b) is =
+        declares_still (beside F m.present k) (beside F m.present new) (IsEarlierTarget m.present n) (λ t early. refl) stays
+        (node_in k.nodes n) (node_in k.nodes n) b refl (held.plain n b is) (λ v e r row. live_stays k.graph g sound more (node_in k.nodes n) r row)
+        (rw is at (held.declares n))
+
+    represents_on : Represents F m.present new
+    represents_on = record {
+      room = held.room;
+      clock = held.clock;
+      one_node_each = held.one_node_each;
+      plain = held.plain;
+      declares = λ n. declares_each n (body_at m.present n) refl;
+      targets = held.targets;
+      aged = λ n b is. own_nodes_of_on (graph_of (arena_of k)) (graph_of g.parts.arena) (IsWithin k.nodes n) (IsWithin k.nodes n) (λ q h. h)
+          (λ q r f kids row def. live_stays k.graph g sound more q r row) (node_in k.nodes n) b (held.aged n b is);
+      maps = few_maps_on m.present m.present (arena_of k) g.parts.arena 0 fewer (omega arith) held.maps;
+    }
+
+  holds_on : Holds F k m → Holds F new m
+  holds_on h = record {
+    represents = represents_on h.represents;
+    watches = watches_on m.present m.present k new more.beside refl refl refl (λ n b is. refl)
+        (node_given F m.present k h.represents sound) (λ n b is. (b, is)) h.watches;
+    settled = settled_on named value m.settled m.present m.present k new h.represents more.beside (λ owner path f is. is) stays
+        (λ owner path f is n at. whole owner n (formula_body m.present owner path f is) h.represents at)
+        (λ owner path f is. let b = formula_body m.present owner path f is in node_given F m.present k h.represents sound owner b.0 b.1) h.settled;
+  }
+    where
+      by_body : (owner : ℕ) (n : NodeId) (b : Body) → body_at m.present owner ≡ Some b → IsPlainBody (IsEarlierTarget m.present owner) b
+          → node_at (beside F m.present k) owner [] ≡ Some n → node_at (beside F m.present new) owner [] ≡ Some n
+      by_body owner n (Variable v) is fine at = absurd (let e = rw is at at in cc)
+      by_body owner n (Computed f kept) is fine at = let e = rw is at at in rw is e
+      by_body owner n b is fine at = absurd fine
+
+      whole : (owner : ℕ) (n : NodeId) → (b : Body) × (body_at m.present owner ≡ Some b) → Represents F m.present k
+          → node_at (beside F m.present k) owner [] ≡ Some n → node_at (beside F m.present new) owner [] ≡ Some n
+      whole owner n (b, is) held at = by_body owner n b is (held.plain owner b is) at
+
+  -- what was stood for is so still
+  pub stands_on : Stands F k m → Stands F new m
+  stands_on h = record { names = h.names; accepted = h.accepted; broken = h.broken; holds = λ whole. holds_on (h.holds whole) }

@@ -1,0 +1,259 @@
+-- What is laid out for a body that fits: each of it fits, and where all of it was made the root is the node of what is declared.
+use Rattle.std.proofs.Common.{◌≡◌, ℕ, zero, suc, ◌+◌, ◌<◌, ◌≤◌, Bool, List, [], ◌∷◌, ◌++◌, map, length, Some, refl, ap, sym, subst, ◌∙◌, arith, slice_get}
+use Rattle.std.specs.List.{AllZip}
+use Rattle.std.proofs.lemmas.List.{length-append}
+use Rattle.std.proofs.lemmas.Option.{slice_get_within}
+use Rattle.formula_lang.specs.Fits.{ArgumentsFit, BodyFits, FormulaFits, NameFits}
+use Rattle.formula_elab.specs.Laying.{laid, laid_each, laid_body}
+use Rattle.formula_elab.specs.Made.{StandsIn}
+use Rattle.formula_elab.specs.Names.{EveryName, EveryNameOfAll, EveryNameOf}
+use Rattle.formula_elab.specs.Opened.{node_at, node_of, IsEarlier}
+use Rattle.formula_elab.specs.declared.opened.Open.{Open}
+use Rattle.formula_elab.specs.declared.opened.Open.TheVariants.{Const, Var, Map}
+use Rattle.formula_elab.specs.declared.opened.Part.{Part}
+use Rattle.formula_elab.proofs.Fitting.{fitting_holds_no_reference}
+use Rattle.formula_elab.proofs.InOrder.{body_in_order}
+use Rattle.formula_elab.proofs.Showing.{root_declares}
+use Rattle.graph.specs.Standing.{Standing}
+use Rattle.inc_value.specs.Choice.{Every}
+use Rattle.inc_value.specs.Ty.{IsBase}
+use Rattle.inc_value.specs.Value as engine
+use Rattle.inc_value.specs.declared.function.FnRef.{FnRef}
+use Rattle.inc_value.specs.declared.node.NodeId.{NodeId}
+use Rattle.inc_value.specs.declared.ty.Ty.{Ty}
+use Rattle.inc_terms.specs.Graph.{Graph, Row}
+use Rattle.node_arena.specs.Arena.{Arena, row_at, IsVariable}
+use Rattle.node_arena.specs.Graph.{graph_of}
+use Rattle.node_arena.specs.Sound as arena
+use Rattle.script_model.specs.Check.{Names}
+use Rattle.script_model.specs.Formula.{Formula, Formulas, Body, Literal, Name, Apply, End, More, Variable, Computed}
+use Rattle.script_model.specs.Values.{Value, Int, Bool as Truth, Text, Reference, type_of, to_engine}
+use Rattle.script_graph.specs.Growing.{IsMaking, PartFits, OpenFits, AllOpenFit}
+use Rattle.script_graph.specs.Represents.{OwnNodes, OwnNodesOfAll, OwnNodesOf}
+use Rattle.script_graph.proofs.Making.{part_row}
+use Rattle.script_graph.proofs.Owning.{own_nodes_of_on}
+use Rattle.transfer.specs.Both.{Both}
+use Rattle.transfer.specs.Shows.{Declares}
+
+engine_type : (v : Value) → engine.type_of (to_engine v) ≡ type_of v
+engine_type (Int z) = refl
+engine_type (Truth b) = refl
+engine_type (Text bytes) = refl
+engine_type (Reference target b) = refl
+
+engine_base : (v : Value) (ty : Ty) → type_of v ≡ ty → IsBase ty → IsBase (engine.type_of (to_engine v))
+engine_base v ty is base = subst (λ (t : Ty). IsBase t) (sym (engine_type v ∙ is)) base
+
+-- ---- lists in a list
+
+-- from the start on they stand in the list
+abbrev SitsAt : List Open → ℕ → List Open → Type 0
+SitsAt all start [] = Unit {0}
+SitsAt all start (x ∷ xs) = (slice_get all start ≡ Some x) × SitsAt all (suc start) xs
+
+module _ (all : List Open) where
+  sits_each : (start : ℕ) (xs : List Open) → ((j : ℕ) (x : Open) → slice_get xs j ≡ Some x → slice_get all (start + j) ≡ Some x) → SitsAt all start xs
+  sits_each start [] h = tt
+  sits_each start (x ∷ xs) h =
+      let here : start + 0 ≡ start = omega arith in (
+        subst (λ j. slice_get all j ≡ Some x) here (h 0 x refl),
+        sits_each (suc start) xs (λ j y at.
+            let there : start + suc j ≡ suc start + j = omega arith in subst (λ i. slice_get all i ≡ Some y) there (h (suc j) y at)),
+      )
+
+  sits_split : (start : ℕ) (xs ys : List Open) → SitsAt all start (xs ++ ys) → SitsAt all start xs × SitsAt all (start + length xs) ys
+  sits_split start [] ys h = let same : start ≡ start + 0 = omega arith in (tt, subst (λ i. SitsAt all i ys) same h)
+  sits_split start (x ∷ xs) ys h =
+      let rest = sits_split (suc start) xs ys h.1 in
+      let same : suc start + length xs ≡ start + suc (length xs) = omega arith in
+      ((h.0, rest.0), subst (λ i. SitsAt all i ys) same rest.1)
+
+sits_itself : (all : List Open) → SitsAt all 0 all
+sits_itself all = sits_each all 0 all (λ j x at. let same : j ≡ 0 + j = omega arith in subst (λ i. slice_get all i ≡ Some x) same at)
+
+every_append : (P : Open → Type 0) (xs ys : List Open) → Every P xs → Every P ys → Every P (xs ++ ys)
+every_append P [] ys h g = g
+every_append P (x ∷ xs) ys h g = (h.0, every_append P xs ys h.1 g)
+
+every_at : (P : Open → Type 0) (xs : List Open) → Every P xs → (i : ℕ) (x : Open) → slice_get xs i ≡ Some x → P x
+every_at P [] h i x at = absurd (cc)
+every_at P (y ∷ xs) h zero x at = let same : y ≡ x = cc in subst P same h.0
+every_at P (y ∷ xs) h (suc i) x at = every_at P xs h.1 i x at
+
+-- ---- what is laid out fits
+
+module _ (known : FnRef → Bool) (a : Arena) (all : List Open) (nodes : ℕ → NodeId) (names : Names)
+    (there : (position : ℕ) (t : Ty) → NameFits names position t → (r : Row) × (row_at a (nodes position) ≡ Some r) × (r.ty ≡ t)) where
+  mutual
+    formula_fits : (start : ℕ) (f : Formula) (ty : Ty) → FormulaFits known names f ty → SitsAt all start (laid nodes start f).makes
+        → Every (OpenFits known a all) (laid nodes start f).makes × PartFits a all ty (laid nodes start f).root
+    formula_fits start (Literal v) ty fits sits =
+        ((engine_base v ty fits.0 fits.1, tt), (Const (to_engine v), sits.0, engine_type v ∙ fits.0))
+    formula_fits start (Name n) ty fits sits = (tt, there n ty fits)
+    formula_fits start (Apply f arguments) ty fits sits =
+        let each = laid_each nodes start arguments in
+        let parts = sits_split all start each.makes (Map f each.roots ∷ []) sits in
+        let rest = arguments_fit start arguments f.sig.takes fits.1 parts.0 in (
+          every_append (OpenFits known a all) each.makes (Map f each.roots ∷ []) rest.0 ((fits.0.is_known, fits.0.kind, rest.1), tt),
+          (Map f each.roots, parts.1.0, fits.2),
+        )
+    formula_fits start f ty fits sits = absurd fits
+
+    arguments_fit : (start : ℕ) (fs : Formulas) (tys : List Ty) → ArgumentsFit known names fs tys → SitsAt all start (laid_each nodes start fs).makes
+        → Every (OpenFits known a all) (laid_each nodes start fs).makes × AllZip (λ (p : Part) (t : Ty). PartFits a all t p) (laid_each nodes start fs).roots tys
+    arguments_fit start End [] fits sits = (tt, tt)
+    arguments_fit start End (ty ∷ tys) fits sits = absurd fits
+    arguments_fit start (More f rest) [] fits sits = absurd fits
+    arguments_fit start (More f rest) (ty ∷ tys) fits sits =
+        let here = laid nodes start f in
+        let next = start + length here.makes in
+        let parts = sits_split all start here.makes (laid_each nodes next rest).makes sits in
+        let one = formula_fits start f ty fits.0 parts.0 in
+        let others = arguments_fit next rest tys fits.1 parts.1 in
+        (every_append (OpenFits known a all) here.makes (laid_each nodes next rest).makes one.0 others.0, (one.1, others.1))
+
+  body_fits : (body : Body) (ty : Ty) → BodyFits known names body ty → SitsAt all 0 (laid_body nodes 0 body).makes
+      → Every (OpenFits known a all) (laid_body nodes 0 body).makes × PartFits a all ty (laid_body nodes 0 body).root
+  body_fits (Variable v) ty fits sits = ((engine_base v ty fits.0 fits.1, tt), (Var (to_engine v), sits.0, engine_type v ∙ fits.0))
+  body_fits (Computed f kept) ty fits sits = formula_fits 0 f ty fits.0 sits
+  body_fits body ty fits sits = absurd fits
+
+-- what is laid out for a body that fits the names fits the arena, where the names have their nodes
+pub laid_fits : (known : FnRef → Bool) (a : Arena) (nodes : ℕ → NodeId) (names : Names)
+    → ((position : ℕ) (t : Ty) → NameFits names position t → (r : Row) × (row_at a (nodes position) ≡ Some r) × (r.ty ≡ t))
+    → (body : Body) (ty : Ty) → BodyFits known names body ty
+    → AllOpenFit known a (laid_body nodes 0 body).makes × PartFits a (laid_body nodes 0 body).makes ty (laid_body nodes 0 body).root
+laid_fits known a nodes names there body ty fits =
+    let all = (laid_body nodes 0 body).makes in
+    let h = body_fits known a all nodes names there body ty fits (sits_itself all) in
+    (every_at (OpenFits known a all) all h.0, h.1)
+
+-- the names of what fits have what names that fit have
+module _ (known : FnRef → Bool) (names : Names) (P : ℕ → Type 0) (named : (position : ℕ) (t : Ty) → NameFits names position t → P position) where
+  mutual
+    every_name : (f : Formula) (ty : Ty) → FormulaFits known names f ty → EveryName P f
+    every_name (Literal v) ty fits = tt
+    every_name (Name n) ty fits = named n ty fits
+    every_name (Apply f arguments) ty fits = every_name_of_all arguments f.sig.takes fits.1
+    every_name f ty fits = absurd fits
+
+    every_name_of_all : (fs : Formulas) (tys : List Ty) → ArgumentsFit known names fs tys → EveryNameOfAll P fs
+    every_name_of_all End [] fits = tt
+    every_name_of_all End (ty ∷ tys) fits = absurd fits
+    every_name_of_all (More f rest) [] fits = absurd fits
+    every_name_of_all (More f rest) (ty ∷ tys) fits = (every_name f ty fits.0, every_name_of_all rest tys fits.1)
+
+  pub every_name_of : (body : Body) (ty : Ty) → BodyFits known names body ty → EveryNameOf P body
+  every_name_of (Variable v) ty fits = tt
+  every_name_of (Computed f kept) ty fits = every_name f ty fits.0
+  every_name_of body ty fits = absurd fits
+
+-- ---- its nodes
+
+-- the node was made
+abbrev IsMade : List Open → List NodeId → NodeId → Type 0
+IsMade all made n = (i : ℕ) × (i < length all) × (n ≡ node_at made i)
+
+module _ (known : FnRef → Bool) (G : Graph) (all : List Open) (made : List NodeId) (stands : StandsIn G all made) (whole : length made ≡ length all)
+    (nodes : ℕ → NodeId) (names : Names) where
+  one_made : (i : ℕ) (x : Open) → slice_get all i ≡ Some x → IsMade all made (node_at made i)
+  one_made i x at = (i, slice_get_within all i x at, refl)
+
+  mutual
+    formula_owns : (start : ℕ) (f : Formula) (ty : Ty) → FormulaFits known names f ty → SitsAt all start (laid nodes start f).makes
+        → OwnNodes G (IsMade all made) (node_of made (laid nodes start f).root) f
+    formula_owns start (Literal v) ty fits sits = one_made start (Const (to_engine v)) sits.0
+    formula_owns start (Name n) ty fits sits = tt
+    formula_owns start (Apply f arguments) ty fits sits =
+        let each = laid_each nodes start arguments in
+        let parts = sits_split all start each.makes (Map f each.roots ∷ []) sits in
+        let last = start + length each.makes in
+        let top = stands.top last (Map f each.roots) parts.1.0 (omega (arith, slice_get_within all last (Map f each.roots) parts.1.0, whole)) in (
+          one_made last (Map f each.roots) parts.1.0,
+          top.0,
+          map (node_of made) each.roots,
+          top.1,
+          top.3,
+          arguments_own start arguments f.sig.takes fits.1 parts.0,
+        )
+    formula_owns start f ty fits sits = absurd fits
+
+    arguments_own : (start : ℕ) (fs : Formulas) (tys : List Ty) → ArgumentsFit known names fs tys → SitsAt all start (laid_each nodes start fs).makes
+        → OwnNodesOfAll G (IsMade all made) (map (node_of made) (laid_each nodes start fs).roots) fs
+    arguments_own start End [] fits sits = tt
+    arguments_own start End (ty ∷ tys) fits sits = absurd fits
+    arguments_own start (More f rest) [] fits sits = absurd fits
+    arguments_own start (More f rest) (ty ∷ tys) fits sits =
+        let here = laid nodes start f in
+        let next = start + length here.makes in
+        let parts = sits_split all start here.makes (laid_each nodes next rest).makes sits in
+        (formula_owns start f ty fits.0 parts.0, arguments_own next rest tys fits.1 parts.1)
+
+  body_owns : (body : Body) (ty : Ty) → BodyFits known names body ty → SitsAt all 0 (laid_body nodes 0 body).makes
+      → OwnNodesOf G (IsMade all made) (node_of made (laid_body nodes 0 body).root) body
+  body_owns (Variable v) ty fits sits = one_made 0 (Var (to_engine v)) sits.0
+  body_owns (Computed f kept) ty fits sits = formula_owns 0 f ty fits.0 sits
+  body_owns body ty fits sits = absurd fits
+
+-- the nodes of a body were made from the first on, and none after the root
+module _ (known : FnRef → Bool) (names : Names) {F : Type 0} (first now : Standing F) (nodes : ℕ → NodeId) (made : List NodeId)
+    (sound : arena.IsSound first.parts.arena) where
+  abbrev makes_for : Body → List Open
+  makes_for body = (laid_body nodes 0 body).makes
+
+  abbrev root_for : Body → NodeId
+  root_for body = node_of made (laid_body nodes 0 body).root
+
+  between : (body : Body) → IsMaking first now (makes_for body) made → length made ≡ length (makes_for body) → (r : ℕ) → r < length (makes_for body)
+      → length (makes_for body) ≤ r + 1 → root_for body ≡ node_at made r
+      → (n : NodeId) → IsMade (makes_for body) made n → (first.parts.arena.given ≤ n.gen_) × (n.gen_ ≤ (root_for body).gen_)
+  between body h whole r low high root n (i, less, is) =
+      let id = ap (λ (m : NodeId). m.gen_) is ∙ h.ids i (omega (arith, less, whole)) in
+      let last = ap (λ (m : NodeId). m.gen_) root ∙ h.ids r (omega (arith, low, whole)) in
+      (omega (arith, id), omega (arith, id, last, less, high))
+
+  own_between : (body : Body) (ty : Ty) → BodyFits known names body ty → IsMaking first now (makes_for body) made → length made ≡ length (makes_for body)
+      → (r : ℕ) → r < length (makes_for body) → length (makes_for body) ≤ r + 1 → root_for body ≡ node_at made r
+      → OwnNodesOf (graph_of now.parts.arena) (λ (n : NodeId). (first.parts.arena.given ≤ n.gen_) × (n.gen_ ≤ (root_for body).gen_)) (root_for body) body
+  own_between body ty fits h whole r low high root =
+      own_nodes_of_on (graph_of now.parts.arena) (graph_of now.parts.arena) (IsMade (makes_for body) made)
+      (λ (n : NodeId). (first.parts.arena.given ≤ n.gen_) × (n.gen_ ≤ (root_for body).gen_)) (between body h whole r low high root)
+      (λ n q f kids row def. row) (root_for body) body
+      (body_owns known (graph_of now.parts.arena) (makes_for body) made h.stands whole nodes names body ty fits (sits_itself (makes_for body)))
+
+  pub made_owned : (body : Body) (ty : Ty) → BodyFits known names body ty → IsMaking first now (makes_for body) made → length made ≡ length (makes_for body)
+      → OwnNodesOf (graph_of now.parts.arena) (λ (n : NodeId). (first.parts.arena.given ≤ n.gen_) × (n.gen_ ≤ (root_for body).gen_)) (root_for body) body
+  made_owned (Variable v) ty fits h whole = own_between (Variable v) ty fits h whole 0 (omega arith) (omega arith) refl
+  made_owned (Computed (Literal v) kept) ty fits h whole = own_between (Computed (Literal v) kept) ty fits h whole 0 (omega arith) (omega arith) refl
+  made_owned (Computed (Name n) kept) ty fits h whole = tt
+  made_owned (Computed (Apply f arguments) kept) ty fits h whole =
+      let each = laid_each nodes 0 arguments in
+      let size = length-append each.makes (Map f each.roots ∷ []) in
+      own_between (Computed (Apply f arguments) kept) ty fits h whole (0 + length each.makes) (omega (arith, size)) (omega (arith, size)) refl
+  made_owned (Computed f kept) ty fits h whole = absurd fits.0
+  made_owned body ty fits h whole = absurd fits
+
+  -- the root is a live node of the type
+  pub made_root : (body : Body) (ty : Ty) → IsMaking first now (makes_for body) made → length made ≡ length (makes_for body)
+      → PartFits first.parts.arena (makes_for body) ty (laid_body nodes 0 body).root
+      → (r : Row) × (row_at now.parts.arena (root_for body) ≡ Some r) × (r.ty ≡ ty)
+  made_root body ty h whole fits =
+      let early = (body_in_order nodes body).1 in
+      part_row first now (makes_for body) made h sound (laid_body nodes 0 body).root ty fits
+      (subst (λ (n : ℕ). IsEarlier n (laid_body nodes 0 body).root) (sym whole) early)
+
+  -- and a variable, where one is declared
+  pub made_variable : (v : Value) → IsMaking first now (makes_for (Variable v)) made → length made ≡ length (makes_for (Variable v))
+      → IsVariable now.parts.arena (root_for (Variable v))
+  made_variable v h whole =
+      let top = h.stands.top 0 (Var (to_engine v)) refl (omega (arith, whole)) in
+      record { row = top.0; value = to_engine v; there = top.1; variable = top.3 }
+
+-- and shows what is declared
+pub made_declares : (known : FnRef → Bool) (names : Names) (x : Both) (nodes : ℕ → NodeId) (made : List NodeId) (body : Body) (ty : Ty)
+    → BodyFits known names body ty → ((position : ℕ) (t : Ty) → NameFits names position t → nodes position ≡ x.nodes position)
+    → StandsIn x.graph (laid_body nodes 0 body).makes made → length made ≡ length (laid_body nodes 0 body).makes
+    → Declares x (node_of made (laid_body nodes 0 body).root) (Some body)
+made_declares known names x nodes made body ty fits same stands whole =
+    root_declares x nodes made body (fitting_holds_no_reference known names body ty fits)
+    (every_name_of known names (λ n. nodes n ≡ x.nodes n) same body ty fits) stands (omega (arith, whole))

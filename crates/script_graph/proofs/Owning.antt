@@ -1,0 +1,135 @@
+-- The nodes of what is declared, and those of items.
+use Rattle.std.proofs.Common.{◌≡◌, ℕ, zero, suc, List, [], ◌∷◌, Option, None, Some, refl, ap, sym, subst, ◌∙◌, slice_get}
+use Rattle.inc_value.specs.Choice.{and_then}
+use Rattle.inc_value.specs.declared.function.FnRef.{FnRef}
+use Rattle.inc_value.specs.declared.node.NodeId.{NodeId}
+use Rattle.inc_terms.specs.Graph as graph
+use Rattle.inc_terms.specs.Graph.{Graph, Row, Def, Built as BuiltFor}
+use Rattle.node_arena.specs.Graph.{graph_of}
+use Rattle.script_model.specs.Formula as script
+use Rattle.script_model.specs.Formula.{State, Body, Formula, Formulas, Meanings, body_at, formula_of_body, Literal, Name, Bound, Apply, Fold, If, Join, Bind, At, Steps, Now, End, More, Variable, Computed, Freeze, After, Every, Expert, Grab}
+use Rattle.script_model.specs.Need.{Edge, Argument, Test, Then, Else, Child, Left, Inside, Item, Named, Place, argument_at, part_at, part_of}
+use Rattle.script_graph.specs.Kept.{Kept, arena_of, node_in}
+use Rattle.script_graph.specs.Represents.{OwnNodes, OwnNodesOfAll, OwnNodesOf, IsOwnFormula, IsVariableBody, Computes, owner_of, IsWithin, beside, Represents}
+use Rattle.transfer.specs.Both.{Both}
+use Rattle.transfer.specs.Items.{part_node, root_at, node_at, node_of}
+use Rattle.transfer.proofs.Places.{then_some, map_parts}
+
+-- ---- in another graph
+
+module _ (G G' : Graph) (P Q : NodeId → Type 0) (more : (n : NodeId) → P n → Q n)
+    (kept : (n : NodeId) (r : Row) (f : FnRef) (kids : List NodeId) → G.row n ≡ Some r → r.def ≡ graph.Map f kids → G'.row n ≡ Some r) where
+  mutual
+    pub own_nodes_on : (n : NodeId) (f : Formula) → OwnNodes G P n f → OwnNodes G' Q n f
+    own_nodes_on n (Literal v) own = more n own
+    own_nodes_on n (Name k) own = tt
+    own_nodes_on n (Apply f arguments) own =
+        (more n own.0, own.1, own.2, kept n own.1 f own.2 own.3 own.4, own.4, own_nodes_of_all_on own.2 arguments own.5)
+    own_nodes_on n f own = absurd own
+
+    own_nodes_of_all_on : (ns : List NodeId) (fs : Formulas) → OwnNodesOfAll G P ns fs → OwnNodesOfAll G' Q ns fs
+    own_nodes_of_all_on [] End own = tt
+    own_nodes_of_all_on [] (More f rest) own = absurd own
+    own_nodes_of_all_on (n ∷ ns) End own = absurd own
+    own_nodes_of_all_on (n ∷ ns) (More f rest) own = (own_nodes_on n f own.0, own_nodes_of_all_on ns rest own.1)
+
+  -- where nodes that call functions stay, and what they have implies more, what is declared has more
+  pub own_nodes_of_on : (n : NodeId) (b : Body) → OwnNodesOf G P n b → OwnNodesOf G' Q n b
+  own_nodes_of_on n (Variable v) own = more n own
+  own_nodes_of_on n (Computed f kept) own = own_nodes_on n f own
+  own_nodes_of_on n b own = absurd own
+
+-- ---- by items
+
+argument_own : (G : Graph) (P : NodeId → Type 0) (ns : List NodeId) (fs : Formulas) → OwnNodesOfAll G P ns fs → (k : ℕ) (m : NodeId) (g : Formula)
+    → slice_get ns k ≡ Some m → argument_at fs k ≡ Some g → OwnNodes G P m g
+argument_own G P [] fs own k m g at part = absurd (cc)
+argument_own G P (n ∷ ns) End own k m g at part = absurd own
+argument_own G P (n ∷ ns) (More f rest) own zero m g at part =
+    let node : n ≡ m = cc in
+    let formula : f ≡ g = cc in
+    subst (λ (h : Formula). OwnNodes G P m h) formula (subst (λ (q : NodeId). OwnNodes G P q f) node own.0)
+argument_own G P (n ∷ ns) (More f rest) own (suc k) m g at part = argument_own G P ns rest own.1 k m g at part
+
+module _ (x : Both) (P : NodeId → Type 0) (owner : ℕ) where
+  node_above : (edge : Edge) (path : List Edge) (n : NodeId) → node_at x owner (edge ∷ path) ≡ Some n → (m : NodeId) × (node_at x owner path ≡ Some m)
+  node_above (Argument j) path n at =
+      let m = then_some (node_at x owner path) (λ m. and_then (x.graph.row m) (λ (r : Row). part_node r.def (Argument j))) n at in (m.0, m.1)
+  node_above Test path n at =
+      let m = then_some (node_at x owner path) (λ m. and_then (x.graph.row m) (λ (r : Row). part_node r.def Test)) n at in (m.0, m.1)
+  node_above Then path n at =
+      let m = then_some (node_at x owner path) (λ m. and_then (x.graph.row m) (λ (r : Row). part_node r.def Then)) n at in (m.0, m.1)
+  node_above Else path n at =
+      let m = then_some (node_at x owner path) (λ m. and_then (x.graph.row m) (λ (r : Row). part_node r.def Else)) n at in (m.0, m.1)
+  node_above Child path n at =
+      let m = then_some (node_at x owner path) (λ m. and_then (x.graph.row m) (λ (r : Row). part_node r.def Child)) n at in (m.0, m.1)
+  node_above Left path n at =
+      let m = then_some (node_at x owner path) (λ m. and_then (x.graph.row m) (λ (r : Row). part_node r.def Left)) n at in (m.0, m.1)
+  node_above (Inside v) path n at =
+      let m = then_some (node_at x owner path) (λ m. and_then (x.graph.built m) (root_at x.nodes v)) n at in (m.0, m.1)
+
+  same_row : (n : NodeId) (q r : Row) → x.graph.row n ≡ Some q → x.graph.row n ≡ Some r → q ≡ r
+  same_row n q r first second = let e : Some q ≡ Some r = sym first ∙ second in cc
+
+  part_own : (edge : Edge) (path : List Edge) (h g : Formula) (n : NodeId) → part_at h edge ≡ Some g
+      → ((m : NodeId) → node_at x owner path ≡ Some m → OwnNodes x.graph P m h) → node_at x owner (edge ∷ path) ≡ Some n → OwnNodes x.graph P n g
+  part_own (Argument j) path (Apply f arguments) g n part above at =
+      let m = then_some (node_at x owner path) (λ m. and_then (x.graph.row m) (λ (r : Row). part_node r.def (Argument j))) n at in
+      let r = then_some (x.graph.row m.0) (λ (r : Row). part_node r.def (Argument j)) n m.2 in
+      let own = above m.0 m.1 in
+      let row = same_row m.0 own.1 r.0 own.3 r.1 in
+      let def : r.0.def ≡ graph.Map f own.2 = sym (ap (λ (q : Row). q.def) row) ∙ own.4 in
+      argument_own x.graph P own.2 arguments own.5 j n g (sym (map_parts r.0.def f own.2 def j) ∙ r.2) part
+  part_own edge path (Apply f arguments) g n part above at = absurd (cc)
+  part_own edge path (Literal v) g n part above at = absurd (cc)
+  part_own edge path (Name k) g n part above at = absurd (cc)
+  part_own edge path h g n part above at = let m = node_above edge path n at in absurd (above m.0 m.1)
+
+  module _ (f : Formula) (root : (m : NodeId) → node_at x owner [] ≡ Some m → OwnNodes x.graph P m f) where
+    -- the node of a part has the property
+    pub part_of_own : (path : List Edge) (g : Formula) (n : NodeId) → part_of f path ≡ Some g → node_at x owner path ≡ Some n → OwnNodes x.graph P n g
+    part_of_own [] g n part at = let same : f ≡ g = cc in subst (λ (h : Formula). OwnNodes x.graph P n h) same (root n at)
+    part_of_own (edge ∷ path) g n part at =
+        let h = then_some (part_of f path) (λ h. part_at h edge) g part in
+        part_own edge path h.0 g n h.2 (λ m is. part_of_own path h.0 m h.1 is) at
+
+own_has : (G : Graph) (P : NodeId → Type 0) (n : NodeId) (f : Formula) → IsOwnFormula (Some f) → OwnNodes G P n f → P n
+own_has G P n (Literal v) is own = own
+own_has G P n (Name k) is own = absurd is
+own_has G P n (Apply f arguments) is own = own.0
+own_has G P n f is own = absurd own
+
+module _ (F : Meanings) (s : State) (k : Kept) (held : Represents F s k) where
+  whole_own : (owner : ℕ) (f : Formula) (kept : script.Kept) → body_at s owner ≡ Some (Computed f kept) → (m : NodeId)
+      → node_at (beside F s k) owner [] ≡ Some m → OwnNodes (graph_of (arena_of k)) (IsWithin k.nodes owner) m f
+  whole_own owner f kept is m at =
+      let own = held.aged owner (Computed f kept) is in
+      let node : Some (node_in k.nodes owner) ≡ Some m = rw is at at in
+      let same : node_in k.nodes owner ≡ m = cc in
+      subst (λ (n : NodeId). OwnNodes (graph_of (arena_of k)) (IsWithin k.nodes owner) n f) same own
+
+  by_part : (owner : ℕ) (path : List Edge) (n : NodeId) (f : Formula) (kept : script.Kept) → body_at s owner ≡ Some (Computed f kept)
+      → (p : Option Formula) → part_of f path ≡ p → IsOwnFormula p → node_at (beside F s k) owner path ≡ Some n → IsWithin k.nodes owner n
+  by_part owner path n f kept is None part own at = absurd own
+  by_part owner path n f kept is (Some g) part own at =
+      own_has (graph_of (arena_of k)) (IsWithin k.nodes owner) n g own
+      (part_of_own (beside F s k) (IsWithin k.nodes owner) owner f (whole_own owner f kept is) path g n part at)
+
+  by_body : (owner : ℕ) (path : List Edge) (n : NodeId) (b : Option Body) → body_at s owner ≡ b
+      → IsOwnFormula (and_then b (λ c. and_then (formula_of_body c) (λ f. part_of f path)))
+      → node_at (beside F s k) owner path ≡ Some n → IsWithin k.nodes owner n
+  by_body owner path n None is own at = absurd own
+  by_body owner path n (Some (Computed f kept)) is own at = by_part owner path n f kept is (part_of f path) refl own at
+  by_body owner path n (Some (Variable v)) is own at = absurd own
+  by_body owner path n (Some b) is own at = absurd (held.aged owner b is)
+
+  by_name : (n : ℕ) (b : Option Body) → body_at s n ≡ b → IsVariableBody b → IsWithin k.nodes n (node_in k.nodes n)
+  by_name n None is own = absurd own
+  by_name n (Some (Variable v)) is own = held.aged n (Variable v) is
+  by_name n (Some b) is own = absurd own
+
+  -- the node of what computes was given no later than that of the item's declaration, and later than those of earlier ones
+  pub aged_item : (i : Item) (n : NodeId) → Computes s i → node_of (beside F s k) i ≡ Some n → IsWithin k.nodes (owner_of i) n
+  aged_item (Named m) n own at =
+      let same : node_in k.nodes m ≡ n = cc in subst (IsWithin k.nodes m) same (by_name m (body_at s m) refl own)
+  aged_item (Place owner path) n own at = by_body owner path n (body_at s owner) refl own at

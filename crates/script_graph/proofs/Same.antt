@@ -1,0 +1,80 @@
+-- A state with other observers is represented by what has the same nodes.
+use Rattle.std.proofs.Common.{◌≡◌, ℕ, ◌+◌, List, [], length, Option, None, Some, refl, ap, sym, subst, ◌∙◌}
+use Rattle.inc_value.specs.declared.node.NodeId.{NodeId}
+use Rattle.inc_terms.specs.Depend.{none_died}
+use Rattle.inc_terms.specs.Term as term
+use Rattle.inc_terms.specs.Term.{Term, Terms}
+use Rattle.node_arena.specs.Arena.{Arena}
+use Rattle.node_arena.specs.Graph.{graph_of}
+use Rattle.script_model.specs.Formula.{State, Body, Formula, Formulas, Observer, Meanings, body_at, places_of, Literal, Name, Apply, End, More, Variable, Computed}
+use Rattle.stabilizer.specs.Computing.{IsMapAt}
+use Rattle.script_graph.specs.Kept.{Kept, arena_of, node_in}
+use Rattle.script_graph.specs.Plain.{IsPlain, ArePlain, IsPlainBody, IsEarlierTarget}
+use Rattle.script_graph.specs.Represents.{graph_functions, Represents, IsWithin, OwnNodesOf}
+use Rattle.transfer.specs.Both.{Both}
+use Rattle.transfer.specs.Shows.{Mode, Built, Binding, Shows, ShowsAll, Declares}
+
+-- a state beside the nodes of an arena
+abbrev pub besides : Meanings → State → List NodeId → Arena → Both
+besides F s nodes a = record {
+  meanings = F;
+  state = s;
+  functions = graph_functions F;
+  graph = graph_of a;
+  nodes = node_in nodes;
+  died = none_died;
+}
+
+-- the state with other observers and another count of accepted stabilizes
+abbrev pub observed_so : State → List Observer → ℕ → State
+observed_so s observers accepted = record s { observers = observers; accepted = accepted }
+
+module _ (F : Meanings) (s : State) (observers : List Observer) (accepted : ℕ) (nodes : List NodeId) (a : Arena) where
+  abbrev x : Both
+  x = besides F s nodes a
+
+  abbrev y : Both
+  y = besides F (observed_so s observers accepted) nodes a
+
+  mutual
+    shows_so : (P : ℕ → Type 0) (m : Mode) (E : List Binding) (t : Term) (f : Formula) → IsPlain P f → Shows x m E t f → Shows y m E t f
+    shows_so P m E t (Literal v) fine h = h
+    shows_so P m E t (Name n) fine h = h
+    shows_so P m E t (Apply g arguments) fine h = (h.0, h.1, all_show_so P m E h.0 arguments fine h.2)
+    shows_so P m E t f fine h = absurd fine
+
+    all_show_so : (P : ℕ → Type 0) (m : Mode) (E : List Binding) (ts : Terms) (fs : Formulas) → ArePlain P fs → ShowsAll x m E ts fs
+        → ShowsAll y m E ts fs
+    all_show_so P m E term.End End fine h = h
+    all_show_so P m E term.End (More f fs) fine h = h
+    all_show_so P m E (term.More t ts) End fine h = h
+    all_show_so P m E (term.More t ts) (More f fs) fine h = (shows_so P m E t f fine.0 h.0, all_show_so P m E ts fs fine.1 h.1)
+
+  declares_so : (P : ℕ → Type 0) (n : NodeId) (b : Option Body) → ((c : Body) → b ≡ Some c → IsPlainBody P c) → Declares x n b → Declares y n b
+  declares_so P n None fine h = h
+  declares_so P n (Some (Variable v)) fine h = h
+  declares_so P n (Some (Computed f kept)) fine h = shows_so P (Built None) [] (term.Ref n) f (fine (Computed f kept) refl).0 h
+  declares_so P n (Some b) fine h = absurd (fine b refl)
+
+-- what has the same room, nodes of names and arena represents it
+pub represents_so : (F : Meanings) (s : State) (observers : List Observer) (accepted : ℕ) (k new : Kept) → new.room ≡ k.room → new.nodes ≡ k.nodes
+    → arena_of new ≡ arena_of k → Represents F s k → Represents F (observed_so s observers accepted) new
+represents_so F s observers accepted k new room nodes arena held = record {
+  room = ap (λ (n : ℕ). n + places_of s) room ∙ held.room;
+  clock = held.clock;
+  one_node_each = ap length nodes ∙ held.one_node_each;
+  plain = held.plain;
+  declares = λ n.
+      subst (λ (ns : List NodeId). Declares (besides F (observed_so s observers accepted) ns (arena_of new)) (node_in ns n) (body_at s n)) (sym nodes)
+      (subst (λ (a : Arena). Declares (besides F (observed_so s observers accepted) k.nodes a) (node_in k.nodes n) (body_at s n)) (sym arena)
+      (declares_so F s observers accepted k.nodes (arena_of k) (IsEarlierTarget s n) (node_in k.nodes n) (body_at s n) (held.plain n) (held.declares n)));
+  targets = held.targets;
+  aged = λ n b is.
+      subst (λ (ns : List NodeId). OwnNodesOf (graph_of (arena_of new)) (IsWithin ns n) (node_in ns n) b) (sym nodes)
+      (subst (λ (a : Arena). OwnNodesOf (graph_of a) (IsWithin k.nodes n) (node_in k.nodes n) b) (sym arena) (held.aged n b is));
+  maps = record {
+    maps = held.maps.maps;
+    few = held.maps.few;
+    all = λ n map. held.maps.all n (subst (λ (a : Arena). IsMapAt a n) arena map);
+  };
+}

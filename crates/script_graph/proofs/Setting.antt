@@ -1,0 +1,351 @@
+-- What is kept of a script after a variable was set.
+use Rattle.std.proofs.Common.{◌≡◌, ◌⊎◌, inl, inr, ℕ, zero, suc, ◌+◌, ◌<◌, List, [], ◌∷◌, map, length, Option, None, Some, option_map, IsTrue, refl, ap, sym, subst, ◌∙◌, arith, slice_get, sum_by}
+use Rattle.std.proofs.lemmas.Option.{slice_get-map}
+use Rattle.std.proofs.lemmas.Bool.{cases_eq}
+use Rattle.std.proofs.lemmas.List.Sums.{sum_by-cons}
+use Rattle.formula_lang.specs.Fits.{AssignmentFits}
+use Rattle.inc_value.specs.Choice.{and_then}
+use Rattle.inc_value.specs.Ty.{IsBase}
+use Rattle.inc_value.specs.Value as engine
+use Rattle.inc_value.specs.declared.function.FnRef.{FnRef}
+use Rattle.inc_value.specs.declared.node.NodeId.{NodeId}
+use Rattle.inc_value.specs.declared.ty.Ty.{Ty}
+use Rattle.inc_value.specs.declared.value.Value.{Value as GraphValue}
+use Rattle.inc_terms.specs.Graph as graph
+use Rattle.inc_terms.specs.Graph.{Graph, Row, Def}
+use Rattle.graph.specs.Effects.{Sets}
+use Rattle.graph.specs.Standing.{Standing}
+use Rattle.node_arena.specs.Arena.{row_at, with_value}
+use Rattle.node_arena.specs.Graph.{graph_of}
+use Rattle.node_arena.specs.Sound as arena
+use Rattle.script_model.specs.Check.{Assign, Declared, Names, declared_of, kind_of_body, is_variable, names_of, target_of_body}
+use Rattle.script_model.specs.Formula.{State, Body, Entry, Formula, Meanings, meanings_of, body_at, entry_at, formula_of_body, places_of_body, Bind, Variable, Computed}
+use Rattle.script_model.specs.Need.{Edge, part_of, formula_at}
+use Rattle.script_model.specs.Run.{calls_of_body}
+use Rattle.script_model.specs.Step.{Moment, changed_at, with_body, moved}
+use Rattle.script_model.specs.Values.{Value, Int, Bool as Truth, Text, Reference, type_of, to_engine}
+use Rattle.script_graph.specs.Kept.{Kept, arena_of, node_in, no_node}
+use Rattle.script_graph.specs.Plain.{IsPlainBody, IsEarlierTarget, AllPlain}
+use Rattle.script_graph.specs.Represents.{AreNames, beside, IsWithin, OwnNodesOf, Represents}
+use Rattle.script_graph.specs.State.{Holds, Stands}
+use Rattle.script_graph.proofs.Carrying.{watches_on, settled_on}
+use Rattle.script_graph.proofs.Declaring.{plain_body_more}
+use Rattle.script_graph.proofs.Extending.{declares_still, node_given, formula_body, never_given, body_past, node_past}
+use Rattle.script_graph.proofs.Maps.{HasNewMaps, few_maps_on}
+use Rattle.script_graph.proofs.Owning.{own_nodes_of_on}
+use Rattle.transfer.specs.Both.{graph_value}
+use Rattle.transfer.specs.Items.{node_at, FormulasStay}
+use Rattle.transfer.specs.Keeping.{RowsStay}
+use Rattle.transfer.specs.Shows.{Declares, IsOwn, IsTop, plain}
+
+-- ---- values
+
+engine_base : (v : Value) → IsBase (engine.type_of (to_engine v)) → IsBase (type_of v)
+engine_base (Int z) base = tt
+engine_base (Truth b) base = tt
+engine_base (Text bytes) base = tt
+engine_base (Reference target b) base = absurd base
+
+engine_value : (nodes : ℕ → NodeId) (v : Value) → IsBase (type_of v) → to_engine v ≡ graph_value nodes v
+engine_value nodes (Int z) base = refl
+engine_value nodes (Truth b) base = refl
+engine_value nodes (Text bytes) base = refl
+engine_value nodes (Reference target b) base = absurd base
+
+-- ---- declarations, one of which changes
+
+with_other : (change : Body → Body) (es : List Entry) (t n : ℕ) → (n ≡ t → ⊥) → slice_get (with_body change es t) n ≡ slice_get es n
+with_other change [] t n other = refl
+with_other change (e ∷ es) zero zero other = absurd (other refl)
+with_other change (e ∷ es) zero (suc n) other = refl
+with_other change (e ∷ es) (suc t) zero other = refl
+with_other change (e ∷ es) (suc t) (suc n) other = with_other change es t n (λ same. other (ap (λ j. suc j) same))
+
+with_same : (change : Body → Body) (es : List Entry) (t : ℕ) (e : Entry) → slice_get es t ≡ Some e
+    → slice_get (with_body change es t) t ≡ Some (record e { body = change e.body })
+with_same change [] t e is = absurd (cc)
+with_same change (d ∷ es) zero e is = let same : d ≡ e = cc in ap (λ (x : Entry). Some (record x { body = change x.body })) same
+with_same change (d ∷ es) (suc t) e is = with_same change es t e is
+
+with_length : (change : Body → Body) (es : List Entry) (t : ℕ) → length (with_body change es t) ≡ length es
+with_length change [] t = refl
+with_length change (e ∷ es) zero = refl
+with_length change (e ∷ es) (suc t) = ap (λ n. suc n) (with_length change es t)
+
+-- where the change keeps what a declaration is as a name, so do all
+with_names : (change : Body → Body) (es : List Entry) (t : ℕ) (e : Entry) → slice_get es t ≡ Some e
+    → declared_of (record e { body = change e.body }) ≡ declared_of e → map declared_of es ≡ map declared_of (with_body change es t)
+with_names change [] t e is same = refl
+with_names change (d ∷ es) zero e is same =
+    let here : e ≡ d = cc in
+    ap (λ (x : Declared). x ∷ map declared_of es) (sym (subst (λ (x : Entry). declared_of (record x { body = change x.body }) ≡ declared_of x) here same))
+with_names change (d ∷ es) (suc t) e is same = ap (λ (ds : List Declared). declared_of d ∷ ds) (with_names change es t e is same)
+
+-- what all bodies amount to, where that of the changed one stays
+with_amounts : (amount : Body → ℕ) (change : Body → Body) (es : List Entry) (t : ℕ) (e : Entry) → slice_get es t ≡ Some e
+    → amount (change e.body) ≡ amount e.body
+    → sum_by (λ (d : Entry). amount d.body) (with_body change es t) ≡ sum_by (λ (d : Entry). amount d.body) es
+with_amounts amount change [] t e is same = refl
+with_amounts amount change (d ∷ es) zero e is same =
+    let here : e ≡ d = cc in
+    let first : amount (change d.body) ≡ amount d.body = subst (λ (x : Entry). amount (change x.body) ≡ amount x.body) here same in
+    sum_by-cons (λ (x : Entry). amount x.body) (record d { body = change d.body }) es
+    ∙ (ap (λ n. n + sum_by (λ (x : Entry). amount x.body) es) first ∙ sym (sum_by-cons (λ (x : Entry). amount x.body) d es))
+with_amounts amount change (d ∷ es) (suc t) e is same =
+    sum_by-cons (λ (x : Entry). amount x.body) d (with_body change es t)
+    ∙ (ap (λ n. amount d.body + n) (with_amounts amount change es t e is same) ∙ sym (sum_by-cons (λ (x : Entry). amount x.body) d es))
+
+variable_kind : (b : Body) → IsTrue (is_variable (Some (kind_of_body b))) → (u : Value) × (b ≡ Variable u)
+variable_kind (Variable u) is = (u, refl)
+variable_kind (Computed (Bind left body) kept) is = absurd (cc)
+variable_kind (Computed f kept) is = absurd (cc)
+variable_kind b is = absurd (cc)
+
+-- what may be assigned is a variable
+variable_entry : (names : Names) (s : State) → names.declared ≡ (names_of s).declared → (target : ℕ) (ty : Ty) → AssignmentFits names target ty
+    → (e : Entry) × (u : Value) × (entry_at s target ≡ Some e) × (e.body ≡ Variable u)
+variable_entry names s same target ty fits = go (slice_get s.entries target) refl
+    (subst (λ (ds : List Declared). IsTrue (is_variable (and_then (slice_get ds target) (λ (d : Declared). Some d.kind)))) same fits.variable)
+  where
+    go : (o : Option Entry) → slice_get s.entries target ≡ o
+        → IsTrue (is_variable (and_then (slice_get (map declared_of s.entries) target) (λ (d : Declared). Some d.kind)))
+        → (e : Entry) × (u : Value) × (entry_at s target ≡ Some e) × (e.body ≡ Variable u)
+    go o at is = by_entry o at (rw (slice_get-map declared_of s.entries target, at) at is)
+      where
+        by_entry : (o : Option Entry) → slice_get s.entries target ≡ o
+            → IsTrue (is_variable (and_then (option_map declared_of o) (λ (d : Declared). Some d.kind)))
+            → (e : Entry) × (u : Value) × (entry_at s target ≡ Some e) × (e.body ≡ Variable u)
+        by_entry None at is = absurd (cc)
+        by_entry (Some e) at is = let v = variable_kind e.body is in (e, v.0, at, v.1)
+
+-- ---- what is kept
+
+module _ (named : List ℕ → Option FnRef) (value : FnRef → List GraphValue → GraphValue) (k : Kept) (g : Standing (Unit {0}))
+    (sound : arena.IsSound (arena_of k)) (sound' : arena.IsSound g.parts.arena) (m : Moment) (target : ℕ) (w : GraphValue) (v : Value) (is_value : to_engine v ≡ w)
+    (sets : Sets k.graph g (node_in k.nodes target) w) (fits : AssignmentFits k.names target (engine.type_of w)) where
+  abbrev F : Meanings
+  F = meanings_of named value
+
+  abbrev s : State
+  s = m.present
+
+  abbrev s' : State
+  s' = changed_at s target (λ body. Variable v)
+
+  abbrev new : Kept
+  new = record k { graph = g }
+
+  base : IsBase (type_of v)
+  base = engine_base v (subst (λ (u : GraphValue). IsBase (engine.type_of u)) (sym is_value) fits.base)
+
+  node_or : (p q : NodeId) → (p ≡ q) ⊎ (p ≡ q → ⊥)
+  node_or p q = elim (cases_eq p.slot q.slot) [
+    | inl slot ↦ elim (cases_eq p.gen_ q.gen_) [ inl gen ↦ inl (both p q slot gen) | inr other ↦ inr (λ e. other (ap (λ (n : NodeId). n.gen_) e)) ]
+    | inr other ↦ inr (λ e. other (ap (λ (n : NodeId). n.slot) e))
+  ]
+    where
+      both : (p q : NodeId) → p.slot ≡ q.slot → p.gen_ ≡ q.gen_ → p ≡ q
+      both p q slot gen = rw (slot, gen) refl
+
+  module _ (e : Entry) (u : Value) (there : entry_at s target ≡ Some e) (variable : e.body ≡ Variable u) where
+    was : body_at s target ≡ Some (Variable u)
+    was = ap (λ (o : Option Entry). and_then o (λ (d : Entry). Some d.body)) there ∙ ap (λ b. Some b) variable
+
+    now : body_at s' target ≡ Some (Variable v)
+    now = ap (λ (o : Option Entry). and_then o (λ (d : Entry). Some d.body)) (with_same (λ body. Variable v) s.entries target e there)
+
+    others : (n : ℕ) → (n ≡ target → ⊥) → body_at s' n ≡ body_at s n
+    others n other = ap (λ (o : Option Entry). and_then o (λ (d : Entry). Some d.body)) (with_other (λ body. Variable v) s.entries target n other)
+
+    early_on : (n t : ℕ) → IsEarlierTarget s n t → IsEarlierTarget s' n t
+    early_on n t early = (
+      early.0,
+      elim (cases_eq t target) [
+        | inl same ↦ subst IsOwn (sym (ap (body_at s') same ∙ now)) tt
+        | inr other ↦ subst IsOwn (sym (others t other)) early.1
+      ],
+    )
+
+    -- a formula's declaration is another one
+    other_owner : (owner : ℕ) (path : List Edge) (f : Formula) → formula_at s owner path ≡ Some f → owner ≡ target → ⊥
+    other_owner owner path f is same =
+        let none : formula_at s owner path ≡ None =
+        ap (λ (o : Option Body). and_then o (λ b. and_then (formula_of_body b) (λ g. part_of g path))) (ap (body_at s) same ∙ was) in
+        cc
+
+    formulas_on : FormulasStay s s'
+    formulas_on owner path f is =
+        ap (λ (o : Option Body). and_then o (λ b. and_then (formula_of_body b) (λ g. part_of g path))) (others owner (other_owner owner path f is)) ∙ is
+
+    body_stays : (n : ℕ) (b : Body) → body_at s n ≡ Some b → (c : Body) × (body_at s' n ≡ Some c)
+    body_stays n b is = elim (cases_eq n target) [
+      | inl same ↦ (Variable v, ap (body_at s') same ∙ now)
+      | inr other ↦ (b, others n other ∙ is)
+    ]
+
+    module _ (held : Represents F s k) where
+      old : IsTop (graph_of (arena_of k)) (node_in k.nodes target) (graph.Var (graph_value (node_in k.nodes) u))
+      old = rw was at (held.declares target)
+
+      -- a row that isn't the variable's stays
+      row_other : (n : NodeId) (r : Row) → (n ≡ node_in k.nodes target → ⊥) → row_at (arena_of k) n ≡ Some r → row_at g.parts.arena n ≡ Some r
+      row_other n r other is = sets.set.changes.others n other ∙ is
+
+      same_row : (r q : Row) → row_at (arena_of k) (node_in k.nodes target) ≡ Some r → row_at (arena_of k) (node_in k.nodes target) ≡ Some q → r ≡ q
+      same_row r q first second = let e : Some r ≡ Some q = sym first ∙ second in cc
+
+      stays : RowsStay (graph_of (arena_of k)) (graph_of g.parts.arena)
+      stays n r t is def = row_other n r (λ same.
+          let row : r ≡ old.0 = same_row r old.0 (ap (row_at (arena_of k)) (sym same) ∙ is) old.1 in
+          let none : plain r.def ≡ None = ap (λ (q : Row). plain q.def) row ∙ ap plain old.3 in
+          let clash : None ≡ Some t = sym none ∙ def in cc) is
+
+      map_stays : (n : NodeId) (r : Row) (f : FnRef) (kids : List NodeId) → row_at (arena_of k) n ≡ Some r → r.def ≡ graph.Map f kids
+          → row_at g.parts.arena n ≡ Some r
+      map_stays n r f kids is def = stays n r _ is (ap plain def)
+
+      apart : (n : ℕ) (q : Value) → body_at s n ≡ Some (Variable q) → (n ≡ target → ⊥) → node_in k.nodes n ≡ node_in k.nodes target → ⊥
+      apart n q is other same =
+          let gens : (node_in k.nodes n).gen_ ≡ (node_in k.nodes target).gen_ = ap (λ (p : NodeId). p.gen_) same in
+          let here = held.aged n (Variable q) is in
+          let there = held.aged target (Variable u) was in
+          by_order n gens here there (order n target other)
+        where
+          order : (a b : ℕ) → (a ≡ b → ⊥) → (a < b) ⊎ (b < a)
+          order zero zero other = absurd (other refl)
+          order zero (suc b) other = inl (omega arith)
+          order (suc a) zero other = inr (omega arith)
+          order (suc a) (suc b) other = elim (order a b (λ e. other (ap (λ j. suc j) e))) [ inl h ↦ inl (omega (arith, h)) | inr h ↦ inr (omega (arith, h)) ]
+
+          by_order : (n : ℕ) → (node_in k.nodes n).gen_ ≡ (node_in k.nodes target).gen_ → IsWithin k.nodes n (node_in k.nodes n)
+              → IsWithin k.nodes target (node_in k.nodes target) → (n < target) ⊎ (target < n) → ⊥
+          by_order n gens here there (inl low) = let less = there.later n low in omega (arith, less, gens)
+          by_order n gens here there (inr high) = let less = here.later target high in omega (arith, less, gens)
+
+      set_shows : Declares (beside F s' new) (node_in k.nodes target) (Some (Variable v))
+      set_shows =
+          let row : old.0 ≡ sets.set.row = same_row old.0 sets.set.row old.1 sets.set.there in (
+            with_value sets.set.row w,
+            sets.set.changes.changed,
+            ap (λ (q : Row). q.scope) (sym row) ∙ old.2,
+            ap (λ (x : GraphValue). graph.Var x) (sym is_value ∙ engine_value (node_in k.nodes) v base),
+          )
+
+      declares_each : (n : ℕ) (b : Option Body) → body_at s' n ≡ b → Declares (beside F s' new) (node_in k.nodes n) b
+      declares_each n None is = (ap (row_at g.parts.arena) past ∙ never_given g.parts.arena sound', refl)
+        where
+          past : node_in k.nodes n ≡ no_node
+          past = let size = with_length (λ body. Variable v) s.entries target in
+              node_past k.nodes n (omega (arith, body_past s' n is, held.one_node_each, size))
+      declares_each n (Some b) is = elim (cases_eq n target) [
+        | inl same ↦
+            let body : Variable v ≡ b = let e : Some (Variable v) ≡ Some b = sym now ∙ (ap (body_at s') (sym same) ∙ is) in cc in
+            subst (λ (c : Body). Declares (beside F s' new) (node_in k.nodes n) (Some c)) body
+            (subst (λ (j : ℕ). Declares (beside F s' new) (node_in k.nodes j) (Some (Variable v))) (sym same) set_shows)
+        | inr other ↦
+            let here : body_at s n ≡ Some b = sym (others n other) ∙ is in
+            declares_still (beside F s k) (beside F s' new) (IsEarlierTarget s n) (λ t early. refl) stays (node_in k.nodes n) (node_in k.nodes n) b refl
+            (held.plain n b here)
+            (λ q e r row. row_other (node_in k.nodes n) r (apart n q (here ∙ ap (λ c. Some c) e) other) row)
+            (rw here at (held.declares n))
+      ]
+
+      plain_each : AllPlain s'
+      plain_each n b is = elim (cases_eq n target) [
+        | inl same ↦
+            let body : Variable v ≡ b = let e : Some (Variable v) ≡ Some b = sym now ∙ (ap (body_at s') (sym same) ∙ is) in cc in
+            subst (λ (c : Body). IsPlainBody (IsEarlierTarget s' n) c) body base
+        | inr other ↦ plain_body_more (IsEarlierTarget s n) (IsEarlierTarget s' n) (early_on n) b (held.plain n b (sym (others n other) ∙ is))
+      ]
+
+      aged_each : (n : ℕ) (b : Body) → body_at s' n ≡ Some b → OwnNodesOf (graph_of g.parts.arena) (IsWithin k.nodes n) (node_in k.nodes n) b
+      aged_each n b is = elim (cases_eq n target) [
+        | inl same ↦
+            let body : Variable v ≡ b = let e : Some (Variable v) ≡ Some b = sym now ∙ (ap (body_at s') (sym same) ∙ is) in cc in
+            subst (λ (c : Body). OwnNodesOf (graph_of g.parts.arena) (IsWithin k.nodes n) (node_in k.nodes n) c) body
+            (held.aged n (Variable u) (ap (body_at s) same ∙ was))
+        | inr other ↦ own_nodes_of_on (graph_of (arena_of k)) (graph_of g.parts.arena) (IsWithin k.nodes n) (IsWithin k.nodes n) (λ q h. h) map_stays
+            (node_in k.nodes n) b (held.aged n b (sym (others n other) ∙ is))
+      ]
+
+      targets_each : (n : ℕ) (d : Entry) → entry_at s' n ≡ Some d → d.target ≡ target_of_body n d.body
+      targets_each n d is = elim (cases_eq n target) [
+        | inl same ↦
+            let set : record e { body = Variable v } ≡ d =
+            let h : Some (record e { body = Variable v }) ≡ Some d = sym (with_same (λ body. Variable v) s.entries target e there) ∙ (ap (entry_at s') (sym same) ∙ is) in cc in
+            subst (λ (x : Entry). x.target ≡ target_of_body n x.body) set
+            (held.targets target e there ∙ (ap (target_of_body target) variable ∙ sym same))
+        | inr other ↦ held.targets n d (sym (with_other (λ body. Variable v) s.entries target n other) ∙ is)
+      ]
+
+      no_new_map : HasNewMaps (arena_of k) g.parts.arena 0
+      no_new_map = record {
+        maps = [];
+        few = omega arith;
+        all = λ n m. elim (node_or n (node_in k.nodes target)) [
+          | inl same ↦ absurd (
+              let row : with_value sets.set.row w ≡ m.row =
+              (let h : Some (with_value sets.set.row w) ≡ Some m.row = sym sets.set.changes.changed ∙ (ap (row_at g.parts.arena) (sym same) ∙ m.is_row) in cc) in
+              let clash : graph.Var w ≡ graph.Map m.function m.nodes = ap (λ (r : Row). r.def) row ∙ m.is_map in cc)
+          | inr other ↦ inl (record {
+            row = m.row;
+            function = m.function;
+            nodes = m.nodes;
+            is_row = sym (sets.set.changes.others n other) ∙ m.is_row;
+            is_map = m.is_map;
+          })
+        ];
+      }
+
+      set_represents : Represents F s' new
+      set_represents = record {
+        room = let places = with_amounts places_of_body (λ body. Variable v) s.entries target e there (sym (ap places_of_body variable)) in omega (arith, held.room, places);
+        clock = held.clock;
+        one_node_each = held.one_node_each ∙ sym (with_length (λ body. Variable v) s.entries target);
+        plain = plain_each;
+        declares = λ n. declares_each n (body_at s' n) refl;
+        targets = targets_each;
+        aged = aged_each;
+        maps = few_maps_on s s' (arena_of k) g.parts.arena 0 no_new_map
+            (let calls = with_amounts calls_of_body (λ body. Variable v) s.entries target e there (sym (ap calls_of_body variable)) in omega (arith, calls))
+            held.maps;
+      }
+
+      by_body : (owner : ℕ) (n : NodeId) (b : Body) → body_at s owner ≡ Some b → body_at s' owner ≡ Some b → IsPlainBody (IsEarlierTarget s owner) b
+          → node_at (beside F s k) owner [] ≡ Some n → node_at (beside F s' new) owner [] ≡ Some n
+      by_body owner n (Variable q) is then fine at = absurd (let e = rw is at at in cc)
+      by_body owner n (Computed f kept) is then fine at = let e = rw is at at in rw then e
+      by_body owner n b is then fine at = absurd fine
+
+      whole : (owner : ℕ) (path : List Edge) (f : Formula) → formula_at s owner path ≡ Some f → (n : NodeId)
+          → node_at (beside F s k) owner [] ≡ Some n → node_at (beside F s' new) owner [] ≡ Some n
+      whole owner path f is n at =
+          let b = formula_body s owner path f is in
+          by_body owner n b.0 b.1 (others owner (other_owner owner path f is) ∙ b.1) (held.plain owner b.0 b.1) at
+
+    holds_after : Holds F k m → Holds F new (moved m (Assign target v))
+    holds_after h = record {
+      represents = set_represents h.represents;
+      watches = watches_on s s' k new sets.beside refl refl refl (λ n b is. refl) (node_given F s k h.represents sound) body_stays h.watches;
+      settled = settled_on named value m.settled s s' k new h.represents sets.beside formulas_on (stays h.represents) (whole h.represents)
+          (λ owner path f is. let b = formula_body s owner path f is in node_given F s k h.represents sound owner b.0 b.1) h.settled;
+    }
+
+    names_on : AreNames k.names s → AreNames k.names s'
+    names_on h = record {
+      declared = h.declared ∙ with_names (λ body. Variable v) s.entries target e there
+          (ap (λ (b : Body). record { name = e.name; ty = e.ty; kind = kind_of_body b; target = e.target }) (sym variable));
+      now = h.now;
+      in_use = h.in_use;
+    }
+
+  -- the script with the variable set is stood for
+  pub setting_stands : Stands F k m → Stands F new (moved m (Assign target v))
+  setting_stands h =
+      let d = variable_entry k.names s h.names.declared target (engine.type_of w) fits in
+      record {
+        names = names_on d.0 d.1 d.2 d.3 h.names;
+        accepted = h.accepted;
+        broken = h.broken;
+        holds = λ whole. holds_after d.0 d.1 d.2 d.3 (h.holds whole);
+      }

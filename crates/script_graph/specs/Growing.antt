@@ -1,0 +1,78 @@
+-- A graph to which nodes were added, and the nodes that are made for a plan.
+use Rattle.std.specs.Prelude.{◌≡◌, ◌⊎◌, ◌+◌, ◌<◌, ◌≤◌, ℕ, Bool, List, length, Some, IsTrue, slice_get}
+use Rattle.std.specs.List.{AllZip}
+use Rattle.inc_value.specs.Choice.{Among}
+use Rattle.inc_value.specs.Ty.{IsBase}
+use Rattle.inc_value.specs.Value.{type_of}
+use Rattle.inc_value.specs.declared.function.FnKind.TheVariants as kind
+use Rattle.inc_value.specs.declared.function.FnRef.{FnRef}
+use Rattle.inc_value.specs.declared.node.NodeId.{NodeId}
+use Rattle.inc_value.specs.declared.ty.Ty.{Ty}
+use Rattle.inc_value.specs.declared.ty.Ty.TheVariants as ty
+use Rattle.inc_terms.specs.Graph as graph
+use Rattle.inc_terms.specs.Graph.{Row, Def}
+use Rattle.inc_terms.specs.Within.{Given}
+use Rattle.formula_elab.specs.Made.{StandsIn}
+use Rattle.formula_elab.specs.Opened.{node_at}
+use Rattle.formula_elab.specs.declared.opened.Open.{Open}
+use Rattle.formula_elab.specs.declared.opened.Open.TheVariants as open_def
+use Rattle.formula_elab.specs.declared.opened.Part.{Part}
+use Rattle.formula_elab.specs.declared.opened.Part.TheVariants as part
+use Rattle.graph.specs.Effects.{KeepsBeside}
+use Rattle.graph.specs.Standing.{Standing}
+use Rattle.graph.specs.Known.{CallsKnown}
+use Rattle.node_arena.specs.Arena.{Arena, row_at, live, NamesGiven}
+use Rattle.node_arena.specs.Graph.{graph_of}
+use Rattle.node_arena.specs.Typing.{Makes}
+
+-- the type of the node that is made of such a definition
+abbrev pub def_ty : Def → Ty
+def_ty (graph.Const v) = type_of v
+def_ty (graph.Var v) = type_of v
+def_ty (graph.Map f kids) = f.sig.gives
+def_ty def = ty.Int
+
+-- so of what is to be made
+abbrev pub open_ty : Open → Ty
+open_ty (open_def.Const v) = type_of v
+open_ty (open_def.Var v) = type_of v
+open_ty (open_def.Map f parts) = f.sig.gives
+
+-- the part is a live node of the type, or made as the i-th, of that type
+abbrev pub PartFits : Arena → List Open → Ty → Part → Type 0
+PartFits a makes t (part.Given n) = (r : Row) × (row_at a n ≡ Some r) × (r.ty ≡ t)
+PartFits a makes t (part.Made i) = (x : Open) × (slice_get makes i ≡ Some x) × (open_ty x ≡ t)
+
+-- what is to be made fits: no value is a reference, and functions are known maps whose arguments have the types that they take
+abbrev pub OpenFits : (FnRef → Bool) → Arena → List Open → Open → Type 0
+OpenFits known a makes (open_def.Const v) = IsBase (type_of v)
+OpenFits known a makes (open_def.Var v) = IsBase (type_of v)
+OpenFits known a makes (open_def.Map f parts) =
+    IsTrue (known f) × (f.id.kind ≡ kind.Map) × AllZip (λ (p : Part) (t : Ty). PartFits a makes t p) parts f.sig.takes
+
+abbrev pub AllOpenFit : (FnRef → Bool) → Arena → List Open → Type 0
+AllOpenFit known a makes = (i : ℕ) (x : Open) → slice_get makes i ≡ Some x → OpenFits known a makes x
+
+-- a definition that a graph takes: it names given nodes, makes its type, and calls known functions
+pub record IsWelcome (known : FnRef → Bool) (a : Arena) (d : Def) : Type 0 where
+  pub named : NamesGiven a.given d
+  pub makes : Makes a d (def_ty d)
+  pub calls : CallsKnown known d
+
+module _ {F : Type 0} where
+  -- nodes were added: what was given before is as it was
+  pub record Extends (old new : Standing F) : Type 0 where
+    pub beside : KeepsBeside old new
+    pub given : old.parts.arena.given ≤ new.parts.arena.given
+    pub rows : (n : NodeId) → Given old.parts.arena.given n → row_at new.parts.arena n ≡ row_at old.parts.arena n
+
+  -- over the first graph so many of what is to be made were made in order, each under the next id
+  pub record IsMaking (first now : Standing F) (makes : List Open) (made : List NodeId) : Type 0 where
+    pub extends : Extends first now
+    pub stands : StandsIn (graph_of now.parts.arena) makes made
+    pub types : (i : ℕ) (x : Open) → slice_get makes i ≡ Some x → i < length made
+        → (r : Row) × (row_at now.parts.arena (node_at made i) ≡ Some r) × (r.ty ≡ open_ty x)
+    pub ids : (i : ℕ) → i < length made → (node_at made i).gen_ ≡ first.parts.arena.given + i
+    pub given : now.parts.arena.given ≡ first.parts.arena.given + length made
+    pub new_rows : (n : NodeId) (r : Row) → row_at now.parts.arena n ≡ Some r → (row_at first.parts.arena n ≡ Some r) ⊎ Among n made
+    pub few : live now.parts.arena ≤ live first.parts.arena + length made

@@ -1,0 +1,168 @@
+-- What a graph has to do with the state of a script.
+use Rattle.std.specs.Prelude.{◌≡◌, ◌+◌, ◌<◌, ◌≤◌, ℕ, List, [], ◌∷◌, map, length, Option, None, Some, slice_get}
+use Rattle.inc_value.specs.Choice.{Among}
+use Rattle.inc_value.specs.declared.node.NodeId.{NodeId}
+use Rattle.inc_value.specs.declared.node.ObsId.{ObsId}
+use Rattle.inc_terms.specs.Depend.{none_died}
+use Rattle.inc_terms.specs.Graph as graph
+use Rattle.inc_terms.specs.Graph.{Graph, Row}
+use Rattle.inc_terms.specs.Term.{Functions}
+use Rattle.graph.specs.Standing.{node_at, shown_of}
+use Rattle.node_arena.specs.Arena.{Arena}
+use Rattle.node_arena.specs.Graph.{graph_of}
+use Rattle.script_model.specs.Check.{Names, names_of, is_among, target_of_body}
+use Rattle.script_model.specs.Formula.{Body, Formula, Formulas, Entry, State, Observer, Meanings, body_at, entry_at, places_of, Literal, Name, Apply, End, More, Variable, Computed, Unwatched}
+use Rattle.script_model.specs.Need.{Item, Named, Place, Visit, IsVisit, Needed, formula_at}
+use Rattle.script_model.specs.Run.{most_calls}
+use Rattle.script_model.specs.Values.{Outcome, Val, Invalid, type_of, to_engine, from_engine}
+use Rattle.inc_value.specs.Ty.{IsBase}
+use Rattle.script_graph.specs.Kept.{Kept, arena_of, node_in}
+use Rattle.script_graph.specs.Plain.{AllPlain}
+use Rattle.stabilize_round.specs.State.{Call}
+use Rattle.stabilizer.specs.Computing.{IsMapAt}
+use Rattle.stabilizer.specs.Meaning.{functions_of}
+use Rattle.stabilizer.specs.Round.{last_call}
+use Rattle.transfer.specs.Both.{Both, graph_value, graph_outcome}
+use Rattle.transfer.specs.Items.{node_of, FormulasStay}
+use Rattle.transfer.specs.Shows.{Declares}
+
+-- what a graph's functions give, by those of the script
+abbrev pub graph_functions : Meanings → Functions
+graph_functions F = functions_of (λ f values. to_engine (F.value f (map from_engine values)))
+
+-- a state of a script beside the graph that is kept
+abbrev pub beside : Meanings → State → Kept → Both
+beside F s k = record {
+  meanings = F;
+  state = s;
+  functions = graph_functions F;
+  graph = graph_of (arena_of k);
+  nodes = node_in k.nodes;
+  died = none_died;
+}
+
+-- ---- declarations
+
+-- what an item computes itself: a variable, or a formula that is no bare name
+abbrev pub IsOwnFormula : Option Formula → Type 0
+IsOwnFormula None = ⊥
+IsOwnFormula (Some (Name n)) = ⊥
+IsOwnFormula (Some f) = Unit {0}
+
+abbrev pub IsVariableBody : Option Body → Type 0
+IsVariableBody (Some (Variable v)) = Unit {0}
+IsVariableBody body = ⊥
+
+abbrev pub Computes : State → Item → Type 0
+Computes s (Named n) = IsVariableBody (body_at s n)
+Computes s (Place owner path) = IsOwnFormula (formula_at s owner path)
+
+-- the declaration that an item belongs to
+abbrev pub owner_of : Item → ℕ
+owner_of (Named n) = n
+owner_of (Place owner path) = owner
+
+abbrev mutual
+  -- the formula's node and those of its parts have the property, but for those of bare names
+  pub OwnNodes : Graph → (NodeId → Type 0) → NodeId → Formula → Type 0
+  OwnNodes G P n (Literal v) = P n
+  OwnNodes G P n (Name k) = Unit {0}
+  OwnNodes G P n (Apply f arguments) =
+      P n × (r : Row) × (kids : List NodeId) × (G.row n ≡ Some r) × (r.def ≡ graph.Map f kids) × OwnNodesOfAll G P kids arguments
+  OwnNodes G P n f = ⊥
+
+  -- so have those of all of the formulas
+  pub OwnNodesOfAll : Graph → (NodeId → Type 0) → List NodeId → Formulas → Type 0
+  OwnNodesOfAll G P [] End = Unit {0}
+  OwnNodesOfAll G P [] (More f rest) = ⊥
+  OwnNodesOfAll G P (n ∷ ns) End = ⊥
+  OwnNodesOfAll G P (n ∷ ns) (More f rest) = OwnNodes G P n f × OwnNodesOfAll G P ns rest
+
+-- so have those of what is declared
+abbrev pub OwnNodesOf : Graph → (NodeId → Type 0) → NodeId → Body → Type 0
+OwnNodesOf G P n (Variable v) = P n
+OwnNodesOf G P n (Computed f kept) = OwnNodes G P n f
+OwnNodesOf G P n body = ⊥
+
+-- a node was given no later than that of the declaration, and later than those of earlier declarations
+pub record IsWithin (nodes : List NodeId) (owner : ℕ) (n : NodeId) : Type 0 where
+  pub not_later : n.gen_ ≤ (node_in nodes owner).gen_
+  pub later : (m : ℕ) → m < owner → (node_in nodes m).gen_ < n.gen_
+
+-- the maps of the graph are among these, which are no more than the calls of one visit of each place
+pub record HasFewMaps (s : State) (a : Arena) : Type 0 where
+  pub maps : List NodeId
+  pub few : length maps ≤ most_calls s
+  pub all : (n : NodeId) → IsMapAt a n → Among n maps
+
+-- the graph holds the declarations: each has its node, which shows what is declared, and the nodes of each were given after those of earlier ones
+pub record Represents (F : Meanings) (s : State) (k : Kept) : Type 0 where
+  pub room : k.room + places_of s ≡ 1048575
+  pub clock : s.now ≡ 0
+  pub one_node_each : length k.nodes ≡ length s.entries
+  pub plain : AllPlain s
+  pub declares : (n : ℕ) → Declares (beside F s k) (node_in k.nodes n) (body_at s n)
+  pub targets : (n : ℕ) (e : Entry) → entry_at s n ≡ Some e → e.target ≡ target_of_body n e.body
+  pub aged : (n : ℕ) (b : Body) → body_at s n ≡ Some b → OwnNodesOf (graph_of (arena_of k)) (IsWithin k.nodes n) (node_in k.nodes n) b
+  pub maps : HasFewMaps s (arena_of k)
+
+-- ---- observers
+
+-- those that are there
+abbrev pub there_in : {A : Type 0} → List (Option A) → List A
+there_in [] = []
+there_in (None ∷ xs) = there_in xs
+there_in (Some x ∷ xs) = x ∷ there_in xs
+
+-- an outcome that is no reference
+abbrev pub IsBaseOutcome : Outcome → Type 0
+IsBaseOutcome (Val v) = IsBase (type_of v)
+IsBaseOutcome Invalid = Unit {0}
+
+-- what an observer shows is what the graph shows of its node, where it was there when a stabilize was accepted last; a later one shows nothing yet
+pub record IsShown (k : Kept) (o : ObsId) (x : Observer) : Type 0 where
+  pub earlier : o.0 < k.graph.rooted → (p : Outcome) × (x.shown ≡ Some p) × IsBaseOutcome p
+      × (shown_of k.graph (node_in k.nodes x.target) ≡ Some (graph_outcome (node_in k.nodes) p))
+  pub later : k.graph.rooted ≤ o.0 → x.shown ≡ None
+
+-- an observer of the script is one of the graph
+pub record IsObserver (s : State) (k : Kept) (o : ObsId) (x : Observer) : Type 0 where
+  pub looks : node_at k.graph.observers o ≡ Some (node_in k.nodes x.target)
+  pub target : (b : Body) × (body_at s x.target ≡ Some b)
+  pub unwatched : x.watch ≡ Unwatched
+  pub shown : IsShown k o x
+
+-- the graph's observers in the order in which they were made, each with that of the script, if it wasn't ended; a name in use is that of one of them
+pub record Watches (s : State) (k : Kept) : Type 0 where
+  pub made : List (Option Observer)
+  pub one_each : length made ≡ length k.graph.observers
+  pub in_order : s.observers ≡ there_in made
+  pub ended : (o : ObsId) → slice_get made o.0 ≡ Some None → node_at k.graph.observers o ≡ None
+  pub observing : (o : ObsId) (x : Observer) → slice_get made o.0 ≡ Some (Some x) → IsObserver s k o x
+  pub named : (i : ℕ) (o : ObsId) (name : List ℕ) → slice_get k.observers i ≡ Some o → slice_get k.names.observers i ≡ Some name
+      → (x : Observer) × (slice_get made o.0 ≡ Some (Some x)) × (x.name ≡ name)
+  pub apart : (o p : ObsId) (x y : Observer) → slice_get made o.0 ≡ Some (Some x) → slice_get made p.0 ≡ Some (Some y) → x.name ≡ y.name → o ≡ p
+
+-- ---- names
+
+-- the names are those of the state, the observers' in any order
+pub record AreNames (names : Names) (s : State) : Type 0 where
+  pub declared : names.declared ≡ (names_of s).declared
+  pub now : names.now ≡ s.now
+  pub in_use : (name : List ℕ) → is_among names.observers name ≡ is_among (names_of s).observers name
+
+-- ---- the last accepted stabilize
+
+-- the function of the visit's node was last called with the visit's values
+pub record WasRun (x : Both) (k : Kept) (v : Visit) : Type 0 where
+  pub node : NodeId
+  pub is_node : node_of x v.item ≡ Some node
+  pub call : Call
+  pub is_last : last_call k.graph.parts.work node ≡ Some call
+  pub values_are : call.arguments ≡ map (graph_value x.nodes) v.values
+
+-- the declarations that were there then have their formulas, and each call that was needed then was the last one of its node
+pub record Settled (F : Meanings) (before s : State) (k : Kept) : Type 0 where
+  pub formulas : FormulasStay before s
+  pub plain : AllPlain before
+  pub ran : (v : Visit) → IsVisit F before v → Needed F before v.item → WasRun (beside F s k) k v

@@ -1,0 +1,123 @@
+-- What is kept once an observer is ended.
+use Rattle.std.proofs.Common.{◌≡◌, ◌↔◌, inl, inr, ℕ, zero, suc, ◌+◌, ◌<◌, Bool, true, false, cond, not, nat_lt, List, [], ◌∷◌, length, Option, None, Some, IsSome, Result, Err, IfErr, IsErrOf, refl, ap, sym, subst, ◌∙◌, arith, swap_remove, slice_get, slice_index_or}
+use Rattle.std.proofs.lemmas.Bool.{lt-ltb}
+use Rattle.std.proofs.lemmas.Option.{slice_get_read, slice_get_within}
+use Rattle.std.proofs.lemmas.Slice.Eq.{bytes_eq-Decides}
+use Rattle.std.specs.List.{position_or_len}
+use Rattle.std.specs.Str.{bytes_eq}
+use Rattle.indexmap.specs.IndexMap.{swap_remove_by}
+use Rattle.graph.specs.Effects.{Ends, IsEndFault}
+use Rattle.graph.specs.Standing.{Standing, node_at, IsUnbroken, IsBroken}
+use Rattle.graph.specs.declared.fault.GraphFault.{GraphFault}
+use Rattle.graph.specs.declared.fault.GraphFault.TheVariants as fault
+use Rattle.graph.specs.declared.fault.Kept.{Kept as Cause}
+use Rattle.inc_value.specs.declared.node.NodeId.{NodeId}
+use Rattle.inc_value.specs.declared.node.ObsId.{ObsId}
+use Rattle.script_model.specs.Check.{Names, Unobserve}
+use Rattle.script_model.specs.Formula.{Meanings}
+use Rattle.script_model.specs.Step.{Moment, moved}
+use Rattle.script_graph.specs.Kept.{Kept, IsSound, without_functions}
+use Rattle.script_graph.specs.State.{Stands}
+use Rattle.script_graph.proofs.Ending.{ending_sound, ending_stands}
+use Rattle.session.proofs.Observed.{among_at, by_position}
+
+-- ---- the place of a name
+
+-- the first place of a name is the one that its test finds
+found_first : (name : List ℕ) (names : List (List ℕ)) (i : ℕ) → slice_get names i ≡ Some name
+    → ((j : ℕ) → j < i → slice_get names j ≡ Some name → ⊥) → position_or_len (bytes_eq name) names ≡ i
+found_first name [] i at first = absurd (cc)
+found_first name (x ∷ names) zero at first = let same : x ≡ name = cc in rw ((bytes_eq-Decides name x).1 (sym same)) refl
+found_first name (x ∷ names) (suc i) at first =
+    go (bytes_eq name x) refl (found_first name names i at (λ j less there. first (suc j) (omega (arith, less)) there))
+  where
+    go : (b : Bool) → bytes_eq name x ≡ b → position_or_len (bytes_eq name) names ≡ i
+        → cond (not b) (1 + position_or_len (bytes_eq name) names) 0 ≡ suc i
+    go true is rest = absurd (first 0 (omega arith) (ap (λ (n : List ℕ). Some n) (sym ((bytes_eq-Decides name x).0 is))))
+    go false is rest = omega (arith, rest)
+
+-- so the name leaves that place
+same_place : (name : List ℕ) (names : List (List ℕ)) (i : ℕ) → slice_get names i ≡ Some name
+    → ((j : ℕ) → j < i → slice_get names j ≡ Some name → ⊥) → (d : List ℕ) × (swap_remove_by (bytes_eq name) names ≡ swap_remove names i d)
+same_place name names i at first =
+    by_position (bytes_eq name) names i
+    (ap (λ (n : ℕ). cond (nat_lt n (length names)) (Some n) None) (found_first name names i at first)
+    ∙ ap (λ (b : Bool). cond b (Some i) None) (lt-ltb i (length names) (slice_get_within names i name at)))
+
+-- a place of a name is one of its observer
+pub place_within : (k : Kept) → IsSound k → (i : ℕ) → i < length k.names.observers → i < length k.observers
+place_within k sound i within = let same = sound.one_observer_each in omega (arith, within, same)
+
+-- ---- the observer at a place
+
+module _ (k : Kept) (sound : IsSound k) (i : ℕ) (within : i < length k.names.observers) (o : ObsId) (index : o ≡ slice_index_or k.observers i o) where
+  at_id : slice_get k.observers i ≡ Some o
+  at_id = slice_get_read k.observers (length k.observers) i o refl (place_within k sound i within) index
+
+  -- it is in use
+  pub is_looking : IsSome (node_at k.graph.observers o)
+  is_looking = sound.looking o (among_at k.observers i o at_id)
+
+-- ---- a graph whose observer was ended, but for its functions
+
+ends_so : {F : Type 0} (old new : Standing F) (o : ObsId) → Ends old new o → Ends (without_functions old) (without_functions new) o
+ends_so old new o h = record {
+  node = h.node;
+  was = h.was;
+  observers = h.observers;
+  functions = refl;
+  arena = h.arena;
+  rooted = h.rooted;
+  refused = h.refused;
+  shown = h.shown;
+  last = h.last;
+  fewer = h.fewer;
+  ran = h.ran;
+  unrooted = h.unrooted;
+}
+
+-- ---- what is kept without the observer
+
+module _ {F : Type 0} (k : Kept) (old new : Standing F) (graph_is : k.graph ≡ without_functions old) (sound : IsSound k) (name : List ℕ) (i : ℕ)
+    (o : ObsId) (within : i < length k.names.observers) (at_name : slice_get k.names.observers i ≡ Some name)
+    (first : (j : ℕ) → j < i → slice_get k.names.observers j ≡ Some name → ⊥) (index : o ≡ slice_index_or k.observers i o)
+    (ends : Ends old new o) where
+  place : (d : List ℕ) × (swap_remove_by (bytes_eq name) k.names.observers ≡ swap_remove k.names.observers i d)
+  place = same_place name k.names.observers i at_name first
+
+  ends_now : Ends k.graph (without_functions new) o
+  ends_now = subst (λ (g : Standing (Unit {0})). Ends g (without_functions new) o) (sym graph_is) (ends_so old new o ends)
+
+  module _ (names : Names) (os : List ObsId) (names_are : names ≡ record k.names { observers = swap_remove_by (bytes_eq name) k.names.observers })
+      (os_are : os ≡ swap_remove k.observers i o) where
+    names_now : names ≡ record k.names { observers = swap_remove k.names.observers i place.0 }
+    names_now = names_are ∙ ap (λ (l : List (List ℕ)). record k.names { observers = l }) place.1
+
+    -- what is kept fits together
+    pub ended_sound : IsSound (record k { names = names; observers = os; graph = without_functions new })
+    ended_sound =
+        rw (names_now, os_are)
+        (ending_sound k name place.0 i o (without_functions new) sound (at_id k sound i within o index) at_name ends_now)
+
+    -- and it stands for the moment without the observer
+    pub ended_stands : k.broken ≡ None → (G : Meanings) (m : Moment) → Stands G k m
+        → Stands G (record k { names = names; observers = os; graph = without_functions new }) (moved m (Unobserve name))
+    ended_stands unbroken G m stands =
+        rw (names_now, os_are)
+        (ending_stands k name place.0 i o (without_functions new) sound (at_id k sound i within o index) at_name ends_now G m stands (stands.broken ∙ unbroken))
+
+-- ---- faults that don't come
+
+-- an observer in use is ended
+pub never_refused : {F T : Type 0} (s : Standing F) → IsUnbroken s → (r : Result T GraphFault) (e : GraphFault) (o : ObsId) → r ≡ Err e → IfErr r IsEndFault
+    → ((cause : Cause) → IsErrOf r (fault.Broken cause) ↔ IsBroken s cause)
+    → (IsErrOf r fault.Unknown ↔ (IsUnbroken s × (node_at s.observers o ≡ None)))
+    → IsSome (node_at s.observers o) → ⊥
+never_refused {F} {T} s unbroken r e o is ending broken unknown looks = go (subst (λ (q : Result T GraphFault). IfErr q IsEndFault) is ending)
+  where
+    by : {x : GraphFault} → e ≡ x → IsErrOf r x
+    by {x} same = is ∙ ap (λ (y : GraphFault). Err y) same
+
+    go : IsEndFault e → ⊥
+    go (inl b) = let is_broken = (broken b.0).0 (by b.1) in let met = is_broken.1 in let none = unbroken in absurd (cc)
+    go (inr u) = let none = (unknown.0 (by u)).1 in let h = subst (λ (n : Option NodeId). IsSome n) none looks in absurd (cc)

@@ -1,0 +1,327 @@
+-- What is kept once an observer is made, what the observer of a name shows, and faults that don't come.
+use Rattle.std.proofs.Common.{◌≡◌, ◌⊎◌, inl, inr, ◌↔◌, ℕ, zero, suc, ◌+◌, ◌-◌, ◌<◌, ◌≤◌, ◌^◌, Bool, true, false, cond, not, nat_lt, ◌||◌, List, [], ◌∷◌, ◌++◌, length, take, Option, None, Some, IsSome, IsFalse, IsTrue, Result, Ok, Err, IfErr, IsErrOf, refl, ap, sym, subst, ◌∙◌, arith, position, swap_remove, slice_get, slice_index_or, slice_set}
+use Rattle.std.proofs.Math.Seq.{get_or-append_seam, set-append_seam, take-append_seam}
+use Rattle.std.proofs.lemmas.Bool.{cases_lt, lt-ltb}
+use Rattle.std.proofs.lemmas.Slice.Eq.{bytes_eq-Decides}
+use Rattle.std.specs.List.{list_any, position_or_len}
+use Rattle.std.specs.Option.{option_map_or}
+use Rattle.std.specs.Str.{bytes_eq}
+use Rattle.indexmap.specs.IndexMap.{swap_remove_by}
+use Rattle.formula_lang.specs.Fits.{ObserverFits}
+use Rattle.graph.specs.Effects.{Observes, IsObserveFault, IsObserverFault}
+use Rattle.graph.specs.Standing.{Standing, node_at, looked_at, shown_of, IsUnbroken, IsBroken}
+use Rattle.graph.specs.declared.fault.GraphFault.{GraphFault}
+use Rattle.graph.specs.declared.fault.GraphFault.TheVariants as fault
+use Rattle.graph.specs.declared.fault.Kept.{Kept as Cause}
+use Rattle.graph.specs.declared.observer.Observer.{Observer as Looking}
+use Rattle.inc_terms.specs.Within.{Given}
+use Rattle.inc_value.specs.Choice.{Among, NoRepeats}
+use Rattle.inc_value.specs.declared.node.NodeId.{NodeId}
+use Rattle.inc_value.specs.declared.node.ObsId.{ObsId}
+use Rattle.inc_value.specs.declared.outcome.Outcome as engine
+use Rattle.node_arena.specs.Arena.{Arena, live, IsLive}
+use Rattle.node_arena.specs.Sound.{IsSound as IsSoundArena}
+use Rattle.script_model.specs.Check.{Names, Declared, Observe, is_among}
+use Rattle.script_model.specs.Formula.{Meanings}
+use Rattle.script_model.specs.Step.{Moment, moved}
+use Rattle.script_graph.specs.Kept.{Kept, AreOlder, HasNode, IsSound, arena_of, no_node, node_in, without_functions}
+use Rattle.script_graph.specs.Shown.{ShowsIt, ShowsNothing}
+use Rattle.script_graph.specs.State.{Stands}
+use Rattle.script_graph.proofs.Observing.{get_end, get_within, observing_stands, shows_it, shows_nothing, with_observer}
+
+-- ---- a name that is put in use and taken out again
+
+place_behind : (test : List ℕ → Bool) (names : List (List ℕ)) (name : List ℕ) → list_any test names ≡ false → test name ≡ true
+    → position_or_len test (names ++ name ∷ []) ≡ length names
+place_behind test [] name none is = rw is refl
+place_behind test (x ∷ names) name none is = go (test x) none (λ e. place_behind test names name e is)
+  where
+    go : (b : Bool) → (b || list_any test names) ≡ false
+        → (list_any test names ≡ false → position_or_len test (names ++ name ∷ []) ≡ length names)
+        → cond (not b) (1 + position_or_len test (names ++ name ∷ [])) 0 ≡ suc (length names)
+    go true e later = absurd (cc)
+    go false e later = let rest = later e in omega (arith, rest)
+
+length_more : {A : Type 0} (xs : List A) (y : A) → length (xs ++ y ∷ []) ≡ length xs + 1
+length_more [] y = refl
+length_more (x ∷ xs) y = let rest = length_more xs y in omega (arith, rest)
+
+swap_last : (names : List (List ℕ)) (name d : List ℕ) → swap_remove (names ++ name ∷ []) (length names) d ≡ names
+swap_last names name d =
+    ap (λ (n : ℕ). take n (slice_set (names ++ name ∷ []) (length names) (slice_index_or (names ++ name ∷ []) n d))) length_is
+    ∙ ap (λ (y : List ℕ). take (length names) (slice_set (names ++ name ∷ []) (length names) y)) (get_or-append_seam names name [] d)
+    ∙ ap (take (length names)) (set-append_seam names name [] name)
+    ∙ take-append_seam names (name ∷ [])
+  where
+    length_is : length (names ++ name ∷ []) - 1 ≡ length names
+    length_is = let e = length_more names name in omega (arith, e)
+
+pub by_position : (test : List ℕ → Bool) (names : List (List ℕ)) (i : ℕ) → position test names ≡ Some i
+    → (d : List ℕ) × (swap_remove_by test names ≡ swap_remove names i d)
+by_position test [] i e = absurd (cc)
+by_position test (x ∷ names) i e = (x, ap (λ (o : Option ℕ). option_map_or (λ (j : ℕ). swap_remove (x ∷ names) j x) o (x ∷ names)) e)
+
+same_bytes : (name : List ℕ) → bytes_eq name name ≡ true
+same_bytes name = (bytes_eq-Decides name name).1 refl
+
+-- a fresh name behind the others, taken out, leaves the others as they were
+pub put_back : (names : List (List ℕ)) (name : List ℕ) → IsFalse (is_among names name)
+    → swap_remove_by (bytes_eq name) (names ++ name ∷ []) ≡ names
+put_back names name fresh =
+    let found = by_position (bytes_eq name) (names ++ name ∷ []) (length names) at in
+    found.1 ∙ swap_last names name found.0
+  where
+    less : length names < length (names ++ name ∷ [])
+    less = let e = length_more names name in omega (arith, e)
+
+    at : position (bytes_eq name) (names ++ name ∷ []) ≡ Some (length names)
+    at =
+        ap (λ (n : ℕ). cond (nat_lt n (length (names ++ name ∷ []))) (Some n) None)
+        (place_behind (bytes_eq name) names name fresh (same_bytes name))
+        ∙ ap (λ (b : Bool). cond b (Some (length names)) None) (lt-ltb (length names) (length (names ++ name ∷ [])) less)
+
+or_true : (b c : Bool) → c ≡ true → (b || c) ≡ true
+or_true true c e = refl
+or_true false c e = e
+
+-- the name that was put in use is in use
+pub last_among : (names : List (List ℕ)) (name : List ℕ) → IsTrue (is_among (names ++ name ∷ []) name)
+last_among [] name = rw (same_bytes name) refl
+last_among (x ∷ names) name = or_true (bytes_eq name x) (is_among (names ++ name ∷ []) name) (last_among names name)
+
+-- without memory for the observer all is as it was
+pub as_before : (k : Kept) (sound : IsSound k) (name : List ℕ) (between after : Names) (os : List ObsId) (g : Standing (Unit {0}))
+    → IsFalse (is_among k.names.observers name) → between ≡ record k.names { observers = k.names.observers ++ name ∷ [] }
+    → after ≡ record between { observers = swap_remove_by (bytes_eq name) between.observers } → os ≡ k.observers → g ≡ k.graph
+    → record k { names = after; observers = os; graph = g } ≡ k
+as_before k sound name between after os g fresh between_is after_is os_is g_is =
+    let names_back : after ≡ k.names = after_is ∙ ap (λ (n : Names). record n { observers = swap_remove_by (bytes_eq name) n.observers }) between_is
+    ∙ ap (λ (l : List (List ℕ)). record k.names { observers = l }) (put_back k.names.observers name fresh) in
+    rw (names_back, os_is, g_is) refl
+
+-- and it fits together still
+pub as_before_sound : (k : Kept) (sound : IsSound k) (name : List ℕ) (between after : Names) (os : List ObsId) (g : Standing (Unit {0}))
+    → IsFalse (is_among k.names.observers name) → between ≡ record k.names { observers = k.names.observers ++ name ∷ [] }
+    → after ≡ record between { observers = swap_remove_by (bytes_eq name) between.observers } → os ≡ k.observers → g ≡ k.graph
+    → IsSound (record k { names = after; observers = os; graph = g })
+as_before_sound k sound name between after os g fresh between_is after_is os_is g_is =
+    subst IsSound (sym (as_before k sound name between after os g fresh between_is after_is os_is g_is)) sound
+
+-- ---- lists by places
+
+or_same : {A : Type 0} (xs : List A) (i : ℕ) (d e : A) → i < length xs → slice_index_or xs i d ≡ slice_index_or xs i e
+or_same [] i d e less = absurd (omega (arith, less))
+or_same (x ∷ xs) zero d e less = refl
+or_same (x ∷ xs) (suc i) d e less = or_same xs i d e (omega (arith, less))
+
+get_at : {A : Type 0} (xs : List A) (i : ℕ) (d : A) → i < length xs → slice_get xs i ≡ Some (slice_index_or xs i d)
+get_at [] i d less = absurd (omega (arith, less))
+get_at (x ∷ xs) zero d less = refl
+get_at (x ∷ xs) (suc i) d less = get_at xs i d (omega (arith, less))
+
+pub among_at : {A : Type 0} (xs : List A) (i : ℕ) (x : A) → slice_get xs i ≡ Some x → Among x xs
+among_at [] i x e = absurd (cc)
+among_at (y ∷ xs) zero x e = inl (cc)
+among_at (y ∷ xs) (suc i) x e = inr (among_at xs i x e)
+
+among_push : {A : Type 0} (xs : List A) (y x : A) → Among x (xs ++ y ∷ []) → Among x xs ⊎ (x ≡ y)
+among_push [] y x (inl e) = inr e
+among_push [] y x (inr none) = absurd none
+among_push (z ∷ xs) y x (inl e) = inl (inl e)
+among_push (z ∷ xs) y x (inr a) = go (among_push xs y x a)
+  where
+    go : Among x xs ⊎ (x ≡ y) → Among x (z ∷ xs) ⊎ (x ≡ y)
+    go (inl b) = inl (inr b)
+    go (inr e) = inr e
+
+apart_push : {A : Type 0} (xs : List A) (y : A) → NoRepeats xs → (Among y xs → ⊥) → NoRepeats (xs ++ y ∷ [])
+apart_push [] y apart new = (λ a. a, tt)
+apart_push (x ∷ xs) y apart new = (λ a. go (among_push xs y x a), apart_push xs y apart.1 (λ a. new (inr a)))
+  where
+    go : Among x xs ⊎ (x ≡ y) → ⊥
+    go (inl a) = apart.0 a
+    go (inr e) = new (inl (sym e))
+
+looks_within : (os : List Looking) (i : ℕ) → IsSome (looked_at (slice_get os i)) → i < length os
+looks_within [] i h = absurd (cc)
+looks_within (o ∷ os) zero h = omega arith
+looks_within (o ∷ os) (suc i) h = let rest = looks_within os i h in omega (arith, rest)
+
+-- ---- a target's node
+
+-- the node at a declaration's place was given
+target_given : (k : Kept) → IsSound k → IsSoundArena (arena_of k) → (target : ℕ) → target < length k.names.declared
+    → Given (arena_of k).given (node_in k.nodes target)
+target_given k sound arena target less = arena.given (node_in k.nodes target) is_live
+  where
+    declared : (d : Declared) × (slice_get k.names.declared target ≡ Some d)
+    declared = there k.names.declared target less
+      where
+        there : (ds : List Declared) (i : ℕ) → i < length ds → (d : Declared) × (slice_get ds i ≡ Some d)
+        there [] i within = absurd (omega (arith, within))
+        there (d ∷ ds) zero within = (d, refl)
+        there (d ∷ ds) (suc i) within = there ds i (omega (arith, within))
+
+    is_live : IsLive (arena_of k) (node_in k.nodes target)
+    is_live = let has = sound.has_nodes target declared.0 declared.1 in rw has.is_row refl
+
+-- the node that stands at a target's place, whatever is read elsewhere
+pub target_node : (k : Kept) → IsSound k → (target : ℕ) → target < length k.names.declared → (node : NodeId) → node ≡ slice_index_or k.nodes target node
+    → node ≡ node_in k.nodes target
+target_node k sound target less node is =
+    is ∙ or_same k.nodes target node no_node (let same = sound.one_node_each in omega (arith, less, same))
+
+-- it was given
+pub given_node : (k : Kept) → IsSound k → IsSoundArena (arena_of k) → (target : ℕ) → target < length k.names.declared → (node : NodeId)
+    → node ≡ slice_index_or k.nodes target node → Given (arena_of k).given node
+given_node k sound arena target less node is =
+    subst (Given (arena_of k).given) (sym (target_node k sound target less node is)) (target_given k sound arena target less)
+
+-- a graph that is observed, but for its functions
+pub observes_so : {F : Type 0} (old new : Standing F) (o : ObsId) (node other : NodeId) → Observes old new o node → node ≡ other
+    → Observes (without_functions old) (without_functions new) o other
+observes_so old new o node other h same = record {
+  id = h.id;
+  rest = ap without_functions h.rest
+      ∙ ap (λ (n : NodeId). record (without_functions old) { observers = old.observers ++ record { node = n; in_use = true } ∷ [] }) same;
+}
+
+-- ---- what is kept with a new observer
+
+module _ (k : Kept) (name : List ℕ) (target : ℕ) (o : ObsId) (g : Standing (Unit {0})) (sound : IsSound k)
+    (observes : Observes k.graph g o (node_in k.nodes target)) where
+  observers_more : g.observers ≡ k.graph.observers ++ record { node = node_in k.nodes target; in_use = true } ∷ []
+  observers_more = ap (λ (h : Standing (Unit {0})). h.observers) observes.rest
+
+  arena_same : g.parts.arena ≡ arena_of k
+  arena_same = ap (λ (h : Standing (Unit {0})). h.parts.arena) observes.rest
+
+  looks_old : (p : ObsId) → Among p k.observers → IsSome (node_at g.observers p)
+  looks_old p among =
+      let looks = sound.looking p among in
+      subst (λ (n : Option NodeId). IsSome n) (sym (same (looks_within k.graph.observers p.0 looks))) looks
+    where
+      same : p.0 < length k.graph.observers → node_at g.observers p ≡ node_at k.graph.observers p
+      same less = rw observers_more (ap looked_at (get_within k.graph.observers (record { node = node_in k.nodes target; in_use = true } ∷ []) p.0 less))
+
+  looks_new : (p : ObsId) → p.0 ≡ length k.graph.observers → IsSome (node_at g.observers p)
+  looks_new p at =
+      rw (observers_more, at, get_end k.graph.observers (record { node = node_in k.nodes target; in_use = true })) refl
+
+  new_id : Among o k.observers → ⊥
+  new_id among = let less = looks_within k.graph.observers o.0 (sound.looking o among) in let id = observes.id in absurd (omega (arith, less, id))
+
+  sound_observed : IsSound (with_observer k name o g)
+  sound_observed = record {
+    one_node_each = sound.one_node_each;
+    has_nodes = λ n d at. subst (λ (a : Arena). HasNode a k.nodes n d) (sym arena_same) (sound.has_nodes n d at);
+    older = subst AreOlder (sym arena_same) sound.older;
+    few = subst (λ (a : Arena). live a + k.room ≤ 1048575) (sym arena_same) sound.few;
+    one_observer_each = length_more k.observers o ∙ ap (λ (n : ℕ). n + 1) sound.one_observer_each ∙ sym (length_more k.names.observers name);
+    looking = λ p among. looks p (among_push k.observers o p among);
+    apart = apart_push k.observers o sound.apart new_id;
+    unbroken = λ e. ap (λ (h : Standing (Unit {0})). h.refused) observes.rest ∙ sound.unbroken e;
+  }
+    where
+      looks : (p : ObsId) → Among p k.observers ⊎ (p ≡ o) → IsSome (node_at g.observers p)
+      looks p (inl among) = looks_old p among
+      looks p (inr e) = looks_new p (ap (λ (q : ObsId). q.0) e ∙ observes.id)
+
+  module _ (names : Names) (os : List ObsId) (names_are : names ≡ record k.names { observers = k.names.observers ++ name ∷ [] })
+      (os_are : os ≡ k.observers ++ o ∷ []) where
+    -- what is kept fits together
+    pub observed_sound : IsSound (record k { names = names; observers = os; graph = g })
+    observed_sound = rw (names_are, os_are) sound_observed
+
+    -- and it stands for the moment with an observer more
+    pub observed_stands : k.broken ≡ None → ObserverFits k.names name target → k.graph.rooted ≤ length k.graph.observers
+        → (F : Meanings) (m : Moment) → Stands F k m → Stands F (record k { names = names; observers = os; graph = g }) (moved m (Observe name target))
+    observed_stands unbroken fits rooted F m stands =
+        rw (names_are, os_are) (observing_stands F k m name target o g stands (stands.broken ∙ unbroken) fits.fresh fits.earlier sound.one_observer_each
+        rooted observes)
+
+-- ---- faults that don't come
+
+module _ {F : Type 0} (s : Standing F) (unbroken : IsUnbroken s) where
+  -- it isn't broken
+  pub not_broken : (cause : Cause) → IsBroken s cause → ⊥
+  not_broken cause broken = let is = broken.1 in let none = unbroken in absurd (cc)
+
+  -- a given node isn't observed for want of memory alone, while there are few observers
+  only_memory : (r : Result ObsId GraphFault) (e : GraphFault) (node : NodeId) → r ≡ Err e → IfErr r IsObserveFault
+      → ((cause : Cause) → IsErrOf r (fault.Broken cause) ↔ IsBroken s cause)
+      → (IsErrOf r fault.Unknown ↔ (IsUnbroken s × ¬ Given s.parts.arena.given node))
+      → (IsErrOf r fault.TooMany ↔ (IsUnbroken s × (Given s.parts.arena.given node × (2 ^ 32 - 1 ≤ length s.observers))))
+      → Given s.parts.arena.given node → length s.observers < 2 ^ 32 - 1 → e ≡ fault.Memory
+  only_memory r e node is observing broken unknown too_many given few = go (subst (λ (q : Result ObsId GraphFault). IfErr q IsObserveFault) is observing)
+    where
+      by : {x : GraphFault} → e ≡ x → IsErrOf r x
+      by {x} same = is ∙ ap (λ (y : GraphFault). Err y) same
+
+      go : IsObserveFault e → e ≡ fault.Memory
+      go (inl b) = absurd (not_broken b.0 ((broken b.0).0 (by b.1)))
+      go (inr (inl u)) = absurd ((unknown.0 (by u)).1 given)
+      go (inr (inr (inl t))) = let many = (too_many.0 (by t)).1.1 in absurd (omega (arith, many, few))
+      go (inr (inr (inr m))) = m
+
+  -- so where it isn't observed, memory was wanting
+  pub memory_wanting : (r : Result ObsId GraphFault) (node : NodeId) → IfErr r IsObserveFault
+      → ((cause : Cause) → IsErrOf r (fault.Broken cause) ↔ IsBroken s cause)
+      → (IsErrOf r fault.Unknown ↔ (IsUnbroken s × ¬ Given s.parts.arena.given node))
+      → (IsErrOf r fault.TooMany ↔ (IsUnbroken s × (Given s.parts.arena.given node × (2 ^ 32 - 1 ≤ length s.observers))))
+      → Given s.parts.arena.given node → length s.observers < 2 ^ 32 - 1 → IfErr r (λ e. e ≡ fault.Memory)
+  memory_wanting (Ok o) node observing broken unknown too_many given few = tt
+  memory_wanting (Err e) node observing broken unknown too_many given few =
+      only_memory (Err e) e node refl observing broken unknown too_many given few
+
+  -- an observer in use isn't asked in vain, but that no stabilize was accepted since it was made
+  pub only_later : {T : Type 0} (r : Result T GraphFault) (e : GraphFault) (o : ObsId) → r ≡ Err e → IfErr r IsObserverFault
+      → ((cause : Cause) → IsErrOf r (fault.Broken cause) ↔ IsBroken s cause)
+      → (IsErrOf r fault.Unknown ↔ (IsUnbroken s × (node_at s.observers o ≡ None)))
+      → (IsErrOf r fault.NotStabilized ↔ (IsUnbroken s × IsSome (node_at s.observers o) × (s.rooted ≤ o.0)))
+      → IsSome (node_at s.observers o) → s.rooted ≤ o.0
+  only_later {T} r e o is telling broken unknown not_stabilized looks = go (subst (λ (q : Result T GraphFault). IfErr q IsObserverFault) is telling)
+    where
+      by : {x : GraphFault} → e ≡ x → IsErrOf r x
+      by {x} same = is ∙ ap (λ (y : GraphFault). Err y) same
+
+      go : IsObserverFault e → s.rooted ≤ o.0
+      go (inl b) = absurd (not_broken b.0 ((broken b.0).0 (by b.1)))
+      go (inr (inl u)) = let none = (unknown.0 (by u)).1 in let h = subst (λ (n : Option NodeId). IsSome n) none looks in absurd (cc)
+      go (inr (inr n)) = (not_stabilized.0 (by n)).2
+
+-- ---- what the observer of a name shows
+
+module _ (k : Kept) (sound : IsSound k) (unbroken : k.broken ≡ None) (name : List ℕ) (i : ℕ) (o : ObsId) (within : i < length k.names.observers)
+    (at_name : slice_get k.names.observers i ≡ Some name) (index : o ≡ slice_index_or k.observers i o) where
+  at_id : slice_get k.observers i ≡ Some o
+  at_id =
+      get_at k.observers i o (let same = sound.one_observer_each in omega (arith, within, same)) ∙ sym (ap (λ (p : ObsId). Some p) index)
+
+  looks : IsSome (node_at k.graph.observers o)
+  looks = sound.looking o (among_at k.observers i o at_id)
+
+  -- what the graph tells
+  pub told_shows : {T : Type 0} (r : Result T GraphFault) (x : T) (out : engine.Outcome) → r ≡ Ok x
+      → ((n : NodeId) × (node_at k.graph.observers o ≡ Some n) × (shown_of k.graph n ≡ Some out))
+      → (IsErrOf r fault.NotStabilized ↔ (IsUnbroken k.graph × IsSome (node_at k.graph.observers o) × (k.graph.rooted ≤ o.0)))
+      → (F : Meanings) (m : Moment) → Stands F k m → ShowsIt m.present name out
+  told_shows r x out is told not_stabilized F m stands =
+      shows_it F k m stands (stands.broken ∙ unbroken) i o name at_id at_name told.0 out told.1 told.2 earlier
+    where
+      earlier : o.0 < k.graph.rooted
+      earlier = go (cases_lt o.0 k.graph.rooted)
+        where
+          go : (o.0 < k.graph.rooted) ⊎ (k.graph.rooted ≤ o.0) → o.0 < k.graph.rooted
+          go (inl less) = less
+          go (inr later) = let never = not_stabilized.1 (sound.unbroken unbroken, looks, later) in absurd (cc)
+
+  -- nothing, where it refuses to tell
+  pub untold_shows : {T : Type 0} (r : Result T GraphFault) (e : GraphFault) → r ≡ Err e → IfErr r IsObserverFault
+      → ((cause : Cause) → IsErrOf r (fault.Broken cause) ↔ IsBroken k.graph cause)
+      → (IsErrOf r fault.Unknown ↔ (IsUnbroken k.graph × (node_at k.graph.observers o ≡ None)))
+      → (IsErrOf r fault.NotStabilized ↔ (IsUnbroken k.graph × IsSome (node_at k.graph.observers o) × (k.graph.rooted ≤ o.0)))
+      → (F : Meanings) (m : Moment) → Stands F k m → ShowsNothing m.present name
+  untold_shows r e is telling broken unknown not_stabilized F m stands =
+      shows_nothing F k m stands (stands.broken ∙ unbroken) i o name at_id at_name
+      (only_later k.graph (sound.unbroken unbroken) r e o is telling broken unknown not_stabilized looks)

@@ -1,0 +1,318 @@
+//! Declarations and assignments in a script.
+ghost use Rattle.std.specs.Prelude.{◌≡◌, ◌<◌, ◌≤◌, ◌+◌, ◌-◌, ◌^◌, ◌++◌, ◌∷◌, [], ℕ, List, length, slice_get, Some, None, IfOk, OnOk, OnErr, IfErr, IsTrue, IsSome, IsErr, Ok, false, option_map};
+ghost use Rattle.formula_elab.specs.Laying.{laid_body};
+ghost use Rattle.formula_elab.specs.Opened.{AreInOrder, def_to_make, node_at, node_of};
+ghost use Rattle.formula_elab.specs.Plan.{IsMade};
+ghost use Rattle.formula_lang.specs.CommandView.{body_view, command_view};
+ghost use Rattle.formula_lang.specs.Fits.{AssignmentFits, DeclarationFits};
+ghost use Rattle.formula_lang.specs.NamesView.{kind_view};
+ghost use Rattle.graph.specs.Effects.{top, Adds, KeepsAll, Sets, TakesBack};
+ghost use Rattle.graph.specs.Standing.{IsUnbroken, rooted_nodes};
+ghost use Rattle.inc_terms.specs.Code.{def_of};
+ghost use Rattle.inc_value.specs.Choice.{Among};
+ghost use Rattle.inc_value.specs.Value.{type_of};
+ghost use Rattle.inc_value.specs.declared.node.NodeId.{NodeId};
+ghost use Rattle.inc_terms.specs.Within.{Given, ValueWithin};
+ghost use Rattle.node_arena.specs.Arena.{live, IsVariable};
+ghost use Rattle.node_arena.specs.Typing.{FitsNode};
+ghost use Rattle.script_graph.specs.Growing.{def_ty, AllOpenFit, Extends, IsMaking, IsWelcome};
+ghost use Rattle.script_graph.specs.Kept.{arena_of, HasNode};
+ghost use Rattle.script_graph.specs.State.{Stands};
+ghost use Rattle.script_model.specs.Check.{Assign, Declare, Declared, kind_of_body, target_of_body};
+ghost use Rattle.script_model.specs.Formula.{meanings_of, places_of_body};
+ghost use Rattle.script_model.specs.Step.{Moment, moved};
+ghost use Rattle.script_model.specs.Values.{Value as AValue, to_engine};
+
+use super::{Script, or_no_memory};
+use formula_elab::{Made, Make, Plan, ScriptFns, elaborate};
+use formula_lang::{Command, Declaration, Formula, Kind, Names};
+use graph::{Graph, Mark};
+use inc_terms::Def;
+use inc_value::{NodeId, Ty, Value};
+use node_arena::Library;
+use std::alloc::{AllocError, Global};
+
+impl<L: Library> Script<L> {
+    /// Declares a name that fits, after which so much room is left. Without memory nothing of it stays, but that ids of nodes may have been used up.
+    pub(crate) fn declare(
+        &mut self,
+        command: &Command,
+        name: &[u8],
+        ty: Ty,
+        body: &Declaration,
+        room: usize,
+    ) -> Result<(), AllocError>
+        requires command { command_view command.now ≡ Declare name.now ty (body_view body.now) }
+        requires fits { DeclarationFits (L.known self.old.library) self.old.kept.names name.now ty (body_view body.now) }
+        requires room { room + places_of_body (body_view body.now) ≡ self.old.kept.room }
+        requires unbroken { self.old.kept.broken ≡ None }
+        requires ids { (arena_of self.old.kept).given + 2 ^ 20 < 2 ^ 64 - 1 }
+        ensures declared { let F = meanings_of (L.named self.old.library) (L.value self.old.library) in
+            OnOk result ((m : Moment) → Stands F self.old.kept m
+            → Stands F self.new.kept (moved m (Declare name.now ty (body_view body.now)))) }
+        ensures kept { let F = meanings_of (L.named self.old.library) (L.value self.old.library) in
+            OnErr result ((m : Moment) → Stands F self.old.kept m → Stands F self.new.kept m) }
+        ensures library { self.new.library ≡ self.old.library }
+        ensures accepted { self.new.kept.accepted ≡ self.old.kept.accepted }
+        ensures given { (arena_of self.new.kept).given ≤ (arena_of self.old.kept).given + 2 ^ 20 }
+        ensures observers { self.new.kept.graph.observers ≡ self.old.kept.graph.observers }
+        ensures unbroken { self.new.kept.broken ≡ None }
+    {
+        self.graph.keeps_sound();
+        let mark = mark_of(&self.graph);
+        let declared = add_declared(
+            self.alloc,
+            &mut self.graph,
+            &mut self.names,
+            &mut self.nodes,
+            command,
+            name,
+            ty,
+            body,
+        );
+        match declared {
+            Ok(()) => {
+                self.graph.keeps_sound();
+                self.room = room;
+                Ok(())
+            }
+            Err(fault) => {
+                take_back(&mut self.graph, mark);
+                self.graph.keeps_sound();
+                Err(fault)
+            }
+        }
+    }
+
+    /// Gives the variable of a target a value that fits.
+    pub(crate) fn set(&mut self, target: usize, value: Value)
+        requires fits { AssignmentFits self.old.kept.names target (type_of value) }
+        requires unbroken { self.old.kept.broken ≡ None }
+        ensures set { let F = meanings_of (L.named self.old.library) (L.value self.old.library) in
+            (m : Moment) (v : AValue) → to_engine v ≡ value → Stands F self.old.kept m
+            → Stands F self.new.kept (moved m (Assign target v)) }
+        ensures library { self.new.library ≡ self.old.library }
+        ensures accepted { self.new.kept.accepted ≡ self.old.kept.accepted }
+        ensures given { (arena_of self.new.kept).given ≡ (arena_of self.old.kept).given }
+        ensures observers { self.new.kept.graph.observers ≡ self.old.kept.graph.observers }
+        ensures unbroken { self.new.kept.broken ≡ None }
+    {
+        self.graph.keeps_sound();
+        set_node(&mut self.graph, self.nodes[target], value);
+        self.graph.keeps_sound();
+    }
+}
+
+/// Declares a name that fits, behind the others. Without memory the names are as they were, and some nodes may have been added.
+fn add_declared<L: Library>(
+    alloc: Global,
+    graph: &mut Graph<ScriptFns<L>>,
+    names: &mut Names,
+    nodes: &mut Vec<NodeId>,
+    command: &Command,
+    name: &[u8],
+    ty: Ty,
+    body: &Declaration,
+) -> Result<(), AllocError>
+    requires command { command_view command.now ≡ Declare name.now ty (body_view body.now) }
+    requires fits { DeclarationFits (L.known graph.old.functions.library) names.old name.now ty (body_view body.now) }
+    requires unbroken { IsUnbroken graph.old }
+    requires one_each { length nodes.old.items ≡ length names.old.declared }
+    requires has_nodes { (n : ℕ) (d : Declared) → slice_get names.old.declared n ≡ Some d
+        → HasNode graph.old.parts.arena nodes.old.items n d }
+    requires room { live graph.old.parts.arena + places_of_body (body_view body.now) ≤ 1048575 }
+    requires ids { graph.old.parts.arena.given + 2 ^ 20 < 2 ^ 64 - 1 }
+    ensures made { OnOk result ((made : List NodeId)
+        × IsMaking graph.old graph.new (laid_body (node_at nodes.old.items) 0 (body_view body.now)).makes made
+        × (length made ≡ length (laid_body (node_at nodes.old.items) 0 (body_view body.now)).makes)
+        × (nodes.new.items ≡ nodes.old.items ++ node_of made (laid_body (node_at nodes.old.items) 0 (body_view body.now)).root ∷ [])) }
+    ensures names { OnOk result (names.new ≡ record names.old {
+      declared = names.old.declared ++ record {
+        name = name.now;
+        ty = ty;
+        kind = kind_of_body (body_view body.now);
+        target = target_of_body (length names.old.declared) (body_view body.now);
+      } ∷ [];
+    }) }
+    ensures kept { OnErr result (Extends graph.old graph.new) }
+    ensures names_kept { OnErr result (names.new ≡ names.old) }
+    ensures nodes_kept { OnErr result (nodes.new.items ≡ nodes.old.items) }
+    ensures given { graph.new.parts.arena.given ≤ graph.old.parts.arena.given + 2 ^ 20 }
+{
+    match make_declared(alloc, graph, names, nodes, command, name, ty, body) {
+        Ok(node) => {
+            nodes.push(node)?;
+            let target = body.target(names.len());
+            match names.declare(name, ty, kind_of(body), target) {
+                Ok(()) => Ok(()),
+                Err(fault) => {
+                    nodes.pop();
+                    Err(fault)
+                }
+            }
+        }
+        Err(fault) => Err(fault),
+    }
+}
+
+/// Makes the nodes of what is declared. Without memory some may have been added.
+fn make_declared<L: Library>(
+    alloc: Global,
+    graph: &mut Graph<ScriptFns<L>>,
+    names: &Names,
+    nodes: &[NodeId],
+    command: &Command,
+    name: &[u8],
+    ty: Ty,
+    body: &Declaration,
+) -> Result<NodeId, AllocError>
+    requires command { command_view command.now ≡ Declare name.now ty (body_view body.now) }
+    requires fits { DeclarationFits (L.known graph.old.functions.library) names.now name.now ty (body_view body.now) }
+    requires unbroken { IsUnbroken graph.old }
+    requires one_each { length nodes.now ≡ length names.now.declared }
+    requires has_nodes { (n : ℕ) (d : Declared) → slice_get names.now.declared n ≡ Some d
+        → HasNode graph.old.parts.arena nodes.now n d }
+    requires room { live graph.old.parts.arena + places_of_body (body_view body.now) ≤ 1048575 }
+    requires ids { graph.old.parts.arena.given + 2 ^ 20 < 2 ^ 64 - 1 }
+    ensures made { IfOk result (λ node. (made : List NodeId)
+        × IsMaking graph.old graph.new (laid_body (node_at nodes.now) 0 (body_view body.now)).makes made
+        × (length made ≡ length (laid_body (node_at nodes.now) 0 (body_view body.now)).makes)
+        × (node ≡ node_of made (laid_body (node_at nodes.now) 0 (body_view body.now)).root)) }
+    ensures kept { OnErr result (Extends graph.old graph.new) }
+    ensures given { graph.new.parts.arena.given ≤ graph.old.parts.arena.given + 2 ^ 20 }
+{
+    match elaborate(alloc, command, nodes) {
+        Ok(plan) => {
+            let mut plan = plan;
+            make_all(graph, &mut plan)
+        }
+        Err(fault) => Err(fault),
+    }
+}
+
+/// Makes what is planned, one node after the other. The answer is the node of what is declared.
+fn make_all<L: Library>(
+    graph: &mut Graph<ScriptFns<L>>,
+    plan: &mut Plan,
+) -> Result<NodeId, AllocError>
+    requires unbroken { IsUnbroken graph.old }
+    requires begins { plan.old.made ≡ [] }
+    requires waits { plan.old.is_waiting ≡ false }
+    requires root { IsSome plan.old.root }
+    requires order { AreInOrder 0 plan.old.makes }
+    requires fit { AllOpenFit (L.known graph.old.functions.library) graph.old.parts.arena plan.old.makes }
+    requires room { live graph.old.parts.arena + length plan.old.makes ≤ 1048575 }
+    requires ids { graph.old.parts.arena.given + length plan.old.makes < 2 ^ 64 - 1 }
+    ensures made { IfOk result (λ node. (made : List NodeId) × IsMaking graph.old graph.new plan.old.makes made
+        × (length made ≡ length plan.old.makes) × (Some node ≡ option_map (node_of made) plan.old.root)) }
+    ensures kept { OnErr result (Extends graph.old graph.new) }
+    ensures given { graph.new.parts.arena.given ≤ graph.old.parts.arena.given + length plan.old.makes }
+{
+    graph.keeps_sound();
+    let mut made = None;
+    loop {
+        match plan.next(made) {
+            Ok(Some(make)) => {
+                graph.keeps_sound();
+                match make_one(graph, make) {
+                    Ok(node) => made = Some(Made::Node(node)),
+                    Err(fault) => return Err(fault),
+                }
+            }
+            Ok(None) => return Ok(root_of(plan)),
+            Err(fault) => return Err(fault),
+        }
+    }
+}
+
+/// The node of what is declared, once all is made.
+fn root_of(plan: &Plan) -> NodeId
+    requires root { IsSome plan.now.root }
+    requires made { IsMade plan.now }
+    ensures { Some result ≡ option_map (node_of plan.now.made) plan.now.root }
+{
+    match plan.root() {
+        Some(node) => node,
+        None => unreachable!(),
+    }
+}
+
+/// Makes a node whose children are there and fit.
+fn make_one<L: Library>(graph: &mut Graph<ScriptFns<L>>, make: Make) -> Result<NodeId, AllocError>
+    requires unbroken { IsUnbroken graph.old }
+    requires welcome { IsWelcome (L.known graph.old.functions.library) graph.old.parts.arena (def_to_make make) }
+    requires room { live graph.old.parts.arena < 1048576 }
+    requires ids { graph.old.parts.arena.given < 2 ^ 64 - 1 }
+    ensures added { IfOk result (λ node. Adds graph.old graph.new node (top (def_to_make make) (def_ty (def_to_make make)))) }
+    ensures kept { OnErr result (KeepsAll graph.old graph.new) }
+{
+    match make {
+        Make::Node(def) => add(graph, def),
+    }
+}
+
+/// Adds a node whose children are there and fit.
+fn add<L: Library>(graph: &mut Graph<ScriptFns<L>>, def: Def) -> Result<NodeId, AllocError>
+    requires unbroken { IsUnbroken graph.old }
+    requires welcome { IsWelcome (L.known graph.old.functions.library) graph.old.parts.arena (def_of def) }
+    requires room { live graph.old.parts.arena < 1048576 }
+    requires ids { graph.old.parts.arena.given < 2 ^ 64 - 1 }
+    ensures added { IfOk result (λ node. Adds graph.old graph.new node (top (def_of def) (def_ty (def_of def)))) }
+    ensures kept { OnErr result (KeepsAll graph.old graph.new) }
+{
+    match def {
+        Def::Const(value) => or_no_memory(graph.constant(value)),
+        Def::Var(value) => or_no_memory(graph.var(value)),
+        Def::Map(function, kids) => or_no_memory(graph.map(function, kids.as_slice())),
+    }
+}
+
+/// How a declaration is declared.
+fn kind_of(body: &Declaration) -> Kind
+    ensures { kind_view result ≡ kind_of_body (body_view body.now) }
+{
+    match body {
+        Declaration::Variable(_) => Kind::Var,
+        Declaration::Computed(Formula::Literal(_) | Formula::Name(_) | Formula::Apply { .. }) =>
+            Kind::Let,
+    }
+}
+
+/// A mark to which `take_back` leads.
+fn mark_of<L: Library>(graph: &Graph<ScriptFns<L>>) -> Mark
+    requires unbroken { IsUnbroken graph.now }
+    ensures mark { result.given ≡ graph.now.parts.arena.given }
+    ensures rooted { (n : NodeId) → Among n (rooted_nodes graph.now) → n.gen_ < result.given }
+{
+    match graph.mark() {
+        Ok(mark) => mark,
+        Err(_) => unreachable!(),
+    }
+}
+
+/// Drops the nodes that were made since the mark.
+fn take_back<L: Library>(graph: &mut Graph<ScriptFns<L>>, mark: Mark)
+    requires unbroken { IsUnbroken graph.old }
+    requires unobserved { (n : NodeId) → Among n (rooted_nodes graph.old) → n.gen_ < mark.given }
+    ensures { TakesBack graph.old graph.new mark.given }
+{
+    match graph.back_to(mark) {
+        Ok(()) => {}
+        Err(_) => unreachable!(),
+    }
+}
+
+/// Gives a variable a value of its type.
+fn set_node<L: Library>(graph: &mut Graph<ScriptFns<L>>, node: NodeId, value: Value)
+    requires unbroken { IsUnbroken graph.old }
+    requires variable { IsVariable graph.old.parts.arena node }
+    requires given { Given graph.old.parts.arena.given node }
+    requires within { ValueWithin (Given graph.old.parts.arena.given) value }
+    requires fits { FitsNode graph.old.parts.arena node value }
+    ensures { Sets graph.old graph.new node value }
+{
+    match graph.set_var(node, value) {
+        Ok(()) => {}
+        Err(_) => unreachable!(),
+    }
+}

@@ -1,0 +1,122 @@
+//! Observers of a script.
+ghost use Rattle.std.specs.Prelude.{◌≡◌, ◌<◌, ◌≤◌, ◌+◌, ◌-◌, ◌^◌, ◌++◌, ◌∷◌, [], length, None, Some, IfSome, IfNone, IsSome, OnOk, OnErr, IsTrue};
+ghost use Rattle.formula_lang.specs.Fits.{ObserverFits};
+ghost use Rattle.graph.specs.Effects.{Ends, Observes};
+ghost use Rattle.graph.specs.Standing.{IsUnbroken, node_at};
+ghost use Rattle.inc_terms.specs.Within.{Given};
+ghost use Rattle.inc_value.specs.declared.node.ObsId.{ObsId as AnObserver};
+ghost use Rattle.script_graph.specs.Kept.{arena_of};
+ghost use Rattle.script_graph.specs.Shown.{ShowsIt, ShowsNothing};
+ghost use Rattle.script_graph.specs.State.{Stands};
+ghost use Rattle.script_model.specs.Check.{Observe, Unobserve, is_among};
+ghost use Rattle.script_model.specs.Formula.{Meanings};
+ghost use Rattle.script_model.specs.Step.{Moment, moved};
+
+use super::{Script, or_no_memory};
+use formula_elab::ScriptFns;
+use graph::Graph;
+use inc_value::{NodeId, ObsId, Outcome};
+use node_arena::Library;
+use std::alloc::AllocError;
+
+impl<L: Library> Script<L> {
+    /// Adds an observer that fits. It shows nothing yet. Without memory nothing changes.
+    pub(crate) fn observe(&mut self, name: &[u8], target: usize) -> Result<(), AllocError>
+        requires fits { ObserverFits self.old.kept.names name.now target }
+        requires unbroken { self.old.kept.broken ≡ None }
+        requires few { length self.old.kept.graph.observers < 2 ^ 32 - 1 }
+        ensures observed { OnOk result ((F : Meanings) (m : Moment) → Stands F self.old.kept m
+            → Stands F self.new.kept (moved m (Observe name.now target))) }
+        ensures kept { OnErr result (self.new.kept ≡ self.old.kept) }
+        ensures library { self.new.library ≡ self.old.library }
+        ensures accepted { self.new.kept.accepted ≡ self.old.kept.accepted }
+        ensures given { (arena_of self.new.kept).given ≡ (arena_of self.old.kept).given }
+        ensures observers { length self.new.kept.graph.observers ≤ length self.old.kept.graph.observers + 1 }
+        ensures unbroken { self.new.kept.broken ≡ None }
+    {
+        self.graph.keeps_sound();
+        let node = self.nodes[target];
+        self.names.observe(name)?;
+        match observe_node(&mut self.graph, &mut self.observers, node) {
+            Ok(()) => Ok(()),
+            Err(fault) => {
+                self.names.end(name);
+                Err(fault)
+            }
+        }
+    }
+
+    /// Ends the observer of a name in use. This takes no memory.
+    pub(crate) fn unobserve(&mut self, name: &[u8])
+        requires in_use { IsTrue (is_among self.old.kept.names.observers name.now) }
+        requires unbroken { self.old.kept.broken ≡ None }
+        ensures ended { (F : Meanings) (m : Moment) → Stands F self.old.kept m → Stands F self.new.kept (moved m (Unobserve name.now)) }
+        ensures library { self.new.library ≡ self.old.library }
+        ensures accepted { self.new.kept.accepted ≡ self.old.kept.accepted }
+        ensures nodes { self.new.kept.nodes ≡ self.old.kept.nodes }
+        ensures arena { arena_of self.new.kept ≡ arena_of self.old.kept }
+        ensures given { (arena_of self.new.kept).given ≡ (arena_of self.old.kept).given }
+        ensures observers { length self.new.kept.graph.observers ≡ length self.old.kept.graph.observers }
+        ensures unbroken { self.new.kept.broken ≡ None }
+    {
+        self.graph.keeps_sound();
+        let Some(position) = self.names.observer(name) else {
+            unreachable!()
+        };
+        let observer = self.observers.swap_remove(position);
+        end_observer(&mut self.graph, observer);
+        self.names.end(name);
+    }
+
+    /// What the observer of a name in use shows, once a stabilize was accepted since it was made.
+    pub(crate) fn shown(&self, name: &[u8]) -> Option<&Outcome>
+        requires in_use { IsTrue (is_among self.now.kept.names.observers name.now) }
+        requires unbroken { self.now.kept.broken ≡ None }
+        ensures some { IfSome result (λ outcome. (F : Meanings) (m : Moment) → Stands F self.now.kept m → ShowsIt m.present name.now outcome.now) }
+        ensures none { IfNone result ((F : Meanings) (m : Moment) → Stands F self.now.kept m → ShowsNothing m.present name.now) }
+    {
+        let Some(position) = self.names.observer(name) else {
+            unreachable!()
+        };
+        match self.graph.value(self.observers[position]) {
+            Ok(outcome) => Some(outcome),
+            // No stabilize was accepted since the observer was made.
+            Err(_) => None,
+        }
+    }
+}
+
+/// Observes a node, as the last observer's. Without memory nothing changes.
+fn observe_node<L: Library>(
+    graph: &mut Graph<ScriptFns<L>>,
+    observers: &mut Vec<ObsId>,
+    node: NodeId,
+) -> Result<(), AllocError>
+    requires unbroken { IsUnbroken graph.old }
+    requires given { Given graph.old.parts.arena.given node }
+    requires few { length graph.old.observers < 2 ^ 32 - 1 }
+    ensures ok { OnOk result ((o : AnObserver) × Observes graph.old graph.new o node × (observers.new.items ≡ observers.old.items ++ o ∷ [])) }
+    ensures graph_kept { OnErr result (graph.new ≡ graph.old) }
+    ensures observers_kept { OnErr result (observers.new.items ≡ observers.old.items) }
+{
+    observers.reserve(1)?;
+    match or_no_memory(graph.observe(node)) {
+        Ok(observer) => {
+            observers.push_reserved(observer);
+            Ok(())
+        }
+        Err(fault) => Err(fault),
+    }
+}
+
+/// Ends an observer in use.
+fn end_observer<L: Library>(graph: &mut Graph<ScriptFns<L>>, observer: ObsId)
+    requires unbroken { IsUnbroken graph.old }
+    requires looking { IsSome (node_at graph.old.observers observer) }
+    ensures { Ends graph.old graph.new observer }
+{
+    match graph.unobserve(observer) {
+        Ok(()) => {}
+        Err(_) => unreachable!(),
+    }
+}

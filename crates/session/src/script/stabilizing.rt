@@ -1,0 +1,114 @@
+//! Stabilizes of a script.
+ghost use Rattle.std.specs.Prelude.{◌≡◌, ◌<◌, ◌≤◌, ◌+◌, ◌^◌, ℕ, length, None, Some, IfOk, OnErr, IfSome, IfNone, IsTrue};
+ghost use Rattle.inc_value.specs.declared.function.FnRef.{FnRef};
+ghost use Rattle.inc_value.specs.declared.node.Point.{Point};
+ghost use Rattle.script_model.specs.Formula.{meanings_of};
+ghost use Rattle.script_model.specs.Step.{Moment};
+ghost use Rattle.script_graph.specs.Kept.{arena_of};
+ghost use Rattle.script_graph.specs.Stabilizing.{IsAccepted, IsTooDeep, IsCutShort, ChainBegins, IsFirstNotOlder, AllOlder};
+ghost use Rattle.script_graph.specs.State.{Stands};
+ghost use Rattle.session.specs.declared.script.stabilizing.Stabilized.TheVariants.{Accepted, TooDeep};
+ghost use Rattle.stabilizer.specs.declared.refused.Refused.TheVariants.{Memory};
+
+use super::Script;
+use formula_elab::ScriptFns;
+use graph::{Graph, Kept, Refused, StabilizeFault};
+use inc_value::NodeId;
+use node_arena::Library;
+use std::alloc::AllocError;
+
+/// How a stabilize ended.
+#[derive(Clone, Copy, Debug, PartialEq, Eq)]
+pub(crate) enum Stabilized {
+    /// It was accepted.
+    Accepted,
+    /// It was refused for a chain of points that is too long, which begins in the formula of this declaration.
+    TooDeep { target: usize },
+}
+
+impl<L: Library> Script<L> {
+    /// Brings all that is observed up to date. A refusal breaks the session, and so does want of memory.
+    pub(crate) fn stabilize(&mut self) -> Result<Stabilized, AllocError>
+        requires unbroken { self.old.kept.broken ≡ None }
+        requires count { self.old.kept.accepted + 1 < 2 ^ 64 }
+        ensures accepted { let F = meanings_of (L.named self.old.library) (L.value self.old.library) in
+            IfOk result (λ how. how ≡ Accepted → (m : Moment) → Stands F self.old.kept m
+            → IsAccepted F m self.new.kept (L.calls self.old.library) (L.calls self.new.library)) }
+        ensures too_deep { let F = meanings_of (L.named self.old.library) (L.value self.old.library) in
+            IfOk result (λ how. (target : ℕ) → how ≡ TooDeep target → (m : Moment) → Stands F self.old.kept m
+            → IsTooDeep F m self.new.kept target (L.calls self.old.library) (L.calls self.new.library)) }
+        ensures target { IfOk result (λ how. (target : ℕ) → how ≡ TooDeep target → target < length self.new.kept.names.declared) }
+        ensures cut_short { let F = meanings_of (L.named self.old.library) (L.value self.old.library) in
+            OnErr result ((m : Moment) → Stands F self.old.kept m
+            → IsCutShort F m self.new.kept (L.calls self.old.library) (L.calls self.new.library)) }
+        ensures for_memory { let F = meanings_of (L.named self.old.library) (L.value self.old.library) in
+            OnErr result ((m : Moment) → Stands F self.old.kept m → self.new.kept.graph.refused ≡ Some Memory) }
+        ensures count { self.new.kept.accepted ≤ self.old.kept.accepted + 1 }
+        ensures names { self.new.kept.names ≡ self.old.kept.names }
+        ensures given { (arena_of self.new.kept).given ≡ (arena_of self.old.kept).given }
+        ensures observers { self.new.kept.graph.observers ≡ self.old.kept.graph.observers }
+        ensures known { (f : FnRef) → IsTrue (L.known self.old.library f) → IsTrue (L.known self.new.library f) }
+        ensures calls_grow { L.calls self.old.library ≤ L.calls self.new.library }
+        ensures functions { meanings_of (L.named self.new.library) (L.value self.new.library)
+            ≡ meanings_of (L.named self.old.library) (L.value self.old.library) }
+    {
+        self.graph.keeps_sound();
+        match self.graph.stabilize() {
+            Ok(()) => {
+                self.accepted += 1;
+                Ok(Stabilized::Accepted)
+            }
+            Err(StabilizeFault::Refused(Kept::Height)) => {
+                match deep_owner(&self.graph, &self.nodes) {
+                    Some(target) => {
+                        self.broken = Some(21);
+                        Ok(Stabilized::TooDeep { target })
+                    }
+                    // The chain begins in one of the script's formulas, so that this never comes.
+                    None => {
+                        self.broken = Some(0);
+                        Err(AllocError)
+                    }
+                }
+            }
+            Err(StabilizeFault::Refused(Kept::Memory)) => {
+                self.broken = Some(0);
+                Err(AllocError)
+            }
+            // An unbroken graph whose nodes read older ones meets none of these.
+            Err(StabilizeFault::Refused(Kept::Cycle)) => unreachable!(),
+            Err(StabilizeFault::Refused(Kept::Full)) => unreachable!(),
+            Err(StabilizeFault::Broken(_)) => unreachable!(),
+        }
+    }
+}
+
+/// The declaration in whose formula the chain of points begins that was too long. A chain begins in one of a script's
+/// formulas, so that there is none only where nothing is too deep.
+fn deep_owner<L: Library>(graph: &Graph<ScriptFns<L>>, nodes: &[NodeId]) -> Option<usize>
+    ensures found { IfSome result (λ i. (p : Point) → ChainBegins graph.now.refused p → IsFirstNotOlder nodes.now p.node i) }
+    ensures within { IfSome result (λ i. i < length nodes.now) }
+    ensures none { IfNone result ((p : Point) → ChainBegins graph.now.refused p → AllOlder nodes.now p.node) }
+{
+    match graph.broken() {
+        Some(Refused::Height(points)) => match points.first() {
+            Some(point) => first_not_older(nodes, point.node),
+            None => None,
+        },
+        _ => None,
+    }
+}
+
+/// The first declaration whose node isn't older.
+fn first_not_older(nodes: &[NodeId], node: NodeId) -> Option<usize>
+    ensures found { IfSome result (λ i. IsFirstNotOlder nodes.now node i) }
+    ensures within { IfSome result (λ i. i < length nodes.now) }
+    ensures none { IfNone result (AllOlder nodes.now node) }
+{
+    for i in 0..nodes.len() {
+        if node.gen_ <= nodes[i].gen_ {
+            return Some(i);
+        }
+    }
+    None
+}
