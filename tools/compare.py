@@ -19,7 +19,7 @@ from pathlib import Path
 REPOSITORY = Path(__file__).resolve().parent.parent
 PATIENCE = 20                # seconds for an answer
 LONGEST_LINE = 4096          # bytes, without the newline
-DEEPEST = 100                # the model refuses what is 128 deep, which the program does not yet
+CHAINS = (120, 128, 129, 129, 130, 130, 130, 131, 135)      # points, each read by the next; 130 are too many
 EDGES = (-(2**63), 2**63 - 1)
 
 NAMES = (b"a b c x y o x1 _ A Z_9 add var let set show ok stable refused observe stabilize run sub gather"
@@ -36,6 +36,7 @@ ENDS = (b"\r", b"\r\r", b" \r", b"\r ", b" #", b" x", b"(", b"\x00")
 FUNCTIONS = {b"add": (b"int", (b"int", b"int")), b"neg": (b"int", (b"int",)),
              b"pick": (b"int", (b"bool", b"int", b"int")), b"lt": (b"bool", (b"int", b"int"))}
 TYPES = (b"int", b"bool", b"text")
+LEVELS = ((b"neg(", b")"), (b"add(1, ", b")"), (b"add(", b", d0)"), (b"pick(true, ", b", 2)"))
 
 
 class Disagreement(Exception):
@@ -48,7 +49,8 @@ class Generator:
     def __init__(self, chance):
         self.chance = chance
         self.names = chance.sample(NAMES, chance.randint(3, len(NAMES))) + [chance.choice(RESERVED)]
-        self.nodes, self.observers = {}, []         # nodes: name to type, depth and whether it is a variable
+        self.nodes = {}                             # name to type and whether it is a variable
+        self.observers, self.ended = [], []
 
     def name(self, known):
         """Mostly one of the known names."""
@@ -69,8 +71,8 @@ class Generator:
         return self.chance.choice({b"int": NUMBERS, b"bool": (b"true", b"false"), b"text": TEXTS}[ty])
 
     def formula(self, ty, room):
-        """The words of a formula, mostly of the type, and how deep it is."""
-        known = [name for name, (of, depth, _) in self.nodes.items() if of == ty and depth < DEEPEST]
+        """The words of a formula, mostly of the type."""
+        known = [name for name, (of, _) in self.nodes.items() if of == ty]
         functions = [name for name, (gives, _) in FUNCTIONS.items() if gives == ty]
         draw = self.chance.random()
         if functions and room > 0 and draw < 0.6:
@@ -82,41 +84,73 @@ class Generator:
                 function = self.name(self.names)
             words = [function, b"("]
             for number, part in enumerate(parts):
-                words += ([b","] if number else []) + part[0]
-            return words + [b")"], 1 + max([part[1] for part in parts], default=0)
-        if draw < 0.85 and known or draw < 0.62:
-            name = self.name(known)
-            return [name], self.nodes.get(name, (ty, 0, False))[1]
-        return [self.literal(ty)], 0
+                words += ([b","] if number else []) + part
+            return words + [b")"]
+        return [self.name(known) if draw < 0.85 and known or draw < 0.62 else self.literal(ty)]
 
     def deep(self):
         """An application as deep as a line may nest, or a little more or less."""
         levels = self.chance.choice((1, 63, 64, 64, 65, 66, 200))
         return [b"neg("] * levels + [self.literal(b"int")] + [b")"] * self.chance.choice((levels, levels, levels - 1))
 
+    def chain(self):
+        """Lines that declare a chain of points and mostly ask for its end; `d5` has five points below it."""
+        chance, lines, last = self.chance, [b"var d0 int 3"], b"d0"
+        count, longest = chance.choice(CHAINS), chance.choice((1, 2, 64))
+        points = 1
+        while points < count:
+            levels = chance.randint(1, min(longest, count - points))
+            formula = last
+            for _ in range(levels):
+                start, end = chance.choice(LEVELS)
+                formula = start + formula + end
+            points += levels
+            last = b"d%d" % (points - 1)
+            lines.append(b"let " + last + b" " + formula)
+            if chance.random() < 1 / 32:
+                lines += [self.observe(last), b"stabilize"]
+            self.nodes[last] = (b"int", False)
+        draw = chance.random()
+        if draw < 0.15:
+            return lines
+        self.observers.append(b"end")
+        ended = [b"unobserve end"] if draw < 0.3 else []
+        return lines + [b"observe end " + last] + ended + [b"stabilize", b"show end"]
+
+    def observe(self, node):
+        """A line that makes an observer, mostly by a name that isn't in use, at times by one that was."""
+        again = self.ended and self.chance.random() < 0.3
+        name = self.chance.choice(self.ended) if again else self.new_name(self.observers)
+        self.observers.append(name)
+        return b"observe " + name + b" " + node
+
     def words(self):
-        """The words and signs of a line of one of the six forms."""
-        form = self.chance.choices(("var", "set", "let", "observe", "stabilize", "show"), (3, 4, 5, 3, 4, 5))[0]
+        """The words and signs of a line of one of the seven forms."""
+        forms = ("var", "set", "let", "observe", "unobserve", "stabilize", "show")
+        form = self.chance.choices(forms, (3, 4, 5, 3, 1, 4, 5))[0]
         if form == "var":
             ty, name = self.chance.choice(TYPES), self.new_name(self.nodes)
-            self.nodes.setdefault(name, (ty, 0, True))
+            self.nodes.setdefault(name, (ty, True))
             return [b"var", name, ty, self.literal(ty)]
         if form == "set":
-            variables = [name for name, (_, _, variable) in self.nodes.items() if variable]
+            variables = [name for name, (_, variable) in self.nodes.items() if variable]
             name = self.name(variables if self.chance.random() < 0.9 else self.nodes)
             return [b"set", name, self.literal(self.nodes.get(name, (b"int",))[0])]
         if form == "let":
             ty, name = self.chance.choices(TYPES, (5, 2, 1))[0], self.new_name(self.nodes)
-            words, depth = self.formula(ty, self.chance.randint(0, 4))
-            if self.chance.random() < 0.02:
-                words, depth = self.deep(), DEEPEST
-            self.nodes.setdefault(name, (ty, depth, False))
+            words = self.deep() if self.chance.random() < 0.02 else self.formula(ty, self.chance.randint(0, 4))
+            self.nodes.setdefault(name, (ty, False))
             return [b"let", name] + words
         if form == "observe":
-            name = self.new_name(self.observers)
-            self.observers.append(name)
-            return [b"observe", name, self.name(self.nodes)]
-        return [b"stabilize"] if form == "stabilize" else [b"show", self.name(self.observers)]
+            return self.observe(self.name(self.nodes)).split(b" ")
+        if form == "unobserve":
+            name = self.name(self.observers)
+            self.observers = [other for other in self.observers if other != name]
+            self.ended.append(name)
+            return [b"unobserve", name]
+        if form == "stabilize":
+            return [b"stabilize"]
+        return [b"show", self.name(self.observers if self.chance.random() < 0.9 else self.ended)]
 
     def line(self):
         """A line, mostly in the usual spelling."""
@@ -142,7 +176,12 @@ class Generator:
         return start + filling * (length - len(start) - len(end)) + end
 
     def script(self):
-        return b"".join([self.line() + b"\n" for _ in range(self.chance.choice((0, 1, 5, 20, 40, 80)))])
+        """Some lines, at times a chain, and more lines."""
+        counts = (0, 1, 5, 10, 20, 40)
+        lines = [self.line() for _ in range(self.chance.choice(counts))]
+        lines += self.chain() if self.chance.random() < 0.5 else []
+        lines += [self.line() for _ in range(self.chance.choice(counts))]
+        return b"".join([line + b"\n" for line in lines])
 
 
 def mangled(chance, data):
@@ -170,15 +209,10 @@ def noise(chance):
 
 def long_script(chance):
     """Sums of sums, of which each is about the double of the one before it."""
-    count, back = chance.randint(20, DEEPEST), chance.randint(1, 4)
+    count, back = chance.choice((20, 100, *CHAINS)), chance.randint(1, 4)
     lets = [b"let d%d add(d%d, d%d)" % (i, i - 1, max(0, i - chance.randint(1, back))) for i in range(1, count)]
     return b"\n".join([b"var d0 int 3", *lets, b"observe o d%d" % (count - 1), b"stabilize", b"show o",
                        b"set d0 3", b"stabilize", b"set d0 4", b"stabilize", b"show o"])
-
-
-def without_later_forms(script):
-    """The script without the lines that the model takes at this stage and the program does not yet."""
-    return b"\n".join([line for line in script.split(b"\n") if not re.match(rb" *unobserve\b", line)])
 
 
 def profiled(profile, script, transcript):
@@ -258,7 +292,7 @@ def main():
     for number in range(options.first, options.first + options.count):
         chance = random.Random("%d/%d" % (options.seed, number))
         script = (Generator(chance).script, lambda: spoiled(chance),
-                  lambda: without_later_forms(fuzz.script(options.seed, number, 60, options.through)),
+                  lambda: fuzz.script(options.seed, number, 60, options.through),
                   lambda: long_script(chance) if number % 20 == 3 else noise(chance))[number % 4]()
         try:
             compare((options.program, options.profile), judge.judge, chance, script, options.through)
