@@ -1,0 +1,73 @@
+//! The children's values from which a fold was last computed.
+ghost use Rattle.std.specs.Prelude.{◌≡◌, ◌≤◌, ◌↔◌, false, length, Some, None, IsOk, OnOk, OnErr, IsTrue};
+ghost use Rattle.map_nodes.specs.Kept.{IsStale, HasNoText, KeepsAsMany};
+
+use inc_value::Value;
+use map_nodes::LastArgs;
+use std::alloc::{AllocError, Global};
+use std::marker::Model;
+
+/// The values of a fold's children when it was last computed, if it was.
+#[derive(Debug, Drop)]
+pub struct LastFold {
+    kids: LastArgs,
+}
+
+impl Model for LastFold {
+    ghost use Rattle.std.specs.Prelude.{Option, List};
+    ghost use Rattle.inc_value.specs.declared.value.Value.{Value as AValue};
+
+    ghost Value = { Option (List AValue) };
+
+    ghost view = { λ l. l.kids };
+}
+
+impl LastFold {
+    /// Nothing is kept. This takes no memory.
+    pub fn new(alloc: Global) -> LastFold
+        ensures { result ≡ None }
+    {
+        LastFold {
+            kids: LastArgs::new(alloc),
+        }
+    }
+
+    /// Keeps the children's values in place of those before. Without memory what was kept stays.
+    pub fn keep(&mut self, kids: &[Value]) -> Result<(), AllocError>
+        ensures kept { OnOk result (self.new ≡ Some kids.now) }
+        ensures err { OnErr result (self.new ≡ self.old) }
+        ensures equal { self.old ≡ Some kids.now → IsOk result }
+        ensures short { length kids.now ≤ 2 → HasNoText kids.now → IsOk result }
+        ensures as_many { KeepsAsMany self.old kids.now → HasNoText kids.now → IsOk result }
+    {
+        self.kids.keep(kids)
+    }
+
+    /// Whether nothing is kept, or other values than these.
+    pub fn stale_by_kids(&self, kids: &[Value]) -> bool
+        ensures stale { IsTrue result ↔ IsStale self.now kids.now }
+        ensures kept { (result ≡ false) ↔ (self.now ≡ Some kids.now) }
+    {
+        self.kids.stale_by_args(kids)
+    }
+}
+
+#[cfg(test)]
+mod tests {
+    use super::*;
+    use std::test::Fail;
+
+    #[test]
+    fn keeps_the_values_of_many_kids(rt: HostRuntime) -> Result<(), Fail> {
+        let mut last = LastFold::new(rt.alloc());
+        let mut kids = [Value::Int(0), Value::Int(1), Value::Int(2), Value::Int(3)];
+        for i in 0..4 {
+            kids[i] = Value::Bool(true);
+            assert!(rt; last.stale_by_kids(&kids), "before {kids:?}");
+            last.keep(&kids)?;
+            assert!(rt; !last.stale_by_kids(&kids), "after {kids:?}");
+        }
+        assert!(rt; last.stale_by_kids(&kids[..3]));
+        Ok(())
+    }
+}

@@ -1,0 +1,2 @@
+pub mod Cutoff
+pub mod Kept
