@@ -1,0 +1,6 @@
+ok
+ok
+ok
+stable 1
+calls 1
+o = 7

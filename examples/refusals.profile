@@ -1,0 +1,59 @@
+ok
+ok
+ok
+ok
+ok
+refused 1
+refused 1
+refused 1
+refused 1
+refused 1
+refused 1
+refused 1
+refused 1
+refused 1
+refused 1
+refused 1
+refused 1
+refused 1
+refused 3
+refused 3
+refused 3
+refused 3
+refused 12
+refused 4
+refused 4
+refused 4
+refused 4
+refused 4
+refused 4
+refused 11
+refused 5
+refused 5
+refused 5
+refused 7
+refused 7
+refused 6
+refused 6
+refused 6
+refused 6
+refused 6
+refused 6
+refused 1
+refused 1
+refused 25
+refused 25
+refused 25
+refused 25
+ok
+ok
+ok
+ok
+ok
+ok
+ok
+ok
+stable 1
+calls 0
+seen = 6
+new = 6

@@ -1,0 +1,16 @@
+ok
+ok
+ok
+ok
+stable 1
+calls 2
+ok
+stable 2
+calls 1
+ok
+stable 3
+calls 0
+ok
+stable 4
+calls 2
+o = 2

@@ -1,0 +1,309 @@
+#!/usr/bin/env python3
+"""Compares the programs with the reference model, on scripts that are written at random.
+
+Each script is run whole, in small pieces and line by line. The model judges the transcript, the status
+must fit it, and the three runs must agree. In the last two the answers to the lines that are complete
+must come before more is written. The profiling program must print the same lines, and the model judges
+the calls that it tells for each stabilize.
+"""
+
+import argparse
+import os
+import random
+import re
+import select
+import subprocess
+import sys
+from pathlib import Path
+
+REPOSITORY = Path(__file__).resolve().parent.parent
+PATIENCE = 20                # seconds for an answer
+LONGEST_LINE = 4096          # bytes, without the newline
+CHAINS = (120, 128, 129, 129, 130, 130, 130, 131, 135)      # points, each read by the next; 130 are too many
+EDGES = (-(2**63), 2**63 - 1)
+
+NAMES = (b"a b c x y o x1 _ A Z_9 add var let set show ok stable refused observe stabilize run sub gather"
+         b" xx xy x10 aaaaaaaaaaaaaaaaaaaaaaaaaaaaaaab aaaaaaaaaaaaaaaaaaaaaaaaaaaaaaac").split()
+RESERVED = (b"if then else bind in join fold from at steps now freeze when after every true false"
+            b" int bool text node").split()
+NUMBERS = b"0 1 -1 2 7 -0 007 -000 4294967296 -4294967297".split() + [b"%d" % edge for edge in EDGES] * 2
+TEXTS = [b'""', b'"a"', b'"a \\"b\\" \\\\"', b'"# ~ ( )"', b'"' + b"t" * 300 + b'"']
+NO_LITERALS = (b'+1 --1 - 1x 0x10 1_000 1.5 1e3 &x 3ns -3s 99999999999999999999999 "open "\\n" "\x7f" true1'
+               b" \xd9\xa3").split() + [b"%d" % (EDGES[0] - 1), b"%d" % (EDGES[1] + 1)]
+BYTES = b" ,()-_019azAZ\n\r\t\x00#\"\\=&[]{}:@\x7f\x80\xff"
+SEPARATORS = (b"", b"", b" ", b"   ", b"\t", b"\r")
+ENDS = (b"\r", b"\r\r", b" \r", b"\r ", b" #", b" x", b"(", b"\x00")
+FUNCTIONS = {b"add": (b"int", (b"int", b"int")), b"neg": (b"int", (b"int",)),
+             b"pick": (b"int", (b"bool", b"int", b"int")), b"lt": (b"bool", (b"int", b"int"))}
+TYPES = (b"int", b"bool", b"text")
+LEVELS = ((b"neg(", b")"), (b"add(1, ", b")"), (b"add(", b", d0)"), (b"pick(true, ", b", 2)"))
+
+
+class Disagreement(Exception):
+    """What the program did, and the model does not allow."""
+
+
+class Generator:
+    """Writes scripts over a few names, so that the lines meet."""
+
+    def __init__(self, chance):
+        self.chance = chance
+        self.names = chance.sample(NAMES, chance.randint(3, len(NAMES))) + [chance.choice(RESERVED)]
+        self.nodes = {}                             # name to type and whether it is a variable
+        self.observers, self.ended = [], []
+
+    def name(self, known):
+        """Mostly one of the known names."""
+        known = list(known)
+        return self.chance.choice(known if known and self.chance.random() < 0.93 else self.names)
+
+    def new_name(self, known):
+        """Mostly a name that is not known."""
+        unused = [name for name in self.names if name not in known]
+        return self.chance.choice(unused) if unused and self.chance.random() < 0.93 else self.name(known)
+
+    def literal(self, ty):
+        """Mostly a literal of the type."""
+        if self.chance.random() < 0.04:
+            return self.chance.choice(NO_LITERALS)
+        if self.chance.random() < 0.03:
+            ty = self.chance.choice(TYPES)
+        return self.chance.choice({b"int": NUMBERS, b"bool": (b"true", b"false"), b"text": TEXTS}[ty])
+
+    def formula(self, ty, room):
+        """The words of a formula, mostly of the type."""
+        known = [name for name, (of, _) in self.nodes.items() if of == ty]
+        functions = [name for name, (gives, _) in FUNCTIONS.items() if gives == ty]
+        draw = self.chance.random()
+        if functions and room > 0 and draw < 0.6:
+            function = self.chance.choice(functions)
+            parts = [self.formula(takes, room - 1) for takes in FUNCTIONS[function][1]]
+            if self.chance.random() < 0.03:
+                parts = parts * 2 if self.chance.random() < 0.5 else parts[1:]
+            if self.chance.random() < 0.02:
+                function = self.name(self.names)
+            words = [function, b"("]
+            for number, part in enumerate(parts):
+                words += ([b","] if number else []) + part
+            return words + [b")"]
+        return [self.name(known) if draw < 0.85 and known or draw < 0.62 else self.literal(ty)]
+
+    def deep(self):
+        """An application as deep as a line may nest, or a little more or less."""
+        levels = self.chance.choice((1, 63, 64, 64, 65, 66, 200))
+        return [b"neg("] * levels + [self.literal(b"int")] + [b")"] * self.chance.choice((levels, levels, levels - 1))
+
+    def chain(self):
+        """Lines that declare a chain of points and mostly ask for its end; `d5` has five points below it."""
+        chance, lines, last = self.chance, [b"var d0 int 3"], b"d0"
+        count, longest = chance.choice(CHAINS), chance.choice((1, 2, 64))
+        points = 1
+        while points < count:
+            levels = chance.randint(1, min(longest, count - points))
+            formula = last
+            for _ in range(levels):
+                start, end = chance.choice(LEVELS)
+                formula = start + formula + end
+            points += levels
+            last = b"d%d" % (points - 1)
+            lines.append(b"let " + last + b" " + formula)
+            if chance.random() < 1 / 32:
+                lines += [self.observe(last), b"stabilize"]
+            self.nodes[last] = (b"int", False)
+        draw = chance.random()
+        if draw < 0.15:
+            return lines
+        self.observers.append(b"end")
+        ended = [b"unobserve end"] if draw < 0.3 else []
+        return lines + [b"observe end " + last] + ended + [b"stabilize", b"show end"]
+
+    def observe(self, node):
+        """A line that makes an observer, mostly by a name that isn't in use, at times by one that was."""
+        again = self.ended and self.chance.random() < 0.3
+        name = self.chance.choice(self.ended) if again else self.new_name(self.observers)
+        self.observers.append(name)
+        return b"observe " + name + b" " + node
+
+    def words(self):
+        """The words and signs of a line of one of the seven forms."""
+        forms = ("var", "set", "let", "observe", "unobserve", "stabilize", "show")
+        form = self.chance.choices(forms, (3, 4, 5, 3, 1, 4, 5))[0]
+        if form == "var":
+            ty, name = self.chance.choice(TYPES), self.new_name(self.nodes)
+            self.nodes.setdefault(name, (ty, True))
+            return [b"var", name, ty, self.literal(ty)]
+        if form == "set":
+            variables = [name for name, (_, variable) in self.nodes.items() if variable]
+            name = self.name(variables if self.chance.random() < 0.9 else self.nodes)
+            return [b"set", name, self.literal(self.nodes.get(name, (b"int",))[0])]
+        if form == "let":
+            ty, name = self.chance.choices(TYPES, (5, 2, 1))[0], self.new_name(self.nodes)
+            words = self.deep() if self.chance.random() < 0.02 else self.formula(ty, self.chance.randint(0, 4))
+            self.nodes.setdefault(name, (ty, False))
+            return [b"let", name] + words
+        if form == "observe":
+            return self.observe(self.name(self.nodes)).split(b" ")
+        if form == "unobserve":
+            name = self.name(self.observers)
+            self.observers = [other for other in self.observers if other != name]
+            self.ended.append(name)
+            return [b"unobserve", name]
+        if form == "stabilize":
+            return [b"stabilize"]
+        return [b"show", self.name(self.observers if self.chance.random() < 0.9 else self.ended)]
+
+    def line(self):
+        """A line, mostly in the usual spelling."""
+        chance, words = self.chance, self.words()
+        line = b" ".join(words).replace(b" ( ", b"(").replace(b" , ", b", ").replace(b" )", b")")
+        if chance.random() < 0.75:
+            return line
+        shuffled = chance.sample(words, chance.randint(1, len(words)))
+        return chance.choice((
+            b"".join([chance.choice((b" ", b"   ")) + word for word in words]) + b" ",
+            b"".join([word + chance.choice(SEPARATORS) for word in words]),
+            b" ".join(shuffled), line + chance.choice(ENDS), line + b"\r", self.long_line(line),
+            chance.choice((b"", b" ", b"   ", b"\r", b"  \r", b"#", b"# " + line, b"  #\xff\r", b"\t")),
+            mangled(chance, line).replace(b"\n", b""), line[: chance.randint(0, len(line))]))
+
+    def long_line(self, line):
+        """A line about as long as one may be, filled up with spaces, a note, a name or a number."""
+        length = LONGEST_LINE + self.chance.choice((-1, 0, 0, 1, 1, 2, 900))
+        start, filling, end = self.chance.choice((
+            (line, b" ", b""), (line, b" ", b"\r"), (line, b" ", b"x"), (b"#", b"\xfe", b""),
+            (b"var ", b"n", b" int 5"), (b"show ", b"n", b""), (b"var " + self.name([]) + b" int ", b"0", b"9"),
+            (b"var " + self.name([]) + b' text "', b"t", b'"'), (b"let y ", b"(", b"")))
+        return start + filling * (length - len(start) - len(end)) + end
+
+    def script(self):
+        """Some lines, at times a chain, and more lines."""
+        counts = (0, 1, 5, 10, 20, 40)
+        lines = [self.line() for _ in range(self.chance.choice(counts))]
+        lines += self.chain() if self.chance.random() < 0.5 else []
+        lines += [self.line() for _ in range(self.chance.choice(counts))]
+        return b"".join([line + b"\n" for line in lines])
+
+
+def mangled(chance, data):
+    """The bytes with some put in, taken out or changed at one place."""
+    at = chance.randint(0, len(data))
+    return data[:at] + bytes([chance.choice(BYTES)])[: chance.randint(0, 1)] + data[at + chance.randint(0, 2) :]
+
+
+def spoiled(chance):
+    """A script with some bytes changed, and cut at any two places."""
+    script = Generator(chance).script()
+    for _ in range(chance.choice((0, 1, 5, 30))):
+        script = mangled(chance, script)
+    start, end = sorted([chance.randint(0, len(script)) for _ in range(2)])
+    return chance.choice((script, script[:end], script[start:], script[:start] + script[end:]))
+
+
+def noise(chance):
+    """Random bytes: any, those of scripts, or words of scripts."""
+    words = NAMES + RESERVED + NUMBERS + NO_LITERALS + [b"(", b")", b",", b"add(", b"[", b"\n", b"\r\n"] * 9
+    size = chance.choice((1, 10, 100, 1000, 5000))
+    known = bytes(chance.choices(BYTES, k=size))
+    return chance.choice((chance.randbytes(size), known, b" ".join(chance.choices(words, k=size // 5))))
+
+
+def long_script(chance):
+    """Sums of sums, of which each is about the double of the one before it."""
+    count, back = chance.choice((20, 100, *CHAINS)), chance.randint(1, 4)
+    lets = [b"let d%d add(d%d, d%d)" % (i, i - 1, max(0, i - chance.randint(1, back))) for i in range(1, count)]
+    return b"\n".join([b"var d0 int 3", *lets, b"observe o d%d" % (count - 1), b"stabilize", b"show o",
+                       b"set d0 3", b"stabilize", b"set d0 4", b"stabilize", b"show o"])
+
+
+def profiled(profile, script, transcript):
+    """The calls of each stabilize, by the profiling program, whose other lines must be the transcript."""
+    run = subprocess.run([profile, "run"], input=script, stdout=subprocess.PIPE, timeout=PATIENCE)
+    lines, calls, awaited = [], [], False
+    for line in run.stdout.splitlines(keepends=True):
+        told = re.fullmatch(rb"calls ([0-9]+)\n", line) if awaited else None
+        if awaited and not told:
+            raise Disagreement("no calls are told after a stabilize: %r" % run.stdout)
+        if told:
+            calls.append(int(told[1]))
+        else:
+            lines.append(line)
+        awaited = not told and re.fullmatch(rb"stable [0-9]+\n", line) is not None
+    if b"".join(lines) != transcript or awaited:
+        raise Disagreement("the profile has other lines: %r" % run.stdout)
+    return calls
+
+
+def run_by_pieces(program, pieces, printed):
+    """Status and transcript of a run that is fed these pieces; line i is due to print `printed[i]` lines."""
+    transcript, line = b"", 0
+    with subprocess.Popen([program, "run"], stdin=subprocess.PIPE, stdout=subprocess.PIPE) as run:
+        try:
+            for piece in pieces:
+                run.stdin.write(piece)
+                run.stdin.flush()
+                line += piece.count(b"\n")
+                while transcript.count(b"\n") < sum(printed[:line]):
+                    ready = select.select([run.stdout], [], [], PATIENCE)[0]
+                    more = os.read(run.stdout.fileno(), 65_536) if ready else b""
+                    if not more:
+                        raise Disagreement("no answer to line %d comes; before it %r" % (line, transcript))
+                    transcript += more
+            transcript += run.communicate(timeout=PATIENCE)[0]
+        except BrokenPipeError as fault:
+            raise Disagreement("the program reads no more after line %d" % line) from fault
+        finally:
+            run.kill()
+    return run.returncode, transcript
+
+
+def compare(programs, judge, chance, script, through):
+    """Runs the script in each way, and raises a `Disagreement` where the model does not allow what comes."""
+    program, profile = programs
+    whole = subprocess.run([program, "run"], input=script, stdout=subprocess.PIPE, timeout=PATIENCE)
+    calls = profiled(profile, script, whole.stdout) if profile else None
+    told = "status %d, transcript %r, calls %s" % (whole.returncode, whole.stdout, calls)
+    verdict = judge(script, whole.stdout, through, calls)
+    if not verdict.ok:
+        raise Disagreement("%s: line %d of the script, %d of the transcript, where one of %s may stand; %s" % (
+            verdict.message, verdict.script_line, verdict.transcript_line, list(verdict.allowed), told))
+    if whole.returncode != (1 if re.search(rb"^refused [0-9]", whole.stdout, re.MULTILINE) else 0):
+        raise Disagreement("not the status of such a transcript: " + told)
+    size = chance.choice((1, 2, 3, 7, 20, 100)) if len(script) < 5000 else LONGEST_LINE
+    small = [script[at : at + size] for at in range(0, len(script), size)]
+    for pieces in (small, re.findall(rb"[^\n]*\n|[^\n]+", script)):
+        if run_by_pieces(program, pieces, verdict.printed) != (whole.returncode, whole.stdout):
+            raise Disagreement("by the pieces %r the answers are others than %s" % (pieces, told))
+
+
+def main():
+    parser = argparse.ArgumentParser(description=__doc__)
+    parser.add_argument("model", type=Path, help="the folder of the reference model")
+    parser.add_argument("--program", default=REPOSITORY / "crates/incr/out/incr", help="default: incr of this repository")
+    parser.add_argument("--profile", default=REPOSITORY / "crates/incr_profile/out/incr_profile",
+                        help="default: incr_profile of this repository; an empty word for none")
+    parser.add_argument("--through", type=int, default=2, help="the model's stage of the language (default 2)")
+    parser.add_argument("--seed", type=int, default=1)
+    parser.add_argument("--first", type=int, default=0, help="the number of the first script (default 0)")
+    parser.add_argument("--count", type=int, default=600, help="how many scripts (default 600)")
+    options = parser.parse_args()
+    sys.path.insert(0, str(options.model))
+    from incr_oracle import fuzz, judge
+    failed = 0
+    for number in range(options.first, options.first + options.count):
+        chance = random.Random("%d/%d" % (options.seed, number))
+        script = (Generator(chance).script, lambda: spoiled(chance),
+                  lambda: fuzz.script(options.seed, number, 60, options.through),
+                  lambda: long_script(chance) if number % 20 == 3 else noise(chance))[number % 4]()
+        try:
+            compare((options.program, options.profile), judge.judge, chance, script, options.through)
+        except (Disagreement, subprocess.TimeoutExpired) as fault:
+            failed += 1
+            if failed == 1:
+                print("script %d of seed %d: %s" % (number, options.seed, fault))
+                print("\n".join(["    %r" % line for line in script.split(b"\n")]))
+    print("%d passed, %d failed" % (options.count - failed, failed))
+    return 1 if failed else 0
+
+
+if __name__ == "__main__":
+    sys.exit(main())
