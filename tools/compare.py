@@ -22,7 +22,7 @@ LONGEST_LINE = 4096          # bytes, without the newline
 CHAINS = (120, 128, 129, 129, 130, 130, 130, 131, 135)      # points, each read by the next; 130 are too many
 EDGES = (-(2**63), 2**63 - 1)
 
-NAMES = (b"a b c x y o x1 _ A Z_9 add var let set show ok stable refused observe stabilize run sub gather"
+NAMES = (b"a b c x y o x1 _ A Z_9 add var let set show ok stable refused observe stabilize run sub gather sum9 cat"
          b" xx xy x10 aaaaaaaaaaaaaaaaaaaaaaaaaaaaaaab aaaaaaaaaaaaaaaaaaaaaaaaaaaaaaac").split()
 RESERVED = (b"if then else bind in join fold from at steps now freeze when after every true false"
             b" int bool text node").split()
@@ -33,10 +33,15 @@ NO_LITERALS = (b'+1 --1 - 1x 0x10 1_000 1.5 1e3 &x 3ns -3s 999999999999999999999
 BYTES = b" ,()-_019azAZ\n\r\t\x00#\"\\=&[]{}:@\x7f\x80\xff"
 SEPARATORS = (b"", b"", b" ", b"   ", b"\t", b"\r")
 ENDS = (b"\r", b"\r\r", b" \r", b"\r ", b" #", b" x", b"(", b"\x00")
-FUNCTIONS = {b"add": (b"int", (b"int", b"int")), b"neg": (b"int", (b"int",)),
-             b"pick": (b"int", (b"bool", b"int", b"int")), b"lt": (b"bool", (b"int", b"int"))}
-TYPES = (b"int", b"bool", b"text")
-LEVELS = ((b"neg(", b")"), (b"add(1, ", b")"), (b"add(", b", d0)"), (b"pick(true, ", b", 2)"))
+INT, BOOL, TEXT = b"int", b"bool", b"text"
+FUNCTIONS = {b"neg": (INT, (INT,)), b"clamp": (INT, (INT,) * 3), b"pick": (INT, (BOOL, INT, INT)), b"sum9": (INT, (INT,) * 9),
+             b"and": (BOOL, (BOOL, BOOL)), b"or": (BOOL, (BOOL, BOOL)), b"not": (BOOL, (BOOL,)), b"pos": (BOOL, (INT,)),
+             b"cat": (TEXT, (TEXT, TEXT)), b"len": (INT, (TEXT,)), b"same": (BOOL, (TEXT, TEXT)), b"show": (TEXT, (INT,))}
+FUNCTIONS |= {name: (INT, (INT, INT)) for name in b"add sub mul div rem min max".split()}
+FUNCTIONS |= {name: (BOOL, (INT, INT)) for name in b"eq lt le".split()}
+TYPES = (INT, BOOL, TEXT)
+LEVELS = ((b"neg(", b")"), (b"add(1, ", b")"), (b"add(", b", d0)"), (b"pick(true, ", b", 2)"), (b"clamp(-9, ", b", 9)"),
+          (b"rem(", b", 5)"), (b"sum9(1, 2, 3, 4, ", b", 6, 7, 8, d0)"))
 
 
 class Disagreement(Exception):
@@ -77,7 +82,8 @@ class Generator:
         draw = self.chance.random()
         if functions and room > 0 and draw < 0.6:
             function = self.chance.choice(functions)
-            parts = [self.formula(takes, room - 1) for takes in FUNCTIONS[function][1]]
+            takes = FUNCTIONS[function][1]
+            parts = [self.formula(ty, room - 1 if len(takes) < 9 else 0) for ty in takes]
             if self.chance.random() < 0.03:
                 parts = parts * 2 if self.chance.random() < 0.5 else parts[1:]
             if self.chance.random() < 0.02:
@@ -215,6 +221,22 @@ def long_script(chance):
                        b"set d0 3", b"stabilize", b"set d0 4", b"stabilize", b"show o"])
 
 
+def long_texts(chance):
+    """Texts of texts, of which each is about twice as long as the one before it, up to the most bytes of a text."""
+    count = chance.randint(2, 20)
+    start = b'"' + b"".join(chance.choices((b"t", b"u", b" ", b'\\"', b"\\\\"), k=chance.choice((0, 1, 7, 300)))) + b'"'
+    lets = [b"let d%d cat(d%d, d%d)" % (i, i - 1, max(0, i - chance.choice((1, 1, 2, i)))) for i in range(1, count)]
+    last = count - 1
+    return b"\n".join([b"var d0 text " + start, *lets, b"let n len(d%d)" % last, b"let s same(d%d, d%d)" % (last, last - 1),
+                       b"observe o d%d" % last, b"observe p n", b"observe q s", b"stabilize", b"show o", b"show p", b"show q",
+                       b'set d0 "v"', b"stabilize", b"show o", b"show p", b"show q"])
+
+
+def without_later_forms(script):
+    """The script without the lines that the model takes at this stage and the program does not yet."""
+    return b"\n".join([line for line in script.split(b"\n") if not re.search(rb"\bfold\b", line)])
+
+
 def profiled(profile, script, transcript):
     """The calls of each stabilize, by the profiling program, whose other lines must be the transcript."""
     run = subprocess.run([profile, "run"], input=script, stdout=subprocess.PIPE, timeout=PATIENCE)
@@ -281,7 +303,7 @@ def main():
     parser.add_argument("--program", default=REPOSITORY / "crates/incr/out/incr", help="default: incr of this repository")
     parser.add_argument("--profile", default=REPOSITORY / "crates/incr_profile/out/incr_profile",
                         help="default: incr_profile of this repository; an empty word for none")
-    parser.add_argument("--through", type=int, default=2, help="the model's stage of the language (default 2)")
+    parser.add_argument("--through", type=int, default=3, help="the model's stage of the language (default 3)")
     parser.add_argument("--seed", type=int, default=1)
     parser.add_argument("--first", type=int, default=0, help="the number of the first script (default 0)")
     parser.add_argument("--count", type=int, default=600, help="how many scripts (default 600)")
@@ -292,8 +314,8 @@ def main():
     for number in range(options.first, options.first + options.count):
         chance = random.Random("%d/%d" % (options.seed, number))
         script = (Generator(chance).script, lambda: spoiled(chance),
-                  lambda: fuzz.script(options.seed, number, 60, options.through),
-                  lambda: long_script(chance) if number % 20 == 3 else noise(chance))[number % 4]()
+                  lambda: without_later_forms(fuzz.script(options.seed, number, 60, options.through)),
+                  lambda: {3: long_script, 7: long_texts}.get(number % 20, noise)(chance))[number % 4]()
         try:
             compare((options.program, options.profile), judge.judge, chance, script, options.through)
         except (Disagreement, subprocess.TimeoutExpired) as fault:

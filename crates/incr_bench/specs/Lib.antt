@@ -1,4 +1,3 @@
 pub mod Chance
 pub mod Jobs
-pub mod Plain
 pub mod Status

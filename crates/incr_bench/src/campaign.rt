@@ -1,13 +1,13 @@
 //! A graph by chance, compared with plain evaluation after each stabilize.
-ghost use Rattle.std.specs.Prelude.{◌≡◌, ◌↔◌, IfOk, IsTrue, map};
-ghost use Rattle.incr_bench.specs.Plain.{at};
+ghost use Rattle.std.specs.Prelude.{◌≡◌, IfOk, map};
+ghost use Rattle.plain_evaluation.specs.Plain.{at};
 
 use crate::clock::{begin, since};
-use crate::definition::{Definition, at, evaluate};
 use crate::fault::Fault;
 use crate::generator::Generator;
 use crate::lists::append;
 use crate::live::Live;
+use plain_evaluation::{Definition, agree, at, evaluate};
 use std::alloc::{AllocError, Global};
 use std::time::Clock;
 
@@ -88,13 +88,6 @@ fn shown(alloc: Global, live: &Live, watched: &[Watch]) -> Result<Vec<i64>, Faul
         append(&mut all, number)?;
     }
     Ok(all)
-}
-
-/// Whether two lists are the same.
-fn agree(left: &[i64], right: &[i64]) -> bool
-    ensures { IsTrue result ↔ (left.now ≡ right.now) }
-{
-    left == right
 }
 
 impl Campaign {

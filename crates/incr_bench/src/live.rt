@@ -2,10 +2,10 @@
 ghost use Rattle.std.specs.Prelude.{◌≡◌};
 
 use crate::adapter::StdFunctions;
-use crate::definition::Definition;
 use crate::fault::{Fault, of_graph, of_stabilize};
 use graph::{Graph, GraphFault};
 use inc_value::{NodeId, ObsId, Outcome, Value};
+use plain_evaluation::Definition;
 use std::alloc::Global;
 use std_library::{Function, StdLib};
 

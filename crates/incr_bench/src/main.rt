@@ -5,7 +5,6 @@
 mod adapter;
 mod campaign;
 mod clock;
-mod definition;
 mod fault;
 mod generator;
 mod job;

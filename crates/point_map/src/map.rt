@@ -1,4 +1,4 @@
-ghost use Rattle.std.specs.Prelude.{[], ℕ, ◌≡◌, ◌+◌, ◌<◌, ◌≤◌, None, Some, is_some, IsSome, IfSome, IfNone, IsTrue, IsOk, IfOk, OnOk, OnErr, option_copied, option_map};
+ghost use Rattle.std.specs.Prelude.{[], ℕ, ◌≡◌, ◌+◌, ◌-◌, ◌*◌, ◌^◌, ◌<◌, ◌≤◌, min, None, Some, is_some, IsSome, IfSome, IfNone, IsTrue, IsOk, IfOk, OnOk, OnErr, option_copied, option_map};
 ghost use Rattle.point_map.specs.Buckets.{Buckets as Seen, kept_count};
 ghost use Rattle.point_map.specs.BySlot.{IsBySlot, own_bucket, rows_of};
 ghost use Rattle.point_map.specs.Rows.{at, count, standing, Holds, Changes, KeepsRows, SamePoints, IsWalk};
@@ -41,8 +41,11 @@ fn bucket_of(p: Point, width: usize) -> Option<usize>
 }
 
 // How much room is made for `n` more points: at least twice what there was, so that growing takes constant time a point.
+// None where there is no number for it.
 fn room_for(len: usize, spare: usize, n: usize) -> Option<usize>
-    ensures { IfSome result (λ room. len + n ≤ room) }
+    ensures enough { IfSome result (λ room. len + n ≤ room) }
+    ensures doubled { IfSome result (λ room. min (2 * (len + spare)) (2 ^ 64 - 1) ≤ room) }
+    ensures none { IfNone result (2 ^ 64 ≤ len + n) }
 {
     let least = len.checked_add(n)?;
     Some(least.max(len.saturating_add(spare).saturating_mul(2)))

@@ -1,3 +1,4 @@
 pub mod Calls
+pub mod Operations
 pub mod Functions
 pub mod FunctionLaws

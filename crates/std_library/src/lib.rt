@@ -1,7 +1,9 @@
 //! The standard library: the functions that scripts may use, by name.
 #![tactic(auto)]
 
+mod arguments;
 mod function;
+mod operations;
 mod std_lib;
 
 pub use function::Function;

@@ -1,5 +1,5 @@
 use Rattle.std.proofs.Common.{◌≡◌, ◌++◌, drop, map}
-use Rattle.incr_bench.specs.Plain.{at}
+use Rattle.plain_evaluation.specs.Plain.{at}
 use Rattle.incr_bench.proofs.campaign.meant.Given as goal
 
 abbrev pub invariant-loop-watch : goal.invariant-loop-watch

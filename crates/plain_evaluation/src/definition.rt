@@ -1,6 +1,6 @@
 //! What nodes are, and what they are worth, evaluated plainly from scratch.
 ghost use Rattle.std.specs.Prelude.{◌≡◌, IfOk};
-ghost use Rattle.incr_bench.specs.Plain.{at, value_of, evaluated};
+ghost use Rattle.plain_evaluation.specs.Plain.{at, value_of, evaluated};
 
 use std::alloc::{AllocError, Global};
 

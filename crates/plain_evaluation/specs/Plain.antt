@@ -1,8 +1,8 @@
 -- What nodes are worth, evaluated plainly from scratch.
 use Rattle.std.specs.Prelude.{ℕ, if◌then◌else◌, List, [], ◌∷◌, ◌++◌, Option, None, Some, ℤ, pos, int_lt, slice_get}
 use Rattle.std.specs.Int.{w64, int_wrapping_add, int_wrapping_neg}
-use Rattle.incr_bench.specs.declared.definition.Definition.{Definition}
-use Rattle.incr_bench.specs.declared.definition.Definition.TheVariants.{Var, Neg, Sum, Less, Pick}
+use Rattle.plain_evaluation.specs.declared.definition.Definition.{Definition}
+use Rattle.plain_evaluation.specs.declared.definition.Definition.TheVariants.{Var, Neg, Sum, Less, Pick}
 
 -- a value, 0 where there is none
 abbrev pub or_zero : Option ℤ → ℤ
