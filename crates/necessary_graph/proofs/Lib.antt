@@ -7,3 +7,4 @@ pub mod Reaching
 pub mod Standing
 pub mod Room
 pub mod Sweeping
+pub mod Telling

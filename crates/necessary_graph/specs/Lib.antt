@@ -1,3 +1,4 @@
 pub mod Part
+pub mod Readers
 pub mod Room
 pub mod Sweep

@@ -10,8 +10,10 @@ ghost use Rattle.height_order.specs.Chains.{ReadsWith, IsChain, IsPath, Leads, H
 ghost use Rattle.height_order.specs.Levels.{level, KeepsPoints, IsExact};
 ghost use Rattle.height_order.specs.Faults.{IfPath, IfOver};
 ghost use Rattle.necessary_graph.specs.Part.{web, Needed, IsInStep, AlsoNeeded};
+ghost use Rattle.necessary_graph.specs.Readers.{HasReaders};
 ghost use Rattle.necessary_graph.specs.Sweep.{IsUnlinked, IsUnrooted};
 
+use crate::readers::{Skip, put, put_readers};
 use crate::sweep::{raise_moved, sweep, take_out};
 use height_order::{Heights, LinkFault};
 use inc_value::Point;
@@ -186,9 +188,16 @@ impl NecessaryGraph {
         ensures inserted { Changes self.old.heap self.new.heap p (at self.old.heights p) }
         ensures rest { self.new ≡ record self.old { heap = self.new.heap } }
     {
-        if !self.heap.holds(p) {
-            self.heap.insert(p, self.heights.height(p));
-        }
+        put(&self.heights, &mut self.heap, p);
+    }
+
+    /// Puts the readers of a point into the heap, each at its height, but for those that are in and those that are
+    /// passed over. This takes no memory.
+    pub fn insert_readers<S: Skip>(&mut self, q: Point, skip: &S)
+        ensures inserted { HasReaders self.old.heights self.old.links q (S.skipped skip.now) self.old.heap self.new.heap }
+        ensures rest { self.new ≡ record self.old { heap = self.new.heap } }
+    {
+        put_readers(&self.heights, &self.needs, &mut self.heap, q, skip);
     }
 
     /// Takes a point from the heap, if it is in.

@@ -3,8 +3,10 @@
 #![tactic(auto)]
 
 mod graph;
+mod readers;
 mod sweep;
 
 pub use graph::NecessaryGraph;
 pub use height_order::LinkFault;
 pub use necessity::{Kids, Readers};
+pub use readers::Skip;
