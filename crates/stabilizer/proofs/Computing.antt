@@ -160,7 +160,7 @@ unmoved : (rows : Rows Progress) (n : NodeId) (kept : Progress) → at rows (mai
 unmoved rows n kept e = record { changed = rw e refl; others = λ q ne. refl; points = λ i. refl }
 
 same_rest : (work : Work) → KeepsRest work work
-same_rest work = record { graph = refl; todo = refl; readers = refl; strict = refl; round = refl }
+same_rest work = record { graph = refl; todo = refl; strict = refl; round = refl }
 
 no_rise : (n : ℕ) → RoseBy n 0 n
 no_rise n = record { kept = omega arith; most = omega arith; exact = λ h. omega arith }

@@ -428,7 +428,7 @@ module _ (F : Functions) (arena : Arena) (old mid : Work) (before after : ℕ) (
   module _ (new : Work) (graph : new.graph ≡ mid.graph) (rows : new.rows ≡ mid.rows) (todo : new.todo ≡ mid.todo) (ran : new.ran.items ≡ [])
       (strict : new.strict ≡ false) (round : new.round ≡ mid.round + 1) where
     abbrev next : Work
-    next = record mid { readers = new.readers; ran = new.ran; strict = new.strict; round = new.round }
+    next = record mid { ran = new.ran; strict = new.strict; round = new.round }
 
     is_next : next ≡ new
     is_next =

@@ -1,6 +1,6 @@
--- A main is listed, computed and settled, or left as it was.
+-- A main is computed and settled, or left as it was.
 use Rattle.std.proofs.Common.{◌≡◌, ◌≢◌, inl, inr, ℕ, List, Option, None, Some, sym, ap, subst, ◌∙◌, arith}
-use Rattle.std.specs.Prelude.{Contains, ◌↔◌, option_map}
+use Rattle.std.specs.Prelude.{option_map}
 use Rattle.inc_value.specs.declared.function.FnRef.{FnRef}
 use Rattle.inc_value.specs.declared.node.NodeId.{NodeId}
 use Rattle.inc_value.specs.declared.node.Point.{Point}
@@ -10,12 +10,12 @@ use Rattle.inc_terms.specs.Depend.{main}
 use Rattle.point_map.specs.Rows.{Rows, at, Holds, KeepsRows}
 use Rattle.link_table.specs.Links.{Reads}
 use Rattle.height_order.specs.Levels.{level}
-use Rattle.necessary_graph.specs.Part.{NecessaryPart, Needed, IsInStep}
+use Rattle.necessary_graph.specs.Part.{NecessaryPart, IsInStep}
 use Rattle.node_arena.specs.Arena.{Arena}
-use Rattle.stabilizer.specs.Computing.{IsComputed, Computes, KeepsRest, NotComputed}
+use Rattle.stabilizer.specs.Computing.{Computes, NotComputed}
 use Rattle.stabilizer.specs.Kept.{IsKept}
 use Rattle.stabilizer.specs.Row.{IsRewritten, with_last, with_outcome, settled_in}
-use Rattle.stabilizer.specs.Settling.{IsSettled, ran_then}
+use Rattle.stabilizer.specs.Settling.{IsSettled}
 use Rattle.stabilizer.specs.Stepping.{MainIsSettled}
 use Rattle.stabilizer.specs.Wiring.{KeepsGraph, KeepsRound, IsTold, Shows}
 use Rattle.stabilizer.specs.declared.row.Progress.{Progress}
@@ -29,11 +29,9 @@ some_row a b e = cc
 pub is_main : (arena : Arena) (work : Work) → IsKept arena work → (p : Point) → Holds work.rows p → p ≡ main p.node
 is_main arena work kept p h = λ i. record { node = p.node; part = (kept.row_mains p h) i }
 
-module _ (value : FnRef → List Value → Value) (arena : Arena) (old list mid new : Work) (p : Point) (o : Outcome) (before after : ℕ)
+module _ (value : FnRef → List Value → Value) (arena : Arena) (old mid new : Work) (p : Point) (o : Outcome) (before after : ℕ)
     (kept : IsKept arena old) (row : Holds old.rows p) (gone : at old.graph.heap p ≡ None)
-    (rest : list ≡ record old { readers = list.readers })
-    (lists : (r : Point) → Contains list.readers.items r ↔ Reads old.graph.links r p)
-    (c : Computes value arena list mid p.node o before after)
+    (c : Computes value arena old mid p.node o before after)
     (rewritten : IsRewritten mid.rows new.rows p (with_outcome o mid.round)) (graph : KeepsGraph mid.graph new.graph)
     (tells : IsTold mid new p o) (round : KeepsRound mid new) (todo : new.todo ≡ mid.todo) where
   abbrev n : NodeId
@@ -45,9 +43,6 @@ module _ (value : FnRef → List Value → Value) (arena : Arena) (old list mid 
   taken : at old.graph.heap (main n) ≡ None
   taken = subst (λ (x : Point). at old.graph.heap x ≡ None) same gone
 
-  listed : (r : Point) → Contains list.readers.items r ↔ Reads old.graph.links r (main n)
-  listed r = subst (λ (x : Point). Contains list.readers.items r ↔ Reads old.graph.links r x) same (lists r)
-
   rows : IsRewritten mid.rows new.rows (main n) (with_outcome o mid.round)
   rows = subst (λ (x : Point). IsRewritten mid.rows new.rows x (with_outcome o mid.round)) same rewritten
 
@@ -55,16 +50,13 @@ module _ (value : FnRef → List Value → Value) (arena : Arena) (old list mid 
   told = subst (λ (x : Point). IsTold mid new x o) same tells
 
   graph_is : mid.graph ≡ old.graph
-  graph_is = c.rest.graph ∙ ap (λ (w : Work). w.graph) rest
-
-  rows_are : list.rows ≡ old.rows
-  rows_are = ap (λ (w : Work). w.rows) rest
+  graph_is = c.rest.graph
 
   round_is : mid.round ≡ old.round
-  round_is = c.rest.round ∙ ap (λ (w : Work). w.round) rest
+  round_is = c.rest.round
 
   was : at old.rows (main n) ≡ Some c.computed.kept
-  was = ap (λ (m : Rows Progress). at m (main n)) (sym rows_are) ∙ c.computed.is_kept
+  was = c.computed.is_kept
 
   between : at mid.rows (main n) ≡ Some (with_last c.last c.computed.kept)
   between = c.row.changed ∙ ap (option_map (with_last c.last)) c.computed.is_kept
@@ -73,13 +65,13 @@ module _ (value : FnRef → List Value → Value) (arena : Arena) (old list mid 
   now = rows.changed ∙ ap (option_map (with_outcome o mid.round)) between
 
   others : (p : Point) → p ≢ main n → at new.rows p ≡ at old.rows p
-  others p ne = rows.others p ne ∙ (c.row.others p ne ∙ ap (λ (m : Rows Progress). at m p) rows_are)
+  others p ne = rows.others p ne ∙ c.row.others p ne
 
-  reads : (p : Point) → Contains mid.readers.items p → Reads old.graph.links p (main n)
-  reads p r = (listed p).0 (subst (λ (xs : List Point). Contains xs p) c.rest.readers r)
+  reads : (p : Point) → Reads mid.graph.links p (main n) → Reads old.graph.links p (main n)
+  reads p r = subst (λ (g : NecessaryPart). Reads g.links p (main n)) graph_is r
 
-  readers : (p : Point) → Reads old.graph.links p (main n) → Contains mid.readers.items p
-  readers p r = subst (λ (xs : List Point). Contains xs p) (sym c.rest.readers) ((listed p).1 r)
+  readers : (p : Point) → Reads old.graph.links p (main n) → Reads mid.graph.links p (main n)
+  readers p r = subst (λ (g : NecessaryPart). Reads g.links p (main n)) (sym graph_is) r
 
   other : (p : Point) → Reads old.graph.links p (main n) → p ≢ main n
   other p r = λ e. absurd (let l = kept.step.rises p (main n) r in
@@ -115,9 +107,9 @@ module _ (value : FnRef → List Value → Value) (arena : Arena) (old list mid 
       | inl k ↦ inl (before_in p k)
       | inr k ↦ inr (reads p k.0, sym (settled_as p ne) ∙ k.1)
     ];
-    ran = round.ran ∙ (c.ran ∙ ap (λ (w : Work). ran_then c.called w.ran.items n) rest);
-    todo = rw todo (c.rest.todo ∙ ap (λ (w : Work). w.todo.items) rest);
-    strict = round.strict ∙ (c.rest.strict ∙ ap (λ (w : Work). w.strict) rest);
+    ran = round.ran ∙ c.ran;
+    todo = rw todo c.rest.todo;
+    strict = round.strict ∙ c.rest.strict;
     round = round.round ∙ round_is;
   }
     where
@@ -129,7 +121,7 @@ module _ (value : FnRef → List Value → Value) (arena : Arena) (old list mid 
     outcome = o;
     last = c.last;
     called = c.called;
-    computed = subst (λ (m : Rows Progress). IsComputed value arena m n o c.last c.called) rows_are c.computed;
+    computed = c.computed;
     settled = is_settled;
     count = c.count;
   }
@@ -150,18 +142,6 @@ left_kept arena old new kept rows graph round = kept_same arena old new kept row
     (subst IsInStep (sym graph) kept.step)
     (λ p h. kept.heap p (subst (λ (g : NecessaryPart). Holds g.heap p) graph h)) round
 
-module _ (arena : Arena) (old list : Work) (kept : IsKept arena old) (rest : list ≡ record old { readers = list.readers }) where
-  graph_stays : list.graph ≡ old.graph
-  graph_stays = ap (λ (w : Work). w.graph) rest
-
-  pub list_kept : IsKept arena list
-  list_kept = left_kept arena old list kept (λ p. ap (λ (w : Work). at w.rows p) rest) graph_stays (ap (λ (w : Work). w.round) rest)
-
-  pub uncomputed_kept : (mid : Work) (n : NodeId) (before after : ℕ) → NotComputed arena list mid n before after → IsKept arena mid
-  uncomputed_kept mid n before after c = left_kept arena list mid list_kept c.rows c.rest.graph c.rest.round
-
-  -- the points that are listed are needed
-  pub listed_needed : (mid : Work) (p : Point) → ((r : Point) → Contains list.readers.items r ↔ Reads old.graph.links r p) → KeepsRest list mid
-      → (r : Point) → Contains mid.readers.items r → Needed mid.graph r
-  listed_needed mid p listed stays r among = subst (λ (g : NecessaryPart). Needed g r) (sym (stays.graph ∙ graph_stays))
-      (kept.step.readers r p ((listed r).0 (subst (λ (xs : List Point). Contains xs r) stays.readers among)))
+pub uncomputed_kept : (arena : Arena) (old mid : Work) (n : NodeId) (before after : ℕ) → IsKept arena old → NotComputed arena old mid n before after
+    → IsKept arena mid
+uncomputed_kept arena old mid n before after kept c = left_kept arena old mid kept c.rows c.rest.graph c.rest.round

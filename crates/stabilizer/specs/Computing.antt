@@ -77,7 +77,6 @@ pub record IsComputed (value : FnRef → List Value → Value) (arena : Arena) (
 pub record KeepsRest (old new : Work) : Type 0 where
   pub graph : new.graph ≡ old.graph
   pub todo : new.todo.items ≡ old.todo.items
-  pub readers : new.readers.items ≡ old.readers.items
   pub strict : new.strict ≡ old.strict
   pub round : new.round ≡ old.round
 

@@ -1,12 +1,12 @@
 -- What is done to a point that is newly needed, and to one that is linked.
-use Rattle.std.specs.Prelude.{◌≡◌, ◌≢◌, ◌⊎◌, ◌↔◌, ℕ, true, false, List, ◌∷◌, Option, None, Some, is_some, Contains, ◌++◌, []}
+use Rattle.std.specs.Prelude.{◌≡◌, ◌≢◌, ◌⊎◌, ◌↔◌, ℕ, true, false, List, ◌∷◌, Option, None, Some, is_some, ◌++◌, []}
 use Rattle.inc_value.specs.declared.node.Point.{Point}
 use Rattle.inc_value.specs.declared.outcome.Outcome.{Outcome}
 use Rattle.inc_value.specs.Choice.{Among}
 use Rattle.inc_terms.specs.Depend.{Depends}
 use Rattle.inc_terms.specs.Term.{Functions}
 use Rattle.point_map.specs.Rows.{at, Holds, KeepsRows}
-use Rattle.link_table.specs.Links.{KeepsLinks}
+use Rattle.link_table.specs.Links.{KeepsLinks, Reads}
 use Rattle.necessity.specs.Need.{KeepsRoots}
 use Rattle.height_order.specs.Levels.{level, KeepsPoints}
 use Rattle.necessary_graph.specs.Part.{NecessaryPart, Needed, IsInStep, AlsoNeeded}
@@ -43,12 +43,12 @@ pub record IsEnqueued (old new : Work) (q : Point) : Type 0 where
   pub only : Holds new.graph.heap q → Holds old.graph.heap q ⊎ (settled_in old.round (at old.rows q) ≡ false)
   pub step : IsInStep new.graph
 
--- so are all these points, and no others are that weren't
-pub record AreEnqueued (old new : Work) (Told : Point → Type 0) : Type 0 where
+-- so are all points that read this one, and no others are that weren't
+pub record AreEnqueued (old new : Work) (q : Point) : Type 0 where
   pub graph : KeepsGraph old.graph new.graph
-  pub kept : (p : Point) → Holds old.graph.heap p → Holds new.graph.heap p
-  pub told : (p : Point) → Told p → Holds new.graph.heap p ⊎ (settled_in old.round (at old.rows p) ≡ true)
-  pub only : (p : Point) → Holds new.graph.heap p → Holds old.graph.heap p ⊎ (Told p × (settled_in old.round (at old.rows p) ≡ false))
+  pub kept : (r : Point) → Holds old.graph.heap r → Holds new.graph.heap r
+  pub told : (r : Point) → Reads old.graph.links r q → Holds new.graph.heap r ⊎ (settled_in old.round (at old.rows r) ≡ true)
+  pub only : (r : Point) → Holds new.graph.heap r → Holds old.graph.heap r ⊎ (Reads old.graph.links r q × (settled_in old.round (at old.rows r) ≡ false))
 
 -- a point shows just this outcome already
 abbrev pub Shows : Work → Point → Outcome → Type 0
@@ -57,9 +57,9 @@ Shows work p o = (k : Progress) × (at work.rows p ≡ Some k) × (k.outcome ≡
 -- where a point's outcome is another, the points that read it are in the heap, unless they were settled; but the point itself was settled now
 pub record IsTold (old new : Work) (p : Point) (o : Outcome) : Type 0 where
   pub kept : (r : Point) → Holds old.graph.heap r → Holds new.graph.heap r
-  pub told : (Shows old p o → ⊥) → (r : Point) → Contains old.readers.items r → Holds new.graph.heap r ⊎ (settled_in new.round (at new.rows r) ≡ true)
+  pub told : (Shows old p o → ⊥) → (r : Point) → Reads old.graph.links r p → Holds new.graph.heap r ⊎ (settled_in new.round (at new.rows r) ≡ true)
   pub only : (r : Point) → Holds new.graph.heap r
-      → Holds old.graph.heap r ⊎ (Contains old.readers.items r × (settled_in new.round (at new.rows r) ≡ false))
+      → Holds old.graph.heap r ⊎ (Reads old.graph.links r p × (settled_in new.round (at new.rows r) ≡ false))
 
 -- a point that wasn't needed before: one of a live node has no links yet, is in the worklist, and in the heap unless it was settled
 pub record IsWoken (old new : Work) (q : Point) : Type 0 where
@@ -73,7 +73,6 @@ pub record IsWoken (old new : Work) (q : Point) : Type 0 where
   pub pushed : Holds old.rows q → new.todo.items ≡ old.todo.items ++ q ∷ []
   pub leaf : at old.rows q ≡ None → new.todo.items ≡ old.todo.items
   pub todo : (p : Point) → Among p old.todo.items → Among p new.todo.items
-  pub readers : new.readers ≡ old.readers
   pub round : KeepsRound old new
   pub step : IsInStep new.graph
 

@@ -3,9 +3,10 @@ ghost use Rattle.std.specs.Prelude.{◌≡◌, ◌↔◌, None, Some, IsTrue};
 ghost use Rattle.point_map.specs.Rows.{at, Holds};
 ghost use Rattle.inc_value.specs.declared.node.Part.TheVariants.{Main};
 ghost use Rattle.stabilizer.specs.declared.row.Progress.{Progress as Row};
-ghost use Rattle.stabilizer.specs.Row.{with_stage, with_outcome, with_call, IsRewritten};
+ghost use Rattle.stabilizer.specs.Row.{with_stage, with_outcome, with_call, settled_in, IsRewritten};
 
 use inc_value::{NodeId, Outcome, Part, Point, Value};
+use necessary_graph::Skip;
 use point_map::PointMap;
 use std::marker::Model;
 
@@ -43,6 +44,24 @@ pub(crate) struct Progress {
     pub last: Option<LastCall>,
 }
 
+/// The points that were settled in a round.
+#[derive(Drop)]
+pub(crate) struct Settled<'a> {
+    pub rows: &'a PointMap<Progress>,
+    pub round: u64,
+}
+
+impl<'a> Skip for Settled<'a> {
+    ghost use Rattle.point_map.specs.Rows.{at};
+    ghost use Rattle.stabilizer.specs.Row.{settled_in};
+
+    ghost skipped = { λ s p. settled_in s.round (at s.rows.now p) };
+
+    fn skips(&self, p: Point) -> bool {
+        was_settled(self.rows, p, self.round)
+    }
+}
+
 /// The main of a node.
 pub(crate) fn main_point(node: NodeId) -> Point
     ensures { result ≡ record { node = node; part = Main } }
@@ -62,6 +81,16 @@ pub(crate) fn unsettled() -> Progress
         settled: 0,
         outcome: None,
         last: None,
+    }
+}
+
+/// Whether a point was settled in this round.
+pub(crate) fn was_settled(rows: &PointMap<Progress>, p: Point, round: u64) -> bool
+    ensures { result ≡ settled_in round (at rows.now p) }
+{
+    match rows.get(p) {
+        Some(row) => row.settled == round,
+        None => false,
     }
 }
 

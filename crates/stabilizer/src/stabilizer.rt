@@ -165,7 +165,6 @@ fn step_main<F: Functions>(parts: &mut Parts, functions: &mut F, p: Point) -> Re
     ensures known { KeepsKnown (F.known functions.old) (F.known functions.new) }
     ensures values { SameValues (F.value functions.old) (F.value functions.new) }
 {
-    parts.work.list_readers(p)?;
     let outcome = compute(
         parts.alloc,
         &parts.arena,

@@ -1,17 +1,17 @@
 //! What a stabilize works on beside the nodes: who is needed, how far each point has come, and what is to be done.
-ghost use Rattle.std.specs.Prelude.{◌≡◌, ◌≢◌, ◌↔◌, ◌<◌, [], None, Some, IsTrue, IsFalse, Contains};
+ghost use Rattle.std.specs.Prelude.{◌≡◌, ◌≢◌, ◌↔◌, ◌<◌, [], None, Some, IsTrue, IsFalse};
 ghost use Rattle.std.specs.Prelude.{IfOk, OnOk, OnErr, option_copied, option_and_then, vec_len, vec_capacity};
 ghost use Rattle.inc_value.specs.declared.node.Point.{Point};
 ghost use Rattle.inc_terms.specs.Depend.{main};
 ghost use Rattle.point_map.specs.Rows.{at, Holds, Changes, KeepsRows};
-ghost use Rattle.link_table.specs.Links.{times, Reads};
+ghost use Rattle.link_table.specs.Links.{times};
 ghost use Rattle.recompute_heap.specs.Agree.{IsEmpty};
 ghost use Rattle.necessity.specs.Need.{root_times};
 ghost use Rattle.necessary_graph.specs.Part.{Needed, IsInStep};
-ghost use Rattle.stabilizer.specs.Row.{IsRewritten, with_outcome, settled_in, stage_in, value_in};
+ghost use Rattle.stabilizer.specs.Row.{IsRewritten, with_outcome, stage_in, value_in};
 ghost use Rattle.stabilizer.specs.Wiring.{KeepsGraph, KeepsRound, IsEnqueued, AreEnqueued, IsTold, IsWoken, Looks};
 
-use crate::row::{LastCall, Progress, Stage, main_point, set_outcome, set_stage, shows, unsettled};
+use crate::row::{LastCall, Progress, Settled, Stage, main_point, set_outcome, set_stage, shows, unsettled, was_settled};
 use inc_value::{NodeId, Outcome, Point, Value};
 use necessary_graph::NecessaryGraph;
 use point_map::PointMap;
@@ -26,8 +26,6 @@ pub(crate) struct Work {
     pub rows: PointMap<Progress>,
     /// Points that are newly needed and have no links yet.
     pub todo: Vec<Point>,
-    /// The points that read the one that is being settled.
-    pub readers: Vec<Point>,
     /// The nodes whose functions were called in this round, in order.
     pub ran: Vec<NodeId>,
     /// Whether refusals are final in this round.
@@ -53,7 +51,6 @@ impl Work {
             graph: NecessaryGraph::new(alloc)?,
             rows: PointMap::new(alloc),
             todo: Vec::new(alloc),
-            readers: Vec::new(alloc),
             ran: Vec::new(alloc),
             strict: false,
             round: 1,
@@ -110,16 +107,6 @@ impl Work {
         Some(row.stage)
     }
 
-    /// Whether the point was settled in this round.
-    pub fn is_settled(&self, p: Point) -> bool
-        ensures { result ≡ settled_in self.now.round (at self.now.rows p) }
-    {
-        match self.rows.get(p) {
-            Some(row) => row.settled == self.round,
-            None => false,
-        }
-    }
-
     /// The value that a node shows, if it shows one. A dead node shows none.
     pub fn value_shown(&self, node: NodeId) -> Option<&Value>
         ensures { option_copied result ≡ value_in (at self.now.rows (main node)) }
@@ -144,26 +131,15 @@ impl Work {
         ensures rest { self.new ≡ record self.old { graph = self.new.graph } }
     {
         self.graph.stands();
-        if !self.is_settled(p) {
+        if !was_settled(&self.rows, p, self.round) {
             self.graph.insert(p);
         }
     }
 
-    /// Lists the points that read this one.
-    pub fn list_readers(&mut self, p: Point) -> Result<(), AllocError>
-        ensures listed { OnOk result
-            ((r : Point) → Contains self.new.readers.items r ↔ Reads self.old.graph.links r p) }
-        ensures rest { self.new ≡ record self.old { readers = self.new.readers } }
-    {
-        self.readers.clear();
-        push_readers(&mut self.readers, &self.graph, p)
-    }
-
-    /// Settles a main on an outcome. Where it is another than before, the listed points, which read it, are to be
-    /// recomputed. This takes no memory.
+    /// Settles a main on an outcome. Where it is another than before, the points that read it are to be recomputed.
+    /// This takes no memory.
     pub fn settle(&mut self, p: Point, outcome: Outcome)
         requires there { Holds self.old.rows p }
-        requires needed { (r : Point) → Contains self.old.readers.items r → Needed self.old.graph r }
         ensures row { IsRewritten self.old.rows self.new.rows p (with_outcome outcome self.old.round) }
         ensures graph { KeepsGraph self.old.graph self.new.graph }
         ensures told { IsTold self.old self.new p outcome }
@@ -175,21 +151,22 @@ impl Work {
         let stops = shows(&self.rows, p, &outcome);
         set_outcome(&mut self.rows, p, outcome, self.round);
         if !stops {
-            self.enqueue_readers();
+            self.enqueue_readers(p);
         }
         self.graph.stands();
     }
 
-    /// The listed points are to be recomputed.
-    fn enqueue_readers(&mut self)
-        requires needed { (r : Point) → Contains self.old.readers.items r → Needed self.old.graph r }
-        ensures enqueued { AreEnqueued self.old self.new (Contains self.old.readers.items) }
+    /// The points that read this one are to be recomputed, but for those that were settled.
+    fn enqueue_readers(&mut self, p: Point)
+        ensures enqueued { AreEnqueued self.old self.new p }
         ensures rest { self.new ≡ record self.old { graph = self.new.graph } }
     {
-        for i in 0..self.readers.len() {
-            let reader = self.readers[i];
-            self.enqueue(reader);
-        }
+        self.graph.stands();
+        let settled = Settled {
+            rows: &self.rows,
+            round: self.round,
+        };
+        self.graph.insert_readers(p, &settled);
     }
 
     /// A point that wasn't needed before is to have its links and to be recomputed. One of a dead node has none.
@@ -252,21 +229,9 @@ impl Work {
         ensures graph { self.new.graph ≡ self.old.graph }
         ensures rows { self.new.rows ≡ self.old.rows }
         ensures todo { self.new.todo ≡ self.old.todo }
-        ensures readers { self.new.readers ≡ self.old.readers }
     {
         self.ran.clear();
         self.strict = false;
         self.round = next;
     }
-}
-
-/// Lists the points that read this one.
-fn push_readers(list: &mut Vec<Point>, graph: &NecessaryGraph, p: Point) -> Result<(), AllocError>
-    requires empty { list.old.items ≡ [] }
-    ensures { OnOk result ((r : Point) → Contains list.new.items r ↔ Reads graph.now.links r p) }
-{
-    for reader in graph.readers(p) {
-        list.push(reader)?;
-    }
-    Ok(())
 }
