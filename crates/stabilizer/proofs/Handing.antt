@@ -293,17 +293,25 @@ handed_first arena p d top old new kept need bare w graph round listed = record 
   pushed = λ points covers. rw (graph, listed) (omega arith);
 }
 
--- at last: it is owed nothing
-pub handed_last : (arena : Arena) (p : Point) (d : declared.Def) (top : IsTop arena p d) (old new : Work) (ns : List NodeId) (i : ℕ)
-    → IsHanded arena old new p (map main (drop i ns)) → length ns ≤ i → Wires arena old new (Some (hand p []))
-handed_last arena p d top old new ns i so end = finished_hands arena p d top old new so.full
-    (subst (λ (xs : List NodeId). HandsOn arena old new p (map main xs)) (drop_none ns i end) so.hands)
+-- after the last of a list nothing is owed
+pub handed_all : (arena : Arena) (p : Point) (old new : Work) (ns : List NodeId) (i : ℕ)
+    → IsHanded arena old new p (map main (drop i ns)) → length ns ≤ i → IsHanded arena old new p []
+handed_all arena p old new ns i so end = subst (λ (xs : List NodeId). IsHanded arena old new p (map main xs)) (drop_none ns i end) so
   where
     drop_none : (ns : List NodeId) (i : ℕ) → length ns ≤ i → drop i ns ≡ []
     drop_none [] zero end = refl
     drop_none [] (suc i) end = refl
     drop_none (n ∷ ns) zero end = absurd (omega (arith, end))
     drop_none (n ∷ ns) (suc i) end = drop_none ns i (omega (arith, end))
+
+-- at last: it is owed nothing
+pub handed_last : (arena : Arena) (p : Point) (d : declared.Def) (top : IsTop arena p d) (old new : Work) → IsHanded arena old new p []
+    → Wires arena old new (Some (hand p []))
+handed_last arena p d top old new so = finished_hands arena p d top old new so.full so.hands
+
+-- a point in no scope has no gate
+pub no_gate : (q : Point) (scope : Option NodeId) → scope ≡ None → ◌≡◌ {A = Option Point} (Some q) (option_map change scope) → ⊥
+no_gate q scope top e = none-some q (sym (ap (option_map change) top) ∙ sym e)
 
 -- a link was tried
 pub record IsTried (mid new : Work) (p q : Point) : Type 0 where

@@ -1,7 +1,7 @@
 //! How far a point has come.
 ghost use Rattle.std.specs.Prelude.{◌≡◌, ◌↔◌, None, Some, IsTrue};
 ghost use Rattle.point_map.specs.Rows.{at, Holds};
-ghost use Rattle.inc_value.specs.declared.node.Part.TheVariants.{Main};
+ghost use Rattle.inc_value.specs.declared.node.Part.TheVariants.{Change, Main};
 ghost use Rattle.stabilizer.specs.declared.row.Progress.{Progress as Row};
 ghost use Rattle.stabilizer.specs.Row.{with_stage, with_outcome, with_call, settled_in, IsRewritten};
 
@@ -10,7 +10,8 @@ use necessary_graph::Skip;
 use point_map::PointMap;
 use std::marker::Model;
 
-/// Which links a needed point has.
+/// Which links a needed point has. Scopes and nodes of two points will add stages between these: with its gate's link
+/// alone, until the gate ran, and with all but right sides, until the node's change did.
 #[derive(Clone, Copy, Debug, PartialEq, Eq)]
 pub(crate) enum Stage {
     /// None yet.
@@ -69,6 +70,16 @@ pub(crate) fn main_point(node: NodeId) -> Point
     Point {
         node,
         part: Part::Main,
+    }
+}
+
+/// The change of a node of two points.
+pub(crate) fn change_point(node: NodeId) -> Point
+    ensures { result ≡ record { node = node; part = Change } }
+{
+    Point {
+        node,
+        part: Part::Change,
     }
 }
 

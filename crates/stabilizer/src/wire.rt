@@ -1,8 +1,14 @@
 //! Roots and links for what is newly needed.
 ghost use Rattle.std.specs.Prelude.{◌≡◌, ◌≢◌, ◌↔◌, ◌<◌, [], None, Some, IsTrue, IsFalse, vec_len, vec_capacity};
-ghost use Rattle.std.specs.Prelude.{IfOk, IfErr, OnOk, OnErr};
+ghost use Rattle.std.specs.Prelude.{IfOk, IfErr, OnOk, OnErr, Option, option_map, map};
+ghost use Rattle.inc_value.specs.declared.node.NodeId.{NodeId};
+ghost use Rattle.inc_value.specs.declared.outcome.Outcome.{Outcome};
 ghost use Rattle.inc_value.specs.declared.node.Point.{Point};
 ghost use Rattle.inc_value.specs.declared.node.Part.TheVariants.{Main};
+ghost use Rattle.inc_terms.specs.Code.{def_of};
+ghost use Rattle.inc_terms.specs.Depend.{change, main};
+ghost use Rattle.inc_terms.specs.Graph.{Graph};
+ghost use Rattle.inc_terms.specs.Plan.{targets as right_sides};
 ghost use Rattle.inc_terms.specs.Within.{Given};
 ghost use Rattle.necessity.specs.Need.{OneRootMore, root_times};
 ghost use Rattle.point_map.specs.Rows.{at, Holds, KeepsRows};
@@ -16,11 +22,12 @@ ghost use Rattle.stabilizer.specs.Stands.{hand};
 ghost use Rattle.stabilizer.specs.Wiring.{Connects, ConnectRefused, Wires, WireRefused, KeepsNeed, IsWoken, Looks};
 
 use crate::refused::Refused;
-use crate::row::{Stage, main_point, set_stage};
+use crate::row::{Stage, change_point, main_point, set_stage};
 use crate::work::Work;
-use inc_value::Point;
+use inc_terms::Def;
+use inc_value::{NodeId, Point};
 use necessary_graph::LinkFault;
-use node_arena::Arena;
+use node_arena::{Arena, Row};
 use std::alloc::AllocError;
 
 impl Work {
@@ -89,8 +96,18 @@ impl Work {
         let Some(row) = arena.get(p.node) else {
             return Ok(());
         };
+        if let Some(gate) = gate(row) {
+            if !self.connect(p, gate)? {
+                return Ok(());
+            }
+        }
         for kid in row.def.kids() {
             if !self.connect(p, main_point(*kid))? {
+                return Ok(());
+            }
+        }
+        for target in targets(&row.def) {
+            if !self.connect(p, main_point(*target))? {
                 return Ok(());
             }
         }
@@ -179,5 +196,24 @@ impl Work {
                 }
             }
         }
+    }
+}
+
+/// The change point of the scope in which the node stands. None at top level.
+fn gate(row: &Row) -> Option<Point>
+    ensures { result ≡ option_map change row.now.scope }
+{
+    row.scope.map(change_point)
+}
+
+/// The right sides of a node of two points, whatever its change gave. Each definition of today makes a node of one
+/// point, which has none.
+fn targets(def: &Def) -> &[NodeId]
+    ensures right { (graph : Graph) (n : NodeId) (given : Option Outcome)
+        → map main result.now ≡ right_sides graph n (def_of def.now) given }
+    ensures none { result.now ≡ [] }
+{
+    match def {
+        Def::Const(_) | Def::Var(_) | Def::Map(_, _) => &[],
     }
 }
