@@ -7,7 +7,7 @@ use Rattle.inc_value.specs.Choice.{and_then}
 use Rattle.inc_value.specs.declared.node.NodeId.{NodeId}
 use Rattle.inc_terms.specs.Graph.{Row}
 use Rattle.node_arena.specs.declared.arena.Entry.{Entry}
-use Rattle.node_arena.specs.Arena.{Arena, row_at, row_of}
+use Rattle.node_arena.specs.Arena.{Arena, row_at, row_of, Changes}
 
 pub decided : (r : Bool) (P : Type 0) → Decides r P → P ⊎ (P → ⊥)
 decided true P d = inl (d.0 refl)
@@ -74,6 +74,14 @@ module _ (a a' : Arena) (key : ℕ) (others : (other : ℕ) → other ≢ key �
         ]
     | inr other ↦ inr (elsewhere n other)
   ]
+
+  -- one id has the new row, and every other id what it had
+  pub grown_changes : (e : Entry) → slice_index_or a.slots key None ≡ None → slice_index_or a'.slots key None ≡ Some e
+      → (id : NodeId) → id.slot ≡ key → id.gen_ ≡ e.gen_ → Changes a a' id (Some (row_of e.row))
+  grown_changes e was is id slot gen = record {
+    changed = ap (λ (o : Option Entry). row_in o id.gen_) (ap (λ (s : ℕ). slice_index_or a'.slots s None) slot ∙ is) ∙ told e id.gen_ (sym gen);
+    others = λ n ne. elim (grown e was is n) [ inl h ↦ absurd (ne (h.0 ∙ sym (same_id id key e.gen_ slot gen))) | inr h ↦ h ];
+  }
 
   -- every id has what it had, or nothing
   pub shrunk : slice_index_or a'.slots key None ≡ None → (n : NodeId) → (row_at a' n ≡ row_at a n) ⊎ (row_at a' n ≡ None)

@@ -1,5 +1,5 @@
 -- The type that a definition makes of its children and values.
-use Rattle.std.specs.Prelude.{◌≡◌, List, IfSome}
+use Rattle.std.specs.Prelude.{◌≡◌, ◌<◌, ◌-◌, ◌^◌, List, IfSome}
 use Rattle.std.specs.List.{AllZip}
 use Rattle.inc_value.specs.Value.{type_of}
 use Rattle.inc_value.specs.declared.function.FnKind.TheVariants as kind
@@ -12,7 +12,7 @@ use Rattle.inc_value.specs.declared.ty.Ty.TheVariants as ty
 use Rattle.inc_value.specs.declared.value.Value.{Value}
 use Rattle.inc_value.specs.declared.value.Value.TheVariants.{Node}
 use Rattle.inc_terms.specs.Graph.{Row, Def, Const, Var, Map}
-use Rattle.node_arena.specs.Arena.{Arena, row_at}
+use Rattle.node_arena.specs.Arena.{Arena, row_at, live, NamesGiven}
 
 -- the type that a base type is
 abbrev pub ty_of : Base → Ty
@@ -50,3 +50,10 @@ Makes a (Const v) t = HasType a v t
 Makes a (Var v) t = HasType a v t
 Makes a (Map f kids) t = MapMakes a f kids t
 Makes a def t = ⊥
+
+-- a node of this definition and type can be added, where there is memory
+pub record IsAddable (a : Arena) (def : Def) (t : Ty) : Type 0 where
+  pub names : NamesGiven a.given def
+  pub types : Makes a def t
+  pub few : live a < 1048576
+  pub count : a.given < 2 ^ 64 - 1

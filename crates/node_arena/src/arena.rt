@@ -5,7 +5,7 @@ ghost use Rattle.inc_terms.specs.Code.{def_of};
 ghost use Rattle.inc_terms.specs.Within.{Given};
 ghost use Rattle.node_arena.specs.Arena.{row_of, row_at, live, IsLive, IsFull, Changes, NamesGiven};
 ghost use Rattle.node_arena.specs.Sound.{IsSound, IsFirstSince};
-ghost use Rattle.node_arena.specs.Typing.{Makes};
+ghost use Rattle.node_arena.specs.Typing.{Makes, IsAddable};
 
 mod graph;
 mod order;
@@ -123,6 +123,28 @@ impl Arena {
         self.given
     }
 
+    /// Whether such a node can be added, whatever memory there is. What is looked at comes in the order of the faults.
+    pub fn admits(&self, def: &Def, ty: Ty) -> Result<(), AddFault>
+        ensures fits { OnOk result (IsAddable self.now (def_of def.now) ty) }
+        ensures unknown { IsErrOf result AddFault.Unknown ↔ ¬ NamesGiven self.now.given (def_of def.now) }
+        ensures wrong_type { IsErrOf result AddFault.WrongType
+            ↔ (NamesGiven self.now.given (def_of def.now) × ¬ Makes self.now (def_of def.now) ty) }
+        ensures full { IsErrOf result AddFault.Full
+            ↔ (NamesGiven self.now.given (def_of def.now) × Makes self.now (def_of def.now) ty × IsFull self.now) }
+        ensures memory { ¬ IsErrOf result AddFault.Memory }
+    {
+        if !names_given(self.given, def) {
+            return Err(AddFault::Unknown);
+        }
+        if !makes(self, def, ty) {
+            return Err(AddFault::WrongType);
+        }
+        if self.nodes.len() >= MAX_LIVE || self.given == u64::MAX {
+            return Err(AddFault::Full);
+        }
+        Ok(())
+    }
+
     /// Adds a node of values of type `ty`, and gives its id. What is looked at comes in the order
     /// of the faults; a refused call leaves the arena as it was.
     pub fn add(&mut self, def: Def, ty: Ty, scope: Option<NodeId>) -> Result<NodeId, AddFault>
@@ -142,45 +164,50 @@ impl Arena {
             ↔ (NamesGiven self.old.given (def_of def) × Makes self.old (def_of def) ty × IsFull self.old) }
         ensures err { OnErr result (self.new ≡ self.old) }
     {
-        if !names_given(self.given, &def) {
-            return Err(AddFault::Unknown);
+        self.admits(&def, ty)?;
+        let id = self.next_id();
+        match self.insert(id, Row { def, ty, scope }) {
+            Ok(()) => Ok(id),
+            Err(AllocError) => Err(AddFault::Memory),
         }
-        if !makes(self, &def, ty) {
-            return Err(AddFault::WrongType);
-        }
-        if self.nodes.len() >= MAX_LIVE || self.given == u64::MAX {
-            return Err(AddFault::Full);
-        }
-        self.insert(Row { def, ty, scope })
-            .map_err(|_| AddFault::Memory)
     }
 
-    /// Puts the row into a free slot, under the next generation.
-    fn insert(&mut self, row: Row) -> Result<NodeId, AllocError>
-        requires names { NamesGiven self.old.given (def_of row.def) }
-        requires types { Makes self.old (def_of row.def) row.ty }
+    /// The id that the next node gets.
+    pub fn next_id(&self) -> NodeId
+        ensures generation { result.gen_ ≡ self.now.given }
+        ensures fresh { row_at self.now result ≡ None }
+    {
+        NodeId {
+            slot: self.nodes.vacant_key(),
+            gen_: self.given,
+        }
+    }
+
+    /// Adds a node that can be added, under the id that [`next_id`](Arena::next_id) gives. Without memory, or under
+    /// another id, the arena stays as it was.
+    pub fn insert(&mut self, id: NodeId, row: Row) -> Result<(), AllocError>
+        requires fits { IsAddable self.old (def_of row.def) row.ty }
         requires scope { IfSome row.scope (Given self.old.given) }
-        requires few { live self.old < 1048576 }
-        requires count { self.old.given < 2 ^ 64 - 1 }
-        ensures id { IfOk result (λ id. id.gen_ ≡ self.old.given) }
-        ensures slot { IfOk result (λ id. id.slot < 1048576) }
-        ensures fresh { IfOk result (λ id. row_at self.old id ≡ None) }
-        ensures added { IfOk result (λ id. Changes self.old self.new id (Some (row_of row))) }
+        ensures id { OnOk result (id.gen_ ≡ self.old.given) }
+        ensures slot { OnOk result (id.slot < 1048576) }
+        ensures fresh { OnOk result (row_at self.old id ≡ None) }
+        ensures added { OnOk result (Changes self.old self.new id (Some (row_of row))) }
+        ensures keeps { (n : NodeId) → Given self.old.given n → row_at self.new n ≡ row_at self.old n }
         ensures live { OnOk result (live self.new ≡ live self.old + 1) }
         ensures given { OnOk result (self.new.given ≡ self.old.given + 1) }
         ensures err { OnErr result (self.new ≡ self.old) }
     {
         // The slab uses free slots first, so the slot is below; its contract doesn't say so.
-        if self.nodes.vacant_key() >= MAX_LIVE {
+        let next = self.nodes.vacant_key();
+        if next >= MAX_LIVE || id.slot != next || id.gen_ != self.given {
             return Err(AllocError);
         }
         make_room(&self.nodes, &mut self.order)?;
         let gen_ = self.given;
         let slot = self.nodes.insert(Entry { gen_, row })?;
-        let id = NodeId { slot, gen_ };
-        self.order.push_reserved(id);
+        self.order.push_reserved(NodeId { slot, gen_ });
         self.given += 1;
-        Ok(id)
+        Ok(())
     }
 
     /// Drops a live node. Its id is never given again.
