@@ -20,7 +20,6 @@ use Rattle.node_arena.specs.declared.arena.AddFault.TheVariants as add
 use Rattle.node_arena.specs.Arena.{Arena, row_at, Changes, IsSet, NamesGiven}
 use Rattle.node_arena.specs.Graph.{AllCallFit, CallsFit}
 use Rattle.stabilize_round.proofs.Points.{node_or_other}
-use Rattle.stabilizer.specs.Between.{IsTakenBack}
 use Rattle.stabilizer.specs.Meaning.{functions_of, lists_none}
 use Rattle.stabilizer.specs.Round.{IsReady}
 use Rattle.stabilizer.specs.declared.parts.Parts.{Parts}
@@ -90,7 +89,7 @@ known_fits known a ty count def k m = absurd m
 pub record AddAnswers (old new : Arena) (def : Def) (ty : Ty) (result : Result NodeId AddFault) : Type 0 where
   pub added : IfOk result (λ (id : NodeId). Changes old new id (Some (record { def = def; ty = ty; scope = None })))
   pub given : OnOk result (new.given ≡ old.given + 1)
-  pub err : IfErr result (λ (e : AddFault). (new ≡ old) ⊎ ((e ≡ add.Memory) × IsTakenBack old new))
+  pub err : OnErr result (new ≡ old)
   pub fresh : IfOk result (λ (id : NodeId). id.gen_ ≡ old.given)
   pub unknown : (¬ NamesGiven old.given def) → IsErrOf result add.Unknown
 
@@ -101,10 +100,7 @@ below_or_not (suc m) (suc n) = elim (below_or_not m n) [ inl h ↦ inl (omega (a
 
 pub answer_given : (old new : Arena) (def : Def) (ty : Ty) (result : Result NodeId AddFault) → AddAnswers old new def ty result → old.given ≤ new.given
 answer_given old new def ty (Ok id) a = let g = a.given in omega (arith, g)
-answer_given old new def ty (Err e) a = elim a.err [
-  | inl same ↦ let g = ap (λ (x : Arena). x.given) same in omega (arith, g)
-  | inr back ↦ let g = back.1.given in omega (arith, g)
-]
+answer_given old new def ty (Err e) a = let g = ap (λ (x : Arena). x.given) a.err in omega (arith, g)
 
 same_row : {x y : Row} → ◌≡◌ {A = Option Row} (Some x) (Some y) → x ≡ y
 same_row e = cc
@@ -117,14 +113,7 @@ answer_fits known old new def ty (Ok id) a calls sound fit = λ n r is. elim (no
       (known_fits known new ty new.given def calls (sound.types id (record { def = def; ty = ty; scope = None }) a.added.changed))
   | inr ne ↦ calls_fit_as known known (itself known) old.given new.given r.def (fit n r (sym (a.added.others n (λ k. ne (sym k))) ∙ is))
 ]
-answer_fits known old new def ty (Err e) a calls sound fit = elim a.err [
-  | inl same ↦ subst (λ (x : Arena). AllCallFit known lists_none x) (sym same) fit
-  | inr back ↦ rows_fit known known old new (itself known) back.1.rows fit
-]
-
--- every id keeps its row
-pub rows_older : (old new : Arena) → ((n : NodeId) → row_at new n ≡ row_at old n) → ReadOlder old → ReadOlder new
-rows_older old new rows older n m r is = older n m r (sym (rows n) ∙ is)
+answer_fits known old new def ty (Err e) a calls sound fit = subst (λ (x : Arena). AllCallFit known lists_none x) (sym a.err) fit
 
 every_among : (P : NodeId → Type 0) (ns : List NodeId) (m : NodeId) → Every P ns → Among m ns → P m
 every_among P [] m all h = absurd h
@@ -157,10 +146,7 @@ answer_older old new def ty (Ok id) a older = λ n m r is h. elim (node_or_other
       (added_older old def id a.fresh a.unknown m (subst (λ (x : Row). Among m (graph.kids x.def)) (sym row) h))
   | inr ne ↦ older n m r (sym (a.added.others n (λ k. ne (sym k))) ∙ is) h
 ]
-answer_older old new def ty (Err e) a older = elim a.err [
-  | inl same ↦ subst ReadOlder (sym same) older
-  | inr back ↦ rows_older old new back.1.rows older
-]
+answer_older old new def ty (Err e) a older = subst ReadOlder (sym a.err) older
 
 -- ---- a variable is set, or not
 

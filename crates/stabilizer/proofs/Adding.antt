@@ -1,4 +1,4 @@
--- A node is added, or added and dropped again.
+-- A node is added, or its point added and dropped again.
 use Rattle.std.proofs.Common.{◌≡◌, ◌≢◌, inl, inr, ℕ, ◌+◌, Option, None, Some, refl, sym, ap, subst, ◌∙◌, arith}
 use Rattle.std.specs.Prelude.{is_some}
 use Rattle.std.proofs.lemmas.Option.{none-some}
@@ -6,14 +6,14 @@ use Rattle.inc_value.specs.declared.node.NodeId.{NodeId}
 use Rattle.inc_value.specs.declared.node.Point.{Point}
 use Rattle.inc_terms.specs.Depend.{main}
 use Rattle.inc_terms.specs.Graph.{Row}
-use Rattle.point_map.specs.Rows.{at, Holds, Changes}
+use Rattle.point_map.specs.Rows.{Rows, at, Holds, Changes}
 use Rattle.point_map.proofs.Places.{point_cases}
 use Rattle.link_table.specs.Links.{Links, times, Reads}
 use Rattle.necessary_graph.specs.Part.{Needed, IsInStep}
 use Rattle.node_arena.specs.Arena as nodes
 use Rattle.node_arena.specs.Arena.{Arena, row_at}
 use Rattle.stabilize_round.proofs.Points.{node_or_other}
-use Rattle.stabilizer.specs.Between.{Stays, KeepsWork, IsTakenBack}
+use Rattle.stabilizer.specs.Between.{Stays, KeepsWork}
 use Rattle.stabilizer.specs.Kept.{IsKept}
 use Rattle.stabilizer.specs.Wiring.{KeepsRound}
 use Rattle.stabilizer.specs.declared.row.Progress.{Progress}
@@ -134,47 +134,66 @@ module _ (before arena : Arena) (old work : Work) (id : NodeId) (row : Row) (kep
     todo = todo;
   }
 
--- ---- added and dropped again
+-- ---- all stays
 
-pub taken_back : (before between arena : Arena) (id : NodeId) (row : Row) → row_at before id ≡ None → nodes.Changes before between id (Some row)
-    → nodes.Changes between arena id None → nodes.live between ≡ nodes.live before + 1 → nodes.live arena + 1 ≡ nodes.live between
-    → between.given ≡ before.given + 1 → arena.given ≡ between.given → IsTakenBack before arena
-taken_back before between arena id row fresh added dropped one_more one_less more still = record {
-  rows = λ n. elim (node_or_other n id) [
-    | inl is ↦ rw is (dropped.changed ∙ sym fresh)
-    | inr ne ↦ dropped.others n ne ∙ added.others n ne
-  ];
-  live = omega (arith, one_more, one_less);
-  given = still ∙ more;
-}
-
-module _ (before arena : Arena) (old work : Work) (kept : IsKept before old) (back : IsTakenBack before arena) (same : KeepsWork old work)
-    (step : IsInStep work.graph) where
+module _ (arena : Arena) (old work : Work) (kept : IsKept arena old) (same : KeepsWork old work) (step : IsInStep work.graph) where
   pub back_kept : IsKept arena work
   back_kept = record {
     step = step;
-    rows = λ n. ap is_some (same.rows (main n)) ∙ (kept.rows n ∙ sym (ap is_some (back.rows n)));
+    rows = λ n. ap is_some (same.rows (main n)) ∙ kept.rows n;
     row_mains = λ p h. kept.row_mains p (ap is_some (sym (same.rows p)) ∙ h);
     mains = λ p h. kept.mains p (ap is_some (sym (same.points p)) ∙ h);
     there = λ p h. ap is_some (same.points p) ∙ kept.there p (ap is_some (sym (same.rows p)) ∙ h);
-    given = λ p h. let g = kept.given p (ap is_some (sym (same.points p)) ∙ h) in let more = back.given in omega (arith, g, more);
+    given = λ p h. kept.given p (ap is_some (sym (same.points p)) ∙ h);
     links = λ p q l. ap is_some (same.rows p) ∙ kept.links p q (subst (λ (x : Links). Reads x p q) same.links l);
     heap = λ p h. ap is_some (same.rows p) ∙ kept.heap p (ap is_some (sym (same.heap p)) ∙ h);
-    flat = λ n r e. kept.flat n r (sym (back.rows n) ∙ e);
-    outcomes = λ n r k v e is shows. kept.outcomes n r k v (sym (back.rows n) ∙ e) (sym (same.rows (main n)) ∙ is) shows;
-    calls = λ n r k c e is last. kept.calls n r k c (sym (back.rows n) ∙ e) (sym (same.rows (main n)) ∙ is) last;
+    flat = kept.flat;
+    outcomes = λ n r k v e is shows. kept.outcomes n r k v e (sym (same.rows (main n)) ∙ is) shows;
+    calls = λ n r k c e is last. kept.calls n r k c e (sym (same.rows (main n)) ∙ is) last;
     rounds = λ p k e. rw same.round.round (kept.rounds p k (sym (same.rows p) ∙ e));
   }
 
-  pub back_stays : Stays before arena old work
+  pub back_stays : Stays arena arena old work
   back_stays = record {
     needed = λ p n. need_same work.graph old.graph (sym same.links) (sym same.roots) p n;
     links = λ p q n. ap (λ (x : Links). times x p q) same.links;
     heap = λ p n h. ap is_some (same.heap p) ∙ h;
     rows = λ p n. same.rows p;
-    nodes = λ n r need e. inl (sym (back.rows n) ∙ e);
-    calls = λ n r f ns k c e def is last. (sym (back.rows n) ∙ e, sym (same.rows (main n)) ∙ is);
+    nodes = λ n r need e. inl e;
+    calls = λ n r f ns k c e def is last. (e, sym (same.rows (main n)) ∙ is);
     unsettled = λ p k e. inl (sym (same.rows p) ∙ e);
     round = same.round;
     todo = same.todo;
+  }
+
+-- ---- added and dropped again
+
+-- a row that came and went leaves all rows
+came_and_went : {R : Type 0} (old mid new : Rows R) (p : Point) (row : R) → at old p ≡ None → Changes old mid p (Some row) → Changes mid new p None
+    → (q : Point) → at new q ≡ at old q
+came_and_went old mid new p row none came went q = elim (point_cases q p) [
+  | inl is ↦ rw is (went.changed ∙ sym none)
+  | inr ne ↦ went.others q ne ∙ came.others q ne
+]
+
+module _ (arena : Arena) (old mid : Work) (id : NodeId) (kept : IsKept arena old) (gen : id.gen_ ≡ arena.given)
+    (rows : Changes old.rows mid.rows (main id) (Some unsettled)) (points : Changes old.graph.heights mid.graph.heights (main id) (Some 0))
+    (links : mid.graph.links ≡ old.graph.links) (roots : mid.graph.roots ≡ old.graph.roots)
+    (heap : (p : Point) → at mid.graph.heap p ≡ at old.graph.heap p) (round : KeepsRound old mid) (todo : mid.todo.items ≡ old.todo.items) where
+  -- a new point isn't needed
+  pub new_unneeded : Needed mid.graph (main id) → ⊥
+  new_unneeded n = other_point arena old id kept gen (main id)
+      (kept.step.there (main id) (need_same mid.graph old.graph (sym links) (sym roots) (main id) n)) refl
+
+  pub dropped_again : (work : Work) → Changes mid.rows work.rows (main id) None → Changes mid.graph.heights work.graph.heights (main id) None
+      → work.graph.links ≡ mid.graph.links → work.graph.roots ≡ mid.graph.roots → work.graph.heap ≡ mid.graph.heap → KeepsRound mid work
+      → work.todo.items ≡ mid.todo.items → KeepsWork old work
+  dropped_again work rows' points' links' roots' heap' round' todo' = record {
+    rows = came_and_went old.rows mid.rows work.rows (main id) unsettled (no_row arena old id kept gen) rows rows';
+    points = came_and_went old.graph.heights mid.graph.heights work.graph.heights (main id) 0 (absent arena old id kept gen) points points';
+    links = links' ∙ links;
+    roots = roots' ∙ roots;
+    heap = λ p. ap (λ (h : Rows ℕ). at h p) heap' ∙ heap p;
+    todo = todo' ∙ todo;
+    round = record { ran = round'.ran ∙ round.ran; strict = round'.strict ∙ round.strict; round = round'.round ∙ round.round };
   }

@@ -53,16 +53,6 @@ pub record IsBetween (F : Functions) (arena : Arena) (work : Work) : Type 0 wher
   pub todo : work.todo.items ≡ []
   pub ran : work.ran.items ≡ []
 
--- every id keeps its row
-abbrev pub KeepsNodes : Arena → Arena → Type 0
-KeepsNodes old new = (n : NodeId) → row_at new n ≡ row_at old n
-
--- a node was added and dropped again: every id keeps its row, and one id more was given
-pub record IsTakenBack (old new : Arena) : Type 0 where
-  pub rows : KeepsNodes old new
-  pub live : live new ≡ live old
-  pub given : new.given ≡ old.given + 1
-
 -- of what is kept beside the nodes all stays
 pub record KeepsWork (old new : Work) : Type 0 where
   pub rows : KeepsRows old.rows new.rows

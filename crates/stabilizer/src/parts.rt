@@ -13,7 +13,7 @@ ghost use Rattle.necessary_graph.specs.Part.{web, Needed, IsInStep};
 ghost use Rattle.necessary_graph.specs.Sweep.{IsUnrooted};
 ghost use Rattle.node_arena.specs.Arena.{row_at, live, IsLive, Changes, NamesGiven, IsFull, IsVariable, IsSet};
 ghost use Rattle.node_arena.specs.Typing.{Makes, FitsNode};
-ghost use Rattle.stabilizer.specs.Between.{KeepsWork, IsTakenBack, IsMarked, outcome_in};
+ghost use Rattle.stabilizer.specs.Between.{KeepsWork, IsMarked, outcome_in};
 ghost use Rattle.stabilizer.specs.Kept.{IsKept};
 ghost use Rattle.stabilizer.specs.Round.{IsReady, AreRooted};
 
@@ -22,7 +22,7 @@ use crate::work::Work;
 use inc_terms::Def;
 use inc_value::{NodeId, Outcome, Point, Ty, Value};
 use necessary_graph::NecessaryGraph;
-use node_arena::{AddFault, Arena, SetFault};
+use node_arena::{AddFault, Arena, Row, SetFault};
 use std::alloc::{AllocError, Global};
 
 /// The nodes of a graph with all that a stabilizer keeps of them.
@@ -63,8 +63,7 @@ impl Parts {
     }
 
     /// Adds a node outside any scope, with all memory that a round takes for it but for links and calls. What is
-    /// looked at comes in the order of the faults. A refused call leaves all nodes and all that is kept of them;
-    /// without memory an id may be used up.
+    /// looked at comes in the order of the faults. A refused call leaves all nodes and all that is kept of them.
     pub fn add(&mut self, def: Def, ty: Ty) -> Result<NodeId, AddFault>
         requires kept { IsKept self.old.arena self.old.work }
         ensures id { IfOk result (λ id. id.gen_ ≡ self.old.arena.given) }
@@ -82,8 +81,7 @@ impl Parts {
         ensures full { IsErrOf result AddFault.Full
             ↔ (NamesGiven self.old.arena.given (def_of def) × Makes self.old.arena (def_of def) ty
             × IsFull self.old.arena) }
-        ensures err { IfErr result (λ e. (self.new.arena ≡ self.old.arena)
-            ⊎ ((e ≡ AddFault.Memory) × IsTakenBack self.old.arena self.new.arena)) }
+        ensures err { OnErr result (self.new.arena ≡ self.old.arena) }
         ensures err_work { OnErr result (KeepsWork self.old.work self.new.work) }
         ensures row { IfOk result (λ id. points.Changes self.old.work.rows self.new.work.rows (main id)
             (Some (record { stage = Stage.Bare; settled = 0; outcome = None; last = None }))) }
@@ -99,13 +97,23 @@ impl Parts {
         ensures ready { (F : Functions) → IsReady F self.old.arena self.old.work
             → IsReady F self.new.arena self.new.work }
     {
-        let id = self.arena.add(def, ty, None)?;
+        self.arena.admits(&def, ty)?;
+        let id = self.arena.next_id();
         let added = self.work.add(main_point(id));
         self.work.graph.stands();
         match added {
+            Ok(()) => {}
+            Err(AllocError) => return Err(AddFault::Memory),
+        }
+        let row = Row {
+            def,
+            ty,
+            scope: None,
+        };
+        match self.arena.insert(id, row) {
             Ok(()) => Ok(id),
             Err(AllocError) => {
-                self.arena.drop_node(id);
+                self.work.drop_point(main_point(id));
                 Err(AddFault::Memory)
             }
         }

@@ -1,70 +1,100 @@
-use Rattle.std.proofs.Common.{Some, inr, refl, subst}
+use Rattle.std.proofs.Common.{None, Some, refl, sym, subst}
 use Rattle.inc_value.specs.declared.node.Point.{Point}
 use Rattle.inc_terms.specs.Depend.{main}
 use Rattle.point_map.specs.Rows.{Changes}
-use Rattle.stabilizer.specs.Between.{Stays, KeepsWork, IsTakenBack}
+use Rattle.node_arena.specs.Arena.{Arena}
+use Rattle.stabilizer.specs.Between.{Stays, KeepsWork}
 use Rattle.stabilizer.specs.Kept.{IsKept}
 use Rattle.stabilizer.specs.declared.work.Work.{Work}
 use Rattle.stabilizer.proofs.Between.{ready_stays, same_todo}
-use Rattle.stabilizer.proofs.Adding.{unsettled, added_kept, added_stays, taken_back, back_kept, back_stays}
+use Rattle.stabilizer.proofs.Adding.{unsettled, added_kept, added_stays, back_kept, back_stays, dropped_again}
 use Rattle.stabilizer.proofs.parts.Parts.add.Goals as goal
 
-module _ (c : goal.In-Ok) where
+-- ---- no memory for what is kept of it
+
+pub returns-in-Err-clause-kept : goal.returns-in-Err-clause-kept
+returns-in-Err-clause-kept c =
+    let same : KeepsWork c.args.self.now.work c.add-added.new.self = record {
+      rows = c.in-Err.ensures.err;
+      points = c.in-Err.ensures.err_heights;
+      links = c.in-Err.ensures.links;
+      roots = c.in-Err.ensures.roots;
+      heap = c.in-Err.ensures.heap;
+      todo = same_todo c.args.self.now.work c.add-added.new.self c.in-Err.ensures.todo;
+      round = c.in-Err.ensures.round;
+    } in
+    back_kept c.args.self.now.arena c.args.self.now.work c.add-added.new.self c.requires.kept same c.stands.ensures
+
+pub returns-in-Err-clause-ready : goal.returns-in-Err-clause-ready
+returns-in-Err-clause-ready c F ready =
+    let same : KeepsWork c.args.self.now.work c.add-added.new.self = record {
+      rows = c.in-Err.ensures.err;
+      points = c.in-Err.ensures.err_heights;
+      links = c.in-Err.ensures.links;
+      roots = c.in-Err.ensures.roots;
+      heap = c.in-Err.ensures.heap;
+      todo = same_todo c.args.self.now.work c.add-added.new.self c.in-Err.ensures.todo;
+      round = c.in-Err.ensures.round;
+    } in
+    ready_stays F _ _ _ _ ready
+    (back_kept c.args.self.now.arena c.args.self.now.work c.add-added.new.self c.requires.kept same c.stands.ensures)
+    (back_stays c.args.self.now.arena c.args.self.now.work c.add-added.new.self c.requires.kept same c.stands.ensures)
+
+-- ---- its point was added
+
+module _ (c : goal.In-Ok-insert) where
   abbrev old : Work
   old = c.args.self.now.work
 
   abbrev work : Work
   work = c.add-added.new.self
 
-  row : Changes old.rows work.rows (main c.in_ok-id.id) (Some unsettled)
+  row : Changes old.rows work.rows (main c.next_id-id.result) (Some unsettled)
   row = subst (λ (p : Point). Changes old.rows work.rows p (Some unsettled)) c.main_point.ensures c.in-Ok.ensures.row
 
-  point : Changes old.graph.heights work.graph.heights (main c.in_ok-id.id) (Some 0)
+  point : Changes old.graph.heights work.graph.heights (main c.next_id-id.result) (Some 0)
   point = subst (λ (p : Point). Changes old.graph.heights work.graph.heights p (Some 0)) c.main_point.ensures c.in-Ok.ensures.added
 
-  kept : IsKept c.add.new.self work
-  kept = added_kept c.args.self.now.arena c.add.new.self old work c.in_ok-id.id _ c.requires.kept c.in_ok-id.ensures.id c.in_ok-id.ensures.added refl
-      c.in_ok-id.ensures.given row point c.in-Ok.ensures.links c.in-Ok.ensures.roots c.in-Ok.ensures.heap c.stands.ensures c.in-Ok.ensures.round
-      (same_todo old work c.in-Ok.ensures.todo)
+  kept : IsKept c.insert.new.self work
+  kept = added_kept c.args.self.now.arena c.insert.new.self old work c.next_id-id.result _ c.requires.kept c.next_id-id.ensures.generation
+      c.in-Ok-insert.ensures.added refl c.in-Ok-insert.ensures.given row point c.in-Ok.ensures.links c.in-Ok.ensures.roots c.in-Ok.ensures.heap
+      c.stands.ensures c.in-Ok.ensures.round (same_todo old work c.in-Ok.ensures.todo)
 
-  stays : Stays c.args.self.now.arena c.add.new.self old work
-  stays = added_stays c.args.self.now.arena c.add.new.self old work c.in_ok-id.id _ c.requires.kept c.in_ok-id.ensures.id c.in_ok-id.ensures.added refl
-      c.in_ok-id.ensures.given row point c.in-Ok.ensures.links c.in-Ok.ensures.roots c.in-Ok.ensures.heap c.stands.ensures c.in-Ok.ensures.round
-      (same_todo old work c.in-Ok.ensures.todo)
+  stays : Stays c.args.self.now.arena c.insert.new.self old work
+  stays = added_stays c.args.self.now.arena c.insert.new.self old work c.next_id-id.result _ c.requires.kept c.next_id-id.ensures.generation
+      c.in-Ok-insert.ensures.added refl c.in-Ok-insert.ensures.given row point c.in-Ok.ensures.links c.in-Ok.ensures.roots c.in-Ok.ensures.heap
+      c.stands.ensures c.in-Ok.ensures.round (same_todo old work c.in-Ok.ensures.todo)
 
-pub returns-in-Ok-clause-kept : goal.returns-in-Ok-clause-kept
-returns-in-Ok-clause-kept c = kept c
+pub returns-in-Ok-insert-clause-kept : goal.returns-in-Ok-insert-clause-kept
+returns-in-Ok-insert-clause-kept c = kept c
 
-pub returns-in-Ok-clause-ready : goal.returns-in-Ok-clause-ready
-returns-in-Ok-clause-ready c F ready = ready_stays F _ _ _ _ ready (kept c) (stays c)
+pub returns-in-Ok-insert-clause-ready : goal.returns-in-Ok-insert-clause-ready
+returns-in-Ok-insert-clause-ready c F ready = ready_stays F _ _ _ _ ready (kept c) (stays c)
 
-module _ (c : goal.After-drop_node) where
-  back : IsTakenBack c.args.self.now.arena c.drop_node.new.self
-  back = taken_back c.args.self.now.arena c.add.new.self c.drop_node.new.self c.in_ok-id.id _ c.in_ok-id.ensures.fresh c.in_ok-id.ensures.added
-      c.drop_node.ensures.dropped c.in_ok-id.ensures.live c.drop_node.ensures.live c.in_ok-id.ensures.given c.drop_node.ensures.given
+-- ---- no memory for the node: its point is dropped again
 
-  same : KeepsWork c.args.self.now.work c.add-added.new.self
-  same = record {
-    rows = c.in-Err.ensures.err;
-    points = c.in-Err.ensures.err_heights;
-    links = c.in-Err.ensures.links;
-    roots = c.in-Err.ensures.roots;
-    heap = c.in-Err.ensures.heap;
-    todo = same_todo c.args.self.now.work c.add-added.new.self c.in-Err.ensures.todo;
-    round = c.in-Err.ensures.round;
-  }
+dropped : (c : goal.After-drop_point) → KeepsWork c.args.self.now.work c.drop_point.new.self
+dropped c =
+    let old = c.args.self.now.work in
+    let mid = c.add-added.new.self in
+    let work = c.drop_point.new.self in
+    let d = c.drop_point.ensures in
+    dropped_again c.args.self.now.arena old mid c.next_id-id.result c.requires.kept c.next_id-id.ensures.generation
+    (subst (λ (p : Point). Changes old.rows mid.rows p (Some unsettled)) c.main_point.ensures c.in-Ok.ensures.row)
+    (subst (λ (p : Point). Changes old.graph.heights mid.graph.heights p (Some 0)) c.main_point.ensures c.in-Ok.ensures.added)
+    c.in-Ok.ensures.links c.in-Ok.ensures.roots c.in-Ok.ensures.heap c.in-Ok.ensures.round (same_todo old mid c.in-Ok.ensures.todo) work
+    (subst (λ (p : Point). Changes mid.rows work.rows p None) c.main_point-in-Err-insert.ensures d.row)
+    (subst (λ (p : Point). Changes mid.graph.heights work.graph.heights p None) c.main_point-in-Err-insert.ensures d.dropped)
+    d.links d.roots d.heap d.round (same_todo mid work d.todo)
 
-pub returns-in-Err-clause-wrong_type : goal.returns-in-Err-clause-wrong_type
-returns-in-Err-clause-wrong_type c = ((λ e. absurd (cc)), (λ h. absurd (let e = c.in_ok-id.ensures.wrong_type.1 h in cc)))
+pub returns-in-Err-insert-clause-err_work : goal.returns-in-Err-insert-clause-err_work
+returns-in-Err-insert-clause-err_work c = dropped c
 
-pub returns-in-Err-clause-err : goal.returns-in-Err-clause-err
-returns-in-Err-clause-err c = inr (refl, back c)
+pub returns-in-Err-insert-clause-kept : goal.returns-in-Err-insert-clause-kept
+returns-in-Err-insert-clause-kept c = subst (λ (a : Arena). IsKept a c.drop_point.new.self) (sym c.in-Err-insert.ensures.err)
+    (back_kept c.args.self.now.arena c.args.self.now.work c.drop_point.new.self c.requires.kept (dropped c) c.drop_point.ensures.step)
 
-pub returns-in-Err-clause-kept : goal.returns-in-Err-clause-kept
-returns-in-Err-clause-kept c = back_kept c.args.self.now.arena c.drop_node.new.self c.args.self.now.work c.add-added.new.self c.requires.kept (back c) (same c)
-    c.stands.ensures
-
-pub returns-in-Err-clause-ready : goal.returns-in-Err-clause-ready
-returns-in-Err-clause-ready c F ready = ready_stays F _ _ _ _ ready
-    (back_kept c.args.self.now.arena c.drop_node.new.self c.args.self.now.work c.add-added.new.self c.requires.kept (back c) (same c) c.stands.ensures)
-    (back_stays c.args.self.now.arena c.drop_node.new.self c.args.self.now.work c.add-added.new.self c.requires.kept (back c) (same c) c.stands.ensures)
+pub returns-in-Err-insert-clause-ready : goal.returns-in-Err-insert-clause-ready
+returns-in-Err-insert-clause-ready c F ready = rw c.in-Err-insert.ensures.err (ready_stays F _ _ _ _ ready
+    (back_kept c.args.self.now.arena c.args.self.now.work c.drop_point.new.self c.requires.kept (dropped c) c.drop_point.ensures.step)
+    (back_stays c.args.self.now.arena c.args.self.now.work c.drop_point.new.self c.requires.kept (dropped c) c.drop_point.ensures.step))
