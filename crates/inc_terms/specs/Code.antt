@@ -1,10 +1,11 @@
 -- What the code's nodes are.
 use Rattle.inc_terms.specs.declared.def.Def as declared
 use Rattle.inc_terms.specs.declared.def.Def.TheVariants as code
-use Rattle.inc_terms.specs.Graph.{Def, Const, Var, Map}
+use Rattle.inc_terms.specs.Graph.{Def, Const, Var, Map, Fold}
 
 -- the definition that the code's one stands for
 abbrev pub def_of : declared.Def → Def
 def_of (code.Const v) = Const v
 def_of (code.Var v) = Var v
 def_of (code.Map f kids) = Map f kids
+def_of (code.Fold f v kids) = Fold f v kids

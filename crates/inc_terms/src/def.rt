@@ -49,19 +49,23 @@ pub enum Def {
     Var(Value),
     /// The function of the nodes' values.
     Map(FnRef, Nodes),
+    /// The function of two values, from the value on over the nodes' values in order: called once
+    /// for each node, on what it gave last and the node's value.
+    Fold(FnRef, Value, Nodes),
 }
 
 impl Def {
     ghost use Rattle.inc_terms.specs.Code.{def_of};
     ghost use Rattle.inc_terms.specs.Graph.{kids};
 
-    /// The nodes whose values the node's function takes, in order: those of a map.
+    /// The nodes whose values the node's function takes, in order: those of a map
+    /// or a fold.
     pub fn kids(&self) -> &[NodeId]
         ensures { result.now ≡ kids (def_of self.now) }
     {
         match self {
             Def::Const(_) | Def::Var(_) => &[],
-            Def::Map(_, kids) => kids.as_slice(),
+            Def::Map(_, kids) | Def::Fold(_, _, kids) => kids.as_slice(),
         }
     }
 }
@@ -92,6 +96,12 @@ mod tests {
         };
         let map = Def::Map(f, Nodes::from_slice(alloc, &three)?);
         assert_eq!(rt; map.kids(), three.as_slice());
+        let f = FnRef {
+            id: f.id,
+            sig: Sig::new(&[Ty::Text, Ty::Int], Ty::Text),
+        };
+        let fold = Def::Fold(f, Value::Int(0), Nodes::from_slice(alloc, &three)?);
+        assert_eq!(rt; fold.kids(), three.as_slice());
         let empty = Nodes::from_slice(alloc, &[])?;
         assert_eq!(rt; empty.as_slice().len(), 0);
         assert_eq!(rt; Def::Var(Value::Int(1)).kids().len(), 0);

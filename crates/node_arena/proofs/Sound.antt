@@ -15,7 +15,7 @@ use Rattle.inc_terms.specs.Within.{Given}
 use Rattle.inc_terms.specs.Within.{ValueWithin}
 use Rattle.node_arena.specs.Arena.{Arena, row_at, IsLive, live, NamesGiven, with_value}
 use Rattle.node_arena.specs.Sound.{IsSound, IsOrder, IsKept}
-use Rattle.node_arena.specs.Typing.{Fits, FitsNode, ReferenceFits, HasType, Makes, ty_of}
+use Rattle.node_arena.specs.Typing.{Fits, FitsNode, FoldTakes, ReferenceFits, HasType, Makes, ty_of}
 
 -- ---- what was given stays given
 
@@ -70,10 +70,26 @@ module _ (a a' : Arena) (fits : (n : NodeId) (t : Ty) → Given a.given n → Fi
   pub has_type_still : (v : Value) (t : Ty) → ValueWithin (Given a.given) v → HasType a v t → HasType a' v t
   has_type_still v t given h = record { type = h.type; reference = reference_fit v given h.reference }
 
+  each_fits : (t : Ty) (ns : List NodeId) → Every (Given a.given) ns → Every (λ n. Fits a n t) ns → Every (λ n. Fits a' n t) ns
+  each_fits t [] given h = tt
+  each_fits t (n ∷ ns) given h = (fits n t given.0 h.0, each_fits t ns given.1 h.1)
+
+  fold_takes_still : (t : Ty) (ns : List NodeId) (tys : List Ty) → Every (Given a.given) ns → FoldTakes a t ns tys → FoldTakes a' t ns tys
+  fold_takes_still t ns (first ∷ element ∷ []) given h = (h.0, each_fits element ns given h.1)
+  fold_takes_still t ns [] given h = absurd h
+  fold_takes_still t ns (first ∷ []) given h = absurd h
+  fold_takes_still t ns (first ∷ element ∷ more ∷ tys) given h = absurd h
+
   pub makes_still : (def : Def) (t : Ty) → NamesGiven a.given def → Makes a def t → Makes a' def t
   makes_still (graph.Const v) t given h = has_type_still v t given h
   makes_still (graph.Var v) t given h = has_type_still v t given h
   makes_still (graph.Map f ns) t given h = record { kind = h.kind; children = all_fit ns f.sig.takes given.1 h.children; gives = h.gives }
+  makes_still (graph.Fold f v ns) t given h = record {
+    kind = h.kind;
+    takes = fold_takes_still t ns f.sig.takes given.2 h.takes;
+    gives = h.gives;
+    initial = has_type_still v t given.1 h.initial;
+  }
   makes_still _ t given h = absurd h
 
 module _ (a a' : Arena) (later : (n : NodeId) → Given a.given n → (row_at a' n ≡ row_at a n) ⊎ (row_at a' n ≡ None)) where

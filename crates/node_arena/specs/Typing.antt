@@ -1,6 +1,7 @@
 -- The type that a definition makes of its children and values.
-use Rattle.std.specs.Prelude.{◌≡◌, ◌<◌, ◌-◌, ◌^◌, List, IfSome}
+use Rattle.std.specs.Prelude.{◌≡◌, ◌<◌, ◌-◌, ◌^◌, List, [], ◌∷◌, IfSome}
 use Rattle.std.specs.List.{AllZip}
+use Rattle.inc_value.specs.Choice.{Every}
 use Rattle.inc_value.specs.Value.{type_of}
 use Rattle.inc_value.specs.declared.function.FnKind.TheVariants as kind
 use Rattle.inc_value.specs.declared.function.FnRef.{FnRef}
@@ -11,7 +12,7 @@ use Rattle.inc_value.specs.declared.ty.Ty.{Ty}
 use Rattle.inc_value.specs.declared.ty.Ty.TheVariants as ty
 use Rattle.inc_value.specs.declared.value.Value.{Value}
 use Rattle.inc_value.specs.declared.value.Value.TheVariants.{Node}
-use Rattle.inc_terms.specs.Graph.{Row, Def, Const, Var, Map}
+use Rattle.inc_terms.specs.Graph.{Row, Def, Const, Var, Map, Fold}
 use Rattle.node_arena.specs.Arena.{Arena, row_at, live, NamesGiven}
 
 -- the type that a base type is
@@ -44,11 +45,24 @@ pub record MapMakes (a : Arena) (f : FnRef) (kids : List NodeId) (t : Ty) : Type
   pub children : AllZip (Fits a) kids f.sig.takes
   pub gives : f.sig.gives ≡ t
 
+-- a function that takes the type and another one folds children of the other
+abbrev pub FoldTakes : Arena → Ty → List NodeId → List Ty → Type 0
+FoldTakes a t kids (first ∷ element ∷ []) = (first ≡ t) × Every (λ n. Fits a n element) kids
+FoldTakes a t kids tys = ⊥
+
+-- a fold from a value of the type that the function gives and takes first, over children of the type that it takes second
+pub record FoldMakes (a : Arena) (f : FnRef) (v : Value) (kids : List NodeId) (t : Ty) : Type 0 where
+  pub kind : f.id.kind ≡ kind.Map
+  pub takes : FoldTakes a t kids f.sig.takes
+  pub gives : f.sig.gives ≡ t
+  pub initial : HasType a v t
+
 -- what the types of live children, of values and of the function make of the definition
 abbrev pub Makes : Arena → Def → Ty → Type 0
 Makes a (Const v) t = HasType a v t
 Makes a (Var v) t = HasType a v t
 Makes a (Map f kids) t = MapMakes a f kids t
+Makes a (Fold f v kids) t = FoldMakes a f v kids t
 Makes a def t = ⊥
 
 -- a node of this definition and type can be added, where there is memory

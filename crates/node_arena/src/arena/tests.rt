@@ -82,6 +82,64 @@ fn refuses_maps(rt: HostRuntime) -> Result<(), Fail> {
     Ok(())
 }
 
+/// A function of a truth value and an integer, which gives a truth value.
+fn folded() -> FnRef {
+    FnRef {
+        id: FnId {
+            kind: FnKind::Map,
+            number: 7,
+        },
+        sig: Sig::new(&[Ty::Bool, Ty::Int], Ty::Bool),
+    }
+}
+
+/// Why a fold from the value on isn't added.
+fn fault_of_fold(
+    arena: &mut Arena,
+    alloc: Global,
+    f: FnRef,
+    initial: Value,
+    kids: &[NodeId],
+    ty: Ty,
+) -> Result<Option<AddFault>, AllocError> {
+    let def = Def::Fold(f, initial, Nodes::from_slice(alloc, kids)?);
+    Ok(arena.add(def, ty, None).err())
+}
+
+#[test]
+fn refuses_folds(rt: HostRuntime) -> Result<(), Fail> {
+    let alloc = rt.alloc();
+    let mut arena = Arena::new(alloc);
+    let int = arena.add(one(), Ty::Int, None)?;
+    let truth = arena.add(Def::Var(Value::Bool(true)), Ty::Bool, None)?;
+    let never = NodeId { slot: 0, gen_: 9 };
+    let table = [
+        (folded(), [int, int], Ty::Bool, None),
+        (folded(), [truth, int], Ty::Bool, Some(AddFault::WrongType)),
+        (folded(), [int, truth], Ty::Bool, Some(AddFault::WrongType)),
+        (folded(), [int, int], Ty::Int, Some(AddFault::WrongType)),
+        (neg(), [int, int], Ty::Int, Some(AddFault::WrongType)),
+        (folded(), [truth, never], Ty::Int, Some(AddFault::Unknown)),
+    ];
+    for (f, kids, ty, want) in table {
+        let initial = Value::Bool(true);
+        let fault = fault_of_fold(&mut arena, alloc, f, initial, &kids, ty)?;
+        assert_eq!(rt; fault, want, "at {kids:?} and {ty:?}");
+    }
+    let lost = Value::Node(never, Base::Int);
+    let table = [
+        (Value::Bool(false), None),
+        (Value::Int(1), Some(AddFault::WrongType)),
+        (lost, Some(AddFault::Unknown)),
+    ];
+    for (initial, want) in table {
+        let fault = fault_of_fold(&mut arena, alloc, folded(), initial, &[], Ty::Bool)?;
+        assert_eq!(rt; fault, want);
+    }
+    assert_eq!(rt; arena.live(), 4);
+    Ok(())
+}
+
 #[test]
 fn takes_dead_children_of_any_type(rt: HostRuntime) -> Result<(), Fail> {
     let alloc = rt.alloc();

@@ -6,11 +6,11 @@ ghost use Rattle.inc_terms.specs.Code.{def_of};
 ghost use Rattle.inc_terms.specs.Within.{Given};
 ghost use Rattle.inc_terms.specs.Within.{ValueWithin};
 ghost use Rattle.node_arena.specs.Arena.{NamesGiven};
-ghost use Rattle.node_arena.specs.Typing.{Makes, Fits, HasType, ReferenceFits, ty_of};
+ghost use Rattle.node_arena.specs.Typing.{Makes, Fits, FoldMakes, FoldTakes, HasType, ReferenceFits, ty_of};
 
 use super::Arena;
 use inc_terms::Def;
-use inc_value::{Base, FnKind, NodeId, Ty, Value};
+use inc_value::{Base, FnKind, FnRef, NodeId, Ty, Value};
 
 /// The type that the base type is.
 fn type_of_base(base: Base) -> Ty
@@ -47,6 +47,9 @@ pub(super) fn names_given(given: u64, def: &Def) -> bool
     match def {
         Def::Const(value) | Def::Var(value) => value_given(given, value),
         Def::Map(_, kids) => all_given(given, kids.as_slice()),
+        Def::Fold(_, initial, kids) => {
+            value_given(given, initial) && all_given(given, kids.as_slice())
+        }
     }
 }
 
@@ -92,6 +95,33 @@ fn all_fit(arena: &Arena, nodes: &[NodeId], types: &[Ty]) -> bool
     true
 }
 
+/// Whether each of the nodes is of the type; a dead node is of every type.
+fn each_fits(arena: &Arena, nodes: &[NodeId], ty: Ty) -> bool
+    ensures { IsTrue result ↔ Every (λ n. Fits arena.now n ty) nodes.now }
+{
+    nodes.iter().all(|node| fits(arena, *node, ty))
+}
+
+/// Whether a function that takes the types folds the nodes to the type; a dead node is of every type.
+fn fold_takes(arena: &Arena, ty: Ty, nodes: &[NodeId], takes: &[Ty]) -> bool
+    ensures { IsTrue result ↔ FoldTakes arena.now ty nodes.now takes.now }
+{
+    match takes {
+        [first, element] => *first == ty && each_fits(arena, nodes, *element),
+        _ => false,
+    }
+}
+
+/// Whether the function folds the nodes from the value on to the type.
+fn folds(arena: &Arena, f: FnRef, initial: &Value, nodes: &[NodeId], ty: Ty) -> bool
+    ensures { IsTrue result ↔ FoldMakes arena.now f initial.now nodes.now ty }
+{
+    f.id.kind == FnKind::Map
+        && f.sig.gives() == ty
+        && has_type(arena, initial, ty)
+        && fold_takes(arena, ty, nodes, f.sig.takes())
+}
+
 /// Whether the definition makes the type.
 pub(super) fn makes(arena: &Arena, def: &Def, ty: Ty) -> bool
     ensures { IsTrue result ↔ Makes arena.now (def_of def.now) ty }
@@ -103,5 +133,6 @@ pub(super) fn makes(arena: &Arena, def: &Def, ty: Ty) -> bool
                 && f.sig.gives() == ty
                 && all_fit(arena, kids.as_slice(), f.sig.takes())
         }
+        Def::Fold(f, initial, kids) => folds(arena, *f, initial, kids.as_slice(), ty),
     }
 }
