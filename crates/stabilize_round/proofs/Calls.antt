@@ -1,15 +1,15 @@
 -- How many calls a round makes.
-use Rattle.std.proofs.Common.{◌≡◌, inl, inr, ℕ, suc, ◌+◌, List, [], ◌∷◌, length, Option, None, Some, refl, sym, subst, ap, ◌∙◌, arith}
+use Rattle.std.proofs.Common.{◌≡◌, inl, inr, ℕ, ◌+◌, ◌≤◌, List, [], ◌∷◌, length, Option, None, Some, refl, sym, subst, ap, ◌∙◌, arith}
 use Rattle.std.specs.List.{sum_by}
 use Rattle.std.proofs.lemmas.List.Sums.{sum_by-cons}
-use Rattle.inc_value.specs.declared.function.FnRef.{FnRef}
 use Rattle.inc_value.specs.declared.node.NodeId.{NodeId}
 use Rattle.inc_value.specs.declared.node.Part.TheVariants.{Change, Main}
 use Rattle.inc_value.specs.declared.node.Point.{Point}
 use Rattle.inc_value.specs.Choice.{Among, NoRepeats, Every, Reaches}
 use Rattle.inc_terms.specs.Term.{Functions}
-use Rattle.inc_terms.specs.Graph.{Row, Map}
+use Rattle.inc_terms.specs.Graph.{Row}
 use Rattle.inc_terms.specs.Depend.{Depends, main}
+use Rattle.inc_terms.specs.Evaluate.{GiveAll}
 use Rattle.inc_terms.specs.Need.{Beside, Observed, nodes_of, Held, Met, from_root, from_held}
 use Rattle.inc_terms.specs.Work.{Visit, other, IsDueVisit}
 use Rattle.stabilize_round.specs.Counts.{RoseBy}
@@ -19,10 +19,15 @@ use Rattle.stabilize_round.specs.Invariant.{Invariant, MetNow, HasCalled}
 use Rattle.stabilize_round.specs.Machine.{as_it_is, unbuilt, unkept}
 use Rattle.stabilize_round.specs.Ended.{RootsAre}
 use Rattle.stabilize_round.specs.Calls.{BeginsFrom, RoundIsWithinWork, RefusedCalls}
-use Rattle.stabilize_round.proofs.Counts.{one_more}
+use Rattle.stabilize_round.specs.Calling.{taken_by, cost_at, costs_of}
+use Rattle.stabilize_round.proofs.Calling.{kids_taken, cost_of_taken}
+use Rattle.stabilize_round.proofs.Counts.{more_on}
 use Rattle.stabilize_round.proofs.Entry.{entry_holds}
 use Rattle.stabilize_round.proofs.Machine.{moves_keep}
 use Rattle.stabilize_round.proofs.Rebuilding.{rebuild_keeps}
+
+grown : (a b c : ℕ) → a ≤ b → a + c ≤ b + c
+grown a b c h = omega (arith, h)
 
 module _ (F : Functions) (z : Start) (t : State) (inv : Invariant F z t) (before : Beside) (observers : List Observed)
     (are : RootsAre t (nodes_of observers)) (from : BeginsFrom z before observers) where
@@ -36,7 +41,7 @@ module _ (F : Functions) (z : Start) (t : State) (inv : Invariant F z t) (before
   Called n = HasCalled F z t.graph t.died t.root t.settled t.last n
 
   visit_of : (n : NodeId) → Called n → Visit
-  visit_of n c = record { node = n; values = c.values; cost = 1 }
+  visit_of n c = record { node = n; values = c.values; cost = cost_at t.graph n }
 
   other_arguments : (n : NodeId) (c : Called n) (x : Option Call) → z.last n ≡ x → before.last n ≡ Some c.values → ⊥
   other_arguments n c None e last = let k = from.last n in let k' = rw e at k in let x : None ≡ Some c.values = sym k' ∙ last in cc
@@ -53,8 +58,8 @@ module _ (F : Functions) (z : Start) (t : State) (inv : Invariant F z t) (before
       row = c.row;
       is_row = c.is_row;
       stands = ((inv.settled.done (main n) c.is_settled).exact c.row c.is_row).0;
-      values = rw c.is_map c.gives;
-      cost = rw c.is_map refl;
+      values = subst (λ (ks : List NodeId). GiveAll F t.graph ks c.values) (sym (kids_taken t.graph n c.row.def c.kids c.takes)) c.gives;
+      cost = cost_of_taken t.graph n c.row c.kids c.is_row c.takes;
     };
     met = is_met (main n) c.met;
     reason = other (λ last. other_arguments n c (z.last n) refl last);
@@ -81,16 +86,17 @@ module _ (F : Functions) (z : Start) (t : State) (inv : Invariant F z t) (before
   all_due [] called = tt
   all_due (n ∷ ns) called = (due n (called n (inl refl)), all_due ns (λ m h. called m (inr h)))
 
-  one_on : (a b : ℕ) → a ≡ b → 1 + a ≡ suc b
-  one_on a b e = omega arith
+  with_first : (k a b c : ℕ) → c ≡ k + a → a ≡ b → c ≡ k + b
+  with_first k a b c e e' = e ∙ ap (λ (x : ℕ). k + x) e'
 
-  costs : (ns : List NodeId) (called : (n : NodeId) → Among n ns → Called n) → sum_by (λ (v : Visit). v.cost) (visits ns called) ≡ length ns
+  costs : (ns : List NodeId) (called : (n : NodeId) → Among n ns → Called n)
+      → sum_by (λ (v : Visit). v.cost) (visits ns called) ≡ costs_of t.graph ns
   unfolding visit_of
   costs [] called = refl
   costs (n ∷ ns) called =
       let e = costs ns (λ m h. called m (inr h)) in
       let one = sum_by-cons (λ (v : Visit). v.cost) (visit_of n (called n (inl refl))) (visits ns (λ m h. called m (inr h))) in
-      one ∙ one_on _ _ e
+      with_first (cost_at t.graph n) _ _ _ one e ∙ sym (sum_by-cons (cost_at t.graph) n ns)
 
 pub round_is_within_work : RoundIsWithinWork
 round_is_within_work F z s t before observers calls entry run are from is =
@@ -107,17 +113,19 @@ round_is_within_work F z s t before observers calls entry run are from is =
 
 -- ---- a round that is refused
 
-module _ (F : Functions) (z : Start) (u : State) (inv : Invariant F z u) where
-  ran_maps : (n : NodeId) → Among n u.ran → (r : Row) × (f : FnRef) × (kids : List NodeId) × (u.graph.row n ≡ Some r) × (r.def ≡ Map f kids)
-  ran_maps n a = let c = inv.accounts.called n a in (c.row, c.function, c.kids, c.is_row, c.is_map)
+abbrev IsCalled : State → NodeId → Type 0
+IsCalled u n = (r : Row) × (kids : List NodeId) × (u.graph.row n ≡ Some r) × (taken_by r.def ≡ Some kids)
+
+ran_called : (F : Functions) (z : Start) (u : State) → Invariant F z u → (n : NodeId) → Among n u.ran → IsCalled u n
+ran_called F z u inv n a = let c = inv.accounts.called n a in (c.row, c.kids, c.is_row, c.takes)
 
 abbrev CalledAtMost : Start → State → Type 0
 CalledAtMost z u =
-    (called : List NodeId) × NoRepeats called × RoseBy z.calls (length called) u.calls
-    × ((n : NodeId) → Among n called → (r : Row) × (f : FnRef) × (kids : List NodeId) × (u.graph.row n ≡ Some r) × (r.def ≡ Map f kids))
+    (called : List NodeId) × (calls : ℕ) × NoRepeats called × (calls ≤ costs_of u.graph called) × RoseBy z.calls calls u.calls
+    × ((n : NodeId) → Among n called → IsCalled u n)
 
 ran_alone : (F : Functions) (z : Start) (u : State) → Invariant F z u → CalledAtMost z u
-ran_alone F z u inv = (u.ran, inv.accounts.once, inv.accounts.calls, (λ n a. ran_maps F z u inv n a))
+ran_alone F z u inv = (u.ran, costs_of u.graph u.ran, inv.accounts.once, omega arith, inv.accounts.calls, (λ n a. ran_called F z u inv n a))
 
 pub refused_calls : RefusedCalls
 refused_calls F z s t u entry run (as_it_is e) =
@@ -125,8 +133,9 @@ refused_calls F z s t u entry run (as_it_is e) =
 refused_calls F z s t u entry run (unbuilt {b} {now} {m} r none e) =
     subst (λ (x : State). CalledAtMost z x) (sym e)
     (ran_alone F z _ (rebuild_keeps F z t (moves_keep F z s t run (entry_holds F z s entry)) b now m r (inl none)))
-refused_calls F z s t u entry run (unkept {n} {r} {f} {kids} {calls'} quiet taken row def count e) =
-    subst (λ (x : State). CalledAtMost z x) (sym e) (n ∷ t.ran, (not_ran, inv.accounts.once), counted, maps)
+refused_calls F z s t u entry run (unkept {n} {r} {kids} {few} {calls'} quiet taken row takes least count e) =
+    subst (λ (x : State). CalledAtMost z x) (sym e)
+    (n ∷ t.ran, few + costs_of t.graph t.ran, (not_ran, inv.accounts.once), at_most, more_on inv.accounts.calls count, called)
   where
     inv : Invariant F z t
     inv = moves_keep F z s t run (entry_holds F z s entry)
@@ -134,13 +143,9 @@ refused_calls F z s t u entry run (unkept {n} {r} {f} {kids} {calls'} quiet take
     not_ran : Among n t.ran → ⊥
     not_ran a = let x : Main ≡ Change = inv.settled.twice (main n) (inv.accounts.called n a).is_settled taken.heap in cc
 
-    counted : RoseBy z.calls (length (n ∷ t.ran)) calls'
-    counted =
-        let k = one_more inv.accounts.calls count in
-        let a = k.kept in
-        let b = k.most in
-        record { kept = a; most = omega arith; exact = λ h. let c = k.exact h in omega arith }
+    at_most : few + costs_of t.graph t.ran ≤ costs_of t.graph (n ∷ t.ran)
+    at_most = rw (sum_by-cons (cost_at t.graph) n t.ran) (grown few (cost_at t.graph n) (costs_of t.graph t.ran) least)
 
-    maps : (m : NodeId) → Among m (n ∷ t.ran) → (r : Row) × (f : FnRef) × (kids : List NodeId) × (t.graph.row m ≡ Some r) × (r.def ≡ Map f kids)
-    maps m (inl is) = (r, f, kids, subst (λ (y : NodeId). t.graph.row y ≡ Some r) (sym is) row, def)
-    maps m (inr a) = ran_maps F z t inv m a
+    called : (m : NodeId) → Among m (n ∷ t.ran) → IsCalled t m
+    called m (inl is) = (r, kids, subst (λ (y : NodeId). t.graph.row y ≡ Some r) (sym is) row, takes)
+    called m (inr a) = ran_called F z t inv m a

@@ -129,7 +129,7 @@ module _ (F : Functions) (z : Start) (s : State) (inv : Invariant F z s) (quiet 
     row = move.row;
     is_row = move.is_row;
     agrees = agrees;
-    recalls = λ r f kids vs row part def shows. absurd (cc);
+    recalls = λ r kids vs row part def shows. absurd (cc);
     exact = exact_here;
     below = λ m dep.
         let among = depends_plan F G s.out s.died (change n) m move.row move.is_row (exact_here move.row move.is_row).0
@@ -279,11 +279,12 @@ module _ (F : Functions) (z : Start) (s : State) (inv : Invariant F z s) (quiet 
       → HasCalled F z G s.died s.root (at_point (change n) true s.settled) s.last m
   called_stays m c = record {
     row = c.row;
-    function = c.function;
     kids = c.kids;
     values = c.values;
     is_row = c.is_row;
-    is_map = c.is_map;
+    takes = c.takes;
+    result = c.result;
+    answers = c.answers;
     is_settled = settled_more (main m) c.is_settled;
     met = c.met;
     gives = c.gives;

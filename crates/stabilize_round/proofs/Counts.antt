@@ -22,8 +22,8 @@ none_more {a} {k} {b} {c} first next =
     let r = rose_on first next in
     let x = r.kept in let y = r.most in record { kept = x; most = omega arith; exact = λ h. let e = r.exact h in omega arith }
 
-pub one_more : {a k b c : ℕ} → RoseBy a k b → RoseBy b 1 c → RoseBy a (1 + k) c
-one_more {a} {k} {b} {c} first next =
+pub more_on : {a k b j c : ℕ} → RoseBy a k b → RoseBy b j c → RoseBy a (j + k) c
+more_on {a} {k} {b} {j} {c} first next =
     let r = rose_on first next in
     let x = r.kept in let y = r.most in record { kept = x; most = omega arith; exact = λ h. let e = r.exact h in omega arith }
 

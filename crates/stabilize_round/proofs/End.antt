@@ -131,10 +131,10 @@ module _ (F : Functions) (z : Start) (s : State) (inv : Invariant F z s) (quiet 
   ]
 
   recalls : (p : Point) → s.needed p ≡ true → Recalls s.graph (shown s.graph s.out) s.last p
-  recalls p need r f kids values row = elim (inv.fresh p r row need) [
+  recalls p need r kids values row = elim (inv.fresh p r row need) [
     | inl h ↦ absurd (empty p h)
-    | inr (inl h) ↦ (inv.settled.done p h).recalls r f kids values row
-    | inr (inr h) ↦ h.2 r f kids values row
+    | inr (inl h) ↦ (inv.settled.done p h).recalls r kids values row
+    | inr (inr h) ↦ h.2 r kids values row
   ]
 
   pub ended : Ended F z s observed

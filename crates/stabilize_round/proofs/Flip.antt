@@ -272,7 +272,7 @@ third F = record {
   is_row = right_is;
   taken = least9;
   own = refl;
-  calls = (last9, λ f ks vs e g. absurd (cc));
+  calls = (last9, λ ks vs e g. absurd (cc));
   count = none_yet;
   heap = record {
     kept = λ q h. let k = not_at heap6 B q h in elim (in_heap6 q k.1) [
@@ -337,7 +337,7 @@ fourth F = record {
   is_row = choice_is;
   taken = least10;
   own = own_choice F;
-  calls = (last10, λ f ks vs e g. absurd (cc));
+  calls = (last10, λ ks vs e g. absurd (cc));
   count = none_yet;
   heap = record {
     kept = λ q h. let k = not_at heap10 M q h in absurd (k.0 (in_heap10 q k.1));

@@ -13,6 +13,7 @@ use Rattle.inc_terms.specs.Term.{Functions}
 use Rattle.inc_terms.specs.Graph as graph
 use Rattle.inc_terms.specs.Graph.{Row}
 use Rattle.inc_terms.specs.Local.{shown, own, IsBuilt, PartAgrees, Agrees}
+use Rattle.stabilize_round.specs.Calling.{taken_by}
 use Rattle.stabilize_round.specs.Invariant.{Recalls}
 use Rattle.inc_terms.specs.Depend.{main, change}
 use Rattle.stabilize_round.specs.State.{State, Static, Full, Linked, count, one, live_plan, planned, at_point, at_node}
@@ -249,11 +250,11 @@ abbrev pub Rights : Functions → Point → Type 0
 Rights F p = Agrees F before.graph before.out p × Recalls before.graph (shown before.graph before.out) before.last p
 
 pub no_map : (p : Point) → Recalls before.graph (shown before.graph before.out) before.last p
-no_map p r f kids values row part def shows = elim (row_case p.node r row) [
-  | inl k ↦ absurd (let e = ap (λ (y : Row). y.def) k.1 in cc)
-  | inr (inl k) ↦ absurd (let e = ap (λ (y : Row). y.def) k.1 in cc)
-  | inr (inr (inl k)) ↦ absurd (let e = ap (λ (y : Row). y.def) k.1 in cc)
-  | inr (inr (inr k)) ↦ absurd (let e = ap (λ (y : Row). y.def) k.1 in cc)
+no_map p r kids values row part def shows = elim (row_case p.node r row) [
+  | inl k ↦ absurd (let e = ap (λ (y : Row). taken_by y.def) k.1 in cc)
+  | inr (inl k) ↦ absurd (let e = ap (λ (y : Row). taken_by y.def) k.1 in cc)
+  | inr (inr (inl k)) ↦ absurd (let e = ap (λ (y : Row). taken_by y.def) k.1 in cc)
+  | inr (inr (inr k)) ↦ absurd (let e = ap (λ (y : Row). taken_by y.def) k.1 in cc)
 ]
 
 pub agrees_a : (F : Functions) → Agrees F before.graph before.out A
@@ -334,7 +335,7 @@ begins F = record {
   held = λ p. refl;
   last = λ n. refl;
   calls = refl;
-  answers = λ n r f kids c row def l. absurd (cc);
+  answers = λ n r kids c row def l. absurd (cc);
 }
 
 -- ---- the test is computed
@@ -371,7 +372,7 @@ first F = record {
   is_row = test_is;
   taken = least_t;
   own = own_test F;
-  calls = (refl, λ f ks vs e g. absurd (cc));
+  calls = (refl, λ ks vs e g. absurd (cc));
   count = none_yet;
   heap = record {
     kept = λ q h. let k = not_at before.heap T q h in absurd (k.0 (in_heap q k.1));

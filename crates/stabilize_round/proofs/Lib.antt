@@ -1,4 +1,5 @@
 pub mod Counts
+pub mod Calling
 pub mod Points
 pub mod Low
 pub mod Planned

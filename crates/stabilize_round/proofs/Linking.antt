@@ -360,11 +360,12 @@ module _ (F : Functions) (z : Start) (s : State) (inv : Invariant F z s) (p : Po
   called_root : (n : NodeId) → HasCalled F z s.graph s.died s.root s.settled s.last n → HasCalled F z s.graph s.died root' s.settled s.last n
   called_root n c = record {
     row = c.row;
-    function = c.function;
     kids = c.kids;
     values = c.values;
     is_row = c.is_row;
-    is_map = c.is_map;
+    takes = c.takes;
+    result = c.result;
+    answers = c.answers;
     is_settled = c.is_settled;
     met = met_root (main n) c.met;
     gives = c.gives;

@@ -1,7 +1,7 @@
 -- A main's step keeps the invariant.
 use Rattle.std.proofs.Common.{◌≡◌, ◌⊎◌, inl, inr, ℕ, zero, suc, ◌<◌, Bool, true, false, List, [], ◌∷◌, map, Option, None, Some, refl, sym, ap, subst}
 use Rattle.std.proofs.Common.{◌∙◌, arith}
-use Rattle.inc_value.specs.declared.function.FnRef.{FnRef}
+use Rattle.std.proofs.lemmas.List.Sums.{sum_by-cons}
 use Rattle.inc_value.specs.declared.node.NodeId.{NodeId}
 use Rattle.inc_value.specs.declared.node.Part.TheVariants.{Change, Main}
 use Rattle.inc_value.specs.declared.node.Point.{Point}
@@ -10,7 +10,7 @@ use Rattle.inc_value.specs.declared.outcome.Outcome.TheVariants.{Val, Invalid}
 use Rattle.inc_value.specs.declared.value.Value.{Value}
 use Rattle.inc_value.specs.Choice.{Among, here}
 use Rattle.inc_terms.specs.Term.{Functions, refs}
-use Rattle.inc_terms.specs.Graph.{Graph, Row, Map}
+use Rattle.inc_terms.specs.Graph.{Graph, Row}
 use Rattle.inc_terms.specs.Evaluate.{Gathered, Unknown, SomeInvalid, Values, gathered, GiveAll, Stands}
 use Rattle.inc_terms.specs.Depend.{Depends, fixed, main, change, fixed_reads}
 use Rattle.inc_terms.specs.Local.{shown, by_sight, Agrees, Exact, Sees}
@@ -23,11 +23,13 @@ use Rattle.stabilize_round.specs.State.{State, Start, Call, Stage, Bare, Gated, 
 use Rattle.stabilize_round.specs.Invariant.{Invariant, Web, Rows, Waits, IsRight, IsDone, Recalls, Settled, Strict, MetNow, from_held, LastSettled}
 use Rattle.stabilize_round.specs.Invariant.{HasCalled, Accounts}
 use Rattle.stabilize_round.specs.Moves.{Quiet, Calls, computed, StepMain}
-use Rattle.stabilize_round.proofs.Counts.{none_more, one_more}
+use Rattle.stabilize_round.specs.Calling.{taken_by, IsAnswer, cost_at}
+use Rattle.stabilize_round.specs.Counts.{RoseBy}
+use Rattle.stabilize_round.proofs.Counts.{none_more, more_on}
 use Rattle.stabilize_round.proofs.Points.{same_or_other, node_or_other, is_or_not, at_same, at_other, node_same, node_other, count_among}
 use Rattle.stabilize_round.proofs.Low.{Low, gate_among, links_are, plan_links, is_full, low_points}
 use Rattle.inc_terms.proofs.Seeing.{own_same, gathered_same, shown_same, agrees_same, exact_same}
-use Rattle.stabilize_round.proofs.Planned.{recalls_same, plan_same}
+use Rattle.stabilize_round.proofs.Planned.{recalls_same, reads_taken, plan_same}
 
 pub at_false : (p : Point) (f : Point → Bool) (q : Point) → at_point p false f q ≡ true → (f q ≡ true) × (p ≡ q → ⊥)
 at_false p f q h = elim (same_or_other p q) [
@@ -173,26 +175,27 @@ module _ (F : Functions) (z : Start) (s : State) (inv : Invariant F z s) (quiet 
   }
 
   recalls_by : (was : Bool) → called ≡ was → Calls F s n move.row.def last' was → Recalls G (shown G out') (at_node n last' s.last) (main n)
-  recalls_by was is h r f kids values row part def shows =
+  recalls_by was is h r kids values row part def shows =
       let mine = move.is_row in
       let same : r ≡ move.row = cc in
-      let def' : move.row.def ≡ Map f kids = rw (← same) def in
+      let def' : taken_by move.row.def ≡ Some kids = rw (← same) def in
       let seen = gathered_same F G (shown G s.out) (shown G out') kids
       (λ q a. shown_same F G s.out out' q
-      (same_at q (linked q (among_right q (gate_of move.row.scope) _ (among_left q (fixed_reads G n move.row.def Main) _ (rw def' a)))))) in
-      by_call was h f kids values def' (sym seen ∙ shows)
+      (same_at q (linked q (among_right q (gate_of move.row.scope) _ (among_left q (fixed_reads G n move.row.def Main) _
+        (reads_taken G n move.row.def kids q def' a)))))) in
+      by_call was h kids values def' (sym seen ∙ shows)
     where
-      by_call : (was : Bool) → Calls F s n move.row.def last' was → (f : FnRef) (kids : List NodeId) (values : List Value)
-          → move.row.def ≡ Map f kids → gathered (by_sight (shown G s.out)) (refs kids) ≡ Values values
+      by_call : (was : Bool) → Calls F s n move.row.def last' was → (kids : List NodeId) (values : List Value)
+          → taken_by move.row.def ≡ Some kids → gathered (by_sight (shown G s.out)) (refs kids) ≡ Values values
           → (c : Call) × (at_node n last' s.last n ≡ Some c) × (c.arguments ≡ values)
-      by_call false h f kids values def' before = let c = h.1 f kids values def' before in (c.0, node_same n last' s.last ∙ h.0 ∙ c.1, c.2)
-      by_call true h f kids values def' before =
+      by_call false h kids values def' before = let c = h.1 kids values def' before in (c.0, node_same n last' s.last ∙ h.0 ∙ c.1, c.2)
+      by_call true h kids values def' before =
           let a = h.3 in let b = h.4 in
-          let ks : h.1 ≡ kids = cc in
-          let b' : gathered (by_sight (shown G s.out)) (refs kids) ≡ Values h.2 = subst
-          (λ (y : List NodeId). gathered (by_sight (shown G s.out)) (refs y) ≡ Values h.2) ks b in
-          let vs : h.2 ≡ values = cc in
-          (record { arguments = h.2; result = F.value h.0 h.2 }, node_same n last' s.last ∙ h.6, vs)
+          let ks : h.0 ≡ kids = cc in
+          let b' : gathered (by_sight (shown G s.out)) (refs kids) ≡ Values h.1 = subst
+          (λ (y : List NodeId). gathered (by_sight (shown G s.out)) (refs y) ≡ Values h.1) ks b in
+          let vs : h.1 ≡ values = cc in
+          (record { arguments = h.1; result = h.2 }, node_same n last' s.last ∙ h.6, vs)
 
   done_here : IsDone F G out' s.died (at_node n last' s.last) (main n)
   done_here = record {
@@ -350,11 +353,12 @@ module _ (F : Functions) (z : Start) (s : State) (inv : Invariant F z s) (quiet 
       let c = inv.accounts.called m a in
       record {
         row = c.row;
-        function = c.function;
         kids = c.kids;
         values = c.values;
+        result = c.result;
         is_row = c.is_row;
-        is_map = c.is_map;
+        takes = c.takes;
+        answers = c.answers;
         is_settled = settled_more (main m) c.is_settled;
         met = c.met;
         gives = c.gives;
@@ -373,21 +377,22 @@ module _ (F : Functions) (z : Start) (s : State) (inv : Invariant F z s) (quiet 
         called = λ m a. called_stays m (rw is at a);
         kept = λ m r row a. same m ∙ inv.accounts.kept m r row (λ x. a (rw is x));
         calls = rw is (none_more inv.accounts.calls (rw is at move.count));
-        answers = λ m r f kids c row def l. inv.accounts.answers m r f kids c row def (sym (same m) ∙ l);
+        answers = λ m r kids c row def l. inv.accounts.answers m r kids c row def (sym (same m) ∙ l);
       }
   accounts true is h =
       let fresh_here : Among n s.ran → ⊥ = λ a. not_ran n a refl in
-      let at_kid = λ (q : Point) (a : Among q (map main h.1)). linked q
-      (among_right q (gate_of move.row.scope) _ (among_left q (fixed_reads G n move.row.def Main) _ (rw h.3 a))) in
-      let gives = gathered_gives F G s.out h.1 h.2 (λ k a. main_sees F G s.out k (below (main k) (at_kid (main k) a)).exact) h.4 in
-      let mine : at_node n last' s.last n ≡ Some (record { arguments = h.2; result = F.value h.0 h.2 }) = node_same n last' s.last ∙ h.6 in
+      let at_kid = λ (q : Point) (a : Among q (map main h.0)). linked q
+      (among_right q (gate_of move.row.scope) _ (among_left q (fixed_reads G n move.row.def Main) _ (reads_taken G n move.row.def h.0 q h.3 a))) in
+      let gives = gathered_gives F G s.out h.0 h.1 (λ k a. main_sees F G s.out k (below (main k) (at_kid (main k) a)).exact) h.4 in
+      let mine : at_node n last' s.last n ≡ Some (record { arguments = h.1; result = h.2 }) = node_same n last' s.last ∙ h.6 in
       let mine_called : HasCalled F z G s.died s.root (at_point (main n) true s.settled) (at_node n last' s.last) n = record {
         row = move.row;
-        function = h.0;
-        kids = h.1;
-        values = h.2;
+        kids = h.0;
+        values = h.1;
+        result = h.2;
         is_row = move.is_row;
-        is_map = h.3;
+        takes = h.3;
+        answers = h.7;
         is_settled = at_same (main n) true s.settled;
         met = is_met;
         gives = gives;
@@ -399,11 +404,11 @@ module _ (F : Functions) (z : Start) (s : State) (inv : Invariant F z s) (quiet 
         called = λ m a. called_more m (rw is at a) mine_called;
         kept = λ m r row a. let a' : Among m (n ∷ s.ran) → ⊥ = λ x. a (rw is x) in
             node_other n last' s.last m (λ e. a' (inl (sym e))) ∙ inv.accounts.kept m r row (λ x. a' (inr x));
-        calls = rw is (let e = one_more inv.accounts.calls (rw is at move.count) in let k = e.kept in let m = e.most in
-            record { kept = k; most = omega arith; exact = λ h. let x = e.exact h in omega arith });
-        answers = λ m r f kids c row def l. elim (node_or_other n m) [
-          | inl e ↦ by_call m r f kids c row def e (subst (λ (y : NodeId). at_node n last' s.last y ≡ Some c) (sym e) l) h
-          | inr ne ↦ inv.accounts.answers m r f kids c row def (sym (node_other n last' s.last m ne) ∙ l)
+        calls = rw is (subst (λ (k : ℕ). RoseBy z.calls k calls') (sym (sum_by-cons (cost_at G) n s.ran))
+            (more_on inv.accounts.calls (rw is at move.count)));
+        answers = λ m r kids c row def l. elim (node_or_other n m) [
+          | inl e ↦ by_call m r kids c row def e (subst (λ (y : NodeId). at_node n last' s.last y ≡ Some c) (sym e) l) h
+          | inr ne ↦ inv.accounts.answers m r kids c row def (sym (node_other n last' s.last m ne) ∙ l)
         ];
       }
     where
@@ -413,19 +418,17 @@ module _ (F : Functions) (z : Start) (s : State) (inv : Invariant F z s) (quiet 
           (sym e) c
       called_more m (inr a) c = called_stays m a
 
-      by_call : (m : NodeId) (r : Row) (f : FnRef) (kids : List NodeId) (c : Call) → G.row m ≡ Some r → r.def ≡ Map f kids → n ≡ m
-          → at_node n last' s.last n ≡ Some c → Calls F s n move.row.def last' true → c.result ≡ F.value f c.arguments
-      by_call m r f kids c row def e l h =
+      by_call : (m : NodeId) (r : Row) (kids : List NodeId) (c : Call) → G.row m ≡ Some r → taken_by r.def ≡ Some kids → n ≡ m
+          → at_node n last' s.last n ≡ Some c → Calls F s n move.row.def last' true → IsAnswer F r.def c.arguments c.result
+      by_call m r kids c row def e l h =
           let row' : G.row n ≡ Some r = subst (λ (y : NodeId). G.row y ≡ Some r) (sym e) row in
           let is' = move.is_row in
           let same : r ≡ move.row = cc in
-          let def' : move.row.def ≡ Map f kids = rw (← same) def in
-          let def'' = h.3 in
-          let ff : h.0 ≡ f = cc in
           let mine = node_same n last' s.last in
           let l' = h.6 in
-          let cs : record { arguments = h.2; result = F.value h.0 h.2 } ≡ c = cc in
-          rw (← cs) (rw ff refl)
+          let cs : record { arguments = h.1; result = h.2 } ≡ c = cc in
+          subst (λ (y : Row). IsAnswer F y.def c.arguments c.result) (sym same)
+              (subst (λ (x : Call). IsAnswer F move.row.def x.arguments x.result) cs h.7)
 
   last_settled : LastSettled after
   last_settled q e = let same : main n ≡ q = cc in

@@ -1,5 +1,5 @@
 -- Building a bind anew keeps the invariant.
-use Rattle.std.proofs.Common.{◌≡◌, ◌⊎◌, inl, inr, ◌<◌, Bool, true, List, [], ◌∷◌, map, Option, None, Some, refl, sym, ap, subst, ◌∙◌}
+use Rattle.std.proofs.Common.{◌≡◌, ◌⊎◌, inl, inr, ℕ, ◌<◌, Bool, true, List, [], ◌∷◌, map, Option, None, Some, refl, sym, ap, subst, ◌∙◌}
 use Rattle.std.proofs.lemmas.Bool.{cases_lt}
 use Rattle.inc_value.specs.declared.function.FnKind.{FnKind}
 use Rattle.inc_value.specs.declared.function.FnRef.{FnRef}
@@ -32,7 +32,10 @@ use Rattle.stabilize_round.specs.Rebuilding.{Remade, remade, Rebuild, IsBuiltAne
 use Rattle.stabilize_round.proofs.Points.{same_or_other, node_or_other}
 use Rattle.stabilize_round.proofs.Low.{plan_links}
 use Rattle.inc_terms.proofs.Seeing.{looks, own_same}
-use Rattle.stabilize_round.proofs.Planned.{recalls_same, looks_main}
+use Rattle.stabilize_round.specs.Calling.{taken_by, IsAnswer, costs_of}
+use Rattle.stabilize_round.specs.Counts.{RoseBy}
+use Rattle.stabilize_round.proofs.Calling.{costs_same}
+use Rattle.stabilize_round.proofs.Planned.{recalls_same, reads_taken, looks_main}
 use Rattle.stabilize_round.proofs.Main.{main_change}
 use Rattle.inc_terms.proofs.Crossing.{same_targets, own_crosses}
 
@@ -407,26 +410,38 @@ module _ (F : Functions) (z : Start) (s : State) (inv : Invariant F z s) (b : No
       let d = inv.settled.done (main n) c.is_settled in
       let mine = c.is_row in let its = d.is_row in
       let same : d.row ≡ c.row = cc in
-      let def : d.row.def ≡ graph.Map c.function c.kids = ap (λ (y : Row). y.def) same ∙ c.is_map in
+      let def : taken_by d.row.def ≡ Some c.kids = ap (λ (y : Row). taken_by y.def) same ∙ c.takes in
       record {
         row = c.row;
-        function = c.function;
         kids = c.kids;
         values = c.values;
+        result = c.result;
+        answers = c.answers;
         is_row = row_stays n (q_kept (main n) d) ∙ c.is_row;
-        is_map = c.is_map;
+        takes = c.takes;
         is_settled = c.is_settled;
         met = met_after (main n) c.met;
         gives = gives_all c.kids c.values (λ k a. dep_given (main n) (main k) (q_given (main n) d) (q_links (main n) d (main k)
-            (among_right (main k) (gate_of d.row.scope) _ (among_left (main k) (fixed_reads G n d.row.def Main) _ (rw def a))))) c.gives;
+            (among_right (main k) (gate_of d.row.scope) _ (among_left (main k) (fixed_reads G n d.row.def Main) _ (reads_taken G n d.row.def c.kids (main k) def a))))) c.gives;
         is_last = move.beside.last n c.row (row_stays n (q_kept (main n) d) ∙ c.is_row) (q_given (main n) d) ∙ c.is_last;
         reason = c.reason;
       }
 
-  answers_after : (n : NodeId) (r : Row) (f : FnRef) (kids : List NodeId) (c : Call) → G'.row n ≡ Some r → r.def ≡ graph.Map f kids
-      → made.last n ≡ Some c → c.result ≡ F.value f c.arguments
-  answers_after n r f kids c row' def l = elim (cases_lt n.gen_ s.given) [
-    | inl lt ↦ let k = alive n r lt row' in inv.accounts.answers n r f kids c k.1 def (sym (move.beside.last n r row' lt) ∙ l)
+  costs_after : costs_of G s.ran ≡ costs_of G' s.ran
+  costs_after = costs_same G G' s.ran (λ n a.
+      let c = inv.accounts.called n a in
+      record {
+        row = c.row;
+        kids = c.kids;
+        before = c.is_row;
+        after = row_stays n (q_kept (main n) (inv.settled.done (main n) c.is_settled)) ∙ c.is_row;
+        takes = c.takes;
+      })
+
+  answers_after : (n : NodeId) (r : Row) (kids : List NodeId) (c : Call) → G'.row n ≡ Some r → taken_by r.def ≡ Some kids
+      → made.last n ≡ Some c → IsAnswer F r.def c.arguments c.result
+  answers_after n r kids c row' def l = elim (cases_lt n.gen_ s.given) [
+    | inl lt ↦ let k = alive n r lt row' in inv.accounts.answers n r kids c k.1 def (sym (move.beside.last n r row' lt) ∙ l)
     | inr le ↦ absurd (let x = move.beside.new_last n le in cc)
   ]
 
@@ -576,7 +591,7 @@ module _ (F : Functions) (z : Start) (s : State) (inv : Invariant F z s) (b : No
         once = inv.accounts.once;
         called = λ n a. called_after n (inv.accounts.called n a);
         kept = last_after;
-        calls = inv.accounts.calls;
+        calls = subst (λ (k : ℕ). RoseBy z.calls k s.calls) costs_after inv.accounts.calls;
         answers = answers_after;
       };
     }

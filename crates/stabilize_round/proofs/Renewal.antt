@@ -379,7 +379,7 @@ third = record {
   is_row = new_after;
   taken = least11;
   own = refl;
-  calls = (last11, λ f ks vs e g. absurd (cc));
+  calls = (last11, λ ks vs e g. absurd (cc));
   count = none_yet;
   heap = record {
     kept = λ q h. let k = not_at heap7 R q h in elim (in_heap7 q k.1) [
@@ -445,7 +445,7 @@ fourth = record {
   is_row = bind_after;
   taken = least12;
   own = own_bind;
-  calls = (last12, λ f ks vs e g. absurd (cc));
+  calls = (last12, λ ks vs e g. absurd (cc));
   count = none_yet;
   heap = record {
     kept = λ q h. let k = not_at todo5 M q h in absurd (k.0 (in_todo q k.1));

@@ -16,6 +16,7 @@ use Rattle.inc_terms.specs.Graph.{Row, Built}
 use Rattle.inc_terms.specs.Depend.{main, change}
 use Rattle.inc_terms.specs.Local.{shown, IsRooted, IsBuilt, PartAgrees, Agrees}
 use Rattle.stabilize_round.specs.State.{State, Static, Linked, count, one, planned, at_point, at_node}
+use Rattle.stabilize_round.specs.Calling.{taken_by}
 use Rattle.stabilize_round.specs.Invariant.{Recalls}
 use Rattle.stabilize_round.specs.Moves.{IsLeast, computed, StepMain}
 use Rattle.stabilize_round.specs.Wire.{heaped, Schedule, dropped, Drop, swept, Sweep}
@@ -234,10 +235,10 @@ abbrev Rights : Point → Type 0
 Rights p = Agrees functions before.graph before.out p × Recalls before.graph (shown before.graph before.out) before.last p
 
 no_map : (p : Point) → Recalls before.graph (shown before.graph before.out) before.last p
-no_map p r f kids values row part def shows = elim (row_case p.node r row) [
-  | inl k ↦ absurd (let e = ap (λ (y : Row). y.def) k.1 in cc)
-  | inr (inl k) ↦ absurd (let e = ap (λ (y : Row). y.def) k.1 in cc)
-  | inr (inr k) ↦ absurd (let e = ap (λ (y : Row). y.def) k.1 in cc)
+no_map p r kids values row part def shows = elim (row_case p.node r row) [
+  | inl k ↦ absurd (let e = ap (λ (y : Row). taken_by y.def) k.1 in cc)
+  | inr (inl k) ↦ absurd (let e = ap (λ (y : Row). taken_by y.def) k.1 in cc)
+  | inr (inr k) ↦ absurd (let e = ap (λ (y : Row). taken_by y.def) k.1 in cc)
 ]
 
 built_is : before.graph.built bind ≡ Some built_before
@@ -375,7 +376,7 @@ begins = record {
   held = λ p. refl;
   last = λ n. refl;
   calls = refl;
-  answers = λ n r f kids c row def l. absurd (cc);
+  answers = λ n r kids c row def l. absurd (cc);
 }
 
 -- ---- the left is computed
@@ -407,7 +408,7 @@ first = record {
   is_row = subject_is;
   taken = least_l;
   own = refl;
-  calls = (refl, λ f ks vs e g. absurd (cc));
+  calls = (refl, λ ks vs e g. absurd (cc));
   count = none_yet;
   heap = record {
     kept = λ q h. let k = not_at before.heap L q h in absurd (k.0 (in_heap q k.1));

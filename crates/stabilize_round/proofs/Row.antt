@@ -63,7 +63,7 @@ begins F = record {
   held = λ a. refl;
   last = λ n. refl;
   calls = refl;
-  answers = λ n r f ks c e d l. absurd (cc);
+  answers = λ n r ks c e d l. absurd (cc);
 }
 
 abbrev heap1 : Point → Bool
@@ -124,7 +124,7 @@ steps F = record {
   is_row = is_row;
   taken = record { heap = at_same p true (λ (a : Point). false); least = λ q h. omega arith };
   own = refl;
-  calls = (refl, λ f ks vs e g. absurd (cc));
+  calls = (refl, λ ks vs e g. absurd (cc));
   count = none_yet;
   heap = record {
     kept = λ q h. h;

@@ -1,5 +1,5 @@
 -- How many calls a round makes.
-use Rattle.std.specs.Prelude.{◌≡◌, ◌+◌, ℕ, true, List, length, Option, None, Some}
+use Rattle.std.specs.Prelude.{◌≡◌, ◌≤◌, ◌+◌, ℕ, true, List, length, Option, None, Some}
 use Rattle.inc_value.specs.declared.function.FnRef.{FnRef}
 use Rattle.inc_value.specs.declared.node.NodeId.{NodeId}
 use Rattle.inc_value.specs.declared.node.Point.{Point}
@@ -9,6 +9,7 @@ use Rattle.inc_terms.specs.Term.{Functions}
 use Rattle.inc_terms.specs.Graph.{Row, Map}
 use Rattle.inc_terms.specs.Need.{Beside, Observed, nodes_of, Held}
 use Rattle.inc_terms.specs.Work.{WithinWork}
+use Rattle.stabilize_round.specs.Calling.{taken_by, costs_of}
 use Rattle.stabilize_round.specs.Counts.{RoseBy}
 use Rattle.stabilize_round.specs.State.{State, Start, Call}
 use Rattle.stabilize_round.specs.Machine.{Entry, Moves, Stops}
@@ -30,9 +31,9 @@ RoundIsWithinWork =
     (F : Functions) (z : Start) (s t : State) (before : Beside) (observers : List Observed) (calls : ℕ) → Entry F z s → Moves F z s t
     → RootsAre t (nodes_of observers) → BeginsFrom z before observers → t.calls ≡ z.calls + calls → WithinWork F t.graph t.died observers before calls
 
--- where a refused round stops, the count of calls rose by at most one for each of some live maps
+-- where a refused round stops, the count of calls rose by at most what it takes to compute each of some live maps and folds
 abbrev pub RefusedCalls : Type 0
 RefusedCalls =
     (F : Functions) (z : Start) (s t u : State) → Entry F z s → Moves F z s t → Stops F z t u
-    → (called : List NodeId) × NoRepeats called × RoseBy z.calls (length called) u.calls
-    × ((n : NodeId) → Among n called → (r : Row) × (f : FnRef) × (kids : List NodeId) × (u.graph.row n ≡ Some r) × (r.def ≡ Map f kids))
+    → (called : List NodeId) × (calls : ℕ) × NoRepeats called × (calls ≤ costs_of u.graph called) × RoseBy z.calls calls u.calls
+    × ((n : NodeId) → Among n called → (r : Row) × (kids : List NodeId) × (u.graph.row n ≡ Some r) × (taken_by r.def ≡ Some kids))

@@ -9,6 +9,7 @@ use Rattle.inc_terms.specs.Graph.{Row}
 use Rattle.inc_terms.specs.Depend.{Depends, main}
 use Rattle.inc_terms.specs.Local.{shown, Exact, Sees, Local}
 use Rattle.inc_terms.specs.Need.{IsRoot, Needed}
+use Rattle.stabilize_round.specs.Calling.{costs_of}
 use Rattle.stabilize_round.specs.Counts.{RoseBy, number_of}
 use Rattle.stabilize_round.specs.State.{State, Start, Full, Linked}
 use Rattle.stabilize_round.specs.Invariant.{HasCalled, Recalls}
@@ -33,7 +34,7 @@ pub record Ended (F : Functions) (z : Start) (s : State) (observed : List NodeId
   pub kept : (n : NodeId) (r : Row) → s.graph.row n ≡ Some r → (Among n s.ran → ⊥) → s.last n ≡ z.last n
   pub once : NoRepeats s.ran
   pub ran : (n : NodeId) → Among n s.ran → HasCalled F z s.graph s.died s.root s.settled s.last n
-  pub calls : RoseBy z.calls (length s.ran) s.calls
+  pub calls : RoseBy z.calls (costs_of s.graph s.ran) s.calls
 
 -- how many of the points aren't settled
 abbrev pub unsettled : (Point → Bool) → List Point → ℕ

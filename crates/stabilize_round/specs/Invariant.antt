@@ -13,6 +13,7 @@ use Rattle.inc_terms.specs.Evaluate.{Values, gathered, GiveAll, Stands}
 use Rattle.inc_terms.specs.Depend.{Depends, main, change, subject_of}
 use Rattle.inc_terms.specs.Local.{shown, by_sight, Agrees, Exact, Scoped, IsRooted, IsBuilt}
 use Rattle.inc_terms.specs.Plan.{targets}
+use Rattle.stabilize_round.specs.Calling.{taken_by, IsAnswer, costs_of}
 use Rattle.stabilize_round.specs.Counts.{RoseBy}
 use Rattle.stabilize_round.specs.State.{State, Start, Call, Bare, Gated, Static, Full, Linked, Reached, count, planned}
 
@@ -60,14 +61,14 @@ pub record Waits (s : State) : Type 0 where
 
 -- ---- outcomes
 
--- a map's main whose kids show values was last called on these
+-- the main of a map or a fold whose kids show values was last called on these
 abbrev pub Recalls : Graph → (Point → Option Outcome) → (NodeId → Option Call) → Point → Type 0
 Recalls G see last p =
-    (r : Row) (f : FnRef) (kids : List NodeId) (values : List Value) → G.row p.node ≡ Some r → p.part ≡ Main → r.def ≡ Map f kids
+    (r : Row) (kids : List NodeId) (values : List Value) → G.row p.node ≡ Some r → p.part ≡ Main → taken_by r.def ≡ Some kids
     → gathered (by_sight see) (refs kids) ≡ Values values
     → (c : Call) × (last p.node ≡ Some c) × (c.arguments ≡ values)
 
--- a point has all its links and agrees with them, and its map was last called on what they show
+-- a point has all its links and agrees with them, and its function was last called on what they show
 abbrev pub IsRight : Functions → State → Point → Type 0
 IsRight F s p = (s.stage p ≡ Full) × Agrees F s.graph s.out p × Recalls s.graph (shown s.graph s.out) s.last p
 
@@ -120,25 +121,26 @@ pub record Meets (F : Functions) (z : Start) (s : State) : Type 0 where
 pub record HasCalled (F : Functions) (z : Start) (G : Graph) (died : NodeId → Option NodeId) (root : Point → ℕ) (settled : Point → Bool)
     (last : NodeId → Option Call) (n : NodeId) : Type 0 where
   pub row : Row
-  pub function : FnRef
   pub kids : List NodeId
   pub values : List Value
+  pub result : Value
   pub is_row : G.row n ≡ Some row
-  pub is_map : row.def ≡ Map function kids
+  pub takes : taken_by row.def ≡ Some kids
   pub is_settled : settled (main n) ≡ true
   pub met : MetNow F z G died root (main n)
   pub gives : GiveAll F G kids values
-  pub is_last : last n ≡ Some (record { arguments = values; result = F.value function values })
+  pub is_last : last n ≡ Some (record { arguments = values; result = result })
+  pub answers : IsAnswer F row.def values result
   pub reason : (c : Call) → z.last n ≡ Some c → c.arguments ≡ values → ⊥
 
--- each function was called once at most, and what it wasn't called for stays; what a call gave is the function's value
+-- each function was called once at most, and what it wasn't called for stays; what calls gave is what the function gives
 pub record Accounts (F : Functions) (z : Start) (s : State) : Type 0 where
   pub once : NoRepeats s.ran
   pub called : (n : NodeId) → Among n s.ran → HasCalled F z s.graph s.died s.root s.settled s.last n
   pub kept : (n : NodeId) (r : Row) → s.graph.row n ≡ Some r → (Among n s.ran → ⊥) → s.last n ≡ z.last n
-  pub calls : RoseBy z.calls (length s.ran) s.calls
-  pub answers : (n : NodeId) (r : Row) (f : FnRef) (kids : List NodeId) (c : Call) → s.graph.row n ≡ Some r → r.def ≡ Map f kids → s.last n ≡ Some c
-      → c.result ≡ F.value f c.arguments
+  pub calls : RoseBy z.calls (costs_of s.graph s.ran) s.calls
+  pub answers : (n : NodeId) (r : Row) (kids : List NodeId) (c : Call) → s.graph.row n ≡ Some r → taken_by r.def ≡ Some kids → s.last n ≡ Some c
+      → IsAnswer F r.def c.arguments c.result
 
 -- ---- all
 

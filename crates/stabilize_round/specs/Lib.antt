@@ -1,5 +1,6 @@
 pub mod Counts
 pub mod State
+pub mod Calling
 pub mod Invariant
 pub mod Moves
 pub mod Ended

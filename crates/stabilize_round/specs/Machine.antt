@@ -1,5 +1,5 @@
 -- A round: what it begins with, its moves, and runs of them.
-use Rattle.std.specs.Prelude.{◌≡◌, ◌⊎◌, ℕ, true, false, Bool, List, [], Option, None, Some}
+use Rattle.std.specs.Prelude.{◌≡◌, ◌⊎◌, ◌≤◌, ℕ, true, false, Bool, List, [], Option, None, Some}
 use Rattle.inc_value.specs.declared.function.FnRef.{FnRef}
 use Rattle.inc_value.specs.declared.node.NodeId.{NodeId}
 use Rattle.inc_value.specs.declared.node.Point.{Point}
@@ -9,6 +9,7 @@ use Rattle.inc_terms.specs.Term.{Functions}
 use Rattle.inc_terms.specs.Graph.{Row, Map}
 use Rattle.inc_terms.specs.Depend.{main}
 use Rattle.inc_terms.specs.Local.{shown, Agrees, Scoped}
+use Rattle.stabilize_round.specs.Calling.{taken_by, IsAnswer, cost_at}
 use Rattle.stabilize_round.specs.Counts.{RoseBy}
 use Rattle.stabilize_round.specs.State.{State, Start, Call, Stage, Bare, Full, count, planned}
 use Rattle.stabilize_round.specs.Invariant.{Recalls, Web, Alive, Rooted, BuiltFor, Strict}
@@ -39,8 +40,8 @@ pub record Entry (F : Functions) (z : Start) (s : State) : Type 0 where
   pub held : (p : Point) → z.held p ≡ s.needed p
   pub last : (n : NodeId) → z.last n ≡ s.last n
   pub calls : z.calls ≡ s.calls
-  pub answers : (n : NodeId) (r : Row) (f : FnRef) (kids : List NodeId) (c : Call) → s.graph.row n ≡ Some r → r.def ≡ Map f kids → s.last n ≡ Some c
-      → c.result ≡ F.value f c.arguments
+  pub answers : (n : NodeId) (r : Row) (kids : List NodeId) (c : Call) → s.graph.row n ≡ Some r → taken_by r.def ≡ Some kids → s.last n ≡ Some c
+      → IsAnswer F r.def c.arguments c.result
 
 -- a move: a main is computed, a change is settled, a link or a root is put on, a point of the worklist goes up a stage or leaves it, more is put into
 -- the heap, a point goes back to a lower stage, a bind is built anew, heights change, refusals become final
@@ -72,13 +73,13 @@ pub data Move (F : Functions) (z : Start) (s t : State) : Type 0 where
 abbrev pub called_more : State → ℕ → State
 called_more s calls' = record s { calls = calls' }
 
--- how a round stops that is refused: as it is; with a bind whose scope died and that couldn't be built; or with a call of a map's function whose
--- result couldn't be kept
+-- how a round stops that is refused: as it is; with a bind whose scope died and that couldn't be built; or with calls of a least
+-- point's function whose result couldn't be kept
 pub data Stops (F : Functions) (z : Start) (s t : State) : Type 0 where
   as_it_is : t ≡ s → Stops F z s t
   unbuilt : {b : NodeId} {now : Outcome} {m : Remade} → Rebuild F z s b now m → m.graph.built b ≡ None → t ≡ remade s m → Stops F z s t
-  unkept : {n : NodeId} {r : Row} {f : FnRef} {kids : List NodeId} {calls' : ℕ} → Quiet s → IsLeast s (main n) → s.graph.row n ≡ Some r
-      → r.def ≡ Map f kids → RoseBy s.calls 1 calls' → t ≡ called_more s calls' → Stops F z s t
+  unkept : {n : NodeId} {r : Row} {kids : List NodeId} {few calls' : ℕ} → Quiet s → IsLeast s (main n) → s.graph.row n ≡ Some r
+      → taken_by r.def ≡ Some kids → few ≤ cost_at s.graph n → RoseBy s.calls few calls' → t ≡ called_more s calls' → Stops F z s t
 
 -- any number of moves
 abbrev pub Moves : Functions → Start → State → State → Type 0

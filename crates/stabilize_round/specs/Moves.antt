@@ -10,6 +10,7 @@ use Rattle.inc_terms.specs.Graph.{Row, Def, Map}
 use Rattle.inc_terms.specs.Evaluate.{gathered, Values}
 use Rattle.inc_terms.specs.Depend.{main, change, subject_of}
 use Rattle.inc_terms.specs.Local.{shown, by_sight, own, IsBuilt}
+use Rattle.stabilize_round.specs.Calling.{taken_by, IsAnswer, cost_at}
 use Rattle.stabilize_round.specs.Counts.{RoseBy}
 use Rattle.stabilize_round.specs.State.{State, Call, Static, Gated, Full, Linked, at_point, at_node}
 
@@ -31,22 +32,23 @@ pub record Enqueues (s : State) (heap heap' : Point → Bool) (May Must : Point 
 -- what a node's function was last called on, after its main was computed anew: it was called, or that stays
 abbrev pub Calls : Functions → State → NodeId → Def → Option Call → Bool → Type 0
 Calls F s n def last' false = (last' ≡ s.last n)
-    × ((f : FnRef) (kids : List NodeId) (values : List Value) → def ≡ Map f kids
+    × ((kids : List NodeId) (values : List Value) → taken_by def ≡ Some kids
     → gathered (by_sight (shown s.graph s.out)) (refs kids) ≡ Values values → (c : Call) × (s.last n ≡ Some c) × (c.arguments ≡ values))
 Calls F s n def last' true =
-    (f : FnRef) × (kids : List NodeId) × (values : List Value) × (def ≡ Map f kids)
+    (kids : List NodeId) × (values : List Value) × (result : Value) × (taken_by def ≡ Some kids)
     × (gathered (by_sight (shown s.graph s.out)) (refs kids) ≡ Values values)
-    × ((c : Call) → s.last n ≡ Some c → c.arguments ≡ values → ⊥) × (last' ≡ Some (record { arguments = values; result = F.value f values }))
+    × ((c : Call) → s.last n ≡ Some c → c.arguments ≡ values → ⊥) × (last' ≡ Some (record { arguments = values; result = result }))
+    × IsAnswer F def values result
 
 -- the nodes whose functions were called, with this one where its was
 abbrev pub ran_more : NodeId → Bool → List NodeId → List NodeId
 ran_more n true ns = n ∷ ns
 ran_more n false ns = ns
 
--- a main calls its function once or not at all
-abbrev pub calls_of : Bool → ℕ
-calls_of true = 1
-calls_of false = 0
+-- a main calls its function as often as it takes, or not at all
+abbrev pub calls_of : Bool → ℕ → ℕ
+calls_of true cost = cost
+calls_of false cost = 0
 
 -- a main was computed
 abbrev pub computed : State → NodeId → Outcome → (Point → Bool) → Option Call → Bool → ℕ → State
@@ -68,7 +70,7 @@ pub record StepMain (F : Functions) (s : State) (n : NodeId) (o : Outcome) (heap
   pub taken : IsLeast s (main n)
   pub own : own F s.graph (shown s.graph s.out) n row.def ≡ Some o
   pub calls : Calls F s n row.def last' called
-  pub count : RoseBy s.calls (calls_of called) calls'
+  pub count : RoseBy s.calls (calls_of called (cost_at s.graph n)) calls'
   pub heap : Enqueues s (at_point (main n) false s.heap) heap' (λ (q : Point). Linked s q (main n))
       (λ (q : Point). Linked s q (main n) × (s.out (main n) ≡ Some o → ⊥))
 
