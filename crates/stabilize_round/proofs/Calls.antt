@@ -12,7 +12,7 @@ use Rattle.inc_terms.specs.Depend.{Depends, main}
 use Rattle.inc_terms.specs.Evaluate.{GiveAll}
 use Rattle.inc_terms.specs.Need.{Beside, Observed, nodes_of, Held, Met, from_root, from_held}
 use Rattle.inc_terms.specs.Work.{Visit, other, IsDueVisit}
-use Rattle.stabilize_round.specs.Counts.{RoseBy}
+use Rattle.stabilize_round.specs.Counts.{RoseAtMost}
 use Rattle.stabilize_round.specs.State.{State, Start, Call}
 use Rattle.stabilize_round.specs.Invariant as invariant
 use Rattle.stabilize_round.specs.Invariant.{Invariant, MetNow, HasCalled}
@@ -21,13 +21,10 @@ use Rattle.stabilize_round.specs.Ended.{RootsAre}
 use Rattle.stabilize_round.specs.Calls.{BeginsFrom, RoundIsWithinWork, RefusedCalls}
 use Rattle.stabilize_round.specs.Calling.{taken_by, cost_at, costs_of}
 use Rattle.stabilize_round.proofs.Calling.{kids_taken, cost_of_taken}
-use Rattle.stabilize_round.proofs.Counts.{more_on}
+use Rattle.stabilize_round.proofs.Counts.{at_most, at_most_on}
 use Rattle.stabilize_round.proofs.Entry.{entry_holds}
 use Rattle.stabilize_round.proofs.Machine.{moves_keep}
 use Rattle.stabilize_round.proofs.Rebuilding.{rebuild_keeps}
-
-grown : (a b c : ℕ) → a ≤ b → a + c ≤ b + c
-grown a b c h = omega (arith, h)
 
 module _ (F : Functions) (z : Start) (t : State) (inv : Invariant F z t) (before : Beside) (observers : List Observed)
     (are : RootsAre t (nodes_of observers)) (from : BeginsFrom z before observers) where
@@ -121,11 +118,11 @@ ran_called F z u inv n a = let c = inv.accounts.called n a in (c.row, c.kids, c.
 
 abbrev CalledAtMost : Start → State → Type 0
 CalledAtMost z u =
-    (called : List NodeId) × (calls : ℕ) × NoRepeats called × (calls ≤ costs_of u.graph called) × RoseBy z.calls calls u.calls
+    (called : List NodeId) × NoRepeats called × RoseAtMost z.calls (costs_of u.graph called) u.calls
     × ((n : NodeId) → Among n called → IsCalled u n)
 
 ran_alone : (F : Functions) (z : Start) (u : State) → Invariant F z u → CalledAtMost z u
-ran_alone F z u inv = (u.ran, costs_of u.graph u.ran, inv.accounts.once, omega arith, inv.accounts.calls, (λ n a. ran_called F z u inv n a))
+ran_alone F z u inv = (u.ran, inv.accounts.once, at_most inv.accounts.calls, (λ n a. ran_called F z u inv n a))
 
 pub refused_calls : RefusedCalls
 refused_calls F z s t u entry run (as_it_is e) =
@@ -133,9 +130,9 @@ refused_calls F z s t u entry run (as_it_is e) =
 refused_calls F z s t u entry run (unbuilt {b} {now} {m} r none e) =
     subst (λ (x : State). CalledAtMost z x) (sym e)
     (ran_alone F z _ (rebuild_keeps F z t (moves_keep F z s t run (entry_holds F z s entry)) b now m r (inl none)))
-refused_calls F z s t u entry run (unkept {n} {r} {kids} {few} {calls'} quiet taken row takes least count e) =
+refused_calls F z s t u entry run (unkept {n} {r} {kids} {calls'} quiet taken row takes count e) =
     subst (λ (x : State). CalledAtMost z x) (sym e)
-    (n ∷ t.ran, few + costs_of t.graph t.ran, (not_ran, inv.accounts.once), at_most, more_on inv.accounts.calls count, called)
+    (n ∷ t.ran, (not_ran, inv.accounts.once), counted, called)
   where
     inv : Invariant F z t
     inv = moves_keep F z s t run (entry_holds F z s entry)
@@ -143,8 +140,9 @@ refused_calls F z s t u entry run (unkept {n} {r} {kids} {few} {calls'} quiet ta
     not_ran : Among n t.ran → ⊥
     not_ran a = let x : Main ≡ Change = inv.settled.twice (main n) (inv.accounts.called n a).is_settled taken.heap in cc
 
-    at_most : few + costs_of t.graph t.ran ≤ costs_of t.graph (n ∷ t.ran)
-    at_most = rw (sum_by-cons (cost_at t.graph) n t.ran) (grown few (cost_at t.graph n) (costs_of t.graph t.ran) least)
+    counted : RoseAtMost z.calls (costs_of t.graph (n ∷ t.ran)) calls'
+    counted = subst (λ (k : ℕ). RoseAtMost z.calls k calls') (sym (sum_by-cons (cost_at t.graph) n t.ran))
+        (at_most_on (at_most inv.accounts.calls) count)
 
     called : (m : NodeId) → Among m (n ∷ t.ran) → IsCalled t m
     called m (inl is) = (r, kids, subst (λ (y : NodeId). t.graph.row y ≡ Some r) (sym is) row, takes)

@@ -1,7 +1,7 @@
 -- Counts that rise, and numbers of a list.
 use Rattle.std.proofs.Common.{◌≡◌, inl, inr, ℕ, ◌+◌, ◌≤◌, ◌<◌, Bool, true, false, List, [], ◌∷◌, refl, subst, arith}
 use Rattle.inc_value.specs.Choice.{Among}
-use Rattle.stabilize_round.specs.Counts.{last_count, RoseBy, number_of}
+use Rattle.stabilize_round.specs.Counts.{last_count, RoseBy, RoseAtMost, number_of}
 
 -- it rose by nothing
 pub none_yet : {n : ℕ} → RoseBy n 0 n
@@ -26,6 +26,13 @@ pub more_on : {a k b j c : ℕ} → RoseBy a k b → RoseBy b j c → RoseBy a (
 more_on {a} {k} {b} {j} {c} first next =
     let r = rose_on first next in
     let x = r.kept in let y = r.most in record { kept = x; most = omega arith; exact = λ h. let e = r.exact h in omega arith }
+
+pub at_most : {a k b : ℕ} → RoseBy a k b → RoseAtMost a k b
+at_most {a} {k} {b} h = let x = h.kept in let y = h.most in record { kept = x; within = y }
+
+pub at_most_on : {a k b j c : ℕ} → RoseAtMost a k b → RoseAtMost b j c → RoseAtMost a (j + k) c
+at_most_on {a} {k} {b} {j} {c} first next =
+    let x = first.kept in let y = next.kept in let u = first.within in let v = next.within in record { kept = omega arith; within = omega arith }
 
 -- where what is so was so, no more are
 pub no_more : {A : Type 0} (f g : A → Bool) → ((x : A) → g x ≡ true → f x ≡ true) → (xs : List A) → number_of g xs ≤ number_of f xs

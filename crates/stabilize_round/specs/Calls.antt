@@ -1,5 +1,5 @@
 -- How many calls a round makes.
-use Rattle.std.specs.Prelude.{◌≡◌, ◌≤◌, ◌+◌, ℕ, true, List, length, Option, None, Some}
+use Rattle.std.specs.Prelude.{◌≡◌, ◌+◌, ℕ, true, List, length, Option, None, Some}
 use Rattle.inc_value.specs.declared.function.FnRef.{FnRef}
 use Rattle.inc_value.specs.declared.node.NodeId.{NodeId}
 use Rattle.inc_value.specs.declared.node.Point.{Point}
@@ -10,7 +10,7 @@ use Rattle.inc_terms.specs.Graph.{Row, Map}
 use Rattle.inc_terms.specs.Need.{Beside, Observed, nodes_of, Held}
 use Rattle.inc_terms.specs.Work.{WithinWork}
 use Rattle.stabilize_round.specs.Calling.{taken_by, costs_of}
-use Rattle.stabilize_round.specs.Counts.{RoseBy}
+use Rattle.stabilize_round.specs.Counts.{RoseAtMost}
 use Rattle.stabilize_round.specs.State.{State, Start, Call}
 use Rattle.stabilize_round.specs.Machine.{Entry, Moves, Stops}
 use Rattle.stabilize_round.specs.Ended.{RootsAre}
@@ -35,5 +35,5 @@ RoundIsWithinWork =
 abbrev pub RefusedCalls : Type 0
 RefusedCalls =
     (F : Functions) (z : Start) (s t u : State) → Entry F z s → Moves F z s t → Stops F z t u
-    → (called : List NodeId) × (calls : ℕ) × NoRepeats called × (calls ≤ costs_of u.graph called) × RoseBy z.calls calls u.calls
+    → (called : List NodeId) × NoRepeats called × RoseAtMost z.calls (costs_of u.graph called) u.calls
     × ((n : NodeId) → Among n called → (r : Row) × (kids : List NodeId) × (u.graph.row n ≡ Some r) × (taken_by r.def ≡ Some kids))

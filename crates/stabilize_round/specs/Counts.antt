@@ -11,6 +11,11 @@ pub record RoseBy (before more after : ℕ) : Type 0 where
   pub most : after ≤ before + more
   pub exact : after < last_count → after ≡ before + more
 
+-- the count rose by so much at most
+pub record RoseAtMost (before most after : ℕ) : Type 0 where
+  pub kept : before ≤ after
+  pub within : after ≤ before + most
+
 -- how many of the list are so
 abbrev pub number_of : {A : Type 0} → (A → Bool) → List A → ℕ
 number_of f [] = 0

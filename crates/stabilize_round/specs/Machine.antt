@@ -1,5 +1,5 @@
 -- A round: what it begins with, its moves, and runs of them.
-use Rattle.std.specs.Prelude.{◌≡◌, ◌⊎◌, ◌≤◌, ℕ, true, false, Bool, List, [], Option, None, Some}
+use Rattle.std.specs.Prelude.{◌≡◌, ◌⊎◌, ℕ, true, false, Bool, List, [], Option, None, Some}
 use Rattle.inc_value.specs.declared.function.FnRef.{FnRef}
 use Rattle.inc_value.specs.declared.node.NodeId.{NodeId}
 use Rattle.inc_value.specs.declared.node.Point.{Point}
@@ -10,7 +10,7 @@ use Rattle.inc_terms.specs.Graph.{Row, Map}
 use Rattle.inc_terms.specs.Depend.{main}
 use Rattle.inc_terms.specs.Local.{shown, Agrees, Scoped}
 use Rattle.stabilize_round.specs.Calling.{taken_by, IsAnswer, cost_at}
-use Rattle.stabilize_round.specs.Counts.{RoseBy}
+use Rattle.stabilize_round.specs.Counts.{RoseAtMost}
 use Rattle.stabilize_round.specs.State.{State, Start, Call, Stage, Bare, Full, count, planned}
 use Rattle.stabilize_round.specs.Invariant.{Recalls, Web, Alive, Rooted, BuiltFor, Strict}
 use Rattle.stabilize_round.specs.Moves.{Quiet, IsLeast, Enqueues, computed, StepMain, changed, StepChange}
@@ -78,8 +78,8 @@ called_more s calls' = record s { calls = calls' }
 pub data Stops (F : Functions) (z : Start) (s t : State) : Type 0 where
   as_it_is : t ≡ s → Stops F z s t
   unbuilt : {b : NodeId} {now : Outcome} {m : Remade} → Rebuild F z s b now m → m.graph.built b ≡ None → t ≡ remade s m → Stops F z s t
-  unkept : {n : NodeId} {r : Row} {kids : List NodeId} {few calls' : ℕ} → Quiet s → IsLeast s (main n) → s.graph.row n ≡ Some r
-      → taken_by r.def ≡ Some kids → few ≤ cost_at s.graph n → RoseBy s.calls few calls' → t ≡ called_more s calls' → Stops F z s t
+  unkept : {n : NodeId} {r : Row} {kids : List NodeId} {calls' : ℕ} → Quiet s → IsLeast s (main n) → s.graph.row n ≡ Some r
+      → taken_by r.def ≡ Some kids → RoseAtMost s.calls (cost_at s.graph n) calls' → t ≡ called_more s calls' → Stops F z s t
 
 -- any number of moves
 abbrev pub Moves : Functions → Start → State → State → Type 0
