@@ -23,7 +23,7 @@ use Rattle.stabilizer.proofs.Between.{code_row}
 use Rattle.script_model.specs.Blocked.{InTheWay, on_cycle, too_deep}
 use Rattle.script_model.specs.Check.{is_among}
 use Rattle.script_model.specs.Depth.{TooDeep}
-use Rattle.script_model.specs.Formula.{State, Entry, Body, Formula, Observer, Meanings, meanings_of, Literal, Name, Apply, Variable, Computed}
+use Rattle.script_model.specs.Formula.{State, Entry, Body, Formula, Observer, Meanings, meanings_of, Literal, Name, Apply, Fold, Variable, Computed}
 use Rattle.script_model.specs.Need.{Item, Visit, IsVisit, Needed, from_root, WithinWork}
 use Rattle.script_model.specs.Settle.{Becomes, BecomeAll, Builds, ShowAll}
 use Rattle.script_model.specs.Step.{Moment, NothingNeededIsBlocked, settles}
@@ -58,6 +58,7 @@ plain_builds : (F : Meanings) (before s : State) (n : ℕ) (f : Formula) (P : �
 plain_builds F before s n (Literal v) P fine was = refl
 plain_builds F before s n (Name m) P fine was = refl
 plain_builds F before s n (Apply g arguments) P fine was = refl
+plain_builds F before s n (Fold g first elements) P fine was = refl
 plain_builds F before s n f P fine was = absurd fine
 
 plain_becomes : (F : Meanings) (before s after : State) (n : ℕ) (b : Body) (P : ℕ → Type 0) → IsPlainBody P b → Becomes F before s after n b b

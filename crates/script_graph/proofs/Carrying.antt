@@ -53,14 +53,14 @@ base_values nodes nodes' (v ∷ vs) base = rw (base_value nodes nodes' v base.0,
 
 -- ---- visits of plain states
 
--- a visit is of an application, and none of its values is a reference
+-- a visit is of a place whose formula is no bare name, and none of its values is a reference
 pub record IsOfPlace (before : State) (v : Visit) : Type 0 where
   pub owner : ℕ
   pub path : List Edge
-  pub function : FnRef
-  pub arguments : Formulas
+  pub formula : Formula
   pub item : v.item ≡ Place owner path
-  pub formula : formula_at before owner path ≡ Some (Apply function arguments)
+  pub stands : formula_at before owner path ≡ Some formula
+  pub own : IsOwnFormula (Some formula)
   pub base : Every (λ (w : Value). IsBase (type_of w)) v.values
 
 joined_values : (a : Option Outcome) (g : Gathered) (vs : List Value) → joined a g ≡ Values vs
@@ -85,30 +85,34 @@ module _ (named : List ℕ → Option FnRef) (value : FnRef → List GraphValue 
       let first = gives_base named value before fine d P E f (Val o.0) all.0 o.2 in
       subst (λ (ws : List Value). Every (λ (v : Value). IsBase (type_of v)) ws) (sym o.4) (first, values_base P d E fs o.1 all.1 o.3)
 
-  with_values : (owner : ℕ) (path : List Edge) (f : FnRef) (fs : Formulas) (d : ℕ) (v : Visit) → formula_at before owner path ≡ Some (Apply f fs)
+  with_values : (owner : ℕ) (path : List Edge) (f : Formula) (fs : Formulas) (cost : List Value → ℕ) (d : ℕ) (v : Visit)
+      → formula_at before owner path ≡ Some f → IsOwnFormula (Some f) → ArePlain (IsEarlierTarget before owner) fs
       → v.item ≡ Place owner path → (g : Gathered) → gathered (each_of (value_at F before d (environment path)) fs) ≡ g
-      → Among v (visit_with before (Place owner path) once g) → IsOfPlace before v
-  with_values owner path f fs d v is item Unknown e among = absurd among
-  with_values owner path f fs d v is item SomeInvalid e among = absurd among
-  with_values owner path f fs d v is item (Values values) e (inl same) =
-      let base = values_base (IsEarlierTarget before owner) d (environment path) fs values (plain_place before fine owner path (Apply f fs) is) e in
+      → Among v (visit_with before (Place owner path) cost g) → IsOfPlace before v
+  with_values owner path f fs cost d v is own all item Unknown e among = absurd among
+  with_values owner path f fs cost d v is own all item SomeInvalid e among = absurd among
+  with_values owner path f fs cost d v is own all item (Values values) e (inl same) =
+      let base = values_base (IsEarlierTarget before owner) d (environment path) fs values all e in
       record {
         owner = owner;
         path = path;
-        function = f;
-        arguments = fs;
+        formula = f;
         item = item;
-        formula = is;
+        stands = is;
+        own = own;
         base = subst (λ (w : Visit). Every (λ (u : Value). IsBase (type_of u)) w.values) (sym same) base;
       }
-  with_values owner path f fs d v is item (Values values) e (inr none) = absurd none
+  with_values owner path f fs cost d v is own all item (Values values) e (inr none) = absurd none
 
   at_place : (owner : ℕ) (path : List Edge) (d : ℕ) (v : Visit) → v.item ≡ Place owner path → (f : Option Formula) → formula_at before owner path ≡ f
       → Among v (formula_visits before (Place owner path) (value_at F before d (environment path)) f) → IsOfPlace before v
   at_place owner path d v item None is among = absurd among
   at_place owner path d v item (Some (Apply f fs)) is among =
-      with_values owner path f fs d v is item (gathered (each_of (value_at F before d (environment path)) fs)) refl among
-  at_place owner path d v item (Some (Fold f first fs)) is among = absurd (plain_place before fine owner path (Fold f first fs) is)
+      with_values owner path (Apply f fs) fs once d v is tt (plain_place before fine owner path (Apply f fs) is) item
+      (gathered (each_of (value_at F before d (environment path)) fs)) refl among
+  at_place owner path d v item (Some (Fold f first fs)) is among =
+      with_values owner path (Fold f first fs) fs length d v is tt (plain_place before fine owner path (Fold f first fs) is).1 item
+      (gathered (each_of (value_at F before d (environment path)) fs)) refl among
   at_place owner path d v item (Some f) is among = absurd among
 
   at_name : (n d : ℕ) (v : Visit) (b : Option Body) → ((c : Body) → b ≡ Some c → IsPlainBody (IsEarlierTarget before n) c)
@@ -237,12 +241,12 @@ module _ (named : List ℕ → Option FnRef) (value : FnRef → List GraphValue 
   ran_on : (st : Settled M before s k) (v : Visit) → IsVisit M before v → WasRun (beside M s k) k v → WasRun (beside M s' k') k' v
   ran_on st v is w =
       let at = visit_of_place named value before st.plain v is in
-      let formula = st.formulas at.owner at.path (Apply at.function at.arguments) at.formula in
+      let formula = st.formulas at.owner at.path at.formula at.stands in
       let node : node_at (beside M s k) at.owner at.path ≡ Some w.node =
       sym (ap (λ (i : Item). node_of (beside M s k) i) at.item) ∙ w.is_node in
-      let then = place_on M s s' k k' kept at.owner (whole at.owner at.path (Apply at.function at.arguments) formula) at.path w.node node in
-      let within = aged_item M s k held (Place at.owner at.path) w.node (subst (λ (o : Option Formula). IsOwnFormula o) (sym formula) tt) node in
-      let low = given at.owner at.path (Apply at.function at.arguments) formula in
+      let then = place_on M s s' k k' kept at.owner (whole at.owner at.path at.formula formula) at.path w.node node in
+      let within = aged_item M s k held (Place at.owner at.path) w.node (subst (λ (o : Option Formula). IsOwnFormula o) (sym formula) at.own) node in
+      let low = given at.owner at.path at.formula formula in
       record {
         node = w.node;
         is_node = ap (λ (i : Item). node_of (beside M s' k') i) at.item ∙ then;

@@ -16,7 +16,7 @@ use Rattle.node_arena.specs.Arena.{row_at}
 use Rattle.node_arena.specs.Graph.{graph_of}
 use Rattle.node_arena.specs.Sound as arena
 use Rattle.script_model.specs.Check.{Declare, Declared, Names, declared_of, kind_of_body, names_of, target_of_body}
-use Rattle.script_model.specs.Formula.{State, Body, Entry, Formula, Formulas, Meanings, meanings_of, body_at, entry_at, formula_of_body, places_of_body, Literal, Name, Apply, End, More, Variable, Computed}
+use Rattle.script_model.specs.Formula.{State, Body, Entry, Formula, Formulas, Meanings, meanings_of, body_at, entry_at, formula_of_body, places_of_body, Literal, Name, Apply, Fold, End, More, Variable, Computed}
 use Rattle.script_model.specs.Need.{part_of}
 use Rattle.script_model.specs.Run.{calls_of_body}
 use Rattle.script_model.specs.Step.{Moment, declared_in, moved}
@@ -44,6 +44,7 @@ module _ (P Q : ℕ → Type 0) (more : (n : ℕ) → P n → Q n) where
     plain_more (Literal v) fine = fine
     plain_more (Name n) fine = more n fine
     plain_more (Apply f arguments) fine = plain_all_more arguments fine
+    plain_more (Fold f first elements) fine = (fine.0, plain_all_more elements fine.1)
     plain_more f fine = absurd fine
 
     plain_all_more : (fs : Formulas) → ArePlain P fs → ArePlain Q fs
@@ -283,12 +284,12 @@ module _ (named : List ℕ → Option FnRef) (value : FnRef → List GraphValue 
     aged_each n b is = elim (body_of s name ty body n b is) [
       | inl h ↦ subst (λ (q : NodeId). OwnNodesOf (graph_of g.parts.arena) (IsWithin new.nodes n) q b) (sym (node_old n h.0))
           (own_nodes_of_on (graph_of (arena_of k)) (graph_of g.parts.arena) (IsWithin k.nodes n) (IsWithin new.nodes n) (within_old n h.0)
-          (λ q r f kids row def. live_stays k.graph g sound more q r row) (node_in k.nodes n) b (held.aged n b h.1))
+          stays (node_in k.nodes n) b (held.aged n b h.1))
       | inr h ↦ subst (λ (j : ℕ). OwnNodesOf (graph_of g.parts.arena) (IsWithin new.nodes j) (node_in new.nodes j) b) (sym h.0)
           (subst (λ (q : NodeId). OwnNodesOf (graph_of g.parts.arena) (IsWithin new.nodes (length s.entries)) q b) (sym node_new)
           (subst (λ (c : Body). OwnNodesOf (graph_of g.parts.arena) (IsWithin new.nodes (length s.entries)) root c) (sym h.1)
           (own_nodes_of_on (graph_of g.parts.arena) (graph_of g.parts.arena) (λ (q : NodeId). ((arena_of k).given ≤ q.gen_) × (q.gen_ ≤ root.gen_))
-          (IsWithin new.nodes (length s.entries)) within_new (λ q r f kids row def. row) root body owned)))
+          (IsWithin new.nodes (length s.entries)) within_new (λ q r u row def. row) root body owned)))
     ]
 
     targets_each : (n : ℕ) (e : Entry) → entry_at s' n ≡ Some e → e.target ≡ target_of_body n e.body

@@ -2,26 +2,25 @@
 use Rattle.std.proofs.Common.{◌≡◌, inl, inr, ℕ, zero, suc, ◌+◌, Bool, true, false, List, [], ◌∷◌, ◌++◌, map, length, Option, None, Some, refl, ap, sym, subst, ◌∙◌, arith, slice_get}
 use Rattle.inc_value.specs.Choice.{Among, and_then}
 use Rattle.inc_value.specs.Walk.{IsWalk as IsGraphWalk, IsDeep}
-use Rattle.inc_value.specs.declared.function.FnRef.{FnRef}
 use Rattle.inc_value.specs.declared.node.NodeId.{NodeId}
 use Rattle.inc_value.specs.declared.node.Point.{Point as GraphPoint}
 use Rattle.inc_terms.specs.Depend.{Depends as GraphDepends, main, kids_of, ReadsKid}
-use Rattle.inc_terms.specs.Graph.{Row, Def}
+use Rattle.inc_terms.specs.Graph.{Row}
 use Rattle.inc_terms.specs.Term as term
 use Rattle.inc_terms.specs.Term.{refs}
 use Rattle.inc_terms.proofs.Plan.{among_map}
 use Rattle.script_model.specs.Depth as depth
 use Rattle.script_model.specs.Depth.{Point, Main, Change, node_of_body, node_of_formula, mains, change_of, main_points, change_points, scoped_points, body_points, points_at, Depends, IsWalk, points_of, TooDeep}
 use Rattle.script_model.specs.Evaluate.{chosen, value_at}
-use Rattle.script_model.specs.Formula.{State, Body, Formula, Formulas, body_at, Literal, Name, Apply, End, More, Variable, Computed}
+use Rattle.script_model.specs.Formula.{State, Body, Formula, Formulas, body_at, Literal, Name, Apply, Fold, End, More, Variable, Computed}
 use Rattle.script_model.specs.Need.{Edge, Argument, Item, Named, Place, environment, rounds, bind_around, argument_at, part_at, formula_at, argument_places}
 use Rattle.script_model.proofs.TypedCalls.{part_stands}
 use Rattle.script_graph.specs.Plain.{IsPlain, IsPlainBody, IsEarlierTarget, AllPlain}
 use Rattle.script_graph.proofs.Plain.{plain_place}
-use Rattle.transfer.specs.Both.{Both}
+use Rattle.transfer.specs.Both.{Both, graph_value}
 use Rattle.transfer.specs.Items.{part_node, node_at, node_of, around, scope_at}
 use Rattle.transfer.specs.Shows.{Mode, Built, Binding, ShowsAll, Fits}
-use Rattle.transfer.proofs.Places.{plain_map, map_parts, opened, part_above, place_shows}
+use Rattle.transfer.proofs.Places.{plain_map, plain_fold, map_parts, fold_parts, opened, part_above, place_shows}
 
 -- ---- arguments
 
@@ -48,6 +47,8 @@ not_inside : (P : ℕ → Type 0) (g : Formula) → IsPlain P g → (edge : Edge
     → bind_around 0 (edge ∷ path) ≡ bind_around 0 path
 not_inside P (Apply h arguments) fine (Argument j) f e path = refl
 not_inside P (Apply h arguments) fine edge f e path = absurd (cc)
+not_inside P (Fold h first elements) fine (Argument j) f e path = refl
+not_inside P (Fold h first elements) fine edge f e path = absurd (cc)
 not_inside P (Literal v) fine edge f e path = absurd (cc)
 not_inside P (Name n) fine edge f e path = absurd (cc)
 not_inside P g fine edge f e path = absurd fine
@@ -70,6 +71,7 @@ no_change : (s : State) (owner : ℕ) (path : List Edge) (P : ℕ → Type 0) (f
 no_change s owner path P (Literal v) fine = refl
 no_change s owner path P (Name n) fine = refl
 no_change s owner path P (Apply g arguments) fine = refl
+no_change s owner path P (Fold g first elements) fine = refl
 no_change s owner path P f fine = absurd fine
 
 module _ (x : Both) (fits : Fits x) (plain : AllPlain x.state)
@@ -87,6 +89,7 @@ module _ (x : Both) (fits : Fits x) (plain : AllPlain x.state)
       → formula_at x.state owner path ≡ Some f → node_at x owner path ≡ Some n → node_of x (node_of_formula x.state (Place owner path) (Some f)) ≡ Some n
   place_node owner path n (Literal v) fine is at = at
   place_node owner path n (Apply g arguments) fine is at = at
+  place_node owner path n (Fold g first elements) fine is at = at
   place_node owner path n (Name t) fine is at =
       let shows = place_shows x fits owner path n (Name t) is at in
       let same : x.nodes t ≡ n = cc in
@@ -109,31 +112,31 @@ module _ (x : Both) (fits : Fits x) (plain : AllPlain x.state)
     is_node : node_of x item ≡ Some node
     depends_on : GraphDepends x.functions x.graph x.died (main n) (main node)
 
-  argument_follows : (owner : ℕ) (path : List Edge) (f : FnRef) (fs : Formulas) (n : NodeId) (q : Point)
-      → formula_at x.state owner path ≡ Some (Apply f fs) → node_at x owner path ≡ Some n → Among q (mains x.state (argument_places owner path 0 fs))
-      → Follows n q
-  argument_follows owner path f fs n q is at among =
-      let shows = place_shows x fits owner path n (Apply f fs) is at in
-      let o = opened x.graph (scope_at x owner path) n (term.Map f shows.0) shows.1 in
-      let m = plain_map o.0.def f shows.0 o.3 in
+  -- the node of a formula with arguments, or elements, lists their nodes
+  argument_follows : (owner : ℕ) (path : List Edge) (f : Formula) (fs : Formulas) (n : NodeId) (r : Row) (kids : List NodeId) (q : Point)
+      → formula_at x.state owner path ≡ Some f → node_at x owner path ≡ Some n → x.graph.row n ≡ Some r
+      → ((j : ℕ) → part_at f (Argument j) ≡ argument_at fs j) → ((j : ℕ) → part_node r.def (Argument j) ≡ slice_get kids j)
+      → kids_of x.graph n r.def ≡ kids → ShowsAll x (Built (scope_at x owner path)) (around x owner path) (refs kids) fs
+      → Among q (mains x.state (argument_places owner path 0 fs)) → Follows n q
+  argument_follows owner path f fs n r kids q is at row parts part_nodes listed shows among =
       let a = argument_main x.state owner path 0 fs q among in
-      let kid = argument_kid x (Built (scope_at x owner path)) (around x owner path) m.0 fs a.0 a.1 (rw m.2 at shows.2) a.2 in
+      let kid = argument_kid x (Built (scope_at x owner path)) (around x owner path) kids fs a.0 a.1 shows a.2 in
       let none : 0 + a.0 ≡ a.0 = omega arith in
       let formula : formula_at x.state owner (Argument a.0 ∷ path) ≡ Some a.1 =
-      part_stands x.state owner path (Argument a.0) ∙ (ap (λ (g : Option Formula). and_then g (λ h. part_at h (Argument a.0))) is ∙ a.2) in
+      part_stands x.state owner path (Argument a.0) ∙ (ap (λ (g : Option Formula). and_then g (λ h. part_at h (Argument a.0))) is ∙ (parts a.0 ∙ a.2)) in
       let node : node_at x owner (Argument a.0 ∷ path) ≡ Some kid.0 =
-      ap (λ (y : Option NodeId). and_then y (λ b. and_then (x.graph.row b) (λ (r : Row). part_node r.def (Argument a.0)))) at
-      ∙ (ap (λ (y : Option Row). and_then y (λ (r : Row). part_node r.def (Argument a.0))) o.1 ∙ (map_parts o.0.def f m.0 m.1 a.0 ∙ kid.1)) in
+      ap (λ (y : Option NodeId). and_then y (λ b. and_then (x.graph.row b) (λ (w : Row). part_node w.def (Argument a.0)))) at
+      ∙ (ap (λ (y : Option Row). and_then y (λ (w : Row). part_node w.def (Argument a.0))) row ∙ (part_nodes a.0 ∙ kid.1)) in
       record {
         item = depth.node_of x.state (Place owner (Argument a.0 ∷ path));
         node = kid.0;
         is_main = a.3 ∙ ap (λ (j : ℕ). Main (depth.node_of x.state (Place owner (Argument j ∷ path)))) none;
         is_node = own_place owner (Argument a.0 ∷ path) kid.0 a.1 formula node;
         depends_on = depends (main n) (main kid.0) (record {
-          row = o.0;
-          is_row = o.1;
+          row = r;
+          is_row = row;
           is_main = refl;
-          is_kid = subst (λ (d : Def). Among (main kid.0) (map main (kids_of x.graph n d))) (sym m.1) (among_map main kid.0 m.0 kid.2);
+          is_kid = subst (λ (ns : List NodeId). Among (main kid.0) (map main ns)) (sym listed) (among_map main kid.0 kids kid.2);
         });
       }
 
@@ -141,9 +144,22 @@ module _ (x : Both) (fits : Fits x) (plain : AllPlain x.state)
       → formula_at x.state owner path ≡ Some f → node_at x owner path ≡ Some n
       → Among q (scoped_points x.meanings x.state d owner path (main_points x.state (value_at x.meanings x.state d (environment path)) owner path f) f)
       → Follows n q
-  place_follows owner path d (Apply f fs) n q fine is at among = argument_follows owner path f fs n q is at
+  place_follows owner path d (Apply f fs) n q fine is at among =
+      let shows = place_shows x fits owner path n (Apply f fs) is at in
+      let o = opened x.graph (scope_at x owner path) n (term.Map f shows.0) shows.1 in
+      let m = plain_map o.0.def f shows.0 o.3 in
+      argument_follows owner path (Apply f fs) fs n o.0 m.0 q is at o.1 (λ j. refl) (map_parts o.0.def f m.0 m.1) (ap (kids_of x.graph n) m.1)
+      (rw m.2 at shows.2)
       (points_alone owner (bind_around 0 path) (depth.stands_at x.meanings x.state d owner (rounds path))
       (mains x.state (argument_places owner path 0 fs)) q (no_bind x.state plain owner path (Apply f fs) is) among)
+  place_follows owner path d (Fold f v fs) n q fine is at among =
+      let shows = place_shows x fits owner path n (Fold f v fs) is at in
+      let o = opened x.graph (scope_at x owner path) n (term.Fold f (graph_value x.nodes v) shows.0) shows.1 in
+      let m = plain_fold o.0.def f (graph_value x.nodes v) shows.0 o.3 in
+      argument_follows owner path (Fold f v fs) fs n o.0 m.0 q is at o.1 (λ j. refl) (fold_parts o.0.def f (graph_value x.nodes v) m.0 m.1)
+      (ap (kids_of x.graph n) m.1) (rw m.2 at shows.2)
+      (points_alone owner (bind_around 0 path) (depth.stands_at x.meanings x.state d owner (rounds path))
+      (mains x.state (argument_places owner path 0 fs)) q (no_bind x.state plain owner path (Fold f v fs) is) among)
   place_follows owner path d (Literal v) n q fine is at among =
       absurd (points_alone owner (bind_around 0 path) (depth.stands_at x.meanings x.state d owner (rounds path)) [] q (no_bind x.state plain owner path (Literal v) is) among)
   place_follows owner path d (Name t) n q fine is at among =

@@ -15,7 +15,7 @@ use Rattle.graph.specs.Standing.{Standing}
 use Rattle.node_arena.specs.Arena.{Arena, row_at}
 use Rattle.node_arena.specs.Graph.{graph_of}
 use Rattle.node_arena.specs.Sound as arena
-use Rattle.script_model.specs.Formula.{State, Body, Entry, Formula, Formulas, Meanings, meanings_of, body_at, formula_of_body, Literal, Name, Apply, End, More, Variable, Computed}
+use Rattle.script_model.specs.Formula.{State, Body, Entry, Formula, Formulas, Meanings, meanings_of, body_at, formula_of_body, Literal, Name, Apply, Fold, End, More, Variable, Computed}
 use Rattle.script_model.specs.Need.{Edge, part_of, formula_at}
 use Rattle.script_model.specs.Step.{Moment}
 use Rattle.script_model.specs.Values.{Value}
@@ -143,6 +143,12 @@ module _ (x y : Both) (P : ℕ → Type 0) (same : (n : ℕ) → P n → y.nodes
         (opens_still t (term.Const (graph_value x.nodes v)) h)
     shows_still t (Name k) fine h = h ∙ ap (λ (n : NodeId). term.Ref n) (sym (same k fine))
     shows_still t (Apply g fs) fine h = (h.0, opens_still t (term.Map g h.0) h.1, all_show_still h.0 fs fine h.2)
+    shows_still t (Fold g v fs) fine h = (
+      h.0,
+      subst (λ (w : GraphValue). Opens y.graph (Built None) t (term.Fold g w h.0)) (base_value x.nodes y.nodes v fine.0)
+          (opens_still t (term.Fold g (graph_value x.nodes v) h.0) h.1),
+      all_show_still h.0 fs fine.1 h.2,
+    )
     shows_still t f fine h = absurd fine
 
     all_show_still : (ts : Terms) (fs : Formulas) → ArePlain P fs → ShowsAll x (Built None) [] ts fs → ShowsAll y (Built None) [] ts fs
@@ -182,6 +188,9 @@ module _ (F : Meanings) (s : State) (k : Kept) (held : Represents F s k) where
               inside (e ∷ es) zero low is = cc
               inside (e ∷ es) (suc i) low is = inside es i (omega (arith, low)) is
 
+  ref_same : (n m : NodeId) → term.Ref n ≡ term.Ref m → n ≡ m
+  ref_same n m e = cc
+
   own_live : (n : ℕ) (b : Body) → IsOwn (Some b) → body_at s n ≡ Some b → (r : Row) × (row_at (arena_of k) (node_in k.nodes n) ≡ Some r)
   own_live n (Variable v) own is = let d = rw is at (held.declares n) in (d.0, d.1)
   own_live n (Computed (Literal v) kept) own is =
@@ -190,10 +199,11 @@ module _ (F : Meanings) (s : State) (k : Kept) (held : Represents F s k) where
   own_live n (Computed (Apply f fs) kept) own is =
       let d = rw is at (held.declares n) in
       let o = d.1 in
-      let same : node_in k.nodes n ≡ o.0 = ref_same (node_in k.nodes n) o.0 o.2 in (o.1, ap (row_at (arena_of k)) same ∙ o.3)
-    where
-      ref_same : (n m : NodeId) → term.Ref n ≡ term.Ref m → n ≡ m
-      ref_same n m e = cc
+      let same = ref_same (node_in k.nodes n) o.0 o.2 in (o.1, ap (row_at (arena_of k)) same ∙ o.3)
+  own_live n (Computed (Fold f first fs) kept) own is =
+      let d = rw is at (held.declares n) in
+      let o = d.1 in
+      let same = ref_same (node_in k.nodes n) o.0 o.2 in (o.1, ap (row_at (arena_of k)) same ∙ o.3)
   own_live n (Computed (Name t) kept) own is = absurd own
   own_live n (Computed f kept) own is = absurd (held.plain n (Computed f kept) is).0
   own_live n b own is = absurd (held.plain n b is)
@@ -273,7 +283,7 @@ module _ (named : List ℕ → Option FnRef) (value : FnRef → List GraphValue 
       declares = λ n. declares_each n (body_at m.present n) refl;
       targets = held.targets;
       aged = λ n b is. own_nodes_of_on (graph_of (arena_of k)) (graph_of g.parts.arena) (IsWithin k.nodes n) (IsWithin k.nodes n) (λ q h. h)
-          (λ q r f kids row def. live_stays k.graph g sound more q r row) (node_in k.nodes n) b (held.aged n b is);
+          stays (node_in k.nodes n) b (held.aged n b is);
       maps = few_maps_on m.present m.present (arena_of k) g.parts.arena 0 fewer (omega arith) held.maps;
     }
 

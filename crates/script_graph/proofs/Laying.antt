@@ -218,7 +218,7 @@ module _ (known : FnRef → Bool) (names : Names) {F : Type 0} (first now : Stan
   own_between body ty fits h whole r low high root =
       own_nodes_of_on (graph_of now.parts.arena) (graph_of now.parts.arena) (IsMade (makes_for body) made)
       (λ (n : NodeId). (first.parts.arena.given ≤ n.gen_) × (n.gen_ ≤ (root_for body).gen_)) (between body h whole r low high root)
-      (λ n q f kids row def. row) (root_for body) body
+      (λ n r u row def. row) (root_for body) body
       (body_owns known (graph_of now.parts.arena) (makes_for body) made h.stands whole nodes names body ty fits (sits_itself (makes_for body)))
 
   pub made_owned : (body : Body) (ty : Ty) → BodyFits known names body ty → IsMaking first now (makes_for body) made → length made ≡ length (makes_for body)

@@ -9,22 +9,27 @@ use Rattle.node_arena.specs.Graph.{graph_of}
 use Rattle.script_model.specs.Formula as script
 use Rattle.script_model.specs.Formula.{State, Body, Formula, Formulas, Meanings, body_at, formula_of_body, Literal, Name, Bound, Apply, Fold, If, Join, Bind, At, Steps, Now, End, More, Variable, Computed, Freeze, After, Every, Expert, Grab}
 use Rattle.script_model.specs.Need.{Edge, Argument, Test, Then, Else, Child, Left, Inside, Item, Named, Place, argument_at, part_at, part_of}
+use Rattle.script_model.specs.Values.{to_engine}
 use Rattle.script_graph.specs.Kept.{Kept, arena_of, node_in}
 use Rattle.script_graph.specs.Represents.{OwnNodes, OwnNodesOfAll, OwnNodesOf, IsOwnFormula, IsVariableBody, Computes, owner_of, IsWithin, beside, Represents}
 use Rattle.transfer.specs.Both.{Both}
 use Rattle.transfer.specs.Items.{part_node, root_at, node_at, node_of}
-use Rattle.transfer.proofs.Places.{then_some, map_parts}
+use Rattle.transfer.specs.Keeping.{RowsStay}
+use Rattle.transfer.specs.Shows.{plain}
+use Rattle.transfer.proofs.Places.{then_some, map_parts, fold_parts}
 
 -- ---- in another graph
 
 module _ (G G' : Graph) (P Q : NodeId → Type 0) (more : (n : NodeId) → P n → Q n)
-    (kept : (n : NodeId) (r : Row) (f : FnRef) (kids : List NodeId) → G.row n ≡ Some r → r.def ≡ graph.Map f kids → G'.row n ≡ Some r) where
+    (kept : RowsStay G G') where
   mutual
     pub own_nodes_on : (n : NodeId) (f : Formula) → OwnNodes G P n f → OwnNodes G' Q n f
     own_nodes_on n (Literal v) own = more n own
     own_nodes_on n (Name k) own = tt
     own_nodes_on n (Apply f arguments) own =
-        (more n own.0, own.1, own.2, kept n own.1 f own.2 own.3 own.4, own.4, own_nodes_of_all_on own.2 arguments own.5)
+        (more n own.0, own.1, own.2, kept n own.1 _ own.3 (ap plain own.4), own.4, own_nodes_of_all_on own.2 arguments own.5)
+    own_nodes_on n (Fold f first elements) own =
+        (more n own.0, own.1, own.2, kept n own.1 _ own.3 (ap plain own.4), own.4, own_nodes_of_all_on own.2 elements own.5)
     own_nodes_on n f own = absurd own
 
     own_nodes_of_all_on : (ns : List NodeId) (fs : Formulas) → OwnNodesOfAll G P ns fs → OwnNodesOfAll G' Q ns fs
@@ -81,6 +86,14 @@ module _ (x : Both) (P : NodeId → Type 0) (owner : ℕ) where
       let def : r.0.def ≡ graph.Map f own.2 = sym (ap (λ (q : Row). q.def) row) ∙ own.4 in
       argument_own x.graph P own.2 arguments own.5 j n g (sym (map_parts r.0.def f own.2 def j) ∙ r.2) part
   part_own edge path (Apply f arguments) g n part above at = absurd (cc)
+  part_own (Argument j) path (Fold f first elements) g n part above at =
+      let m = then_some (node_at x owner path) (λ m. and_then (x.graph.row m) (λ (r : Row). part_node r.def (Argument j))) n at in
+      let r = then_some (x.graph.row m.0) (λ (r : Row). part_node r.def (Argument j)) n m.2 in
+      let own = above m.0 m.1 in
+      let row = same_row m.0 own.1 r.0 own.3 r.1 in
+      let def : r.0.def ≡ graph.Fold f (to_engine first) own.2 = sym (ap (λ (q : Row). q.def) row) ∙ own.4 in
+      argument_own x.graph P own.2 elements own.5 j n g (sym (fold_parts r.0.def f (to_engine first) own.2 def j) ∙ r.2) part
+  part_own edge path (Fold f first elements) g n part above at = absurd (cc)
   part_own edge path (Literal v) g n part above at = absurd (cc)
   part_own edge path (Name k) g n part above at = absurd (cc)
   part_own edge path h g n part above at = let m = node_above edge path n at in absurd (above m.0 m.1)
@@ -97,6 +110,7 @@ own_has : (G : Graph) (P : NodeId → Type 0) (n : NodeId) (f : Formula) → IsO
 own_has G P n (Literal v) is own = own
 own_has G P n (Name k) is own = absurd is
 own_has G P n (Apply f arguments) is own = own.0
+own_has G P n (Fold f first elements) is own = own.0
 own_has G P n f is own = absurd own
 
 module _ (F : Meanings) (s : State) (k : Kept) (held : Represents F s k) where

@@ -1,12 +1,13 @@
 -- What plain formulas are made of, and what they give.
 use Rattle.std.proofs.Common.{◌≡◌, ℕ, zero, suc, List, [], ◌∷◌, Option, None, Some, refl, ap, subst}
 use Rattle.inc_value.specs.Choice.{and_then}
+use Rattle.inc_value.specs.Ty.{IsBase}
 use Rattle.inc_value.specs.declared.function.FnRef.{FnRef}
 use Rattle.inc_value.specs.declared.value.Value.{Value as GraphValue}
-use Rattle.script_model.specs.Evaluate.{Gathered, Unknown, SomeInvalid, Values, gathered, each_of, given, name_level, body_level, value_at, NameGives}
-use Rattle.script_model.specs.Formula.{State, Entry, Body, Formula, Formulas, Meanings, meanings_of, entry_at, body_at, formula_of_body, Literal, Name, Apply, End, More, Variable, Computed}
+use Rattle.script_model.specs.Evaluate.{Gathered, Unknown, SomeInvalid, Values, gathered, each_of, given, fold_from, name_level, body_level, value_at, NameGives}
+use Rattle.script_model.specs.Formula.{State, Entry, Body, Formula, Formulas, Meanings, meanings_of, entry_at, body_at, formula_of_body, Literal, Name, Apply, Fold, End, More, Variable, Computed}
 use Rattle.script_model.specs.Need.{Edge, Argument, argument_at, part_at, part_of, formula_at}
-use Rattle.script_model.specs.Values.{Value, Outcome, Val, Invalid}
+use Rattle.script_model.specs.Values.{Value, Outcome, Val, Invalid, type_of}
 use Rattle.script_graph.specs.Plain.{IsPlain, ArePlain, IsPlainBody, IsEarlierTarget, AllPlain}
 use Rattle.script_graph.specs.Represents.{IsBaseOutcome}
 use Rattle.script_graph.proofs.Functions.{gives_no_reference}
@@ -21,6 +22,8 @@ plain_argument P (More f rest) all (suc k) g e = plain_argument P rest all.1 k g
 plain_part : (P : ℕ → Type 0) (f : Formula) → IsPlain P f → (edge : Edge) (g : Formula) → part_at f edge ≡ Some g → IsPlain P g
 plain_part P (Apply h arguments) plain (Argument k) g e = plain_argument P arguments plain k g e
 plain_part P (Apply h arguments) plain edge g e = absurd (cc)
+plain_part P (Fold h first elements) plain (Argument k) g e = plain_argument P elements plain.1 k g e
+plain_part P (Fold h first elements) plain edge g e = absurd (cc)
 plain_part P (Literal v) plain edge g e = absurd (cc)
 plain_part P (Name n) plain edge g e = absurd (cc)
 plain_part P f plain edge g e = absurd plain
@@ -51,10 +54,16 @@ module _ (named : List ℕ → Option FnRef) (value : FnRef → List GraphValue 
   abbrev F : Meanings
   F = meanings_of named value
 
-  given_base : (f : FnRef) (g : Gathered) (o : Outcome) → given (F.value f) g ≡ Some o → IsBaseOutcome o
-  given_base f Unknown o e = absurd (cc)
-  given_base f SomeInvalid o e = let same : Invalid ≡ o = cc in subst IsBaseOutcome same tt
-  given_base f (Values vs) o e = let same : Val (F.value f vs) ≡ o = cc in subst IsBaseOutcome same (gives_no_reference named value f vs)
+  given_base : (h : List Value → Value) → ((vs : List Value) → IsBase (type_of (h vs))) → (g : Gathered) (o : Outcome) → given h g ≡ Some o
+      → IsBaseOutcome o
+  given_base h base Unknown o e = absurd (cc)
+  given_base h base SomeInvalid o e = let same : Invalid ≡ o = cc in subst IsBaseOutcome same tt
+  given_base h base (Values vs) o e = let same : Val (h vs) ≡ o = cc in subst IsBaseOutcome same (base vs)
+
+  -- a fold from a value that is no reference gives none
+  fold_base : (f : FnRef) (v : Value) → IsBase (type_of v) → (vs : List Value) → IsBase (type_of (fold_from F f v vs))
+  fold_base f v base [] = base
+  fold_base f v base (w ∷ vs) = fold_base f (F.value f (v ∷ w ∷ [])) (gives_no_reference named value f (v ∷ w ∷ [])) vs
 
   abbrev GivesBase : ℕ → Type 1
   GivesBase d = (P : ℕ → Type 0) (E : List Value) (f : Formula) (o : Outcome) → IsPlain P f → value_at F s d E f ≡ Some o → IsBaseOutcome o
@@ -75,7 +84,10 @@ module _ (named : List ℕ → Option FnRef) (value : FnRef → List GraphValue 
   gives_base zero P E f o fine e = absurd (cc)
   gives_base (suc d) P E (Literal v) o fine e = let same : Val v ≡ o = cc in subst IsBaseOutcome same fine
   gives_base (suc d) P E (Name n) o fine e = name_base d (gives_base d) n (entry_at s n) refl o e
-  gives_base (suc d) P E (Apply f arguments) o fine e = given_base f (gathered (each_of (value_at F s d E) arguments)) o e
+  gives_base (suc d) P E (Apply f arguments) o fine e =
+      given_base (F.value f) (gives_no_reference named value f) (gathered (each_of (value_at F s d E) arguments)) o e
+  gives_base (suc d) P E (Fold f first elements) o fine e =
+      given_base (fold_from F f first) (fold_base f first fine.0) (gathered (each_of (value_at F s d E) elements)) o e
   gives_base (suc d) P E f o fine e = absurd fine
 
   -- what a name gives is no reference

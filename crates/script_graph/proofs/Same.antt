@@ -6,7 +6,7 @@ use Rattle.inc_terms.specs.Term as term
 use Rattle.inc_terms.specs.Term.{Term, Terms}
 use Rattle.node_arena.specs.Arena.{Arena}
 use Rattle.node_arena.specs.Graph.{graph_of}
-use Rattle.script_model.specs.Formula.{State, Body, Formula, Formulas, Observer, Meanings, body_at, places_of, Literal, Name, Apply, End, More, Variable, Computed}
+use Rattle.script_model.specs.Formula.{State, Body, Formula, Formulas, Observer, Meanings, body_at, places_of, Literal, Name, Apply, Fold, End, More, Variable, Computed}
 use Rattle.stabilizer.specs.Computing.{IsMapAt}
 use Rattle.script_graph.specs.Kept.{Kept, arena_of, node_in}
 use Rattle.script_graph.specs.Plain.{IsPlain, ArePlain, IsPlainBody, IsEarlierTarget}
@@ -41,6 +41,7 @@ module _ (F : Meanings) (s : State) (observers : List Observer) (accepted : ℕ)
     shows_so P m E t (Literal v) fine h = h
     shows_so P m E t (Name n) fine h = h
     shows_so P m E t (Apply g arguments) fine h = (h.0, h.1, all_show_so P m E h.0 arguments fine h.2)
+    shows_so P m E t (Fold g first elements) fine h = (h.0, h.1, all_show_so P m E h.0 elements fine.1 h.2)
     shows_so P m E t f fine h = absurd fine
 
     all_show_so : (P : ℕ → Type 0) (m : Mode) (E : List Binding) (ts : Terms) (fs : Formulas) → ArePlain P fs → ShowsAll x m E ts fs

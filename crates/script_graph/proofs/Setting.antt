@@ -200,10 +200,6 @@ module _ (named : List ℕ → Option FnRef) (value : FnRef → List GraphValue 
           let none : plain r.def ≡ None = ap (λ (q : Row). plain q.def) row ∙ ap plain old.3 in
           let clash : None ≡ Some t = sym none ∙ def in cc) is
 
-      map_stays : (n : NodeId) (r : Row) (f : FnRef) (kids : List NodeId) → row_at (arena_of k) n ≡ Some r → r.def ≡ graph.Map f kids
-          → row_at g.parts.arena n ≡ Some r
-      map_stays n r f kids is def = stays n r _ is (ap plain def)
-
       apart : (n : ℕ) (q : Value) → body_at s n ≡ Some (Variable q) → (n ≡ target → ⊥) → node_in k.nodes n ≡ node_in k.nodes target → ⊥
       apart n q is other same =
           let gens : (node_in k.nodes n).gen_ ≡ (node_in k.nodes target).gen_ = ap (λ (p : NodeId). p.gen_) same in
@@ -264,7 +260,7 @@ module _ (named : List ℕ → Option FnRef) (value : FnRef → List GraphValue 
             let body : Variable v ≡ b = let e : Some (Variable v) ≡ Some b = sym now ∙ (ap (body_at s') (sym same) ∙ is) in cc in
             subst (λ (c : Body). OwnNodesOf (graph_of g.parts.arena) (IsWithin k.nodes n) (node_in k.nodes n) c) body
             (held.aged n (Variable u) (ap (body_at s) same ∙ was))
-        | inr other ↦ own_nodes_of_on (graph_of (arena_of k)) (graph_of g.parts.arena) (IsWithin k.nodes n) (IsWithin k.nodes n) (λ q h. h) map_stays
+        | inr other ↦ own_nodes_of_on (graph_of (arena_of k)) (graph_of g.parts.arena) (IsWithin k.nodes n) (IsWithin k.nodes n) (λ q h. h) stays
             (node_in k.nodes n) b (held.aged n b (sym (others n other) ∙ is))
       ]
 

@@ -15,8 +15,9 @@ use Rattle.inc_terms.specs.Term.{refs}
 use Rattle.script_model.specs.Depth as depth
 use Rattle.script_model.specs.Depth.{Point, Main, Change, node_of_body, node_of_formula, mains, change_of, change_points, scoped_points, stands_at, points_of, points_at, main_points, Depends, IsWalk, TooDeep}
 use Rattle.script_model.specs.Evaluate.{chosen, value_at}
-use Rattle.script_model.specs.Formula.{State, Body, Formula, Formulas, Meanings, body_at, formula_of_body, Literal, Name, Apply, End, More, Variable, Computed}
+use Rattle.script_model.specs.Formula.{State, Body, Formula, Formulas, Meanings, body_at, formula_of_body, Literal, Name, Apply, Fold, End, More, Variable, Computed}
 use Rattle.script_model.specs.Need.{Edge, Argument, Left, Item, Named, Place, Round, rounds, environment, bind_around, argument_at, part_at, part_of, formula_at, argument_places, place_reads, name_reads, scope_reads, Reads, Needed}
+use Rattle.script_model.specs.Values.{Value}
 use Rattle.script_model.proofs.TypedCalls.{part_stands}
 use Rattle.script_graph.specs.Plain.{IsPlain, IsPlainBody, IsEarlierTarget, AllPlain}
 use Rattle.script_graph.specs.Represents.{Computes, IsOwnFormula}
@@ -26,7 +27,7 @@ use Rattle.script_graph.proofs.Plain.{plain_place}
 use Rattle.transfer.specs.Both.{Both, graph_value}
 use Rattle.transfer.specs.Items.{part_node, node_at, node_of, around, scope_at, Covers, by_main, by_choice, by_left, by_variable, IsChoice}
 use Rattle.transfer.specs.Shows.{Mode, Built, Binding, plain, IsOwn, ShowsAll, Declares, Fits}
-use Rattle.transfer.proofs.Places.{plain_map, map_parts, opened, part_above, place_shows}
+use Rattle.transfer.proofs.Places.{plain_map, plain_fold, map_parts, fold_parts, opened, part_above, place_shows}
 use Rattle.transfer.proofs.Reaching.{needed_closed}
 use Rattle.transfer.specs.Items.{GrabsBind, Closed}
 
@@ -75,6 +76,8 @@ not_in_bind : (P : ℕ → Type 0) (g : Formula) → IsPlain P g → (edge : Edg
     → rounds (edge ∷ path) ≡ rounds path
 not_in_bind P (Apply h arguments) fine (Argument j) f e path = refl
 not_in_bind P (Apply h arguments) fine edge f e path = absurd (cc)
+not_in_bind P (Fold h first elements) fine (Argument j) f e path = refl
+not_in_bind P (Fold h first elements) fine edge f e path = absurd (cc)
 not_in_bind P (Literal v) fine edge f e path = absurd (cc)
 not_in_bind P (Name n) fine edge f e path = absurd (cc)
 not_in_bind P g fine edge f e path = absurd fine
@@ -115,12 +118,6 @@ var_kids G n def v e = rw e refl
 no_kid : (p : GraphPoint) (ns : List NodeId) → ns ≡ [] → Among p (map main ns) → ⊥
 no_kid p [] e among = among
 no_kid p (n ∷ ns) e among = cc
-
-map_kids : (G : Graph) (n : NodeId) (def : Def) (f : FnRef) (ns : List NodeId) → def ≡ graph.Map f ns → kids_of G n def ≡ ns
-map_kids G n def f ns e = rw e refl
-
-map_lists : (def : Def) (f : FnRef) (ns : List NodeId) → def ≡ graph.Map f ns → kids def ≡ ns
-map_lists def f ns e = rw e refl
 
 -- ---- points
 
@@ -185,6 +182,7 @@ module _ (x : Both) (fits : Fits x) (plain_state : AllPlain x.state) (grabs : Gr
   is_own t (Name k) kept fine own = absurd own
   is_own t (Literal v) kept fine own = tt
   is_own t (Apply f fs) kept fine own = tt
+  is_own t (Fold f v fs) kept fine own = tt
   is_own t f kept fine own = absurd fine
 
   -- the item of a declaration that is no other name
@@ -224,6 +222,7 @@ module _ (x : Both) (fits : Fits x) (plain_state : AllPlain x.state) (grabs : Gr
           → (j : OwnItem n) × (j.item ≡ node_of_formula s (Place owner path) (Some g))
       go (Literal v) is fine = itself (Literal v) is refl
       go (Apply h fs) is fine = itself (Apply h fs) is refl
+      go (Fold h v fs) is fine = itself (Fold h v fs) is refl
       go (Name t) is fine =
           let shows = place_shows x fits owner path n (Name t) is at in
           let same : x.nodes t ≡ n = cc in
@@ -258,37 +257,49 @@ module _ (x : Both) (fits : Fits x) (plain_state : AllPlain x.state) (grabs : Gr
     computes : Computes s j
     earlier : node.gen_ < n.gen_
 
-  argument_follows : (owner : ℕ) (path : List Edge) (f : FnRef) (fs : Formulas) (n : NodeId) (q : GraphPoint)
-      → formula_at s owner path ≡ Some (Apply f fs) → node_at x owner path ≡ Some n → Needed F s (Place owner path)
-      → ReadsKid x.graph (main n) q → Follows n (Place owner path) q
-  argument_follows owner path f fs n q is at need read =
-      let shows = place_shows x fits owner path n (Apply f fs) is at in
-      let o = opened x.graph (scope_at x owner path) n (term.Map f shows.0) shows.1 in
-      let m = plain_map o.0.def f shows.0 o.3 in
-      let row : Some o.0 ≡ Some read.row = sym o.1 ∙ read.is_row in
-      let same : o.0 ≡ read.row = cc in
-      let def : read.row.def ≡ graph.Map f m.0 = sym (ap (λ (r : Row). r.def) same) ∙ m.1 in
-      let k = main_among q m.0 (subst (λ (ns : List NodeId). Among q (map main ns)) (map_kids x.graph n read.row.def f m.0 def) read.is_kid) in
-      let j = kid_at k.0 m.0 k.1 in
-      let a = argument_there x (Built (scope_at x owner path)) (around x owner path) m.0 fs j.0 k.0 (rw m.2 at shows.2) j.1 in
+  -- the formula at a place has arguments, or elements, and reads them; its node lists their nodes
+  record HasArguments (owner : ℕ) (path : List Edge) (f : Formula) (fs : Formulas) (n : NodeId) : Type 0 where
+    stands : formula_at s owner path ≡ Some f
+    own : IsOwnFormula (Some f)
+    parts : (j : ℕ) → part_at f (Argument j) ≡ argument_at fs j
+    places : (i : Item) → Among i (argument_places owner path 0 fs) → Among i (place_reads F s 0 owner path (Some f))
+    points : (p : Point) → Among p (mains s (argument_places owner path 0 fs))
+        → Among p (scoped_points F s 0 owner path (main_points s (value_at F s 0 (environment path)) owner path f) f)
+    is_node : node_at x owner path ≡ Some n
+    row : Row
+    is_row : x.graph.row n ≡ Some row
+    nodes : List NodeId
+    read_are : kids_of x.graph n row.def ≡ nodes
+    kids_are : kids row.def ≡ nodes
+    part_nodes : (j : ℕ) → part_node row.def (Argument j) ≡ slice_get nodes j
+    shows : ShowsAll x (Built (scope_at x owner path)) (around x owner path) (refs nodes) fs
+
+  argument_follows : (owner : ℕ) (path : List Edge) (f : Formula) (fs : Formulas) (n : NodeId) (q : GraphPoint) → HasArguments owner path f fs n
+      → Needed F s (Place owner path) → ReadsKid x.graph (main n) q → Follows n (Place owner path) q
+  argument_follows owner path f fs n q has need read =
+      let row : Some has.row ≡ Some read.row = sym has.is_row ∙ read.is_row in
+      let same : has.row ≡ read.row = cc in
+      let listed : kids_of x.graph n read.row.def ≡ has.nodes = ap (λ (r : Row). kids_of x.graph n r.def) (sym same) ∙ has.read_are in
+      let k = main_among q has.nodes (subst (λ (ns : List NodeId). Among q (map main ns)) listed read.is_kid) in
+      let j = kid_at k.0 has.nodes k.1 in
+      let a = argument_there x (Built (scope_at x owner path)) (around x owner path) has.nodes fs j.0 k.0 has.shows j.1 in
       let formula : formula_at s owner (Argument j.0 ∷ path) ≡ Some a.0 =
-      part_stands s owner path (Argument j.0) ∙ (ap (λ (g : Option Formula). and_then g (λ h. part_at h (Argument j.0))) is ∙ a.1) in
+      part_stands s owner path (Argument j.0) ∙ (ap (λ (g : Option Formula). and_then g (λ h. part_at h (Argument j.0))) has.stands ∙ (has.parts j.0 ∙ a.1)) in
       let node : node_at x owner (Argument j.0 ∷ path) ≡ Some k.0 =
-      ap (λ (y : Option NodeId). and_then y (λ b. and_then (x.graph.row b) (λ (r : Row). part_node r.def (Argument j.0)))) at
-      ∙ (ap (λ (y : Option Row). and_then y (λ (r : Row). part_node r.def (Argument j.0))) o.1 ∙ (map_parts o.0.def f m.0 m.1 j.0 ∙ j.1)) in
+      ap (λ (y : Option NodeId). and_then y (λ b. and_then (x.graph.row b) (λ (r : Row). part_node r.def (Argument j.0)))) has.is_node
+      ∙ (ap (λ (y : Option Row). and_then y (λ (r : Row). part_node r.def (Argument j.0))) has.is_row ∙ (has.part_nodes j.0 ∙ j.1)) in
       let place = place_first owner path fs j.0 a.0 a.1 in
       let reading : Reads F s (Place owner path) (Place owner (Argument j.0 ∷ path)) = (
         0,
-        subst (λ (g : Option Formula). Among (Place owner (Argument j.0 ∷ path)) (place_reads F s 0 owner path g)) (sym is)
-            (front_among (Place owner (Argument j.0 ∷ path)) (argument_places owner path 0 fs) (scope_reads owner path (Apply f fs)) place),
+        subst (λ (g : Option Formula). Among (Place owner (Argument j.0 ∷ path)) (place_reads F s 0 owner path g)) (sym has.stands)
+            (has.places (Place owner (Argument j.0 ∷ path)) place),
       ) in
       let next = place_own owner (Argument j.0 ∷ path) k.0 a.0 formula node
       (closed.reads (Place owner path) (Place owner (Argument j.0 ∷ path)) need reading) in
       let item : depth.node_of s (Place owner (Argument j.0 ∷ path)) ≡ next.0.item =
       ap (node_of_formula s (Place owner (Argument j.0 ∷ path))) formula ∙ sym next.1 in
-      let points = points_stand F s owner (bind_around 0 path) (rounds path) (mains s (argument_places owner path 0 fs))
-      (Main (depth.node_of s (Place owner (Argument j.0 ∷ path)))) (no_bind s plain_state owner path (Apply f fs) is)
-      (no_rounds s plain_state owner path (Apply f fs) is) (main_of s (Place owner (Argument j.0 ∷ path)) (argument_places owner path 0 fs) place) in
+      let points = has.points (Main (depth.node_of s (Place owner (Argument j.0 ∷ path))))
+      (main_of s (Place owner (Argument j.0 ∷ path)) (argument_places owner path 0 fs) place) in
       record {
         node = k.0;
         is_main = k.2;
@@ -296,11 +307,62 @@ module _ (x : Both) (fits : Fits x) (plain_state : AllPlain x.state) (grabs : Gr
         depends = (
           0,
           subst (λ (i : Item). Among (Main i) (points_at F s 0 (Main (Place owner path)))) item
-              (place_points F s owner path (Apply f fs) (Main (depth.node_of s (Place owner (Argument j.0 ∷ path)))) is points),
+              (place_points F s owner path f (Main (depth.node_of s (Place owner (Argument j.0 ∷ path)))) has.stands points),
         );
-        computes = subst IsOwnFormula (sym is) tt;
-        earlier = older n k.0 read.row read.is_row
-            (subst (λ (ns : List NodeId). Among k.0 ns) (sym (map_lists read.row.def f m.0 def)) k.1);
+        computes = subst IsOwnFormula (sym has.stands) has.own;
+        earlier = older n k.0 has.row has.is_row (subst (λ (ns : List NodeId). Among k.0 ns) (sym has.kids_are) k.1);
+      }
+
+  -- where no bind is round a place, the points of its arguments are those that it reads
+  arguments_stand : (owner : ℕ) (path : List Edge) (f : Formula) (fs : Formulas) → formula_at s owner path ≡ Some f → (p : Point)
+      → Among p (mains s (argument_places owner path 0 fs))
+      → Among p (change_of owner (bind_around 0 path) ++ chosen (stands_at F s 0 owner (rounds path)) (mains s (argument_places owner path 0 fs)) [])
+  arguments_stand owner path f fs is p among =
+      points_stand F s owner (bind_around 0 path) (rounds path) (mains s (argument_places owner path 0 fs)) p (no_bind s plain_state owner path f is)
+      (no_rounds s plain_state owner path f is) among
+
+  apply_has : (owner : ℕ) (path : List Edge) (f : FnRef) (fs : Formulas) (n : NodeId) → formula_at s owner path ≡ Some (Apply f fs)
+      → node_at x owner path ≡ Some n → HasArguments owner path (Apply f fs) fs n
+  apply_has owner path f fs n is at =
+      let shows = place_shows x fits owner path n (Apply f fs) is at in
+      let o = opened x.graph (scope_at x owner path) n (term.Map f shows.0) shows.1 in
+      let m = plain_map o.0.def f shows.0 o.3 in
+      record {
+        stands = is;
+        own = tt;
+        parts = λ j. refl;
+        places = λ i among. front_among i (argument_places owner path 0 fs) (scope_reads owner path (Apply f fs)) among;
+        points = arguments_stand owner path (Apply f fs) fs is;
+        is_node = at;
+        row = o.0;
+        is_row = o.1;
+        nodes = m.0;
+        read_are = ap (kids_of x.graph n) m.1;
+        kids_are = ap kids m.1;
+        part_nodes = map_parts o.0.def f m.0 m.1;
+        shows = rw m.2 at shows.2;
+      }
+
+  fold_has : (owner : ℕ) (path : List Edge) (f : FnRef) (v : Value) (fs : Formulas) (n : NodeId) → formula_at s owner path ≡ Some (Fold f v fs)
+      → node_at x owner path ≡ Some n → HasArguments owner path (Fold f v fs) fs n
+  fold_has owner path f v fs n is at =
+      let shows = place_shows x fits owner path n (Fold f v fs) is at in
+      let o = opened x.graph (scope_at x owner path) n (term.Fold f (graph_value x.nodes v) shows.0) shows.1 in
+      let m = plain_fold o.0.def f (graph_value x.nodes v) shows.0 o.3 in
+      record {
+        stands = is;
+        own = tt;
+        parts = λ j. refl;
+        places = λ i among. front_among i (argument_places owner path 0 fs) (scope_reads owner path (Fold f v fs)) among;
+        points = arguments_stand owner path (Fold f v fs) fs is;
+        is_node = at;
+        row = o.0;
+        is_row = o.1;
+        nodes = m.0;
+        read_are = ap (kids_of x.graph n) m.1;
+        kids_are = ap kids m.1;
+        part_nodes = fold_parts o.0.def f (graph_value x.nodes v) m.0 m.1;
+        shows = rw m.2 at shows.2;
       }
 
   named_follows : (t : ℕ) (n : NodeId) (q : GraphPoint) → node_of x (Named t) ≡ Some n → depth.node_of s (Named t) ≡ Named t
@@ -322,7 +384,10 @@ module _ (x : Both) (fits : Fits x) (plain_state : AllPlain x.state) (grabs : Gr
   place_follows : (owner : ℕ) (path : List Edge) (f : Formula) (n : NodeId) (q : GraphPoint) → IsPlain (IsEarlierTarget s owner) f
       → formula_at s owner path ≡ Some f → node_at x owner path ≡ Some n → Needed F s (Place owner path)
       → node_of_formula s (Place owner path) (Some f) ≡ Place owner path → ReadsKid x.graph (main n) q → Follows n (Place owner path) q
-  place_follows owner path (Apply f fs) n q fine is at need own read = argument_follows owner path f fs n q is at need read
+  place_follows owner path (Apply f fs) n q fine is at need own read =
+      argument_follows owner path (Apply f fs) fs n q (apply_has owner path f fs n is at) need read
+  place_follows owner path (Fold f v fs) n q fine is at need own read =
+      argument_follows owner path (Fold f v fs) fs n q (fold_has owner path f v fs n is at) need read
   place_follows owner path (Literal v) n q fine is at need own read =
       let o = opened x.graph (scope_at x owner path) n (term.Const (graph_value x.nodes v)) (place_shows x fits owner path n (Literal v) is at) in
       let row : Some o.0 ≡ Some read.row = sym o.1 ∙ read.is_row in
@@ -433,12 +498,14 @@ module _ (x : Both) (fits : Fits x) (plain_state : AllPlain x.state) (grabs : Gr
   no_choice owner (Literal v) fine choice = choice
   no_choice owner (Name t) fine choice = choice
   no_choice owner (Apply f fs) fine choice = choice
+  no_choice owner (Fold f v fs) fine choice = choice
   no_choice owner f fine choice = absurd fine
 
   no_left : (owner : ℕ) (g f : Formula) → IsPlain (IsEarlierTarget s owner) g → part_at g Left ≡ Some f → ⊥
   no_left owner (Literal v) f fine e = cc
   no_left owner (Name t) f fine e = cc
   no_left owner (Apply h fs) f fine e = cc
+  no_left owner (Fold h v fs) f fine e = cc
   no_left owner g f fine e = absurd fine
 
   left_of_none : (i : Item) (owner : ℕ) (path : List Edge) → Needed F s i → i ≡ Place owner (Left ∷ path) → ⊥

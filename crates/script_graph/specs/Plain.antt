@@ -1,16 +1,17 @@
--- Formulas of today's forms: literals, names and applications.
+-- Formulas of today's forms: literals, names, applications and folds.
 use Rattle.std.specs.Prelude.{◌≡◌, ◌<◌, ℕ, Some}
 use Rattle.inc_value.specs.Ty.{IsBase}
-use Rattle.script_model.specs.Formula.{Formula, Formulas, Body, State, body_at, Literal, Name, Apply, End, More, Variable, Computed, nothing_kept}
+use Rattle.script_model.specs.Formula.{Formula, Formulas, Body, State, body_at, Literal, Name, Apply, Fold, End, More, Variable, Computed, nothing_kept}
 use Rattle.script_model.specs.Values.{type_of}
 use Rattle.transfer.specs.Shows.{IsOwn}
 
 abbrev mutual
-  -- the formula is of literals of base types, of names that have the property, and of applications
+  -- the formula is of literals of base types, of names that have the property, of applications, and of folds from values of base types
   pub IsPlain : (ℕ → Type 0) → Formula → Type 0
   IsPlain P (Literal v) = IsBase (type_of v)
   IsPlain P (Name n) = P n
   IsPlain P (Apply function arguments) = ArePlain P arguments
+  IsPlain P (Fold function first elements) = IsBase (type_of first) × ArePlain P elements
   IsPlain P f = ⊥
 
   -- so are all of the formulas

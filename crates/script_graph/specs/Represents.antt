@@ -11,7 +11,7 @@ use Rattle.graph.specs.Standing.{node_at, shown_of}
 use Rattle.node_arena.specs.Arena.{Arena}
 use Rattle.node_arena.specs.Graph.{graph_of}
 use Rattle.script_model.specs.Check.{Names, names_of, is_among, target_of_body}
-use Rattle.script_model.specs.Formula.{Body, Formula, Formulas, Entry, State, Observer, Meanings, body_at, entry_at, places_of, Literal, Name, Apply, End, More, Variable, Computed, Unwatched}
+use Rattle.script_model.specs.Formula.{Body, Formula, Formulas, Entry, State, Observer, Meanings, body_at, entry_at, places_of, Literal, Name, Apply, Fold, End, More, Variable, Computed, Unwatched}
 use Rattle.script_model.specs.Need.{Item, Named, Place, Visit, IsVisit, Needed, formula_at}
 use Rattle.script_model.specs.Run.{most_calls}
 use Rattle.script_model.specs.Values.{Outcome, Val, Invalid, type_of, to_engine, from_engine}
@@ -69,6 +69,8 @@ abbrev mutual
   OwnNodes G P n (Name k) = Unit {0}
   OwnNodes G P n (Apply f arguments) =
       P n × (r : Row) × (kids : List NodeId) × (G.row n ≡ Some r) × (r.def ≡ graph.Map f kids) × OwnNodesOfAll G P kids arguments
+  OwnNodes G P n (Fold f first elements) =
+      P n × (r : Row) × (kids : List NodeId) × (G.row n ≡ Some r) × (r.def ≡ graph.Fold f (to_engine first) kids) × OwnNodesOfAll G P kids elements
   OwnNodes G P n f = ⊥
 
   -- so have those of all of the formulas
