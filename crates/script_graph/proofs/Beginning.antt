@@ -48,7 +48,7 @@ module _ (g : Standing (Unit {0})) (nodes : (n : NodeId) → row_at g.parts.aren
         declares = λ n. (nodes _, refl);
         targets = λ n e is. absurd (cc);
         aged = λ n b is. absurd (cc);
-        maps = record { maps = []; few = omega arith; all = λ n m. absurd (none-some m.row (sym (nodes n) ∙ m.is_row)) };
+        calls = record { callers = []; few = omega arith; all = λ c is. absurd (none-some is.row (sym (nodes c.node) ∙ is.is_row)) };
       };
       watches = record {
         made = [];

@@ -50,7 +50,7 @@ pub cut_short_stands : (F : Meanings) (m : Moment) (k : Kept) (g : Standing (Uni
     → HasCalledFew (arena_of k) called calls → IsCutShort F m (record k { broken = Some 0; graph = g }) called calls
 cut_short_stands F m k g called calls stands unbroken few = record {
   stands = broken_stands F m k g 0 stands;
-  within = few_calls m.present (arena_of k) called calls (stands.holds unbroken).represents.maps few;
+  within = few_calls m.present (arena_of k) called calls (stands.holds unbroken).represents.calls few;
 }
 
 -- ---- what never comes

@@ -36,7 +36,7 @@ use Rattle.script_graph.proofs.Counting.{live_within}
 use Rattle.script_graph.proofs.Declaring.{declaring_stands, with_declared}
 use Rattle.script_graph.proofs.Extending.{extends_without, stands_on, taken_back_extends}
 use Rattle.script_graph.proofs.Laying.{every_name_of, laid_fits, made_declares, made_owned, made_root, made_variable}
-use Rattle.script_graph.proofs.Maps.{HasNewMaps, WereLive, made_new_maps, map_live, maps_laid_body}
+use Rattle.script_graph.proofs.Callers.{HasNewCalls, WereLive, made_new_calls, caller_live, calls_laid_body}
 use Rattle.script_graph.proofs.Making.{reference_fits, value_given}
 use Rattle.script_graph.proofs.Setting.{setting_stands}
 use Rattle.script_graph.proofs.Sounding.{sound_declared, sound_on, sound_set}
@@ -101,7 +101,7 @@ module _ {F : Type 0} (first now : Standing F) (names : Names) (nodes : List Nod
     returned_sound more few =
         sound_on before h sound (without_functions now) (extends_without first now more) older (let room = h.few in omega (arith, few, room))
 
-    pub returned_stands : Extends first now → HasNewMaps first.parts.arena now.parts.arena 0 → (named : List ℕ → Option FnRef) (value : FnRef → List GraphValue → GraphValue) (m : Moment)
+    pub returned_stands : Extends first now → HasNewCalls first.parts.arena now.parts.arena 0 → (named : List ℕ → Option FnRef) (value : FnRef → List GraphValue → GraphValue) (m : Moment)
         → Stands (meanings_of named value) before m → Stands (meanings_of named value) returned m
     returned_stands more fewer named value m =
         stands_on named value before (without_functions now) sound sound' (extends_without first now more) fewer m
@@ -148,7 +148,7 @@ module _ {F : Type 0} (first now : Standing F) (names : Names) (nodes : List Nod
             → Stands (meanings_of named value) before m → Stands (meanings_of named value) after (moved m (Declare name ty body))
         declared_stands named value m unbroken =
             declaring_stands named value known before (without_functions now) sound sound' more m name ty body root less fits room_is
-            (made_new_maps first now makes made (calls_of_body body) making whole (maps_laid_body (node_at nodes) body))
+            (made_new_calls first now makes made (calls_of_body body) making whole (calls_laid_body (node_at nodes) body))
             (made_owned known names first now (node_at nodes) made sound body ty fits.body_fits making whole)
             (made_declares known names (beside (meanings_of named value) (declared_in m.present name ty body) after) (node_at nodes) made body ty fits.body_fits
             (λ position t fine. node_same position fine.earlier) making.stands whole) unbroken
@@ -217,12 +217,12 @@ module _ {F : Type 0} (first full now : Standing F) (count : ℕ) (more : Extend
   pub back_few : live now.parts.arena ≤ live first.parts.arena
   back_few = live_within first.parts.arena now.parts.arena (λ n r is. (r, back_live n r is))
 
-  -- nor is a map that wasn't
-  pub back_maps : HasNewMaps first.parts.arena now.parts.arena 0
-  back_maps = record {
-    maps = [];
+  -- nor is a caller that wasn't
+  pub back_calls : HasNewCalls first.parts.arena now.parts.arena 0
+  back_calls = record {
+    callers = [];
     few = omega arith;
-    all = λ n m. inl (map_live first.parts.arena now.parts.arena back_live n m);
+    all = λ c is. inl (caller_live first.parts.arena now.parts.arena back_live c is);
   }
 
 -- ---- a variable that may be set

@@ -28,7 +28,7 @@ use Rattle.script_graph.specs.Represents.{AreNames, beside, IsWithin, OwnNodesOf
 use Rattle.script_graph.specs.State.{Holds, Stands}
 use Rattle.script_graph.proofs.Carrying.{watches_on, settled_on}
 use Rattle.script_graph.proofs.Extending.{live_stays, declares_still, body_within, body_there, node_given, formula_body, never_given, body_past, node_past}
-use Rattle.script_graph.proofs.Maps.{HasNewMaps, few_maps_on}
+use Rattle.script_graph.proofs.Callers.{HasNewCalls, few_calls_on}
 use Rattle.script_graph.proofs.Owning.{own_nodes_of_on}
 use Rattle.transfer.specs.Items.{node_at, FormulasStay}
 use Rattle.transfer.specs.Keeping.{RowsStay}
@@ -183,7 +183,7 @@ module _ (named : List ℕ → Option FnRef) (value : FnRef → List GraphValue 
     (sound : arena.IsSound (arena_of k)) (sound' : arena.IsSound g.parts.arena) (more : Extends k.graph g) (m : Moment)
     (name : List ℕ) (ty : Ty) (body : Body) (root : NodeId) (room : ℕ) (fits : DeclarationFits known k.names name ty body)
     (room_is : room + places_of_body body ≡ k.room)
-    (fewer : HasNewMaps (arena_of k) g.parts.arena (calls_of_body body))
+    (fewer : HasNewCalls (arena_of k) g.parts.arena (calls_of_body body))
     (owned : OwnNodesOf (graph_of g.parts.arena) (λ (n : NodeId). ((arena_of k).given ≤ n.gen_) × (n.gen_ ≤ root.gen_)) root body) where
   abbrev F : Meanings
   F = meanings_of named value
@@ -310,8 +310,8 @@ module _ (named : List ℕ → Option FnRef) (value : FnRef → List GraphValue 
       declares = λ n. declares_each n (body_at s' n) refl;
       targets = targets_each;
       aged = aged_each;
-      maps = few_maps_on s s' (arena_of k) g.parts.arena (calls_of_body body) fewer
-          (let calls = sum_by_push (λ (e : Entry). calls_of_body e.body) s.entries (entry s name ty body) in omega (arith, calls)) held.maps;
+      calls = few_calls_on s s' (arena_of k) g.parts.arena (calls_of_body body) fewer
+          (let calls = sum_by_push (λ (e : Entry). calls_of_body e.body) s.entries (entry s name ty body) in omega (arith, calls)) held.calls;
     }
 
   holds_after : AreNames k.names s → Declares (beside F s' new) root (Some body) → Holds F k m → Holds F new (moved m (Declare name ty body))

@@ -25,7 +25,7 @@ use Rattle.script_graph.specs.Plain.{IsPlain, ArePlain, IsPlainBody, IsEarlierTa
 use Rattle.script_graph.specs.Represents.{beside, IsWithin, Represents}
 use Rattle.script_graph.specs.State.{Holds, Stands}
 use Rattle.script_graph.proofs.Carrying.{base_value, watches_on, settled_on}
-use Rattle.script_graph.proofs.Maps.{HasNewMaps, few_maps_on}
+use Rattle.script_graph.proofs.Callers.{HasNewCalls, few_calls_on}
 use Rattle.script_graph.proofs.Owning.{own_nodes_of_on}
 use Rattle.transfer.specs.Both.{Both, graph_value}
 use Rattle.transfer.specs.Items.{node_at}
@@ -253,7 +253,7 @@ node_past (x ∷ ns) (suc i) high = node_past ns i (omega (arith, high))
 
 module _ (named : List ℕ → Option FnRef) (value : FnRef → List GraphValue → GraphValue) (k : Kept) (g : Standing (Unit {0}))
     (sound : arena.IsSound (arena_of k)) (sound' : arena.IsSound g.parts.arena) (more : Extends k.graph g)
-    (fewer : HasNewMaps (arena_of k) g.parts.arena 0) (m : Moment) where
+    (fewer : HasNewCalls (arena_of k) g.parts.arena 0) (m : Moment) where
   abbrev F : Meanings
   F = meanings_of named value
 
@@ -284,7 +284,7 @@ module _ (named : List ℕ → Option FnRef) (value : FnRef → List GraphValue 
       targets = held.targets;
       aged = λ n b is. own_nodes_of_on (graph_of (arena_of k)) (graph_of g.parts.arena) (IsWithin k.nodes n) (IsWithin k.nodes n) (λ q h. h)
           stays (node_in k.nodes n) b (held.aged n b is);
-      maps = few_maps_on m.present m.present (arena_of k) g.parts.arena 0 fewer (omega arith) held.maps;
+      calls = few_calls_on m.present m.present (arena_of k) g.parts.arena 0 fewer (omega arith) held.calls;
     }
 
   holds_on : Holds F k m → Holds F new m

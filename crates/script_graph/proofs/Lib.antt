@@ -2,6 +2,7 @@ pub mod Accepting
 pub mod Adding
 pub mod Beginning
 pub mod Beside
+pub mod Callers
 pub mod Calling
 pub mod Carrying
 pub mod Counting
@@ -16,7 +17,6 @@ pub mod Holding
 pub mod Laying
 pub mod Looking
 pub mod Making
-pub mod Maps
 pub mod Observing
 pub mod Owning
 pub mod Plain

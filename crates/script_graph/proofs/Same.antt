@@ -7,10 +7,9 @@ use Rattle.inc_terms.specs.Term.{Term, Terms}
 use Rattle.node_arena.specs.Arena.{Arena}
 use Rattle.node_arena.specs.Graph.{graph_of}
 use Rattle.script_model.specs.Formula.{State, Body, Formula, Formulas, Observer, Meanings, body_at, places_of, Literal, Name, Apply, Fold, End, More, Variable, Computed}
-use Rattle.stabilizer.specs.Computing.{IsMapAt}
 use Rattle.script_graph.specs.Kept.{Kept, arena_of, node_in}
 use Rattle.script_graph.specs.Plain.{IsPlain, ArePlain, IsPlainBody, IsEarlierTarget}
-use Rattle.script_graph.specs.Represents.{graph_functions, Represents, IsWithin, OwnNodesOf}
+use Rattle.script_graph.specs.Represents.{graph_functions, IsCaller, Represents, IsWithin, OwnNodesOf}
 use Rattle.transfer.specs.Both.{Both}
 use Rattle.transfer.specs.Shows.{Mode, Built, Binding, Shows, ShowsAll, Declares}
 
@@ -73,9 +72,9 @@ represents_so F s observers accepted k new room nodes arena held = record {
   aged = λ n b is.
       subst (λ (ns : List NodeId). OwnNodesOf (graph_of (arena_of new)) (IsWithin ns n) (node_in ns n) b) (sym nodes)
       (subst (λ (a : Arena). OwnNodesOf (graph_of a) (IsWithin k.nodes n) (node_in k.nodes n) b) (sym arena) (held.aged n b is));
-  maps = record {
-    maps = held.maps.maps;
-    few = held.maps.few;
-    all = λ n map. held.maps.all n (subst (λ (a : Arena). IsMapAt a n) arena map);
+  calls = record {
+    callers = held.calls.callers;
+    few = held.calls.few;
+    all = λ c is. held.calls.all c (subst (λ (a : Arena). IsCaller a c) arena is);
   };
 }

@@ -13,6 +13,7 @@ use Rattle.inc_value.specs.declared.ty.Ty.{Ty}
 use Rattle.inc_value.specs.declared.value.Value.{Value as GraphValue}
 use Rattle.inc_terms.specs.Graph as graph
 use Rattle.inc_terms.specs.Graph.{Graph, Row, Def}
+use Rattle.inc_terms.specs.Work.{cost_of}
 use Rattle.graph.specs.Effects.{Sets}
 use Rattle.graph.specs.Standing.{Standing}
 use Rattle.node_arena.specs.Arena.{row_at, with_value}
@@ -31,7 +32,7 @@ use Rattle.script_graph.specs.State.{Holds, Stands}
 use Rattle.script_graph.proofs.Carrying.{watches_on, settled_on}
 use Rattle.script_graph.proofs.Declaring.{plain_body_more}
 use Rattle.script_graph.proofs.Extending.{declares_still, node_given, formula_body, never_given, body_past, node_past}
-use Rattle.script_graph.proofs.Maps.{HasNewMaps, few_maps_on}
+use Rattle.script_graph.proofs.Callers.{HasNewCalls, few_calls_on, caller_in}
 use Rattle.script_graph.proofs.Owning.{own_nodes_of_on}
 use Rattle.transfer.specs.Both.{graph_value}
 use Rattle.transfer.specs.Items.{node_at, FormulasStay}
@@ -274,22 +275,16 @@ module _ (named : List ℕ → Option FnRef) (value : FnRef → List GraphValue 
         | inr other ↦ held.targets n d (sym (with_other (λ body. Variable v) s.entries target n other) ∙ is)
       ]
 
-      no_new_map : HasNewMaps (arena_of k) g.parts.arena 0
-      no_new_map = record {
-        maps = [];
+      no_new_call : HasNewCalls (arena_of k) g.parts.arena 0
+      no_new_call = record {
+        callers = [];
         few = omega arith;
-        all = λ n m. elim (node_or n (node_in k.nodes target)) [
+        all = λ c is. elim (node_or c.node (node_in k.nodes target)) [
           | inl same ↦ absurd (
-              let row : with_value sets.set.row w ≡ m.row =
-              (let h : Some (with_value sets.set.row w) ≡ Some m.row = sym sets.set.changes.changed ∙ (ap (row_at g.parts.arena) (sym same) ∙ m.is_row) in cc) in
-              let clash : graph.Var w ≡ graph.Map m.function m.nodes = ap (λ (r : Row). r.def) row ∙ m.is_map in cc)
-          | inr other ↦ inl (record {
-            row = m.row;
-            function = m.function;
-            nodes = m.nodes;
-            is_row = sym (sets.set.changes.others n other) ∙ m.is_row;
-            is_map = m.is_map;
-          })
+              let row : with_value sets.set.row w ≡ is.row =
+              (let h : Some (with_value sets.set.row w) ≡ Some is.row = sym sets.set.changes.changed ∙ (ap (row_at g.parts.arena) (sym same) ∙ is.is_row) in cc) in
+              let cost : None ≡ Some c.cost = ap (λ (r : Row). cost_of (graph_of g.parts.arena) c.node r.def) row ∙ is.calls in cc)
+          | inr other ↦ inl (caller_in (arena_of k) g.parts.arena c is (sym (sets.set.changes.others c.node other) ∙ is.is_row))
         ];
       }
 
@@ -302,9 +297,9 @@ module _ (named : List ℕ → Option FnRef) (value : FnRef → List GraphValue 
         declares = λ n. declares_each n (body_at s' n) refl;
         targets = targets_each;
         aged = aged_each;
-        maps = few_maps_on s s' (arena_of k) g.parts.arena 0 no_new_map
+        calls = few_calls_on s s' (arena_of k) g.parts.arena 0 no_new_call
             (let calls = with_amounts calls_of_body (λ body. Variable v) s.entries target e there (sym (ap calls_of_body variable)) in omega (arith, calls))
-            held.maps;
+            held.calls;
       }
 
       by_body : (owner : ℕ) (n : NodeId) (b : Body) → body_at s owner ≡ Some b → body_at s' owner ≡ Some b → IsPlainBody (IsEarlierTarget s owner) b

@@ -159,7 +159,7 @@ module _ (named : List ℕ → Option FnRef) (value : FnRef → List GraphValue 
           after = record m { broken = Some 21 };
           stabilizes = by_height target deep.item (from_root deep.need) deep.deep
               (own (holds_owner target deep.item (first_is_owner k.nodes p.node target (owner_of deep.item) first within))) refl refl;
-          within = few_calls s arena called calls holds.represents.maps few;
+          within = few_calls s arena called calls holds.represents.calls few;
           stands = broken_stands F m k g 21 stands;
         }
 

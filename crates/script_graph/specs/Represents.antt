@@ -1,5 +1,6 @@
 -- What a graph has to do with the state of a script.
 use Rattle.std.specs.Prelude.{◌≡◌, ◌+◌, ◌<◌, ◌≤◌, ℕ, List, [], ◌∷◌, map, length, Option, None, Some, slice_get}
+use Rattle.std.specs.List.{sum_by}
 use Rattle.inc_value.specs.Choice.{Among}
 use Rattle.inc_value.specs.declared.node.NodeId.{NodeId}
 use Rattle.inc_value.specs.declared.node.ObsId.{ObsId}
@@ -7,8 +8,9 @@ use Rattle.inc_terms.specs.Depend.{none_died}
 use Rattle.inc_terms.specs.Graph as graph
 use Rattle.inc_terms.specs.Graph.{Graph, Row}
 use Rattle.inc_terms.specs.Term.{Functions}
+use Rattle.inc_terms.specs.Work.{cost_of}
 use Rattle.graph.specs.Standing.{node_at, shown_of}
-use Rattle.node_arena.specs.Arena.{Arena}
+use Rattle.node_arena.specs.Arena.{Arena, row_at}
 use Rattle.node_arena.specs.Graph.{graph_of}
 use Rattle.script_model.specs.Check.{Names, names_of, is_among, target_of_body}
 use Rattle.script_model.specs.Formula.{Body, Formula, Formulas, Entry, State, Observer, Meanings, body_at, entry_at, places_of, Literal, Name, Apply, Fold, End, More, Variable, Computed, Unwatched}
@@ -19,7 +21,6 @@ use Rattle.inc_value.specs.Ty.{IsBase}
 use Rattle.script_graph.specs.Kept.{Kept, arena_of, node_in}
 use Rattle.script_graph.specs.Plain.{AllPlain}
 use Rattle.stabilize_round.specs.State.{Call}
-use Rattle.stabilizer.specs.Computing.{IsMapAt}
 use Rattle.stabilizer.specs.Meaning.{functions_of}
 use Rattle.stabilizer.specs.Round.{last_call}
 use Rattle.transfer.specs.Both.{Both, graph_value, graph_outcome}
@@ -91,11 +92,22 @@ pub record IsWithin (nodes : List NodeId) (owner : ℕ) (n : NodeId) : Type 0 wh
   pub not_later : n.gen_ ≤ (node_in nodes owner).gen_
   pub later : (m : ℕ) → m < owner → (node_in nodes m).gen_ < n.gen_
 
--- the maps of the graph are among these, which are no more than the calls of one visit of each place
-pub record HasFewMaps (s : State) (a : Arena) : Type 0 where
-  pub maps : List NodeId
-  pub few : length maps ≤ most_calls s
-  pub all : (n : NodeId) → IsMapAt a n → Among n maps
+-- a node, and how many calls of its function one visit makes
+pub record Caller : Type 0 where
+  pub node : NodeId
+  pub cost : ℕ
+
+-- it is live, and so many are made
+pub record IsCaller (a : Arena) (c : Caller) : Type 0 where
+  pub row : Row
+  pub is_row : row_at a c.node ≡ Some row
+  pub calls : cost_of (graph_of a) c.node row.def ≡ Some c.cost
+
+-- the nodes of the graph that call functions are among these, whose visits make no more calls than one of each place
+pub record HasFewCalls (s : State) (a : Arena) : Type 0 where
+  pub callers : List Caller
+  pub few : sum_by (λ (c : Caller). c.cost) callers ≤ most_calls s
+  pub all : (c : Caller) → IsCaller a c → Among c callers
 
 -- the graph holds the declarations: each has its node, which shows what is declared, and the nodes of each were given after those of earlier ones
 pub record Represents (F : Meanings) (s : State) (k : Kept) : Type 0 where
@@ -106,7 +118,7 @@ pub record Represents (F : Meanings) (s : State) (k : Kept) : Type 0 where
   pub declares : (n : ℕ) → Declares (beside F s k) (node_in k.nodes n) (body_at s n)
   pub targets : (n : ℕ) (e : Entry) → entry_at s n ≡ Some e → e.target ≡ target_of_body n e.body
   pub aged : (n : ℕ) (b : Body) → body_at s n ≡ Some b → OwnNodesOf (graph_of (arena_of k)) (IsWithin k.nodes n) (node_in k.nodes n) b
-  pub maps : HasFewMaps s (arena_of k)
+  pub calls : HasFewCalls s (arena_of k)
 
 -- ---- observers
 

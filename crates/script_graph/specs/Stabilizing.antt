@@ -22,14 +22,15 @@ pub record IsAccepted (F : Meanings) (m : Moment) (new : Kept) (called calls : �
   pub within : calls ≤ called + work
   pub stands : Stands F new after
 
--- it was refused for what is too deep: the model may refuse it so, no function was called more than once at a place, and the broken moment is stood for
+-- it was refused for what is too deep: the model may refuse it so, functions were called no more than by one visit of each place, and the broken moment is
+-- stood for
 pub record IsTooDeep (F : Meanings) (m : Moment) (new : Kept) (target called calls : ℕ) : Type 0 where
   pub after : Moment
   pub stabilizes : Stabilizes F m after (step.Refused (step.Height target) ∷ [])
   pub within : calls ≤ called + most_calls m.present
   pub stands : Stands F new after
 
--- it found no memory: the broken moment is stood for, and no function was called more than once at a place
+-- it found no memory: the broken moment is stood for, and functions were called no more than by one visit of each place
 pub record IsCutShort (F : Meanings) (m : Moment) (new : Kept) (called calls : ℕ) : Type 0 where
   pub stands : Stands F new (record m { broken = Some 0 })
   pub within : calls ≤ called + most_calls m.present

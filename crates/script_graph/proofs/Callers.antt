@@ -1,0 +1,196 @@
+-- How many calls the nodes make that are live after nodes were made.
+use Rattle.std.proofs.Common.{◌≡◌, ◌⊎◌, inl, inr, ℕ, zero, suc, ◌+◌, ◌<◌, ◌≤◌, List, [], ◌∷◌, ◌++◌, map, length, Option, None, Some, refl, ap, sym, subst, ◌∙◌, arith, slice_get}
+use Rattle.std.specs.List.{sum_by}
+use Rattle.std.proofs.lemmas.List.{length-map}
+use Rattle.std.proofs.lemmas.List.Sums.{sum_by-append, sum_by-cons}
+use Rattle.formula_elab.specs.Laying.{laid, laid_each, laid_body}
+use Rattle.formula_elab.specs.Opened.{node_at, node_of, filled}
+use Rattle.formula_elab.specs.declared.opened.Open.{Open}
+use Rattle.formula_elab.specs.declared.opened.Open.TheVariants.{Const, Var, Map}
+use Rattle.graph.specs.Standing.{Standing}
+use Rattle.inc_terms.specs.Graph as graph
+use Rattle.inc_terms.specs.Graph.{Graph, Row, Def}
+use Rattle.inc_terms.specs.Work.{cost_of}
+use Rattle.inc_terms.proofs.Plan.{among_left, among_right}
+use Rattle.inc_value.specs.Choice.{Among}
+use Rattle.inc_value.specs.declared.node.NodeId.{NodeId}
+use Rattle.node_arena.specs.Arena.{Arena, row_at}
+use Rattle.node_arena.specs.Graph.{graph_of}
+use Rattle.script_model.specs.Formula.{State, Body, Formula, Formulas, Literal, Name, Apply, End, More, Variable, Computed}
+use Rattle.script_model.specs.Run.{calls_in, calls_in_all, calls_of_body, most_calls}
+use Rattle.script_graph.specs.Growing.{IsMaking}
+use Rattle.script_graph.specs.Represents.{Caller, IsCaller, HasFewCalls}
+
+-- how many calls they make in all
+abbrev pub calls_by : List Caller → ℕ
+calls_by callers = sum_by (λ (c : Caller). c.cost) callers
+
+-- the new arena's callers were callers before, or are among these, which make no more calls than the count
+pub record HasNewCalls (old new : Arena) (count : ℕ) : Type 0 where
+  pub callers : List Caller
+  pub few : calls_by callers ≤ count
+  pub all : (c : Caller) → IsCaller new c → IsCaller old c ⊎ Among c callers
+
+-- live nodes were live before
+abbrev pub WereLive : Arena → Arena → Type 0
+WereLive old new = (n : NodeId) (r : Row) → row_at new n ≡ Some r → row_at old n ≡ Some r
+
+-- what a node costs is the same in every arena
+pub same_cost : (a b : Arena) (n : NodeId) (def : Def) → cost_of (graph_of a) n def ≡ cost_of (graph_of b) n def
+same_cost a b n (graph.Map f ns) = refl
+same_cost a b n (graph.Fold f v ns) = refl
+same_cost a b n (graph.Expert f v ns) = refl
+same_cost a b n (graph.Freeze kid f) = refl
+same_cost a b n def = refl
+
+pub caller_in : (old new : Arena) (c : Caller) (is : IsCaller new c) → row_at old c.node ≡ Some is.row → IsCaller old c
+caller_in old new c is row = record { row = is.row; is_row = row; calls = same_cost old new c.node is.row.def ∙ is.calls }
+
+pub caller_live : (old new : Arena) → WereLive old new → (c : Caller) → IsCaller new c → IsCaller old c
+caller_live old new live c is = caller_in old new c is (live c.node is.row is.is_row)
+
+pub few_calls_on : (s s' : State) (old new : Arena) (count : ℕ) → HasNewCalls old new count → most_calls s + count ≤ most_calls s'
+    → HasFewCalls s old → HasFewCalls s' new
+few_calls_on s s' old new count added most has = record {
+  callers = has.callers ++ added.callers;
+  few = let size = sum_by-append (λ (c : Caller). c.cost) has.callers added.callers in omega (arith, size, most, has.few, added.few);
+  all = λ c is. elim (added.all c is) [
+    | inl was ↦ among_left c has.callers added.callers (has.all c was)
+    | inr new ↦ among_right c has.callers added.callers new
+  ];
+}
+
+-- ---- the callers among what is made
+
+-- how many calls one visit of what is made makes, if it calls a function
+open_cost : Open → Option ℕ
+open_cost (Const v) = None
+open_cost (Var v) = None
+open_cost (Map f parts) = Some 1
+
+-- the node, where it calls
+caller_of : NodeId → Option ℕ → List Caller
+caller_of n None = []
+caller_of n (Some cost) = record { node = n; cost = cost } ∷ []
+
+or_none : Option ℕ → ℕ
+or_none None = 0
+or_none (Some cost) = cost
+
+-- how many calls one visit of each makes
+pub calls_of_opens : List Open → ℕ
+calls_of_opens [] = 0
+calls_of_opens (x ∷ xs) = or_none (open_cost x) + calls_of_opens xs
+
+made_callers : List Open → List NodeId → List Caller
+made_callers [] made = []
+made_callers (x ∷ xs) [] = []
+made_callers (x ∷ xs) (n ∷ ns) = caller_of n (open_cost x) ++ made_callers xs ns
+
+one_caller : (n : NodeId) (cost : Option ℕ) → calls_by (caller_of n cost) ≡ or_none cost
+unfolding caller_of or_none
+one_caller n None = refl
+one_caller n (Some cost) = let size = sum_by-cons (λ (c : Caller). c.cost) (record { node = n; cost = cost }) [] in omega (arith, size)
+
+made_few : (xs : List Open) (ns : List NodeId) → calls_by (made_callers xs ns) ≤ calls_of_opens xs
+unfolding made_callers calls_of_opens
+made_few [] ns = omega arith
+made_few (x ∷ xs) [] = omega arith
+made_few (x ∷ xs) (n ∷ ns) =
+    let rest = made_few xs ns in
+    let one = one_caller n (open_cost x) in
+    let size = sum_by-append (λ (c : Caller). c.cost) (caller_of n (open_cost x)) (made_callers xs ns) in
+    omega (arith, rest, one, size)
+
+caller_itself : (n : NodeId) (cost : ℕ) → Among (record { node = n; cost = cost }) (caller_of n (Some cost))
+unfolding caller_of
+caller_itself n cost = inl refl
+
+-- a caller that was made is among them
+made_among : (xs : List Open) (ns : List NodeId) (i : ℕ) (x : Open) (cost : ℕ) → i < length ns → slice_get xs i ≡ Some x → open_cost x ≡ Some cost
+    → Among (record { node = node_at ns i; cost = cost }) (made_callers xs ns)
+unfolding made_callers
+made_among [] ns i x cost low is calls = absurd (cc)
+made_among (y ∷ xs) [] i x cost low is calls = absurd (omega (arith, low))
+made_among (y ∷ xs) (n ∷ ns) zero x cost low is calls =
+    let same : y ≡ x = cc in
+    let here : open_cost y ≡ Some cost = ap open_cost same ∙ calls in
+    subst (λ (o : Option ℕ). Among (record { node = n; cost = cost }) (caller_of n o ++ made_callers xs ns)) (sym here)
+    (among_left (record { node = n; cost = cost }) (caller_of n (Some cost)) (made_callers xs ns) (caller_itself n cost))
+made_among (y ∷ xs) (n ∷ ns) (suc i) x cost low is calls =
+    among_right (record { node = node_at ns i; cost = cost }) (caller_of n (open_cost y)) (made_callers xs ns)
+    (made_among xs ns i x cost (omega (arith, low)) is calls)
+
+calls_append : (xs ys : List Open) → calls_of_opens (xs ++ ys) ≡ calls_of_opens xs + calls_of_opens ys
+unfolding calls_of_opens
+calls_append [] ys = omega arith
+calls_append (x ∷ xs) ys = let rest = calls_append xs ys in omega (arith, rest)
+
+module _ (nodes : ℕ → NodeId) where
+  mutual
+    unfolding calls_of_opens open_cost or_none
+
+    calls_laid : (start : ℕ) (f : Formula) → calls_of_opens (laid nodes start f).makes ≤ calls_in f
+    calls_laid start (Literal v) = omega arith
+    calls_laid start (Name n) = omega arith
+    calls_laid start (Apply function arguments) =
+        let each = laid_each nodes start arguments in
+        let size = calls_append each.makes (Map function each.roots ∷ []) in
+        let rest = calls_laid_each start arguments in
+        omega (arith, size, rest)
+    calls_laid start f = omega arith
+
+    calls_laid_each : (start : ℕ) (fs : Formulas) → calls_of_opens (laid_each nodes start fs).makes ≤ calls_in_all fs
+    calls_laid_each start End = omega arith
+    calls_laid_each start (More f rest) =
+        let first = laid nodes start f in
+        let next = start + length first.makes in
+        let size = calls_append first.makes (laid_each nodes next rest).makes in
+        let here = calls_laid start f in
+        let there = calls_laid_each next rest in
+        omega (arith, size, here, there)
+
+  pub calls_laid_body : (body : Body) → calls_of_opens (laid_body nodes 0 body).makes ≤ calls_of_body body
+  unfolding calls_of_opens open_cost or_none
+  calls_laid_body (Variable v) = omega arith
+  calls_laid_body (Computed f kept) = calls_laid 0 f
+  calls_laid_body body = omega arith
+
+-- ---- a declaration was made
+
+filled_cost : (G : Graph) (n : NodeId) (made : List NodeId) (x : Open) → cost_of G n (filled made x) ≡ open_cost x
+unfolding open_cost
+filled_cost G n made (Const v) = refl
+filled_cost G n made (Var v) = refl
+filled_cost G n made (Map f parts) = refl
+
+open_at : (xs : List Open) (i : ℕ) → i < length xs → (x : Open) × (slice_get xs i ≡ Some x)
+open_at [] i low = absurd (omega (arith, low))
+open_at (x ∷ xs) zero low = (x, refl)
+open_at (x ∷ xs) (suc i) low = open_at xs i (omega (arith, low))
+
+node_index : (n : NodeId) (ns : List NodeId) → Among n ns → (i : ℕ) × (i < length ns) × (node_at ns i ≡ n)
+node_index n [] among = absurd among
+node_index n (m ∷ ms) (inl same) = (0, omega arith, sym same)
+node_index n (m ∷ ms) (inr among) = let rest = node_index n ms among in (suc rest.0, omega (arith, rest.1), rest.2)
+
+pub made_new_calls : {F : Type 0} (first now : Standing F) (makes : List Open) (made : List NodeId) (count : ℕ)
+    → IsMaking first now makes made → length made ≡ length makes → calls_of_opens makes ≤ count
+    → HasNewCalls first.parts.arena now.parts.arena count
+made_new_calls first now makes made count h whole most = record {
+  callers = made_callers makes made;
+  few = let few = made_few makes made in omega (arith, few, most);
+  all = λ c is. elim (h.new_rows c.node is.row is.is_row) [
+    | inl was ↦ inl (caller_in first.parts.arena now.parts.arena c is was)
+    | inr new ↦ inr (is_made c is (node_index c.node made new))
+  ];
+}
+  where
+    is_made : (c : Caller) → IsCaller now.parts.arena c → (i : ℕ) × (i < length made) × (node_at made i ≡ c.node) → Among c (made_callers makes made)
+    is_made c is (i, low, same) =
+        let x = open_at makes i (omega (arith, low, whole)) in
+        let top = h.stands.top i x.0 x.1 low in
+        let row : top.0 ≡ is.row = (let e : Some top.0 ≡ Some is.row = sym top.1 ∙ (ap (row_at now.parts.arena) same ∙ is.is_row) in cc) in
+        let def : filled made x.0 ≡ is.row.def = sym top.3 ∙ ap (λ (r : Row). r.def) row in
+        let cost = sym (filled_cost (graph_of now.parts.arena) c.node made x.0) ∙ (ap (cost_of (graph_of now.parts.arena) c.node) def ∙ is.calls) in
+        subst (λ (n : NodeId). Among (record { node = n; cost = c.cost }) (made_callers makes made)) same (made_among makes made i x.0 c.cost low x.1 cost)
