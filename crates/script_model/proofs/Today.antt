@@ -3,10 +3,10 @@ use Rattle.std.proofs.Common.{◌≡◌, ℕ, zero, suc, ◌+◌, Bool, true, fa
 use Rattle.inc_value.specs.Choice.{and_then, Among, Every, Reaches, here, step}
 use Rattle.script_model.specs.Blocked.{too_deep}
 use Rattle.script_model.specs.Check as check
-use Rattle.script_model.specs.Check.{Command, Names, TypedBody, TypedFormula, TypedFormulas, Reason, NotVariable, is_variable, is_against, kind_of, kind_of_body, declared_of, find_declared, literal_of_type, typed_literal, typed, typed_each, typed_top, applied, typed_as, body_as, command_of, names_of, first_that}
-use Rattle.script_model.specs.Formula.{Formula, Formulas, Kept, Body, Entry, State, Meanings, body_at, formula_of_body, Literal, Name, Apply, End, More, Variable, Computed, Bind, nothing_kept}
+use Rattle.script_model.specs.Check.{Command, Names, TypedBody, TypedFormula, TypedFormulas, Reason, NotVariable, is_variable, is_against, kind_of, kind_of_body, declared_of, find_declared, element_of, literal_of_type, typed_literal, typed, typed_each, typed_top, applied, typed_as, body_as, command_of, names_of, first_that}
+use Rattle.script_model.specs.Formula.{Formula, Formulas, Kept, Body, Entry, State, Meanings, body_at, formula_of_body, Literal, Name, Apply, Fold, End, More, Variable, Computed, Bind, nothing_kept}
 use Rattle.script_model.specs.Grammar as grammar
-use Rattle.script_model.specs.Grammar.{Line, Tree, Trees, is_here, is_plain, are_plain}
+use Rattle.script_model.specs.Grammar.{Line, Tree, Trees, is_here, is_plain, are_plain, is_plain_literal}
 use Rattle.script_model.specs.Laws.{PrintAlike, MetIsNeededToday, OneTranscriptPastRefusalsToday, OneTranscriptToday, OneEndToday, forget_body, forget_all, forget}
 use Rattle.script_model.specs.Need.{Edge, Argument, Item, Named, Place, part_at, part_of, argument_at, formula_at, part_reads, place_reads, name_reads, environment, Reads, Needed, Met, from_root, from_held}
 use Rattle.script_model.specs.Evaluate.{value_at}
@@ -23,13 +23,14 @@ use Rattle.script_model.proofs.Transcripts.{NoGrabs, settle_alike, all_printed}
 use Rattle.script_model.proofs.Typing.{then_some, cond_some, some_is, not_false, either_false}
 use Rattle.script_model.proofs.Validity.{none_at}
 
--- ---- formulas of literals, names and functions
+-- ---- formulas of literals, names, functions and folds
 
 abbrev mutual
   IsPlain : Formula → Type 0
   IsPlain (Literal v) = Unit {0}
   IsPlain (Name n) = Unit {0}
   IsPlain (Apply f arguments) = ArePlain arguments
+  IsPlain (Fold f first elements) = ArePlain elements
   IsPlain f = ⊥
 
   ArePlain : Formulas → Type 0
@@ -46,6 +47,8 @@ edge_plain (Literal v) edge g plain is = absurd (cc)
 edge_plain (Name n) edge g plain is = absurd (cc)
 edge_plain (Apply f arguments) (Argument k) g plain is = argument_plain arguments k g plain is
 edge_plain (Apply f arguments) edge g plain is = absurd (cc)
+edge_plain (Fold f first elements) (Argument k) g plain is = argument_plain elements k g plain is
+edge_plain (Fold f first elements) edge g plain is = absurd (cc)
 edge_plain f edge g plain is = absurd plain
 
 part_plain : (f : Formula) (path : List Edge) (g : Formula) → IsPlain f → part_of f path ≡ Some g → IsPlain g
@@ -60,6 +63,7 @@ static_reads : (p q : Formula → Option Outcome) (owner : ℕ) (path : List Edg
 static_reads p q owner path (Literal v) plain = refl
 static_reads p q owner path (Name n) plain = refl
 static_reads p q owner path (Apply f arguments) plain = refl
+static_reads p q owner path (Fold f first elements) plain = refl
 static_reads p q owner path f plain = absurd plain
 
 -- ---- declarations
@@ -197,6 +201,8 @@ becomes_todays F before s after n (Computed (Name m) was) body todays h =
     subst IsTodays (sym h.1) (tt, kept_is h.0 nothing_kept (h.2.built ∙ ap (λ (k : Kept). k.built) todays.1))
 becomes_todays F before s after n (Computed (Apply f arguments) was) body todays h =
     subst IsTodays (sym h.1) (todays.0, kept_is h.0 nothing_kept (h.2.built ∙ ap (λ (k : Kept). k.built) todays.1))
+becomes_todays F before s after n (Computed (Fold f first elements) was) body todays h =
+    subst IsTodays (sym h.1) (todays.0, kept_is h.0 nothing_kept (h.2.built ∙ ap (λ (k : Kept). k.built) todays.1))
 becomes_todays F before s after n (Computed f was) body todays h = absurd todays.0
 becomes_todays F before s after n b body todays h = absurd todays
 
@@ -282,6 +288,14 @@ module _ (F : Meanings) (names : Names) where
         let args = then_some (typed_each F names [] arguments) _ t f.2 in
         let fits = cond_some _ _ t args.2 in
         subst (λ (x : TypedFormula). IsPlain x.formula) (some_is _ t fits.1) (each_plain arguments args.0 read args.1)
+    typed_plain (grammar.Fold function first elements) t read e =
+        let f = then_some (F.named function) _ t e in
+        let each = then_some (typed_each F names [] elements) _ t f.2 in
+        let element = then_some (element_of f.0 f.0.sig.takes) _ t each.2 in
+        let begins = then_some (literal_of_type names f.0.sig.gives first) _ t element.2 in
+        let fits = cond_some _ _ t begins.2 in
+        let both = both_true (is_plain_literal first) (are_plain elements) read in
+        subst (λ (x : TypedFormula). IsPlain x.formula) (some_is _ t fits.1) (each_plain elements each.0 both.1 each.1)
     typed_plain tree t read e = absurd (cc)
 
     each_plain : (trees : Trees) (ts : TypedFormulas) → are_plain trees ≡ true → typed_each F names [] trees ≡ Some ts → ArePlain ts.formulas
@@ -303,6 +317,7 @@ module _ (F : Meanings) (names : Names) where
   top_todays (grammar.Literal literal) t read e = computed_todays (grammar.Literal literal) t read e
   top_todays (grammar.Name name) t read e = computed_todays (grammar.Name name) t read e
   top_todays (grammar.Call function arguments) t read e = computed_todays (grammar.Call function arguments) t read e
+  top_todays (grammar.Fold function first elements) t read e = computed_todays (grammar.Fold function first elements) t read e
   top_todays tree t read e = absurd (cc)
 
 -- a variable stands at the position

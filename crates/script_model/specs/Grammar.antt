@@ -210,8 +210,8 @@ WritesLine Stabilize tokens = tokens ≡ word (codes "stabilize") ∷ []
 
 -- ---- the forms of today
 
--- A line of another form of the grammar is malformed until its form is added here: first the functions of one to nine
--- arguments, then folds, tests and joins, binds, the clock, freezes and experts, each in one clause.
+-- A line of another form of the grammar is malformed until its form is added here: tests and joins, binds, the clock,
+-- freezes and experts, each in one clause.
 
 -- a base type
 abbrev pub is_base_type : Ty → std.Bool
@@ -224,11 +224,12 @@ is_plain_literal (literals.Referred name) = false
 is_plain_literal literal = true
 
 abbrev mutual
-  -- a formula of literals, names and functions
+  -- a formula of literals, names, functions and folds
   pub is_plain : Tree → std.Bool
   is_plain (Literal literal) = is_plain_literal literal
   is_plain (Name name) = true
   is_plain (Call function arguments) = are_plain arguments
+  is_plain (Fold function first elements) = is_plain_literal first && are_plain elements
   is_plain tree = false
 
   pub are_plain : Trees → std.Bool
