@@ -1,22 +1,22 @@
 -- What is allowed fits together.
 use Rattle.std.proofs.Common.{◌≡◌, ℕ, zero, suc, ◌≤◌, Bool, true, false, not, ◌||◌, cond, List, [], ◌∷◌, length, Option, None, Some, is_some, inl, inr, refl, sym, ◌∙◌, subst, arith}
 use Rattle.std.proofs.lemmas.Option.{slice_get_within}
-use Rattle.std.specs.List.{slice_get}
+use Rattle.std.specs.List.{list_any, slice_get}
 use Rattle.std.specs.Str.{bytes_eq}
 use Rattle.inc_value.proofs.SameTypes.{ty_true, types_true}
 use Rattle.inc_value.specs.Ty.{IsBase, same_ty, same_types}
 use Rattle.inc_value.specs.declared.function.FnRef.{FnRef}
 use Rattle.inc_value.specs.declared.ty.Ty.{Ty}
-use Rattle.script_model.specs.Check.{Command, Declare, Assign, Observe, Unobserve, Stabilize, Show, Declared, Names, Reason, NameTaken, ObserverTaken, NotVariable, ObserverUnknown, TypedFormula, TypedFormulas, TypedValue, first_named, find_declared, is_among, is_variable, kind_of, typed, typed_each, typed_as, typed_literal, literal_of_type, where_same, applied, before, command_of, body_as, target_of_body, first_that, is_against, line_order}
+use Rattle.script_model.specs.Check.{Command, Declare, Assign, Observe, Unobserve, Stabilize, Show, Declared, Names, Reason, NameTaken, ObserverTaken, NotVariable, ObserverUnknown, TypedFormula, TypedFormulas, TypedValue, first_named, find_declared, is_among, is_variable, kind_of, typed, typed_each, typed_as, typed_literal, literal_of_type, where_same, applied, are_all, before, element_of, folded, command_of, body_as, target_of_body, first_that, is_against, line_order}
 use Rattle.inc_value.specs.Choice.{and_then}
 use Rattle.script_model.specs.Formula as model
 use Rattle.script_model.specs.Formula.{Formula, Meanings, nothing_kept}
 use Rattle.script_model.specs.Grammar as grammar
-use Rattle.script_model.specs.Grammar.{Line, Tree, Trees, Call, End, More, is_plain, are_plain, is_plain_literal}
+use Rattle.script_model.specs.Grammar.{Line, Tree, Trees, Call, Fold, End, More, is_plain, are_plain, is_plain_literal}
 use Rattle.script_model.specs.Literals as literals
 use Rattle.script_model.specs.Literals.{Literal, Integer}
 use Rattle.script_model.specs.Values.{Value, type_of}
-use Rattle.formula_lang.specs.Fits.{NameFits, FunctionFits, FormulaFits, ArgumentsFit, FitsNames}
+use Rattle.formula_lang.specs.Fits.{NameFits, FunctionFits, FormulaFits, ArgumentsFit, ElementsFit, FitsNames}
 use Rattle.formula_lang.specs.NamesView.{AreEarlier}
 use Rattle.formula_lang.proofs.Plainness.{both_true, is_plain_line, plain_top}
 use Rattle.formula_lang.proofs.Table.{none_holds}
@@ -66,6 +66,17 @@ literal_fits names t literal v plain e = go (typed_literal names literal) (λ x 
         → and_then o (λ x. where_same x.ty t (Some x.value)) ≡ Some v → (type_of v ≡ t) × IsBase t
     go None fits e = absurd (cc)
     go (Some x) fits e = same x (same_ty x.ty t) refl (fits x refl) e
+
+-- ---- folds
+
+-- what a function takes that folds elements of a type
+takes_pair : (f : FnRef) (takes : List Ty) (t : Ty) → element_of f takes ≡ Some t → takes ≡ f.sig.gives ∷ t ∷ []
+takes_pair f (a ∷ u ∷ []) t e = go (same_ty a f.sig.gives) refl e
+  where
+    go : (b : Bool) → same_ty a f.sig.gives ≡ b → cond b (Some u) None ≡ Some t → a ∷ u ∷ [] ≡ f.sig.gives ∷ t ∷ []
+    go true is e = let first : a ≡ f.sig.gives = ty_true a f.sig.gives is in let second : u ≡ t = cc in cc
+    go false is e = absurd (cc)
+takes_pair f takes t e = absurd (cc)
 
 -- ---- names
 
@@ -129,6 +140,45 @@ module _ (F : Meanings) (known : FnRef → Bool) (names : Names) (earlier : AreE
   call_fits name (Some f) None t is all e = absurd (cc)
   call_fits name (Some f) (Some ts) t is all e = applied_fits f ts t (maps name f is) (all ts refl) e
 
+  -- where all types are one, each argument fits as an element
+  all_elements : (t : Ty) (fs : model.Formulas) (tys : List Ty) → are_all t tys ≡ true → ArgumentsFit known names fs tys → ElementsFit known names fs t
+  all_elements t model.End tys same all = tt
+  all_elements t (model.More f fs) [] same all = absurd all
+  all_elements t (model.More f fs) (u ∷ tys) same all = go (same_ty t u) refl same (λ rest. all_elements t fs tys rest all.1)
+    where
+      go : (b : Bool) → same_ty t u ≡ b → not (not b || list_any (λ u. not (same_ty t u)) tys) ≡ true
+          → (are_all t tys ≡ true → ElementsFit known names fs t) → ElementsFit known names (model.More f fs) t
+      go true is same others = (subst (λ v. FormulaFits known names f v) (sym (ty_true t u is)) all.0, others same)
+      go false is same others = absurd (cc)
+
+  folded_fits : (f : FnRef) (first : Literal) (ts : TypedFormulas) (t : TypedFormula) → is_plain_literal first ≡ true → FunctionFits known f → AllFit ts
+      → folded names f first ts ≡ Some t → Fits t
+  folded_fits f first ts t plain function all is = over (element_of f f.sig.takes) refl is
+    where
+      over : (element : Option Ty) → element_of f f.sig.takes ≡ element
+          → and_then element (λ u. and_then (literal_of_type names f.sig.gives first) (λ v.
+          cond (are_all u ts.tys) (typed_as (model.Fold f v ts.formulas) f.sig.gives) None)) ≡ Some t → Fits t
+      over None at e = absurd (cc)
+      over (Some u) at e = from (literal_of_type names f.sig.gives first) (λ v is. literal_fits names f.sig.gives first v plain is) e
+        where
+          from : (o : Option Value) → ((v : Value) → o ≡ Some v → (type_of v ≡ f.sig.gives) × IsBase f.sig.gives)
+              → and_then o (λ v. cond (are_all u ts.tys) (typed_as (model.Fold f v ts.formulas) f.sig.gives) None) ≡ Some t → Fits t
+          from None fits e = absurd (cc)
+          from (Some v) fits e = each (are_all u ts.tys) refl e
+            where
+              each : (b : Bool) → are_all u ts.tys ≡ b → cond b (typed_as (model.Fold f v ts.formulas) f.sig.gives) None ≡ Some t → Fits t
+              each true same e =
+                  subst Fits (some_is _ t e)
+                  (u, function, (takes_pair f f.sig.takes u at, refl), (fits v refl).0, (fits v refl).1, all_elements u ts.formulas ts.tys same all)
+              each false same e = absurd (cc)
+
+  fold_fits : (name : List ℕ) (first : Literal) (found : Option FnRef) (each : Option TypedFormulas) (t : TypedFormula) → is_plain_literal first ≡ true
+      → F.named name ≡ found → ((ts : TypedFormulas) → each ≡ Some ts → AllFit ts)
+      → and_then found (λ f. and_then each (λ ts. folded names f first ts)) ≡ Some t → Fits t
+  fold_fits name first None each t plain is all e = absurd (cc)
+  fold_fits name first (Some f) None t plain is all e = absurd (cc)
+  fold_fits name first (Some f) (Some ts) t plain is all e = folded_fits f first ts t plain (maps name f is) (all ts refl) e
+
   more_fit : (first : Option TypedFormula) (rest : Option TypedFormulas) (ts : TypedFormulas) → ((t : TypedFormula) → first ≡ Some t → Fits t)
       → ((us : TypedFormulas) → rest ≡ Some us → AllFit us) → and_then first (λ t. and_then rest (λ us. Some (before t us))) ≡ Some ts → AllFit ts
   more_fit None rest ts one others e = absurd (cc)
@@ -142,6 +192,9 @@ module _ (F : Meanings) (known : FnRef → Bool) (names : Names) (earlier : AreE
     typed_fits (grammar.Name name) plain t e = mentioned_fits name (find_declared names name) t refl e
     typed_fits (Call function arguments) plain t e =
         call_fits function (F.named function) (typed_each F names [] arguments) t refl (typed_each_fit arguments plain) e
+    typed_fits (Fold function first elements) plain t e =
+        let both = both_true (is_plain_literal first) (are_plain elements) plain in
+        fold_fits function first (F.named function) (typed_each F names [] elements) t both.0 refl (typed_each_fit elements both.1) e
     typed_fits _ plain t e = absurd (cc)
 
     typed_each_fit : (trees : Trees) → are_plain trees ≡ true → (ts : TypedFormulas) → typed_each F names [] trees ≡ Some ts → AllFit ts
@@ -160,6 +213,7 @@ module _ (F : Meanings) (known : FnRef → Bool) (names : Names) (earlier : AreE
   target_fits (model.Literal v) t h = omega arith
   target_fits (model.Name n) t h = omega (arith, h.earlier)
   target_fits (model.Apply f arguments) t h = omega arith
+  target_fits (model.Fold f first elements) t h = omega arith
   target_fits _ t h = absurd h
 
   fresh : (name : List ℕ) → (is_some (find_declared names name) || false) ≡ false → first_named name names.declared ≡ None

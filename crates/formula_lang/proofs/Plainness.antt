@@ -5,7 +5,7 @@ use Rattle.script_model.specs.Check.{Names, NotWhole, NotBind, NotExpert, TimeTo
 use Rattle.inc_value.specs.Choice.{Every, and_then}
 use Rattle.script_model.specs.Formula.{Computed, Meanings, nothing_kept}
 use Rattle.script_model.specs.Grammar as grammar
-use Rattle.script_model.specs.Grammar.{Line, Tree, Trees, Call, End, More, Var, Set, Let, Observe, Unobserve, Show, Stabilize, is_plain, are_plain, is_plain_literal}
+use Rattle.script_model.specs.Grammar.{Line, Tree, Trees, Call, Fold, End, More, Var, Set, Let, Observe, Unobserve, Show, Stabilize, is_plain, are_plain, is_plain_literal}
 use Rattle.script_model.specs.Literals as literals
 use Rattle.script_model.specs.Literals.{Literal, Integer}
 use Rattle.script_model.specs.Parsing.{trees_of}
@@ -38,6 +38,7 @@ level_plain : (y : Tree-F ((t : code_tree.Tree) × IsPlainView t)) → is_plain 
 level_plain (level.Literal l) = literal_plain l
 level_plain (level.Name name) = refl
 level_plain (level.Call function arguments) = views_plain arguments.items
+level_plain (level.Fold function first elements) = rw (literal_plain first, views_plain elements.items) refl
 
 pub view_plain : (t : code_tree.Tree) → IsPlainView t
 view_plain = ind-Tree IsPlainView (λ x y is.
@@ -66,11 +67,12 @@ line_plain (line.Show observer) = refl
 
 -- ---- the formulas in one
 
--- a literal that refers to no name, a name, a function
+-- a literal that refers to no name, a name, a function, a fold from such a literal
 abbrev is_plain_head : Tree → Bool
 is_plain_head (grammar.Literal l) = is_plain_literal l
 is_plain_head (grammar.Name name) = true
 is_plain_head (Call function arguments) = true
+is_plain_head (Fold function first elements) = is_plain_literal first
 is_plain_head tree = false
 
 abbrev ArePlain : List Tree → Type 0
@@ -90,6 +92,7 @@ mutual
   heads (grammar.Literal l) h = (h, tt)
   heads (grammar.Name name) h = (refl, tt)
   heads (Call function arguments) h = (refl, heads_all arguments h)
+  heads (Fold function first elements) h = let both = both_true (is_plain_literal first) (are_plain elements) h in (both.0, heads_all elements both.1)
   heads _ h = absurd (cc)
 
   heads_all : (ts : Trees) → are_plain ts ≡ true → ArePlain (trees_in_all ts)
@@ -117,30 +120,35 @@ no_top : (t : Tree) → is_plain_head t ≡ true → is_top_form t ≡ false
 no_top (grammar.Literal l) h = refl
 no_top (grammar.Name name) h = refl
 no_top (Call function arguments) h = refl
+no_top (Fold function first elements) h = refl
 no_top _ h = absurd (cc)
 
 no_times : (t : Tree) → is_plain_head t ≡ true → own_times t ≡ []
 no_times (grammar.Literal l) h = refl
 no_times (grammar.Name name) h = refl
 no_times (Call function arguments) h = refl
+no_times (Fold function first elements) h = refl
 no_times _ h = absurd (cc)
 
 no_falling : (t : Tree) → is_plain_head t ≡ true → has_falling_times t ≡ false
 no_falling (grammar.Literal l) h = refl
 no_falling (grammar.Name name) h = refl
 no_falling (Call function arguments) h = refl
+no_falling (Fold function first elements) h = refl
 no_falling _ h = absurd (cc)
 
 no_interval : (t : Tree) → is_plain_head t ≡ true → is_empty_interval t ≡ false
 no_interval (grammar.Literal l) h = refl
 no_interval (grammar.Name name) h = refl
 no_interval (Call function arguments) h = refl
+no_interval (Fold function first elements) h = refl
 no_interval _ h = absurd (cc)
 
 no_span : (name : List ℕ) (t : Tree) → is_plain t ≡ true → spans_of (Let name t) ≡ []
 no_span name (grammar.Literal l) h = refl
 no_span name (grammar.Name n) h = refl
 no_span name (Call function arguments) h = refl
+no_span name (Fold function first elements) h = refl
 no_span name _ h = absurd (cc)
 
 -- ---- names
@@ -156,6 +164,7 @@ nothing_referred [] plain = refl
 nothing_referred (grammar.Literal l ∷ ts) plain = rw (unreferred l plain.0, nothing_referred ts plain.1) refl
 nothing_referred (grammar.Name name ∷ ts) plain = nothing_referred ts plain.1
 nothing_referred (Call function arguments ∷ ts) plain = nothing_referred ts plain.1
+nothing_referred (Fold function first elements ∷ ts) plain = rw (unreferred first plain.0, nothing_referred ts plain.1) refl
 nothing_referred (_ ∷ ts) plain = absurd (let h = plain.0 in cc)
 
 nothing_behind : {A : Type 0} (xs : List A) → xs ++ [] ≡ xs
@@ -172,6 +181,7 @@ pub plain_top : (F : Meanings) (names : Names) (t : Tree) → is_plain t ≡ tru
 plain_top F names (grammar.Literal l) h = refl
 plain_top F names (grammar.Name name) h = refl
 plain_top F names (Call function arguments) h = refl
+plain_top F names (Fold function first elements) h = refl
 plain_top F names _ h = absurd (cc)
 
 -- ---- the rows that never hold

@@ -19,21 +19,21 @@ unfolding plain_read
 plain_read_more zero tokens h = absurd (h refl)
 plain_read_more (suc d) tokens h = let less : suc d - 1 ≡ d = omega arith in rw less refl
 
-module _ (part : List Token → Read Tree) where
-  -- no argument is read where there is no room
-  pub list_front_none : (n : ℕ) (done : List Tree) (tokens : List Token) → n ≡ 0 → None ≡ list_front part 41 n done tokens
+module _ (part : List Token → Read Tree) (end : ℕ) where
+  -- nothing is read where there is no room
+  pub list_front_none : (n : ℕ) (done : List Tree) (tokens : List Token) → n ≡ 0 → None ≡ list_front part end n done tokens
   unfolding list_front
   list_front_none n done tokens e = rw e refl
 
-  -- behind fewer than nine the next one is read, and then what stands behind it
-  pub list_front_more : (count : ℕ) (done : List Tree) (tokens : List Token) → count < 9 → list_front part 41 (9 - count) done tokens
-      ≡ then_read (part tokens) (λ x rest. behind_element (list_front part 41 (9 - (count + 1))) 41 (done ++ x ∷ []) rest)
+  -- behind fewer than the limit the next one is read, and then what stands behind it
+  pub list_front_more : (limit count : ℕ) (done : List Tree) (tokens : List Token) → count < limit → list_front part end (limit - count) done tokens
+      ≡ then_read (part tokens) (λ x rest. behind_element (list_front part end (limit - (count + 1))) end (done ++ x ∷ []) rest)
   unfolding list_front
-  list_front_more count done tokens h = let more : 9 - count ≡ suc (9 - (count + 1)) = omega (arith, h) in rw more refl
+  list_front_more limit count done tokens h = let more : limit - count ≡ suc (limit - (count + 1)) = omega (arith, h) in rw more refl
 
   -- what stands behind it, by the signs that are eaten
-  pub behind_eaten : (n : ℕ) (now : List Tree) (tokens : List Token) → behind_element (list_front part 41 n) 41 now tokens
-      ≡ (if begins_with 41 tokens then read now (drop 1 tokens) else (if begins_with 44 tokens then list_front part 41 n now (drop 1 tokens) else None))
+  pub behind_eaten : (n : ℕ) (now : List Tree) (tokens : List Token) → behind_element (list_front part end n) end now tokens
+      ≡ (if begins_with end tokens then read now (drop 1 tokens) else (if begins_with 44 tokens then list_front part end n now (drop 1 tokens) else None))
   behind_eaten n now [] = refl
   behind_eaten n now (t ∷ rest) = refl
 

@@ -7,7 +7,8 @@ use Rattle.inc_value.specs.declared.function.FnRef.{FnRef}
 use Rattle.inc_value.specs.declared.ty.Ty.{Ty}
 use Rattle.script_model.specs.Check.{Command, Declare, Assign, Observe, Unobserve, Stabilize, Show, Declared, Names, first_named, is_among, is_variable, target_of_body}
 use Rattle.inc_value.specs.Choice.{and_then}
-use Rattle.script_model.specs.Formula.{Formula, Formulas, Body, Literal, Name, Apply, End, More, Variable, Computed, nothing_kept}
+use Rattle.script_model.specs.Formula.{Formula, Formulas, Body, Literal, Name, Apply, Fold, End, More, Variable, Computed, nothing_kept}
+use Rattle.script_model.specs.Valid.{FoldsOver}
 use Rattle.script_model.specs.Values.{type_of}
 
 -- a declared name of the type stands for the declaration at the position
@@ -31,6 +32,8 @@ abbrev mutual
   FormulaFits known names (Literal v) ty = (type_of v ≡ ty) × IsBase ty
   FormulaFits known names (Name position) ty = NameFits names position ty
   FormulaFits known names (Apply f arguments) ty = FunctionFits known f × ArgumentsFit known names arguments f.sig.takes × (f.sig.gives ≡ ty)
+  FormulaFits known names (Fold f first elements) ty =
+      (element : Ty) × FunctionFits known f × FoldsOver f ty element × (type_of first ≡ ty) × IsBase ty × ElementsFit known names elements element
   FormulaFits known names f ty = ⊥
 
   -- each argument has the type that is listed for it, and there are as many
@@ -39,6 +42,11 @@ abbrev mutual
   ArgumentsFit known names End (ty ∷ tys) = ⊥
   ArgumentsFit known names (More f rest) [] = ⊥
   ArgumentsFit known names (More f rest) (ty ∷ tys) = FormulaFits known names f ty × ArgumentsFit known names rest tys
+
+  -- each element has the type
+  pub ElementsFit : (FnRef → Bool) → Names → Formulas → Ty → Type 0
+  ElementsFit known names End ty = Unit {0}
+  ElementsFit known names (More f rest) ty = FormulaFits known names f ty × ElementsFit known names rest ty
 
 -- what is declared is of today's forms and has the type, and nothing is kept of it
 abbrev pub BodyFits : (FnRef → Bool) → Names → Body → Ty → Type 0

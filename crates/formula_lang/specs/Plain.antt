@@ -1,5 +1,5 @@
 -- Lines of today's forms, read from the front of tokens. Contracts of private functions cite them, those of public ones none.
-use Rattle.std.specs.Prelude.{ℕ, zero, suc, true, false, nat_le, cond, if◌then◌else◌, List, [], ◌∷◌, length, codes, Option, None, Some}
+use Rattle.std.specs.Prelude.{ℕ, zero, suc, true, false, nat_le, cond, if◌then◌else◌, List, [], ◌∷◌, length, codes, drop, Option, None, Some}
 use Rattle.std.specs.Str.{bytes_eq}
 use Rattle.inc_value.specs.declared.ty.Base.{Base}
 use Rattle.inc_value.specs.declared.ty.Ty.{Ty}
@@ -10,8 +10,9 @@ use Rattle.script_model.specs.Literals as literals
 use Rattle.script_model.specs.Literals.{Literal, Integer}
 use Rattle.script_model.specs.Language.{is_name, integer_of}
 use Rattle.script_model.specs.Check.{type_of_base}
-use Rattle.script_model.specs.Parsing.{Read, read, base_named, name_front, named_front, one_name, tally, two_names, whole}
+use Rattle.script_model.specs.Parsing.{Read, read, then_read, base_named, is_word, list_front, name_front, named_front, one_name, tally, trees_of, two_names, whole}
 use Rattle.script_model.specs.Tokens.{Token, Word, Number, Text}
+use Rattle.formula_lang.specs.Reading.{begins_with, begins_with_word}
 
 -- a line, where it is of today's forms
 abbrev pub where_here : Option Line → Option Line
@@ -58,16 +59,34 @@ abbrev pub plain_type : List Token → Read Ty
 plain_type [] = None
 plain_type (t ∷ rest) = and_then (base_in t) (λ b. read (type_of_base b) rest)
 
--- a formula, behind its first token: a name or a function where that is a name, else a literal
+-- formulas with commas between them, up to the `]` that is taken too: nothing, or one or more
+abbrev pub plain_any : (List Token → Read Tree) → List Token → Read (List Tree)
+plain_any part tokens = if begins_with 93 tokens then read [] (drop 1 tokens) else list_front part 93 (tally tokens) [] tokens
+
+-- the fold of the function from the first value, behind its `[`
+abbrev pub fold_over : (List Token → Read Tree) → List ℕ → Literal → List Token → Read Tree
+fold_over part function first tokens = then_read (plain_any part tokens) (λ elements rest. read (grammar.Fold function first (trees_of elements)) rest)
+
+-- the fold of the function, behind its `from`
+abbrev pub fold_from : (List Token → Read Tree) → List ℕ → List Token → Read Tree
+fold_from part function tokens =
+    then_read (plain_literal tokens) (λ first rest. if begins_with 91 rest then fold_over part function first (drop 1 rest) else None)
+
+-- a fold, behind its first word
+abbrev pub plain_fold : (List Token → Read Tree) → List Token → Read Tree
+plain_fold part tokens =
+    then_read (name_front tokens) (λ function rest. if begins_with_word (codes "from") rest then fold_from part function (drop 1 rest) else None)
+
+-- a formula, behind its first token: a name or a function where that is a name, a fold behind its word, else a literal
 abbrev pub behind_first : (List Token → Read Tree) → Token → List Token → Option (List ℕ) → Read Tree
 behind_first part t rest (Some w) = named_front part w rest
-behind_first part t rest None = and_then (literal_in t) (λ l. read (grammar.Literal l) rest)
+behind_first part t rest None = if is_word (codes "fold") t then plain_fold part rest else and_then (literal_in t) (λ l. read (grammar.Literal l) rest)
 
 abbrev pub plain_front : (List Token → Read Tree) → List Token → Read Tree
 plain_front part [] = None
 plain_front part (t ∷ rest) = behind_first part t rest (name_in t)
 
--- a formula of literals, names and functions, of at most n formulas within one another
+-- a formula of literals, names, functions and folds, of at most n formulas within one another
 unfoldable pub plain_read : ℕ → List Token → Read Tree
 plain_read zero tokens = None
 plain_read (suc n) tokens = plain_front (plain_read n) tokens

@@ -14,6 +14,7 @@ abbrev pub level_view : Tree-F grammar.Tree → grammar.Tree
 level_view (level.Literal literal) = grammar.Literal (literal_view literal)
 level_view (level.Name name) = grammar.Name name
 level_view (level.Call function arguments) = grammar.Call function (trees_of arguments.items)
+level_view (level.Fold function first elements) = grammar.Fold function (literal_view first) (trees_of elements.items)
 
 -- a tree, with its bytes
 abbrev pub tree_view : Tree → grammar.Tree

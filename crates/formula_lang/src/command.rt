@@ -52,6 +52,12 @@ pub enum Formula {
         function: FnRef,
         arguments: Vec<Formula>,
     },
+    /// The fold of a function from a first value over elements, in order.
+    Fold {
+        function: FnRef,
+        first: Constant,
+        elements: Vec<Formula>,
+    },
 }
 
 /// What is declared.
@@ -71,7 +77,9 @@ impl Declaration {
     {
         match self {
             Declaration::Computed(Formula::Name(target)) => *target,
-            Declaration::Computed(Formula::Literal(_) | Formula::Apply { .. })
+            Declaration::Computed(
+                Formula::Literal(_) | Formula::Apply { .. } | Formula::Fold { .. },
+            )
             | Declaration::Variable(_) => own,
         }
     }

@@ -25,6 +25,12 @@ pub enum Tree {
         function: Name,
         arguments: Vec<Tree>,
     },
+    /// A fold of a function from a first value over elements, of which there may be none.
+    Fold {
+        function: Name,
+        first: Literal,
+        elements: Vec<Tree>,
+    },
 }
 
 /// A command as it is written.

@@ -1,7 +1,7 @@
 //! Names, functions and types of formulas.
 ghost use Rattle.std.specs.Prelude.{◌≡◌, ◌<◌, [], length, map, option_map, IfOk, IfSome};
 ghost use Rattle.std.specs.List.{flat_map, list_any};
-ghost use Rattle.script_model.specs.Check.{applied as applied_to, find_declared, is_declared, mentioned, mentioned_in_all, own_functions, trees_in, trees_in_all, typed as formula_of, typed_each as formulas_of_each};
+ghost use Rattle.script_model.specs.Check.{Names as AllNames, applied as applied_to, are_all, element_of, find_declared, folded, is_declared, mentioned, mentioned_in_all, own_functions, trees_in, trees_in_all, typed as formula_of, typed_each as formulas_of_each};
 ghost use Rattle.script_model.specs.Parsing.{trees_of};
 ghost use Rattle.script_model.specs.Formula.{Literal as Held, meanings_of};
 ghost use Rattle.inc_value.specs.Ty.{same_ty, same_types};
@@ -9,6 +9,7 @@ ghost use Rattle.formula_lang.specs.CommandView.{constant_view};
 ghost use Rattle.formula_lang.specs.NamesView.{declared_view};
 ghost use Rattle.formula_lang.specs.Rows.{is_unknown, lacks};
 ghost use Rattle.formula_lang.specs.TreeView.{tree_view};
+ghost use Rattle.formula_lang.specs.View.{literal_view};
 ghost use Rattle.formula_lang.specs.Typing.{named_formula, type_of_literal, typed_view, typed_each_view, value_of_literal};
 
 use crate::command::{Constant, Formula};
@@ -58,6 +59,7 @@ pub(crate) fn has_unknown_name(names: &Names, tree: &Tree) -> bool
         Tree::Literal(_) => false,
         Tree::Name(name) => !is_declared(names, name),
         Tree::Call { arguments, .. } => have_unknown_name(names, arguments),
+        Tree::Fold { elements, .. } => have_unknown_name(names, elements),
     }
 }
 
@@ -85,6 +87,11 @@ pub(crate) fn has_unknown_function<L: Library>(library: &L, tree: &Tree) -> bool
             function,
             arguments,
         } => library.find(function.bytes()).is_none() || have_unknown_function(library, arguments),
+        Tree::Fold {
+            function,
+            elements,
+            ..
+        } => library.find(function.bytes()).is_none() || have_unknown_function(library, elements),
     }
 }
 
@@ -126,6 +133,19 @@ pub(crate) fn typed<L: Library>(
                 return Ok(None);
             };
             Ok(applied(function, arguments))
+        }
+        Tree::Fold {
+            function,
+            first,
+            elements,
+        } => {
+            let Some(function) = library.find(function.bytes()) else {
+                return Ok(None);
+            };
+            let Some(elements) = typed_each(alloc, names, library, elements)? else {
+                return Ok(None);
+            };
+            folded(alloc, function, first, elements)
         }
     }
 }
@@ -188,6 +208,56 @@ fn applied(function: FnRef, arguments: TypedFormulas) -> Option<TypedFormula>
         },
         ty: function.sig.gives(),
     })
+}
+
+/// The fold of the elements from the first value, if the function takes what it gives and an element, the first value has the type
+/// that it gives, and each element that which it takes.
+fn folded(
+    alloc: Global,
+    function: FnRef,
+    first: &Literal,
+    elements: TypedFormulas,
+) -> Result<Option<TypedFormula>, AllocError>
+    ensures { (names : AllNames) → IfOk result (λ t. option_map typed_view t
+        ≡ folded names function (literal_view first.now) (typed_each_view elements)) }
+{
+    let Some(element) = element_of(&function) else {
+        return Ok(None);
+    };
+    let gives = function.sig.gives();
+    if !is_same_type(type_of_literal(first), gives) || !are_all(element, &elements.tys) {
+        return Ok(None);
+    }
+    Ok(Some(TypedFormula {
+        formula: Formula::Fold {
+            function,
+            first: constant_of_literal(alloc, first)?,
+            elements: elements.formulas,
+        },
+        ty: gives,
+    }))
+}
+
+/// The type of the elements that the function folds; none where it doesn't take what it gives and an element.
+fn element_of(function: &FnRef) -> Option<Ty>
+    ensures { result ≡ element_of function.now function.now.sig.takes }
+{
+    match function.sig.takes() {
+        [gathered, element] if is_same_type(*gathered, function.sig.gives()) => Some(*element),
+        _ => None,
+    }
+}
+
+/// Whether all of the types are this one.
+fn are_all(ty: Ty, tys: &[Ty]) -> bool
+    ensures { result ≡ are_all ty tys.now }
+{
+    for other in tys {
+        if !is_same_type(ty, *other) {
+            return false;
+        }
+    }
+    true
 }
 
 /// Whether the function takes values of these types.

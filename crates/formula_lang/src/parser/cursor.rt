@@ -1,8 +1,8 @@
 //! Tokens, read from the front.
 ghost use Rattle.std.specs.Prelude.{◌≡◌, ◌<◌, ◌^◌, ◌∷◌, [], map, drop, if◌then◌else◌, IfNone, IfSome};
-ghost use Rattle.formula_lang.specs.Reading.{begins_with, is_empty};
+ghost use Rattle.formula_lang.specs.Reading.{begins_with, begins_with_word, is_empty};
 ghost use Rattle.formula_lang.specs.View.{sign_view, token_view};
-ghost use Rattle.script_model.specs.Parsing.{is_sign, tally};
+ghost use Rattle.script_model.specs.Parsing.{is_sign, is_word, tally};
 ghost use Rattle.script_model.specs.Tokens.{sign_byte};
 
 use crate::token::{Sign, Token};
@@ -29,6 +29,13 @@ fn is_sign(token: &Token<'_>, sign: Sign) -> bool
     ensures { result ≡ is_sign (sign_byte (sign_view sign)) (token_view token.now) }
 {
     matches!(token, Token::Punctuation(found) if *found == sign)
+}
+
+/// Whether a token is the word.
+pub(super) fn is_word(token: &Token<'_>, word: &[u8]) -> bool
+    ensures { result ≡ is_word word.now (token_view token.now) }
+{
+    matches!(token, Token::Word(found) if word == *found)
 }
 
 impl<'t, 'a> Cursor<'t, 'a> {
@@ -76,6 +83,20 @@ impl<'t, 'a> Cursor<'t, 'a> {
     {
         match self.rest {
             [first, rest @ ..] if is_sign(first, sign) => {
+                self.rest = rest;
+                true
+            }
+            _ => false,
+        }
+    }
+
+    /// Takes the word, where it is the next token.
+    pub(super) fn eat_word(&mut self, word: &[u8]) -> bool
+        ensures found { result ≡ begins_with_word word.now self.old }
+        ensures rest { self.new ≡ if result then drop 1 self.old else self.old }
+    {
+        match self.rest {
+            [first, rest @ ..] if is_word(first, word) => {
                 self.rest = rest;
                 true
             }

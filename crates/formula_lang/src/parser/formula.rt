@@ -1,14 +1,15 @@
 //! Formulas, read from tokens.
 ghost use Rattle.std.specs.Prelude.{◌≡◌, [], IfOk, map, option_map};
-ghost use Rattle.formula_lang.specs.Plain.{plain_read};
+ghost use Rattle.formula_lang.specs.Plain.{plain_any, plain_fold, plain_read};
 ghost use Rattle.formula_lang.specs.TreeView.{tree_view};
-ghost use Rattle.formula_lang.specs.View.{literal_view};
+ghost use Rattle.formula_lang.specs.View.{literal_view, sign_view};
 ghost use Rattle.script_model.specs.Grammar as grammar;
 ghost use Rattle.script_model.specs.Parsing.{list_front, named_front};
+ghost use Rattle.script_model.specs.Tokens.{sign_byte};
 
-use super::cursor::Cursor;
-use super::literal::literal_in;
-use super::word::name_in;
+use super::cursor::{Cursor, is_word};
+use super::literal::{literal_in, literal_of};
+use super::word::{name_in, name_of};
 use crate::name::Name;
 use crate::token::Sign;
 use crate::tree::{Literal, Tree};
@@ -43,6 +44,9 @@ pub(super) fn formula_of(
     if let Some(word) = name_in(first) {
         return named_of(alloc, depth - 1, word, tokens);
     }
+    if is_word(first, b"fold") {
+        return fold_of(alloc, depth - 1, tokens);
+    }
     match literal_in(alloc, first)? {
         Some(literal) => Ok(Some(written(literal))),
         None => Ok(None),
@@ -64,7 +68,7 @@ fn named_of(
     if !tokens.eat(Sign::Open) {
         return Ok(Some(Tree::Name(name)));
     }
-    match arguments_of(alloc, depth, tokens)? {
+    match list_of(alloc, depth, MAX_ARGUMENTS, Sign::Close, tokens)? {
         Some(arguments) => Ok(Some(Tree::Call {
             function: name,
             arguments,
@@ -73,25 +77,75 @@ fn named_of(
     }
 }
 
-/// Reads one to nine formulas with commas between them, and the `)` that ends them.
+/// Reads what stands behind the word `fold`: a function, a first value, and the elements.
 #[cycle(formula)]
-#[tactic(auto, using(crate::proofs::Steps::list_front_none, crate::proofs::Steps::list_front_more, crate::proofs::Steps::behind_eaten, crate::proofs::Steps::map_pushed))]
-fn arguments_of(
+fn fold_of(
+    alloc: Global,
+    depth: usize,
+    tokens: &mut Cursor<'_, '_>,
+) -> Result<Option<Tree>, AllocError>
+    ensures { IfOk result (λ found. option_map (λ tree. (tree_view tree, tokens.new)) found ≡ plain_fold (plain_read depth) tokens.old) }
+{
+    let Some(function) = name_of(tokens) else {
+        return Ok(None);
+    };
+    if !tokens.eat_word(b"from") {
+        return Ok(None);
+    }
+    let Some(first) = literal_of(alloc, tokens)? else {
+        return Ok(None);
+    };
+    if !tokens.eat(Sign::OpenBracket) {
+        return Ok(None);
+    }
+    let Some(elements) = elements_of(alloc, depth, tokens)? else {
+        return Ok(None);
+    };
+    let function = Name::new(alloc, function)?;
+    Ok(Some(Tree::Fold {
+        function,
+        first,
+        elements,
+    }))
+}
+
+/// Reads the elements of a fold, and the `]` that ends them.
+#[cycle(formula)]
+fn elements_of(
     alloc: Global,
     depth: usize,
     tokens: &mut Cursor<'_, '_>,
 ) -> Result<Option<Vec<Tree>>, AllocError>
-    ensures { IfOk result (λ found. option_map (λ trees. (map tree_view trees.items, tokens.new)) found
-        ≡ list_front (plain_read depth) 41 9 [] tokens.old) }
+    ensures { IfOk result (λ found. option_map (λ trees. (map tree_view trees.items, tokens.new)) found ≡ plain_any (plain_read depth) tokens.old) }
 {
-    let mut arguments = Vec::new(alloc);
-    for _count in 0..MAX_ARGUMENTS {
-        let Some(argument) = formula_of(alloc, depth, tokens)? else {
+    if tokens.eat(Sign::CloseBracket) {
+        return Ok(Some(Vec::new(alloc)));
+    }
+    let limit = tokens.len();
+    list_of(alloc, depth, limit, Sign::CloseBracket, tokens)
+}
+
+/// Reads one or more formulas, at most `limit`, with commas between them, and the sign that ends them.
+#[cycle(formula)]
+#[tactic(auto, using(crate::proofs::Steps::list_front_none, crate::proofs::Steps::list_front_more, crate::proofs::Steps::behind_eaten, crate::proofs::Steps::map_pushed))]
+fn list_of(
+    alloc: Global,
+    depth: usize,
+    limit: usize,
+    end: Sign,
+    tokens: &mut Cursor<'_, '_>,
+) -> Result<Option<Vec<Tree>>, AllocError>
+    ensures { IfOk result (λ found. option_map (λ trees. (map tree_view trees.items, tokens.new)) found
+        ≡ list_front (plain_read depth) (sign_byte (sign_view end)) limit [] tokens.old) }
+{
+    let mut found = Vec::new(alloc);
+    for _count in 0..limit {
+        let Some(formula) = formula_of(alloc, depth, tokens)? else {
             return Ok(None);
         };
-        arguments.push(argument)?;
-        if tokens.eat(Sign::Close) {
-            return Ok(Some(arguments));
+        found.push(formula)?;
+        if tokens.eat(end) {
+            return Ok(Some(found));
         }
         if !tokens.eat(Sign::Comma) {
             return Ok(None);

@@ -1,3 +1,9 @@
+use Rattle.std.proofs.Common.{◌≡◌, Some, sym, ap, ◌∙◌}
+use Rattle.script_model.specs.Grammar.{Tree}
+use Rattle.formula_lang.specs.TreeView.{level_view, tree_view}
+use Rattle.formula_lang.specs.declared.tree.Tree.TheFolds.{fold-roll-Tree}
+use Rattle.formula_lang.specs.declared.tree.Tree.TheOpen as level
+use Rattle.formula_lang.specs.declared.tree.Tree.TheVariants.{rolls-Fold}
 use Rattle.script_model.specs.Formula.{meanings_of}
 use Rattle.formula_lang.proofs.TypedArguments.{step_done, all_done}
 use Rattle.formula_lang.proofs.typing.+formula.Goals as goal
@@ -16,3 +22,12 @@ typed_each-returns g t c =
     let F = meanings_of (g.L.Library.named c.args.library.now) (g.L.Library.value c.args.library.now) in
     all_done F c.args.names.now c.args.trees.now c.loop-tree.tree-index c.loop-tree.formulas.items c.loop-tree.tys.items c.loop-tree-test.false
     c.loop-tree.invariant
+
+pub typed-returns-in-Some-3 : goal.typed-returns-in-Some-3
+typed-returns-in-Some-3 g t c =
+    let F = meanings_of (g.L.Library.named c.args.library.now) (g.L.Library.value c.args.library.now) in
+    let written = ap tree_view (sym (rolls-Fold c.in-Fold.function c.in-Fold.first c.in-Fold.elements))
+    ∙ fold-roll-Tree Tree level_view (level.Fold c.in-Fold.function c.in-Fold.first c.in-Fold.elements) in
+    let found : F.named c.in-Fold.function ≡ Some c.in-Some-find.function = rw (← c.bytes-in-Fold.ensures) (sym c.find-in-Fold.ensures ∙ c.in-Some-find.is) in
+    let each = rw (c.in-Some-3.is, c.deref-in-Fold.ensures.value) at c.in_ok-elements-in-Fold.ensures in
+    rw (c.in-Fold.is, written, found, ← each) (c.folded.ensures c.args.names.now)
