@@ -88,6 +88,33 @@ fn scripts(rt: HostRuntime) -> Result<(), Fail> {
             1,
         ),
         (
+            "var a int 1\nvar b int 2\nlet s fold add from 10 [a, b, 3]\nobserve o s\nstabilize\n\
+             show o\nset a 5\nstabilize\nshow o\nset b 2\nstabilize\n",
+            "ok\nok\nok\nok\nstable 1\no = 16\nok\nstable 2\no = 20\nok\nstable 3\n",
+            0,
+            6,
+        ),
+        (
+            "var x int 1\nlet s fold add from 1 [x, fold add from 2 [x, x], add(x, x)]\n\
+             observe o s\nstabilize\nshow o\nset x 3\nstabilize\nshow o\n",
+            "ok\nok\nok\nstable 1\no = 8\nok\nstable 2\no = 18\n",
+            0,
+            12,
+        ),
+        (
+            "let e fold add from -7 []\nlet f e\nobserve o f\nstabilize\nshow o\n",
+            "ok\nok\nok\nstable 1\no = -7\n",
+            0,
+            0,
+        ),
+        (
+            "var x int 1\nlet s fold add from 0 [x, x]\nobserve o s\nstabilize\n\
+             unobserve o\nobserve p s\nstabilize\nshow p\n",
+            "ok\nok\nok\nstable 1\nok\nok\nstable 2\np = 2\n",
+            0,
+            2,
+        ),
+        (
             "var t text \"a\\\"b\"\nlet u t\nset u \"\\\\\"\nobserve o u\nstabilize\nshow o",
             "ok\nok\nok\nok\nstable 1\no = \"\\\\\"\n",
             0,
@@ -304,6 +331,63 @@ fn lines_are_answered(rt: HostRuntime) -> Result<(), Fail> {
     assert_eq!(rt; sink.written(), output.as_bytes());
     assert_eq!(rt; got, 1);
     assert_eq!(rt; library.calls(), 0);
+    Ok(())
+}
+
+#[test]
+fn folds_are_answered(rt: HostRuntime) -> Result<(), Fail> {
+    let alloc = rt.alloc();
+    let rows: [(&str, &str); 18] = [
+        ("var x int 1", "ok\n"),
+        ("var p bool true", "ok\n"),
+        ("let y fold add from 0 [x, y]", "refused 4\n"),
+        ("let y fold foo from 0 [x]", "refused 5\n"),
+        ("let y fold neg from 0 [x]", "refused 6\n"),
+        ("let y fold lt from 0 [x]", "refused 6\n"),
+        ("let y fold pick from true [x, x]", "refused 6\n"),
+        ("let y fold add from true [x]", "refused 6\n"),
+        ("let y fold add from 0 [x, p]", "refused 6\n"),
+        ("let y fold add from x [x]", "refused 1\n"),
+        ("let y fold add from &x [x]", "refused 1\n"),
+        ("let y fold add from 0 (x)", "refused 1\n"),
+        ("let y fold add from 0 [x,]", "refused 1\n"),
+        ("let x fold foo from 0 [q]", "refused 3\n"),
+        ("let y fold add from 0 [x, 2]", "ok\n"),
+        ("set y 2", "refused 7\n"),
+        ("observe o y", "ok\n"),
+        ("show o", "refused 13\n"),
+    ];
+    let mut script = String::new(alloc);
+    let mut output = String::new(alloc);
+    for (line, answer) in rows {
+        script.push_str(line)?;
+        script.push_str("\n")?;
+        output.push_str(answer)?;
+    }
+    let (sink, status) = transcribed(alloc, &script)?;
+    assert_eq!(rt; sink.written(), output.as_bytes());
+    assert_eq!(rt; status, 1);
+    Ok(())
+}
+
+#[test]
+fn a_chain_of_folds_that_is_too_long(rt: HostRuntime) -> Result<(), Fail> {
+    let alloc = rt.alloc();
+    let mut script = "var n0 int 1\n".to_string(alloc)?;
+    let mut output = "ok\n".to_string(alloc)?;
+    let mut below = 0;
+    for number in 1..129u64 {
+        script.push_str(&format!(in alloc; "let n{number} fold add from 1 [n{below}]\n")?)?;
+        output.push_str("ok\n")?;
+        below = number;
+    }
+    script.push_str("observe o n128\nstabilize\nshow o\n")?;
+    output.push_str("ok\nstable 1\no = 129\n")?;
+    script.push_str("let n129 fold add from 1 [n128]\nobserve p n129\nstabilize\nshow o\n")?;
+    output.push_str("ok\nok\nrefused 21 height n129\nrefused 22 21\n")?;
+    let (sink, status) = transcribed(alloc, &script)?;
+    assert_eq!(rt; sink.written(), output.as_bytes());
+    assert_eq!(rt; status, 1);
     Ok(())
 }
 

@@ -49,6 +49,30 @@ fn scripts(rt: HostRuntime) -> Result<(), Fail> {
             0,
             5,
         ),
+        (
+            "var a int 1\nvar b int 2\nlet s fold add from 10 [a, b, 3]\nobserve o s\nstabilize\n\
+             show o\nset a 5\nstabilize\nset b 2\nstabilize\n",
+            1000,
+            "ok\nok\nok\nok\nstable 1\ncalls 3\no = 16\nok\nstable 2\ncalls 3\nok\nstable 3\n\
+             calls 0\n",
+            0,
+            6,
+        ),
+        (
+            "var x int 1\nlet s fold add from 1 [x, fold add from 2 [x, x], add(x, x)]\n\
+             observe o s\nstabilize\nset x 3\nstabilize\nshow o\n",
+            1000,
+            "ok\nok\nok\nstable 1\ncalls 6\nok\nstable 2\ncalls 6\no = 18\n",
+            0,
+            12,
+        ),
+        (
+            "let e fold add from -7 []\nobserve o e\nstabilize\nshow o\n",
+            1000,
+            "ok\nok\nstable 1\ncalls 0\no = -7\n",
+            0,
+            0,
+        ),
         (SCRIPT, 22, "ok\nok\nok\nstable 1\ncall", 4, 1),
     ];
     for (script, room, output, status, calls) in rows {
