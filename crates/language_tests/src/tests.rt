@@ -1,8 +1,10 @@
-//! Each byte alone and between others, lines that are longer than a session takes, each kind of token, and names found again.
-use formula_lang::{Kind, Names, ParseFault, parse};
+//! Each byte alone and between others, lines that are longer than a session takes, each kind of token, folds and their faults, and names
+//! found again.
+use formula_lang::{CheckFault, Kind, Names, ParseFault, check, parse};
 use inc_value::Ty;
 use std::alloc::{AllocError, Global};
 use std::test::Fail;
+use std_library::StdLib;
 
 /// `front`, `count` times `piece`, and `back`.
 fn joined(
@@ -40,6 +42,13 @@ fn tells_bytes(rt: HostRuntime) -> Result<(), Fail> {
             ("set x 1", "", digit || space),
             ("set x \"", "\"", plain),
             ("set x \"\\", "\"", escaped),
+            ("let y fold f from 0 [", "]", letter || digit || space),
+            (
+                "let y fold f from 0 [x",
+                "x]",
+                letter || digit || byte == b',',
+            ),
+            ("let y fold f from 0 ", "]", byte == b'['),
         ];
         for (front, back, wanted) in rows {
             let line = joined(alloc, front, &[byte], 1, back)?;
@@ -61,6 +70,7 @@ fn tells_long_lines(rt: HostRuntime) -> Result<(), Fail> {
         ("", "[", 100_000, "", level),
         ("let y ", "if ", 100_000, "", level),
         ("let y ", "bind ", 100_000, "", level),
+        ("let y ", "fold f from 0 [", 100_000, "", level),
         ("var x text \"", "a", 4096, "\"", None),
         ("var x text \"", "a", 4097, "\"", form),
         ("var x text \"", "\\\"", 4096, "\"", None),
@@ -100,6 +110,128 @@ fn tells_tokens(rt: HostRuntime) -> Result<(), Fail> {
         let line = joined(alloc, tokens, b" (", 65, "")?;
         let are_tokens = parse(alloc, &line).err() == Some(ParseFault::Level);
         assert!(rt; are_tokens == wanted, "{tokens:?}");
+    }
+    Ok(())
+}
+
+#[test]
+fn tells_folds(rt: HostRuntime) -> Result<(), Fail> {
+    let alloc = rt.alloc();
+    let form = Some(ParseFault::Form);
+    let rows = [
+        ("fold f from 0 []", None),
+        ("fold f from -1 [x]", None),
+        ("fold f from true [x, false]", None),
+        ("fold f from \"a\" [x, 1, g(x), \"b\"]", None),
+        (
+            "fold f from 0 [fold g from 1 [], x, fold h from 2 [x]]",
+            None,
+        ),
+        ("f(fold g from 0 [x], fold h from 0 [])", None),
+        ("fold f from 0 [a, b, c, d, e, g, h, i, j, k]", None),
+        ("fold", form),
+        ("fold f", form),
+        ("fold f 0 [x]", form),
+        ("fold f in 0 [x]", form),
+        ("fold f from [x]", form),
+        ("fold f from y [x]", form),
+        ("fold f from &y [x]", form),
+        ("fold f from g(1) [x]", form),
+        ("fold f from 5s [x]", form),
+        ("fold f from 9223372036854775808 [x]", form),
+        ("fold f from 0 x", form),
+        ("fold f from 0 (x)", form),
+        ("fold f from 0 [x)", form),
+        ("fold f from 0 [x", form),
+        ("fold f from 0 [", form),
+        ("fold f from 0 [,]", form),
+        ("fold f from 0 [x,]", form),
+        ("fold f from 0 [, x]", form),
+        ("fold f from 0 [x x]", form),
+        ("fold f from 0 [x: 1]", form),
+        ("fold f from 0 [x]]", form),
+        ("fold f from 0 [x] x", form),
+        ("fold from from 0 [x]", form),
+        ("fold from 0 [x]", form),
+        ("fold 1 from 0 [x]", form),
+        ("fold(x)", form),
+        ("Fold f from 0 [x]", form),
+    ];
+    for (formula, wanted) in rows {
+        let line = joined(alloc, "let y ", formula.as_bytes(), 1, "")?;
+        let fault = parse(alloc, &line).err();
+        assert!(rt; fault == wanted, "{formula:?}");
+    }
+    Ok(())
+}
+
+#[test]
+fn nests_folds(rt: HostRuntime) -> Result<(), Fail> {
+    let alloc = rt.alloc();
+    let rows = [
+        ("fold f from 0 [", 64, "]", None),
+        ("fold f from 0 [", 65, "]", Some(ParseFault::Level)),
+        ("fold f from 0 [], ", 65, "", Some(ParseFault::Form)),
+        ("g(fold f from 0 [", 32, "])", None),
+        ("g(fold f from 0 [", 33, "])", Some(ParseFault::Level)),
+    ];
+    for (front, count, back, wanted) in rows {
+        let mut line = joined(alloc, "let y ", front.as_bytes(), count, "x")?;
+        for _ in 0..count {
+            line.extend_from_slice(back.as_bytes())?;
+        }
+        let fault = parse(alloc, &line).err();
+        assert!(rt; fault == wanted, "{front:?} {count}");
+    }
+    Ok(())
+}
+
+#[test]
+fn checks_folds(rt: HostRuntime) -> Result<(), Fail> {
+    let alloc = rt.alloc();
+    let library = StdLib::new();
+    let mut names = Names::new(alloc)?;
+    for (name, ty) in [("x", Ty::Int), ("p", Ty::Bool), ("t", Ty::Text)] {
+        let target = names.len();
+        assert!(rt; names.find(name.as_bytes()).is_none(), "{name}");
+        names.declare(name.as_bytes(), ty, Kind::Var, target)?;
+    }
+    let rows = [
+        ("y", "fold add from 0 []", None),
+        ("y", "fold add from 0 [x]", None),
+        ("y", "fold add from 0 [x, 1, neg(x), x]", None),
+        ("y", "neg(fold add from 0 [fold add from 1 [x], x])", None),
+        ("y", "fold add from true []", Some(6)),
+        ("y", "fold add from \"0\" [x]", Some(6)),
+        ("y", "fold add from 0 [p]", Some(6)),
+        ("y", "fold add from 0 [t, x]", Some(6)),
+        ("y", "fold add from 0 [x, x, p]", Some(6)),
+        ("y", "fold add from 0 [x, true, x]", Some(6)),
+        ("y", "fold neg from 0 [x]", Some(6)),
+        ("y", "fold neg from 0 []", Some(6)),
+        ("y", "fold lt from 0 [x]", Some(6)),
+        ("y", "fold lt from true [x]", Some(6)),
+        ("y", "fold pick from 0 [x]", Some(6)),
+        ("y", "fold add from 0 [neg(p)]", Some(6)),
+        ("y", "lt(fold add from 0 [x], p)", Some(6)),
+        ("y", "fold sub from 0 [x]", Some(5)),
+        ("y", "fold sub from true [p]", Some(5)),
+        ("y", "fold add from true [sub(x)]", Some(5)),
+        ("y", "fold add from 0 [q]", Some(4)),
+        ("y", "fold sub from 0 [x, q]", Some(4)),
+        ("y", "fold add from true [y]", Some(4)),
+        ("x", "fold add from 0 [x]", Some(3)),
+        ("x", "fold sub from 0 [q]", Some(3)),
+    ];
+    for (name, formula, wanted) in rows {
+        let mut line = joined(alloc, "let ", name.as_bytes(), 1, " ")?;
+        line.extend_from_slice(formula.as_bytes())?;
+        let parsed = parse(alloc, &line)?;
+        let fault = check(alloc, &parsed, &names, &library).err();
+        assert!(rt;
+            fault == wanted.map(CheckFault::Refusal),
+            "{name} {formula:?}"
+        );
     }
     Ok(())
 }
