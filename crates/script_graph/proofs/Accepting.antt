@@ -15,6 +15,7 @@ use Rattle.graph.specs.Standing.{Standing, in_use, node_at}
 use Rattle.graph.specs.declared.observer.Observer.{Observer as Looking}
 use Rattle.node_arena.specs.Arena.{Arena}
 use Rattle.node_arena.specs.Graph.{graph_of}
+use Rattle.stabilize_round.specs.Calling.{costs_of}
 use Rattle.stabilize_round.specs.Counts.{RoseBy}
 use Rattle.stabilizer.specs.Computing.{seen}
 use Rattle.stabilizer.specs.Meaning.{functions_of}
@@ -39,7 +40,7 @@ use Rattle.script_graph.proofs.Functions.{functions_are}
 use Rattle.script_graph.proofs.Holding.{ready_is_flat}
 use Rattle.script_graph.proofs.Plain.{name_gives_base}
 use Rattle.script_graph.proofs.Recalling.{needed_is_right, visit_is_recalled}
-use Rattle.script_graph.proofs.Running.{map_ran, all_ran, one_call_each}
+use Rattle.script_graph.proofs.Running.{taken_ran, all_ran, costs_within}
 use Rattle.script_graph.proofs.Same.{besides, observed_so, represents_so}
 use Rattle.script_graph.proofs.Showing.{ShowsThen, AllShow, all_show, made_then, shows_then, names_then, watches_then}
 use Rattle.script_graph.proofs.Looking.{observed_of_root}
@@ -94,7 +95,7 @@ module _ (named : List ℕ → Option FnRef) (value : FnRef → List GraphValue 
     (g : Standing (Unit {0})) (called calls : ℕ) (stands : Stands (meanings_of named value) k m) (unbroken : m.broken ≡ None)
     (sound : IsSound known (seen_value value) k.graph.parts k.graph.observers k.graph.rooted k.graph.refused)
     (done : GraphStabilizes (graph_functions (meanings_of named value)) k.graph g)
-    (rose : RoseBy called (length g.parts.ran.items) calls) where
+    (rose : RoseBy called (costs_of (graph_of (arena_of k)) g.parts.ran.items) calls) where
   abbrev F : Meanings
   F = meanings_of named value
 
@@ -153,13 +154,13 @@ module _ (named : List ℕ → Option FnRef) (value : FnRef → List GraphValue 
   ran_each n among =
       let c = done.right.called n among in
       let i = meeting_is_covered named value known s k holds.represents holds.watches can (main n) c.met in
-      map_ran x before n c.row c.function c.nodes c.values c.is_row (flat_stands (graph_functions F) (graph_of arena) flat n c.row c.is_row) c.is_map
+      taken_ran x before n c.row c.nodes c.values c.is_row (flat_stands (graph_functions F) (graph_of arena) flat n c.row c.is_row) c.takes
       c.gives (i.0, from_root i.1, i.2) (fresh n c)
 
-  due : WithinWork F before s (length ran)
+  due : WithinWork F before s (costs_of (graph_of arena) ran)
   due = ran_is_within_work x (represented_fits named value s k holds.represents) before (grabs_bind before holds.settled.plain)
-      (grabs_bind s holds.represents.plain) holds.settled.formulas ran (all_ran x before ran ran_each) (length ran) done.right.once
-      (one_call_each x before (code_row arena) ran (all_ran x before ran ran_each))
+      (grabs_bind s holds.represents.plain) holds.settled.formulas ran (all_ran x before ran ran_each) (costs_of (graph_of arena) ran) done.right.once
+      (costs_within x before (code_row arena) ran (all_ran x before ran ran_each))
 
   -- ---- observers
 
@@ -248,7 +249,7 @@ module _ (named : List ℕ → Option FnRef) (value : FnRef → List GraphValue 
       now = refl;
       accepted = refl;
     }) refl refl refl;
-    work = length ran;
+    work = costs_of (graph_of arena) ran;
     due = due;
     within = rose.most;
     stands = stands_then;
@@ -274,7 +275,7 @@ module _ {A : Type 0} where
   pub session_accepted : (named : List ℕ → Option FnRef) (value : FnRef → List GraphValue → GraphValue) (known : FnRef → Bool) (k : Kept)
       (old new : Standing A) (called calls : ℕ) → k.graph ≡ without_functions old → k.broken ≡ None
       → IsSound known (seen_value value) old.parts old.observers old.rooted old.refused → GraphStabilizes (functions_of (seen_value value)) old new
-      → RoseBy called (length new.parts.ran.items) calls → (m : Moment) → Stands (meanings_of named value) k m
+      → RoseBy called (costs_of (graph_of old.parts.arena) new.parts.ran.items) calls → (m : Moment) → Stands (meanings_of named value) k m
       → IsAccepted (meanings_of named value) m (record k { accepted = k.accepted + 1; graph = without_functions new }) called calls
   session_accepted named value known k old new called calls same unbroken sound done rose m stands =
       accepted_stands named value known m k (without_functions new) called calls stands (stands.broken ∙ unbroken)
@@ -282,4 +283,4 @@ module _ {A : Type 0} where
       (subst (λ (h : Standing (Unit {0})). GraphStabilizes (graph_functions (meanings_of named value)) h (without_functions new)) (sym same)
       (subst (λ (M : Functions). GraphStabilizes M (without_functions old) (without_functions new)) (sym (functions_are named value))
       (kept_stabilizes (functions_of (seen_value value)) old new done)))
-      rose
+      (subst (λ (h : Standing (Unit {0})). RoseBy called (costs_of (graph_of h.parts.arena) new.parts.ran.items) calls) (sym same) rose)

@@ -28,6 +28,7 @@ no_subject : (d : declared.Def) → subject_of (def_of d) ≡ None
 no_subject (form.Const v) = refl
 no_subject (form.Var v) = refl
 no_subject (form.Map f ks) = refl
+no_subject (form.Fold f v ks) = refl
 
 subject_none : (def : Def) (d : declared.Def) → def ≡ def_of d → subject_of def ≡ None
 subject_none def d e = ap subject_of e ∙ no_subject d
@@ -43,6 +44,7 @@ kids_now : (G : Graph) (n : NodeId) (d : declared.Def) → kids_of G n (def_of d
 kids_now G n (form.Const v) = refl
 kids_now G n (form.Var v) = refl
 kids_now G n (form.Map f ks) = refl
+kids_now G n (form.Fold f v ks) = refl
 
 -- its children are those that it lists
 pub kids_are : (a : Arena) (n : NodeId) (r : Row) → row_at a n ≡ Some r → kids_of (graph_of a) n r.def ≡ kids r.def
@@ -53,6 +55,7 @@ no_freeze : (d : declared.Def) (kid : NodeId) (f : FnRef) → def_of d ≡ Freez
 no_freeze (form.Const v) kid f e = cc
 no_freeze (form.Var v) kid f e = cc
 no_freeze (form.Map g ks) kid f e = cc
+no_freeze (form.Fold g v ks) kid f e = cc
 
 -- none is a freeze
 pub not_frozen : (a : Arena) (n : NodeId) (r : Row) (kid : NodeId) (f : FnRef) → row_at a n ≡ Some r → r.def ≡ Freeze kid f → ⊥

@@ -6,7 +6,7 @@ use Rattle.std.proofs.lemmas.List.Sums.{sum_by-append, sum_by-cons}
 use Rattle.formula_elab.specs.Laying.{laid, laid_each, laid_body}
 use Rattle.formula_elab.specs.Opened.{node_at, node_of, filled}
 use Rattle.formula_elab.specs.declared.opened.Open.{Open}
-use Rattle.formula_elab.specs.declared.opened.Open.TheVariants.{Const, Var, Map}
+use Rattle.formula_elab.specs.declared.opened.Open.TheVariants.{Const, Var, Map, Fold as OpenFold}
 use Rattle.graph.specs.Standing.{Standing}
 use Rattle.inc_terms.specs.Graph as graph
 use Rattle.inc_terms.specs.Graph.{Graph, Row, Def}
@@ -16,8 +16,9 @@ use Rattle.inc_value.specs.Choice.{Among}
 use Rattle.inc_value.specs.declared.node.NodeId.{NodeId}
 use Rattle.node_arena.specs.Arena.{Arena, row_at}
 use Rattle.node_arena.specs.Graph.{graph_of}
-use Rattle.script_model.specs.Formula.{State, Body, Formula, Formulas, Literal, Name, Apply, End, More, Variable, Computed}
-use Rattle.script_model.specs.Run.{calls_in, calls_in_all, calls_of_body, most_calls}
+use Rattle.script_model.specs.Formula.{State, Body, Formula, Formulas, Literal, Name, Apply, Fold, End, More, Variable, Computed}
+use Rattle.script_model.specs.Values.{to_engine}
+use Rattle.script_model.specs.Run.{calls_in, calls_in_all, count_in, calls_of_body, most_calls}
 use Rattle.script_graph.specs.Growing.{IsMaking}
 use Rattle.script_graph.specs.Represents.{Caller, IsCaller, HasFewCalls}
 
@@ -67,6 +68,7 @@ open_cost : Open → Option ℕ
 open_cost (Const v) = None
 open_cost (Var v) = None
 open_cost (Map f parts) = Some 1
+open_cost (OpenFold f v parts) = Some (length parts)
 
 -- the node, where it calls
 caller_of : NodeId → Option ℕ → List Caller
@@ -127,6 +129,10 @@ calls_append [] ys = omega arith
 calls_append (x ∷ xs) ys = let rest = calls_append xs ys in omega (arith, rest)
 
 module _ (nodes : ℕ → NodeId) where
+  one_root_each : (start : ℕ) (fs : Formulas) → length (laid_each nodes start fs).roots ≡ count_in fs
+  one_root_each start End = refl
+  one_root_each start (More f rest) = let others = one_root_each (start + length (laid nodes start f).makes) rest in omega (arith, others)
+
   mutual
     unfolding calls_of_opens open_cost or_none
 
@@ -138,6 +144,12 @@ module _ (nodes : ℕ → NodeId) where
         let size = calls_append each.makes (Map function each.roots ∷ []) in
         let rest = calls_laid_each start arguments in
         omega (arith, size, rest)
+    calls_laid start (Fold function first elements) =
+        let each = laid_each nodes start elements in
+        let size = calls_append each.makes (OpenFold function (to_engine first) each.roots ∷ []) in
+        let rest = calls_laid_each start elements in
+        let count = one_root_each start elements in
+        omega (arith, size, rest, count)
     calls_laid start f = omega arith
 
     calls_laid_each : (start : ℕ) (fs : Formulas) → calls_of_opens (laid_each nodes start fs).makes ≤ calls_in_all fs
@@ -163,6 +175,7 @@ unfolding open_cost
 filled_cost G n made (Const v) = refl
 filled_cost G n made (Var v) = refl
 filled_cost G n made (Map f parts) = refl
+filled_cost G n made (OpenFold f v parts) = ap (λ (k : ℕ). Some k) (length-map parts (node_of made))
 
 open_at : (xs : List Open) (i : ℕ) → i < length xs → (x : Open) × (slice_get xs i ≡ Some x)
 open_at [] i low = absurd (omega (arith, low))

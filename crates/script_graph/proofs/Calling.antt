@@ -1,9 +1,10 @@
 -- How many functions a refused stabilize calls.
-use Rattle.std.proofs.Common.{◌≡◌, inl, inr, ℕ, suc, ◌+◌, ◌≤◌, List, [], ◌∷◌, length, Some, refl, ap, sym, subst, ◌∙◌, arith}
+use Rattle.std.proofs.Common.{◌≡◌, inl, inr, ℕ, suc, ◌+◌, ◌≤◌, List, [], ◌∷◌, Option, Some, refl, ap, sym, subst, ◌∙◌, arith}
 use Rattle.std.specs.List.{sum_by}
 use Rattle.std.proofs.lemmas.List.Sums.{sum_by-cons}
 use Rattle.inc_value.specs.Choice.{Among, NoRepeats}
 use Rattle.inc_value.specs.declared.node.NodeId.{NodeId}
+use Rattle.inc_terms.specs.Graph.{Graph, Row, Def, Map, Fold}
 use Rattle.inc_terms.specs.Work.{cost_of}
 use Rattle.node_arena.specs.Arena.{Arena}
 use Rattle.node_arena.specs.Graph.{graph_of}
@@ -11,6 +12,7 @@ use Rattle.script_model.specs.Formula.{State}
 use Rattle.script_model.specs.Run.{most_calls}
 use Rattle.script_graph.specs.Represents.{Caller, IsCaller, HasFewCalls}
 use Rattle.script_graph.proofs.Callers.{calls_by}
+use Rattle.stabilize_round.specs.Calling.{taken_by, or_none, row_cost, cost_at}
 use Rattle.stabilizer.specs.Round.{HasCalledFew}
 
 -- ---- lists
@@ -90,15 +92,22 @@ callers_few s arena cost ns has once each =
     let all = calls_of_callers cost ns in
     omega (arith, within, all, has.few)
 
-one_each : (ns : List NodeId) → length ns ≡ sum_by (λ (n : NodeId). 1) ns
-one_each [] = refl
-one_each (n ∷ ns) = let rest = one_each ns in let all = sum_by-cons (λ (m : NodeId). 1) n ns in omega (arith, rest, all)
+-- what a live map or fold costs is how many calls its visit makes
+taken_costs : (G : Graph) (n : NodeId) (r : Row) (kids : List NodeId) → G.row n ≡ Some r → taken_by r.def ≡ Some kids
+    → cost_of G n r.def ≡ Some (cost_at G n)
+taken_costs G n r kids row takes =
+    by_def r.def takes ∙ ap (λ (o : Option Row). Some (row_cost G n o)) (sym row)
+  where
+    by_def : (def : Def) → taken_by def ≡ Some kids → cost_of G n def ≡ Some (or_none (cost_of G n def))
+    by_def (Map f ns) takes = refl
+    by_def (Fold f v ns) takes = refl
+    by_def def takes = absurd (cc)
 
 -- a refused round calls no more than one visit of each place would
 pub few_calls : (s : State) (arena : Arena) (before after : ℕ) → HasFewCalls s arena → HasCalledFew arena before after
     → after ≤ before + most_calls s
 few_calls s arena before after has called =
-    let few = callers_few s arena (λ n. 1) called.nodes has called.once (λ n among.
-        let m = called.maps n among in record { row = m.row; is_row = m.is_row; calls = ap (cost_of (graph_of arena) n) m.is_map }) in
-    let size = one_each called.nodes in
-    omega (arith, few, size, called.count.most)
+    let few = callers_few s arena (cost_at (graph_of arena)) called.nodes has called.once (λ n among.
+        let c = called.callers n among in
+        record { row = c.row; is_row = c.is_row; calls = taken_costs (graph_of arena) n c.row c.nodes c.is_row c.takes }) in
+    omega (arith, few, called.count.within)

@@ -23,7 +23,7 @@ use Rattle.node_arena.specs.Arena.{Arena, row_at, live, IsVariable}
 use Rattle.node_arena.specs.Sound as arena
 use Rattle.node_arena.specs.Typing.{FitsNode, HasType}
 use Rattle.script_model.specs.Check.{Assign, Declare, Declared, Kind, Names, Variable as VariableKind, is_variable, kind_of_body, target_of_body}
-use Rattle.script_model.specs.Formula.{Body, meanings_of, places_of_body, Literal, Name, Apply, Variable, Computed}
+use Rattle.script_model.specs.Formula.{Body, meanings_of, places_of_body, Literal, Name, Apply, Fold, Variable, Computed}
 use Rattle.script_model.specs.Run.{calls_of_body}
 use Rattle.script_model.specs.Step.{Moment, declared_in, moved}
 use Rattle.script_model.specs.Values.{Value, to_engine}
@@ -73,6 +73,7 @@ variable_of known names a nodes made (Variable v) ty fits is kind = is v refl
 variable_of known names a nodes made (Computed (Literal v) kept) ty fits is kind = absurd (cc)
 variable_of known names a nodes made (Computed (Name n) kept) ty fits is kind = absurd (cc)
 variable_of known names a nodes made (Computed (Apply f arguments) kept) ty fits is kind = absurd (cc)
+variable_of known names a nodes made (Computed (Fold f first elements) kept) ty fits is kind = absurd (cc)
 variable_of known names a nodes made (Computed f kept) ty fits is kind = absurd fits.0
 variable_of known names a nodes made body ty fits is kind = absurd fits
 

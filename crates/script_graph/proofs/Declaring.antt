@@ -3,7 +3,7 @@ use Rattle.std.proofs.Common.{◌≡◌, ◌⊎◌, inl, inr, ℕ, suc, ◌+◌,
 use Rattle.std.proofs.lemmas.Option.{slice_get_within, slice_get-map}
 use Rattle.std.proofs.lemmas.List.{length-append, map-append, get_or_append_left, get_or_at}
 use Rattle.std.proofs.lemmas.List.Sums.{sum_by_push}
-use Rattle.formula_lang.specs.Fits.{ArgumentsFit, BodyFits, DeclarationFits, FormulaFits, NameFits}
+use Rattle.formula_lang.specs.Fits.{ArgumentsFit, BodyFits, DeclarationFits, ElementsFit, FormulaFits, NameFits}
 use Rattle.inc_value.specs.Choice.{and_then}
 use Rattle.inc_value.specs.Ty.{IsBase}
 use Rattle.inc_value.specs.declared.function.FnRef.{FnRef}
@@ -65,6 +65,7 @@ module _ (known : FnRef → Bool) (names : Names) (P : ℕ → Type 0) (named : 
     fitting_plain (Literal v) ty fits = value_base v ty fits.0 fits.1
     fitting_plain (Name n) ty fits = named n ty fits
     fitting_plain (Apply f arguments) ty fits = fitting_all_plain arguments f.sig.takes fits.1
+    fitting_plain (Fold f first elements) ty fits = (value_base first ty fits.3 fits.4, fitting_each_plain elements fits.0 fits.5)
     fitting_plain f ty fits = absurd fits
 
     fitting_all_plain : (fs : Formulas) (tys : List Ty) → ArgumentsFit known names fs tys → ArePlain P fs
@@ -72,6 +73,10 @@ module _ (known : FnRef → Bool) (names : Names) (P : ℕ → Type 0) (named : 
     fitting_all_plain End (ty ∷ tys) fits = absurd fits
     fitting_all_plain (More f rest) [] fits = absurd fits
     fitting_all_plain (More f rest) (ty ∷ tys) fits = (fitting_plain f ty fits.0, fitting_all_plain rest tys fits.1)
+
+    fitting_each_plain : (fs : Formulas) (ty : Ty) → ElementsFit known names fs ty → ArePlain P fs
+    fitting_each_plain End ty fits = tt
+    fitting_each_plain (More f rest) ty fits = (fitting_plain f ty fits.0, fitting_each_plain rest ty fits.1)
 
   -- what fits the names is plain
   pub body_plain : (b : Body) (ty : Ty) → BodyFits known names b ty → IsPlainBody P b

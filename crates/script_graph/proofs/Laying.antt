@@ -3,13 +3,13 @@ use Rattle.std.proofs.Common.{◌≡◌, ℕ, zero, suc, ◌+◌, ◌<◌, ◌�
 use Rattle.std.specs.List.{AllZip}
 use Rattle.std.proofs.lemmas.List.{length-append}
 use Rattle.std.proofs.lemmas.Option.{slice_get_within}
-use Rattle.formula_lang.specs.Fits.{ArgumentsFit, BodyFits, FormulaFits, NameFits}
+use Rattle.formula_lang.specs.Fits.{ArgumentsFit, BodyFits, ElementsFit, FormulaFits, NameFits}
 use Rattle.formula_elab.specs.Laying.{laid, laid_each, laid_body}
 use Rattle.formula_elab.specs.Made.{StandsIn}
 use Rattle.formula_elab.specs.Names.{EveryName, EveryNameOfAll, EveryNameOf}
 use Rattle.formula_elab.specs.Opened.{node_at, node_of, IsEarlier}
 use Rattle.formula_elab.specs.declared.opened.Open.{Open}
-use Rattle.formula_elab.specs.declared.opened.Open.TheVariants.{Const, Var, Map}
+use Rattle.formula_elab.specs.declared.opened.Open.TheVariants.{Const, Var, Map, Fold as OpenFold}
 use Rattle.formula_elab.specs.declared.opened.Part.{Part}
 use Rattle.formula_elab.proofs.Fitting.{fitting_holds_no_reference}
 use Rattle.formula_elab.proofs.InOrder.{body_in_order}
@@ -26,7 +26,7 @@ use Rattle.node_arena.specs.Arena.{Arena, row_at, IsVariable}
 use Rattle.node_arena.specs.Graph.{graph_of}
 use Rattle.node_arena.specs.Sound as arena
 use Rattle.script_model.specs.Check.{Names}
-use Rattle.script_model.specs.Formula.{Formula, Formulas, Body, Literal, Name, Apply, End, More, Variable, Computed}
+use Rattle.script_model.specs.Formula.{Formula, Formulas, Body, Literal, Name, Apply, Fold, End, More, Variable, Computed}
 use Rattle.script_model.specs.Values.{Value, Int, Bool as Truth, Text, Reference, type_of, to_engine}
 use Rattle.script_graph.specs.Growing.{IsMaking, PartFits, OpenFits, AllOpenFit}
 use Rattle.script_graph.specs.Represents.{OwnNodes, OwnNodesOfAll, OwnNodesOf}
@@ -97,6 +97,22 @@ module _ (known : FnRef → Bool) (a : Arena) (all : List Open) (nodes : ℕ →
           every_append (OpenFits known a all) each.makes (Map f each.roots ∷ []) rest.0 ((fits.0.is_known, fits.0.kind, rest.1), tt),
           (Map f each.roots, parts.1.0, fits.2),
         )
+    formula_fits start (Fold f first elements) ty fits sits =
+        let each = laid_each nodes start elements in
+        let parts = sits_split all start each.makes (OpenFold f (to_engine first) each.roots ∷ []) sits in
+        let rest = elements_fit start elements fits.0 fits.5 parts.0 in
+        let made : OpenFits known a all (OpenFold f (to_engine first) each.roots) = record {
+          element = fits.0;
+          is_known = fits.1.is_known;
+          kind = fits.1.kind;
+          takes = fits.2.0 ∙ ap (λ (t : Ty). t ∷ fits.0 ∷ []) (sym fits.2.1);
+          initial = engine_type first ∙ (fits.3 ∙ sym fits.2.1);
+          base = engine_base first ty fits.3 fits.4;
+          parts_fit = rest.1;
+        } in (
+          every_append (OpenFits known a all) each.makes (OpenFold f (to_engine first) each.roots ∷ []) rest.0 (made, tt),
+          (OpenFold f (to_engine first) each.roots, parts.1.0, fits.2.1),
+        )
     formula_fits start f ty fits sits = absurd fits
 
     arguments_fit : (start : ℕ) (fs : Formulas) (tys : List Ty) → ArgumentsFit known names fs tys → SitsAt all start (laid_each nodes start fs).makes
@@ -110,6 +126,17 @@ module _ (known : FnRef → Bool) (a : Arena) (all : List Open) (nodes : ℕ →
         let parts = sits_split all start here.makes (laid_each nodes next rest).makes sits in
         let one = formula_fits start f ty fits.0 parts.0 in
         let others = arguments_fit next rest tys fits.1 parts.1 in
+        (every_append (OpenFits known a all) here.makes (laid_each nodes next rest).makes one.0 others.0, (one.1, others.1))
+
+    elements_fit : (start : ℕ) (fs : Formulas) (ty : Ty) → ElementsFit known names fs ty → SitsAt all start (laid_each nodes start fs).makes
+        → Every (OpenFits known a all) (laid_each nodes start fs).makes × Every (PartFits a all ty) (laid_each nodes start fs).roots
+    elements_fit start End ty fits sits = (tt, tt)
+    elements_fit start (More f rest) ty fits sits =
+        let here = laid nodes start f in
+        let next = start + length here.makes in
+        let parts = sits_split all start here.makes (laid_each nodes next rest).makes sits in
+        let one = formula_fits start f ty fits.0 parts.0 in
+        let others = elements_fit next rest ty fits.1 parts.1 in
         (every_append (OpenFits known a all) here.makes (laid_each nodes next rest).makes one.0 others.0, (one.1, others.1))
 
   body_fits : (body : Body) (ty : Ty) → BodyFits known names body ty → SitsAt all 0 (laid_body nodes 0 body).makes
@@ -135,6 +162,7 @@ module _ (known : FnRef → Bool) (names : Names) (P : ℕ → Type 0) (named : 
     every_name (Literal v) ty fits = tt
     every_name (Name n) ty fits = named n ty fits
     every_name (Apply f arguments) ty fits = every_name_of_all arguments f.sig.takes fits.1
+    every_name (Fold f first elements) ty fits = every_name_of_each elements fits.0 fits.5
     every_name f ty fits = absurd fits
 
     every_name_of_all : (fs : Formulas) (tys : List Ty) → ArgumentsFit known names fs tys → EveryNameOfAll P fs
@@ -142,6 +170,10 @@ module _ (known : FnRef → Bool) (names : Names) (P : ℕ → Type 0) (named : 
     every_name_of_all End (ty ∷ tys) fits = absurd fits
     every_name_of_all (More f rest) [] fits = absurd fits
     every_name_of_all (More f rest) (ty ∷ tys) fits = (every_name f ty fits.0, every_name_of_all rest tys fits.1)
+
+    every_name_of_each : (fs : Formulas) (ty : Ty) → ElementsFit known names fs ty → EveryNameOfAll P fs
+    every_name_of_each End ty fits = tt
+    every_name_of_each (More f rest) ty fits = (every_name f ty fits.0, every_name_of_each rest ty fits.1)
 
   pub every_name_of : (body : Body) (ty : Ty) → BodyFits known names body ty → EveryNameOf P body
   every_name_of (Variable v) ty fits = tt
@@ -176,6 +208,19 @@ module _ (known : FnRef → Bool) (G : Graph) (all : List Open) (made : List Nod
           top.3,
           arguments_own start arguments f.sig.takes fits.1 parts.0,
         )
+    formula_owns start (Fold f first elements) ty fits sits =
+        let each = laid_each nodes start elements in
+        let made_fold = OpenFold f (to_engine first) each.roots in
+        let parts = sits_split all start each.makes (made_fold ∷ []) sits in
+        let last = start + length each.makes in
+        let top = stands.top last made_fold parts.1.0 (omega (arith, slice_get_within all last made_fold parts.1.0, whole)) in (
+          one_made last made_fold parts.1.0,
+          top.0,
+          map (node_of made) each.roots,
+          top.1,
+          top.3,
+          elements_own start elements fits.0 fits.5 parts.0,
+        )
     formula_owns start f ty fits sits = absurd fits
 
     arguments_own : (start : ℕ) (fs : Formulas) (tys : List Ty) → ArgumentsFit known names fs tys → SitsAt all start (laid_each nodes start fs).makes
@@ -188,6 +233,15 @@ module _ (known : FnRef → Bool) (G : Graph) (all : List Open) (made : List Nod
         let next = start + length here.makes in
         let parts = sits_split all start here.makes (laid_each nodes next rest).makes sits in
         (formula_owns start f ty fits.0 parts.0, arguments_own next rest tys fits.1 parts.1)
+
+    elements_own : (start : ℕ) (fs : Formulas) (ty : Ty) → ElementsFit known names fs ty → SitsAt all start (laid_each nodes start fs).makes
+        → OwnNodesOfAll G (IsMade all made) (map (node_of made) (laid_each nodes start fs).roots) fs
+    elements_own start End ty fits sits = tt
+    elements_own start (More f rest) ty fits sits =
+        let here = laid nodes start f in
+        let next = start + length here.makes in
+        let parts = sits_split all start here.makes (laid_each nodes next rest).makes sits in
+        (formula_owns start f ty fits.0 parts.0, elements_own next rest ty fits.1 parts.1)
 
   body_owns : (body : Body) (ty : Ty) → BodyFits known names body ty → SitsAt all 0 (laid_body nodes 0 body).makes
       → OwnNodesOf G (IsMade all made) (node_of made (laid_body nodes 0 body).root) body
@@ -230,6 +284,10 @@ module _ (known : FnRef → Bool) (names : Names) {F : Type 0} (first now : Stan
       let each = laid_each nodes 0 arguments in
       let size = length-append each.makes (Map f each.roots ∷ []) in
       own_between (Computed (Apply f arguments) kept) ty fits h whole (0 + length each.makes) (omega (arith, size)) (omega (arith, size)) refl
+  made_owned (Computed (Fold f first elements) kept) ty fits h whole =
+      let each = laid_each nodes 0 elements in
+      let size = length-append each.makes (OpenFold f (to_engine first) each.roots ∷ []) in
+      own_between (Computed (Fold f first elements) kept) ty fits h whole (0 + length each.makes) (omega (arith, size)) (omega (arith, size)) refl
   made_owned (Computed f kept) ty fits h whole = absurd fits.0
   made_owned body ty fits h whole = absurd fits
 

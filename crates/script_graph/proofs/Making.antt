@@ -7,7 +7,7 @@ use Rattle.std.proofs.lemmas.Option.{slice_get_within}
 use Rattle.formula_elab.specs.Opened.{no_node, node_at, node_of, filled, IsEarlier, NeedsEarlier, AreInOrder}
 use Rattle.formula_elab.specs.Plan.{next_def}
 use Rattle.formula_elab.specs.declared.opened.Open.{Open}
-use Rattle.formula_elab.specs.declared.opened.Open.TheVariants.{Const, Var, Map}
+use Rattle.formula_elab.specs.declared.opened.Open.TheVariants.{Const, Var, Map, Fold}
 use Rattle.formula_elab.specs.declared.opened.Part.{Part}
 use Rattle.formula_elab.specs.declared.opened.Part.TheVariants.{Given as Named, Made}
 use Rattle.formula_elab.proofs.InOrder.{order_of}
@@ -29,7 +29,7 @@ use Rattle.inc_terms.specs.Within.{Given, ValueWithin}
 use Rattle.node_arena.specs.Arena.{Arena, row_at}
 use Rattle.node_arena.specs.Graph.{graph_of}
 use Rattle.node_arena.specs.Sound as arena
-use Rattle.node_arena.specs.Typing.{Fits, ReferenceFits}
+use Rattle.node_arena.specs.Typing.{Fits, FoldTakes, ReferenceFits}
 use Rattle.script_graph.specs.Growing.{Extends, IsMaking, IsWelcome, PartFits, OpenFits, AllOpenFit, def_ty, open_ty}
 use Rattle.script_graph.proofs.Counting.{live_more}
 use Rattle.script_graph.proofs.Extending.{extends_itself, extends_on, adds_extends, live_stays}
@@ -40,6 +40,7 @@ filled_ty : (made : List NodeId) (x : Open) → def_ty (filled made x) ≡ open_
 filled_ty made (Const v) = refl
 filled_ty made (Var v) = refl
 filled_ty made (Map f parts) = refl
+filled_ty made (Fold f v parts) = refl
 
 next_open : (makes : List Open) (made : List NodeId) (d : Def) → next_def makes made ≡ Some d
     → (x : Open) × (slice_get makes (length made) ≡ Some x) × (filled made x ≡ d)
@@ -99,6 +100,23 @@ module _ {F : Type 0} (first now : Standing F) (makes : List Open) (made : List 
     parts_given ps tys fits.1 (All-tail (IsEarlier (length made)) p ps early),
   )
 
+  each_fits : (ps : List Part) (t : Ty) → Every (PartFits first.parts.arena makes t) ps → All (IsEarlier (length made)) ps
+      → Every (λ n. Fits now.parts.arena n t) (map (node_of made) ps)
+  each_fits [] t fits early = tt
+  each_fits (p ∷ ps) t fits early =
+      let r = part_row p t fits.0 (All-head (IsEarlier (length made)) p ps early) in (
+        subst (λ (o : Option Row). IfSome o (λ (q : Row). q.ty ≡ t)) (sym r.1) r.2,
+        each_fits ps t fits.1 (All-tail (IsEarlier (length made)) p ps early),
+      )
+
+  each_given : (ps : List Part) (t : Ty) → Every (PartFits first.parts.arena makes t) ps → All (IsEarlier (length made)) ps
+      → Every (Given now.parts.arena.given) (map (node_of made) ps)
+  each_given [] t fits early = tt
+  each_given (p ∷ ps) t fits early = (
+    part_given p t fits.0 (All-head (IsEarlier (length made)) p ps early),
+    each_given ps t fits.1 (All-tail (IsEarlier (length made)) p ps early),
+  )
+
   open_welcome : (known : FnRef → Bool) (x : Open) → OpenFits known first.parts.arena makes x → NeedsEarlier (length made) x
       → IsWelcome known now.parts.arena (filled made x)
   open_welcome known (Const v) fits early = record {
@@ -115,6 +133,17 @@ module _ {F : Type 0} (first now : Standing F) (makes : List Open) (made : List 
     named = (tt, parts_given parts f.sig.takes fits.2 early);
     makes = record { kind = fits.1; children = parts_fit parts f.sig.takes fits.2 early; gives = refl };
     calls = fits.0;
+  }
+  open_welcome known (Fold f v parts) fits early = record {
+    named = (tt, value_given (Given now.parts.arena.given) v fits.base, each_given parts fits.element fits.parts_fit early);
+    makes = record {
+      kind = fits.kind;
+      takes = subst (λ (tys : List Ty). FoldTakes now.parts.arena f.sig.gives (map (node_of made) parts) tys) (sym fits.takes)
+          (refl, each_fits parts fits.element fits.parts_fit early);
+      gives = refl;
+      initial = record { type = fits.initial; reference = reference_fits now.parts.arena v fits.base };
+    };
+    calls = fits.is_known;
   }
 
   -- the graph takes what is to be made next

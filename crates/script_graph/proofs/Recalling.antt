@@ -1,6 +1,5 @@
 -- After an accepted stabilize each needed visit was the last call of its node.
 use Rattle.std.proofs.Common.{◌≡◌, ℕ, List, map, Option, Some, ap, subst, ◌∙◌}
-use Rattle.inc_value.specs.declared.function.FnRef.{FnRef}
 use Rattle.inc_value.specs.declared.node.NodeId.{NodeId}
 use Rattle.inc_value.specs.declared.node.Part.{Part}
 use Rattle.inc_value.specs.declared.node.Part.TheVariants.{Change, Main}
@@ -11,7 +10,7 @@ use Rattle.inc_terms.specs.declared.def.Def.TheVariants as form
 use Rattle.inc_terms.specs.Code.{def_of}
 use Rattle.inc_terms.specs.Depend.{IsFlat, kids_of, main, none_died}
 use Rattle.inc_terms.specs.Evaluate.{GiveAll}
-use Rattle.inc_terms.specs.Graph.{Graph, Row, Def, Map}
+use Rattle.inc_terms.specs.Graph.{Graph, Row, Def}
 use Rattle.inc_terms.specs.Local.{PartExact, Exact, shown_of}
 use Rattle.inc_terms.specs.Need.{Needed as GraphNeeded}
 use Rattle.inc_terms.specs.Term.{Functions}
@@ -21,6 +20,7 @@ use Rattle.node_arena.specs.Arena.{Arena, row_at}
 use Rattle.node_arena.specs.Graph.{graph_of}
 use Rattle.script_model.specs.Formula.{State, Meanings}
 use Rattle.script_model.specs.Need.{Visit, IsVisit, Needed}
+use Rattle.stabilize_round.specs.Calling.{taken_by}
 use Rattle.stabilize_round.specs.State.{Call}
 use Rattle.stabilizer.specs.Computing.{seen}
 use Rattle.stabilizer.specs.Round.{IsUpToDate, last_call}
@@ -46,21 +46,22 @@ module _ (M : Functions) (arena : Arena) (flat : IsFlat (graph_of arena)) (old n
   pub needed_is_right : (p : Point) → GraphNeeded M (graph_of arena) none_died observed p → Exact M (graph_of arena) (seen new.rows) p
   needed_is_right p need r row = (flat_stands M (graph_of arena) flat p.node r row, part_right p.node p.part need r row)
 
--- ---- what calls is a map
+-- ---- what calls is a map or a fold
 
--- a map whose children give the values
-record IsMapOn (M : Functions) (G : Graph) (def : Def) (values : List GraphValue) : Type 0 where
-  function : FnRef
+-- a map or a fold whose children give the values
+record IsCalledOn (M : Functions) (G : Graph) (def : Def) (values : List GraphValue) : Type 0 where
   kids : List NodeId
-  is_map : def ≡ Map function kids
+  takes : taken_by def ≡ Some kids
   give : GiveAll M G kids values
 
-map_on : (M : Functions) (G : Graph) (n : NodeId) (values : List GraphValue) (cost : ℕ) (d : declared.Def) (def : Def) → def ≡ def_of d
-    → GiveAll M G (kids_of G n def) values → cost_of G n def ≡ Some cost → IsMapOn M G def values
-map_on M G n values cost (form.Const v) def e give is = absurd (let none = ap (cost_of G n) e in cc)
-map_on M G n values cost (form.Var v) def e give is = absurd (let none = ap (cost_of G n) e in cc)
-map_on M G n values cost (form.Map f kids) def e give is =
-    record { function = f; kids = kids; is_map = e; give = subst (λ (x : Def). GiveAll M G (kids_of G n x) values) e give }
+called_on : (M : Functions) (G : Graph) (n : NodeId) (values : List GraphValue) (cost : ℕ) (d : declared.Def) (def : Def) → def ≡ def_of d
+    → GiveAll M G (kids_of G n def) values → cost_of G n def ≡ Some cost → IsCalledOn M G def values
+called_on M G n values cost (form.Const v) def e give is = absurd (let none = ap (cost_of G n) e in cc)
+called_on M G n values cost (form.Var v) def e give is = absurd (let none = ap (cost_of G n) e in cc)
+called_on M G n values cost (form.Map f kids) def e give is =
+    record { kids = kids; takes = ap taken_by e; give = subst (λ (x : Def). GiveAll M G (kids_of G n x) values) e give }
+called_on M G n values cost (form.Fold f v kids) def e give is =
+    record { kids = kids; takes = ap taken_by e; give = subst (λ (x : Def). GiveAll M G (kids_of G n x) values) e give }
 
 -- ---- the last calls
 
@@ -80,7 +81,7 @@ module _ (F : Meanings) (s : State) (nodes : List NodeId) (arena : Arena) (fits 
       let h = visits_have_nodes (besides F s nodes arena) fits grabs observed have (seen new.rows)
       (needed_is_right (graph_functions F) arena flat old new observed ran right) v is need in
       let d = code_row arena h.0 h.3.row h.3.is_row in
-      let m = map_on (graph_functions F) (graph_of arena) h.0 (map (graph_value (node_in nodes)) v.values) v.cost d.0 h.3.row.def d.1 h.3.values h.3.cost in
-      let c = right.recalls h.0 h.3.row m.function m.kids (map (graph_value (node_in nodes)) v.values) ((right.needs (main h.0)).1 h.2) h.3.is_row m.is_map
+      let m = called_on (graph_functions F) (graph_of arena) h.0 (map (graph_value (node_in nodes)) v.values) v.cost d.0 h.3.row.def d.1 h.3.values h.3.cost in
+      let c = right.recalls h.0 h.3.row m.kids (map (graph_value (node_in nodes)) v.values) ((right.needs (main h.0)).1 h.2) h.3.is_row m.takes
       m.give in
       record { node = h.0; is_node = h.1; call = c.0; is_last = c.1; values_are = c.2 }

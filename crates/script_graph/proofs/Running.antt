@@ -1,18 +1,21 @@
--- Maps that were called, as work of the script.
-use Rattle.std.proofs.Common.{◌≡◌, inl, inr, ℕ, ◌+◌, ◌≤◌, List, [], ◌∷◌, map, length, Some, refl, ap, sym, ◌∙◌, arith}
+-- Maps and folds that were called, as work of the script.
+use Rattle.std.proofs.Common.{◌≡◌, inl, inr, ℕ, suc, ◌+◌, ◌≤◌, List, [], ◌∷◌, map, length, Option, None, Some, refl, ap, sym, ◌∙◌, arith}
+use Rattle.std.proofs.lemmas.List.Sums.{sum_by-cons}
 use Rattle.inc_value.specs.Choice.{Among}
-use Rattle.inc_value.specs.declared.function.FnRef.{FnRef}
 use Rattle.inc_value.specs.declared.node.NodeId.{NodeId}
 use Rattle.inc_value.specs.declared.value.Value.{Value as GraphValue}
 use Rattle.inc_terms.specs.declared.def.Def as declared
 use Rattle.inc_terms.specs.declared.def.Def.TheVariants as form
 use Rattle.inc_terms.specs.Code.{def_of}
 use Rattle.inc_terms.specs.Depend.{main}
-use Rattle.inc_terms.specs.Evaluate.{Values, gathered, answer, GiveAll, Stands, Of}
-use Rattle.inc_terms.specs.Graph.{Graph, Row, Def, Map}
+use Rattle.inc_terms.specs.Evaluate.{Gathered, Unknown, SomeInvalid, Values, joined, gathered, answer, GiveAll, Stands, Of}
+use Rattle.inc_terms.specs.Graph.{Graph, Row, Def, Map, Fold}
 use Rattle.inc_terms.specs.Term.{Functions, Ref, refs}
-use Rattle.inc_value.specs.declared.outcome.Outcome.TheVariants.{Val}
+use Rattle.inc_terms.specs.Work as engine
+use Rattle.inc_value.specs.declared.outcome.Outcome.{Outcome}
+use Rattle.inc_value.specs.declared.outcome.Outcome.TheVariants.{Val, Invalid}
 use Rattle.inc_terms.proofs.Evaluation.{at_depth, gathered_at}
+use Rattle.stabilize_round.specs.Calling.{taken_by, or_none, row_cost, cost_at, costs_of}
 use Rattle.script_model.specs.Formula.{State}
 use Rattle.script_model.specs.Need.{Visit, IsVisit, Needed, Met}
 use Rattle.transfer.specs.Both.{Both, graph_value}
@@ -32,15 +35,39 @@ all_at F G (n ∷ ns) (v ∷ vs) h =
     let rest : gathered (answer F G (d + r.0)) (refs ns) ≡ Values vs = rw r.1 at (gathered_at F G r.0 (d + r.0) (refs ns) (omega arith)) in
     (d + r.0, rw (first, rest) refl)
 
+-- as many values as nodes
+as_many : (F : Functions) (G : Graph) (d : ℕ) (ns : List NodeId) (vs : List GraphValue) → gathered (answer F G d) (refs ns) ≡ Values vs
+    → length vs ≡ length ns
+as_many F G d [] vs e = let none : [] ≡ vs = cc in sym (ap (λ (ws : List GraphValue). length ws) none)
+as_many F G d (n ∷ ns) vs e = by_first (answer F G d (Of (Ref n))) (gathered (answer F G d) (refs ns)) e (as_many F G d ns)
+  where
+    by_first : (o : Option Outcome) (g : Gathered) → joined o g ≡ Values vs → ((ws : List GraphValue) → g ≡ Values ws → length ws ≡ length ns)
+        → length vs ≡ suc (length ns)
+    by_first None g e rest = absurd (cc)
+    by_first (Some Invalid) Unknown e rest = absurd (cc)
+    by_first (Some Invalid) SomeInvalid e rest = absurd (cc)
+    by_first (Some Invalid) (Values ws) e rest = absurd (cc)
+    by_first (Some (Val v)) Unknown e rest = absurd (cc)
+    by_first (Some (Val v)) SomeInvalid e rest = absurd (cc)
+    by_first (Some (Val v)) (Values ws) e rest =
+        let same : v ∷ ws ≡ vs = cc in
+        sym (ap (λ (us : List GraphValue). length us) same) ∙ ap (λ (k : ℕ). suc k) (rest ws refl)
+
+-- what a node takes is what its function is called on
+taken_call : (G : Graph) (n : NodeId) (def : Def) (kids : List NodeId) → taken_by def ≡ Some kids → call_of G n def ≡ Some kids
+taken_call G n (Map f ns) kids e = e
+taken_call G n (Fold f v ns) kids e = e
+taken_call G n def kids e = absurd (cc)
+
 module _ (x : Both) (before : State) where
-  -- a map that was called on other values than those that visits needed before have
-  pub map_ran : (n : NodeId) (r : Row) (f : FnRef) (kids : List NodeId) (values : List GraphValue) → x.graph.row n ≡ Some r
-      → Stands x.functions x.graph r.scope → r.def ≡ Map f kids → GiveAll x.functions x.graph kids values
+  -- a map or a fold that was called on other values than those that visits needed before have
+  pub taken_ran : (n : NodeId) (r : Row) (kids : List NodeId) (values : List GraphValue) → x.graph.row n ≡ Some r
+      → Stands x.functions x.graph r.scope → taken_by r.def ≡ Some kids → GiveAll x.functions x.graph kids values
       → CoveredBy x (Met x.meanings before x.state) (main n)
       → ((v : Visit) → IsVisit x.meanings before v → Needed x.meanings before v.item → node_of x v.item ≡ Some n
       → values ≡ map (graph_value x.nodes) v.values → ⊥)
       → Ran x before n
-  map_ran n r f kids values row stands def gives met fresh =
+  taken_ran n r kids values row stands takes gives met fresh =
       let d = all_at x.functions x.graph kids values gives in
       record {
         calls = record {
@@ -48,7 +75,7 @@ module _ (x : Both) (before : State) where
           is_row = row;
           stands = stands;
           kids = kids;
-          is_call = ap (call_of x.graph n) def;
+          is_call = taken_call x.graph n r.def kids takes;
           given = values;
           depth = d.0;
           gives = d.1;
@@ -61,21 +88,28 @@ module _ (x : Both) (before : State) where
   all_ran [] each = tt
   all_ran (n ∷ ns) each = (each n (inl refl), all_ran ns (λ m among. each m (inr among)))
 
+  -- a visit of a node that stands today costs as much as computing it anew
   cost_now : (n : NodeId) (kids : List NodeId) (vs : List GraphValue) (d : declared.Def) → call_of x.graph n (def_of d) ≡ Some kids
-      → cost_of (def_of d) vs ≡ 1
-  cost_now n kids vs (form.Const v) e = absurd (cc)
-  cost_now n kids vs (form.Var v) e = absurd (cc)
-  cost_now n kids vs (form.Map f ks) e = refl
+      → length vs ≡ length kids → or_none (engine.cost_of x.graph n (def_of d)) ≡ cost_of (def_of d) vs
+  cost_now n kids vs (form.Const v) e many = absurd (cc)
+  cost_now n kids vs (form.Var v) e many = absurd (cc)
+  cost_now n kids vs (form.Map f ks) e many = refl
+  cost_now n kids vs (form.Fold f v ks) e many = let same : ks ≡ kids = cc in ap (λ (ns : List NodeId). length ns) same ∙ sym many
 
   module _ (today : (n : NodeId) (r : Row) → x.graph.row n ≡ Some r → (d : declared.Def) × (r.def ≡ def_of d)) where
-    cost_one : (n : NodeId) (c : Calls x n) → cost_of c.row.def c.given ≡ 1
-    cost_one n c = let d = today n c.row c.is_row in
-        ap (λ (e : Def). cost_of e c.given) d.1 ∙ cost_now n c.kids c.given d.0 (sym (ap (call_of x.graph n) d.1) ∙ c.is_call)
+    cost_once : (n : NodeId) (c : Calls x n) → cost_at x.graph n ≡ cost_of c.row.def c.given
+    cost_once n c =
+        let d = today n c.row c.is_row in
+        let call : call_of x.graph n (def_of d.0) ≡ Some c.kids = sym (ap (call_of x.graph n) d.1) ∙ c.is_call in
+        ap (row_cost x.graph n) c.is_row
+        ∙ (ap (λ (e : Def). or_none (engine.cost_of x.graph n e)) d.1
+        ∙ (cost_now n c.kids c.given d.0 call (as_many x.functions x.graph c.depth c.kids c.given c.gives) ∙ sym (ap (λ (e : Def). cost_of e c.given) d.1)))
 
-    -- each of them is one call
-    pub one_call_each : (ns : List NodeId) (ran : AllRan x before ns) → length ns ≤ calls_in x before ns ran
-    one_call_each [] ran = omega arith
-    one_call_each (n ∷ ns) ran =
-        let one = cost_one n ran.0.calls in
-        let rest = one_call_each ns ran.1 in
-        omega (arith, one, rest)
+    -- computing them anew costs no more than their visits
+    pub costs_within : (ns : List NodeId) (ran : AllRan x before ns) → costs_of x.graph ns ≤ calls_in x before ns ran
+    costs_within [] ran = omega arith
+    costs_within (n ∷ ns) ran =
+        let one = cost_once n ran.0.calls in
+        let rest = costs_within ns ran.1 in
+        let all = sum_by-cons (cost_at x.graph) n ns in
+        omega (arith, one, rest, all)

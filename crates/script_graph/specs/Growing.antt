@@ -1,7 +1,7 @@
 -- A graph to which nodes were added, and the nodes that are made for a plan.
-use Rattle.std.specs.Prelude.{◌≡◌, ◌⊎◌, ◌+◌, ◌<◌, ◌≤◌, ℕ, Bool, List, length, Some, IsTrue, slice_get}
+use Rattle.std.specs.Prelude.{◌≡◌, ◌⊎◌, ◌+◌, ◌<◌, ◌≤◌, ℕ, Bool, List, [], ◌∷◌, length, Some, IsTrue, slice_get}
 use Rattle.std.specs.List.{AllZip}
-use Rattle.inc_value.specs.Choice.{Among}
+use Rattle.inc_value.specs.Choice.{Among, Every}
 use Rattle.inc_value.specs.Ty.{IsBase}
 use Rattle.inc_value.specs.Value.{type_of}
 use Rattle.inc_value.specs.declared.function.FnKind.TheVariants as kind
@@ -9,6 +9,7 @@ use Rattle.inc_value.specs.declared.function.FnRef.{FnRef}
 use Rattle.inc_value.specs.declared.node.NodeId.{NodeId}
 use Rattle.inc_value.specs.declared.ty.Ty.{Ty}
 use Rattle.inc_value.specs.declared.ty.Ty.TheVariants as ty
+use Rattle.inc_value.specs.declared.value.Value.{Value}
 use Rattle.inc_terms.specs.Graph as graph
 use Rattle.inc_terms.specs.Graph.{Row, Def}
 use Rattle.inc_terms.specs.Within.{Given}
@@ -30,6 +31,7 @@ abbrev pub def_ty : Def → Ty
 def_ty (graph.Const v) = type_of v
 def_ty (graph.Var v) = type_of v
 def_ty (graph.Map f kids) = f.sig.gives
+def_ty (graph.Fold f v kids) = f.sig.gives
 def_ty def = ty.Int
 
 -- so of what is to be made
@@ -37,11 +39,22 @@ abbrev pub open_ty : Open → Ty
 open_ty (open_def.Const v) = type_of v
 open_ty (open_def.Var v) = type_of v
 open_ty (open_def.Map f parts) = f.sig.gives
+open_ty (open_def.Fold f v parts) = f.sig.gives
 
 -- the part is a live node of the type, or made as the i-th, of that type
 abbrev pub PartFits : Arena → List Open → Ty → Part → Type 0
 PartFits a makes t (part.Given n) = (r : Row) × (row_at a n ≡ Some r) × (r.ty ≡ t)
 PartFits a makes t (part.Made i) = (x : Open) × (slice_get makes i ≡ Some x) × (open_ty x ≡ t)
+
+-- a known map folds parts of the one type from a value of the base type that it gives and takes with a part
+pub record FoldFits (known : FnRef → Bool) (a : Arena) (makes : List Open) (f : FnRef) (v : Value) (parts : List Part) : Type 0 where
+  pub element : Ty
+  pub is_known : IsTrue (known f)
+  pub kind : f.id.kind ≡ kind.Map
+  pub takes : f.sig.takes ≡ f.sig.gives ∷ element ∷ []
+  pub initial : type_of v ≡ f.sig.gives
+  pub base : IsBase (type_of v)
+  pub parts_fit : Every (PartFits a makes element) parts
 
 -- what is to be made fits: no value is a reference, and functions are known maps whose arguments have the types that they take
 abbrev pub OpenFits : (FnRef → Bool) → Arena → List Open → Open → Type 0
@@ -49,6 +62,7 @@ OpenFits known a makes (open_def.Const v) = IsBase (type_of v)
 OpenFits known a makes (open_def.Var v) = IsBase (type_of v)
 OpenFits known a makes (open_def.Map f parts) =
     IsTrue (known f) × (f.id.kind ≡ kind.Map) × AllZip (λ (p : Part) (t : Ty). PartFits a makes t p) parts f.sig.takes
+OpenFits known a makes (open_def.Fold f v parts) = FoldFits known a makes f v parts
 
 abbrev pub AllOpenFit : (FnRef → Bool) → Arena → List Open → Type 0
 AllOpenFit known a makes = (i : ℕ) (x : Open) → slice_get makes i ≡ Some x → OpenFits known a makes x

@@ -14,6 +14,7 @@ pub(crate) fn room_behind(formula: &Formula, room: usize) -> Option<usize>
         Formula::Literal(_) => room.checked_sub(1),
         Formula::Name(_) => Some(room),
         Formula::Apply { arguments, .. } => room_behind_each(arguments, room)?.checked_sub(1),
+        Formula::Fold { elements, .. } => room_behind_each(elements, room)?.checked_sub(1),
     }
 }
 

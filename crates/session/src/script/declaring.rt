@@ -264,6 +264,9 @@ fn add<L: Library>(graph: &mut Graph<ScriptFns<L>>, def: Def) -> Result<NodeId, 
         Def::Const(value) => or_no_memory(graph.constant(value)),
         Def::Var(value) => or_no_memory(graph.var(value)),
         Def::Map(function, kids) => or_no_memory(graph.map(function, kids.as_slice())),
+        Def::Fold(function, initial, kids) => {
+            or_no_memory(graph.fold(function, initial, kids.as_slice()))
+        }
     }
 }
 
@@ -273,8 +276,12 @@ fn kind_of(body: &Declaration) -> Kind
 {
     match body {
         Declaration::Variable(_) => Kind::Var,
-        Declaration::Computed(Formula::Literal(_) | Formula::Name(_) | Formula::Apply { .. }) =>
-            Kind::Let,
+        Declaration::Computed(
+            Formula::Literal(_)
+            | Formula::Name(_)
+            | Formula::Apply { .. }
+            | Formula::Fold { .. },
+        ) => Kind::Let,
     }
 }
 
