@@ -4,12 +4,14 @@ use Rattle.std.proofs.lemmas.List.{length-append}
 use Rattle.std.specs.List.{slice_get}
 use Rattle.std.proofs.lemmas.List.Elements.{All-nil, All-cons}
 use Rattle.inc_value.specs.declared.node.NodeId.{NodeId}
+use Rattle.script_model.specs.Formula as script
 use Rattle.script_model.specs.Formula.{Formula, Formulas, Body, Literal, Name, Apply, End, More, Variable, Computed}
+use Rattle.script_model.specs.Values.{to_engine}
 use Rattle.formula_elab.specs.Laying.{laid, laid_each, laid_body}
 use Rattle.formula_elab.specs.Made.{LaidInOrder}
 use Rattle.formula_elab.specs.Opened.{IsEarlier, NeedsEarlier, AreInOrder}
 use Rattle.formula_elab.specs.declared.opened.Open.{Open}
-use Rattle.formula_elab.specs.declared.opened.Open.TheVariants.{Const, Var, Map}
+use Rattle.formula_elab.specs.declared.opened.Open.TheVariants.{Const, Var, Map, Fold}
 use Rattle.formula_elab.specs.declared.opened.Part.{Part}
 use Rattle.formula_elab.specs.declared.opened.Part.TheVariants.{Given, Made}
 
@@ -24,6 +26,7 @@ pub needs_weaker : (a b : ℕ) (x : Open) → a ≤ b → NeedsEarlier a x → N
 needs_weaker a b (Const v) le h = tt
 needs_weaker a b (Var v) le h = tt
 needs_weaker a b (Map f parts) le h = all_earlier_weaker a b parts le h
+needs_weaker a b (Fold f v parts) le h = all_earlier_weaker a b parts le h
 
 order_append : (start : ℕ) (xs ys : List Open) → AreInOrder start xs → AreInOrder (start + length xs) ys
     → AreInOrder start (xs ++ ys)
@@ -60,6 +63,12 @@ module _ (nodes : ℕ → NodeId) where
         let each = laid_each nodes start arguments in
         let parts = formulas_in_order start arguments in
         let last = Map function each.roots in
+        let size = length-append each.makes (last ∷ []) in
+        (order_append start each.makes (last ∷ []) parts.0 (parts.1, tt), omega (arith, size))
+    formula_in_order start (script.Fold function first elements) =
+        let each = laid_each nodes start elements in
+        let parts = formulas_in_order start elements in
+        let last = Fold function (to_engine first) each.roots in
         let size = length-append each.makes (last ∷ []) in
         (order_append start each.makes (last ∷ []) parts.0 (parts.1, tt), omega (arith, size))
     formula_in_order start f = (tt, tt)

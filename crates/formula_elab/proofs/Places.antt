@@ -2,12 +2,14 @@
 use Rattle.std.proofs.Common.{◌≡◌, ℕ, ◌+◌, [], ◌∷◌, length, arith, refl}
 use Rattle.std.proofs.lemmas.List.{length-append}
 use Rattle.inc_value.specs.declared.node.NodeId.{NodeId}
+use Rattle.script_model.specs.Formula as script
 use Rattle.script_model.specs.Formula.{Formula, Formulas, Body, Literal, Name, Apply, End, More, Variable, Computed}
 use Rattle.script_model.specs.Formula.{places_in, places_in_all, places_of_body}
+use Rattle.script_model.specs.Values.{to_engine}
 use Rattle.formula_elab.specs.Laying.{laid, laid_each, laid_body}
 use Rattle.formula_elab.specs.Made.{OneMakeEach}
 use Rattle.formula_elab.specs.Names.{EveryName, EveryNameOfAll, EveryNameOf}
-use Rattle.formula_elab.specs.declared.opened.Open.TheVariants.{Map}
+use Rattle.formula_elab.specs.declared.opened.Open.TheVariants.{Map, Fold}
 
 module _ (P : ℕ → Type 0) (nodes : ℕ → NodeId) where
   mutual
@@ -18,6 +20,10 @@ module _ (P : ℕ → Type 0) (nodes : ℕ → NodeId) where
         let each = laid_each nodes start arguments in
         let size = length-append each.makes (Map function each.roots ∷ []) in
         omega (arith, size, one_each_of_all start arguments names)
+    one_each start (script.Fold function first elements) names =
+        let each = laid_each nodes start elements in
+        let size = length-append each.makes (Fold function (to_engine first) each.roots ∷ []) in
+        omega (arith, size, one_each_of_all start elements names)
     one_each start f names = absurd names
 
     one_each_of_all : (start : ℕ) (fs : Formulas) → EveryNameOfAll P fs

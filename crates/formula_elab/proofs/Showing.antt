@@ -9,6 +9,7 @@ use Rattle.inc_terms.specs.Graph as graph
 use Rattle.inc_terms.specs.Graph.{Graph, Row, Def}
 use Rattle.inc_terms.specs.Term as term
 use Rattle.inc_terms.specs.Term.{Term, Terms, refs}
+use Rattle.script_model.specs.Formula as script
 use Rattle.script_model.specs.Formula.{Formula, Formulas, Body, Literal, Name, Apply, End, More, Variable, Computed}
 use Rattle.script_model.specs.Values.{Value, Int, Bool, Text, Reference, type_of, to_engine}
 use Rattle.transfer.specs.Both.{Both, graph_value}
@@ -18,7 +19,7 @@ use Rattle.formula_elab.specs.Made.{HoldsNoReference, HoldNoReference, BodyHolds
 use Rattle.formula_elab.specs.Names.{EveryName, EveryNameOfAll, EveryNameOf}
 use Rattle.formula_elab.specs.Opened.{node_at, node_of, filled}
 use Rattle.formula_elab.specs.declared.opened.Open.{Open}
-use Rattle.formula_elab.specs.declared.opened.Open.TheVariants.{Map}
+use Rattle.formula_elab.specs.declared.opened.Open.TheVariants.{Map, Fold}
 
 -- a value that is no reference is the same in the graph
 value_same : (nodes : ℕ → NodeId) (v : Value) → IsBase (type_of v) → to_engine v ≡ graph_value nodes v
@@ -64,6 +65,11 @@ opens_map : (G : Graph) (n : NodeId) (f : FnRef) (kids : List NodeId) → IsTop 
     → Opens G (Built None) (term.Ref n) (term.Map f (refs kids))
 opens_map G n f kids top = (n, top.0, refl, top.1, top.2, ap plain top.3)
 
+opens_fold : (G : Graph) (n : NodeId) (f : FnRef) (v w : _) (kids : List NodeId) → v ≡ w → IsTop G n (graph.Fold f v kids)
+    → Opens G (Built None) (term.Ref n) (term.Fold f w (refs kids))
+opens_fold G n f v w kids same top =
+    (n, top.0, refl, top.1, top.2, ap plain top.3 ∙ ap (λ u. Some (term.Fold f u (refs kids))) same)
+
 module _ (x : Both) (nodes : ℕ → NodeId) (made : List NodeId) where
   mutual
     shows : (start : ℕ) (f : Formula) → HoldsNoReference f → EveryName (λ n. nodes n ≡ x.nodes n) f
@@ -80,6 +86,15 @@ module _ (x : Both) (nodes : ℕ → NodeId) (made : List NodeId) where
           refs kids,
           opens_map x.graph (node_at made (start + length each.makes)) function kids parts.1.0,
           shows_each start arguments base names parts.0,
+        )
+    shows start (script.Fold function first elements) base names top =
+        let each = laid_each nodes start elements in
+        let kids = map (node_of made) each.roots in
+        let parts = top_split x.graph made start each.makes (Fold function (to_engine first) each.roots ∷ []) top in
+        let same = value_same x.nodes first base.0 in (
+          refs kids,
+          opens_fold x.graph (node_at made (start + length each.makes)) function (to_engine first) (graph_value x.nodes first) kids same parts.1.0,
+          shows_each start elements base.1 names parts.0,
         )
     shows start f base names top = absurd base
 

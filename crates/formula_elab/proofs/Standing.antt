@@ -11,7 +11,7 @@ use Rattle.formula_elab.specs.Made.{NoneStands, OneMoreStands}
 use Rattle.formula_elab.specs.Opened.{no_node, node_at, node_of, filled, IsEarlier, NeedsEarlier}
 use Rattle.formula_elab.specs.Plan.{next_def}
 use Rattle.formula_elab.specs.declared.opened.Open.{Open}
-use Rattle.formula_elab.specs.declared.opened.Open.TheVariants.{Const, Var, Map}
+use Rattle.formula_elab.specs.declared.opened.Open.TheVariants.{Const, Var, Map, Fold}
 use Rattle.formula_elab.specs.declared.opened.Part.{Part}
 use Rattle.formula_elab.specs.declared.opened.Part.TheVariants.{Given, Made}
 use Rattle.formula_elab.proofs.InOrder.{needs_weaker, order_of}
@@ -33,6 +33,7 @@ module _ (made : List NodeId) (n : NodeId) where
   filled_stays (Const v) h = refl
   filled_stays (Var v) h = refl
   filled_stays (Map f parts) h = ap (graph.Map f) (nodes_of_stay parts h)
+  filled_stays (Fold f v parts) h = ap (graph.Fold f v) (nodes_of_stay parts h)
 
 pub none_stands : NoneStands
 none_stands G makes order = record { order = order; top = λ i x at less. absurd (omega (arith, less)) }

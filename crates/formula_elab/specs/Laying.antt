@@ -1,14 +1,17 @@
--- The nodes to be made for a formula: those of arguments before their application, and none for a bare name.
+-- The nodes to be made for a formula: those of arguments before their application, those of elements before their fold, and
+-- none for a bare name.
 use Rattle.std.specs.Prelude.{◌+◌, ℕ, List, [], ◌∷◌, ◌++◌, length, Option, None, Some}
 use Rattle.inc_value.specs.declared.function.FnRef.{FnRef}
 use Rattle.inc_value.specs.declared.node.NodeId.{NodeId}
+use Rattle.inc_value.specs.declared.value.Value.{Value}
 use Rattle.script_model.specs.Check as command
+use Rattle.script_model.specs.Formula as script
 use Rattle.script_model.specs.Formula.{Formula, Formulas, Body, Literal, Name, Apply, End, More, Variable, Computed}
 use Rattle.script_model.specs.Formula.{places_of_body}
 use Rattle.script_model.specs.Values.{to_engine}
 use Rattle.formula_elab.specs.Opened.{no_node, node_at}
 use Rattle.formula_elab.specs.declared.opened.Open.{Open}
-use Rattle.formula_elab.specs.declared.opened.Open.TheVariants.{Const, Var, Map}
+use Rattle.formula_elab.specs.declared.opened.Open.TheVariants.{Const, Var, Map, Fold}
 use Rattle.formula_elab.specs.declared.opened.Part.{Part}
 use Rattle.formula_elab.specs.declared.opened.Part.TheVariants.{Given, Made}
 
@@ -37,6 +40,13 @@ laid_behind start function arguments = record {
   root = Made (start + length arguments.makes);
 }
 
+-- a fold from a value behind its elements
+abbrev pub laid_fold : ℕ → FnRef → Value → LaidEach → Laid
+laid_fold start function first elements = record {
+  makes = elements.makes ++ Fold function first elements.roots ∷ [];
+  root = Made (start + length elements.makes);
+}
+
 -- what is to be made for one formula before that for others
 abbrev pub laid_before : Laid → LaidEach → LaidEach
 laid_before first rest = record { makes = first.makes ++ rest.makes; roots = first.root ∷ rest.roots }
@@ -47,6 +57,7 @@ abbrev mutual
   laid nodes start (Literal v) = laid_one start (Const (to_engine v))
   laid nodes start (Name n) = laid_given (nodes n)
   laid nodes start (Apply function arguments) = laid_behind start function (laid_each nodes start arguments)
+  laid nodes start (script.Fold function first elements) = laid_fold start function (to_engine first) (laid_each nodes start elements)
   laid nodes start f = laid_given no_node
 
   -- what is to be made for formulas, one after the other

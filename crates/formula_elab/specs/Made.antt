@@ -7,7 +7,7 @@ use Rattle.inc_value.specs.declared.ty.Ty.{Ty}
 use Rattle.inc_terms.specs.Graph.{Graph, Row, Def}
 use Rattle.formula_lang.specs.Fits.{BodyFits}
 use Rattle.script_model.specs.Check.{Names}
-use Rattle.script_model.specs.Formula.{Formula, Formulas, Body, Literal, Name, Apply, End, More, Variable, Computed}
+use Rattle.script_model.specs.Formula.{Formula, Formulas, Body, Literal, Name, Apply, Fold, End, More, Variable, Computed}
 use Rattle.script_model.specs.Formula.{places_of_body}
 use Rattle.script_model.specs.Values.{type_of}
 use Rattle.transfer.specs.Both.{Both}
@@ -36,6 +36,7 @@ abbrev mutual
   HoldsNoReference (Literal v) = IsBase (type_of v)
   HoldsNoReference (Name n) = Unit {0}
   HoldsNoReference (Apply function arguments) = HoldNoReference arguments
+  HoldsNoReference (Fold function first elements) = IsBase (type_of first) × HoldNoReference elements
   HoldsNoReference f = ⊥
 
   -- so are all of the formulas

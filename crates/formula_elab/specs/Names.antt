@@ -1,7 +1,7 @@
 -- The names in a formula.
 use Rattle.std.specs.Prelude.{ℕ}
 use Rattle.script_model.specs.Check as command
-use Rattle.script_model.specs.Formula.{Formula, Formulas, Body, Literal, Name, Apply, End, More, Variable, Computed}
+use Rattle.script_model.specs.Formula.{Formula, Formulas, Body, Literal, Name, Apply, Fold, End, More, Variable, Computed}
 
 abbrev mutual
   -- the formula is of a form that is laid out, and every name in it has the property
@@ -9,6 +9,7 @@ abbrev mutual
   EveryName P (Literal v) = Unit {0}
   EveryName P (Name n) = P n
   EveryName P (Apply function arguments) = EveryNameOfAll P arguments
+  EveryName P (Fold function first elements) = EveryNameOfAll P elements
   EveryName P f = ⊥
 
   -- so are all of the formulas

@@ -9,7 +9,7 @@ use Rattle.formula_elab.specs.declared.make.Make.TheVariants.{Node as MakeNode}
 use Rattle.formula_elab.specs.declared.make.Made.{Made}
 use Rattle.formula_elab.specs.declared.make.Made.TheVariants.{Node as MadeNode}
 use Rattle.formula_elab.specs.declared.opened.Open.{Open}
-use Rattle.formula_elab.specs.declared.opened.Open.TheVariants.{Const, Var, Map}
+use Rattle.formula_elab.specs.declared.opened.Open.TheVariants.{Const, Var, Map, Fold}
 use Rattle.formula_elab.specs.declared.opened.Part.{Part}
 use Rattle.formula_elab.specs.declared.opened.Part.TheVariants.{Given, Made as Numbered}
 
@@ -31,6 +31,7 @@ abbrev pub filled : List NodeId → Open → Def
 filled made (Const v) = graph.Const v
 filled made (Var v) = graph.Var v
 filled made (Map f parts) = graph.Map f (map (node_of made) parts)
+filled made (Fold f v parts) = graph.Fold f v (map (node_of made) parts)
 
 -- the definition of the node that is to be made
 abbrev pub def_to_make : Make → Def
@@ -52,6 +53,7 @@ abbrev pub NeedsEarlier : ℕ → Open → Type 0
 NeedsEarlier count (Const v) = Unit {0}
 NeedsEarlier count (Var v) = Unit {0}
 NeedsEarlier count (Map f parts) = All (IsEarlier count) parts
+NeedsEarlier count (Fold f v parts) = All (IsEarlier count) parts
 
 -- from the start on, each needs only nodes that are made before it
 abbrev pub AreInOrder : ℕ → List Open → Type 0

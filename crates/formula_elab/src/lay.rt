@@ -98,6 +98,17 @@ fn lay(
             makes.push(Open::Map(*function, arguments))?;
             Ok(root)
         }
+        Formula::Fold {
+            function,
+            first,
+            elements,
+        } => {
+            let first = first.value(alloc)?;
+            let elements = Parts::new(lay_each(alloc, elements, ids, makes)?);
+            let root = Part::Made(makes.len());
+            makes.push(Open::Fold(*function, first, elements))?;
+            Ok(root)
+        }
     }
 }
 

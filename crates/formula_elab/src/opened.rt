@@ -30,7 +30,7 @@ impl Part {
     }
 }
 
-/// The nodes of a function's arguments in order, seen as a list.
+/// The nodes of a function's arguments or a fold's elements in order, seen as a list.
 #[derive(Debug, Drop)]
 pub(crate) struct Parts {
     parts: Vec<Part>,
@@ -67,6 +67,7 @@ pub(crate) enum Open {
     Const(Value),
     Var(Value),
     Map(FnRef, Parts),
+    Fold(FnRef, Value, Parts),
 }
 
 impl Open {
@@ -81,6 +82,14 @@ impl Open {
             Open::Map(function, parts) => {
                 let kids = nodes_of(alloc, parts.as_slice(), made)?;
                 Def::Map(*function, Nodes::from_slice(alloc, &kids)?)
+            }
+            Open::Fold(function, first, parts) => {
+                let kids = nodes_of(alloc, parts.as_slice(), made)?;
+                Def::Fold(
+                    *function,
+                    first.copy(alloc)?,
+                    Nodes::from_slice(alloc, &kids)?,
+                )
             }
         })
     }
