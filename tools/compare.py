@@ -39,9 +39,10 @@ FUNCTIONS = {b"neg": (INT, (INT,)), b"clamp": (INT, (INT,) * 3), b"pick": (INT, 
              b"cat": (TEXT, (TEXT, TEXT)), b"len": (INT, (TEXT,)), b"same": (BOOL, (TEXT, TEXT)), b"show": (TEXT, (INT,))}
 FUNCTIONS |= {name: (INT, (INT, INT)) for name in b"add sub mul div rem min max".split()}
 FUNCTIONS |= {name: (BOOL, (INT, INT)) for name in b"eq lt le".split()}
+FOLDS = {name: (gives, takes[1]) for name, (gives, takes) in FUNCTIONS.items() if len(takes) == 2 and takes[0] == gives}
 TYPES = (INT, BOOL, TEXT)
 LEVELS = ((b"neg(", b")"), (b"add(1, ", b")"), (b"add(", b", d0)"), (b"pick(true, ", b", 2)"), (b"clamp(-9, ", b", 9)"),
-          (b"rem(", b", 5)"), (b"sum9(1, 2, 3, 4, ", b", 6, 7, 8, d0)"))
+          (b"rem(", b", 5)"), (b"sum9(1, 2, 3, 4, ", b", 6, 7, 8, d0)"), (b"fold sub from 1 [2, ", b", d0]"), (b"fold max from -9 [", b"]"))
 
 
 class Disagreement(Exception):
@@ -79,7 +80,10 @@ class Generator:
         """The words of a formula, mostly of the type."""
         known = [name for name, (of, _) in self.nodes.items() if of == ty]
         functions = [name for name, (gives, _) in FUNCTIONS.items() if gives == ty]
+        folds = [name for name, (gives, _) in FOLDS.items() if gives == ty]
         draw = self.chance.random()
+        if folds and room > 0 and draw < 0.1:
+            return self.fold(self.chance.choice(folds), ty, room)
         if functions and room > 0 and draw < 0.6:
             function = self.chance.choice(functions)
             takes = FUNCTIONS[function][1]
@@ -94,10 +98,25 @@ class Generator:
             return words + [b")"]
         return [self.name(known) if draw < 0.85 and known or draw < 0.62 else self.literal(ty)]
 
+    def fold(self, function, ty, room):
+        """The words of a fold, mostly of the type."""
+        count = self.chance.choice((0, 1, 1, 2, 2, 3, 3, 5, 9))
+        element = FOLDS[function][1] if self.chance.random() < 0.97 else self.chance.choice(TYPES)
+        if self.chance.random() < 0.03:
+            function = self.name(self.names)
+        words = [b"fold", function, b"from", self.literal(ty), b"["]
+        for number in range(count):
+            words += ([b","] if number else []) + self.formula(element, room - 1 if count < 4 else 0)
+        words.append(b"]")
+        if self.chance.random() < 0.03:
+            del words[self.chance.randrange(len(words))]
+        return words
+
     def deep(self):
         """An application as deep as a line may nest, or a little more or less."""
         levels = self.chance.choice((1, 63, 64, 64, 65, 66, 200))
-        return [b"neg("] * levels + [self.literal(b"int")] + [b")"] * self.chance.choice((levels, levels, levels - 1))
+        start, end = self.chance.choice(((b"neg(", b")"), (b"neg(", b")"), (b"fold add from 1 [", b"]")))
+        return [start] * levels + [self.literal(b"int")] + [end] * self.chance.choice((levels, levels, levels - 1))
 
     def chain(self):
         """Lines that declare a chain of points and mostly ask for its end; `d5` has five points below it."""
@@ -232,11 +251,6 @@ def long_texts(chance):
                        b'set d0 "v"', b"stabilize", b"show o", b"show p", b"show q"])
 
 
-def without_later_forms(script):
-    """The script without the lines that the model takes at this stage and the program does not yet."""
-    return b"\n".join([line for line in script.split(b"\n") if not re.search(rb"\bfold\b", line)])
-
-
 def profiled(profile, script, transcript):
     """The calls of each stabilize, by the profiling program, whose other lines must be the transcript."""
     run = subprocess.run([profile, "run"], input=script, stdout=subprocess.PIPE, timeout=PATIENCE)
@@ -314,7 +328,7 @@ def main():
     for number in range(options.first, options.first + options.count):
         chance = random.Random("%d/%d" % (options.seed, number))
         script = (Generator(chance).script, lambda: spoiled(chance),
-                  lambda: without_later_forms(fuzz.script(options.seed, number, 60, options.through)),
+                  lambda: fuzz.script(options.seed, number, 60, options.through),
                   lambda: {3: long_script, 7: long_texts}.get(number % 20, noise)(chance))[number % 4]()
         try:
             compare((options.program, options.profile), judge.judge, chance, script, options.through)
