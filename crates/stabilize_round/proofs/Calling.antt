@@ -7,7 +7,7 @@ use Rattle.inc_value.specs.declared.node.Part.TheVariants.{Main}
 use Rattle.inc_value.specs.declared.node.Point.{Point}
 use Rattle.inc_value.specs.Choice.{Among}
 use Rattle.inc_terms.specs.Graph as graph
-use Rattle.inc_terms.specs.Graph.{Graph, Row, Def}
+use Rattle.inc_terms.specs.Graph.{Graph, Row, Def, kids}
 use Rattle.inc_terms.specs.Depend.{main, fixed_reads, kids_of}
 use Rattle.inc_terms.specs.Work.{cost_of}
 use Rattle.stabilize_round.specs.Calling.{taken_by, row_cost, cost_at, costs_of, or_none}
@@ -46,6 +46,21 @@ kids_taken G n graph.Now kids e = absurd cc
 kids_taken G n (graph.Every base span) kids e = absurd cc
 kids_taken G n (graph.Freeze k f) kids e = absurd cc
 kids_taken G n (graph.Expert f v ns) kids e = absurd cc
+
+pub listed_taken : (def : Def) (nodes : List NodeId) → taken_by def ≡ Some nodes → kids def ≡ nodes
+listed_taken (graph.Map f ns) nodes e = inside e
+listed_taken (graph.Fold f v ns) nodes e = inside e
+listed_taken (graph.Const v) nodes e = absurd cc
+listed_taken (graph.Var v) nodes e = absurd cc
+listed_taken (graph.If t a b) nodes e = absurd cc
+listed_taken (graph.Join k) nodes e = absurd cc
+listed_taken (graph.Bind l f ns) nodes e = absurd cc
+listed_taken (graph.At t) nodes e = absurd cc
+listed_taken (graph.Steps v steps) nodes e = absurd cc
+listed_taken graph.Now nodes e = absurd cc
+listed_taken (graph.Every base span) nodes e = absurd cc
+listed_taken (graph.Freeze k f) nodes e = absurd cc
+listed_taken (graph.Expert f v ns) nodes e = absurd cc
 
 -- it costs calls, by whatever graph
 pub cost_taken : (G G' : Graph) (n : NodeId) (def : Def) (kids : List NodeId) → taken_by def ≡ Some kids

@@ -120,7 +120,7 @@ module _ (before arena : Arena) (old work : Work) (id : NodeId) (row : Row) (kep
     heap = λ p n h. ap is_some (heap p) ∙ h;
     rows = λ p n. rows.others p (needed_other p n);
     nodes = λ n r need e. inl (sym (added.others n (λ is. needed_other (main n) need (ap main is))) ∙ e);
-    calls = λ n r f ns k c e def is last. elim (node_or_other n id) [
+    calls = λ n r ns k c e def is last. elim (node_or_other n id) [
       | inl same ↦
           let new : unsettled ≡ k = same_some (sym rows.changed ∙ (ap (λ (x : NodeId). at work.rows (main x)) (sym same) ∙ is)) in
           absurd (none-some _ (ap (λ (x : Progress). x.last) new ∙ last))
@@ -160,7 +160,7 @@ module _ (arena : Arena) (old work : Work) (kept : IsKept arena old) (same : Kee
     heap = λ p n h. ap is_some (same.heap p) ∙ h;
     rows = λ p n. same.rows p;
     nodes = λ n r need e. inl e;
-    calls = λ n r f ns k c e def is last. (e, sym (same.rows (main n)) ∙ is);
+    calls = λ n r ns k c e def is last. (e, sym (same.rows (main n)) ∙ is);
     unsettled = λ p k e. inl (sym (same.rows p) ∙ e);
     round = same.round;
     todo = same.todo;

@@ -58,8 +58,8 @@ module _ (F : Functions) (arena : Arena) (work : Work) (ready : IsReady F arena 
       ap last_of there.1 ∙ sym (ready.stands.last n there.0 there.1)
 
   recalls : (p : Point) → Recalls old.graph (shown old.graph old.out) old.last p → Recalls old.graph (shown old.graph old.out) (last_call work) p
-  recalls p was r f kids values row part def gives =
-      let c = was r f kids values row part def gives in
+  recalls p was r kids values row part def gives =
+      let c = was r kids values row part def gives in
       (c.0, last_known p.node r row ∙ c.1, c.2)
 
   stands : Stands arena work count None state
@@ -112,7 +112,7 @@ module _ (F : Functions) (arena : Arena) (work : Work) (ready : IsReady F arena 
     held = λ p. refl;
     last = λ n. refl;
     calls = refl;
-    answers = λ n r f kids c row def e. ready.entry.answers n r f kids c row def (sym (last_known n r row) ∙ e);
+    answers = λ n r kids c row def e. ready.entry.answers n r kids c row def (sym (last_known n r row) ∙ e);
   }
 
   pub begun : Begun F arena work count

@@ -14,7 +14,7 @@ use Rattle.inc_terms.specs.declared.def.Def as declared
 use Rattle.inc_terms.specs.declared.def.Def.TheVariants as form
 use Rattle.inc_terms.specs.Code.{def_of}
 use Rattle.inc_terms.specs.Depend.{main, change}
-use Rattle.inc_terms.specs.Evaluate.{given}
+use Rattle.inc_terms.specs.Evaluate.{folded, given}
 use Rattle.inc_terms.specs.Graph.{Graph, Row, Def, kids}
 use Rattle.inc_terms.specs.Local.{shown, shown_of, own, Agrees}
 use Rattle.inc_terms.specs.Term.{Functions}
@@ -31,6 +31,8 @@ use Rattle.node_arena.specs.Arena.{Arena, row_at}
 use Rattle.node_arena.specs.Graph.{graph_of}
 use Rattle.stabilize_round.specs.State as machine
 use Rattle.stabilize_round.specs.State.{State, Start, Call, count, planned, plan_at, live_plan}
+use Rattle.stabilize_round.specs.Calling.{taken_by}
+use Rattle.stabilize_round.proofs.Calling.{listed_taken}
 use Rattle.stabilize_round.specs.Invariant.{Recalls}
 use Rattle.stabilize_round.specs.Machine.{Entry as Begins}
 use Rattle.stabilize_round.proofs.Points.{among_count}
@@ -85,6 +87,7 @@ module _ (F : Functions) (G G' : Graph) (see see' : Point → Option Outcome) (n
   own_as (form.Const v) h = refl
   own_as (form.Var v) h = refl
   own_as (form.Map f ks) h = ap (given (F.value f)) (gathered_same F G see see' ks h)
+  own_as (form.Fold f v ks) h = ap (given (folded (F.value f) v)) (gathered_same F G see see' ks h)
 
   -- a node's own function looks at what is seen of its children alone
   pub own_of : (def : Def) (d : declared.Def) → def ≡ def_of d → ((q : Point) → Among q (map main (kids def)) → see' q ≡ see q)
@@ -168,8 +171,8 @@ module _ (F : Functions) (arena : Arena) (work : Work) (ready : IsReady F arena 
         outcome = a.0;
         shows = ap outcome_in k.1 ∙ (sym (ready.stands.out (main n) k.0 k.1) ∙ a.1);
         gives = own_of F s.graph (graph_of arena) (shown s.graph s.out) (seen work.rows) n r.def d.0 d.1 (seen_now (kids r.def)) ∙ a.2;
-        recalls = λ f nodes values def e.
-            let c = recalls r f nodes values (row_now n r row) refl def
+        recalls = λ nodes values def e.
+            let c = recalls r nodes values (row_now n r row) refl def
             (sym (gathered_same F s.graph (shown s.graph s.out) (seen work.rows) nodes (seen_now nodes)) ∙ e) in
             (c.0, ap last_of k.1 ∙ (sym (ready.stands.last n k.0 k.1) ∙ c.1), c.2);
       }
@@ -190,7 +193,7 @@ module _ (F : Functions) (arena : Arena) (work : Work) (ready : IsReady F arena 
       | inl h ↦ inl (sym (ready.stands.heap (main n)) ∙ h)
       | inr a ↦ inr (fresh_now n r row a.0 a.1)
     ];
-    answers = λ n r f nodes k c row def e last. ready.entry.answers n r f nodes c (row_now n r row) def (ready.stands.last n k e ∙ last);
+    answers = λ n r nodes k c row def e last. ready.entry.answers n r nodes c (row_now n r row) def (ready.stands.last n k e ∙ last);
     unsettled = λ p. sym (ready.stands.settled p) ∙ ready.entry.settled p;
     numbered = ready.numbered;
     strict = sym ready.stands.strict ∙ ready.entry.strict;
@@ -275,9 +278,9 @@ module _ (F : Functions) (arena : Arena) (work : Work) (b : IsBetween F arena wo
 
   recalls_then : (n : NodeId) (r : Row) → row_at arena n ≡ Some r → IsFresh F arena work.rows n r.def
       → Recalls now.graph (shown now.graph now.out) now.last (main n)
-  recalls_then n r row fresh r' f nodes values row' part def e =
+  recalls_then n r row fresh r' nodes values row' part def e =
       let same : r ≡ r' = same_some (sym row ∙ row') in
-      fresh.recalls f nodes values (ap (λ (x : Row). x.def) same ∙ def)
+      fresh.recalls nodes values (ap (λ (x : Row). taken_by x.def) same ∙ def)
       (sym (gathered_same F (graph_of arena) (seen work.rows) (shown now.graph now.out) nodes (seen_then nodes)) ∙ e)
 
   stands_then : Stands arena work 0 None now
@@ -354,9 +357,9 @@ module _ (F : Functions) (arena : Arena) (work : Work) (b : IsBetween F arena wo
     held = λ p. refl;
     last = λ n. refl;
     calls = refl;
-    answers = λ n r f nodes c row def last.
+    answers = λ n r nodes c row def last.
         let k = row_of arena work b.kept n r row in
-        b.answers n r f nodes k.0 c row def k.1 (sym (ap last_of k.1) ∙ last);
+        b.answers n r nodes k.0 c row def k.1 (sym (ap last_of k.1) ∙ last);
   }
 
   ready_with : IsReady F arena work
@@ -410,9 +413,9 @@ module _ (F : Functions) (before arena : Arena) (old work : Work) (b : IsBetween
         outcome = f.outcome;
         shows = ap outcome_in (stays.rows (main n) need) ∙ f.shows;
         gives = own_of F (graph_of before) (graph_of arena) (seen old.rows) (seen work.rows) n r.def d.0 d.1 (seen_still n r need row) ∙ f.gives;
-        recalls = λ g nodes values def e.
-            let c = f.recalls g nodes values def (sym (gathered_same F (graph_of arena) (seen old.rows) (seen work.rows) nodes
-            (λ q a. seen_still n r need row q (subst (λ (x : Def). Among q (map main (kids x))) (sym def) a))) ∙ e) in
+        recalls = λ nodes values def e.
+            let c = f.recalls nodes values def (sym (gathered_same F (graph_of arena) (seen old.rows) (seen work.rows) nodes
+            (λ q a. seen_still n r need row q (subst (λ (ns : List NodeId). Among q (map main ns)) (sym (listed_taken r.def nodes def)) a))) ∙ e) in
             (c.0, ap last_of (stays.rows (main n) need) ∙ c.1, c.2);
       }
 
@@ -437,7 +440,7 @@ module _ (F : Functions) (before arena : Arena) (old work : Work) (b : IsBetween
         | inr f ↦ inr (fresh_still n r need row f)
       ]
     ];
-    answers = λ n r f nodes k c row def e last. let w = stays.calls n r f nodes k c row def e last in b.answers n r f nodes k c w.0 def w.1 last;
+    answers = λ n r nodes k c row def e last. let w = stays.calls n r nodes k c row def e last in b.answers n r nodes k c w.0 def w.1 last;
     unsettled = unsettled_still;
     numbered = let r = stays.round.round in let n = b.numbered in omega (arith, r, n);
     strict = stays.round.strict ∙ b.strict;

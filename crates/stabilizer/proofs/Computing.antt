@@ -1,5 +1,5 @@
 -- What a node gives by what its children show.
-use Rattle.std.proofs.Common.{◌≡◌, ◌⊎◌, inl, inr, ℕ, ◌<◌, ◌+◌, ◌++◌, Bool, true, false, List, [], ◌∷◌, length, take, get_or, Option, None, Some}
+use Rattle.std.proofs.Common.{◌≡◌, ◌⊎◌, inl, inr, ℕ, suc, ◌<◌, ◌+◌, ◌++◌, Bool, true, false, List, [], ◌∷◌, length, take, get_or, Option, None, Some}
 use Rattle.std.proofs.Common.{refl, sym, ap, subst, ◌∙◌, IsTrue, IsSome, arith, append-nil}
 use Rattle.std.specs.Prelude.{is_some, IfSome, option_and_then}
 use Rattle.std.specs.List.{AllZip, filter_map}
@@ -19,17 +19,20 @@ use Rattle.inc_terms.specs.declared.def.Def.TheVariants as form
 use Rattle.inc_terms.specs.Code.{def_of}
 use Rattle.inc_terms.specs.Depend.{main}
 use Rattle.inc_terms.specs.Evaluate.{Gathered, Unknown, SomeInvalid, Values, joined, given}
-use Rattle.inc_terms.specs.Graph.{Row, Def, Const, Var, Map, kids}
+use Rattle.inc_terms.specs.Graph.{Graph, Row, Def, Const, Var, Map, Fold, kids}
+use Rattle.inc_terms.specs.Work.{cost_of}
 use Rattle.inc_terms.specs.Local.{own}
 use Rattle.point_map.specs.Rows.{Rows, at, Holds}
 use Rattle.node_arena.specs.Arena.{Arena, row_at}
 use Rattle.node_arena.specs.Graph.{graph_of}
 use Rattle.node_arena.specs.Sound.{IsSound}
-use Rattle.node_arena.specs.Typing.{Fits, Makes, MapMakes}
-use Rattle.stabilize_round.specs.Counts.{RoseBy}
+use Rattle.node_arena.specs.Typing.{Fits, Makes, MapMakes, FoldMakes, FoldTakes}
+use Rattle.stabilize_round.specs.Calling.{taken_by, IsAnswer, cost_at, row_cost, or_none}
+use Rattle.stabilize_round.specs.Counts.{RoseBy, RoseAtMost}
+use Rattle.stabilize_round.specs.Moves.{calls_of}
 use Rattle.stabilize_round.specs.State.{Call}
 use Rattle.stabilizer.specs.Computing.{seen, seen_of, seen_together, value_shown, ShowsValue, CallsSeen, KeepsRest}
-use Rattle.stabilizer.specs.Computing.{IsCalled, ComputesMap, Computes}
+use Rattle.stabilizer.specs.Computing.{IsCalled, IsKnown, AllShow, LastWas, FoldFits, KeepsAllButCount, ComputesCall, Computes, NotComputed}
 use Rattle.stabilizer.specs.Kept.{IsKept}
 use Rattle.stabilizer.specs.Meaning.{functions_of}
 use Rattle.stabilizer.specs.Row.{IsRewritten, with_last, value_of, value_in}
@@ -97,17 +100,14 @@ module _ (rows : Rows Progress) where
         shown_from_together ns vs (j.is_rest ∙ ap Values rest),
       )
 
-  abbrev AllShow : List NodeId → Type 0
-  AllShow nodes = Every (λ (n : NodeId). IsSome (value_shown rows n)) nodes
-
   -- nodes that all show a value show their values
-  values_of_all : (nodes : List NodeId) → AllShow nodes → (values : List Value) × AllZip (ShowsValue rows) nodes values
+  values_of_all : (nodes : List NodeId) → AllShow rows nodes → (values : List Value) × AllZip (ShowsValue rows) nodes values
   values_of_all [] h = ([], tt)
   values_of_all (n ∷ ns) h =
       let first = some_is (value_shown rows n) h.0 in let rest = values_of_all ns h.1 in
       (first.0 ∷ rest.0, (first.1, rest.1))
 
-  all_of_values : (nodes : List NodeId) (values : List Value) → AllZip (ShowsValue rows) nodes values → AllShow nodes
+  all_of_values : (nodes : List NodeId) (values : List Value) → AllZip (ShowsValue rows) nodes values → AllShow rows nodes
   all_of_values [] [] h = tt
   all_of_values [] (v ∷ vs) h = absurd h
   all_of_values (n ∷ ns) [] h = absurd h
@@ -120,7 +120,7 @@ module _ (rows : Rows Progress) where
   filter_is_values (n ∷ ns) [] h = absurd h
   filter_is_values (n ∷ ns) (v ∷ vs) h = rw (h.0, filter_is_values ns vs h.1) refl
 
-  filter_is_shown : (nodes : List NodeId) → AllShow nodes → AllZip (ShowsValue rows) nodes (filter_map (value_shown rows) nodes)
+  filter_is_shown : (nodes : List NodeId) → AllShow rows nodes → AllZip (ShowsValue rows) nodes (filter_map (value_shown rows) nodes)
   filter_is_shown nodes all =
       let w = values_of_all nodes all in
       subst (λ (vs : List Value). AllZip (ShowsValue rows) nodes vs) (sym (filter_is_values nodes w.0 w.1)) w.1
@@ -136,10 +136,20 @@ module _ (rows : Rows Progress) where
   filter_none nodes i d h e =
       rw (take_more nodes i d h, filter_map-append (value_shown rows) (take i nodes) (get_or nodes i d ∷ []), e) (append-nil _)
 
-  -- what children that all show a value show has the types that the function takes
-  pub all_fit : (nodes : List NodeId) (takes : List Ty) → ((values : List Value) → AllZip (ShowsValue rows) nodes values → HaveTypes values takes)
-      → AllShow nodes → HaveTypes (filter_map (value_shown rows) nodes) takes
-  all_fit nodes takes fit all = fit (filter_map (value_shown rows) nodes) (filter_is_shown nodes all)
+  -- what is so of the values that children show is so of what children show that all show a value
+  pub all_fit : (P : List Value → Type 0) (nodes : List NodeId) → ((values : List Value) → AllZip (ShowsValue rows) nodes values → P values)
+      → AllShow rows nodes → P (filter_map (value_shown rows) nodes)
+  all_fit P nodes fit all = fit (filter_map (value_shown rows) nodes) (filter_is_shown nodes all)
+
+  -- as many as there are nodes
+  pub as_many : (nodes : List NodeId) (values : List Value) → AllZip (ShowsValue rows) nodes values → length values ≡ length nodes
+  as_many [] [] h = refl
+  as_many [] (v ∷ vs) h = absurd h
+  as_many (n ∷ ns) [] h = absurd h
+  as_many (n ∷ ns) (v ∷ vs) h = ap suc (as_many ns vs h.1)
+
+  pub all_shown : (nodes : List NodeId) → AllShow rows nodes → length (filter_map (value_shown rows) nodes) ≡ length nodes
+  all_shown nodes all = as_many nodes (filter_map (value_shown rows) nodes) (filter_is_shown nodes all)
 
   -- the test tells that the children don't show what the function was last called on
   pub not_last : (nodes : List NodeId) (x : Option Call) (a b : Call) (values : List Value) (shows : Bool)
@@ -154,7 +164,7 @@ module _ (rows : Rows Progress) where
 pub never_last : (x : Option Call) (b : Call) → None ≡ x → x ≡ Some b → ⊥
 never_last x b none some = none-some b (none ∙ some)
 
--- ---- what a map gives
+-- ---- what a node gives whose function is called on what its children show
 
 unmoved : (rows : Rows Progress) (n : NodeId) (kept : Progress) → at rows (main n) ≡ Some kept → IsRewritten rows rows (main n) (with_last kept.last)
 unmoved rows n kept e = record { changed = rw e refl; others = λ q ne. refl; points = λ i. refl }
@@ -175,56 +185,56 @@ invalid_gives f Unknown known some = absurd (known refl)
 invalid_gives f SomeInvalid known some = refl
 invalid_gives f (Values vs) known some = absurd (some vs refl)
 
--- the children of a map are those that its definition lists
-relisted : (rows : Rows Progress) (f g : FnRef) (nodes others : List NodeId) (values : List Value) → Map f nodes ≡ Map g others
+-- the children whose values are taken are those that the definition lists
+relisted : (rows : Rows Progress) (def : Def) (nodes others : List NodeId) (values : List Value) → taken_by def ≡ Some nodes → taken_by def ≡ Some others
     → seen_together rows others ≡ Values values → seen_together rows nodes ≡ Values values
-relisted rows f g nodes others values def e = let same : nodes ≡ others = cc in ap (seen_together rows) same ∙ e
+relisted rows def nodes others values mine its e =
+    ap (seen_together rows) (same_Some nodes others (sym mine ∙ its)) ∙ e
 
-module _ (value : FnRef → List Value → Value) (old : Work) (n : NodeId) (f : FnRef) (nodes : List NodeId) (there : Holds old.rows (main n)) where
+module _ (value : FnRef → List Value → Value) (answer : List Value → Value) (t : Ty) (old : Work) (n : NodeId) (def : Def) (nodes : List NodeId)
+    (cost : ℕ) (takes : taken_by def ≡ Some nodes) (is_answer : (values : List Value) → IsAnswer (functions_of value) def values (answer values))
+    (there : Holds old.rows (main n)) where
   abbrev kept : Progress
   kept = (some_is (at old.rows (main n)) there).0
 
   is_kept : at old.rows (main n) ≡ Some kept
   is_kept = (some_is (at old.rows (main n)) there).1
 
-  abbrev LastWas : Call → Type 0
-  LastWas call = option_and_then (λ (k : Progress). k.last) (at old.rows (main n)) ≡ Some call
-
   -- a child shows no value
-  pub invalid_computes : (before : ℕ) → (AllShow old.rows nodes → ⊥) → ComputesMap value old old n f nodes Invalid before before
+  invalid_computes : (before : ℕ) → (AllShow old.rows nodes → ⊥) → ComputesCall value answer t old old n def nodes Invalid cost before before
   invalid_computes before some = record {
     kept = kept;
     is_kept = is_kept;
     last = kept.last;
     called = false;
-    calls = (refl, λ g others values def e. absurd (none values (relisted old.rows f g nodes others values def e)));
-    gives = λ answers known. invalid_gives (value f) (seen_together old.rows nodes) known none;
+    calls = (refl, λ others values its e. absurd (none values (relisted old.rows def nodes others values takes its e)));
+    gives = λ answers known. invalid_gives answer (seen_together old.rows nodes) known none;
     row = unmoved old.rows n kept is_kept;
     ran = refl;
     rest = same_rest old;
     count = no_rise before;
     shows = λ v e. cc;
-    answer = λ c e. inl e;
+    answer_typed = λ c e. inl e;
   } where
     none : (values : List Value) → seen_together old.rows nodes ≡ Values values → ⊥
     none values e = some (all_of_values old.rows nodes values (shown_from_together old.rows nodes values e))
 
   -- the children show what the function was last called on
-  pub last_computes : (before : ℕ) (call : Call) (v : Value) → LastWas call → AllZip (ShowsValue old.rows) nodes call.arguments → v ≡ call.result
-      → ComputesMap value old old n f nodes (Val v) before before
+  last_computes : (before : ℕ) (call : Call) (v : Value) → LastWas old.rows n call → AllZip (ShowsValue old.rows) nodes call.arguments → v ≡ call.result
+      → ComputesCall value answer t old old n def nodes (Val v) cost before before
   last_computes before call v was shown is = record {
     kept = kept;
     is_kept = is_kept;
     last = kept.last;
     called = false;
-    calls = (refl, λ g others values def e. (call, is_last, same values (relisted old.rows f g nodes others values def e)));
+    calls = (refl, λ others values its e. (call, is_last, same values (relisted old.rows def nodes others values takes its e)));
     gives = λ answers known. gives answers;
     row = unmoved old.rows n kept is_kept;
     ran = refl;
     rest = same_rest old;
     count = no_rise before;
     shows = λ w e. (call, is_last, cc);
-    answer = λ c e. inl e;
+    answer_typed = λ c e. inl e;
   } where
     is_last : kept.last ≡ Some call
     is_last = sym (last_of_kept (at old.rows (main n)) kept is_kept) ∙ was
@@ -235,42 +245,47 @@ module _ (value : FnRef → List Value → Value) (old : Work) (n : NodeId) (f :
     same : (values : List Value) → seen_together old.rows nodes ≡ Values values → call.arguments ≡ values
     same values e = let t = together in cc
 
-    gives : ((c : Call) → kept.last ≡ Some c → c.result ≡ value f c.arguments) → given (value f) (seen_together old.rows nodes) ≡ Some (Val v)
-    gives answers = ap (given (value f)) together ∙ (let e = answers call is_last in cc)
+    gives : ((c : Call) → kept.last ≡ Some c → c.result ≡ answer c.arguments) → given answer (seen_together old.rows nodes) ≡ Some (Val v)
+    gives answers = ap (given answer) together ∙ (let e = answers call is_last in cc)
+
+  -- the function need not be called
+  pub known_computes : (before : ℕ) (o : Outcome) → IsKnown old.rows n nodes (Some o)
+      → ComputesCall value answer t old old n def nodes o cost before before
+  known_computes before Invalid some = invalid_computes before some
+  known_computes before (Val v) h = last_computes before h.0 v h.1 h.2 h.3
 
   abbrev now_shown : List Value
   now_shown = filter_map (value_shown old.rows) nodes
 
   abbrev now_called : Call
-  now_called = record { arguments = now_shown; result = value f now_shown }
+  now_called = record { arguments = now_shown; result = answer now_shown }
 
   -- the function was called
-  pub called_computes : (new : Work) (o : Outcome) (before after : ℕ) → AllShow old.rows nodes
-      → ((call : Call) → LastWas call → AllZip (ShowsValue old.rows) nodes call.arguments → ⊥)
-      → IsCalled value old new n f now_shown o before after
-      → ComputesMap value old new n f nodes o before after
-  called_computes new o before after all other called = record {
+  pub called_computes : (new : Work) (o : Outcome) (before after : ℕ) → IsKnown old.rows n nodes None
+      → IsCalled answer t old new n now_shown o cost before after
+      → ComputesCall value answer t old new n def nodes o cost before after
+  called_computes new o before after unknown called = record {
     kept = kept;
     is_kept = is_kept;
     last = Some now_called;
     called = true;
-    calls = (f, nodes, now_shown, refl, together, others, refl);
-    gives = λ answers known. ap (given (value f)) together ∙ sym (ap Some called.outcome);
+    calls = (nodes, now_shown, answer now_shown, takes, together, others, refl, is_answer now_shown);
+    gives = λ answers known. ap (given answer) together ∙ sym (ap Some called.outcome);
     row = called.row;
     ran = called.ran;
     rest = called.rest;
     count = called.count;
     shows = λ v e. (now_called, refl, let h = called.outcome in cc);
-    answer = λ c e. inr (ap (λ (x : Call). type_of x.result) (sym (same_Some now_called c e)) ∙ called.type);
+    answer_typed = λ c e. inr (ap (λ (x : Call). type_of x.result) (sym (same_Some now_called c e)) ∙ called.type);
   } where
     shown : AllZip (ShowsValue old.rows) nodes now_shown
-    shown = filter_is_shown old.rows nodes all
+    shown = filter_is_shown old.rows nodes unknown.0
 
     together : seen_together old.rows nodes ≡ Values now_shown
     together = together_from_shown old.rows nodes now_shown shown
 
     others : (c : Call) → kept.last ≡ Some c → c.arguments ≡ now_shown → ⊥
-    others c e same = other c (last_of_kept (at old.rows (main n)) kept is_kept ∙ e)
+    others c e same = unknown.1 c (last_of_kept (at old.rows (main n)) kept is_kept ∙ e)
         (subst (λ (vs : List Value). AllZip (ShowsValue old.rows) nodes vs) (sym same) shown)
 
 -- ---- what a node gives
@@ -308,6 +323,27 @@ module _ (arena : Arena) (work : Work) (kept : IsKept arena work) where
   types_fit (n ∷ ns) (t ∷ ts) (v ∷ vs) fits shows =
       let first = shown_type n t v fits.0 shows.0 in let rest = types_fit ns ts vs fits.1 shows.1 in cc
 
+  -- and what children show that are all of one type
+  each_type : (nodes : List NodeId) (t : Ty) (values : List Value) → Every (λ (n : NodeId). Fits arena n t) nodes
+      → AllZip (ShowsValue work.rows) nodes values → Every (λ (v : Value). type_of v ≡ t) values
+  each_type [] t [] fits shows = tt
+  each_type [] t (v ∷ vs) fits shows = absurd shows
+  each_type (n ∷ ns) t [] fits shows = absurd shows
+  each_type (n ∷ ns) t (v ∷ vs) fits shows = (shown_type n t v fits.0 shows.0, each_type ns t vs fits.1 shows.1)
+
+  -- so what children show fits a fold
+  fold_shown : (f : FnRef) (from : Value) (nodes : List NodeId) (t : Ty) (tys : List Ty) (values : List Value) → f.sig.takes ≡ tys
+      → FoldTakes arena t nodes tys → f.sig.gives ≡ t → type_of from ≡ t → AllZip (ShowsValue work.rows) nodes values → FoldFits f from values
+  fold_shown f from nodes t (first ∷ element ∷ []) values is takes gives type shows = record {
+    element = element;
+    takes = is ∙ ap (λ (x : Ty). x ∷ element ∷ []) (takes.0 ∙ sym gives);
+    first = type ∙ sym gives;
+    types = each_type nodes element values takes.1 shows;
+  }
+  fold_shown f from nodes t [] values is takes gives type shows = absurd takes
+  fold_shown f from nodes t (first ∷ []) values is takes gives type shows = absurd takes
+  fold_shown f from nodes t (first ∷ element ∷ more ∷ tys) values is takes gives type shows = absurd takes
+
 -- what the code's definition holds
 pub holds_value : (d : declared.Def) (v w : Value) → w ≡ v → (d ≡ form.Const v) ⊎ (d ≡ form.Var v) → (def_of d ≡ Const w) ⊎ (def_of d ≡ Var w)
 holds_value d v w same (inl h) = inl (ap def_of h ∙ ap Const (sym same))
@@ -340,7 +376,7 @@ module _ (value : FnRef → List Value → Value) (arena : Arena) (old : Work) (
       is_row = is_row;
       kept = progress;
       is_kept = is_progress;
-      calls = (refl, λ f nodes values def e. absurd (no_map f nodes def holds));
+      calls = (refl, λ nodes values takes e. absurd (none_taken nodes takes holds));
       own = λ answers known. gives holds;
     };
     row = unmoved old.rows n progress is_progress;
@@ -350,9 +386,9 @@ module _ (value : FnRef → List Value → Value) (arena : Arena) (old : Work) (
     typed = λ r w e is. let type = typed holds in let same = same_row r e in cc;
     answer_typed = λ r c e is. kept.calls n r progress c e is_progress is;
   } where
-    no_map : (f : FnRef) (nodes : List NodeId) → row.def ≡ Map f nodes → (row.def ≡ Const v) ⊎ (row.def ≡ Var v) → ⊥
-    no_map f nodes def (inl h) = cc
-    no_map f nodes def (inr h) = cc
+    none_taken : (nodes : List NodeId) → taken_by row.def ≡ Some nodes → (row.def ≡ Const v) ⊎ (row.def ≡ Var v) → ⊥
+    none_taken nodes takes (inl h) = none-some nodes (sym (ap taken_by h) ∙ takes)
+    none_taken nodes takes (inr h) = none-some nodes (sym (ap taken_by h) ∙ takes)
 
     gives : (row.def ≡ Const v) ⊎ (row.def ≡ Var v) → gives_own row.def ≡ Some (Val v)
     gives (inl h) = ap gives_own h
@@ -363,17 +399,42 @@ module _ (value : FnRef → List Value → Value) (arena : Arena) (old : Work) (
     typed (inr h) = (subst (λ (d : Def). Makes arena d row.ty) h (sound.types n row is_row)).type
 
   module _ (f : FnRef) (nodes : List NodeId) (is_map : row.def ≡ Map f nodes) where
-    makes : MapMakes arena f nodes row.ty
-    makes = subst (λ (d : Def). Makes arena d row.ty) is_map (sound.types n row is_row)
+    map_makes : MapMakes arena f nodes row.ty
+    map_makes = subst (λ (d : Def). Makes arena d row.ty) is_map (sound.types n row is_row)
 
     -- what the children of a map show has the types that its function takes
     pub map_fits : (values : List Value) → AllZip (ShowsValue old.rows) nodes values → HaveTypes values f.sig.takes
-    map_fits values shows = types_fit arena old kept nodes f.sig.takes values makes.children shows
+    map_fits values shows = types_fit arena old kept nodes f.sig.takes values map_makes.children shows
 
-    -- a live map was computed
-    pub map_computes : (new : Work) (o : Outcome) (before after : ℕ) → ComputesMap value old new n f nodes o before after
+    pub map_gives : f.sig.gives ≡ row.ty
+    map_gives = map_makes.gives
+
+  module _ (f : FnRef) (from : Value) (nodes : List NodeId) (is_fold : row.def ≡ Fold f from nodes) where
+    fold_makes : FoldMakes arena f from nodes row.ty
+    fold_makes = subst (λ (d : Def). Makes arena d row.ty) is_fold (sound.types n row is_row)
+
+    -- what the children of a fold show fits it
+    pub fold_fits : (values : List Value) → AllZip (ShowsValue old.rows) nodes values → FoldFits f from values
+    fold_fits values shows =
+        fold_shown arena old kept f from nodes row.ty f.sig.takes values refl fold_makes.takes fold_makes.gives fold_makes.initial.type shows
+
+    pub fold_gives : f.sig.gives ≡ row.ty
+    fold_gives = fold_makes.gives
+
+  abbrev G : Graph
+  G = graph_of arena
+
+  module _ (answer : List Value → Value) (t : Ty) (def : Def) (nodes : List NodeId) (cost : ℕ) (is_def : row.def ≡ def) (takes : taken_by def ≡ Some nodes)
+      (from_answer : (values : List Value) (w : Value) → IsAnswer (functions_of value) def values w → w ≡ answer values)
+      (own_is : gives_own def ≡ given answer (seen_together old.rows nodes)) (kids_are : kids def ≡ nodes) (cost_is : or_none (cost_of G n def) ≡ cost)
+      (type : t ≡ row.ty) where
+    cost_here : cost ≡ cost_at G n
+    cost_here = sym cost_is ∙ sym (ap (λ (d : Def). or_none (cost_of G n d)) is_def) ∙ sym (ap (λ (x : Option Row). row_cost G n x) is_row)
+
+    -- a live node was computed
+    pub call_computes : (new : Work) (o : Outcome) (before after : ℕ) → ComputesCall value answer t old new n def nodes o cost before after
         → Computes value arena old new n o before after
-    map_computes new o before after m = record {
+    call_computes new o before after m = record {
       last = m.last;
       called = m.called;
       computed = record {
@@ -381,20 +442,33 @@ module _ (value : FnRef → List Value → Value) (arena : Arena) (old : Work) (
         is_row = is_row;
         kept = m.kept;
         is_kept = m.is_kept;
-        calls = subst (λ (d : Def). CallsSeen value old.rows d m.kept.last m.last m.called) (sym is_map) m.calls;
-        own = λ answers known. subst (λ (d : Def). gives_own d ≡ Some o) (sym is_map)
-            (m.gives (λ c is. answers n row f nodes m.kept c is_row is_map m.is_kept is)
-            (subst (λ (d : Def). seen_together old.rows (kids d) ≡ Unknown → ⊥) is_map known));
+        calls = subst (λ (d : Def). CallsSeen value old.rows d m.kept.last m.last m.called) (sym is_def) m.calls;
+        own = λ answers known. subst (λ (d : Def). gives_own d ≡ Some o) (sym is_def)
+            (own_is ∙ m.gives (λ c is. from_answer c.arguments c.result (subst (λ (d : Def). IsAnswer (functions_of value) d c.arguments c.result) is_def
+            (answers n row nodes m.kept c is_row (ap taken_by is_def ∙ takes) m.is_kept is)))
+            (subst (λ (ns : List NodeId). seen_together old.rows ns ≡ Unknown → ⊥) (ap kids is_def ∙ kids_are) known));
       };
       row = m.row;
       ran = m.ran;
       rest = m.rest;
-      count = m.count;
-      typed = λ r v e is. let w = m.shows v is in ap type_of (sym w.2) ∙ answer r w.0 e w.1;
-      answer_typed = answer;
+      count = subst (λ (k : ℕ). RoseBy before (calls_of m.called k) after) cost_here m.count;
+      typed = λ r v e is. let w = m.shows v is in ap type_of (sym w.2) ∙ typed r w.0 e w.1;
+      answer_typed = typed;
     } where
-      answer : (r : Row) (c : Call) → row_at arena n ≡ Some r → m.last ≡ Some c → type_of c.result ≡ r.ty
-      answer r c e is = elim (m.answer c is) [
+      typed : (r : Row) (c : Call) → row_at arena n ≡ Some r → m.last ≡ Some c → type_of c.result ≡ r.ty
+      typed r c e is = elim (m.answer_typed c is) [
         | inl was ↦ kept.calls n r m.kept c e m.is_kept was
-        | inr type ↦ type ∙ (makes.gives ∙ ap (λ (x : Row). x.ty) (same_row r e))
+        | inr its ↦ its ∙ (type ∙ ap (λ (x : Row). x.ty) (same_row r e))
       ]
+
+    -- it wasn't
+    pub call_fails : (new : Work) (before after : ℕ) → KeepsAllButCount old new cost before after → NotComputed arena old new n before after
+    call_fails new before after m = record {
+      rows = m.rows;
+      ran = m.ran;
+      rest = m.rest;
+      count = inr (record {
+        caller = record { row = row; nodes = nodes; is_row = is_row; takes = ap taken_by is_def ∙ takes };
+        count = subst (λ (k : ℕ). RoseAtMost before k after) cost_here m.count;
+      });
+    }

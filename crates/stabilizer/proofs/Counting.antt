@@ -6,7 +6,7 @@ use Rattle.inc_value.specs.declared.node.NodeId.{NodeId}
 use Rattle.inc_value.specs.declared.node.Point.{Point}
 use Rattle.inc_value.specs.Choice.{Among, NoRepeats, Every}
 use Rattle.inc_terms.specs.Depend.{main, none_died}
-use Rattle.inc_terms.specs.Evaluate.{Stands, answer}
+use Rattle.inc_terms.specs.Evaluate.{Stands, GiveAll, answer}
 use Rattle.inc_terms.specs.Graph.{Graph}
 use Rattle.inc_terms.specs.Need.{IsRoot, Beside, Observed, nodes_of, Held, Met, from_root, from_held}
 use Rattle.inc_terms.specs.Term.{Functions}
@@ -14,6 +14,8 @@ use Rattle.inc_terms.specs.Work.{Visit, other, IsDueVisit, WithinWork}
 use Rattle.necessary_graph.specs.Part.{Needed}
 use Rattle.node_arena.specs.Arena.{Arena}
 use Rattle.node_arena.specs.Graph.{graph_of, NoScopes}
+use Rattle.stabilize_round.specs.Calling.{cost_at, costs_of}
+use Rattle.stabilize_round.proofs.Calling.{kids_taken, cost_of_taken}
 use Rattle.stabilize_round.specs.Calls.{arguments_of}
 use Rattle.stabilize_round.specs.State.{Call}
 use Rattle.stabilizer.specs.Round.{last_call, WasCalled, StoodBeside}
@@ -38,7 +40,7 @@ module _ (F : Functions) (arena : Arena) (flat : NoScopes arena) (old new : Work
   is_met p (from_held {h} held row stands way) = from_held (stood.held h held) row stands way
 
   visit_of : (n : NodeId) → Called n → Visit
-  visit_of n c = record { node = n; values = c.values; cost = 1 }
+  visit_of n c = record { node = n; values = c.values; cost = cost_at G n }
 
   other_arguments : (n : NodeId) (c : Called n) (x : Option Call) → last_call old n ≡ x → before.last n ≡ Some c.values → ⊥
   other_arguments n c None e last =
@@ -55,8 +57,8 @@ module _ (F : Functions) (arena : Arena) (flat : NoScopes arena) (old new : Work
       row = c.row;
       is_row = c.is_row;
       stands = subst (Stands F G) (sym (flat n c.row c.is_row)) (top_stands F G);
-      values = rw c.is_map c.gives;
-      cost = rw c.is_map refl;
+      values = subst (λ (ks : List NodeId). GiveAll F G ks c.values) (sym (kids_taken G n c.row.def c.nodes c.takes)) c.gives;
+      cost = cost_of_taken G n c.row c.nodes c.is_row c.takes;
     };
     met = is_met (main n) c.met;
     reason = other (λ last. other_arguments n c (last_call old n) refl last);
@@ -83,18 +85,18 @@ module _ (F : Functions) (arena : Arena) (flat : NoScopes arena) (old new : Work
   all_due [] called = tt
   all_due (n ∷ ns) called = (due n (called n (inl refl)), all_due ns (λ m h. called m (inr h)))
 
-  one_on : (a b : ℕ) → a ≡ b → 1 + a ≡ suc b
-  one_on a b e = omega arith
+  with_first : (k a b c : ℕ) → c ≡ k + a → a ≡ b → c ≡ k + b
+  with_first k a b c e e' = e ∙ ap (λ (x : ℕ). k + x) e'
 
-  costs : (ns : List NodeId) (called : (n : NodeId) → Among n ns → Called n) → sum_by (λ (v : Visit). v.cost) (visits ns called) ≡ length ns
+  costs : (ns : List NodeId) (called : (n : NodeId) → Among n ns → Called n) → sum_by (λ (v : Visit). v.cost) (visits ns called) ≡ costs_of G ns
   unfolding visit_of
   costs [] called = refl
   costs (n ∷ ns) called =
       let e = costs ns (λ m h. called m (inr h)) in
       let one = sum_by-cons (λ (v : Visit). v.cost) (visit_of n (called n (inl refl))) (visits ns (λ m h. called m (inr h))) in
-      one ∙ one_on _ _ e
+      with_first (cost_at G n) _ _ _ one e ∙ sym (sum_by-cons (cost_at G) n ns)
 
-  pub within : (ran : List NodeId) → NoRepeats ran → ((n : NodeId) → Among n ran → Called n) → (calls : ℕ) → calls ≤ length ran
+  pub within : (ran : List NodeId) → NoRepeats ran → ((n : NodeId) → Among n ran → Called n) → (calls : ℕ) → calls ≤ costs_of G ran
       → WithinWork F G none_died observers before calls
   within ran once called calls few =
       let e = costs ran called in

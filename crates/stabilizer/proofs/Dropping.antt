@@ -93,7 +93,7 @@ module _ (before arena : Arena) (old work : Work) (id : NodeId) (kept : IsKept b
     heap = λ p n h. ap is_some (same_heap p) ∙ h;
     rows = λ p n. rows.others p (needed_other p (need_before p n));
     nodes = λ n r need e. inl (was_row n r e);
-    calls = λ n r f ns k c e def is last. (was_row n r e, was_kept n r k e is);
+    calls = λ n r ns k c e def is last. (was_row n r e, was_kept n r k e is);
     unsettled = λ p k e. inl (sym (rows.others p (row_left p (ap is_some e))) ∙ e);
     round = round;
     todo = todo;

@@ -49,7 +49,7 @@ module _ (arena : Arena) (work : Work) (step : IsInStep work.graph) (nodes : (n 
     full = λ p k need e. absurd (none-some k (sym (rows p) ∙ e));
     links = λ n r need e q. absurd (none-some r (sym (nodes n) ∙ e));
     fresh = λ n r need e. absurd (none-some r (sym (nodes n) ∙ e));
-    answers = λ n r f ns k c e def is last. absurd (none-some r (sym (nodes n) ∙ e));
+    answers = λ n r ns k c e def is last. absurd (none-some r (sym (nodes n) ∙ e));
     unsettled = λ p. ap (settled_in work.round) (rows p);
     numbered = omega (arith, round);
     strict = strict;

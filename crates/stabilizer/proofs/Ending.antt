@@ -4,7 +4,9 @@ use Rattle.std.proofs.Common.{List, [], ◌∷◌, length, map, Option, None, So
 use Rattle.std.specs.Prelude.{is_some, ◌↔◌, ◌==◌, reverse, slice_index_or, if◌then◌else◌}
 use Rattle.std.proofs.Math.Path.{fun_ext}
 use Rattle.std.proofs.lemmas.Grind.{common_steps}
-use Rattle.std.proofs.lemmas.List.{length-reverse, reverse-append}
+use Rattle.std.proofs.lemmas.List.{reverse-append}
+use Rattle.std.proofs.lemmas.List.Sums.{sum_by-cons, sum_by_push}
+use Rattle.std.specs.List.{sum_by}
 use Rattle.inc_value.specs.declared.function.FnRef.{FnRef}
 use Rattle.inc_value.specs.declared.node.NodeId.{NodeId}
 use Rattle.inc_value.specs.declared.node.Part.TheVariants.{Main}
@@ -36,7 +38,9 @@ use Rattle.node_arena.specs.Arena.{Arena, row_at, row_of}
 use Rattle.node_arena.specs.declared.arena.Entry as arena_entry
 use Rattle.node_arena.specs.Graph.{graph_of}
 use Rattle.stabilize_round.specs.Closing.{closed, Close, next_start}
+use Rattle.stabilize_round.specs.Calling.{taken_by, cost_at, costs_of}
 use Rattle.stabilize_round.specs.Counts.{RoseBy}
+use Rattle.stabilize_round.proofs.Planned.{reads_taken}
 use Rattle.stabilize_round.specs.Ended.{RootsAre, Ended}
 use Rattle.stabilize_round.specs.Invariant as invariant
 use Rattle.stabilize_round.specs.Invariant.{Invariant, MetNow, HasCalled}
@@ -166,6 +170,7 @@ no_freeze : (d : declared.Def) (kid : NodeId) (f : FnRef) → def_of d ≡ Freez
 no_freeze (form.Const v) kid f e = absurd (cc)
 no_freeze (form.Var v) kid f e = absurd (cc)
 no_freeze (form.Map g ks) kid f e = absurd (cc)
+no_freeze (form.Fold g v ks) kid f e = absurd (cc)
 
 -- so none of them is a freeze that keeps no value yet, and roots are what is observed
 pub root_observed : (arena : Arena) (observed : List NodeId) (n : NodeId) → IsRoot (graph_of arena) observed n → Among n observed
@@ -280,6 +285,15 @@ last_apart (m ∷ ms) n once =
     let apart : Among n (m ∷ ms) → ⊥ = λ a. elim a [ inl e ↦ once.0 (among_right m ms (n ∷ []) (inl (sym e))) | inr h ↦ rest.1 h ] in
     (((λ a. once.0 (among_left m ms (n ∷ []) a)), rest.0), apart)
 
+swapped : (a b : ℕ) → a + b ≡ b + a
+swapped a b = omega arith
+
+sum_reverse : (f : NodeId → ℕ) (ns : List NodeId) → sum_by f (reverse ns) ≡ sum_by f ns
+sum_reverse f [] = refl
+sum_reverse f (m ∷ ms) =
+    ap (sum_by f) (reverse-append (m ∷ []) ms) ∙ sum_by_push f (reverse ms) m ∙ ap (λ (k : ℕ). k + f m) (sum_reverse f ms)
+    ∙ swapped (sum_by f ms) (f m) ∙ sym (sum_by-cons f m ms)
+
 once_reverse : (ns : List NodeId) → NoRepeats (reverse ns) → NoRepeats ns
 once_reverse [] once = tt
 once_reverse (m ∷ ms) once =
@@ -349,19 +363,19 @@ module _ (F : Functions) (arena : Arena) (old mid : Work) (before after : ℕ) (
   last_is : (n : NodeId) (r : Row) → row_at arena n ≡ Some r → last_call mid n ≡ t.last n
   last_is n r row = last_case (at mid.rows (main n)) (row_at arena n) r (t.last n) (kept.rows n) row (λ k e. stands.last n k e)
 
-  kid_wanted : (n : NodeId) (r : Row) (f : FnRef) (nodes : List NodeId) (k : NodeId) → part.Needed mid.graph (main n) → row_at arena n ≡ Some r
-      → r.def ≡ Map f nodes → Among k nodes → IsWanted (main k)
-  kid_wanted n r f nodes k need row def a =
+  kid_wanted : (n : NodeId) (r : Row) (nodes : List NodeId) (k : NodeId) → part.Needed mid.graph (main n) → row_at arena n ≡ Some r
+      → taken_by r.def ≡ Some nodes → Among k nodes → IsWanted (main k)
+  kid_wanted n r nodes k need row def a =
       let among : Among (main k) (fixed_reads G n r.def Main) =
-      subst (λ (d : Def). Among (main k) (fixed_reads G n d Main)) (sym def) (among_map main k nodes a) in
+      reads_taken G n r.def nodes (main k) def (among_map main k nodes a) in
       needed_more F G none_died observed (main n) (main k) (wanted (main n) need)
       (fixed row (ended.exact (main n) ((stands.needed (main n)).1 need) r row).0 among)
 
-  recalls : (n : NodeId) (r : Row) (f : FnRef) (nodes : List NodeId) (values : List Value) → part.Needed mid.graph (main n) → row_at arena n ≡ Some r
-      → r.def ≡ Map f nodes → GiveAll F G nodes values → (c : Call) × (last_call mid n ≡ Some c) × (c.arguments ≡ values)
-  recalls n r f nodes values need row def gives =
-      let all = gathered_by F G t.out nodes values gives (λ k a. ended.sees k (kid_wanted n r f nodes k need row def a)) in
-      let c = ended.recalls (main n) ((stands.needed (main n)).1 need) r f nodes values row refl def all in
+  recalls : (n : NodeId) (r : Row) (nodes : List NodeId) (values : List Value) → part.Needed mid.graph (main n) → row_at arena n ≡ Some r
+      → taken_by r.def ≡ Some nodes → GiveAll F G nodes values → (c : Call) × (last_call mid n ≡ Some c) × (c.arguments ≡ values)
+  recalls n r nodes values need row def gives =
+      let all = gathered_by F G t.out nodes values gives (λ k a. ended.sees k (kid_wanted n r nodes k need row def a)) in
+      let c = ended.recalls (main n) ((stands.needed (main n)).1 need) r nodes values row refl def all in
       (c.0, last_is n r row ∙ c.1, c.2)
 
   uncalled : (n : NodeId) → (Among n mid.ran.items → ⊥) → last_call mid n ≡ last_call old n
@@ -385,21 +399,23 @@ module _ (F : Functions) (arena : Arena) (old mid : Work) (before after : ℕ) (
       let c = ended.ran n (subst (λ (ns : List NodeId). Among n ns) (sym stands.ran) (among_reverse n mid.ran.items a)) in
       record {
         row = c.row;
-        function = c.function;
         nodes = c.kids;
         values = c.values;
+        result = c.result;
         is_row = c.is_row;
-        is_map = c.is_map;
+        takes = c.takes;
+        answers = c.answers;
         gives = c.gives;
         reason = λ k e. c.reason k (begun.last n ∙ e);
         is_last = last_is n c.row c.is_row ∙ c.is_last;
         met = is_met (main n) c.met;
       }
 
-  -- the count of calls rose by one for each
-  pub counted : RoseBy before (length mid.ran.items) after
-  counted = subst (λ (k : ℕ). RoseBy before k after) (ap length stands.ran ∙ length-reverse mid.ran.items)
-      (subst (λ (k : ℕ). RoseBy k (length t.ran) after) begun.calls (subst (λ (k : ℕ). RoseBy begun.start.calls (length t.ran) k) stands.calls ended.calls))
+  -- the count of calls rose by what each costs
+  pub counted : RoseBy before (costs_of G mid.ran.items) after
+  counted = subst (λ (k : ℕ). RoseBy before k after) (ap (costs_of G) stands.ran ∙ sum_reverse (cost_at G) mid.ran.items)
+      (subst (λ (k : ℕ). RoseBy k (costs_of G t.ran) after) begun.calls
+      (subst (λ (k : ℕ). RoseBy begun.start.calls (costs_of G t.ran) k) stands.calls ended.calls))
 
   once : NoRepeats mid.ran.items
   once = once_reverse mid.ran.items (subst (λ (ns : List NodeId). NoRepeats ns) stands.ran ended.once)
@@ -501,11 +517,12 @@ module _ (F : Functions) (arena : Arena) (old mid : Work) (before after : ℕ) (
       once = up.once;
       called = λ n a. let c = up.called n a in record {
         row = c.row;
-        function = c.function;
         nodes = c.nodes;
         values = c.values;
+        result = c.result;
         is_row = c.is_row;
-        is_map = c.is_map;
+        takes = c.takes;
+        answers = c.answers;
         gives = c.gives;
         reason = c.reason;
         is_last = c.is_last;

@@ -24,6 +24,8 @@ no_targets G n (form.Var v) None = refl
 no_targets G n (form.Var v) (Some o) = refl
 no_targets G n (form.Map f ks) None = refl
 no_targets G n (form.Map f ks) (Some o) = refl
+no_targets G n (form.Fold f v ks) None = refl
+no_targets G n (form.Fold f v ks) (Some o) = refl
 
 nothing_more : (xs ys : List Point) → ys ≡ [] → xs ++ ys ≡ xs
 nothing_more [] ys e = e
@@ -33,6 +35,7 @@ fixed_are_kids : (G : Graph) (n : NodeId) (d : declared.Def) → fixed_reads G n
 fixed_are_kids G n (form.Const v) = refl
 fixed_are_kids G n (form.Var v) = refl
 fixed_are_kids G n (form.Map f ks) = refl
+fixed_are_kids G n (form.Fold f v ks) = refl
 
 -- a main's links are to its children's mains
 pub plan_is_kids : (G : Graph) (out : Point → Option Outcome) (n : NodeId) (r : Row) (d : declared.Def) → r.def ≡ def_of d → r.scope ≡ None

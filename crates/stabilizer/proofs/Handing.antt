@@ -195,6 +195,7 @@ pub kid_is_given : (count : ℕ) (d : declared.Def) (q : Point) → NamesGiven c
 kid_is_given count (form.Const v) q names among = absurd among
 kid_is_given count (form.Var v) q names among = absurd among
 kid_is_given count (form.Map f ks) q names among = every_kid (Given count) ks q names.1 among
+kid_is_given count (form.Fold f v ks) q names among = every_kid (Given count) ks q names.2 among
 
 pub kid_among : (ns : List NodeId) (i : ℕ) (d : NodeId) → i < length ns → Among (main (get_or ns i d)) (map main ns)
 kid_among [] i d below = absurd (omega (arith, below))

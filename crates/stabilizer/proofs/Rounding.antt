@@ -20,7 +20,9 @@ use Rattle.necessity.specs.Need.{Roots, root_times, OneRootMore}
 use Rattle.node_arena.specs.Arena.{Arena}
 use Rattle.node_arena.specs.Graph.{graph_of}
 use Rattle.node_arena.specs.Meanings.{SameValues}
-use Rattle.stabilize_round.specs.Counts.{RoseBy, number_of}
+use Rattle.stabilize_round.specs.Calling.{cost_at, costs_of}
+use Rattle.stabilize_round.specs.Counts.{RoseBy, RoseAtMost, number_of}
+use Rattle.stabilizer.specs.Computing.{HasCalledSome}
 use Rattle.stabilize_round.specs.Invariant.{Invariant}
 use Rattle.stabilize_round.specs.Machine.{Move, Moves, Stops, as_it_is, unkept, called_more}
 use Rattle.stabilize_round.specs.State.{State, count}
@@ -165,7 +167,7 @@ settle_stops F arena old mid new before between after first idle next z s inv st
       quiet = quiet;
       calls = elim k.1 [
         | inl e ↦ inl (e ∙ sym m.2.calls)
-        | inr c ↦ inr (c.0, c.1, c.2, subst (λ (x : ℕ). RoseBy x 1 after) (sym m.2.calls) c.3)
+        | inr c ↦ inr (c.0, c.1, subst (λ (x : ℕ). HasCalledSome arena c.0 x after) (sym m.2.calls) c.2)
       ];
     }
 
@@ -304,7 +306,7 @@ module _ (F : Functions) (arena : Arena) (old rooted : Work) (before : ℕ) (rea
       let w = wired F first.start first.state before inv first.stands in
       record { start = first.start; state = w.0; holds = moves_keep F first.start first.state w.0 w.1 inv; stands = w.2 }
 
-  -- a refused round called each of some maps once at most
+  -- a refused round made at most the calls that some nodes take
   module _ (after : ℕ) (stopped : SettleRefused F arena rooted before after) where
     few_of : (t u : State) → Moves F first.start first.state t → Stops F first.start t u → u.graph ≡ graph_of arena → u.calls ≡ after
         → HasCalledFew arena before after
@@ -313,14 +315,15 @@ module _ (F : Functions) (arena : Arena) (old rooted : Work) (before : ℕ) (rea
         record {
           nodes = k.0;
           once = k.1;
-          maps = λ n a. let m = k.3 n a in record {
+          callers = λ n a. let m = k.3 n a in record {
             row = m.0;
-            function = m.1;
-            nodes = m.2;
-            is_row = subst (λ (G : Graph). G.row n ≡ Some m.0) graph m.3;
-            is_map = m.4;
+            nodes = m.1;
+            is_row = subst (λ (G : Graph). G.row n ≡ Some m.0) graph m.2;
+            takes = m.3;
           };
-          count = subst (λ (x : ℕ). RoseBy before (length k.0) x) calls (subst (λ (x : ℕ). RoseBy x (length k.0) u.calls) first.calls k.2);
+          count = subst (λ (x : ℕ). RoseAtMost before (costs_of (graph_of arena) k.0) x) calls
+              (subst (λ (x : ℕ). RoseAtMost x (costs_of (graph_of arena) k.0) u.calls) first.calls
+              (subst (λ (G : Graph). RoseAtMost first.start.calls (costs_of G k.0) u.calls) graph k.2));
         }
 
     pub few_called : HasCalledFew arena before after
@@ -331,7 +334,8 @@ module _ (F : Functions) (arena : Arena) (old rooted : Work) (before : ℕ) (rea
         elim k.calls [
           | inl e ↦ few_of k.state k.state run (as_it_is refl) k.graph (sym e)
           | inr c ↦ few_of k.state (called_more k.state after) run
-              (unkept k.quiet c.1 (subst (λ (G : Graph). G.row c.0 ≡ Some c.2.row) (sym k.graph) c.2.is_row) c.2.is_map c.3 refl) k.graph refl
+              (unkept k.quiet c.1 (subst (λ (G : Graph). G.row c.0 ≡ Some c.2.caller.row) (sym k.graph) c.2.caller.is_row) c.2.caller.takes
+              (subst (λ (G : Graph). RoseAtMost k.state.calls (cost_at G c.0) after) (sym k.graph) c.2.count) refl) k.graph refl
         ]
 
   -- a round that ended
@@ -343,7 +347,7 @@ module _ (F : Functions) (arena : Arena) (old rooted : Work) (before : ℕ) (rea
         let k = steps first.start w.0 (moves_keep F first.start first.state w.0 w.1 inv) w.2 in
         (k.0, joined (Move F first.start) first.state w.0 k.0 w.1 k.1, k.2)
 
-    pub round_counts : RoseBy before (length settled.ran.items) after
+    pub round_counts : RoseBy before (costs_of (graph_of arena) settled.ran.items) after
     round_counts = counted F arena old settled before after ready.kept first kept last.0 last.1 last.2 idle empty
         (root_nodes settled.graph.roots settled.graph.roots.counts) (all_observed arena settled kept)
 

@@ -1,6 +1,7 @@
 -- A variable is set to another value.
 use Rattle.std.proofs.Common.{◌≡◌, ◌⊎◌, inl, inr, Some, refl, sym, ap, subst, ◌∙◌}
 use Rattle.std.specs.Prelude.{is_some}
+use Rattle.std.proofs.lemmas.Option.{none-some}
 use Rattle.inc_value.specs.declared.node.NodeId.{NodeId}
 use Rattle.inc_value.specs.declared.node.Point.{Point}
 use Rattle.inc_value.specs.declared.value.Value.{Value}
@@ -17,6 +18,7 @@ use Rattle.node_arena.specs.Arena.{Arena, row_at, IsSet, IsVariable, with_value}
 use Rattle.stabilize_round.proofs.Points.{node_or_other}
 use Rattle.stabilizer.specs.Between.{IsMarked, Stays}
 use Rattle.stabilizer.specs.Kept.{IsKept}
+use Rattle.stabilize_round.specs.Calling.{taken_by}
 use Rattle.stabilizer.specs.Wiring.{KeepsRound}
 use Rattle.stabilizer.specs.declared.row.Progress.{Progress}
 use Rattle.stabilizer.specs.declared.work.Work.{Work}
@@ -27,6 +29,8 @@ by_form : (a : Arena) (id : NodeId) (row : Row) → row_at a id ≡ Some row →
     → (w : Value) × (row.def ≡ Var w)
 by_form a id row there not (form.Var w) e = (w, e)
 by_form a id row there not (form.Const w) e = absurd (not (λ x. let same : x.row ≡ row = same_some (sym x.there ∙ there) in
+    let h = sym x.variable ∙ (ap (λ (y : Row). y.def) same ∙ e) in cc))
+by_form a id row there not (form.Fold f v ks) e = absurd (not (λ x. let same : x.row ≡ row = same_some (sym x.there ∙ there) in
     let h = sym x.variable ∙ (ap (λ (y : Row). y.def) same ∙ e) in cc))
 by_form a id row there not (form.Map f ks) e = absurd (not (λ x. let same : x.row ≡ row = same_some (sym x.there ∙ there) in
     let h = sym x.variable ∙ (ap (λ (y : Row). y.def) same ∙ e) in cc))
@@ -113,9 +117,9 @@ module _ (before arena : Arena) (old work : Work) (id : NodeId) (v : Value) (kep
         ap kids h.1 ∙ sym (ap kids h.2.1),
       )
     ];
-    calls = λ n r f nodes k l e def is last. let w = row_was n r e in elim w.same [
+    calls = λ n r nodes k l e def is last. let w = row_was n r e in elim w.same [
       | inl same ↦ (w.is_was ∙ ap Some same, sym (same_rows (main n)) ∙ is)
-      | inr h ↦ absurd (let x = sym def ∙ h.1 in cc)
+      | inr h ↦ absurd (none-some nodes (sym (ap taken_by h.1) ∙ def))
     ];
     unsettled = λ p k e. inl (sym (same_rows p) ∙ e);
     round = round;

@@ -86,6 +86,7 @@ module _ (s : State) (arena : Arena) (work : Work) (calls : ℕ) (kept : IsKept 
   by_form F n (form.Const v) = refl
   by_form F n (form.Var v) = refl
   by_form F n (form.Map f ns) = let e = sees_together ns in rw e refl
+  by_form F n (form.Fold f v ns) = let e = sees_together ns in rw e refl
 
   -- a live node's own function sees the same in the state
   pub own_sees : (F : Functions) (n : NodeId) (r : Row) → row_at arena n ≡ Some r
@@ -97,7 +98,7 @@ module _ (s : State) (arena : Arena) (work : Work) (calls : ℕ) (kept : IsKept 
 
   -- what a call gave is kept
   pub keeps_answers : (value : FnRef → List Value → Value) (z : Start) → Invariant (functions_of value) z s → KeepsAnswers value arena work.rows
-  keeps_answers value z inv n r f ns k c live def row last = inv.accounts.answers n r f ns c (row_is n ∙ live) def (st.last n k row ∙ last)
+  keeps_answers value z inv n r ns k c live def row last = inv.accounts.answers n r ns c (row_is n ∙ live) def (st.last n k row ∙ last)
 
   module _ (F : Functions) (z : Start) (inv : Invariant F z s) (quiet : Quiet s) (n : NodeId) (taken : IsLeast s (main n)) where
     abbrev made : law.IsReady F s (main n)
@@ -122,8 +123,8 @@ module _ (s : State) (arena : Arena) (work : Work) (calls : ℕ) (kept : IsKept 
       → at work.rows (main n) ≡ Some k → CallsSeen value work.rows def k.last last' called → Calls (functions_of value) s n def last' called
   calls_are value n def k last' false row c = (
     c.0 ∙ sym (st.last n k row),
-    λ f ns values e g.
-        let x = c.1 f ns values e (sym (sees_together ns) ∙ g) in (x.0, st.last n k row ∙ x.1, x.2),
+    λ ns values e g.
+        let x = c.1 ns values e (sym (sees_together ns) ∙ g) in (x.0, st.last n k row ∙ x.1, x.2),
   )
-  calls_are value n def k last' true row (f, ns, values, is_map, show, reason, is_last) =
-      (f, ns, values, is_map, sees_together ns ∙ show, λ c l a. reason c (sym (st.last n k row) ∙ l) a, is_last)
+  calls_are value n def k last' true row (ns, values, result, takes, show, reason, is_last, answers) =
+      (ns, values, result, takes, sees_together ns ∙ show, λ c l a. reason c (sym (st.last n k row) ∙ l) a, is_last, answers)

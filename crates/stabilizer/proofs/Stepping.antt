@@ -17,6 +17,9 @@ use Rattle.height_order.specs.Levels.{level, or_zero, KeepsPoints}
 use Rattle.necessity.specs.Need.{Roots, root_times}
 use Rattle.necessary_graph.specs.Part.{NecessaryPart, Needed}
 use Rattle.node_arena.specs.Arena.{Arena}
+use Rattle.inc_terms.specs.Graph.{Graph}
+use Rattle.node_arena.specs.Graph.{graph_of}
+use Rattle.stabilize_round.specs.Calling.{cost_at}
 use Rattle.stabilize_round.specs.Counts.{RoseBy}
 use Rattle.stabilize_round.specs.Moves.{IsLeast, StepMain, computed, calls_of}
 use Rattle.stabilize_round.specs.Machine.{step_main}
@@ -122,7 +125,8 @@ module _ (value : FnRef → List Value → Value) (arena : Arena) (old new : Wor
             ∙ m.computed.own (keeps_answers s arena old before kept st value z inv)
             (kids_known s arena old before kept st F z inv quiet n least m.computed.row m.computed.is_row);
         calls = calls_are s arena old before kept st value n m.computed.row.def m.computed.kept m.last m.called m.computed.is_kept m.computed.calls;
-        count = subst (λ (k : ℕ). RoseBy k (calls_of m.called) after) (sym st.calls) m.count;
+        count = subst (λ (H : Graph). RoseBy s.calls (calls_of m.called (cost_at H n)) after) (sym st.graph)
+            (subst (λ (k : ℕ). RoseBy k (calls_of m.called (cost_at (graph_of arena) n)) after) (sym st.calls) m.count);
         heap = settled_enqueues s arena old new before after n m.outcome m.last m.called st w
             (λ a. (needed_before old.graph new.graph w.graph a, needed_now old.graph new.graph w.graph a)) no_loop;
       }
@@ -219,7 +223,7 @@ module _ (arena : Arena) (old mid : Work) (g g' : NecessaryPart) (p : Point) (be
     refused_stands s st,
     elim left.count [
       | inl e ↦ inl e
-      | inr k ↦ inr (p.node, subst (IsLeast s) (is_main arena old kept p (kept.heap p was)) (is_least s arena old before kept st p was low), k.1, k.0)
+      | inr k ↦ inr (p.node, subst (IsLeast s) (is_main arena old kept p (kept.heap p was)) (is_least s arena old before kept st p was low), k)
     ],
   )
 

@@ -86,7 +86,7 @@ module _ (arena : Arena) (old : Work) (g : NecessaryPart) (id : NodeId) (kept : 
     heap = λ p n h. ap is_some (off.sweep.heap_kept p ((off.sweep.reached p).0 n)) ∙ h;
     rows = λ p n. refl;
     nodes = λ n r need e. inl e;
-    calls = λ n r f nodes k c row def e last. (row, e);
+    calls = λ n r nodes k c row def e last. (row, e);
     unsettled = λ p k e. inl e;
     round = record { ran = refl; strict = refl; round = refl };
     todo = refl;

@@ -1,13 +1,12 @@
 -- What stands between rounds, of the parts alone, and what calls made there leave.
 use Rattle.std.specs.Prelude.{◌≡◌, ◌≢◌, ◌⊎◌, ◌<◌, ◌+◌, ℕ, false, List, [], map, Option, None, Some}
-use Rattle.inc_value.specs.declared.function.FnRef.{FnRef}
 use Rattle.inc_value.specs.declared.node.NodeId.{NodeId}
 use Rattle.inc_value.specs.declared.node.Point.{Point}
 use Rattle.inc_value.specs.declared.outcome.Outcome.{Outcome}
 use Rattle.inc_value.specs.declared.value.Value.{Value}
 use Rattle.inc_terms.specs.Depend.{main}
 use Rattle.inc_terms.specs.Evaluate.{Values}
-use Rattle.inc_terms.specs.Graph.{Row, Def, Map, kids}
+use Rattle.inc_terms.specs.Graph.{Row, Def, kids}
 use Rattle.inc_terms.specs.Local.{own}
 use Rattle.inc_terms.specs.Term.{Functions}
 use Rattle.point_map.specs.Rows.{Rows, at, Holds, KeepsRows}
@@ -15,6 +14,7 @@ use Rattle.link_table.specs.Links.{times}
 use Rattle.necessary_graph.specs.Part.{NecessaryPart, Needed}
 use Rattle.node_arena.specs.Arena.{Arena, row_at, live}
 use Rattle.node_arena.specs.Graph.{graph_of}
+use Rattle.stabilize_round.specs.Calling.{taken_by}
 use Rattle.stabilize_round.specs.State.{Call, count}
 use Rattle.stabilizer.specs.Computing.{seen, seen_together, KeepsAnswers}
 use Rattle.stabilizer.specs.Kept.{IsKept}
@@ -30,12 +30,12 @@ abbrev pub outcome_in : Option Progress → Option Outcome
 outcome_in None = None
 outcome_in (Some k) = k.outcome
 
--- a live node shows what its own function gives of what is seen, and a map whose children show values was last called on these
+-- a live node shows what its own function gives of what is seen, and where its children show values its function was last called on these
 pub record IsFresh (F : Functions) (arena : Arena) (rows : Rows Progress) (n : NodeId) (def : Def) : Type 0 where
   pub outcome : Outcome
   pub shows : outcome_in (at rows (main n)) ≡ Some outcome
   pub gives : own F (graph_of arena) (seen rows) n def ≡ Some outcome
-  pub recalls : (f : FnRef) (nodes : List NodeId) (values : List Value) → def ≡ Map f nodes → seen_together rows nodes ≡ Values values
+  pub recalls : (nodes : List NodeId) (values : List Value) → taken_by def ≡ Some nodes → seen_together rows nodes ≡ Values values
       → (c : Call) × (last_of (at rows (main n)) ≡ Some c) × (c.arguments ≡ values)
 
 -- a needed live point has all its links, and is in the heap or fresh; nothing was settled, called or found final since the last round
@@ -79,7 +79,7 @@ pub record Stays (before arena : Arena) (old work : Work) : Type 0 where
   pub rows : (p : Point) → Needed work.graph p → at work.rows p ≡ at old.rows p
   pub nodes : (n : NodeId) (r : Row) → Needed work.graph (main n) → row_at arena n ≡ Some r → (row_at before n ≡ Some r)
       ⊎ (Holds work.graph.heap (main n) × (was : Row) × (row_at before n ≡ Some was) × (kids r.def ≡ kids was.def))
-  pub calls : (n : NodeId) (r : Row) (f : FnRef) (nodes : List NodeId) (k : Progress) (c : Call) → row_at arena n ≡ Some r → r.def ≡ Map f nodes
+  pub calls : (n : NodeId) (r : Row) (nodes : List NodeId) (k : Progress) (c : Call) → row_at arena n ≡ Some r → taken_by r.def ≡ Some nodes
       → at work.rows (main n) ≡ Some k → k.last ≡ Some c → (row_at before n ≡ Some r) × (at old.rows (main n) ≡ Some k)
   pub unsettled : (p : Point) (k : Progress) → at work.rows p ≡ Some k → (at old.rows p ≡ Some k) ⊎ (k.settled ≡ 0)
   pub round : KeepsRound old work

@@ -1,5 +1,8 @@
 -- What a node gives by what its children show, and what its function was called on.
-use Rattle.std.specs.Prelude.{◌≡◌, ◌⊎◌, ◌++◌, ℕ, Bool, true, false, List, [], ◌∷◌, Option, None, Some}
+use Rattle.std.specs.Prelude.{◌≡◌, ◌⊎◌, ◌++◌, ℕ, Bool, true, false, List, [], ◌∷◌, Option, None, Some, IsSome, option_and_then}
+use Rattle.std.specs.List.{AllZip}
+use Rattle.inc_value.specs.Choice.{Every}
+use Rattle.inc_value.specs.declared.ty.Ty.{Ty}
 use Rattle.inc_value.specs.declared.function.FnRef.{FnRef}
 use Rattle.inc_value.specs.declared.node.NodeId.{NodeId}
 use Rattle.inc_value.specs.declared.node.Point.{Point}
@@ -8,13 +11,14 @@ use Rattle.inc_value.specs.declared.outcome.Outcome.TheVariants.{Invalid}
 use Rattle.inc_value.specs.declared.value.Value.{Value}
 use Rattle.inc_terms.specs.Depend.{main}
 use Rattle.inc_terms.specs.Evaluate.{Gathered, Unknown, Values, gathered, given}
-use Rattle.inc_terms.specs.Graph.{Row, Def, Map, kids}
+use Rattle.inc_terms.specs.Graph.{Row, Def, kids}
 use Rattle.inc_terms.specs.Local.{by_sight, own}
 use Rattle.inc_terms.specs.Term.{refs}
 use Rattle.point_map.specs.Rows.{Rows, at}
 use Rattle.node_arena.specs.Arena.{Arena, row_at}
 use Rattle.node_arena.specs.Graph.{graph_of}
-use Rattle.stabilize_round.specs.Counts.{RoseBy}
+use Rattle.stabilize_round.specs.Calling.{taken_by, IsAnswer, cost_at}
+use Rattle.stabilize_round.specs.Counts.{RoseBy, RoseAtMost}
 use Rattle.stabilize_round.specs.Moves.{calls_of}
 use Rattle.stabilize_round.specs.State.{Call}
 use Rattle.inc_value.specs.Value.{type_of}
@@ -50,17 +54,18 @@ seen_together rows nodes = gathered (by_sight (seen rows)) (refs nodes)
 -- what is kept of calls is what the functions give
 abbrev pub KeepsAnswers : (FnRef → List Value → Value) → Arena → Rows Progress → Type 0
 KeepsAnswers value arena rows =
-    (n : NodeId) (r : Row) (f : FnRef) (nodes : List NodeId) (k : Progress) (c : Call) → row_at arena n ≡ Some r → r.def ≡ Map f nodes
-    → at rows (main n) ≡ Some k → k.last ≡ Some c → c.result ≡ value f c.arguments
+    (n : NodeId) (r : Row) (nodes : List NodeId) (k : Progress) (c : Call) → row_at arena n ≡ Some r → taken_by r.def ≡ Some nodes
+    → at rows (main n) ≡ Some k → k.last ≡ Some c → IsAnswer (functions_of value) r.def c.arguments c.result
 
 -- what a node's function was last called on after the node was computed: it was called on other values than before, or that stays
 abbrev pub CallsSeen : (FnRef → List Value → Value) → Rows Progress → Def → Option Call → Option Call → Bool → Type 0
 CallsSeen value rows def last last' false = (last' ≡ last)
-    × ((f : FnRef) (nodes : List NodeId) (values : List Value) → def ≡ Map f nodes → seen_together rows nodes ≡ Values values
+    × ((nodes : List NodeId) (values : List Value) → taken_by def ≡ Some nodes → seen_together rows nodes ≡ Values values
     → (c : Call) × (last ≡ Some c) × (c.arguments ≡ values))
 CallsSeen value rows def last last' true =
-    (f : FnRef) × (nodes : List NodeId) × (values : List Value) × (def ≡ Map f nodes) × (seen_together rows nodes ≡ Values values)
-    × ((c : Call) → last ≡ Some c → c.arguments ≡ values → ⊥) × (last' ≡ Some (record { arguments = values; result = value f values }))
+    (nodes : List NodeId) × (values : List Value) × (result : Value) × (taken_by def ≡ Some nodes) × (seen_together rows nodes ≡ Values values)
+    × ((c : Call) → last ≡ Some c → c.arguments ≡ values → ⊥) × (last' ≡ Some (record { arguments = values; result = result }))
+    × IsAnswer (functions_of value) def values result
 
 -- a live node was computed: its outcome is its own function of what is seen, where something is seen of each child
 pub record IsComputed (value : FnRef → List Value → Value) (arena : Arena) (rows : Rows Progress) (n : NodeId) (o : Outcome) (last' : Option Call)
@@ -80,13 +85,12 @@ pub record KeepsRest (old new : Work) : Type 0 where
   pub strict : new.strict ≡ old.strict
   pub round : new.round ≡ old.round
 
--- a live map
-pub record IsMapAt (arena : Arena) (n : NodeId) : Type 0 where
+-- a live node whose function is called on its children's values
+pub record IsCallerAt (arena : Arena) (n : NodeId) : Type 0 where
   pub row : Row
-  pub function : FnRef
   pub nodes : List NodeId
   pub is_row : row_at arena n ≡ Some row
-  pub is_map : row.def ≡ Map function nodes
+  pub takes : taken_by row.def ≡ Some nodes
 
 -- a live node was computed: what its function was last called on is kept, the node is listed where it was called, and the count of calls rose so
 pub record Computes (value : FnRef → List Value → Value) (arena : Arena) (old new : Work) (n : NodeId) (o : Outcome) (before after : ℕ) : Type 0 where
@@ -96,47 +100,74 @@ pub record Computes (value : FnRef → List Value → Value) (arena : Arena) (ol
   pub row : IsRewritten old.rows new.rows (main n) (with_last last)
   pub ran : new.ran.items ≡ ran_then called old.ran.items n
   pub rest : KeepsRest old new
-  pub count : RoseBy before (calls_of called) after
+  pub count : RoseBy before (calls_of called (cost_at (graph_of arena) n)) after
   pub typed : (r : Row) (v : Value) → row_at arena n ≡ Some r → o ≡ Val v → type_of v ≡ r.ty
   pub answer_typed : (r : Row) (c : Call) → row_at arena n ≡ Some r → last ≡ Some c → type_of c.result ≡ r.ty
 
--- without memory nothing is kept of it; a map's function may have been called once
+-- calls of a node's function, some of those that it takes
+pub record HasCalledSome (arena : Arena) (n : NodeId) (before after : ℕ) : Type 0 where
+  pub caller : IsCallerAt arena n
+  pub count : RoseAtMost before (cost_at (graph_of arena) n) after
+
+-- without memory nothing is kept of it; some of the calls that it takes may have been made
 pub record NotComputed (arena : Arena) (old new : Work) (n : NodeId) (before after : ℕ) : Type 0 where
   pub rows : KeepsRows old.rows new.rows
   pub ran : new.ran.items ≡ old.ran.items
   pub rest : KeepsRest old new
-  pub count : (after ≡ before) ⊎ (RoseBy before 1 after × IsMapAt arena n)
+  pub count : (after ≡ before) ⊎ HasCalledSome arena n before after
 
--- without memory nothing is kept of a call; the function may have been called once
-pub record KeepsAllButCount (old new : Work) (before after : ℕ) : Type 0 where
+-- without memory nothing is kept of calls, of which so many at most were made
+pub record KeepsAllButCount (old new : Work) (most before after : ℕ) : Type 0 where
   pub rows : KeepsRows old.rows new.rows
   pub ran : new.ran.items ≡ old.ran.items
   pub rest : KeepsRest old new
-  pub count : (after ≡ before) ⊎ RoseBy before 1 after
+  pub count : RoseAtMost before most after
 
--- a map's function was called on these values: the call is kept, and the node listed
-pub record IsCalled (value : FnRef → List Value → Value) (old new : Work) (n : NodeId) (f : FnRef) (values : List Value) (o : Outcome)
-    (before after : ℕ) : Type 0 where
-  pub outcome : o ≡ Val (value f values)
-  pub type : type_of (value f values) ≡ f.sig.gives
-  pub row : IsRewritten old.rows new.rows (main n) (with_call (record { arguments = values; result = value f values }))
+-- a node's function was last called so
+abbrev pub LastWas : Rows Progress → NodeId → Call → Type 0
+LastWas rows n c = option_and_then (λ (k : Progress). k.last) (at rows (main n)) ≡ Some c
+
+-- the nodes all show a value
+abbrev pub AllShow : Rows Progress → List NodeId → Type 0
+AllShow rows nodes = Every (λ (m : NodeId). IsSome (value_shown rows m)) nodes
+
+-- a node's function was called on these values, so often: what the calls gave is kept, and the node listed
+pub record IsCalled (answer : List Value → Value) (t : Ty) (old new : Work) (n : NodeId) (values : List Value) (o : Outcome)
+    (cost before after : ℕ) : Type 0 where
+  pub outcome : o ≡ Val (answer values)
+  pub type : type_of (answer values) ≡ t
+  pub row : IsRewritten old.rows new.rows (main n) (with_call (record { arguments = values; result = answer values }))
   pub ran : new.ran.items ≡ old.ran.items ++ n ∷ []
   pub rest : KeepsRest old new
-  pub count : RoseBy before 1 after
+  pub count : RoseBy before cost after
 
--- a map was computed of what is seen of its children: a value that it gives is what its function gave when it was last called, then or now
-pub record ComputesMap (value : FnRef → List Value → Value) (old new : Work) (n : NodeId) (f : FnRef) (nodes : List NodeId) (o : Outcome)
-    (before after : ℕ) : Type 0 where
+-- the types of values that a function folds from a value on: it takes the type that it gives and the type of each of them
+pub record FoldFits (f : FnRef) (from : Value) (values : List Value) : Type 0 where
+  pub element : Ty
+  pub takes : f.sig.takes ≡ f.sig.gives ∷ element ∷ []
+  pub first : type_of from ≡ f.sig.gives
+  pub types : Every (λ v. type_of v ≡ element) values
+
+-- what is known of a node's outcome before its function is called: it is Invalid where a child shows no value, and what the last calls gave where the
+-- children show what these were made on; else the function is to be called
+abbrev pub IsKnown : Rows Progress → NodeId → List NodeId → Option Outcome → Type 0
+IsKnown rows n nodes (Some Invalid) = AllShow rows nodes → ⊥
+IsKnown rows n nodes (Some (Val v)) = (c : Call) × LastWas rows n c × AllZip (ShowsValue rows) nodes c.arguments × (v ≡ c.result)
+IsKnown rows n nodes None = AllShow rows nodes × ((c : Call) → LastWas rows n c → AllZip (ShowsValue rows) nodes c.arguments → ⊥)
+
+-- a node was computed of what is seen of its children: a value that it gives is what its function gave when it was last called, then or now
+pub record ComputesCall (value : FnRef → List Value → Value) (answer : List Value → Value) (t : Ty) (old new : Work) (n : NodeId) (def : Def)
+    (nodes : List NodeId) (o : Outcome) (cost before after : ℕ) : Type 0 where
   pub kept : Progress
   pub is_kept : at old.rows (main n) ≡ Some kept
   pub last : Option Call
   pub called : Bool
-  pub calls : CallsSeen value old.rows (Map f nodes) kept.last last called
-  pub gives : ((c : Call) → kept.last ≡ Some c → c.result ≡ value f c.arguments) → (seen_together old.rows nodes ≡ Unknown → ⊥)
-      → given (value f) (seen_together old.rows nodes) ≡ Some o
+  pub calls : CallsSeen value old.rows def kept.last last called
+  pub gives : ((c : Call) → kept.last ≡ Some c → c.result ≡ answer c.arguments) → (seen_together old.rows nodes ≡ Unknown → ⊥)
+      → given answer (seen_together old.rows nodes) ≡ Some o
   pub row : IsRewritten old.rows new.rows (main n) (with_last last)
   pub ran : new.ran.items ≡ ran_then called old.ran.items n
   pub rest : KeepsRest old new
-  pub count : RoseBy before (calls_of called) after
+  pub count : RoseBy before (calls_of called cost) after
   pub shows : (v : Value) → o ≡ Val v → (c : Call) × (last ≡ Some c) × (c.result ≡ v)
-  pub answer : (c : Call) → last ≡ Some c → (kept.last ≡ Some c) ⊎ (type_of c.result ≡ f.sig.gives)
+  pub answer_typed : (c : Call) → last ≡ Some c → (kept.last ≡ Some c) ⊎ (type_of c.result ≡ t)

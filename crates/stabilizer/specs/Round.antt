@@ -1,6 +1,5 @@
 -- What stands between rounds, and what a round leaves.
 use Rattle.std.specs.Prelude.{◌≡◌, ◌⊎◌, ◌↔◌, ◌+◌, ◌<◌, ◌≤◌, ℕ, List, [], map, length, Option, None, Some}
-use Rattle.inc_value.specs.declared.function.FnRef.{FnRef}
 use Rattle.inc_value.specs.declared.node.NodeId.{NodeId}
 use Rattle.inc_value.specs.declared.node.Point.{Point}
 use Rattle.inc_value.specs.declared.outcome.Outcome.{Outcome}
@@ -9,7 +8,7 @@ use Rattle.inc_value.specs.Choice.{Among, NoRepeats}
 use Rattle.inc_value.specs.Walk.{IsWalk, IsDeep, IsOnCycle}
 use Rattle.inc_terms.specs.Depend.{Depends, main, none_died}
 use Rattle.inc_terms.specs.Evaluate.{NodeGives, GiveAll}
-use Rattle.inc_terms.specs.Graph.{Row, Map}
+use Rattle.inc_terms.specs.Graph.{Row}
 use Rattle.inc_terms.specs.Need.{Beside, Observed, nodes_of, Held, Needed, Met}
 use Rattle.inc_terms.specs.Term.{Functions}
 use Rattle.inc_terms.specs.Work.{WithinWork}
@@ -20,12 +19,13 @@ use Rattle.node_arena.specs.Arena.{Arena, row_at}
 use Rattle.node_arena.specs.Graph.{graph_of}
 use Rattle.point_map.specs.Rows.{at}
 use Rattle.stabilize_round.specs.Calls.{arguments_of}
-use Rattle.stabilize_round.specs.Counts.{RoseBy}
+use Rattle.stabilize_round.specs.Calling.{taken_by, IsAnswer, costs_of}
+use Rattle.stabilize_round.specs.Counts.{RoseAtMost}
 use Rattle.stabilize_round.specs.Invariant.{Invariant}
 use Rattle.stabilize_round.specs.Machine.{Entry, Moves}
 use Rattle.stabilize_round.specs.Moves.{Quiet, IsLeast}
 use Rattle.stabilize_round.specs.State.{State, Start, Call, count}
-use Rattle.stabilizer.specs.Computing.{seen, IsMapAt}
+use Rattle.stabilizer.specs.Computing.{seen, IsCallerAt, HasCalledSome}
 use Rattle.height_order.specs.Chains.{StartsAt, EndsAt}
 use Rattle.stabilizer.specs.declared.refused.Refused.{Refused}
 use Rattle.stabilizer.specs.declared.refused.Refused.TheVariants.{Height, Cycle, Full, Memory}
@@ -58,17 +58,18 @@ last_of (Some k) = k.last
 abbrev pub last_call : Work → NodeId → Option Call
 last_call work n = last_of (at work.rows (main n))
 
--- a map was called: it is met, its children give these values, of which it wasn't the last call before, and it is now
+-- a node's function was called: it is met, its children give these values, of which it wasn't the last call before, and it is now
 pub record WasCalled (F : Functions) (arena : Arena) (old new : Work) (observed : List NodeId) (n : NodeId) : Type 0 where
   pub row : Row
-  pub function : FnRef
   pub nodes : List NodeId
   pub values : List Value
+  pub result : Value
   pub is_row : row_at arena n ≡ Some row
-  pub is_map : row.def ≡ Map function nodes
+  pub takes : taken_by row.def ≡ Some nodes
   pub gives : GiveAll F (graph_of arena) nodes values
   pub reason : (c : Call) → last_call old n ≡ Some c → c.arguments ≡ values → ⊥
-  pub is_last : last_call new n ≡ Some (record { arguments = values; result = F.value function values })
+  pub is_last : last_call new n ≡ Some (record { arguments = values; result = result })
+  pub answers : IsAnswer F row.def values result
   pub met : Met F (graph_of arena) none_died observed (λ (p : Point). part.Needed old.graph p) (main n)
 
 -- what is kept beside a graph: what is needed is held for these observers, and each node's last arguments are kept
@@ -85,15 +86,15 @@ pub record IsUpToDate (F : Functions) (arena : Arena) (old new : Work) (observed
   pub acyclic : (p : Point) → Needed F (graph_of arena) none_died observed p → IsOnCycle (Depends F (graph_of arena) none_died) p → ⊥
   pub shallow : (p : Point) → Needed F (graph_of arena) none_died observed p → IsDeep (Depends F (graph_of arena) none_died) p → ⊥
   pub links : (p q : Point) → part.Needed new.graph p → Reads new.graph.links p q ↔ Depends F (graph_of arena) none_died p q
-  pub recalls : (n : NodeId) (r : Row) (f : FnRef) (nodes : List NodeId) (values : List Value) → part.Needed new.graph (main n)
-      → row_at arena n ≡ Some r → r.def ≡ Map f nodes → GiveAll F (graph_of arena) nodes values
+  pub recalls : (n : NodeId) (r : Row) (nodes : List NodeId) (values : List Value) → part.Needed new.graph (main n)
+      → row_at arena n ≡ Some r → taken_by r.def ≡ Some nodes → GiveAll F (graph_of arena) nodes values
       → (c : Call) × (last_call new n ≡ Some c) × (c.arguments ≡ values)
   pub kept : (n : NodeId) → (Among n ran → ⊥) → last_call new n ≡ last_call old n
   pub once : NoRepeats ran
   pub called : (n : NodeId) → Among n ran → WasCalled F arena old new observed n
   pub work : (before : Beside) (observers : List Observed) → StoodBeside before old observers
       → ((n : NodeId) → Among n observed → Among n (nodes_of observers))
-      → (calls : ℕ) → calls ≤ length ran → WithinWork F (graph_of arena) none_died observers before calls
+      → (calls : ℕ) → calls ≤ costs_of (graph_of arena) ran → WithinWork F (graph_of arena) none_died observers before calls
 
 -- each point is linked to the next in the graph, and the first is met
 pub record IsListed (F : Functions) (arena : Arena) (old : Work) (observed : List NodeId) (points : List Point) : Type 0 where
@@ -114,12 +115,12 @@ IsLawful F arena old observed (Cycle points) = IsListed F arena old observed poi
 IsLawful F arena old observed Full = ⊥
 IsLawful F arena old observed Memory = Unit {0}
 
--- a round that was refused called each of some live maps once at most
+-- a round that was refused made at most the calls that it takes to compute each of some live maps and folds once
 pub record HasCalledFew (arena : Arena) (before after : ℕ) : Type 0 where
   pub nodes : List NodeId
   pub once : NoRepeats nodes
-  pub maps : (n : NodeId) → Among n nodes → IsMapAt arena n
-  pub count : RoseBy before (length nodes) after
+  pub callers : (n : NodeId) → Among n nodes → IsCallerAt arena n
+  pub count : RoseAtMost before (costs_of (graph_of arena) nodes) after
 
 -- ---- the parts of a round
 
@@ -143,13 +144,13 @@ abbrev pub Settles : Functions → Arena → Work → Work → ℕ → ℕ → T
 Settles F arena old new before after =
     (z : Start) (s : State) → Invariant F z s → Stands arena old before None s → (t : State) × Moves F z s t × Stands arena new after None t
 
--- where steps stop: in a state that moves lead to, and the function of a least point's map may have been called once more
+-- where steps stop: in a state that moves lead to, and some of the calls of a least point's function may have been made
 pub record Pauses (F : Functions) (z : Start) (s : State) (arena : Arena) (after : ℕ) : Type 0 where
   pub state : State
   pub moves : Moves F z s state
   pub graph : state.graph ≡ graph_of arena
   pub quiet : Quiet state
-  pub calls : (after ≡ state.calls) ⊎ ((n : NodeId) × IsLeast state (main n) × IsMapAt arena n × RoseBy state.calls 1 after)
+  pub calls : (after ≡ state.calls) ⊎ ((n : NodeId) × IsLeast state (main n) × HasCalledSome arena n state.calls after)
 
 -- from each state that the parts stood for, with the count of calls, steps stop so
 abbrev pub SettleRefused : Functions → Arena → Work → ℕ → ℕ → Type 0

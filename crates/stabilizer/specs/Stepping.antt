@@ -9,12 +9,14 @@ use Rattle.inc_terms.specs.Depend.{main}
 use Rattle.inc_terms.specs.Term.{Functions}
 use Rattle.point_map.specs.Rows.{at, KeepsRows}
 use Rattle.node_arena.specs.Arena.{Arena}
+use Rattle.node_arena.specs.Graph.{graph_of}
+use Rattle.stabilize_round.specs.Calling.{cost_at}
 use Rattle.stabilize_round.specs.Counts.{RoseBy}
 use Rattle.stabilize_round.specs.Invariant.{Invariant}
 use Rattle.stabilize_round.specs.Moves.{Quiet, IsLeast, calls_of}
 use Rattle.stabilize_round.specs.State.{State, Start, Call}
 use Rattle.stabilize_round.specs.Steps.{Step}
-use Rattle.stabilizer.specs.Computing.{IsComputed, IsMapAt}
+use Rattle.stabilizer.specs.Computing.{IsComputed, HasCalledSome}
 use Rattle.stabilizer.specs.Row.{settled_in}
 use Rattle.stabilizer.specs.Settling.{IsSettled}
 use Rattle.stabilizer.specs.Stands.{Stands}
@@ -28,9 +30,9 @@ pub record MainIsSettled (value : FnRef → List Value → Value) (arena : Arena
   pub called : Bool
   pub computed : IsComputed value arena old.rows n outcome last called
   pub settled : IsSettled old new n outcome last called
-  pub count : RoseBy before (calls_of called) after
+  pub count : RoseBy before (calls_of called (cost_at (graph_of arena) n)) after
 
--- without memory a main stays as it was; a map's function may have been called once
+-- without memory a main stays as it was; some of the calls that it takes may have been made
 pub record MainIsLeft (arena : Arena) (old new : Work) (n : NodeId) (before after : ℕ) : Type 0 where
   pub rows : KeepsRows old.rows new.rows
   pub graph : new.graph ≡ old.graph
@@ -38,7 +40,7 @@ pub record MainIsLeft (arena : Arena) (old new : Work) (n : NodeId) (before afte
   pub ran : new.ran.items ≡ old.ran.items
   pub strict : new.strict ≡ old.strict
   pub round : new.round ≡ old.round
-  pub count : (after ≡ before) ⊎ (RoseBy before 1 after × IsMapAt arena n)
+  pub count : (after ≡ before) ⊎ HasCalledSome arena n before after
 
 -- from each state that the parts stand for, with the count of calls, a step leads to one that they stand for then
 abbrev pub Steps : Functions → Arena → Work → Work → ℕ → ℕ → Type 0
@@ -46,11 +48,12 @@ Steps F arena old new before after =
     (z : Start) (s : State) → Invariant F z s → Quiet s → Stands arena old before None s
     → (t : State) × Step F z s t × Stands arena new after None t
 
--- a step that found no memory leaves what the parts stood for; the function of a least point's map may have been called once
+-- a step that found no memory leaves what the parts stood for; some of the calls of a least point's function may have been
+-- made
 abbrev pub StepRefused : Arena → Work → Work → ℕ → ℕ → Type 0
 StepRefused arena old new before after =
     (s : State) → Quiet s → Stands arena old before None s
-    → Stands arena new before None s × ((after ≡ before) ⊎ ((n : NodeId) × IsLeast s (main n) × IsMapAt arena n × RoseBy before 1 after))
+    → Stands arena new before None s × ((after ≡ before) ⊎ ((n : NodeId) × IsLeast s (main n) × HasCalledSome arena n before after))
 
 -- one point that has a row wasn't settled in this round, and is now; all other rows stay
 pub record SettledOneMore (old new : Work) : Type 0 where

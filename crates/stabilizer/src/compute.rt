@@ -1,14 +1,19 @@
 //! What a node gives by its own function of what its children show.
-ghost use Rattle.std.specs.Prelude.{◌≡◌, ◌↔◌, List, IsTrue, IsSome, IfOk, OnErr, IfErr};
+ghost use Rattle.std.specs.Prelude.{◌≡◌, ◌↔◌, ◌<◌, ◌++◌, List, [], ◌∷◌, length, vec_len, vec_capacity, IsTrue, IsSome, IfOk, OnOk, OnErr, IfErr};
 ghost use Rattle.std.specs.List.{AllZip, filter_map};
 ghost use Rattle.inc_value.specs.Choice.{Every};
-ghost use Rattle.inc_value.specs.Value.{HaveTypes};
+ghost use Rattle.inc_value.specs.Value.{type_of, HaveTypes};
 ghost use Rattle.inc_terms.specs.Depend.{main};
+ghost use Rattle.inc_terms.specs.Evaluate.{folded};
+ghost use Rattle.inc_terms.specs.Graph.{Map, Fold};
 ghost use Rattle.point_map.specs.Rows.{Holds};
 ghost use Rattle.node_arena.specs.Arena.{IsLive};
 ghost use Rattle.node_arena.specs.Graph.{AllCallFit};
 ghost use Rattle.node_arena.specs.Meanings.{SameNames, KeepsKnown, SameValues};
-ghost use Rattle.stabilizer.specs.Computing.{Computes, NotComputed, ComputesMap, IsCalled, KeepsAllButCount};
+ghost use Rattle.stabilize_round.specs.Counts.{RoseBy, RoseAtMost};
+ghost use Rattle.stabilizer.specs.Computing.{Computes, NotComputed, ComputesCall, IsKnown, IsCalled, KeepsAllButCount};
+ghost use Rattle.stabilizer.specs.Computing.{FoldFits, KeepsRest};
+ghost use Rattle.stabilizer.specs.Row.{IsRewritten, with_call};
 ghost use Rattle.stabilizer.specs.Computing.{ShowsValue, value_shown};
 ghost use Rattle.stabilizer.specs.Kept.{IsKept};
 ghost use Rattle.stabilizer.specs.Meaning.{lists_none};
@@ -21,7 +26,8 @@ use inc_value::{FnKind, FnRef, NodeId, Outcome, Value};
 use node_arena::{Arena, Functions};
 use std::alloc::{AllocError, Global};
 
-/// What a node gives. A map's function is called unless it was last called on the same values.
+/// What a node gives. A map's or a fold's function is called unless it was last called on the same
+/// values of its children.
 pub(crate) fn compute<F: Functions>(
     alloc: Global,
     arena: &Arena,
@@ -46,10 +52,13 @@ pub(crate) fn compute<F: Functions>(
     match &row.def {
         Def::Const(value) | Def::Var(value) => Ok(Outcome::Val(value.copy(alloc)?)),
         Def::Map(f, kids) => compute_map(alloc, work, functions, node, *f, kids.as_slice()),
+        Def::Fold(f, initial, kids) => {
+            compute_fold(alloc, work, functions, node, *f, initial, kids.as_slice())
+        }
     }
 }
 
-/// What a map gives. Where a child shows no value it is Invalid.
+/// What a map gives.
 fn compute_map<F: Functions>(
     alloc: Global,
     work: &mut Work,
@@ -63,24 +72,71 @@ fn compute_map<F: Functions>(
     requires kind { f.id.kind ≡ FnKind.Map }
     requires fit { (values : List Value) → AllZip (ShowsValue work.old.rows) kids.now values
         → HaveTypes values f.sig.takes }
-    ensures computed { IfOk result (λ o. ComputesMap (F.value functions.old) work.old work.new node f kids.now o
-        (F.calls functions.old) (F.calls functions.new)) }
-    ensures refused { OnErr result (KeepsAllButCount work.old work.new
+    ensures computed { IfOk result (λ o. ComputesCall (F.value functions.old) (F.value functions.old f) f.sig.gives
+        work.old work.new node (Map f kids.now) kids.now o 1 (F.calls functions.old) (F.calls functions.new)) }
+    ensures refused { OnErr result (KeepsAllButCount work.old work.new 1
         (F.calls functions.old) (F.calls functions.new)) }
     ensures memory { IfErr result (λ e. e ≡ Refused.Memory) }
     ensures names { SameNames (F.named functions.old) (F.named functions.new) }
     ensures known { KeepsKnown (F.known functions.old) (F.known functions.new) }
     ensures values { SameValues (F.value functions.old) (F.value functions.new) }
 {
+    match known_outcome(alloc, work, node, kids)? {
+        Some(outcome) => Ok(outcome),
+        None => call_map(alloc, work, functions, node, f, kids),
+    }
+}
+
+/// What a fold gives.
+fn compute_fold<F: Functions>(
+    alloc: Global,
+    work: &mut Work,
+    functions: &mut F,
+    node: NodeId,
+    f: FnRef,
+    initial: &Value,
+    kids: &[NodeId],
+) -> Result<Outcome, Refused>
+    requires there { Holds work.old.rows (main node) }
+    requires known { IsTrue (F.known functions.old f) }
+    requires kind { f.id.kind ≡ FnKind.Map }
+    requires fit { (values : List Value) → AllZip (ShowsValue work.old.rows) kids.now values
+        → FoldFits f initial.now values }
+    ensures computed { IfOk result (λ o. ComputesCall (F.value functions.old)
+        (folded (F.value functions.old f) initial.now) f.sig.gives work.old work.new node
+        (Fold f initial.now kids.now) kids.now o (length kids.now) (F.calls functions.old) (F.calls functions.new)) }
+    ensures refused { OnErr result (KeepsAllButCount work.old work.new (length kids.now)
+        (F.calls functions.old) (F.calls functions.new)) }
+    ensures memory { IfErr result (λ e. e ≡ Refused.Memory) }
+    ensures names { SameNames (F.named functions.old) (F.named functions.new) }
+    ensures known { KeepsKnown (F.known functions.old) (F.known functions.new) }
+    ensures values { SameValues (F.value functions.old) (F.value functions.new) }
+{
+    match known_outcome(alloc, work, node, kids)? {
+        Some(outcome) => Ok(outcome),
+        None => call_fold(alloc, work, functions, node, f, initial, kids),
+    }
+}
+
+/// What a node gives whose function need not be called: Invalid where a child shows no value, and
+/// what was given last where it was last called on the values that its children show.
+fn known_outcome(
+    alloc: Global,
+    work: &Work,
+    node: NodeId,
+    kids: &[NodeId],
+) -> Result<Option<Outcome>, AllocError>
+    ensures { IfOk result (λ o. IsKnown work.now.rows node kids.now o) }
+{
     if !show_values(work, kids) {
-        return Ok(Outcome::Invalid);
+        return Ok(Some(Outcome::Invalid));
     }
     if let Some(last) = work.last_call(node) {
         if show(work, kids, &last.arguments) {
-            return Ok(Outcome::Val(last.result.copy(alloc)?));
+            return Ok(Some(Outcome::Val(last.result.copy(alloc)?)));
         }
     }
-    call_map(alloc, work, functions, node, f, kids)
+    Ok(None)
 }
 
 /// Calls a map's function on the values that its children show, and keeps the call.
@@ -96,9 +152,9 @@ fn call_map<F: Functions>(
     requires known { IsTrue (F.known functions.old f) }
     requires kind { f.id.kind ≡ FnKind.Map }
     requires fit { HaveTypes (filter_map (value_shown work.old.rows) kids.now) f.sig.takes }
-    ensures called { IfOk result (λ o. IsCalled (F.value functions.old) work.old work.new node f
-        (filter_map (value_shown work.old.rows) kids.now) o (F.calls functions.old) (F.calls functions.new)) }
-    ensures refused { OnErr result (KeepsAllButCount work.old work.new
+    ensures called { IfOk result (λ o. IsCalled (F.value functions.old f) f.sig.gives work.old work.new node
+        (filter_map (value_shown work.old.rows) kids.now) o 1 (F.calls functions.old) (F.calls functions.new)) }
+    ensures refused { OnErr result (KeepsAllButCount work.old work.new 1
         (F.calls functions.old) (F.calls functions.new)) }
     ensures memory { IfErr result (λ e. e ≡ Refused.Memory) }
     ensures names { SameNames (F.named functions.old) (F.named functions.new) }
@@ -109,13 +165,101 @@ fn call_map<F: Functions>(
     work.ran.reserve(1)?;
     let result = functions.apply(alloc, f, &arguments)?;
     let outcome = Outcome::Val(result.copy(alloc)?);
-    set_call(
-        &mut work.rows,
-        main_point(node),
-        LastCall { arguments, result },
-    );
-    work.ran.push_reserved(node);
+    keep_call(work, node, LastCall { arguments, result });
     Ok(outcome)
+}
+
+/// Folds the values that a fold's children show, and keeps these and the result.
+fn call_fold<F: Functions>(
+    alloc: Global,
+    work: &mut Work,
+    functions: &mut F,
+    node: NodeId,
+    f: FnRef,
+    initial: &Value,
+    kids: &[NodeId],
+) -> Result<Outcome, Refused>
+    requires there { Holds work.old.rows (main node) }
+    requires known { IsTrue (F.known functions.old f) }
+    requires kind { f.id.kind ≡ FnKind.Map }
+    requires fit { FoldFits f initial.now (filter_map (value_shown work.old.rows) kids.now) }
+    ensures called { IfOk result (λ o. IsCalled (folded (F.value functions.old f) initial.now) f.sig.gives
+        work.old work.new node (filter_map (value_shown work.old.rows) kids.now) o
+        (length (filter_map (value_shown work.old.rows) kids.now)) (F.calls functions.old) (F.calls functions.new)) }
+    ensures refused { OnErr result (KeepsAllButCount work.old work.new
+        (length (filter_map (value_shown work.old.rows) kids.now)) (F.calls functions.old) (F.calls functions.new)) }
+    ensures memory { IfErr result (λ e. e ≡ Refused.Memory) }
+    ensures names { SameNames (F.named functions.old) (F.named functions.new) }
+    ensures known { KeepsKnown (F.known functions.old) (F.known functions.new) }
+    ensures values { SameValues (F.value functions.old) (F.value functions.new) }
+{
+    let arguments = values_shown(alloc, work, kids)?;
+    work.ran.reserve(1)?;
+    let result = fold(alloc, functions, &f, initial, &arguments)?;
+    let outcome = Outcome::Val(result.copy(alloc)?);
+    keep_call(work, node, LastCall { arguments, result });
+    Ok(outcome)
+}
+
+/// Keeps what a node's function was called on and what it gave, and lists the node.
+fn keep_call(work: &mut Work, node: NodeId, call: LastCall)
+    requires there { Holds work.old.rows (main node) }
+    requires room { vec_len work.old.ran < vec_capacity work.old.ran }
+    ensures row { IsRewritten work.old.rows work.new.rows (main node) (with_call call) }
+    ensures ran { work.new.ran.items ≡ work.old.ran.items ++ node ∷ [] }
+    ensures rest { KeepsRest work.old work.new }
+{
+    set_call(&mut work.rows, main_point(node), call);
+    work.ran.push_reserved(node);
+}
+
+/// The function of two values, from the value on over the others in order: called once for each.
+fn fold<F: Functions>(
+    alloc: Global,
+    functions: &mut F,
+    f: &FnRef,
+    initial: &Value,
+    values: &[Value],
+) -> Result<Value, AllocError>
+    requires known { IsTrue (F.known functions.old f.now) }
+    requires kind { f.now.id.kind ≡ FnKind.Map }
+    requires fit { FoldFits f.now initial.now values.now }
+    ensures value { IfOk result (λ v. v ≡ folded (F.value functions.old f.now) initial.now values.now) }
+    ensures typed { IfOk result (λ v. type_of v ≡ f.now.sig.gives) }
+    ensures calls { OnOk result (RoseBy (F.calls functions.old) (length values.now) (F.calls functions.new)) }
+    ensures few { OnErr result (RoseAtMost (F.calls functions.old) (length values.now) (F.calls functions.new)) }
+    ensures names { SameNames (F.named functions.old) (F.named functions.new) }
+    ensures known { KeepsKnown (F.known functions.old) (F.known functions.new) }
+    ensures values { SameValues (F.value functions.old) (F.value functions.new) }
+{
+    let mut result = initial.copy(alloc)?;
+    for value in values {
+        result = call_with(alloc, functions, *f, result, value)?;
+    }
+    Ok(result)
+}
+
+/// Calls a function of two values.
+fn call_with<F: Functions>(
+    alloc: Global,
+    functions: &mut F,
+    f: FnRef,
+    first: Value,
+    second: &Value,
+) -> Result<Value, AllocError>
+    requires known { IsTrue (F.known functions.old f) }
+    requires kind { f.id.kind ≡ FnKind.Map }
+    requires fit { HaveTypes (first ∷ second.now ∷ []) f.sig.takes }
+    ensures value { IfOk result (λ v. v ≡ F.value functions.old f (first ∷ second.now ∷ [])) }
+    ensures typed { IfOk result (λ v. type_of v ≡ f.sig.gives) }
+    ensures calls { OnOk result (RoseBy (F.calls functions.old) 1 (F.calls functions.new)) }
+    ensures few { OnErr result (RoseAtMost (F.calls functions.old) 1 (F.calls functions.new)) }
+    ensures names { SameNames (F.named functions.old) (F.named functions.new) }
+    ensures known { KeepsKnown (F.known functions.old) (F.known functions.new) }
+    ensures values { SameValues (F.value functions.old) (F.value functions.new) }
+{
+    let arguments = [first, second.copy(alloc)?];
+    functions.apply(alloc, f, &arguments)
 }
 
 /// Whether each of the nodes shows a value.

@@ -1,13 +1,14 @@
 //! Steps and rounds.
-ghost use Rattle.std.specs.Prelude.{◌≡◌, ◌++◌, [], None, List, map, All, vec_len};
+ghost use Rattle.std.specs.Prelude.{◌≡◌, ◌++◌, [], None, List, map, All};
 ghost use Rattle.std.specs.Prelude.{IfOk, OnOk, OnErr, IfErr, IsTrue, IsFalse};
 ghost use Rattle.inc_value.specs.declared.node.NodeId.{NodeId};
 ghost use Rattle.inc_terms.specs.Depend.{main};
 ghost use Rattle.inc_terms.specs.Within.{Given};
 ghost use Rattle.point_map.specs.Rows.{at, Holds};
+ghost use Rattle.stabilize_round.specs.Calling.{costs_of};
 ghost use Rattle.stabilize_round.specs.Counts.{RoseBy};
 ghost use Rattle.recompute_heap.specs.Agree.{IsEmpty};
-ghost use Rattle.node_arena.specs.Graph.{AllCallFit};
+ghost use Rattle.node_arena.specs.Graph.{graph_of, AllCallFit};
 ghost use Rattle.node_arena.specs.Meanings.{SameNames, KeepsKnown, SameValues};
 ghost use Rattle.stabilizer.specs.Kept.{IsKept};
 ghost use Rattle.stabilizer.specs.Meaning.{functions_of, lists_none};
@@ -79,7 +80,8 @@ impl Stabilizer {
         ensures right { OnOk result ((observed : List NodeId) → AreRooted parts.old.work observed
             → IsUpToDate (functions_of (F.value functions.old)) parts.old.arena parts.old.work parts.new.work
             (roots.now ++ observed) parts.new.ran.items) }
-        ensures calls { OnOk result (RoseBy (F.calls functions.old) (vec_len parts.new.ran) (F.calls functions.new)) }
+        ensures calls { OnOk result (RoseBy (F.calls functions.old)
+            (costs_of (graph_of parts.old.arena) parts.new.ran.items) (F.calls functions.new)) }
         ensures ready { OnOk result (IsReady (functions_of (F.value functions.new)) parts.new.arena parts.new.work) }
         ensures lawful { IfErr result (λ e. (observed : List NodeId) → AreRooted parts.old.work observed
             → IsLawful (functions_of (F.value functions.old)) parts.old.arena parts.old.work

@@ -214,6 +214,6 @@ fn targets(def: &Def) -> &[NodeId]
     ensures none { result.now ≡ [] }
 {
     match def {
-        Def::Const(_) | Def::Var(_) | Def::Map(_, _) => &[],
+        Def::Const(_) | Def::Var(_) | Def::Map(_, _) | Def::Fold(_, _, _) => &[],
     }
 }

@@ -1,9 +1,10 @@
-use Rattle.std.proofs.Common.{◌≡◌, Some, sym, ap, ◌∙◌}
-use Rattle.std.proofs.lemmas.Result.{IfOk-weaker}
+use Rattle.std.proofs.Common.{◌≡◌, Some, refl, sym, ap, ◌∙◌, length}
+use Rattle.std.proofs.lemmas.Result.{IfOk-weaker, on_err_weaker}
 use Rattle.inc_terms.specs.Code.{def_of}
-use Rattle.inc_terms.specs.Graph.{Map}
+use Rattle.inc_terms.specs.Evaluate.{folded}
+use Rattle.inc_terms.specs.Graph.{Map, Fold}
 use Rattle.node_arena.specs.Arena.{row_at, row_of}
-use Rattle.stabilizer.proofs.Computing.{holder_computes, map_fits, map_computes, holds_value}
+use Rattle.stabilizer.proofs.Computing.{holder_computes, map_fits, map_gives, fold_fits, fold_gives, call_computes, call_fails, holds_value}
 use Rattle.stabilizer.proofs.compute.compute.Goals as goal
 
 pub compute_map-requires-clause-fit : goal.compute_map-requires-clause-fit
@@ -16,14 +17,76 @@ compute_map-requires-clause-fit g c =
 
 pub returns-in-Map-clause-computed : goal.returns-in-Map-clause-computed
 returns-in-Map-clause-computed g c =
+    let value = g.F.Functions.value c.args.functions.now in
+    let f = c.in-Map.f in
+    let nodes = c.as_slice.result.now in
     let row = row_of c.unwrap-row.result.now in
     let is_row : row_at c.args.arena.now c.args.node ≡ Some row = sym (rw c.unwrap-row.ensures at c.get.ensures) in
-    let is_map : row.def ≡ Map c.in-Map.f c.as_slice.result.now = ap def_of c.in-Map.is ∙ ap (Map c.in-Map.f) (sym c.as_slice.ensures) in
+    let is_map : row.def ≡ Map f nodes = ap def_of c.in-Map.is ∙ ap (Map f) (sym c.as_slice.ensures) in
     IfOk-weaker c.compute_map.result _ _
-    (λ o m. map_computes (g.F.Functions.value c.args.functions.now) c.args.arena.now c.args.work.now c.args.node row c.requires.kept c.is_sound.ensures
-    is_row c.in-Map.f c.as_slice.result.now is_map c.compute_map.new.work o (g.F.Functions.calls c.args.functions.now)
-    (g.F.Functions.calls c.compute_map.new.functions) m)
+    (λ o m. call_computes value c.args.arena.now c.args.work.now c.args.node row c.requires.kept c.is_sound.ensures is_row
+    (value f) f.sig.gives (Map f nodes) nodes 1 is_map refl (λ values w e. e) refl refl refl
+    (map_gives value c.args.arena.now c.args.work.now c.args.node row c.requires.kept c.is_sound.ensures is_row f nodes is_map)
+    c.compute_map.new.work o (g.F.Functions.calls c.args.functions.now) (g.F.Functions.calls c.compute_map.new.functions) m)
     c.compute_map.ensures.computed
+
+pub returns-in-Map-clause-refused : goal.returns-in-Map-clause-refused
+returns-in-Map-clause-refused g c =
+    let value = g.F.Functions.value c.args.functions.now in
+    let f = c.in-Map.f in
+    let nodes = c.as_slice.result.now in
+    let row = row_of c.unwrap-row.result.now in
+    let is_row : row_at c.args.arena.now c.args.node ≡ Some row = sym (rw c.unwrap-row.ensures at c.get.ensures) in
+    let is_map : row.def ≡ Map f nodes = ap def_of c.in-Map.is ∙ ap (Map f) (sym c.as_slice.ensures) in
+    on_err_weaker c.compute_map.result
+    (call_fails value c.args.arena.now c.args.work.now c.args.node row c.requires.kept c.is_sound.ensures is_row
+    (value f) f.sig.gives (Map f nodes) nodes 1 is_map refl (λ values w e. e) refl refl refl
+    (map_gives value c.args.arena.now c.args.work.now c.args.node row c.requires.kept c.is_sound.ensures is_row f nodes is_map)
+    c.compute_map.new.work (g.F.Functions.calls c.args.functions.now) (g.F.Functions.calls c.compute_map.new.functions))
+    c.compute_map.ensures.refused
+
+pub compute_fold-requires-clause-fit : goal.compute_fold-requires-clause-fit
+compute_fold-requires-clause-fit g c =
+    let row = row_of c.unwrap-row.result.now in
+    let f = c.in-Fold.f in
+    let from = c.in-Fold.initial in
+    let nodes = c.as_slice-in-Fold.result.now in
+    let is_row : row_at c.args.arena.now c.args.node ≡ Some row = sym (rw c.unwrap-row.ensures at c.get.ensures) in
+    let is_fold : row.def ≡ Fold f from nodes = ap def_of c.in-Fold.is ∙ ap (Fold f from) (sym c.as_slice-in-Fold.ensures) in
+    fold_fits (g.F.Functions.value c.args.functions.now) c.args.arena.now c.args.work.now c.args.node row c.requires.kept c.is_sound.ensures is_row
+    f from nodes is_fold
+
+pub returns-in-Fold-clause-computed : goal.returns-in-Fold-clause-computed
+returns-in-Fold-clause-computed g c =
+    let value = g.F.Functions.value c.args.functions.now in
+    let f = c.in-Fold.f in
+    let from = c.in-Fold.initial in
+    let nodes = c.as_slice-in-Fold.result.now in
+    let row = row_of c.unwrap-row.result.now in
+    let is_row : row_at c.args.arena.now c.args.node ≡ Some row = sym (rw c.unwrap-row.ensures at c.get.ensures) in
+    let is_fold : row.def ≡ Fold f from nodes = ap def_of c.in-Fold.is ∙ ap (Fold f from) (sym c.as_slice-in-Fold.ensures) in
+    IfOk-weaker c.compute_fold.result _ _
+    (λ o m. call_computes value c.args.arena.now c.args.work.now c.args.node row c.requires.kept c.is_sound.ensures is_row
+    (folded (value f) from) f.sig.gives (Fold f from nodes) nodes (length nodes) is_fold refl (λ values w e. e) refl refl refl
+    (fold_gives value c.args.arena.now c.args.work.now c.args.node row c.requires.kept c.is_sound.ensures is_row f from nodes is_fold)
+    c.compute_fold.new.work o (g.F.Functions.calls c.args.functions.now) (g.F.Functions.calls c.compute_fold.new.functions) m)
+    c.compute_fold.ensures.computed
+
+pub returns-in-Fold-clause-refused : goal.returns-in-Fold-clause-refused
+returns-in-Fold-clause-refused g c =
+    let value = g.F.Functions.value c.args.functions.now in
+    let f = c.in-Fold.f in
+    let from = c.in-Fold.initial in
+    let nodes = c.as_slice-in-Fold.result.now in
+    let row = row_of c.unwrap-row.result.now in
+    let is_row : row_at c.args.arena.now c.args.node ≡ Some row = sym (rw c.unwrap-row.ensures at c.get.ensures) in
+    let is_fold : row.def ≡ Fold f from nodes = ap def_of c.in-Fold.is ∙ ap (Fold f from) (sym c.as_slice-in-Fold.ensures) in
+    on_err_weaker c.compute_fold.result
+    (call_fails value c.args.arena.now c.args.work.now c.args.node row c.requires.kept c.is_sound.ensures is_row
+    (folded (value f) from) f.sig.gives (Fold f from nodes) nodes (length nodes) is_fold refl (λ values w e. e) refl refl refl
+    (fold_gives value c.args.arena.now c.args.work.now c.args.node row c.requires.kept c.is_sound.ensures is_row f from nodes is_fold)
+    c.compute_fold.new.work (g.F.Functions.calls c.args.functions.now) (g.F.Functions.calls c.compute_fold.new.functions))
+    c.compute_fold.ensures.refused
 
 pub returns-in_ok-copy-in-Const-clause-computed : goal.returns-in_ok-copy-in-Const-clause-computed
 returns-in_ok-copy-in-Const-clause-computed g c =

@@ -3,6 +3,8 @@ use Rattle.std.specs.Option.{SomeIff}
 use Rattle.std.specs.Result.{IsErrAnd}
 use Rattle.inc_value.specs.declared.node.NodeId.{NodeId}
 use Rattle.node_arena.specs.Arena.{Arena}
+use Rattle.node_arena.specs.Graph.{graph_of}
+use Rattle.stabilize_round.specs.Calling.{costs_of}
 use Rattle.stabilize_round.specs.Counts.{RoseBy}
 use Rattle.stabilizer.specs.Kept.{IsKept}
 use Rattle.stabilizer.specs.Meaning.{functions_of}
@@ -41,11 +43,11 @@ returns-clause-calls g c =
     let before = g.F.Functions.calls c.args.functions.now in
     let after = g.F.Functions.calls c.settle_all.new.functions in
     let settled = c.settle_all.new.parts.work in
-    subst (λ v. RoseBy before v.len after) (sym c.swap.ensures.x_after) (subst (λ (k : ℕ). RoseBy before k after) (sym settled.ran.ok.0)
+    subst (λ v. RoseBy before (costs_of (graph_of c.args.parts.now.arena) v.items) after) (sym c.swap.ensures.x_after)
     (round_counts (functions_of (g.F.Functions.value c.args.functions.now)) c.args.parts.now.arena c.args.parts.now.work c.put_roots.new.work before
     c.requires.ready c.in_ok-put_roots.ensures.wired settled after c.in_ok-settle_all.ensures.settled
     (subst (λ (a : Arena). IsKept a settled) c.settle_all.ensures.arena c.settle_all.ensures.kept) c.settle_all.ensures.quiet
-    c.in_ok-settle_all.ensures.empty))
+    c.in_ok-settle_all.ensures.empty)
 
 next_is : (result : Option ℕ) (P : Type 0) (v next : ℕ) → SomeIff result P v → result ≡ Some next → next ≡ v
 next_is result P v next h e = (subst (λ (r : Option ℕ). SomeIff r P v) e h).1
