@@ -17,6 +17,9 @@ pub enum Shape {
     /// Variables that are summed pairwise.
     Tree,
 
+    /// Variables that are summed by one fold.
+    Fold,
+
     /// A comparison that stays as it is, with readers behind it.
     Cut,
 
@@ -46,7 +49,7 @@ fn most(shape: Shape) -> usize
         Shape::Chain => 128,
         Shape::Tree => 524_288,
         Shape::Random => 10_000,
-        Shape::Fan | Shape::Cut | Shape::Idle | Shape::Needs => 1_000_000,
+        Shape::Fan | Shape::Fold | Shape::Cut | Shape::Idle | Shape::Needs => 1_000_000,
     }
 }
 
@@ -56,6 +59,7 @@ fn shape_named(name: &str) -> Option<Shape> {
         "chain" => Some(Shape::Chain),
         "fan" => Some(Shape::Fan),
         "tree" => Some(Shape::Tree),
+        "fold" => Some(Shape::Fold),
         "cut" => Some(Shape::Cut),
         "idle" => Some(Shape::Idle),
         "random" => Some(Shape::Random),

@@ -133,6 +133,12 @@ impl Live {
         self.map(Function::Pick, &kids)
     }
 
+    /// Makes the sum of all nodes that were made so far, as one fold.
+    pub fn sum_all(&mut self) -> Result<(), Fault> {
+        let made = self.graph.fold(Function::Add.reference(), Value::Int(0), &self.nodes);
+        keep_node(&mut self.nodes, made)
+    }
+
     /// Makes what the definition says.
     pub fn add(&mut self, definition: Definition) -> Result<(), Fault> {
         match definition {

@@ -94,6 +94,13 @@ fn tree(live: &mut Live, size: usize) -> Result<(), Fault>
     live.observe(2 * size - 2)
 }
 
+/// Variables that are summed by one fold, which is observed.
+fn folded(live: &mut Live, size: usize) -> Result<(), Fault> {
+    variables(live, size)?;
+    live.sum_all()?;
+    live.observe(size)
+}
+
 /// A variable that is compared with 0, two numbers, and the outcome of the comparison: four variables and node 4.
 fn comparison(live: &mut Live) -> Result<(), Fault> {
     live.var(1)?;
@@ -152,6 +159,7 @@ fn fill(live: &mut Live, shape: Shape, size: usize) -> Result<(), Fault>
     match shape {
         Shape::Chain => chain(live, size),
         Shape::Tree => tree(live, size),
+        Shape::Fold => folded(live, size),
         Shape::Cut => cut(live, size),
         Shape::Idle => idle(live, size),
         Shape::Fan | Shape::Random | Shape::Needs => fan(live, size),
@@ -161,7 +169,7 @@ fn fill(live: &mut Live, shape: Shape, size: usize) -> Result<(), Fault>
 /// How many variables take turns.
 fn turns(shape: Shape, size: usize) -> usize {
     match shape {
-        Shape::Tree => size,
+        Shape::Tree | Shape::Fold => size,
         _ => 1,
     }
 }
