@@ -47,7 +47,7 @@ module _ {F : Type 0} where
   abbrev pub HasNoRoom : Standing F → Def → Ty → Type 0
   HasNoRoom s def ty = NamesGiven s.parts.arena.given def × Makes s.parts.arena def ty × IsFull s.parts.arena
 
-  -- no node changed, and all stays beside; an id may have been used up
+  -- no node changed, and all stays beside; at most one id more was given
   pub record KeepsAll (old new : Standing F) : Type 0 where
     pub beside : KeepsBeside old new
     pub given : (new.parts.arena.given ≡ old.parts.arena.given) ⊎ (new.parts.arena.given ≡ old.parts.arena.given + 1)

@@ -3,7 +3,7 @@ use Rattle.std.proofs.Common.{◌≡◌, ◌⊎◌, inl, inr, ℕ, Bool, true, f
 use Rattle.std.specs.Prelude.{Option, None, is_some}
 use Rattle.std.proofs.lemmas.Bool.{cases_lt}
 use Rattle.inc_value.specs.declared.node.Point.{Point}
-use Rattle.point_map.specs.Rows.{Rows, at, Holds, Changes}
+use Rattle.point_map.specs.Rows.{Rows, at, Changes}
 use Rattle.point_map.proofs.Places.{point_cases}
 use Rattle.link_table.specs.Links.{Links, Reads, AreReaders, times}
 use Rattle.height_order.proofs.Covering.{Covers, covers_next, covers_end, among_readers, occurs_first}

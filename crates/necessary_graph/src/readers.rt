@@ -39,7 +39,13 @@ pub fn put(heights: &Heights, heap: &mut RecomputeHeap, p: Point)
 }
 
 /// Puts the readers of a point into the heap, each at its height, but for those that are passed over.
-pub fn put_readers<S: Skip>(heights: &Heights, needs: &Needs, heap: &mut RecomputeHeap, q: Point, skip: &S)
+pub fn put_readers<S: Skip>(
+    heights: &Heights,
+    needs: &Needs,
+    heap: &mut RecomputeHeap,
+    q: Point,
+    skip: &S,
+)
     requires there { (p : Point) → Reads needs.now.links p q → Holds heights.now.heights p }
     requires heights { HasHeights heights.now.heights heap.old }
     requires room { (points : ℕ) × HasRoom heights.now.heights heap.old points }

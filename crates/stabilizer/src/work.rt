@@ -11,7 +11,10 @@ ghost use Rattle.necessary_graph.specs.Part.{Needed, IsInStep};
 ghost use Rattle.stabilizer.specs.Row.{IsRewritten, with_outcome, stage_in, value_in};
 ghost use Rattle.stabilizer.specs.Wiring.{KeepsGraph, KeepsRound, IsEnqueued, AreEnqueued, IsTold, IsWoken, Looks};
 
-use crate::row::{LastCall, Progress, Settled, Stage, main_point, set_outcome, set_stage, shows, unsettled, was_settled};
+use crate::row::{
+    LastCall, Progress, Settled, Stage, main_point, set_outcome, set_stage, shows, unsettled,
+    was_settled,
+};
 use inc_value::{NodeId, Outcome, Point, Value};
 use necessary_graph::NecessaryGraph;
 use point_map::PointMap;

@@ -37,6 +37,7 @@ impl<F: Functions> Graph<F> {
             ↔ (IsUnbroken self.old × HasNoRoom self.old (Const value) (type_of value)) }
         ensures adding { IfErr result IsAddFault }
         ensures err { OnErr result (KeepsAll self.old self.new) }
+        ensures nodes { OnErr result (self.new.parts.arena ≡ self.old.parts.arena) }
     {
         let ty = value.ty();
         self.add(Def::Const(value), ty)
@@ -53,6 +54,7 @@ impl<F: Functions> Graph<F> {
             ↔ (IsUnbroken self.old × HasNoRoom self.old (Var value) (type_of value)) }
         ensures adding { IfErr result IsAddFault }
         ensures err { OnErr result (KeepsAll self.old self.new) }
+        ensures nodes { OnErr result (self.new.parts.arena ≡ self.old.parts.arena) }
     {
         let ty = value.ty();
         self.add(Def::Var(value), ty)
@@ -76,6 +78,7 @@ impl<F: Functions> Graph<F> {
             → IsErrOf result GraphFault.Full ⊎ IsErrOf result GraphFault.Memory }
         ensures adding { IfErr result IsAddFault }
         ensures err { OnErr result (KeepsAll self.old self.new) }
+        ensures nodes { OnErr result (self.new.parts.arena ≡ self.old.parts.arena) }
     {
         self.check()?;
         let nodes = Nodes::from_slice(self.alloc, kids)?;
@@ -95,6 +98,7 @@ impl<F: Functions> Graph<F> {
             ↔ (IsUnbroken self.old × HasNoRoom self.old (def_of def) ty) }
         ensures adding { IfErr result IsAddFault }
         ensures err { OnErr result (KeepsAll self.old self.new) }
+        ensures nodes { OnErr result (self.new.parts.arena ≡ self.old.parts.arena) }
     {
         self.check()?;
         let added = self.parts.add(def, ty);
