@@ -75,11 +75,12 @@ every_unit : (ns : List NodeId) → Every (λ (n : NodeId). Unit {0}) ns
 every_unit [] = tt
 every_unit (n ∷ ns) = (tt, every_unit ns)
 
--- a map that makes its type is of the kind of maps
+-- a map or a fold that makes its type has a function of the kind of maps
 pub known_fits : (known : FnRef → Bool) (a : Arena) (ty : Ty) (count : ℕ) (def : Def) → CallsKnown known def → Makes a def ty
     → CallsFit count known lists_none def
 known_fits known a ty count (graph.Const v) k m = value_within v
 known_fits known a ty count (graph.Var v) k m = value_within v
+known_fits known a ty count (graph.Fold f v ns) k m = (((k, m.kind), λ n among. absurd among), value_within v, every_unit ns)
 known_fits known a ty count (graph.Map f ns) k m = (((k, m.kind), λ n among. absurd among), every_unit ns)
 known_fits known a ty count def k m = absurd m
 

@@ -48,11 +48,12 @@ module _ (F : Functions) (arena : Arena) (old : Work) (xs ys : List NodeId) (to 
   pub called_as : (new : Work) (n : NodeId) → WasCalled F arena old new xs n → WasCalled F arena old new ys n
   called_as new n w = record {
     row = w.row;
-    function = w.function;
     nodes = w.nodes;
     values = w.values;
+    result = w.result;
     is_row = w.is_row;
-    is_map = w.is_map;
+    takes = w.takes;
+    answers = w.answers;
     gives = w.gives;
     reason = w.reason;
     is_last = w.is_last;

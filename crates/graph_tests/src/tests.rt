@@ -65,6 +65,10 @@ enum Act {
     Var(i64),
     Neg(usize),
     Sum(usize, usize),
+    /// Makes the fold by sums from a number on over three nodes.
+    Fold(i64, usize, usize, usize),
+    /// Makes the fold from a number on over no nodes.
+    FoldNone(i64),
     Set(usize, i64),
     Observe(usize),
     Unobserve(u32),
@@ -274,6 +278,11 @@ fn perform(graph: &mut Graph<Arithmetic>, nodes: &mut Vec<NodeId>, act: Act) -> 
             let kids = [nth(nodes, left), nth(nodes, right)];
             made(nodes, graph.map(sum(), &kids))
         }
+        Act::Fold(initial, first, second, third) => {
+            let kids = [nth(nodes, first), nth(nodes, second), nth(nodes, third)];
+            made(nodes, graph.fold(sum(), Value::Int(initial), &kids))
+        }
+        Act::FoldNone(initial) => made(nodes, graph.fold(sum(), Value::Int(initial), &[])),
         Act::Set(i, value) => told(graph.set_var(nth(nodes, i), Value::Int(value))),
         Act::Observe(i) => observed(graph, nth(nodes, i)),
         Act::Unobserve(observer) => told(graph.unobserve(ObsId(observer))),
@@ -431,6 +440,64 @@ fn what_is_taken_back_is_dead(rt: HostRuntime) -> Result<(), Fail> {
         Act::Show(1),
     ];
     let want = [0, 0, 0, 1, 1, 0, 0, 0, -103, 0, 1, 0, 0, 1, -2, -109];
+    assert_eq!(rt; answers(rt.alloc(), &acts)?.as_slice(), want.as_slice());
+    Ok(())
+}
+
+#[test]
+fn a_fold_is_called_once_a_child(rt: HostRuntime) -> Result<(), Fail> {
+    let acts = [
+        Act::Var(1),
+        Act::Var(2),
+        Act::Var(4),
+        Act::Fold(10, 0, 1, 2),
+        Act::Observe(3),
+        Act::Stabilize,
+        Act::Show(0),
+        Act::Calls,
+        Act::Set(1, 5),
+        Act::Stabilize,
+        Act::Show(0),
+        Act::Calls,
+        Act::Ran(3),
+        Act::Set(1, 5),
+        Act::Stabilize,
+        Act::Calls,
+    ];
+    let want = [0, 0, 0, 0, 0, 1, 17, 3, 0, 1, 20, 6, 1, 0, 0, 6];
+    assert_eq!(rt; answers(rt.alloc(), &acts)?.as_slice(), want.as_slice());
+    Ok(())
+}
+
+#[test]
+fn a_fold_without_children_calls_nothing(rt: HostRuntime) -> Result<(), Fail> {
+    let acts = [
+        Act::FoldNone(7),
+        Act::Observe(0),
+        Act::Stabilize,
+        Act::Show(0),
+        Act::Calls,
+        Act::Stabilize,
+        Act::Show(0),
+        Act::Calls,
+    ];
+    let want = [0, 0, 1, 7, 0, 0, 7, 0];
+    assert_eq!(rt; answers(rt.alloc(), &acts)?.as_slice(), want.as_slice());
+    Ok(())
+}
+
+#[test]
+fn a_fold_over_a_dead_node_is_invalid(rt: HostRuntime) -> Result<(), Fail> {
+    let acts = [
+        Act::Var(1),
+        Act::TakeBack(0),
+        Act::Fold(10, 0, 1, 0),
+        Act::Observe(3),
+        Act::Stabilize,
+        Act::Show(0),
+        Act::Calls,
+    ];
+    let want = [0, 0, 0, 0, 0, -109, 0];
     assert_eq!(rt; answers(rt.alloc(), &acts)?.as_slice(), want.as_slice());
     Ok(())
 }

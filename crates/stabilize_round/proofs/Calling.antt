@@ -1,10 +1,8 @@
 -- Whose function is called on what, and what that costs.
-use Rattle.std.proofs.Common.{◌≡◌, inl, inr, ℕ, ◌+◌, List, [], ◌∷◌, map, Option, None, Some, refl, sym, ap, ◌∙◌}
-use Rattle.std.specs.List.{sum_by}
+use Rattle.std.proofs.Common.{◌≡◌, inl, inr, ℕ, ◌+◌, List, [], ◌∷◌, map, Option, Some, refl, sym, ap, ◌∙◌}
 use Rattle.std.proofs.lemmas.List.Sums.{sum_by-cons}
 use Rattle.inc_value.specs.declared.node.NodeId.{NodeId}
 use Rattle.inc_value.specs.declared.node.Part.TheVariants.{Main}
-use Rattle.inc_value.specs.declared.node.Point.{Point}
 use Rattle.inc_value.specs.Choice.{Among}
 use Rattle.inc_terms.specs.Graph as graph
 use Rattle.inc_terms.specs.Graph.{Graph, Row, Def, kids}
@@ -105,5 +103,5 @@ costs_same G G' [] stays = refl
 costs_same G G' (n ∷ ns) stays =
     sum_by-cons (cost_at G) n ns
     ∙ both_sums (cost_at G n) (cost_at G' n) (costs_of G ns) (costs_of G' ns) (cost_same G G' n (stays n (inl refl)))
-        (costs_same G G' ns (λ m a. stays m (inr a)))
+    (costs_same G G' ns (λ m a. stays m (inr a)))
     ∙ sym (sum_by-cons (cost_at G') n ns)

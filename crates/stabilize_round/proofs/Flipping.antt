@@ -10,7 +10,6 @@ use Rattle.inc_value.specs.declared.outcome.Outcome.TheVariants.{Val}
 use Rattle.inc_value.specs.declared.value.Value.TheVariants.{Int, Bool}
 use Rattle.inc_value.specs.Choice.{Among, Reaches, here, step}
 use Rattle.inc_terms.specs.Term.{Functions}
-use Rattle.inc_terms.specs.Graph as graph
 use Rattle.inc_terms.specs.Graph.{Row}
 use Rattle.inc_terms.specs.Local.{shown, own, IsBuilt, PartAgrees, Agrees}
 use Rattle.stabilize_round.specs.Calling.{taken_by}

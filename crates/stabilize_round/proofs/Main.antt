@@ -182,7 +182,7 @@ module _ (F : Functions) (z : Start) (s : State) (inv : Invariant F z s) (quiet 
       let seen = gathered_same F G (shown G s.out) (shown G out') kids
       (λ q a. shown_same F G s.out out' q
       (same_at q (linked q (among_right q (gate_of move.row.scope) _ (among_left q (fixed_reads G n move.row.def Main) _
-        (reads_taken G n move.row.def kids q def' a)))))) in
+      (reads_taken G n move.row.def kids q def' a)))))) in
       by_call was h kids values def' (sym seen ∙ shows)
     where
       by_call : (was : Bool) → Calls F s n move.row.def last' was → (kids : List NodeId) (values : List Value)
@@ -428,7 +428,7 @@ module _ (F : Functions) (z : Start) (s : State) (inv : Invariant F z s) (quiet 
           let l' = h.6 in
           let cs : record { arguments = h.1; result = h.2 } ≡ c = cc in
           subst (λ (y : Row). IsAnswer F y.def c.arguments c.result) (sym same)
-              (subst (λ (x : Call). IsAnswer F move.row.def x.arguments x.result) cs h.7)
+          (subst (λ (x : Call). IsAnswer F move.row.def x.arguments x.result) cs h.7)
 
   last_settled : LastSettled after
   last_settled q e = let same : main n ≡ q = cc in

@@ -7,7 +7,6 @@ use Rattle.inc_value.specs.declared.node.Point.{Point}
 use Rattle.inc_value.specs.declared.outcome.Outcome.{Outcome}
 use Rattle.inc_value.specs.Choice.{Among}
 use Rattle.inc_terms.specs.Term.{Functions}
-use Rattle.inc_terms.specs.Graph as graph
 use Rattle.inc_terms.specs.Graph.{Graph, Row, Def}
 use Rattle.inc_terms.specs.Depend.{main, change, fixed_reads, main_reads, change_reads, kids_of, subject_of, rights_of}
 use Rattle.stabilize_round.specs.Calling.{taken_by}

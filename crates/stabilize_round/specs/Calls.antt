@@ -1,12 +1,11 @@
 -- How many calls a round makes.
-use Rattle.std.specs.Prelude.{◌≡◌, ◌+◌, ℕ, true, List, length, Option, None, Some}
-use Rattle.inc_value.specs.declared.function.FnRef.{FnRef}
+use Rattle.std.specs.Prelude.{◌≡◌, ◌+◌, ℕ, true, List, Option, None, Some}
 use Rattle.inc_value.specs.declared.node.NodeId.{NodeId}
 use Rattle.inc_value.specs.declared.node.Point.{Point}
 use Rattle.inc_value.specs.declared.value.Value.{Value}
 use Rattle.inc_value.specs.Choice.{Among, NoRepeats}
 use Rattle.inc_terms.specs.Term.{Functions}
-use Rattle.inc_terms.specs.Graph.{Row, Map}
+use Rattle.inc_terms.specs.Graph.{Row}
 use Rattle.inc_terms.specs.Need.{Beside, Observed, nodes_of, Held}
 use Rattle.inc_terms.specs.Work.{WithinWork}
 use Rattle.stabilize_round.specs.Calling.{taken_by, costs_of}

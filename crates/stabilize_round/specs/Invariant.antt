@@ -1,5 +1,5 @@
 -- What holds before and after each step of a round.
-use Rattle.std.specs.Prelude.{◌≡◌, ◌⊎◌, Bool, ◌<◌, ◌≤◌, ◌+◌, ℕ, true, false, List, [], length, Option, Some}
+use Rattle.std.specs.Prelude.{◌≡◌, ◌⊎◌, Bool, ◌<◌, ◌≤◌, ◌+◌, ℕ, true, false, List, [], Option, Some}
 use Rattle.inc_value.specs.declared.function.FnRef.{FnRef}
 use Rattle.inc_value.specs.declared.node.NodeId.{NodeId}
 use Rattle.inc_value.specs.declared.node.Part.TheVariants.{Change, Main}
@@ -8,7 +8,7 @@ use Rattle.inc_value.specs.declared.outcome.Outcome.{Outcome}
 use Rattle.inc_value.specs.declared.value.Value.{Value}
 use Rattle.inc_value.specs.Choice.{Among, NoRepeats, Reaches}
 use Rattle.inc_terms.specs.Term.{Functions, refs}
-use Rattle.inc_terms.specs.Graph.{Graph, Row, Built, Map, Bind}
+use Rattle.inc_terms.specs.Graph.{Graph, Row, Built, Bind}
 use Rattle.inc_terms.specs.Evaluate.{Values, gathered, GiveAll, Stands}
 use Rattle.inc_terms.specs.Depend.{Depends, main, change, subject_of}
 use Rattle.inc_terms.specs.Local.{shown, by_sight, Agrees, Exact, Scoped, IsRooted, IsBuilt}

@@ -1,12 +1,11 @@
 -- A round: what it begins with, its moves, and runs of them.
 use Rattle.std.specs.Prelude.{◌≡◌, ◌⊎◌, ℕ, true, false, Bool, List, [], Option, None, Some}
-use Rattle.inc_value.specs.declared.function.FnRef.{FnRef}
 use Rattle.inc_value.specs.declared.node.NodeId.{NodeId}
 use Rattle.inc_value.specs.declared.node.Point.{Point}
 use Rattle.inc_value.specs.declared.outcome.Outcome.{Outcome}
 use Rattle.inc_value.specs.Choice.{Reaches}
 use Rattle.inc_terms.specs.Term.{Functions}
-use Rattle.inc_terms.specs.Graph.{Row, Map}
+use Rattle.inc_terms.specs.Graph.{Row}
 use Rattle.inc_terms.specs.Depend.{main}
 use Rattle.inc_terms.specs.Local.{shown, Agrees, Scoped}
 use Rattle.stabilize_round.specs.Calling.{taken_by, IsAnswer, cost_at}

@@ -1,12 +1,11 @@
 -- What a round does to its state, move by move.
 use Rattle.std.specs.Prelude.{◌≡◌, ◌⊎◌, ◌≤◌, ℕ, true, false, Bool, List, ◌∷◌, Option, Some}
-use Rattle.inc_value.specs.declared.function.FnRef.{FnRef}
 use Rattle.inc_value.specs.declared.node.NodeId.{NodeId}
 use Rattle.inc_value.specs.declared.node.Point.{Point}
 use Rattle.inc_value.specs.declared.outcome.Outcome.{Outcome}
 use Rattle.inc_value.specs.declared.value.Value.{Value}
 use Rattle.inc_terms.specs.Term.{Functions, refs}
-use Rattle.inc_terms.specs.Graph.{Row, Def, Map}
+use Rattle.inc_terms.specs.Graph.{Row, Def}
 use Rattle.inc_terms.specs.Evaluate.{gathered, Values}
 use Rattle.inc_terms.specs.Depend.{main, change, subject_of}
 use Rattle.inc_terms.specs.Local.{shown, by_sight, own, IsBuilt}

@@ -1,6 +1,6 @@
 -- A round ends: what is needed is up to date, and another round may begin.
 use Rattle.std.proofs.Common.{◌≡◌, ◌⊎◌, inl, inr, ℕ, zero, suc, ◌<◌, ◌≤◌, ◌+◌, ◌++◌, Bool, true, false}
-use Rattle.std.proofs.Common.{List, [], ◌∷◌, length, map, Option, None, Some, refl, sym, ap, subst, ◌∙◌, arith}
+use Rattle.std.proofs.Common.{List, [], ◌∷◌, map, Option, None, Some, refl, sym, ap, subst, ◌∙◌, arith}
 use Rattle.std.specs.Prelude.{is_some, ◌↔◌, ◌==◌, reverse, slice_index_or, if◌then◌else◌}
 use Rattle.std.proofs.Math.Path.{fun_ext}
 use Rattle.std.proofs.lemmas.Grind.{common_steps}
@@ -20,7 +20,7 @@ use Rattle.inc_terms.specs.declared.def.Def.TheVariants as form
 use Rattle.inc_terms.specs.Code.{def_of}
 use Rattle.inc_terms.specs.Depend.{Depends, main, none_died, fixed, fixed_reads}
 use Rattle.inc_terms.specs.Evaluate.{Of, Values, gathered, NodeGives, GiveAll}
-use Rattle.inc_terms.specs.Graph.{Graph, Row, Def, Map, Freeze}
+use Rattle.inc_terms.specs.Graph.{Graph, Row, Freeze}
 use Rattle.inc_terms.specs.Local.{shown, shown_of, by_sight, Sees}
 use Rattle.inc_terms.specs.Need.{IsRoot, Needed, Met, from_root, from_held}
 use Rattle.inc_terms.specs.Term as term

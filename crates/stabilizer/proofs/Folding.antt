@@ -1,10 +1,8 @@
 -- A fold, value by value.
-use Rattle.std.proofs.Common.{◌≡◌, ℕ, ◌<◌, ◌+◌, ◌++◌, List, [], ◌∷◌, length, take, get_or, refl, ap, ◌∙◌, arith, subst}
+use Rattle.std.proofs.Common.{◌≡◌, ℕ, ◌<◌, ◌+◌, ◌++◌, List, [], ◌∷◌, length, take, get_or, refl, ap, ◌∙◌}
 use Rattle.std.proofs.lemmas.List.{take_more}
 use Rattle.inc_value.specs.declared.value.Value.{Value}
 use Rattle.inc_terms.specs.Evaluate.{folded}
-use Rattle.stabilize_round.specs.Counts.{RoseBy}
-use Rattle.stabilize_round.proofs.Counts.{rose_on}
 
 -- equal values give equal results
 pub of_two : (f : List Value → Value) (a a' b b' : Value) → a ≡ a' → b ≡ b' → f (a ∷ b ∷ []) ≡ f (a' ∷ b' ∷ [])

@@ -4,7 +4,7 @@ ghost use Rattle.inc_value.specs.Value.{type_of};
 ghost use Rattle.inc_value.specs.declared.node.NodeId.{NodeId};
 ghost use Rattle.inc_value.specs.Choice.{Among};
 ghost use Rattle.inc_terms.specs.Code.{def_of};
-ghost use Rattle.inc_terms.specs.Graph.{Const, Var, Map};
+ghost use Rattle.inc_terms.specs.Graph.{Const, Var, Map, Fold};
 ghost use Rattle.graph.specs.Known.{CallsKnown};
 ghost use Rattle.inc_terms.specs.Within.{Given, ValueWithin};
 ghost use Rattle.node_arena.specs.Arena.{IsLive, IsVariable};
@@ -83,6 +83,33 @@ impl<F: Functions> Graph<F> {
         self.check()?;
         let nodes = Nodes::from_slice(self.alloc, kids)?;
         self.add(Def::Map(f, nodes), f.sig.gives())
+    }
+
+    /// A node that folds the values of nodes by a function of two arguments, which is known: from the initial value
+    /// on it calls the function for each node in order, on what it gave last and the node's value. Of no nodes it
+    /// gives the initial value.
+    pub fn fold(&mut self, f: FnRef, initial: Value, kids: &[NodeId]) -> Result<NodeId, GraphFault>
+        requires known { IsTrue (F.known self.old.functions f) }
+        ensures broken { (cause : ACause) → IsErrOf result (GraphFault.Broken cause) ↔ IsBroken self.old cause }
+        ensures added { IfOk result (λ id. Adds self.old self.new id (top (Fold f initial kids.now) f.sig.gives)) }
+        ensures unknown { IsErrOf result GraphFault.Unknown
+            → IsUnbroken self.old × NamesUnknown self.old (Fold f initial kids.now) }
+        ensures unknown_told { IsUnbroken self.old → NamesUnknown self.old (Fold f initial kids.now)
+            → IsErrOf result GraphFault.Unknown ⊎ IsErrOf result GraphFault.Memory }
+        ensures wrong_type { IsErrOf result GraphFault.WrongType
+            → IsUnbroken self.old × IsMistyped self.old (Fold f initial kids.now) f.sig.gives }
+        ensures wrong_type_told { IsUnbroken self.old → IsMistyped self.old (Fold f initial kids.now) f.sig.gives
+            → IsErrOf result GraphFault.WrongType ⊎ IsErrOf result GraphFault.Memory }
+        ensures full { IsErrOf result GraphFault.Full
+            → IsUnbroken self.old × HasNoRoom self.old (Fold f initial kids.now) f.sig.gives }
+        ensures full_told { IsUnbroken self.old → HasNoRoom self.old (Fold f initial kids.now) f.sig.gives
+            → IsErrOf result GraphFault.Full ⊎ IsErrOf result GraphFault.Memory }
+        ensures adding { IfErr result IsAddFault }
+        ensures err { OnErr result (KeepsAll self.old self.new) }
+    {
+        self.check()?;
+        let nodes = Nodes::from_slice(self.alloc, kids)?;
+        self.add(Def::Fold(f, initial, nodes), f.sig.gives())
     }
 
     /// Adds a node.

@@ -1,7 +1,9 @@
 //! One call that brings what is observed up to date.
-ghost use Rattle.std.specs.Prelude.{◌≡◌, ◌↔◌, ◌++◌, List, None, Some, IfOk, OnOk, OnErr, IfErr, IsErrOf, length, vec_len, ◌≤◌};
+ghost use Rattle.std.specs.Prelude.{◌≡◌, ◌↔◌, ◌++◌, List, None, Some, IfOk, OnOk, OnErr, IfErr, IsErrOf, length, ◌≤◌};
 ghost use Rattle.inc_value.specs.declared.node.NodeId.{NodeId};
 ghost use Rattle.node_arena.specs.Meanings.{SameNames, KeepsKnown, SameValues};
+ghost use Rattle.node_arena.specs.Graph.{graph_of};
+ghost use Rattle.stabilize_round.specs.Calling.{costs_of};
 ghost use Rattle.stabilize_round.specs.Counts.{RoseBy};
 ghost use Rattle.stabilizer.specs.Meaning.{functions_of};
 ghost use Rattle.stabilizer.specs.Round.{IsUpToDate, IsLawful, HasCalledFew};
@@ -21,7 +23,7 @@ use std::alloc::Global;
 /// What the last accepted stabilize did.
 #[derive(Clone, Copy)]
 pub struct Round<'a> {
-    /// The nodes whose functions were called, each once, in order.
+    /// The maps and folds that were computed anew, each once, in order. A fold of no nodes takes no call.
     pub ran: &'a [NodeId],
 }
 
@@ -31,7 +33,8 @@ impl<F: Functions> Graph<F> {
     pub fn stabilize(&mut self) -> Result<(), StabilizeFault>
         ensures broken { (cause : ACause) → IsErrOf result (StabilizeFault.Broken cause) ↔ IsBroken self.old cause }
         ensures brought { OnOk result (Stabilizes (functions_of (F.value self.old.functions)) self.old self.new) }
-        ensures calls { OnOk result (RoseBy (F.calls self.old.functions) (vec_len self.new.parts.ran) (F.calls self.new.functions)) }
+        ensures calls { OnOk result (RoseBy (F.calls self.old.functions)
+            (costs_of (graph_of self.old.parts.arena) self.new.parts.ran.items) (F.calls self.new.functions)) }
         ensures refused { (cause : ACause) → IsErrOf result (StabilizeFault.Refused cause)
             → IsRefusedFor (functions_of (F.value self.old.functions)) self.old self.new cause }
         ensures few { (cause : ACause) → IsErrOf result (StabilizeFault.Refused cause)
@@ -86,7 +89,8 @@ fn run<F: Functions>(
     requires can { CanStabilize (F.known functions.old) (F.value functions.old) parts.old observers.now rooted }
     ensures right { OnOk result (IsUpToDate (functions_of (F.value functions.old)) parts.old.arena parts.old.work parts.new.work
         (in_use observers.now) parts.new.ran.items) }
-    ensures calls { OnOk result (RoseBy (F.calls functions.old) (vec_len parts.new.ran) (F.calls functions.new)) }
+    ensures calls { OnOk result (RoseBy (F.calls functions.old)
+        (costs_of (graph_of parts.old.arena) parts.new.ran.items) (F.calls functions.new)) }
     ensures can { OnOk result (CanStabilize (F.known functions.new) (F.value functions.new) parts.new observers.now
         (length observers.now)) }
     ensures lawful { IfErr result (λ e. IsLawful (functions_of (F.value functions.old)) parts.old.arena parts.old.work

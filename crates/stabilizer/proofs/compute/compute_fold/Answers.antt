@@ -1,4 +1,4 @@
-use Rattle.std.proofs.Common.{◌≡◌, ℕ, None, length, refl, sym, subst}
+use Rattle.std.proofs.Common.{ℕ, None, length, refl, subst}
 use Rattle.std.proofs.lemmas.Result.{IfOk-weaker, on_err_weaker}
 use Rattle.std.specs.List.{filter_map}
 use Rattle.inc_terms.specs.Evaluate.{folded}
@@ -38,7 +38,7 @@ returns-in-None-clause-computed g c =
     (λ o called. called_computes value (folded (value f) from) f.sig.gives old c.args.node (Fold f from kids) kids (length kids) refl
     (λ values. refl) c.requires.there c.call_fold.new.work o before after known
     (subst (λ (k : ℕ). IsCalled (folded (value f) from) f.sig.gives old c.call_fold.new.work c.args.node (filter_map (value_shown old.rows) kids) o k
-      before after) (all_shown old.rows kids known.0) called))
+    before after) (all_shown old.rows kids known.0) called))
     c.call_fold.ensures.called
 
 pub returns-in-None-clause-refused : goal.returns-in-None-clause-refused
@@ -48,5 +48,5 @@ returns-in-None-clause-refused g c =
     let known : IsKnown old.rows c.args.node kids None = subst (λ o. IsKnown old.rows c.args.node kids o) c.in-None.is c.in_ok-outcome.ensures in
     on_err_weaker c.call_fold.result
     (subst (λ (k : ℕ). KeepsAllButCount old c.call_fold.new.work k (g.F.Functions.calls c.args.functions.now)
-      (g.F.Functions.calls c.call_fold.new.functions)) (all_shown old.rows kids known.0))
+    (g.F.Functions.calls c.call_fold.new.functions)) (all_shown old.rows kids known.0))
     c.call_fold.ensures.refused
