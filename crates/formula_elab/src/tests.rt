@@ -54,6 +54,17 @@ fn sum(alloc: Global, add: FnRef, neg: FnRef) -> Result<Formula, AllocError>
     })
 }
 
+/// The fold of `add` from 5 over the first declaration, the negation of 2, and the first declaration again.
+fn total(alloc: Global, add: FnRef, neg: FnRef) -> Result<Formula, AllocError>
+    ensures { IfOk result (λ f. EveryName (λ n. n < 1) (formula_view f)) }
+{
+    Ok(Formula::Fold {
+        function: add,
+        first: Constant::Int(5),
+        elements: vec![in alloc; Formula::Name(0), negation(alloc, neg)?, Formula::Name(0)]?,
+    })
+}
+
 /// The declaration of the formula as `s`.
 fn declared(alloc: Global, formula: Formula) -> Result<Command, AllocError>
     requires { EveryName (λ n. n < 1) (formula_view formula) }
@@ -93,6 +104,25 @@ fn goes_on_with(
     }
 }
 
+/// Whether the next to be made is the fold of the nodes from the number, where the node was made of the last.
+fn goes_on_folding(
+    plan: &mut Plan,
+    made: NodeId,
+    f: FnRef,
+    number: i64,
+    kids: &[NodeId],
+) -> Result<bool, AllocError>
+    requires { IsTrue plan.old.is_waiting }
+    ensures { IfOk result (λ is. IsTrue is → IsTrue plan.new.is_waiting) }
+{
+    match plan.next(Some(Made::Node(made)))? {
+        Some(Make::Node(Def::Fold(next, first, nodes))) => {
+            Ok(next == f && first.same(&Value::Int(number)) && nodes.as_slice() == kids)
+        }
+        _ => Ok(false),
+    }
+}
+
 /// Whether nothing is left to be made, where the node was made of the last, and it is the root.
 fn ends_with(plan: &mut Plan, made: NodeId) -> Result<bool, AllocError>
     requires { IsTrue plan.old.is_waiting }
@@ -113,6 +143,20 @@ fn makes_arguments_first(rt: HostRuntime) -> Result<(), Fail> {
     assert!(rt; begins_with(&mut plan, 2)?);
     assert!(rt; goes_on_with(&mut plan, node(20), neg, &[node(20)])?);
     assert!(rt; goes_on_with(&mut plan, node(21), add, &[node(7), node(21)])?);
+    assert!(rt; ends_with(&mut plan, node(22))?);
+    Ok(())
+}
+
+#[test]
+fn makes_elements_first(rt: HostRuntime) -> Result<(), Fail> {
+    let alloc = rt.alloc();
+    let add = map(1, &[Ty::Int, Ty::Int]).ok_or("no add")?;
+    let neg = map(6, &[Ty::Int]).ok_or("no neg")?;
+    let command = declared(alloc, total(alloc, add, neg)?)?;
+    let mut plan = elaborate(alloc, &command, &[node(7)])?;
+    assert!(rt; begins_with(&mut plan, 2)?);
+    assert!(rt; goes_on_with(&mut plan, node(20), neg, &[node(20)])?);
+    assert!(rt; goes_on_folding(&mut plan, node(21), add, 5, &[node(7), node(21), node(7)])?);
     assert!(rt; ends_with(&mut plan, node(22))?);
     Ok(())
 }
