@@ -18,7 +18,8 @@ module _ (known : FnRef → Bool) (names : Names) where
     formula_fitting (Literal v) ty fits = value_is_base v ty fits.0 fits.1
     formula_fitting (Name n) ty fits = tt
     formula_fitting (Apply function arguments) ty fits = arguments_fitting arguments function.sig.takes fits.1
-    formula_fitting (Fold function first elements) ty fits = (value_is_base first ty fits.3 fits.4, elements_fitting elements fits.0 fits.5)
+    formula_fitting (Fold function first elements) ty fits =
+        (value_is_base first ty fits.3 fits.4, elements_fitting elements fits.0 fits.5)
     formula_fitting f ty fits = absurd fits
 
     arguments_fitting : (fs : Formulas) (tys : List Ty) → ArgumentsFit known names fs tys → HoldNoReference fs

@@ -93,7 +93,8 @@ module _ (x : Both) (nodes : ℕ → NodeId) (made : List NodeId) where
         let parts = top_split x.graph made start each.makes (Fold function (to_engine first) each.roots ∷ []) top in
         let same = value_same x.nodes first base.0 in (
           refs kids,
-          opens_fold x.graph (node_at made (start + length each.makes)) function (to_engine first) (graph_value x.nodes first) kids same parts.1.0,
+          opens_fold x.graph (node_at made (start + length each.makes)) function (to_engine first) (graph_value x.nodes first)
+              kids same parts.1.0,
           shows_each start elements base.1 names parts.0,
         )
     shows start f base names top = absurd base

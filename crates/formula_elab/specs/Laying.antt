@@ -1,5 +1,5 @@
--- The nodes to be made for a formula: those of arguments before their application, those of elements before their fold, and
--- none for a bare name.
+-- The nodes to be made for a formula: those of arguments and elements before their application or fold, and none for a
+-- bare name.
 use Rattle.std.specs.Prelude.{◌+◌, ℕ, List, [], ◌∷◌, ◌++◌, length, Option, None, Some}
 use Rattle.inc_value.specs.declared.function.FnRef.{FnRef}
 use Rattle.inc_value.specs.declared.node.NodeId.{NodeId}
@@ -57,7 +57,8 @@ abbrev mutual
   laid nodes start (Literal v) = laid_one start (Const (to_engine v))
   laid nodes start (Name n) = laid_given (nodes n)
   laid nodes start (Apply function arguments) = laid_behind start function (laid_each nodes start arguments)
-  laid nodes start (script.Fold function first elements) = laid_fold start function (to_engine first) (laid_each nodes start elements)
+  laid nodes start (script.Fold function first elements) =
+      laid_fold start function (to_engine first) (laid_each nodes start elements)
   laid nodes start f = laid_given no_node
 
   -- what is to be made for formulas, one after the other

@@ -141,7 +141,8 @@ module _ (F : Meanings) (known : FnRef → Bool) (names : Names) (earlier : AreE
   call_fits name (Some f) (Some ts) t is all e = applied_fits f ts t (maps name f is) (all ts refl) e
 
   -- where all types are one, each argument fits as an element
-  all_elements : (t : Ty) (fs : model.Formulas) (tys : List Ty) → are_all t tys ≡ true → ArgumentsFit known names fs tys → ElementsFit known names fs t
+  all_elements : (t : Ty) (fs : model.Formulas) (tys : List Ty) → are_all t tys ≡ true → ArgumentsFit known names fs tys
+      → ElementsFit known names fs t
   all_elements t model.End tys same all = tt
   all_elements t (model.More f fs) [] same all = absurd all
   all_elements t (model.More f fs) (u ∷ tys) same all = go (same_ty t u) refl same (λ rest. all_elements t fs tys rest all.1)
@@ -151,8 +152,8 @@ module _ (F : Meanings) (known : FnRef → Bool) (names : Names) (earlier : AreE
       go true is same others = (subst (λ v. FormulaFits known names f v) (sym (ty_true t u is)) all.0, others same)
       go false is same others = absurd (cc)
 
-  folded_fits : (f : FnRef) (first : Literal) (ts : TypedFormulas) (t : TypedFormula) → is_plain_literal first ≡ true → FunctionFits known f → AllFit ts
-      → folded names f first ts ≡ Some t → Fits t
+  folded_fits : (f : FnRef) (first : Literal) (ts : TypedFormulas) (t : TypedFormula) → is_plain_literal first ≡ true
+      → FunctionFits known f → AllFit ts → folded names f first ts ≡ Some t → Fits t
   folded_fits f first ts t plain function all is = over (element_of f f.sig.takes) refl is
     where
       over : (element : Option Ty) → element_of f f.sig.takes ≡ element
@@ -168,12 +169,13 @@ module _ (F : Meanings) (known : FnRef → Bool) (names : Names) (earlier : AreE
             where
               each : (b : Bool) → are_all u ts.tys ≡ b → cond b (typed_as (model.Fold f v ts.formulas) f.sig.gives) None ≡ Some t → Fits t
               each true same e =
-                  subst Fits (some_is _ t e)
-                  (u, function, (takes_pair f f.sig.takes u at, refl), (fits v refl).0, (fits v refl).1, all_elements u ts.formulas ts.tys same all)
+                  let value = fits v refl in
+                  let elements = all_elements u ts.formulas ts.tys same all in
+                  subst Fits (some_is _ t e) (u, function, (takes_pair f f.sig.takes u at, refl), value.0, value.1, elements)
               each false same e = absurd (cc)
 
-  fold_fits : (name : List ℕ) (first : Literal) (found : Option FnRef) (each : Option TypedFormulas) (t : TypedFormula) → is_plain_literal first ≡ true
-      → F.named name ≡ found → ((ts : TypedFormulas) → each ≡ Some ts → AllFit ts)
+  fold_fits : (name : List ℕ) (first : Literal) (found : Option FnRef) (each : Option TypedFormulas) (t : TypedFormula)
+      → is_plain_literal first ≡ true → F.named name ≡ found → ((ts : TypedFormulas) → each ≡ Some ts → AllFit ts)
       → and_then found (λ f. and_then each (λ ts. folded names f first ts)) ≡ Some t → Fits t
   fold_fits name first None each t plain is all e = absurd (cc)
   fold_fits name first (Some f) None t plain is all e = absurd (cc)

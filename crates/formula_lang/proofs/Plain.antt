@@ -89,8 +89,8 @@ spoilt_push : (found : List Tree) (x : Tree) → plain_each found ≡ false → 
 spoilt_push found x h = plain_each-push found x ∙ ap (λ b. b && is_plain x) h
 
 -- a row that isn't plain stays so
-spoilt_behind : (end : ℕ) (next : List Tree → List Token → Read (List Tree)) (found : List Tree) (rest : List Token) → plain_each found ≡ false
-    → ((rest : List Token) → only plain_each (next found rest) ≡ None) → only plain_each (behind_element next end found rest) ≡ None
+spoilt_behind : (end : ℕ) (next : List Tree → List Token → Read (List Tree)) (found : List Tree) (rest : List Token)
+    → plain_each found ≡ false → ((rest : List Token) → only plain_each (next found rest) ≡ None) → only plain_each (behind_element next end found rest) ≡ None
 spoilt_behind end next found [] h more = refl
 spoilt_behind end next found (t ∷ rest) h more = go (is_sign end t) (is_sign 44 t)
   where
@@ -142,7 +142,8 @@ module _ (end : ℕ) (part plain : List Token → Read Tree) (same : (tokens : L
               rw (← e) (behind_same n (found ++ x ∷ []) rest pushed (others (found ++ x ∷ []) pushed))
           at false is e =
               let pushed : plain_each (found ++ x ∷ []) ≡ false = plain_each-push found x ∙ rw (h, is) refl in
-              rw (← e) (spoilt_behind end (list_front part end n) (found ++ x ∷ []) rest pushed (λ left. spoilt part end n (found ++ x ∷ []) left pushed))
+              rw (← e) (spoilt_behind end (list_front part end n) (found ++ x ∷ []) rest pushed
+              (λ left. spoilt part end n (found ++ x ∷ []) left pushed))
 
 -- ---- words
 
@@ -242,13 +243,15 @@ module _ (part plain : List Token → Read Tree) (same : (tokens : List Token) �
       go : (b : Bool) → is_sign 93 t ≡ b → only plain_each (any_front part 93 (t ∷ rest)) ≡ plain_any plain (t ∷ rest)
       go true is = rw (closes t is, none_before_end (suc (tally rest)) rest) refl
       go false is =
-          rw (is, or_none (list_front part 93 (suc (tally rest)) [] (t ∷ rest))) (list_same 93 part plain same (suc (tally rest)) [] (t ∷ rest) refl)
+          rw (is, or_none (list_front part 93 (suc (tally rest)) [] (t ∷ rest)))
+          (list_same 93 part plain same (suc (tally rest)) [] (t ∷ rest) refl)
 
   -- the elements, where the first value is of today's forms
   over_same : (function : List ℕ) (first : literals.Literal) (tokens : List Token) → is_plain_literal first ≡ true
       → only is_plain (then_read (any_front part 93 tokens) (λ elements rest. read (grammar.Fold function first (trees_of elements)) rest))
       ≡ fold_over plain function first tokens
-  over_same function first tokens h = go (any_front part 93 tokens) ∙ ap (λ o. then_read o (λ elements rest. read (grammar.Fold function first (trees_of elements)) rest)) (any_same tokens)
+  over_same function first tokens h = go (any_front part 93 tokens)
+      ∙ ap (λ o. then_read o (λ elements rest. read (grammar.Fold function first (trees_of elements)) rest)) (any_same tokens)
     where
       go : (o : Read (List Tree))
           → only is_plain (then_read o (λ elements rest. read (grammar.Fold function first (trees_of elements)) rest))
@@ -283,12 +286,14 @@ module _ (part plain : List Token → Read Tree) (same : (tokens : List Token) �
               ≡ then_read p (λ first rest. if begins_with 91 rest then fold_over plain function first (drop 1 rest) else None)
           at true is e = rw (← e) (expect_same is_plain (is_sign 91) rest _ ∙ sign_eaten 91 rest _
               ∙ behind_expected (begins_with 91 rest) _ _ (over_same function first (drop 1 rest) is))
-          at false is e = rw (← e) (expect_none is_plain (is_sign 91) rest _ (λ rest. then_none is_plain (any_front part 93 rest) _ (λ elements rest. rw is refl)))
+          at false is e = rw (← e) (expect_none is_plain (is_sign 91) rest _
+              (λ rest. then_none is_plain (any_front part 93 rest) _ (λ elements rest. rw is refl)))
 
   fold_same : (tokens : List Token) → only is_plain (fold_front part tokens) ≡ plain_fold plain tokens
   fold_same tokens = go (name_front tokens)
     where
-      go : (o : Read (List ℕ)) → only is_plain (then_read o (λ function rest. expect (is_word (codes "from")) rest (λ rest. behind_from function rest)))
+      go : (o : Read (List ℕ))
+          → only is_plain (then_read o (λ function rest. expect (is_word (codes "from")) rest (λ rest. behind_from function rest)))
           ≡ then_read o (λ function rest. if begins_with_word (codes "from") rest then fold_from plain function (drop 1 rest) else None)
       go None = refl
       go (Some (function, rest)) = expect_same is_plain (is_word (codes "from")) rest _ ∙ word_eaten (codes "from") rest _
@@ -361,7 +366,8 @@ module _ (part plain : List Token → Read Tree) (same : (tokens : List Token) �
       either (WordSame rest) w (codes "freeze") (freeze_none part rest) (λ e8.
       either (WordSame rest) w (codes "after") (then_none is_plain (time_front rest) _ (λ time left. refl)) (λ e9.
       either (WordSame rest) w (codes "every") (then_none is_plain (time_front rest) _ (λ time left. refl)) (λ e10.
-      rw (reserved, e1, e2, e3, e4, other_way w (codes "fold") e4, e5, e6, e7, e8, e9, e10) (truth_same (bytes_eq w (codes "true")) (bytes_eq w (codes "false")) rest)))))))))))
+      rw (reserved, e1, e2, e3, e4, other_way w (codes "fold") e4, e5, e6, e7, e8, e9, e10)
+      (truth_same (bytes_eq w (codes "true")) (bytes_eq w (codes "false")) rest)))))))))))
 
   word_same : (w : List ℕ) (rest : List Token) → WordSame rest w
   word_same w rest = go (is_name w) refl

@@ -92,7 +92,8 @@ mutual
   heads (grammar.Literal l) h = (h, tt)
   heads (grammar.Name name) h = (refl, tt)
   heads (Call function arguments) h = (refl, heads_all arguments h)
-  heads (Fold function first elements) h = let both = both_true (is_plain_literal first) (are_plain elements) h in (both.0, heads_all elements both.1)
+  heads (Fold function first elements) h =
+      let both = both_true (is_plain_literal first) (are_plain elements) h in (both.0, heads_all elements both.1)
   heads _ h = absurd (cc)
 
   heads_all : (ts : Trees) → are_plain ts ≡ true → ArePlain (trees_in_all ts)

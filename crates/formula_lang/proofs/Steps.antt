@@ -26,14 +26,16 @@ module _ (part : List Token → Read Tree) (end : ℕ) where
   list_front_none n done tokens e = rw e refl
 
   -- behind fewer than the limit the next one is read, and then what stands behind it
-  pub list_front_more : (limit count : ℕ) (done : List Tree) (tokens : List Token) → count < limit → list_front part end (limit - count) done tokens
+  pub list_front_more : (limit count : ℕ) (done : List Tree) (tokens : List Token) → count < limit
+      → list_front part end (limit - count) done tokens
       ≡ then_read (part tokens) (λ x rest. behind_element (list_front part end (limit - (count + 1))) end (done ++ x ∷ []) rest)
   unfolding list_front
   list_front_more limit count done tokens h = let more : limit - count ≡ suc (limit - (count + 1)) = omega (arith, h) in rw more refl
 
   -- what stands behind it, by the signs that are eaten
   pub behind_eaten : (n : ℕ) (now : List Tree) (tokens : List Token) → behind_element (list_front part end n) end now tokens
-      ≡ (if begins_with end tokens then read now (drop 1 tokens) else (if begins_with 44 tokens then list_front part end n now (drop 1 tokens) else None))
+      ≡ (if begins_with end tokens then read now (drop 1 tokens)
+      else (if begins_with 44 tokens then list_front part end n now (drop 1 tokens) else None))
   behind_eaten n now [] = refl
   behind_eaten n now (t ∷ rest) = refl
 

@@ -33,7 +33,8 @@ abbrev mutual
   FormulaFits known names (Name position) ty = NameFits names position ty
   FormulaFits known names (Apply f arguments) ty = FunctionFits known f × ArgumentsFit known names arguments f.sig.takes × (f.sig.gives ≡ ty)
   FormulaFits known names (Fold f first elements) ty =
-      (element : Ty) × FunctionFits known f × FoldsOver f ty element × (type_of first ≡ ty) × IsBase ty × ElementsFit known names elements element
+      (element : Ty) × FunctionFits known f × FoldsOver f ty element × (type_of first ≡ ty) × IsBase ty
+      × ElementsFit known names elements element
   FormulaFits known names f ty = ⊥
 
   -- each argument has the type that is listed for it, and there are as many

@@ -65,7 +65,8 @@ plain_any part tokens = if begins_with 93 tokens then read [] (drop 1 tokens) el
 
 -- the fold of the function from the first value, behind its `[`
 abbrev pub fold_over : (List Token → Read Tree) → List ℕ → Literal → List Token → Read Tree
-fold_over part function first tokens = then_read (plain_any part tokens) (λ elements rest. read (grammar.Fold function first (trees_of elements)) rest)
+fold_over part function first tokens =
+    then_read (plain_any part tokens) (λ elements rest. read (grammar.Fold function first (trees_of elements)) rest)
 
 -- the fold of the function, behind its `from`
 abbrev pub fold_from : (List Token → Read Tree) → List ℕ → List Token → Read Tree
@@ -75,12 +76,14 @@ fold_from part function tokens =
 -- a fold, behind its first word
 abbrev pub plain_fold : (List Token → Read Tree) → List Token → Read Tree
 plain_fold part tokens =
-    then_read (name_front tokens) (λ function rest. if begins_with_word (codes "from") rest then fold_from part function (drop 1 rest) else None)
+    then_read (name_front tokens) (λ function rest.
+    if begins_with_word (codes "from") rest then fold_from part function (drop 1 rest) else None)
 
 -- a formula, behind its first token: a name or a function where that is a name, a fold behind its word, else a literal
 abbrev pub behind_first : (List Token → Read Tree) → Token → List Token → Option (List ℕ) → Read Tree
 behind_first part t rest (Some w) = named_front part w rest
-behind_first part t rest None = if is_word (codes "fold") t then plain_fold part rest else and_then (literal_in t) (λ l. read (grammar.Literal l) rest)
+behind_first part t rest None =
+    if is_word (codes "fold") t then plain_fold part rest else and_then (literal_in t) (λ l. read (grammar.Literal l) rest)
 
 abbrev pub plain_front : (List Token → Read Tree) → List Token → Read Tree
 plain_front part [] = None

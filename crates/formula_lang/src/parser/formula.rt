@@ -116,7 +116,8 @@ fn elements_of(
     depth: usize,
     tokens: &mut Cursor<'_, '_>,
 ) -> Result<Option<Vec<Tree>>, AllocError>
-    ensures { IfOk result (λ found. option_map (λ trees. (map tree_view trees.items, tokens.new)) found ≡ plain_any (plain_read depth) tokens.old) }
+    ensures { IfOk result (λ found. option_map (λ trees. (map tree_view trees.items, tokens.new)) found
+        ≡ plain_any (plain_read depth) tokens.old) }
 {
     if tokens.eat(Sign::CloseBracket) {
         return Ok(Some(Vec::new(alloc)));

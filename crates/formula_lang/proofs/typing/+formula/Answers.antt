@@ -28,6 +28,7 @@ typed-returns-in-Some-3 g t c =
     let F = meanings_of (g.L.Library.named c.args.library.now) (g.L.Library.value c.args.library.now) in
     let written = ap tree_view (sym (rolls-Fold c.in-Fold.function c.in-Fold.first c.in-Fold.elements))
     ∙ fold-roll-Tree Tree level_view (level.Fold c.in-Fold.function c.in-Fold.first c.in-Fold.elements) in
-    let found : F.named c.in-Fold.function ≡ Some c.in-Some-find.function = rw (← c.bytes-in-Fold.ensures) (sym c.find-in-Fold.ensures ∙ c.in-Some-find.is) in
+    let found : F.named c.in-Fold.function ≡ Some c.in-Some-find.function =
+    rw (← c.bytes-in-Fold.ensures) (sym c.find-in-Fold.ensures ∙ c.in-Some-find.is) in
     let each = rw (c.in-Some-3.is, c.deref-in-Fold.ensures.value) at c.in_ok-elements-in-Fold.ensures in
     rw (c.in-Fold.is, written, found, ← each) (c.folded.ensures c.args.names.now)
