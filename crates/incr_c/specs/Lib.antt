@@ -1,0 +1,4 @@
+pub mod Answers
+pub mod Handles
+pub mod Holding
+pub mod Slots
