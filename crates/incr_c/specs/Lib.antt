@@ -1,4 +1,5 @@
 pub mod Answers
+pub mod Handed
 pub mod Handles
 pub mod Holding
 pub mod Slots

@@ -10,9 +10,11 @@ ghost use Rattle.incr_c.specs.declared.answer.Answer.TheVariants.{NoSlot};
 mod answer;
 mod handle;
 mod holder;
+mod laws;
 mod slot;
 
 use crate::answer::Answer;
+pub use crate::laws::hands_out_transcripts;
 use crate::slot::Slot;
 use std::alloc::Global;
 

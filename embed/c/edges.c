@@ -1,0 +1,120 @@
+/* What calls answer where little or too much is given to them. The last line is `N passed, M failed`. */
+#include "incr.h"
+#include <stdio.h>
+#include <stdlib.h>
+#include <string.h>
+
+static int passed, failed;
+static uint8_t out[256];
+static size_t count;
+
+static void is(const char *what, long long found, long long wanted) {
+    if (found == wanted) {
+        passed++;
+    } else {
+        failed++;
+        printf("edges: %s: %lld, and not %lld\n", what, found, wanted);
+    }
+}
+
+static void prints(const char *what, const char *wanted) {
+    is(what, count == strlen(wanted) && memcmp(out, wanted, count) == 0, 1);
+}
+
+static int32_t line(incr_slot *slot, const char *text) {
+    return incr_line(slot, (const uint8_t *)text, strlen(text), out, sizeof out, &count);
+}
+
+int main(void) {
+    incr_slot slot = INCR_EMPTY, slots[3] = {INCR_EMPTY, INCR_EMPTY, INCR_EMPTY};
+    is("a slot is 16 bytes", sizeof slot, 16);
+
+    /* a slot of zeros */
+    count = 7;
+    is("a line without a session", line(&slot, "stabilize"), INCR_NO_SESSION);
+    is("nothing is to be read there", (long long)count, 0);
+    is("a rest without a session", incr_rest(&slot, out, sizeof out, &count), INCR_NO_SESSION);
+    is("a close without a session", incr_close(&slot), INCR_NO_SESSION);
+
+    /* lines */
+    is("an open", incr_open(&slot), INCR_DONE);
+    is("a variable", line(&slot, "var x int 3"), INCR_ACCEPTED);
+    is("an open over an open one", incr_open(&slot), INCR_IS_OPEN);
+    is("whose session stays", line(&slot, "let y add(x, 4)"), INCR_ACCEPTED);
+    prints("and prints", "ok\n");
+    is("an observer", line(&slot, "observe o y"), INCR_ACCEPTED);
+    is("a stabilize", line(&slot, "stabilize\r"), INCR_ACCEPTED);
+    is("a note", line(&slot, "# note"), INCR_BLANK);
+    is("a note prints nothing", (long long)count, 0);
+    is("an unknown name", line(&slot, "set z 1"), INCR_REFUSED + 4);
+    prints("is told", "refused 4\n");
+    is("a line with its newline", line(&slot, "stabilize\n"), INCR_REFUSED + 1);
+    is("an empty line", incr_line(&slot, out, 0, out, sizeof out, &count), INCR_BLANK);
+    is("null with length 0", incr_line(&slot, 0, 0, 0, 0, &count), INCR_BLANK);
+
+    /* room */
+    memset(out, 7, sizeof out);
+    is("too little room", incr_line(&slot, (const uint8_t *)"show o", 6, out, 5, &count), INCR_ACCEPTED);
+    is("tells how much there is", (long long)count, 6);
+    is("and copies nothing", out[0], 7);
+    is("no room at all", incr_line(&slot, (const uint8_t *)"show o", 6, 0, 0, &count), INCR_ACCEPTED);
+    is("adds to it", (long long)count, 12);
+    is("a note", line(&slot, "# note"), INCR_BLANK);
+    prints("hands all of it out", "o = 7\no = 7\n");
+    is("the rest of the room stays", out[12], 7);
+    is("a rest", incr_rest(&slot, out, sizeof out, &count), INCR_DONE);
+    is("has nothing more", (long long)count, 0);
+    incr_line(&slot, (const uint8_t *)"show o", 6, 0, 0, &count);
+    is("a rest with too little room", incr_rest(&slot, out, 5, &count), INCR_DONE);
+    is("tells how much there is", (long long)count, 6);
+    is("a rest with room for it", incr_rest(&slot, out, 6, &count), INCR_DONE);
+    prints("hands it out", "o = 7\n");
+
+    /* long lines and other bytes */
+    static uint8_t big[1 << 20];
+    memset(big, ' ', sizeof big);
+    is("4,096 spaces", incr_line(&slot, big, 4096, out, sizeof out, &count), INCR_BLANK);
+    is("4,097 spaces", incr_line(&slot, big, 4097, out, sizeof out, &count), INCR_REFUSED + 2);
+    is("a megabyte", incr_line(&slot, big, sizeof big, out, sizeof out, &count), INCR_REFUSED + 2);
+    prints("is told", "refused 2\n");
+    uint32_t chance = 1;
+    int wrong = 0;
+    for (int i = 0; i < 20000; i++) {
+        uint8_t bytes[64];
+        size_t length = (chance = chance * 1664525u + 1013904223u) >> 26;
+        for (size_t k = 0; k < length; k++) bytes[k] = (uint8_t)((chance = chance * 1664525u + 1013904223u) >> 24);
+        int32_t how = incr_line(&slot, bytes, length, out, sizeof out, &count);
+        wrong += how < 0 || count > 64;
+    }
+    is("random bytes without an answer", wrong, 0);
+    is("the session goes on", line(&slot, "show o"), INCR_ACCEPTED);
+    prints("as it was", "o = 7\n");
+
+    /* the end */
+    is("a close", incr_close(&slot), INCR_DONE);
+    is("a second close", incr_close(&slot), INCR_NO_SESSION);
+    is("a line behind it", line(&slot, "show o"), INCR_NO_SESSION);
+    is("another open", incr_open(&slot), INCR_DONE);
+    is("begins anew", line(&slot, "show o"), INCR_REFUSED + 11);
+    is("a close", incr_close(&slot), INCR_DONE);
+
+    /* by number */
+    is("an open by number", incr_open_at(slots, 3, 2), INCR_DONE);
+    is("an open beyond the last", incr_open_at(slots, 3, 3), INCR_NO_SLOT);
+    is("an open far beyond", incr_open_at(slots, 3, SIZE_MAX), INCR_NO_SLOT);
+    is("an open of none", incr_open_at(slots, 0, 0), INCR_NO_SLOT);
+    is("a line by number", incr_line_at(slots, 3, 2, (const uint8_t *)"var x int 3", 11, out, sizeof out, &count), INCR_ACCEPTED);
+    prints("prints", "ok\n");
+    is("a line at another one", incr_line_at(slots, 3, 1, (const uint8_t *)"var x int 3", 11, out, sizeof out, &count), INCR_NO_SESSION);
+    count = 7;
+    is("a line beyond", incr_line_at(slots, 3, 3, (const uint8_t *)"var x int 3", 11, out, sizeof out, &count), INCR_NO_SLOT);
+    is("has nothing", (long long)count, 0);
+    is("a rest by number", incr_rest_at(slots, 3, 2, out, sizeof out, &count), INCR_DONE);
+    is("a rest beyond", incr_rest_at(slots, 3, 4, out, sizeof out, &count), INCR_NO_SLOT);
+    is("a close beyond", incr_close_at(slots, 3, 3), INCR_NO_SLOT);
+    is("a close by number", incr_close_at(slots, 3, 2), INCR_DONE);
+    is("a second one", incr_close_at(slots, 3, 2), INCR_NO_SESSION);
+
+    printf("%d passed, %d failed\n", passed, failed);
+    return failed != 0;
+}

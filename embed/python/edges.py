@@ -1,0 +1,75 @@
+"""What the module does where a session is used wrongly. The last line is `N passed, M failed`."""
+
+import copy
+import pickle
+import sys
+import threading
+
+import incr
+
+passed = failed = 0
+
+
+def is_so(what, holds):
+    global passed, failed
+    if holds:
+        passed += 1
+    else:
+        failed += 1
+        print("edges: not so: " + what)
+
+
+def raises(what, kind, call):
+    try:
+        call()
+    except kind:
+        is_so(what, True)
+    else:
+        is_so(what, False)
+
+
+with incr.Session() as session:
+    is_so("an accepted line tells", session.line("var x int 3") == "ok")
+    is_so("a line may be bytes", session.line(b"let y add(x, 4)") == "ok")
+    is_so("a note tells nothing", session.line("# note") == "")
+    raises("a refused line", incr.Refused, lambda: session.line("set z 1"))
+    raises("bytes of no command", incr.Refused, lambda: session.line("\0é\n"))
+    raises("a line past 4,096 bytes", incr.Refused, lambda: session.line(b"#" * 4097))
+    raises("a copy", TypeError, lambda: copy.copy(session))
+    raises("a deep copy", TypeError, lambda: copy.deepcopy([session]))
+    raises("a pickle", TypeError, lambda: pickle.dumps(session))
+    text = "t" * 4000
+    is_so("a long text is declared", session.line('var t text "%s"' % text) == "ok")
+    session.run(b"observe o y\nobserve t t\nstabilize")
+    is_so("and told whole, past the first room", session.line("show t") == 't = "%s"' % text)
+    is_so("a script has its transcript", session.run(b"show o\n\nshow none\n") == b"o = 7\nrefused 11\n")
+    is_so("an empty script has none", session.run(b"") == b"" and session.run(b"\n") == b"")
+    caught = []
+
+    def elsewhere():
+        for call in (lambda: session.line("show o"), session.close):
+            try:
+                call()
+            except incr.WrongThread:
+                caught.append(True)
+
+    thread = threading.Thread(target=elsewhere)
+    thread.start()
+    thread.join()
+    is_so("another thread is refused", caught == [True, True])
+    try:
+        session.line("set z 1")
+    except incr.Refused as refused:
+        is_so("a refusal has its number and its line", (refused.number, refused.printed) == (4, "refused 4"))
+is_so("the end of a `with` closes", session.closed)
+raises("a closed session", incr.Closed, lambda: session.line("show o"))
+session.close()
+is_so("a second close does nothing", session.closed)
+sessions = [incr.Session() for _ in range(100)]
+for number, other in enumerate(sessions):
+    other.run(b"var x int %d\nobserve o x\nstabilize" % number)
+is_so("sessions are apart", all(other.line("show o") == "o = %d" % number for number, other in enumerate(sessions)))
+del sessions, other
+
+print("%d passed, %d failed" % (passed, failed))
+sys.exit(failed != 0)

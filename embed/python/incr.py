@@ -1,0 +1,156 @@
+"""Sessions of Garovymba for Python 3.8 and later, by ctypes.
+
+    with incr.Session() as session:
+        session.line("var x int 3")
+        session.line("let y add(x, 4)")
+        session.line("observe o y")
+        session.line("stabilize")
+        print(session.line("show o"))               # o = 7
+
+The shared library is libincr.so in the folder that INCR_LIBRARY names, beside this file, or in ../out.
+"""
+
+import ctypes
+import os
+import pathlib
+import threading
+
+NO_SESSION, NO_MEMORY, TOO_MANY, IS_OPEN = -1, -2, -3, -5
+BLANK, ACCEPTED, REFUSED = 0, 1, 100
+
+
+class IncrError(Exception):
+    """What a session does not do."""
+
+
+class Refused(IncrError):
+    """The session refused a line, with this number, and stays as it was; `printed` is what the line printed."""
+
+    def __init__(self, number, printed):
+        super().__init__("refused %d" % number)
+        self.number, self.printed = number, printed
+
+
+class Closed(IncrError):
+    """The session was closed."""
+
+
+class NoMemory(IncrError, MemoryError):
+    """There was no memory for the session, or for a line."""
+
+
+class TooManyLines(IncrError):
+    """The session has taken 2^30 lines, and takes no more."""
+
+
+class WrongThread(IncrError):
+    """The session belongs to another thread."""
+
+
+class _Slot(ctypes.Structure):
+    _fields_ = [("live", ctypes.c_uint64), ("at", ctypes.c_void_p)]
+
+
+def _library():
+    here = pathlib.Path(__file__).resolve().parent
+    named = os.environ.get("INCR_LIBRARY")
+    folders = [pathlib.Path(named)] if named else [here, here.parent / "out"]
+    for folder in folders:
+        if (folder / "libincr.so").exists():
+            library = ctypes.CDLL(str(folder / "libincr.so"))
+            break
+    else:
+        raise ImportError("libincr.so is in none of %s: `make -C embed` builds it" % ", ".join(map(str, folders)))
+    slot, size, count = ctypes.POINTER(_Slot), ctypes.c_size_t, ctypes.POINTER(ctypes.c_size_t)
+    library.incr_open.argtypes = [slot]
+    library.incr_line.argtypes = [slot, ctypes.c_char_p, size, ctypes.c_char_p, size, count]
+    library.incr_rest.argtypes = [slot, ctypes.c_char_p, size, count]
+    library.incr_close.argtypes = [slot]
+    for call in (library.incr_open, library.incr_line, library.incr_rest, library.incr_close):
+        call.restype = ctypes.c_int32
+    return library
+
+
+_LIBRARY = _library()
+
+
+class Session:
+    """A session: a script in the making. It is used by the thread that made it, and closed at the end of a `with`."""
+
+    def __init__(self):
+        self._slot, self._count = _Slot(), ctypes.c_size_t()
+        self._at, self._counted = ctypes.byref(self._slot), ctypes.byref(self._count)
+        self._room, self._thread = ctypes.create_string_buffer(256), threading.get_ident()
+        if _LIBRARY.incr_open(self._at) != 1:
+            raise NoMemory("no memory for a session")
+
+    def give(self, text):
+        """Gives the session a line of bytes, without its newline: how it was taken, as in incr.h, and the bytes that it prints.
+
+        Nothing is lost where this raises MemoryError: the next line hands out what was to be read.
+        """
+        self._check()
+        room = self._room
+        how = _LIBRARY.incr_line(self._at, text, len(text), room, len(room), self._counted)
+        count = self._count.value
+        if count > len(room):
+            room = self._room = ctypes.create_string_buffer(count)
+            _LIBRARY.incr_rest(self._at, room, len(room), self._counted)
+        if how >= 0:
+            return how, ctypes.string_at(room, count)
+        if how == NO_SESSION:
+            raise Closed("the session was closed")
+        if how == TOO_MANY:
+            raise TooManyLines("the session takes no more lines")
+        raise NoMemory("no memory for a line")
+
+    def line(self, text):
+        """Gives the session a line, and answers what it prints, without the newline at its end; raises `Refused` where it is refused."""
+        how, printed = self.give(text.encode() if isinstance(text, str) else bytes(text))
+        told = printed.decode("ascii")
+        if told.endswith("\n"):
+            told = told[:-1]
+        if how >= REFUSED:
+            raise Refused(how - REFUSED, told)
+        return told
+
+    def run(self, script):
+        """Gives the session each line of a script of bytes, and answers its transcript, refusals too."""
+        lines = script.split(b"\n")
+        if not lines[-1]:
+            lines.pop()
+        return b"".join([self.give(line)[1] for line in lines])
+
+    def close(self):
+        """Ends the session. A second close does nothing."""
+        if self._slot.live:
+            self._check()
+            _LIBRARY.incr_close(self._at)
+
+    @property
+    def closed(self):
+        return self._slot.live == 0
+
+    def _check(self):
+        if threading.get_ident() != self._thread:
+            raise WrongThread("the session belongs to another thread")
+
+    def __enter__(self):
+        return self
+
+    def __exit__(self, *raised):
+        self.close()
+
+    def __del__(self):
+        # (of a session that its own thread did not close, and another one lets go, the memory stays)
+        if getattr(self, "_thread", None) == threading.get_ident() and self._slot.live:
+            _LIBRARY.incr_close(self._at)
+
+    def __copy__(self):
+        raise TypeError("a session can't be copied")
+
+    def __deepcopy__(self, memo):
+        raise TypeError("a session can't be copied")
+
+    def __reduce__(self):
+        raise TypeError("a session can't be pickled")

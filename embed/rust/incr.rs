@@ -1,0 +1,95 @@
+//! Sessions of Garovymba for Rust: a safe type round a slot. It needs libincr.a, and nothing else.
+
+use std::fmt;
+use std::os::raw::c_void;
+use std::ptr::null_mut;
+
+/// Where a session is kept.
+#[repr(C)]
+struct Slot {
+    live: u64,
+    at: *mut c_void,
+}
+
+unsafe extern "C" {
+    fn incr_open(slot: *mut Slot) -> i32;
+    fn incr_line(slot: *mut Slot, text: *const u8, length: usize, out: *mut u8, room: usize, count: *mut usize) -> i32;
+    fn incr_rest(slot: *mut Slot, out: *mut u8, room: usize, count: *mut usize) -> i32;
+    fn incr_close(slot: *mut Slot) -> i32;
+}
+
+/// How a line was taken.
+#[derive(Clone, Copy, Debug, PartialEq, Eq)]
+pub enum Took {
+    /// It asks for nothing.
+    Blank,
+    Accepted,
+    /// It was refused with this number.
+    Refused(u8),
+}
+
+/// Why there is no session, or a line was not taken.
+#[derive(Clone, Copy, Debug, PartialEq, Eq)]
+pub enum Fault {
+    NoMemory,
+    /// The session has taken 2^30 lines.
+    TooManyLines,
+}
+
+impl fmt::Display for Fault {
+    fn fmt(&self, f: &mut fmt::Formatter<'_>) -> fmt::Result {
+        f.write_str(match self {
+            Fault::NoMemory => "no memory",
+            Fault::TooManyLines => "the session takes no more lines",
+        })
+    }
+}
+
+impl std::error::Error for Fault {}
+
+/// A session. The pointer in it keeps it on its thread: it is neither `Send` nor `Sync`, and it isn't `Clone`. Moving it moves the
+/// slot's bytes, which leaves one slot that is used.
+pub struct Session {
+    slot: Slot,
+    room: Vec<u8>,
+}
+
+impl Session {
+    pub fn open() -> Result<Session, Fault> {
+        let mut slot = Slot { live: 0, at: null_mut() };
+        // SAFETY: the slot is zeros, and nothing else refers to it.
+        match unsafe { incr_open(&mut slot) } {
+            1 => Ok(Session { slot, room: vec![0; 64] }),
+            _ => Err(Fault::NoMemory),
+        }
+    }
+
+    /// Gives the session its next line, without its newline. The bytes are what it prints.
+    pub fn line(&mut self, text: &[u8]) -> Result<(Took, &[u8]), Fault> {
+        let mut count = 0;
+        let (at, room) = (self.room.as_mut_ptr(), self.room.len());
+        // SAFETY: the slot has the session that `open` put there, text and room are as long as is said, and nothing else refers to
+        // the slot, the room or the count.
+        let how = unsafe { incr_line(&mut self.slot, text.as_ptr(), text.len(), at, room, &mut count) };
+        if count > room {
+            self.room.resize(count, 0);
+            // SAFETY: as above.
+            unsafe { incr_rest(&mut self.slot, self.room.as_mut_ptr(), self.room.len(), &mut count) };
+        }
+        let took = match how {
+            0 => Took::Blank,
+            1 => Took::Accepted,
+            -3 => return Err(Fault::TooManyLines),
+            refused @ 100..=355 => Took::Refused((refused - 100) as u8),
+            _ => return Err(Fault::NoMemory),
+        };
+        Ok((took, &self.room[..count]))
+    }
+}
+
+impl Drop for Session {
+    fn drop(&mut self) {
+        // SAFETY: the slot has the session that `open` put there, and is used no more.
+        unsafe { incr_close(&mut self.slot) };
+    }
+}

@@ -1,0 +1,105 @@
+#!/bin/sh
+# Builds the clients of embed/ whose compilers are there and runs them: their price screens and every example must print the
+# transcript that the program prints, and calls at their edges must answer what incr.h says. It tells what it skips. The last line
+# is `N passed, M failed`, and the status is 1 where one failed.
+cd "$(dirname "$0")/.." || exit 1
+room=$(mktemp -d) || exit 1
+trap 'rm -rf "$room"' EXIT
+passed=0
+failed=0
+
+# judge WHAT STATUS [WRITTEN WANTED]: the status must be 0, and the files alike.
+judge() {
+    if [ "$2" -ne 0 ]; then
+        echo "embed: $1: status $2"
+        failed=$((failed + 1))
+    elif [ $# -gt 2 ] && ! cmp "$3" "$4" >"$room/difference" 2>&1; then
+        echo "embed: $1: $(cat "$room/difference")"
+        failed=$((failed + 1))
+    else
+        passed=$((passed + 1))
+    fi
+}
+
+# makes TARGET..: builds with the compilers that were found.
+makes() {
+    make -s -C embed CC="$cc" CXX="$cxx" RUSTC="$rustc" "$@" >"$room/log" 2>&1
+    status=$?
+    [ $status -eq 0 ] || tail -n 5 "$room/log"
+    judge "make $*" $status
+    return $status
+}
+
+# screens WORD..: a client, on no script and on each example.
+screens() {
+    timeout 20 "$@" >"$room/written" 2>&1
+    judge "$*" $? "$room/written" examples/screen.out
+    for script in examples/*.incr; do
+        timeout 20 "$@" "$script" >"$room/written" 2>&1
+        judge "$* $script" $? "$room/written" "${script%.incr}.out"
+    done
+}
+
+# edges WORD..: a program that judges by itself.
+edges() {
+    timeout 20 "$@" >"$room/written" 2>&1
+    status=$?
+    [ $status -eq 0 ] || cat "$room/written"
+    judge "$*" $status
+}
+
+# first WORD..: the first of these that is there, else nothing.
+first() {
+    for it in "$@"; do
+        if command -v "$it" >/dev/null 2>&1; then
+            echo "$it"
+            return
+        fi
+    done
+}
+
+cc=$(first cc gcc clang)
+cxx=$(first c++ g++ clang++)
+rustc=$(first rustc)
+python=$(first python3)
+
+if [ -z "$(first make)" ] || [ -z "$(first ar)" ]; then
+    echo "embed: skipped, all of it: there is no make, or no ar"
+    echo "0 passed, 0 failed"
+    exit 0
+fi
+# (where nothing has changed this only looks)
+(cd crates/incr_c && rt lib) >"$room/log" 2>&1
+status=$?
+[ $status -eq 0 ] || tail -n 5 "$room/log"
+judge "rt lib in crates/incr_c" $status
+if [ $status -eq 0 ] && makes out/libincr.a; then
+    if [ -z "$cc" ]; then
+        echo "embed: skipped: C, and Python for want of the shared library: there is no C compiler"
+    else
+        if makes c; then
+            screens embed/out/screen_c
+            edges embed/out/edges
+        fi
+        if [ -z "$python" ]; then
+            echo "embed: skipped: Python: there is no python3"
+        elif makes out/libincr.so; then
+            screens "$python" embed/python/screen.py
+            edges "$python" embed/python/edges.py
+        fi
+    fi
+    if [ -z "$cxx" ]; then
+        echo "embed: skipped: C++: there is no C++ compiler"
+    elif makes cpp; then
+        screens embed/out/screen_cpp
+        edges embed/out/screen_cpp threads
+    fi
+    if [ -z "$rustc" ] || [ -z "$cc" ]; then
+        echo "embed: skipped: Rust: there is no rustc, or no C compiler that links for it"
+    elif makes rust; then
+        screens embed/out/screen_rs
+    fi
+fi
+
+echo "$passed passed, $failed failed"
+[ "$failed" -eq 0 ]
