@@ -1,4 +1,4 @@
-use Rattle.std.proofs.Common.{◌≡◌, Err, ℕ, refl, ap, subst, ◌∙◌}
+use Rattle.std.proofs.Common.{◌≡◌, Err, refl, ap, ◌∙◌}
 use Rattle.graph.specs.declared.fault.Kept.TheVariants as cause
 use Rattle.graph.specs.declared.fault.StabilizeFault.{StabilizeFault}
 use Rattle.node_arena.specs.Arena.{Arena}
@@ -8,7 +8,6 @@ use Rattle.script_graph.proofs.Functions.{same_meanings}
 use Rattle.script_graph.proofs.TooDeep.{session_too_deep, session_not_all_older}
 use Rattle.script_model.specs.Formula.{meanings_of}
 use Rattle.script_model.specs.Values.{seen_value}
-use Rattle.stabilize_round.specs.Counts.{RoseBy}
 use Rattle.stabilizer.specs.Meaning.{functions_of}
 use Rattle.session.proofs.Observed.{not_broken}
 use Rattle.session.proofs.Stabilized.{accepted_sound, refused_sound, refused_for, memory_met, first_of, none_of}
@@ -25,10 +24,9 @@ returns-in-Ok-clause-accepted g c =
     let l = c.self.inside.graph.functions.library in
     let new = c.stabilize.new.self in
     let unbroken = rw (← c.self.view_is) at c.requires.unbroken in
-    let rose = subst (λ (n : ℕ). RoseBy (g.L.Library.calls l) n (g.L.Library.calls new.functions.library)) new.parts.ran.ok.0 c.in-Ok.ensures.calls in
     rw (← c.self.view_is) (λ is m stands.
     session_accepted (g.L.Library.named l) (g.L.Library.value l) (g.L.Library.known l) _ c.self.inside.graph new (g.L.Library.calls l)
-    (g.L.Library.calls new.functions.library) refl unbroken c.keeps_sound.ensures.sound c.in-Ok.ensures.brought rose m stands)
+    (g.L.Library.calls new.functions.library) refl unbroken c.keeps_sound.ensures.sound c.in-Ok.ensures.brought c.in-Ok.ensures.calls m stands)
 
 pub returns-in-Ok-clause-functions : goal.returns-in-Ok-clause-functions
 returns-in-Ok-clause-functions g c =
