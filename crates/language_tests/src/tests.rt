@@ -214,14 +214,14 @@ fn checks_folds(rt: HostRuntime) -> Result<(), Fail> {
         ("y", "fold pick from 0 [x]", Some(6)),
         ("y", "fold add from 0 [neg(p)]", Some(6)),
         ("y", "lt(fold add from 0 [x], p)", Some(6)),
-        ("y", "fold sub from 0 [x]", Some(5)),
-        ("y", "fold sub from true [p]", Some(5)),
-        ("y", "fold add from true [sub(x)]", Some(5)),
+        ("y", "fold foo from 0 [x]", Some(5)),
+        ("y", "fold foo from true [p]", Some(5)),
+        ("y", "fold add from true [foo(x)]", Some(5)),
         ("y", "fold add from 0 [q]", Some(4)),
-        ("y", "fold sub from 0 [x, q]", Some(4)),
+        ("y", "fold foo from 0 [x, q]", Some(4)),
         ("y", "fold add from true [y]", Some(4)),
         ("x", "fold add from 0 [x]", Some(3)),
-        ("x", "fold sub from 0 [q]", Some(3)),
+        ("x", "fold foo from 0 [q]", Some(3)),
     ];
     for (name, formula, wanted) in rows {
         let mut line = joined(alloc, "let ", name.as_bytes(), 1, " ")?;
