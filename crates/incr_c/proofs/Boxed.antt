@@ -1,8 +1,6 @@
 -- What the walks of a handle share. A handle of something lies in memory as the box does, and owns what it owns.
 use mathlib.Core.Path.{◌≡◌, sym, refl, subst}
-use mathlib.Core.Bool.{Bool, true, false, ◌&&◌}
-use mathlib.Core.List.{List, [], ◌∷◌}
-use lib.Dec.{T}
+use mathlib.Core.List.{List, []}
 use seplogic.Ra.Ura.{Ura}
 use mir.Syntax.{impl, tnil, dnil}
 use mir.Val.{Val}

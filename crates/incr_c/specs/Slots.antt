@@ -1,5 +1,5 @@
 -- What the calls do at a slot.
-use Rattle.std.specs.Prelude.{◌≡◌, ◌<◌, ◌⊎◌, ℕ, ℤ, List, length, slice_get, set, Option, Some, IfSome}
+use Rattle.std.specs.Prelude.{◌≡◌, ◌<◌, ◌⊎◌, ℕ, ℤ, List, length, slice_get, set, Some, IfSome}
 use Rattle.incr_c.specs.Answers.{code_of}
 use Rattle.incr_c.specs.Holding.{IsFirst, Reads, TakesLine}
 use Rattle.incr_c.specs.declared.answer.Answer.{Answer}

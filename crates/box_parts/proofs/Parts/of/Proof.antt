@@ -1,5 +1,5 @@
 -- The walk of `of`: the box's own call gives the pointer, the allocator and what the box owned, and the parts take them over.
-use mathlib.Core.Path.{◌≡◌, refl, ap}
+use mathlib.Core.Path.{◌≡◌, refl}
 use mathlib.Core.List.{List, [], ◌∷◌, ◌++◌}
 use mir.Syntax.{dcons, dnil}
 use mir.MapTy.{inst_fn}
@@ -16,7 +16,7 @@ use types.Part.{agg, sub, whole}
 use types.Run.{stop, fld, of_opd, no_more, and_then, returns, enter}
 use types.ByLocal.{alloc_all, pass_all, free_all, look_at, get, get_in, sets, lands_as}
 use denote.Exit.{no}
-use denote.RattleType.{RattleType, owns}
+use denote.RattleType.{owns}
 use denote.RawPtr.{Ptr, RawPtr, block_ptr, null_ptr, in_a_block}
 use denote.Signature.{types_at, plain}
 use denote.Steps.{heard, nothing}

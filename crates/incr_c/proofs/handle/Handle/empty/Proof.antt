@@ -3,7 +3,7 @@ use mathlib.Core.Path.{◌≡◌, refl}
 use mathlib.Core.List.{List, [], ◌∷◌, ◌++◌}
 use lib.Dec.{T as Is}
 use mir.Val.{Val, vnull, vstruct, vcons, vnil, has_ty, WT}
-use base.Logic.{SProp, ent, emp, id⊢}
+use base.Logic.{SProp, emp, id⊢}
 use base.Fml.{ftrue, fsep}
 use contract.Monad.{fact, fact_i}
 use contract.Running.{tables}
@@ -23,12 +23,11 @@ use denote.Struct.Struct.{within}
 use denote.Triple.Walked.{Stays, stay_dropped, Goes-dropped, walk_of}
 use Rattle.core.proofs.cell.Inside.{one}
 use Rattle.std.proofs.raw_atomic.Walks.{proved_at, leaves}
-use Rattle.std.specs.Prelude.{Option, None}
+use Rattle.std.specs.Prelude.{None}
 use Rattle.std.specs.contracts.alloc.Global as heap
 use Rattle.std.proofs.alloc.Global.TheLaws as heap_laws
 use Rattle.std_alloc.proofs.ResultValues.{and_tt}
 use Rattle.incr_c.specs.contracts.handle.Handle as handle
-use Rattle.incr_c.specs.declared.holder.Holder.{Holder}
 use Rattle.incr_c.proofs.Boxed.{Handle, at_values}
 use Rattle.incr_c.specs.contracts.handle.Handle.empty as here
 use Rattle.incr_c.specs.contracts.handle.Handle.empty.Key.{name as #self}
