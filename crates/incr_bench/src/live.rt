@@ -135,7 +135,9 @@ impl Live {
 
     /// Makes the sum of all nodes that were made so far, as one fold.
     pub fn sum_all(&mut self) -> Result<(), Fault> {
-        let made = self.graph.fold(Function::Add.reference(), Value::Int(0), &self.nodes);
+        let made = self
+            .graph
+            .fold(Function::Add.reference(), Value::Int(0), &self.nodes);
         keep_node(&mut self.nodes, made)
     }
 

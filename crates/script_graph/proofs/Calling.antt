@@ -87,8 +87,8 @@ callers_few : (s : State) (arena : Arena) (cost : NodeId → ℕ) (ns : List Nod
     → ((n : NodeId) → Among n ns → IsCaller arena (record { node = n; cost = cost n })) → sum_by cost ns ≤ most_calls s
 callers_few s arena cost ns has once each =
     let within = no_more (λ (c : Caller). c.cost) (callers_of cost ns) has.callers (callers_apart cost ns once) (λ c among.
-        let at = caller_node cost ns c among in
-        has.all c (subst (λ (k : ℕ). IsCaller arena (record { node = c.node; cost = k })) (sym at.1) (each c.node at.0))) in
+    let at = caller_node cost ns c among in
+    has.all c (subst (λ (k : ℕ). IsCaller arena (record { node = c.node; cost = k })) (sym at.1) (each c.node at.0))) in
     let all = calls_of_callers cost ns in
     omega (arith, within, all, has.few)
 
@@ -108,6 +108,6 @@ pub few_calls : (s : State) (arena : Arena) (before after : ℕ) → HasFewCalls
     → after ≤ before + most_calls s
 few_calls s arena before after has called =
     let few = callers_few s arena (cost_at (graph_of arena)) called.nodes has called.once (λ n among.
-        let c = called.callers n among in
-        record { row = c.row; is_row = c.is_row; calls = taken_costs (graph_of arena) n c.row c.nodes c.is_row c.takes }) in
+    let c = called.callers n among in
+    record { row = c.row; is_row = c.is_row; calls = taken_costs (graph_of arena) n c.row c.nodes c.is_row c.takes }) in
     omega (arith, few, called.count.within)

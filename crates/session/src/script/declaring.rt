@@ -277,10 +277,7 @@ fn kind_of(body: &Declaration) -> Kind
     match body {
         Declaration::Variable(_) => Kind::Var,
         Declaration::Computed(
-            Formula::Literal(_)
-            | Formula::Name(_)
-            | Formula::Apply { .. }
-            | Formula::Fold { .. },
+            Formula::Literal(_) | Formula::Name(_) | Formula::Apply { .. } | Formula::Fold { .. },
         ) => Kind::Let,
     }
 }
