@@ -11,7 +11,7 @@ use Rattle.inc_terms.specs.Graph.{Row}
 use Rattle.inc_terms.specs.Depend.{Depends, main}
 use Rattle.inc_terms.specs.Evaluate.{GiveAll}
 use Rattle.inc_terms.specs.Need.{Beside, Observed, nodes_of, Held, Met, from_root, from_held}
-use Rattle.inc_terms.specs.Work.{Visit, other, IsDueVisit}
+use Rattle.inc_terms.specs.Work.{Visit, HasReason, other, passed, IsDueVisit}
 use Rattle.stabilize_round.specs.Counts.{RoseAtMost}
 use Rattle.stabilize_round.specs.State.{State, Start, Call}
 use Rattle.stabilize_round.specs.Invariant as invariant
@@ -40,13 +40,22 @@ module _ (F : Functions) (z : Start) (t : State) (inv : Invariant F z t) (before
   visit_of : (n : NodeId) → Called n → Visit
   visit_of n c = record { node = n; values = c.values; cost = cost_at t.graph n }
 
-  other_arguments : (n : NodeId) (c : Called n) (x : Option Call) → z.last n ≡ x → before.last n ≡ Some c.values → ⊥
-  other_arguments n c None e last = let k = from.last n in let k' = rw e at k in let x : None ≡ Some c.values = sym k' ∙ last in cc
-  other_arguments n c (Some call) e last =
+  other_arguments : (n : NodeId) (c : Called n) → ((k : Call) → z.last n ≡ Some k → k.arguments ≡ c.values → ⊥) → (x : Option Call) → z.last n ≡ x
+      → before.last n ≡ Some c.values → ⊥
+  other_arguments n c differs None e last = let k = from.last n in let k' = rw e at k in let x : None ≡ Some c.values = sym k' ∙ last in cc
+  other_arguments n c differs (Some call) e last =
       let k = from.last n in
       let k' = rw e at k in
       let x : Some call.arguments ≡ Some c.values = sym k' ∙ last in
-      c.reason call e (cc)
+      differs call e (cc)
+
+  reason_of : (n : NodeId) (c : Called n) → HasReason t.graph before (visit_of n c)
+  unfolding visit_of
+  reason_of n c = elim c.reason [
+    | inl differs ↦ other (λ last. other_arguments n c differs (z.last n) refl last)
+    | inr k ↦ passed {r = c.row} {kid = k.0} c.is_row
+        (subst (λ (ks : List NodeId). Among k.0 ks) (sym (kids_taken t.graph n c.row.def c.kids c.takes)) k.1) (from.never k.0 ∙ k.2)
+  ]
 
   due : (n : NodeId) (c : Called n) → IsDueVisit F t.graph t.died observers before (visit_of n c)
   unfolding visit_of
@@ -59,7 +68,7 @@ module _ (F : Functions) (z : Start) (t : State) (inv : Invariant F z t) (before
       cost = cost_of_taken t.graph n c.row c.kids c.is_row c.takes;
     };
     met = is_met (main n) c.met;
-    reason = other (λ last. other_arguments n c (z.last n) refl last);
+    reason = reason_of n c;
   }
 
   abbrev visits : (ns : List NodeId) → ((n : NodeId) → Among n ns → Called n) → List Visit

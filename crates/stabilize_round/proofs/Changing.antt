@@ -289,7 +289,7 @@ module _ (F : Functions) (z : Start) (s : State) (inv : Invariant F z s) (quiet 
     met = c.met;
     gives = c.gives;
     is_last = c.is_last;
-    reason = c.reason;
+    reason = elim c.reason [ inl other ↦ inl other | inr k ↦ inr (k.0, k.1, k.2, settled_more (main k.0) k.3) ];
   }
 
   last_settled : LastSettled after
@@ -334,5 +334,6 @@ module _ (F : Functions) (z : Start) (s : State) (inv : Invariant F z s) (quiet 
       kept = inv.accounts.kept;
       calls = inv.accounts.calls;
       answers = inv.accounts.answers;
+      never = inv.accounts.never;
     };
   }

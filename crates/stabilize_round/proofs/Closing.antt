@@ -80,6 +80,7 @@ module _ (F : Functions) (z : Start) (t : State) (inv : Invariant F z t) (quiet 
     last = λ n. refl;
     calls = refl;
     answers = inv.accounts.answers;
+    never = λ n. refl;
   }
 
   pub ends : Ended F (next_start z t needed') next observed

@@ -49,5 +49,6 @@ module _ (F : Functions) (z : Start) (s : State) (entry : Entry F z s) where
       kept = λ n r row h. sym (entry.last n);
       calls = rw (entry.ran, entry.calls) none_yet;
       answers = entry.answers;
+      never = λ n. sym (entry.never n);
     };
   }

@@ -334,6 +334,7 @@ begins F = record {
   held = λ p. refl;
   last = λ n. refl;
   calls = refl;
+  never = λ n. refl;
   answers = λ n r kids c row def l. absurd (cc);
 }
 

@@ -121,6 +121,7 @@ module _ (F : Functions) (z : Start) (s : State) (parts : Parts F z s) (q : Poin
       kept = parts.accounts.kept;
       calls = parts.accounts.calls;
       answers = parts.accounts.answers;
+      never = parts.accounts.never;
     };
   }
 
@@ -216,6 +217,7 @@ module _ (F : Functions) (z : Start) (s : State) (inv : Invariant F z s) (p q : 
       kept = inv.accounts.kept;
       calls = inv.accounts.calls;
       answers = inv.accounts.answers;
+      never = inv.accounts.never;
     };
   }
 
@@ -393,6 +395,7 @@ module _ (F : Functions) (z : Start) (s : State) (inv : Invariant F z s) (p : Po
       kept = inv.accounts.kept;
       calls = inv.accounts.calls;
       answers = inv.accounts.answers;
+      never = inv.accounts.never;
     };
   }
 

@@ -295,7 +295,7 @@ module _ (F : Functions) (z : Start) (s : State) (inv : Invariant F z s) (quiet 
       by_out : Linked s q (main n) → (s.out (main n) ≡ Some o) ⊎ (s.out (main n) ≡ Some o → ⊥) → (heap' q ≡ true)
           ⊎ (at_point (main n) true s.settled q ≡ true) ⊎ IsRight F after q
       by_out l (inl e) = inr (inr (keeps (λ m a. same_out e m)))
-      by_out l (inr other) = elim (move.heap.told q (l, other)) [ inl h ↦ inl h | inr st ↦ inr (inl (settled_more q st)) ]
+      by_out l (inr other) = elim (move.heap.told q (l, inl other)) [ inl h ↦ inl h | inr st ↦ inr (inl (settled_more q st)) ]
 
       by_count : (k : ℕ) → s.links q (main n) ≡ k → (heap' q ≡ true) ⊎ (at_point (main n) true s.settled q ≡ true) ⊎ IsRight F after q
       by_count zero e = inr (inr (keeps (λ m among. elim (same_or_other (main n) m) [
@@ -363,7 +363,7 @@ module _ (F : Functions) (z : Start) (s : State) (inv : Invariant F z s) (quiet 
         met = c.met;
         gives = c.gives;
         is_last = node_other n last' s.last m (not_ran m a) ∙ c.is_last;
-        reason = c.reason;
+        reason = elim c.reason [ inl other ↦ inl other | inr k ↦ inr (k.0, k.1, k.2, settled_more (main k.0) k.3) ];
       }
 
   accounts : (was : Bool) → called ≡ was → Calls F s n move.row.def last' was → Accounts F z after
@@ -378,6 +378,7 @@ module _ (F : Functions) (z : Start) (s : State) (inv : Invariant F z s) (quiet 
         kept = λ m r row a. same m ∙ inv.accounts.kept m r row (λ x. a (rw is x));
         calls = rw is (none_more inv.accounts.calls (rw is at move.count));
         answers = λ m r kids c row def l. inv.accounts.answers m r kids c row def (sym (same m) ∙ l);
+        never = inv.accounts.never;
       }
   accounts true is h =
       let fresh_here : Among n s.ran → ⊥ = λ a. not_ran n a refl in
@@ -397,7 +398,10 @@ module _ (F : Functions) (z : Start) (s : State) (inv : Invariant F z s) (quiet 
         met = is_met;
         gives = gives;
         is_last = mine;
-        reason = λ c l e. h.5 c (inv.accounts.kept n move.row move.is_row fresh_here ∙ l) e;
+        reason = elim h.5 [
+          | inl other ↦ inl (λ c l e. other c (inv.accounts.kept n move.row move.is_row fresh_here ∙ l) e)
+          | inr k ↦ inr (k.0, k.1, sym (inv.accounts.never k.0) ∙ k.2, settled_more (main k.0) k.3)
+        ];
       } in
       record {
         once = rw is (fresh_here, inv.accounts.once);
@@ -410,6 +414,7 @@ module _ (F : Functions) (z : Start) (s : State) (inv : Invariant F z s) (quiet 
           | inl e ↦ by_call m r kids c row def e (subst (λ (y : NodeId). at_node n last' s.last y ≡ Some c) (sym e) l) h
           | inr ne ↦ inv.accounts.answers m r kids c row def (sym (node_other n last' s.last m ne) ∙ l)
         ];
+        never = inv.accounts.never;
       }
     where
       called_more : (m : NodeId) → Among m (n ∷ s.ran) → HasCalled F z G s.died s.root (at_point (main n) true s.settled) (at_node n last' s.last) n

@@ -593,5 +593,6 @@ module _ (F : Functions) (z : Start) (s : State) (inv : Invariant F z s) (b : No
         kept = last_after;
         calls = subst (λ (k : ℕ). RoseBy z.calls k s.calls) costs_after inv.accounts.calls;
         answers = answers_after;
+        never = inv.accounts.never;
       };
     }

@@ -376,6 +376,7 @@ begins = record {
   held = λ p. refl;
   last = λ n. refl;
   calls = refl;
+  never = λ n. refl;
   answers = λ n r kids c row def l. absurd (cc);
 }
 

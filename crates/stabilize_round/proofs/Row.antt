@@ -63,6 +63,7 @@ begins F = record {
   held = λ a. refl;
   last = λ n. refl;
   calls = refl;
+  never = λ n. refl;
   answers = λ n r ks c e d l. absurd (cc);
 }
 

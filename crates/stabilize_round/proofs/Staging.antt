@@ -106,6 +106,7 @@ module _ (F : Functions) (z : Start) (s : State) (inv : Invariant F z s) where
         kept = inv.accounts.kept;
         calls = inv.accounts.calls;
         answers = inv.accounts.answers;
+        never = inv.accounts.never;
       };
     }
 
@@ -168,6 +169,7 @@ module _ (F : Functions) (z : Start) (s : State) (inv : Invariant F z s) where
         kept = inv.accounts.kept;
         calls = inv.accounts.calls;
         answers = inv.accounts.answers;
+        never = inv.accounts.never;
       };
     }
 
@@ -208,6 +210,7 @@ module _ (F : Functions) (z : Start) (s : State) (inv : Invariant F z s) where
       kept = inv.accounts.kept;
       calls = inv.accounts.calls;
       answers = inv.accounts.answers;
+      never = inv.accounts.never;
     };
   }
 
@@ -239,6 +242,7 @@ module _ (F : Functions) (z : Start) (s : State) (inv : Invariant F z s) where
       kept = inv.accounts.kept;
       calls = inv.accounts.calls;
       answers = inv.accounts.answers;
+      never = inv.accounts.never;
     };
   }
 
@@ -271,5 +275,6 @@ module _ (F : Functions) (z : Start) (s : State) (inv : Invariant F z s) where
       kept = inv.accounts.kept;
       calls = inv.accounts.calls;
       answers = inv.accounts.answers;
+      never = inv.accounts.never;
     };
   }

@@ -199,5 +199,6 @@ module _ (F : Functions) (z : Start) (s : State) (inv : Invariant F z s) (p : Po
       kept = inv.accounts.kept;
       calls = inv.accounts.calls;
       answers = inv.accounts.answers;
+      never = inv.accounts.never;
     };
   }

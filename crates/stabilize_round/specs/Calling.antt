@@ -1,10 +1,13 @@
 -- How a node's function is called: on what, for what, and how often.
-use Rattle.std.specs.Prelude.{◌≡◌, ℕ, List, Option, None, Some}
+use Rattle.std.specs.Prelude.{◌≡◌, ℕ, Bool, true, List, Option, None, Some}
 use Rattle.std.specs.List.{sum_by}
 use Rattle.inc_value.specs.declared.node.NodeId.{NodeId}
 use Rattle.inc_value.specs.declared.value.Value.{Value}
+use Rattle.inc_value.specs.declared.node.Point.{Point}
+use Rattle.inc_value.specs.Choice.{Among}
 use Rattle.inc_terms.specs.Term.{Functions}
 use Rattle.inc_terms.specs.Graph.{Graph, Row, Def, Map, Fold}
+use Rattle.inc_terms.specs.Depend.{main}
 use Rattle.inc_terms.specs.Evaluate.{folded}
 use Rattle.inc_terms.specs.Work.{cost_of}
 
@@ -13,6 +16,10 @@ abbrev pub taken_by : Def → Option (List NodeId)
 taken_by (Map f ns) = Some ns
 taken_by (Fold f v ns) = Some ns
 taken_by def = None
+
+-- one of the children has cutoff Never and was settled in the round: the function is called even on the values of its last call
+abbrev pub IsForced : (NodeId → Bool) → (Point → Bool) → List NodeId → Type 0
+IsForced never settled kids = (k : NodeId) × Among k kids × (never k ≡ true) × (settled (main k) ≡ true)
 
 -- what the calls give on these values: a map calls its function on all of them, a fold on each in turn
 abbrev pub IsAnswer : Functions → Def → List Value → Value → Type 0

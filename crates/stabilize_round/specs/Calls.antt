@@ -19,10 +19,12 @@ abbrev pub arguments_of : Option Call → Option (List Value)
 arguments_of None = None
 arguments_of (Some c) = Some c.arguments
 
--- a round begins with what stood beside the graph: what is held for it was held there, and last calls have the arguments that are kept there
+-- a round begins with what stood beside the graph: what is held for it was held there, last calls have the arguments that are kept there, and the nodes
+-- of cutoff Never are the same
 pub record BeginsFrom (z : Start) (before : Beside) (observers : List Observed) : Type 0 where
   pub held : (p : Point) → z.held p ≡ true → Held before observers p
   pub last : (n : NodeId) → before.last n ≡ arguments_of (z.last n)
+  pub never : (n : NodeId) → before.never n ≡ z.never n
 
 -- whatever was called so far is within the work
 abbrev pub RoundIsWithinWork : Type 0

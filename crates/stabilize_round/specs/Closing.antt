@@ -29,4 +29,4 @@ pub record Close (t : State) (links' : Point → Point → ℕ) (needed' : Point
 
 -- what the next round begins with
 abbrev pub next_start : Start → State → (Point → Bool) → Start
-next_start z t needed' = record { held = needed'; last = t.last; calls = t.calls; known = z.known; ids = z.ids }
+next_start z t needed' = record { held = needed'; last = t.last; calls = t.calls; known = z.known; ids = z.ids; never = t.never }

@@ -13,7 +13,7 @@ use Rattle.inc_terms.specs.Evaluate.{Values, gathered, GiveAll, Stands}
 use Rattle.inc_terms.specs.Depend.{Depends, main, change, subject_of}
 use Rattle.inc_terms.specs.Local.{shown, by_sight, Agrees, Exact, Scoped, IsRooted, IsBuilt}
 use Rattle.inc_terms.specs.Plan.{targets}
-use Rattle.stabilize_round.specs.Calling.{taken_by, IsAnswer, costs_of}
+use Rattle.stabilize_round.specs.Calling.{taken_by, IsForced, IsAnswer, costs_of}
 use Rattle.stabilize_round.specs.Counts.{RoseBy}
 use Rattle.stabilize_round.specs.State.{State, Start, Call, Bare, Gated, Static, Full, Linked, Reached, count, planned}
 
@@ -117,7 +117,7 @@ pub record Meets (F : Functions) (z : Start) (s : State) : Type 0 where
 
 -- ---- calls
 
--- a node whose function was called: on what its kids give, of which it wasn't the last call at the start
+-- a node whose function was called: on what its kids give, of which it wasn't the last call at the start, or as it was forced
 pub record HasCalled (F : Functions) (z : Start) (G : Graph) (died : NodeId → Option NodeId) (root : Point → ℕ) (settled : Point → Bool)
     (last : NodeId → Option Call) (n : NodeId) : Type 0 where
   pub row : Row
@@ -131,9 +131,9 @@ pub record HasCalled (F : Functions) (z : Start) (G : Graph) (died : NodeId → 
   pub gives : GiveAll F G kids values
   pub is_last : last n ≡ Some (record { arguments = values; result = result })
   pub answers : IsAnswer F row.def values result
-  pub reason : (c : Call) → z.last n ≡ Some c → c.arguments ≡ values → ⊥
+  pub reason : ((c : Call) → z.last n ≡ Some c → c.arguments ≡ values → ⊥) ⊎ IsForced z.never settled kids
 
--- each function was called once at most, and what it wasn't called for stays; what calls gave is what the function gives
+-- each function was called once at most, and what it wasn't called for stays; what calls gave is what the function gives; cutoffs stay
 pub record Accounts (F : Functions) (z : Start) (s : State) : Type 0 where
   pub once : NoRepeats s.ran
   pub called : (n : NodeId) → Among n s.ran → HasCalled F z s.graph s.died s.root s.settled s.last n
@@ -141,6 +141,7 @@ pub record Accounts (F : Functions) (z : Start) (s : State) : Type 0 where
   pub calls : RoseBy z.calls (costs_of s.graph s.ran) s.calls
   pub answers : (n : NodeId) (r : Row) (kids : List NodeId) (c : Call) → s.graph.row n ≡ Some r → taken_by r.def ≡ Some kids → s.last n ≡ Some c
       → IsAnswer F r.def c.arguments c.result
+  pub never : (n : NodeId) → s.never n ≡ z.never n
 
 -- ---- all
 

@@ -39,6 +39,7 @@ pub record Entry (F : Functions) (z : Start) (s : State) : Type 0 where
   pub held : (p : Point) → z.held p ≡ s.needed p
   pub last : (n : NodeId) → z.last n ≡ s.last n
   pub calls : z.calls ≡ s.calls
+  pub never : (n : NodeId) → z.never n ≡ s.never n
   pub answers : (n : NodeId) (r : Row) (kids : List NodeId) (c : Call) → s.graph.row n ≡ Some r → taken_by r.def ≡ Some kids → s.last n ≡ Some c
       → IsAnswer F r.def c.arguments c.result
 

@@ -9,7 +9,7 @@ use Rattle.inc_terms.specs.Graph.{Row, Def}
 use Rattle.inc_terms.specs.Evaluate.{gathered, Values}
 use Rattle.inc_terms.specs.Depend.{main, change, subject_of}
 use Rattle.inc_terms.specs.Local.{shown, by_sight, own, IsBuilt}
-use Rattle.stabilize_round.specs.Calling.{taken_by, IsAnswer, cost_at}
+use Rattle.stabilize_round.specs.Calling.{taken_by, IsForced, IsAnswer, cost_at}
 use Rattle.stabilize_round.specs.Counts.{RoseBy}
 use Rattle.stabilize_round.specs.State.{State, Call, Static, Gated, Full, Linked, at_point, at_node}
 
@@ -28,15 +28,18 @@ pub record Enqueues (s : State) (heap heap' : Point → Bool) (May Must : Point 
   pub new : (q : Point) → heap' q ≡ true → (heap q ≡ true) ⊎ (May q × (s.settled q ≡ false))
   pub told : (q : Point) → Must q → (heap' q ≡ true) ⊎ (s.settled q ≡ true)
 
--- what a node's function was last called on, after its main was computed anew: it was called, or that stays
+-- what a node's function was last called on, after its main was computed anew: it was called, on other values than before or as it was forced, or
+-- that stays
 abbrev pub Calls : Functions → State → NodeId → Def → Option Call → Bool → Type 0
 Calls F s n def last' false = (last' ≡ s.last n)
     × ((kids : List NodeId) (values : List Value) → taken_by def ≡ Some kids
-    → gathered (by_sight (shown s.graph s.out)) (refs kids) ≡ Values values → (c : Call) × (s.last n ≡ Some c) × (c.arguments ≡ values))
+    → gathered (by_sight (shown s.graph s.out)) (refs kids) ≡ Values values → (c : Call) × (s.last n ≡ Some c) × (c.arguments ≡ values)
+    × (IsForced s.never s.settled kids → ⊥))
 Calls F s n def last' true =
     (kids : List NodeId) × (values : List Value) × (result : Value) × (taken_by def ≡ Some kids)
     × (gathered (by_sight (shown s.graph s.out)) (refs kids) ≡ Values values)
-    × ((c : Call) → s.last n ≡ Some c → c.arguments ≡ values → ⊥) × (last' ≡ Some (record { arguments = values; result = result }))
+    × (((c : Call) → s.last n ≡ Some c → c.arguments ≡ values → ⊥) ⊎ IsForced s.never s.settled kids)
+    × (last' ≡ Some (record { arguments = values; result = result }))
     × IsAnswer F def values result
 
 -- the nodes whose functions were called, with this one where its was
@@ -61,7 +64,7 @@ computed s n o heap' last' called calls' = record s {
   taken = Some (main n);
 }
 
--- the main that is taken gets its own function of what it sees; its readers are told, unless its outcome is what it was
+-- the main that is taken gets its own function of what it sees; its readers are told where its outcome is another than before, or its cutoff is Never
 pub record StepMain (F : Functions) (s : State) (n : NodeId) (o : Outcome) (heap' : Point → Bool) (last' : Option Call) (called : Bool)
     (calls' : ℕ) : Type 0 where
   pub row : Row
@@ -71,7 +74,7 @@ pub record StepMain (F : Functions) (s : State) (n : NodeId) (o : Outcome) (heap
   pub calls : Calls F s n row.def last' called
   pub count : RoseBy s.calls (calls_of called (cost_at s.graph n)) calls'
   pub heap : Enqueues s (at_point (main n) false s.heap) heap' (λ (q : Point). Linked s q (main n))
-      (λ (q : Point). Linked s q (main n) × (s.out (main n) ≡ Some o → ⊥))
+      (λ (q : Point). Linked s q (main n) × ((s.out (main n) ≡ Some o → ⊥) ⊎ (s.never n ≡ true)))
 
 -- ---- a change
 

@@ -94,11 +94,12 @@ before = record {
   builds = 0;
   adds = 0;
   given = 3;
+  never = λ n. false;
 }
 
 -- what the round begins with; every function is known and names no node
 abbrev pub beginning : Start
-beginning = record { held = before.needed; last = λ n. None; calls = 0; known = λ f. true; ids = λ f. [] }
+beginning = record { held = before.needed; last = λ n. None; calls = 0; known = λ f. true; ids = λ f. []; never = λ n. false }
 
 -- the round ends with the bind at 2; the old root died, and one build was made
 abbrev pub BindRenews : Type 0
