@@ -74,6 +74,7 @@ module _ (F : Functions) (arena : Arena) (old : Work) (xs ys : List NodeId) (to 
     links = u.links;
     recalls = u.recalls;
     kept = u.kept;
+    cutoffs = u.cutoffs;
     once = u.once;
     called = λ n among. called_as new n (u.called n among);
     work = λ before observers stood all. u.work before observers stood (λ n among. all n (to n among));

@@ -5,13 +5,16 @@ use Rattle.inc_value.specs.declared.node.NodeId.{NodeId}
 use Rattle.inc_value.specs.declared.node.Point.{Point}
 use Rattle.inc_value.specs.declared.value.Value.{Value}
 use Rattle.inc_value.specs.declared.ty.Ty.{Ty}
+use Rattle.inc_terms.specs.Depend.{main}
 use Rattle.inc_terms.specs.Graph.{Row, Def}
 use Rattle.inc_terms.specs.Within.{Given}
 use Rattle.link_table.specs.Links.{times, KeepsLinks}
+use Rattle.map_nodes.specs.declared.cutoff.Cutoff.{Cutoff}
 use Rattle.necessity.specs.Need.{root_times, KeepsRoots}
-use Rattle.node_arena.specs.Arena.{row_at, Changes, IsFull, IsSet, NamesGiven}
+use Rattle.node_arena.specs.Arena.{row_at, Changes, IsLive, IsFull, IsSet, NamesGiven}
 use Rattle.node_arena.specs.Typing.{Makes}
-use Rattle.stabilizer.specs.Round.{last_call}
+use Rattle.stabilizer.specs.Round.{last_call, never_at}
+use Rattle.stabilizer.specs.Row.{IsRewritten, with_cutoff}
 use Rattle.graph.specs.Standing.{Standing, node_at, shown_of}
 use Rattle.graph.specs.declared.fault.Kept.{Kept}
 use Rattle.graph.specs.declared.fault.GraphFault.{GraphFault}
@@ -22,8 +25,8 @@ abbrev pub top : Def → Ty → Row
 top def ty = record { def = def; ty = ty; scope = None }
 
 module _ {F : Type 0} where
-  -- beside the nodes all stays: functions, observers, what is shown and what functions were last called on, of the ids that were given; links and
-  -- roots; what broke the graph, and who was called in the last round
+  -- beside the nodes all stays: functions, observers, what is shown and what functions were last called on, of the ids that were given; cutoffs, which
+  -- are Equal of a new node; links and roots; what broke the graph, and who was called in the last round
   pub record KeepsBeside (old new : Standing F) : Type 0 where
     pub functions : new.functions ≡ old.functions
     pub observers : new.observers ≡ old.observers
@@ -31,6 +34,7 @@ module _ {F : Type 0} where
     pub refused : new.refused ≡ old.refused
     pub shown : (n : NodeId) → Given old.parts.arena.given n → shown_of new n ≡ shown_of old n
     pub last : (n : NodeId) → Given old.parts.arena.given n → last_call new.parts.work n ≡ last_call old.parts.work n
+    pub cutoffs : (n : NodeId) → never_at new.parts.work n ≡ never_at old.parts.work n
     pub links : KeepsLinks old.parts.work.graph.links new.parts.work.graph.links
     pub roots : KeepsRoots old.parts.work.graph.roots new.parts.work.graph.roots
     pub ran : new.parts.ran ≡ old.parts.ran
@@ -66,6 +70,12 @@ module _ {F : Type 0} where
     pub given : new.parts.arena.given ≡ old.parts.arena.given
     pub set : IsSet old.parts.arena new.parts.arena id v
 
+  -- a node's cutoff was set; of a dead node nothing changed
+  pub record SetsCutoff (old new : Standing F) (id : NodeId) (c : Cutoff) : Type 0 where
+    pub set : IsRewritten old.parts.work.rows new.parts.work.rows (main id) (with_cutoff c)
+    pub rest : new ≡ record old { parts = record old.parts { work = record old.parts.work { rows = new.parts.work.rows } } }
+    pub dead : (IsLive old.parts.arena id → ⊥) → new ≡ old
+
   -- the nodes of ids from a count on were dropped
   pub record TakesBack (old new : Standing F) (count : ℕ) : Type 0 where
     pub functions : new.functions ≡ old.functions
@@ -77,6 +87,8 @@ module _ {F : Type 0} where
     pub given : new.parts.arena.given ≡ old.parts.arena.given
     pub shown : (n : NodeId) → n.gen_ < count → shown_of new n ≡ shown_of old n
     pub last : (n : NodeId) → n.gen_ < count → last_call new.parts.work n ≡ last_call old.parts.work n
+    pub cutoffs : (n : NodeId) → n.gen_ < count → never_at new.parts.work n ≡ never_at old.parts.work n
+    pub fewer_cutoffs : (n : NodeId) → never_at new.parts.work n ≡ true → never_at old.parts.work n ≡ true
     pub links : KeepsLinks old.parts.work.graph.links new.parts.work.graph.links
     pub roots : KeepsRoots old.parts.work.graph.roots new.parts.work.graph.roots
     pub ran : new.parts.ran ≡ old.parts.ran
@@ -97,6 +109,7 @@ module _ {F : Type 0} where
     pub refused : new.refused ≡ old.refused
     pub shown : (n : NodeId) → shown_of new n ≡ shown_of old n
     pub last : (n : NodeId) → last_call new.parts.work n ≡ last_call old.parts.work n
+    pub cutoffs : (n : NodeId) → never_at new.parts.work n ≡ never_at old.parts.work n
     pub fewer : (p q : Point) → times new.parts.work.graph.links p q ≤ times old.parts.work.graph.links p q
     pub ran : new.parts.ran ≡ old.parts.ran
     pub unrooted : (p : Point) → root_times new.parts.work.graph.roots p ≤ root_times old.parts.work.graph.roots p
@@ -107,6 +120,9 @@ IsAddFault e = ((cause : Kept) × (e ≡ fault.Broken cause)) ⊎ (e ≡ fault.U
 
 abbrev pub IsSetFault : GraphFault → Type 0
 IsSetFault e = ((cause : Kept) × (e ≡ fault.Broken cause)) ⊎ (e ≡ fault.Unknown) ⊎ (e ≡ fault.NotVar) ⊎ (e ≡ fault.WrongType)
+
+abbrev pub IsCutoffFault : GraphFault → Type 0
+IsCutoffFault e = ((cause : Kept) × (e ≡ fault.Broken cause)) ⊎ (e ≡ fault.Unknown)
 
 abbrev pub IsObserveFault : GraphFault → Type 0
 IsObserveFault e = ((cause : Kept) × (e ≡ fault.Broken cause)) ⊎ (e ≡ fault.Unknown) ⊎ (e ≡ fault.TooMany) ⊎ (e ≡ fault.Memory)

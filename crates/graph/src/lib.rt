@@ -8,4 +8,5 @@ mod observer;
 
 pub use fault::{GraphFault, Kept, StabilizeFault};
 pub use graph::{Graph, Mark, Round};
+pub use map_nodes::Cutoff;
 pub use stabilizer::Refused;

@@ -6,6 +6,7 @@ use Rattle.inc_value.specs.declared.node.NodeId.{NodeId}
 use Rattle.inc_value.specs.declared.node.Point.{Point}
 use Rattle.inc_terms.specs.Depend.{main}
 use Rattle.inc_terms.specs.Graph.{Row}
+use Rattle.map_nodes.specs.declared.cutoff.Cutoff.TheVariants.{Equal}
 use Rattle.point_map.specs.Rows.{Rows, at, Holds, Changes}
 use Rattle.point_map.proofs.Places.{point_cases}
 use Rattle.link_table.specs.Links.{Links, times, Reads}
@@ -46,7 +47,7 @@ no_row arena work id kept gen = by_row (at work.rows (main id)) refl
     by_row (Some h) e = absurd (other_point arena work id kept gen (main id) (kept.there (main id) (ap is_some e)) refl)
 
 abbrev pub unsettled : Progress
-unsettled = record { stage = Bare; settled = 0; outcome = None; last = None }
+unsettled = record { stage = Bare; settled = 0; outcome = None; last = None; cutoff = Equal }
 
 module _ (before arena : Arena) (old work : Work) (id : NodeId) (row : Row) (kept : IsKept before old) (gen : id.gen_ ≡ before.given)
     (added : nodes.Changes before arena id (Some row)) (top : row.scope ≡ None) (given : arena.given ≡ before.given + 1)

@@ -17,7 +17,8 @@ use Rattle.node_arena.specs.Meanings.{SameValues}
 use Rattle.stabilize_round.specs.Invariant.{Recalls}
 use Rattle.stabilize_round.specs.Machine.{Entry}
 use Rattle.stabilize_round.specs.State.{State, Start}
-use Rattle.stabilizer.specs.Round.{IsReady, last_of, last_call}
+use Rattle.stabilizer.specs.Round.{IsReady, last_of, last_call, never_at}
+use Rattle.stabilizer.specs.Row.{never_in}
 use Rattle.stabilizer.specs.Stands.{Stands}
 use Rattle.stabilizer.specs.declared.work.Work.{Work}
 
@@ -38,6 +39,7 @@ pub record Begun (F : Functions) (arena : Arena) (work : Work) (count : ℕ) : T
   pub entry : Entry F start state
   pub calls : start.calls ≡ count
   pub last : (n : NodeId) → start.last n ≡ last_call work n
+  pub never : (n : NodeId) → start.never n ≡ never_at work n
   pub held : (p : Point) → (start.held p ≡ true) ↔ Needed work.graph p
 
 module _ (F : Functions) (arena : Arena) (work : Work) (ready : IsReady F arena work) (count : ℕ) where
@@ -45,10 +47,10 @@ module _ (F : Functions) (arena : Arena) (work : Work) (ready : IsReady F arena 
   old = ready.state
 
   abbrev state : State
-  state = record old { calls = count; last = last_call work }
+  state = record old { calls = count; last = last_call work; never = never_at work }
 
   abbrev start : Start
-  start = record ready.start { calls = count; last = last_call work; held = old.needed }
+  start = record ready.start { calls = count; last = last_call work; held = old.needed; never = never_at work }
 
   -- of a live node the state knew this last call
   last_known : (n : NodeId) (r : Row) → old.graph.row n ≡ Some r → last_call work n ≡ old.last n
@@ -67,6 +69,7 @@ module _ (F : Functions) (arena : Arena) (work : Work) (ready : IsReady F arena 
     graph = ready.stands.graph;
     out = ready.stands.out;
     last = λ n k e. ap last_of e;
+    never = λ n k e. ap never_in e;
     links = ready.stands.links;
     root = ready.stands.root;
     needed = ready.stands.needed;
@@ -111,6 +114,7 @@ module _ (F : Functions) (arena : Arena) (work : Work) (ready : IsReady F arena 
     died = ready.entry.died;
     held = λ p. refl;
     last = λ n. refl;
+    never = λ n. refl;
     calls = refl;
     answers = λ n r kids c row def e. ready.entry.answers n r kids c row def (sym (last_known n r row) ∙ e);
   }
@@ -123,5 +127,6 @@ module _ (F : Functions) (arena : Arena) (work : Work) (ready : IsReady F arena 
     entry = entry;
     calls = refl;
     last = λ n. refl;
+    never = λ n. refl;
     held = ready.stands.needed;
   }

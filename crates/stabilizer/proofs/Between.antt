@@ -41,7 +41,7 @@ use Rattle.stabilizer.specs.Computing.{seen, seen_of}
 use Rattle.stabilizer.specs.Deciding.{is_needed}
 use Rattle.stabilizer.specs.Kept.{IsKept}
 use Rattle.stabilizer.specs.Round.{IsReady, last_of}
-use Rattle.stabilizer.specs.Row.{settled_in, stage_of}
+use Rattle.stabilizer.specs.Row.{settled_in, stage_of, never_in}
 use Rattle.stabilizer.specs.Stands.{Stands}
 use Rattle.stabilizer.specs.declared.row.Progress.{Progress}
 use Rattle.stabilizer.specs.declared.row.Stage.{Stage}
@@ -229,10 +229,11 @@ state_of need arena work = record {
   builds = 0;
   adds = 0;
   given = arena.given;
+  never = λ n. never_in (at work.rows (main n));
 }
 
 abbrev start_of : (Point → Bool) → Work → Start
-start_of need work = record { held = need; last = λ n. last_of (at work.rows (main n)); calls = 0; known = λ f. false; ids = λ f. [] }
+start_of need work = record { held = need; last = λ n. last_of (at work.rows (main n)); calls = 0; known = λ f. false; ids = λ f. []; never = λ n. never_in (at work.rows (main n)) }
 
 none_of : (n : ℕ) → (0 < n → ⊥) → n ≡ 0
 none_of zero h = refl
@@ -288,6 +289,7 @@ module _ (F : Functions) (arena : Arena) (work : Work) (b : IsBetween F arena wo
     graph = refl;
     out = λ p k e. ap outcome_in e;
     last = λ n k e. ap last_of e;
+    never = λ n k e. ap never_in e;
     links = λ p q. refl;
     root = λ p. refl;
     needed = exact;
@@ -356,6 +358,7 @@ module _ (F : Functions) (arena : Arena) (work : Work) (b : IsBetween F arena wo
     died = λ n. refl;
     held = λ p. refl;
     last = λ n. refl;
+    never = λ n. refl;
     calls = refl;
     answers = λ n r nodes c row def last.
         let k = row_of arena work b.kept n r row in

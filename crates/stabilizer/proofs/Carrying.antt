@@ -114,7 +114,7 @@ module _ (arena : Arena) (old new : Work) (n : NodeId) (o : Outcome) (last : Opt
     (typed : (r : Row) (v : Value) → row_at arena n ≡ Some r → o ≡ Val v → type_of v ≡ r.ty)
     (answer_typed : (r : Row) (c : Call) → row_at arena n ≡ Some r → last ≡ Some c → type_of c.result ≡ r.ty) where
   abbrev fresh : Progress
-  fresh = record { stage = w.row.stage; settled = old.round; outcome = Some o; last = last }
+  fresh = record { stage = w.row.stage; settled = old.round; outcome = Some o; last = last; cutoff = w.row.cutoff }
 
   row_is : (k : Progress) → at new.rows (main n) ≡ Some k → fresh ≡ k
   row_is k e = some_row fresh k (sym w.now ∙ e)

@@ -31,7 +31,7 @@ use Rattle.stabilize_round.specs.Calling.{taken_by, IsAnswer, cost_at, row_cost,
 use Rattle.stabilize_round.specs.Counts.{RoseBy, RoseAtMost}
 use Rattle.stabilize_round.specs.Moves.{calls_of}
 use Rattle.stabilize_round.specs.State.{Call}
-use Rattle.stabilizer.specs.Computing.{seen, seen_of, seen_together, value_shown, ShowsValue, CallsSeen, KeepsRest}
+use Rattle.stabilizer.specs.Computing.{seen, seen_of, seen_together, value_shown, ShowsValue, IsForcedBy, CallsSeen, KeepsRest}
 use Rattle.stabilizer.specs.Computing.{IsCalled, IsKnown, AllShow, LastWas, FoldFits, KeepsAllButCount, ComputesCall, Computes, NotComputed}
 use Rattle.stabilizer.specs.Kept.{IsKept}
 use Rattle.stabilizer.specs.Meaning.{functions_of}
@@ -221,13 +221,14 @@ module _ (value : FnRef → List Value → Value) (answer : List Value → Value
 
   -- the children show what the function was last called on
   last_computes : (before : ℕ) (call : Call) (v : Value) → LastWas old.rows n call → AllZip (ShowsValue old.rows) nodes call.arguments → v ≡ call.result
-      → ComputesCall value answer t old old n def nodes (Val v) cost before before
-  last_computes before call v was shown is = record {
+      → (IsForcedBy old.round old.rows nodes → ⊥) → ComputesCall value answer t old old n def nodes (Val v) cost before before
+  last_computes before call v was shown is free = record {
     kept = kept;
     is_kept = is_kept;
     last = kept.last;
     called = false;
-    calls = (refl, λ others values its e. (call, is_last, same values (relisted old.rows def nodes others values takes its e)));
+    calls = (refl, λ others values its e. (call, is_last, same values (relisted old.rows def nodes others values takes its e),
+        λ f. free (subst (IsForcedBy old.round old.rows) (same_Some others nodes (sym its ∙ takes)) f)));
     gives = λ answers known. gives answers;
     row = unmoved old.rows n kept is_kept;
     ran = refl;
@@ -249,10 +250,10 @@ module _ (value : FnRef → List Value → Value) (answer : List Value → Value
     gives answers = ap (given answer) together ∙ (let e = answers call is_last in cc)
 
   -- the function need not be called
-  pub known_computes : (before : ℕ) (o : Outcome) → IsKnown old.rows n nodes (Some o)
+  pub known_computes : (before : ℕ) (o : Outcome) → IsKnown old.round old.rows n nodes (Some o)
       → ComputesCall value answer t old old n def nodes o cost before before
   known_computes before Invalid some = invalid_computes before some
-  known_computes before (Val v) h = last_computes before h.0 v h.1 h.2 h.3
+  known_computes before (Val v) h = last_computes before h.0 v h.1 h.2 h.3 h.4
 
   abbrev now_shown : List Value
   now_shown = filter_map (value_shown old.rows) nodes
@@ -261,7 +262,7 @@ module _ (value : FnRef → List Value → Value) (answer : List Value → Value
   now_called = record { arguments = now_shown; result = answer now_shown }
 
   -- the function was called
-  pub called_computes : (new : Work) (o : Outcome) (before after : ℕ) → IsKnown old.rows n nodes None
+  pub called_computes : (new : Work) (o : Outcome) (before after : ℕ) → IsKnown old.round old.rows n nodes None
       → IsCalled answer t old new n now_shown o cost before after
       → ComputesCall value answer t old new n def nodes o cost before after
   called_computes new o before after unknown called = record {
@@ -284,9 +285,12 @@ module _ (value : FnRef → List Value → Value) (answer : List Value → Value
     together : seen_together old.rows nodes ≡ Values now_shown
     together = together_from_shown old.rows nodes now_shown shown
 
-    others : (c : Call) → kept.last ≡ Some c → c.arguments ≡ now_shown → ⊥
-    others c e same = unknown.1 c (last_of_kept (at old.rows (main n)) kept is_kept ∙ e)
-        (subst (λ (vs : List Value). AllZip (ShowsValue old.rows) nodes vs) (sym same) shown)
+    others : ((c : Call) → kept.last ≡ Some c → c.arguments ≡ now_shown → ⊥) ⊎ IsForcedBy old.round old.rows nodes
+    others = elim unknown.1 [
+      | inl differs ↦ inl (λ c e same. differs c (last_of_kept (at old.rows (main n)) kept is_kept ∙ e)
+          (subst (λ (vs : List Value). AllZip (ShowsValue old.rows) nodes vs) (sym same) shown))
+      | inr f ↦ inr f
+    ]
 
 -- ---- what a node gives
 
@@ -442,7 +446,7 @@ module _ (value : FnRef → List Value → Value) (arena : Arena) (old : Work) (
         is_row = is_row;
         kept = m.kept;
         is_kept = m.is_kept;
-        calls = subst (λ (d : Def). CallsSeen value old.rows d m.kept.last m.last m.called) (sym is_def) m.calls;
+        calls = subst (λ (d : Def). CallsSeen value old.round old.rows d m.kept.last m.last m.called) (sym is_def) m.calls;
         own = λ answers known. subst (λ (d : Def). gives_own d ≡ Some o) (sym is_def)
             (own_is ∙ m.gives (λ c is. from_answer c.arguments c.result (subst (λ (d : Def). IsAnswer (functions_of value) d c.arguments c.result) is_def
             (answers n row nodes m.kept c is_row (ap taken_by is_def ∙ takes) m.is_kept is)))

@@ -256,7 +256,7 @@ module _ (old mid new : Work) (g : NecessaryPart) (q : Point) (newly : Bool) (lo
   part = record mid { graph = g }
 
   as_before : (a : Point) (k : Progress) → at mid.rows a ≡ Some k → IsBefore old.rows a k
-  as_before a k e = record { row = k; was = sym (looks.rows a) ∙ e; outcome = refl; last = refl; settled = refl }
+  as_before a k e = record { row = k; was = sym (looks.rows a) ∙ e; outcome = refl; last = refl; cutoff = refl; settled = refl }
 
   needed_then : (a : Point) → Needed old.graph a → Needed g a
   needed_then a n = (also a).1 (inl ((looks.needed a).1 n))
@@ -294,7 +294,7 @@ module _ (old mid new : Work) (g : NecessaryPart) (q : Point) (newly : Bool) (lo
     rows_woken : (a : Point) (k : Progress) → at new.rows a ≡ Some k → IsBefore old.rows a k
     rows_woken a k e =
         let b = row_before mid.rows new.rows q code.Bare w.rows a k e in
-        record { row = b.row; was = sym (looks.rows a) ∙ b.was; outcome = b.outcome; last = b.last; settled = b.settled }
+        record { row = b.row; was = sym (looks.rows a) ∙ b.was; outcome = b.outcome; last = b.last; cutoff = b.cutoff; settled = b.settled }
 
     grown_woken : IsGrown old new q
     grown_woken = record {

@@ -10,7 +10,7 @@ use Rattle.inc_terms.specs.Evaluate.{Stands, GiveAll, answer}
 use Rattle.inc_terms.specs.Graph.{Graph}
 use Rattle.inc_terms.specs.Need.{IsRoot, Beside, Observed, nodes_of, Held, Met, from_root, from_held}
 use Rattle.inc_terms.specs.Term.{Functions}
-use Rattle.inc_terms.specs.Work.{Visit, other, IsDueVisit, WithinWork}
+use Rattle.inc_terms.specs.Work.{Visit, HasReason, other, passed, IsDueVisit, WithinWork}
 use Rattle.necessary_graph.specs.Part.{Needed}
 use Rattle.node_arena.specs.Arena.{Arena}
 use Rattle.node_arena.specs.Graph.{graph_of, NoScopes}
@@ -42,13 +42,22 @@ module _ (F : Functions) (arena : Arena) (flat : NoScopes arena) (old new : Work
   visit_of : (n : NodeId) → Called n → Visit
   visit_of n c = record { node = n; values = c.values; cost = cost_at G n }
 
-  other_arguments : (n : NodeId) (c : Called n) (x : Option Call) → last_call old n ≡ x → before.last n ≡ Some c.values → ⊥
-  other_arguments n c None e last =
+  other_arguments : (n : NodeId) (c : Called n) → ((k : Call) → last_call old n ≡ Some k → k.arguments ≡ c.values → ⊥) → (x : Option Call)
+      → last_call old n ≡ x → before.last n ≡ Some c.values → ⊥
+  other_arguments n c differs None e last =
       let k : before.last n ≡ None = stood.last n ∙ ap arguments_of e in let x : None ≡ Some c.values = sym k ∙ last in cc
-  other_arguments n c (Some call) e last =
+  other_arguments n c differs (Some call) e last =
       let k : before.last n ≡ Some call.arguments = stood.last n ∙ ap arguments_of e in
       let x : Some call.arguments ≡ Some c.values = sym k ∙ last in
-      c.reason call e (cc)
+      differs call e (cc)
+
+  reason_of : (n : NodeId) (c : Called n) → HasReason G before (visit_of n c)
+  unfolding visit_of
+  reason_of n c = elim c.reason [
+    | inl differs ↦ other (λ last. other_arguments n c differs (last_call old n) refl last)
+    | inr k ↦ passed {r = c.row} {kid = k.0} c.is_row
+        (subst (λ (ks : List NodeId). Among k.0 ks) (sym (kids_taken G n c.row.def c.nodes c.takes)) k.1) (stood.never k.0 ∙ k.2)
+  ]
 
   due : (n : NodeId) (c : Called n) → IsDueVisit F G none_died observers before (visit_of n c)
   unfolding visit_of
@@ -61,7 +70,7 @@ module _ (F : Functions) (arena : Arena) (flat : NoScopes arena) (old new : Work
       cost = cost_of_taken G n c.row c.nodes c.is_row c.takes;
     };
     met = is_met (main n) c.met;
-    reason = other (λ last. other_arguments n c (last_call old n) refl last);
+    reason = reason_of n c;
   }
 
   abbrev visits : (ns : List NodeId) → ((n : NodeId) → Among n ns → Called n) → List Visit

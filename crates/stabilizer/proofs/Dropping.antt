@@ -1,5 +1,5 @@
 -- A node that isn't needed is dropped.
-use Rattle.std.proofs.Common.{◌≡◌, ◌≢◌, inl, inr, ℕ, ◌<◌, ◌≤◌, None, Some, sym, ap, subst, ◌∙◌, arith}
+use Rattle.std.proofs.Common.{◌≡◌, ◌≢◌, inl, inr, ℕ, true, ◌<◌, ◌≤◌, None, Some, sym, ap, subst, ◌∙◌, arith}
 use Rattle.std.specs.Prelude.{is_some}
 use Rattle.std.proofs.lemmas.Option.{none-some}
 use Rattle.inc_value.specs.declared.node.NodeId.{NodeId}
@@ -15,7 +15,8 @@ use Rattle.node_arena.specs.Arena.{Arena, row_at}
 use Rattle.stabilize_round.proofs.Points.{node_or_other}
 use Rattle.stabilizer.specs.Between.{Stays, HasDropped}
 use Rattle.stabilizer.specs.Kept.{IsKept}
-use Rattle.stabilizer.specs.Round.{IsReady}
+use Rattle.stabilizer.specs.Round.{IsReady, never_at}
+use Rattle.stabilizer.specs.Row.{never_in}
 use Rattle.stabilizer.specs.Wiring.{KeepsRound}
 use Rattle.stabilizer.specs.declared.row.Progress.{Progress}
 use Rattle.stabilizer.specs.declared.work.Work.{Work}
@@ -113,6 +114,12 @@ module _ (before arena arena' : Arena) (old work work' : Work) (count : ℕ) (id
     older = λ n h. dropped.others n (younger n h) ∙ so_far.older n h;
     given = given ∙ so_far.given;
     rows = λ n h. rows.others (main n) (main_other n id (younger n h)) ∙ so_far.rows n h;
+    cutoffs = λ n h. ap never_in (rows.others (main n) (main_other n id (younger n h)) ∙ so_far.rows n h);
+    fewer_cutoffs = λ n h. elim (node_or_other n id) [
+      | inl is ↦ absurd (let gone = ap never_in rows.changed in
+          let had : never_in (at work'.rows (main id)) ≡ true = subst (λ (x : NodeId). never_at work' x ≡ true) is h in cc)
+      | inr ne ↦ so_far.fewer_cutoffs n (sym (ap never_in (rows.others (main n) (main_other n id ne))) ∙ h)
+    ];
     links = links ∙ so_far.links;
     roots = roots ∙ so_far.roots;
     heap = heap ∙ so_far.heap;

@@ -54,8 +54,8 @@ use Rattle.stabilize_round.proofs.Parts.{bool_cases}
 use Rattle.stabilize_round.proofs.Points.{count_among, among_count}
 use Rattle.stabilizer.specs.Computing.{seen, seen_of}
 use Rattle.stabilizer.specs.Kept.{IsKept}
-use Rattle.stabilizer.specs.Round.{IsReady, AreRooted, last_of, last_call, WasCalled, IsUpToDate}
-use Rattle.stabilizer.specs.Row.{settled_in}
+use Rattle.stabilizer.specs.Round.{IsReady, AreRooted, last_of, last_call, never_at, WasCalled, IsUpToDate}
+use Rattle.stabilizer.specs.Row.{settled_in, is_never, never_in}
 use Rattle.stabilizer.specs.Stands.{Stands}
 use Rattle.stabilizer.specs.declared.row.Progress.{Progress}
 use Rattle.stabilizer.specs.declared.work.Work.{Work}
@@ -137,6 +137,12 @@ last_case (Some k) y r c same e is = sym (is k refl)
 last_none : (x : Option Progress) (y : Option Row) → is_some x ≡ is_some y → y ≡ None → last_of x ≡ None
 last_none None y same e = refl
 last_none (Some k) y same e = absurd (let h = same ∙ ap is_some e in cc)
+
+-- who has a row has the same cutoff
+never_case : (x y : Option Progress) → is_some x ≡ is_some y → ((k : Progress) → x ≡ Some k → is_never k.cutoff ≡ never_in y) → never_in x ≡ never_in y
+never_case None None same is = refl
+never_case None (Some k) same is = absurd (cc)
+never_case (Some k) y same is = is k refl
 
 -- what nodes give that show what they give, put together
 gathered_by : (F : Functions) (G : Graph) (out : Point → Option Outcome) (ns : List NodeId) (vs : List Value) → GiveAll F G ns vs
@@ -304,7 +310,8 @@ once_reverse (m ∷ ms) once =
 
 module _ (F : Functions) (arena : Arena) (old mid : Work) (before after : ℕ) (first : IsKept arena old) (begun : Begun F arena old before)
     (kept : IsKept arena mid) (t : State) (run : Moves F begun.start begun.state t) (stands : Stands arena mid after None t)
-    (idle : mid.todo.items ≡ []) (empty : IsEmpty mid.graph.heap) (observed : List NodeId) (looks : AreObserved mid observed) where
+    (idle : mid.todo.items ≡ []) (empty : IsEmpty mid.graph.heap) (same_round : mid.round ≡ old.round) (observed : List NodeId)
+    (looks : AreObserved mid observed) where
   abbrev G : Graph
   G = graph_of arena
 
@@ -388,6 +395,11 @@ module _ (F : Functions) (arena : Arena) (old mid : Work) (before after : ℕ) (
           ∙ (ended.kept n r e (λ a. not (reverse_among n mid.ran.items (subst (λ (ns : List NodeId). Among n ns) stands.ran a)))
           ∙ begun.last n)
 
+  -- cutoffs stay
+  cutoffs : (n : NodeId) → never_at mid n ≡ never_at old n
+  cutoffs n = never_case (at mid.rows (main n)) (at old.rows (main n)) (kept.rows n ∙ sym (first.rows n)) (λ k e.
+      sym (stands.never n k e) ∙ (inv.accounts.never n ∙ begun.never n))
+
   is_met : (p : Point) → MetNow F begun.start G none_died t.root p → Met F G none_died observed (λ (q : Point). part.Needed old.graph q) p
   is_met p (invariant.from_root {r} root way) =
       let l = are.listed r root in
@@ -406,7 +418,11 @@ module _ (F : Functions) (arena : Arena) (old mid : Work) (before after : ℕ) (
         takes = c.takes;
         answers = c.answers;
         gives = c.gives;
-        reason = λ k e. c.reason k (begun.last n ∙ e);
+        reason = elim c.reason [
+          | inl differs ↦ inl (λ k e. differs k (begun.last n ∙ e))
+          | inr k ↦ inr (k.0, k.1, sym (begun.never k.0) ∙ k.2,
+              sym (ap (λ (r : ℕ). settled_in r (at mid.rows (main k.0))) same_round) ∙ (sym (stands.settled (main k.0)) ∙ k.3))
+        ];
         is_last = last_is n c.row c.is_row ∙ c.is_last;
         met = is_met (main n) c.met;
       }
@@ -430,6 +446,7 @@ module _ (F : Functions) (arena : Arena) (old mid : Work) (before after : ℕ) (
     links = links;
     recalls = recalls;
     kept = uncalled;
+    cutoffs = cutoffs;
     once = once;
     called = called;
     work = λ beside observers stood are_on calls few. within F arena kept.flat old mid observed (root_observed arena observed) beside observers stood are_on
@@ -476,6 +493,7 @@ module _ (F : Functions) (arena : Arena) (old mid : Work) (before after : ℕ) (
       graph = refl;
       out = stands.out;
       last = stands.last;
+      never = stands.never;
       links = stands.links;
       root = stands.root;
       needed = stands.needed;
@@ -514,6 +532,7 @@ module _ (F : Functions) (arena : Arena) (old mid : Work) (before after : ℕ) (
       links = up.links;
       recalls = up.recalls;
       kept = up.kept;
+      cutoffs = up.cutoffs;
       once = up.once;
       called = λ n a. let c = up.called n a in record {
         row = c.row;

@@ -119,6 +119,7 @@ module _ (F : Functions) (z : Start) (s : State) (arena : Arena) (work : Work) (
       graph = st.graph;
       out = st.out;
       last = st.last;
+      never = st.never;
       links = st.links;
       root = st.root;
       needed = st.needed;

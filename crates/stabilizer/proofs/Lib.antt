@@ -28,4 +28,5 @@ pub mod Between
 pub mod Setting
 pub mod Unrooting
 pub mod Adding
+pub mod Cutting
 pub mod Dropping

@@ -23,7 +23,7 @@ use Rattle.stabilize_round.specs.Moves.{Enqueues}
 use Rattle.stabilize_round.specs.Wire.{linked, newly, IsIt, Link, IsConfirmed, raised, Raise, finished, Finish}
 use Rattle.stabilize_round.proofs.Parts.{bool_cases}
 use Rattle.stabilize_round.proofs.Points.{same_or_other, at_same, at_other}
-use Rattle.stabilizer.specs.Row.{IsRewritten, with_stage, settled_in, stage_of}
+use Rattle.stabilizer.specs.Row.{IsRewritten, with_stage, settled_in, stage_of, is_never}
 use Rattle.stabilizer.specs.Stands.{Stands, StandsWith, Hand, hand, owed_in, IsInHand}
 use Rattle.stabilizer.specs.Wiring.{IsReached, IsWoken}
 use Rattle.stabilizer.specs.declared.row.Progress.{Progress}
@@ -60,6 +60,7 @@ pub record IsBefore (old : Rows Progress) (a : Point) (k : Progress) : Type 0 wh
   pub was : at old a ≡ Some row
   pub outcome : k.outcome ≡ row.outcome
   pub last : k.last ≡ row.last
+  pub cutoff : k.cutoff ≡ row.cutoff
   pub settled : k.settled ≡ row.settled
 
 mapped : (x : Option Progress) (st : Stage) (k : Progress) → option_map (with_stage st) x ≡ Some k
@@ -81,9 +82,10 @@ module _ (old new : Rows Progress) (q : Point) (st : Stage) (w : IsRewritten old
           was = subst (λ (x : Point). at old x ≡ Some m.0) same m.1;
           outcome = ap (λ (x : Progress). x.outcome) m.2;
           last = ap (λ (x : Progress). x.last) m.2;
+          cutoff = ap (λ (x : Progress). x.cutoff) m.2;
           settled = ap (λ (x : Progress). x.settled) m.2;
         }
-    | inr ne ↦ record { row = k; was = sym (w.others a (λ h. ne (sym h))) ∙ e; outcome = refl; last = refl; settled = refl }
+    | inr ne ↦ record { row = k; was = sym (w.others a (λ h. ne (sym h))) ∙ e; outcome = refl; last = refl; cutoff = refl; settled = refl }
   ]
 
   settled_mapped : (round : ℕ) (x : Option Progress) → settled_in round (option_map (with_stage st) x) ≡ settled_in round x
@@ -147,6 +149,7 @@ module _ (F : Functions) (z : Start) (s : State) (arena : Arena) (old : Work) (g
     graph = st.graph;
     out = st.out;
     last = st.last;
+    never = st.never;
     links = links_after;
     root = λ a. st.root a ∙ sym (roots a);
     needed = needed;
@@ -241,6 +244,7 @@ module _ (F : Functions) (z : Start) (s : State) (arena : Arena) (mid new : Work
     graph = st.graph;
     out = λ a k e. let b = row_before mid.rows new.rows q code.Bare w.rows a k e in st.out a b.row b.was ∙ sym b.outcome;
     last = λ n k e. let b = row_before mid.rows new.rows q code.Bare w.rows (main n) k e in st.last n b.row b.was ∙ sym b.last;
+    never = λ n k e. let b = row_before mid.rows new.rows q code.Bare w.rows (main n) k e in st.never n b.row b.was ∙ ap is_never (sym b.cutoff);
     links = λ a b. st.links a b ∙ ap (λ (l : Links). times l a b) (sym w.graph.links);
     root = λ a. st.root a ∙ ap (λ (r : Roots). root_times r a) (sym w.graph.roots);
     needed = needed_now;

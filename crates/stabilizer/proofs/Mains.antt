@@ -1,5 +1,5 @@
 -- A main is computed and settled, or left as it was.
-use Rattle.std.proofs.Common.{◌≡◌, ◌≢◌, inl, inr, ℕ, List, Option, None, Some, sym, ap, subst, ◌∙◌, arith}
+use Rattle.std.proofs.Common.{◌≡◌, ◌≢◌, ◌⊎◌, inl, inr, ℕ, true, List, Option, None, Some, sym, ap, subst, ◌∙◌, arith}
 use Rattle.std.specs.Prelude.{option_map}
 use Rattle.inc_value.specs.declared.function.FnRef.{FnRef}
 use Rattle.inc_value.specs.declared.node.NodeId.{NodeId}
@@ -7,6 +7,8 @@ use Rattle.inc_value.specs.declared.node.Point.{Point}
 use Rattle.inc_value.specs.declared.outcome.Outcome.{Outcome}
 use Rattle.inc_value.specs.declared.value.Value.{Value}
 use Rattle.inc_terms.specs.Depend.{main}
+use Rattle.map_nodes.specs.declared.cutoff.Cutoff.{Cutoff}
+use Rattle.map_nodes.specs.declared.cutoff.Cutoff.TheVariants.{Equal, Never}
 use Rattle.point_map.specs.Rows.{Rows, at, Holds, KeepsRows}
 use Rattle.link_table.specs.Links.{Reads}
 use Rattle.height_order.specs.Levels.{level}
@@ -14,10 +16,10 @@ use Rattle.necessary_graph.specs.Part.{NecessaryPart, IsInStep}
 use Rattle.node_arena.specs.Arena.{Arena}
 use Rattle.stabilizer.specs.Computing.{Computes, NotComputed}
 use Rattle.stabilizer.specs.Kept.{IsKept}
-use Rattle.stabilizer.specs.Row.{IsRewritten, with_last, with_outcome, settled_in}
+use Rattle.stabilizer.specs.Row.{IsRewritten, with_last, with_outcome, settled_in, is_never}
 use Rattle.stabilizer.specs.Settling.{IsSettled}
 use Rattle.stabilizer.specs.Stepping.{MainIsSettled}
-use Rattle.stabilizer.specs.Wiring.{KeepsGraph, KeepsRound, IsTold, Shows}
+use Rattle.stabilizer.specs.Wiring.{KeepsGraph, KeepsRound, IsTold, Stops}
 use Rattle.stabilizer.specs.declared.row.Progress.{Progress}
 use Rattle.stabilizer.specs.declared.work.Work.{Work}
 use Rattle.stabilizer.proofs.Carrying.{kept_same, settled_kept}
@@ -87,7 +89,7 @@ module _ (value : FnRef → List Value → Value) (arena : Arena) (old mid new :
   is_settled = record {
     row = c.computed.kept;
     was = was;
-    now = now ∙ ap (λ (m : ℕ). Some (record { stage = c.computed.kept.stage; settled = m; outcome = Some o; last = c.last })) round_is;
+    now = now ∙ ap (λ (m : ℕ). Some (record { stage = c.computed.kept.stage; settled = m; outcome = Some o; last = c.last; cutoff = c.computed.kept.cutoff })) round_is;
     others = others;
     graph = record {
       links = graph.links ∙ ap (λ (g : NecessaryPart). g.links) graph_is;
@@ -99,7 +101,7 @@ module _ (value : FnRef → List Value → Value) (arena : Arena) (old mid new :
       | inl k ↦ absurd (let there = before_in (main n) k in let gone = taken in cc)
       | inr k ↦ reads (main n) k.0
     ];
-    told = λ ne p r. elim (told.told (λ s. ne (shows s)) p (readers p r)) [
+    told = λ must p r. elim (told.told (λ s. unstopped must s) p (readers p r)) [
       | inl k ↦ inl k
       | inr k ↦ inr (sym (settled_as p (other p r)) ∙ k)
     ];
@@ -113,8 +115,16 @@ module _ (value : FnRef → List Value → Value) (arena : Arena) (old mid new :
     round = round.round ∙ round_is;
   }
     where
-      shows : Shows mid (main n) o → c.computed.kept.outcome ≡ Some o
-      shows s = ap (λ (x : Progress). x.outcome) (some_row (with_last c.last c.computed.kept) s.0 (sym between ∙ s.1)) ∙ s.2
+      its : (s : Stops mid (main n) o) → with_last c.last c.computed.kept ≡ s.0
+      its s = some_row (with_last c.last c.computed.kept) s.0 (sym between ∙ s.1)
+
+      equal_stops : (x : Cutoff) → x ≡ Equal → is_never x ≡ true → ⊥
+      equal_stops Equal is never = cc
+      equal_stops Never is never = cc
+
+      unstopped : (c.computed.kept.outcome ≡ Some o → ⊥) ⊎ (is_never c.computed.kept.cutoff ≡ true) → Stops mid (main n) o → ⊥
+      unstopped (inl other) s = other (ap (λ (x : Progress). x.outcome) (its s) ∙ s.2.1)
+      unstopped (inr never) s = equal_stops c.computed.kept.cutoff (ap (λ (x : Progress). x.cutoff) (its s) ∙ s.2.0) never
 
   pub main_settled : MainIsSettled value arena old new n before after
   main_settled = record {

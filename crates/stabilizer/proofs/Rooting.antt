@@ -38,6 +38,7 @@ module _ (F : Functions) (z : Start) (s : State) (arena : Arena) (old : Work) (g
     graph = st.graph;
     out = st.out;
     last = st.last;
+    never = st.never;
     links = λ a b. st.links a b ∙ sym (links a b);
     root = roots_more s.root old.graph.roots g.roots p st.root more;
     needed = needed;

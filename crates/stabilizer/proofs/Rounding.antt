@@ -340,7 +340,7 @@ module _ (F : Functions) (arena : Arena) (old rooted : Work) (before : ℕ) (rea
 
   -- a round that ended
   module _ (settled : Work) (after : ℕ) (steps : Settles F arena rooted settled before after) (kept : IsKept arena settled)
-      (idle : settled.todo.items ≡ []) (empty : IsEmpty settled.graph.heap) where
+      (idle : settled.todo.items ≡ []) (empty : IsEmpty settled.graph.heap) (same_round : settled.round ≡ old.round) where
     last : (t : State) × Moves F first.start first.state t × Stands arena settled after None t
     last =
         let w = wired F first.start first.state before inv first.stands in
@@ -348,13 +348,13 @@ module _ (F : Functions) (arena : Arena) (old rooted : Work) (before : ℕ) (rea
         (k.0, joined (Move F first.start) first.state w.0 k.0 w.1 k.1, k.2)
 
     pub round_counts : RoseBy before (costs_of (graph_of arena) settled.ran.items) after
-    round_counts = counted F arena old settled before after ready.kept first kept last.0 last.1 last.2 idle empty
+    round_counts = counted F arena old settled before after ready.kept first kept last.0 last.1 last.2 idle empty same_round
         (root_nodes settled.graph.roots settled.graph.roots.counts) (all_observed arena settled kept)
 
     module _ (new : Work) (graph : new.graph ≡ settled.graph) (rows : new.rows ≡ settled.rows) (todo : new.todo ≡ settled.todo) (ran : new.ran.items ≡ [])
         (strict : new.strict ≡ false) (round : new.round ≡ settled.round + 1) where
       pub round_readies : IsReady F arena new
-      round_readies = ready_again F arena old settled before after ready.kept first kept last.0 last.1 last.2 idle empty
+      round_readies = ready_again F arena old settled before after ready.kept first kept last.0 last.1 last.2 idle empty same_round
           (root_nodes settled.graph.roots settled.graph.roots.counts) (all_observed arena settled kept) new graph rows todo ran strict round
 
       module _ (nodes observed : List NodeId) (roots : settled.graph.roots ≡ rooted.graph.roots)
@@ -369,5 +369,5 @@ module _ (F : Functions) (arena : Arena) (old rooted : Work) (before : ℕ) (rea
             omega arith
 
         pub round_rights : IsUpToDate F arena old new (nodes ++ observed) settled.ran.items
-        round_rights = right_again F arena old settled before after ready.kept first kept last.0 last.1 last.2 idle empty (nodes ++ observed)
+        round_rights = right_again F arena old settled before after ready.kept first kept last.0 last.1 last.2 idle empty same_round (nodes ++ observed)
             (rooted_observed settled (nodes ++ observed) all_rooted) new graph rows todo ran strict round all_rooted

@@ -17,7 +17,7 @@ use Rattle.node_arena.specs.Arena.{Arena}
 use Rattle.stabilize_round.specs.State.{State, Call, Linked, at_point, at_node}
 use Rattle.stabilize_round.specs.Moves.{Enqueues, computed, ran_more}
 use Rattle.stabilize_round.proofs.Points.{same_or_other, at_same, at_other, node_or_other, node_same, node_other}
-use Rattle.stabilizer.specs.Row.{settled_in, stage_of}
+use Rattle.stabilizer.specs.Row.{settled_in, stage_of, is_never}
 use Rattle.stabilizer.specs.Settling.{IsSettled, ran_then}
 use Rattle.stabilizer.specs.Stands.{Stands}
 use Rattle.stabilizer.specs.declared.row.Progress.{Progress}
@@ -39,7 +39,7 @@ module _ (s : State) (arena : Arena) (old new : Work) (calls calls' : ℕ) (n : 
   abbrev heap' : Point → Bool
   heap' a = is_some (at new.graph.heap a)
 
-  row_now : (k : Progress) → at new.rows (main n) ≡ Some k → record { stage = w.row.stage; settled = old.round; outcome = Some o; last = last' } ≡ k
+  row_now : (k : Progress) → at new.rows (main n) ≡ Some k → record { stage = w.row.stage; settled = old.round; outcome = Some o; last = last'; cutoff = w.row.cutoff } ≡ k
   row_now k e = some_row _ k (sym w.now ∙ e)
 
   row_other : (a : Point) (k : Progress) → (main n ≡ a → ⊥) → at new.rows a ≡ Some k → at old.rows a ≡ Some k
@@ -57,6 +57,11 @@ module _ (s : State) (arena : Arena) (old new : Work) (calls calls' : ℕ) (n : 
       | inl h ↦ subst (λ (x : NodeId). at_node n last' s.last x ≡ k.last) h
           (node_same n last' s.last ∙ ap (λ (x : Progress). x.last) (row_now k (subst (λ (x : NodeId). at new.rows (main x) ≡ Some k) (sym h) e)))
       | inr ne ↦ node_other n last' s.last m ne ∙ st.last m k (row_other (main m) k (λ h. ne (ap (λ (x : Point). x.node) h)) e)
+    ];
+    never = λ m k e. elim (node_or_other n m) [
+      | inl h ↦ subst (λ (x : NodeId). s.never x ≡ is_never k.cutoff) h
+          (st.never n w.row w.was ∙ ap (λ (x : Progress). is_never x.cutoff) (row_now k (subst (λ (x : NodeId). at new.rows (main x) ≡ Some k) (sym h) e)))
+      | inr ne ↦ st.never m k (row_other (main m) k (λ h. ne (ap (λ (x : Point). x.node) h)) e)
     ];
     links = λ a b. st.links a b ∙ ap (λ (l : Links). times l a b) (sym w.graph.links);
     root = λ a. st.root a ∙ ap (λ (r : Roots). root_times r a) (sym w.graph.roots);
@@ -86,7 +91,7 @@ module _ (s : State) (arena : Arena) (old new : Work) (calls calls' : ℕ) (n : 
   -- the readers that were told, in the machine's words
   pub settled_enqueues : (s.links (main n) (main n) ≡ 0)
       → Enqueues s (at_point (main n) false s.heap) heap' (λ (q : Point). Linked s q (main n))
-      (λ (q : Point). Linked s q (main n) × (s.out (main n) ≡ Some o → ⊥))
+      (λ (q : Point). Linked s q (main n) × ((s.out (main n) ≡ Some o → ⊥) ⊎ (s.never n ≡ true)))
   settled_enqueues no_loop = record {
     kept = λ a h. elim (same_or_other (main n) a) [
       | inl e ↦ absurd (let f = at_same (main n) false s.heap in
@@ -101,12 +106,16 @@ module _ (s : State) (arena : Arena) (old new : Work) (calls calls' : ℕ) (n : 
         | inr k ↦ inr (linked_as a k.0, st.settled a ∙ k.1)
       ]
     ];
-    told = λ a l. elim (w.told (λ e. l.1 (st.out (main n) w.row w.was ∙ e)) a (reads_as a l.0)) [
+    told = λ a l. elim (w.told (must l.1) a (reads_as a l.0)) [
       | inl k ↦ inl k
       | inr k ↦ inr (st.settled a ∙ k)
     ];
   }
     where
+      must : (s.out (main n) ≡ Some o → ⊥) ⊎ (s.never n ≡ true) → (w.row.outcome ≡ Some o → ⊥) ⊎ (is_never w.row.cutoff ≡ true)
+      must (inl other) = inl (λ e. other (st.out (main n) w.row w.was ∙ e))
+      must (inr never) = inr (sym (st.never n w.row w.was) ∙ never)
+
       linked_as : (a : Point) → Reads old.graph.links a (main n) → Linked s a (main n)
       linked_as a r = subst (λ (k : ℕ). 0 < k) (sym (st.links a (main n))) r
 

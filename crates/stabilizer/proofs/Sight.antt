@@ -1,6 +1,6 @@
 -- What is seen of mains by their rows is what the state shows.
 use Rattle.std.proofs.Common.{◌≡◌, inl, inr, ℕ, Bool, true, false, List, [], ◌∷◌, map, Option, None, Some, refl, sym, ap, subst, ◌∙◌}
-use Rattle.std.specs.Prelude.{is_some, slice_index_or, ◌==◌, if◌then◌else◌}
+use Rattle.std.specs.Prelude.{is_some, slice_index_or, ◌==◌, ◌&&◌, ◌||◌, if◌then◌else◌}
 use Rattle.inc_value.specs.declared.function.FnRef.{FnRef}
 use Rattle.inc_value.specs.declared.node.NodeId.{NodeId}
 use Rattle.inc_value.specs.declared.node.Point.{Point}
@@ -16,22 +16,56 @@ use Rattle.inc_terms.specs.Evaluate.{Gathered, Unknown, SomeInvalid, Values, joi
 use Rattle.inc_terms.specs.Graph.{Graph, Row, Def, kids}
 use Rattle.inc_terms.specs.Local.{shown, shown_of, by_sight, own, Exact}
 use Rattle.inc_terms.specs.Term.{Functions, refs}
-use Rattle.point_map.specs.Rows.{at}
+use Rattle.point_map.specs.Rows.{Rows, at}
 use Rattle.node_arena.specs.declared.arena.Entry.{Entry}
 use Rattle.node_arena.specs.Arena.{Arena, row_at, row_of}
 use Rattle.node_arena.specs.Graph.{graph_of}
+use Rattle.stabilize_round.specs.Calling.{IsForced}
 use Rattle.stabilize_round.specs.Invariant.{Invariant}
 use Rattle.stabilize_round.specs.Laws as law
 use Rattle.stabilize_round.specs.Moves.{Quiet, IsLeast, Calls}
 use Rattle.stabilize_round.specs.State.{State, Start, Call}
 use Rattle.stabilize_round.proofs.Ready.{ready}
-use Rattle.stabilizer.specs.Computing.{CallsSeen, KeepsAnswers, seen, seen_of, seen_together}
+use Rattle.stabilizer.specs.Computing.{IsForcedBy, CallsSeen, KeepsAnswers, seen, seen_of, seen_together}
 use Rattle.stabilizer.specs.Kept.{IsKept}
 use Rattle.stabilizer.specs.Meaning.{functions_of}
+use Rattle.stabilizer.specs.Row.{is_never, never_in, settled_in, passes_in}
 use Rattle.stabilizer.specs.Stands.{Stands}
 use Rattle.stabilizer.specs.declared.row.Progress.{Progress}
 use Rattle.stabilizer.specs.declared.work.Work.{Work}
 use Rattle.stabilizer.proofs.Flat.{depends_on_kid}
+
+-- two tests are passed, or one of two
+and_apart : (a b : Bool) → (a && b) ≡ true → (a ≡ true) × (b ≡ true)
+and_apart true b h = (refl, h)
+and_apart false b h = absurd (cc)
+
+and_both : (a b : Bool) → a ≡ true → b ≡ true → (a && b) ≡ true
+and_both true b a_is b_is = b_is
+and_both false b a_is b_is = absurd (cc)
+
+-- one of the nodes that force, and what one forces
+one_of_forced : (round : ℕ) (rows : Rows Progress) (ns : List NodeId) → IsForcedBy round rows ns
+    → (m : NodeId) × Among m ns × (passes_in round (at rows (main m)) ≡ true)
+one_of_forced round rows [] h = absurd (cc)
+one_of_forced round rows (n ∷ ns) h = by_test (passes_in round (at rows (main n))) refl (λ later. one_of_forced round rows ns later)
+  where
+    by_test : (b : Bool) → passes_in round (at rows (main n)) ≡ b
+        → (IsForcedBy round rows ns → (m : NodeId) × Among m ns × (passes_in round (at rows (main m)) ≡ true))
+        → (m : NodeId) × Among m (n ∷ ns) × (passes_in round (at rows (main m)) ≡ true)
+    by_test true is later = (n, inl refl, is)
+    by_test false is later = let k = later (rw is at h) in (k.0, inr k.1, k.2)
+
+one_forces : (round : ℕ) (rows : Rows Progress) (ns : List NodeId) (m : NodeId) → Among m ns → passes_in round (at rows (main m)) ≡ true
+    → IsForcedBy round rows ns
+one_forces round rows [] m a h = absurd a
+one_forces round rows (n ∷ ns) m (inl e) h =
+    let here : passes_in round (at rows (main n)) ≡ true = subst (λ (x : NodeId). passes_in round (at rows (main x)) ≡ true) e h in rw here refl
+one_forces round rows (n ∷ ns) m (inr a) h = by_test (passes_in round (at rows (main n))) refl (one_forces round rows ns m a h)
+  where
+    by_test : (b : Bool) → passes_in round (at rows (main n)) ≡ b → IsForcedBy round rows ns → IsForcedBy round rows (n ∷ ns)
+    by_test true is later = rw is refl
+    by_test false is later = rw is later
 
 some_def : (e : Entry) (b : Bool) (r : Row) → ◌≡◌ {A = Option Row} (if b then Some (row_of e.row) else None) (Some r)
     → (d : declared.Def) × (r.def ≡ def_of d)
@@ -118,13 +152,36 @@ module _ (s : State) (arena : Arena) (work : Work) (calls : ℕ) (kept : IsKept 
         by_exact m (made.exact (main m) ((made.links (main m)).1 dep)) (s.graph.row m) refl)
         (sees_together (kids r.def) ∙ u)
 
+  -- who is forced by rows is forced in the state
+  settled_never : (m : NodeId) (x : Option Progress) → at work.rows (main m) ≡ x → never_in x ≡ true → s.never m ≡ true
+  settled_never m None e h = absurd (cc)
+  settled_never m (Some k) e h = st.never m k e ∙ h
+
+  never_settled : (m : NodeId) (x : Option Progress) → at work.rows (main m) ≡ x → s.never m ≡ true → settled_in work.round x ≡ true
+      → passes_in work.round x ≡ true
+  never_settled m None e never settled = settled
+  never_settled m (Some k) e never settled = and_both (is_never k.cutoff) (k.settled == work.round) (sym (st.never m k e) ∙ never) settled
+
+  forced : (ns : List NodeId) → IsForcedBy work.round work.rows ns → IsForced s.never s.settled ns
+  forced ns f =
+      let a = one_of_forced work.round work.rows ns f in
+      let b = and_apart (never_in (at work.rows (main a.0))) (settled_in work.round (at work.rows (main a.0))) a.2 in
+      (a.0, a.1, settled_never a.0 (at work.rows (main a.0)) refl b.0, st.settled (main a.0) ∙ b.1)
+
+  forced_seen : (ns : List NodeId) → IsForced s.never s.settled ns → IsForcedBy work.round work.rows ns
+  forced_seen ns f = one_forces work.round work.rows ns f.0 f.1
+      (never_settled f.0 (at work.rows (main f.0)) refl f.2 (sym (st.settled (main f.0)) ∙ f.3))
+
   -- a call that was seen is a call
   pub calls_are : (value : FnRef → List Value → Value) (n : NodeId) (def : Def) (k : Progress) (last' : Option Call) (called : Bool)
-      → at work.rows (main n) ≡ Some k → CallsSeen value work.rows def k.last last' called → Calls (functions_of value) s n def last' called
+      → at work.rows (main n) ≡ Some k → CallsSeen value work.round work.rows def k.last last' called → Calls (functions_of value) s n def last' called
   calls_are value n def k last' false row c = (
     c.0 ∙ sym (st.last n k row),
     λ ns values e g.
-        let x = c.1 ns values e (sym (sees_together ns) ∙ g) in (x.0, st.last n k row ∙ x.1, x.2),
+        let x = c.1 ns values e (sym (sees_together ns) ∙ g) in (x.0, st.last n k row ∙ x.1, x.2, λ f. x.3 (forced_seen ns f)),
   )
   calls_are value n def k last' true row (ns, values, result, takes, show, reason, is_last, answers) =
-      (ns, values, result, takes, sees_together ns ∙ show, λ c l a. reason c (sym (st.last n k row) ∙ l) a, is_last, answers)
+      (ns, values, result, takes, sees_together ns ∙ show, elim reason [
+        | inl other ↦ inl (λ c l a. other c (sym (st.last n k row) ∙ l) a)
+        | inr f ↦ inr (forced ns f)
+      ], is_last, answers)

@@ -202,6 +202,7 @@ module _ (arena : Arena) (old mid : Work) (g g' : NecessaryPart) (p : Point) (be
     graph = st.graph;
     out = λ a k e. st.out a k (sym (left.rows a) ∙ e);
     last = λ m k e. st.last m k (sym (left.rows (main m)) ∙ e);
+    never = λ m k e. st.never m k (sym (left.rows (main m)) ∙ e);
     links = λ a b. st.links a b ∙ ap (λ (l : Links). times l a b) (sym same_graph.links);
     root = λ a. st.root a ∙ ap (λ (r : Roots). root_times r a) (sym same_graph.roots);
     needed = λ a. (λ t. needed_now old.graph g' same_graph a ((st.needed a).0 t), λ h. (st.needed a).1 (needed_before old.graph g' same_graph a h));

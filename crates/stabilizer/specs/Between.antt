@@ -1,5 +1,5 @@
 -- What stands between rounds, of the parts alone, and what calls made there leave.
-use Rattle.std.specs.Prelude.{◌≡◌, ◌≢◌, ◌⊎◌, ◌<◌, ◌+◌, ℕ, false, List, [], map, Option, None, Some}
+use Rattle.std.specs.Prelude.{◌≡◌, ◌≢◌, ◌⊎◌, ◌<◌, ◌+◌, ℕ, true, false, List, [], map, Option, None, Some}
 use Rattle.inc_value.specs.declared.node.NodeId.{NodeId}
 use Rattle.inc_value.specs.declared.node.Point.{Point}
 use Rattle.inc_value.specs.declared.outcome.Outcome.{Outcome}
@@ -18,7 +18,7 @@ use Rattle.stabilize_round.specs.Calling.{taken_by}
 use Rattle.stabilize_round.specs.State.{Call, count}
 use Rattle.stabilizer.specs.Computing.{seen, seen_together, KeepsAnswers}
 use Rattle.stabilizer.specs.Kept.{IsKept}
-use Rattle.stabilizer.specs.Round.{IsReady, last_of}
+use Rattle.stabilizer.specs.Round.{IsReady, last_of, never_at}
 use Rattle.stabilizer.specs.Row.{settled_in}
 use Rattle.stabilizer.specs.Wiring.{KeepsRound, KeepsGraph}
 use Rattle.stabilizer.specs.declared.row.Progress.{Progress}
@@ -90,6 +90,8 @@ pub record HasDropped (before arena : Arena) (old work : Work) (count : ℕ) : T
   pub older : (n : NodeId) → n.gen_ < count → row_at arena n ≡ row_at before n
   pub given : arena.given ≡ before.given
   pub rows : (n : NodeId) → n.gen_ < count → at work.rows (main n) ≡ at old.rows (main n)
+  pub cutoffs : (n : NodeId) → n.gen_ < count → never_at work n ≡ never_at old n
+  pub fewer_cutoffs : (n : NodeId) → never_at work n ≡ true → never_at old n ≡ true
   pub links : work.graph.links ≡ old.graph.links
   pub roots : work.graph.roots ≡ old.graph.roots
   pub heap : work.graph.heap ≡ old.graph.heap

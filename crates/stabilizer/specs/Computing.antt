@@ -1,5 +1,5 @@
 -- What a node gives by what its children show, and what its function was called on.
-use Rattle.std.specs.Prelude.{◌≡◌, ◌⊎◌, ◌++◌, ℕ, Bool, true, false, List, [], ◌∷◌, Option, None, Some, IsSome, option_and_then}
+use Rattle.std.specs.Prelude.{◌≡◌, ◌||◌, ◌⊎◌, ◌++◌, ℕ, Bool, true, false, List, [], ◌∷◌, Option, None, Some, IsSome, option_and_then}
 use Rattle.std.specs.List.{AllZip}
 use Rattle.inc_value.specs.Choice.{Every}
 use Rattle.inc_value.specs.declared.ty.Ty.{Ty}
@@ -25,7 +25,7 @@ use Rattle.inc_value.specs.Value.{type_of}
 use Rattle.inc_value.specs.declared.outcome.Outcome.TheVariants.{Val}
 use Rattle.point_map.specs.Rows.{KeepsRows}
 use Rattle.stabilizer.specs.Meaning.{functions_of}
-use Rattle.stabilizer.specs.Row.{IsRewritten, with_call, with_last, value_in}
+use Rattle.stabilizer.specs.Row.{IsRewritten, with_call, with_last, value_in, passes_in}
 use Rattle.stabilizer.specs.Settling.{ran_then}
 use Rattle.stabilizer.specs.declared.row.Progress.{Progress}
 use Rattle.stabilizer.specs.declared.work.Work.{Work}
@@ -57,24 +57,33 @@ KeepsAnswers value arena rows =
     (n : NodeId) (r : Row) (nodes : List NodeId) (k : Progress) (c : Call) → row_at arena n ≡ Some r → taken_by r.def ≡ Some nodes
     → at rows (main n) ≡ Some k → k.last ≡ Some c → IsAnswer (functions_of value) r.def c.arguments c.result
 
--- what a node's function was last called on after the node was computed: it was called on other values than before, or that stays
-abbrev pub CallsSeen : (FnRef → List Value → Value) → Rows Progress → Def → Option Call → Option Call → Bool → Type 0
-CallsSeen value rows def last last' false = (last' ≡ last)
+-- one of the nodes has cutoff Never and was settled in the round, as a test
+abbrev pub forced_by : ℕ → Rows Progress → List NodeId → Bool
+forced_by round rows [] = false
+forced_by round rows (n ∷ ns) = passes_in round (at rows (main n)) || forced_by round rows ns
+
+-- so it is
+abbrev pub IsForcedBy : ℕ → Rows Progress → List NodeId → Type 0
+IsForcedBy round rows nodes = forced_by round rows nodes ≡ true
+
+-- what a node's function was last called on after the node was computed: it was called, on other values than before or as it was forced, or that stays
+abbrev pub CallsSeen : (FnRef → List Value → Value) → ℕ → Rows Progress → Def → Option Call → Option Call → Bool → Type 0
+CallsSeen value round rows def last last' false = (last' ≡ last)
     × ((nodes : List NodeId) (values : List Value) → taken_by def ≡ Some nodes → seen_together rows nodes ≡ Values values
-    → (c : Call) × (last ≡ Some c) × (c.arguments ≡ values))
-CallsSeen value rows def last last' true =
+    → (c : Call) × (last ≡ Some c) × (c.arguments ≡ values) × (IsForcedBy round rows nodes → ⊥))
+CallsSeen value round rows def last last' true =
     (nodes : List NodeId) × (values : List Value) × (result : Value) × (taken_by def ≡ Some nodes) × (seen_together rows nodes ≡ Values values)
-    × ((c : Call) → last ≡ Some c → c.arguments ≡ values → ⊥) × (last' ≡ Some (record { arguments = values; result = result }))
+    × (((c : Call) → last ≡ Some c → c.arguments ≡ values → ⊥) ⊎ IsForcedBy round rows nodes) × (last' ≡ Some (record { arguments = values; result = result }))
     × IsAnswer (functions_of value) def values result
 
 -- a live node was computed: its outcome is its own function of what is seen, where something is seen of each child
-pub record IsComputed (value : FnRef → List Value → Value) (arena : Arena) (rows : Rows Progress) (n : NodeId) (o : Outcome) (last' : Option Call)
-    (called : Bool) : Type 0 where
+pub record IsComputed (value : FnRef → List Value → Value) (arena : Arena) (round : ℕ) (rows : Rows Progress) (n : NodeId) (o : Outcome)
+    (last' : Option Call) (called : Bool) : Type 0 where
   pub row : Row
   pub is_row : row_at arena n ≡ Some row
   pub kept : Progress
   pub is_kept : at rows (main n) ≡ Some kept
-  pub calls : CallsSeen value rows row.def kept.last last' called
+  pub calls : CallsSeen value round rows row.def kept.last last' called
   pub own : KeepsAnswers value arena rows → (seen_together rows (kids row.def) ≡ Unknown → ⊥)
       → own (functions_of value) (graph_of arena) (seen rows) n row.def ≡ Some o
 
@@ -96,7 +105,7 @@ pub record IsCallerAt (arena : Arena) (n : NodeId) : Type 0 where
 pub record Computes (value : FnRef → List Value → Value) (arena : Arena) (old new : Work) (n : NodeId) (o : Outcome) (before after : ℕ) : Type 0 where
   pub last : Option Call
   pub called : Bool
-  pub computed : IsComputed value arena old.rows n o last called
+  pub computed : IsComputed value arena old.round old.rows n o last called
   pub row : IsRewritten old.rows new.rows (main n) (with_last last)
   pub ran : new.ran.items ≡ ran_then called old.ran.items n
   pub rest : KeepsRest old new
@@ -149,11 +158,13 @@ pub record FoldFits (f : FnRef) (from : Value) (values : List Value) : Type 0 wh
   pub types : Every (λ v. type_of v ≡ element) values
 
 -- what is known of a node's outcome before its function is called: it is Invalid where a child shows no value, and what the last calls gave where the
--- children show what these were made on; else the function is to be called
-abbrev pub IsKnown : Rows Progress → NodeId → List NodeId → Option Outcome → Type 0
-IsKnown rows n nodes (Some Invalid) = AllShow rows nodes → ⊥
-IsKnown rows n nodes (Some (Val v)) = (c : Call) × LastWas rows n c × AllZip (ShowsValue rows) nodes c.arguments × (v ≡ c.result)
-IsKnown rows n nodes None = AllShow rows nodes × ((c : Call) → LastWas rows n c → AllZip (ShowsValue rows) nodes c.arguments → ⊥)
+-- children show what these were made on and it isn't forced; else the function is to be called
+abbrev pub IsKnown : ℕ → Rows Progress → NodeId → List NodeId → Option Outcome → Type 0
+IsKnown round rows n nodes (Some Invalid) = AllShow rows nodes → ⊥
+IsKnown round rows n nodes (Some (Val v)) =
+    (c : Call) × LastWas rows n c × AllZip (ShowsValue rows) nodes c.arguments × (v ≡ c.result) × (IsForcedBy round rows nodes → ⊥)
+IsKnown round rows n nodes None =
+    AllShow rows nodes × (((c : Call) → LastWas rows n c → AllZip (ShowsValue rows) nodes c.arguments → ⊥) ⊎ IsForcedBy round rows nodes)
 
 -- a node was computed of what is seen of its children: a value that it gives is what its function gave when it was last called, then or now
 pub record ComputesCall (value : FnRef → List Value → Value) (answer : List Value → Value) (t : Ty) (old new : Work) (n : NodeId) (def : Def)
@@ -162,7 +173,7 @@ pub record ComputesCall (value : FnRef → List Value → Value) (answer : List 
   pub is_kept : at old.rows (main n) ≡ Some kept
   pub last : Option Call
   pub called : Bool
-  pub calls : CallsSeen value old.rows def kept.last last called
+  pub calls : CallsSeen value old.round old.rows def kept.last last called
   pub gives : ((c : Call) → kept.last ≡ Some c → c.result ≡ answer c.arguments) → (seen_together old.rows nodes ≡ Unknown → ⊥)
       → given answer (seen_together old.rows nodes) ≡ Some o
   pub row : IsRewritten old.rows new.rows (main n) (with_last last)

@@ -1,5 +1,5 @@
 -- What stands between rounds, and what a round leaves.
-use Rattle.std.specs.Prelude.{◌≡◌, ◌⊎◌, ◌↔◌, ◌+◌, ◌<◌, ◌≤◌, ℕ, List, [], map, length, Option, None, Some}
+use Rattle.std.specs.Prelude.{◌≡◌, ◌⊎◌, ◌↔◌, ◌+◌, ◌<◌, ◌≤◌, ℕ, Bool, true, List, [], map, length, Option, None, Some}
 use Rattle.inc_value.specs.declared.node.NodeId.{NodeId}
 use Rattle.inc_value.specs.declared.node.Point.{Point}
 use Rattle.inc_value.specs.declared.outcome.Outcome.{Outcome}
@@ -30,6 +30,7 @@ use Rattle.height_order.specs.Chains.{StartsAt, EndsAt}
 use Rattle.stabilizer.specs.declared.refused.Refused.{Refused}
 use Rattle.stabilizer.specs.declared.refused.Refused.TheVariants.{Height, Cycle, Full, Memory}
 use Rattle.stabilizer.specs.Kept.{IsKept}
+use Rattle.stabilizer.specs.Row.{never_in, settled_in}
 use Rattle.stabilizer.specs.Stands.{Stands}
 use Rattle.stabilizer.specs.declared.row.Progress.{Progress}
 use Rattle.stabilizer.specs.declared.work.Work.{Work}
@@ -58,7 +59,15 @@ last_of (Some k) = k.last
 abbrev pub last_call : Work → NodeId → Option Call
 last_call work n = last_of (at work.rows (main n))
 
--- a node's function was called: it is met, its children give these values, of which it wasn't the last call before, and it is now
+-- the node's cutoff is Never
+abbrev pub never_at : Work → NodeId → Bool
+never_at work n = never_in (at work.rows (main n))
+
+-- a child of cutoff Never was settled in the round that began so: the function was called even on the values of its last call
+abbrev pub WasForced : Work → Work → List NodeId → Type 0
+WasForced old new nodes = (k : NodeId) × Among k nodes × (never_at old k ≡ true) × (settled_in old.round (at new.rows (main k)) ≡ true)
+
+-- a node's function was called: it is met, its children give these values, of which it wasn't the last call before unless it was forced, and it is now
 pub record WasCalled (F : Functions) (arena : Arena) (old new : Work) (observed : List NodeId) (n : NodeId) : Type 0 where
   pub row : Row
   pub nodes : List NodeId
@@ -67,15 +76,16 @@ pub record WasCalled (F : Functions) (arena : Arena) (old new : Work) (observed 
   pub is_row : row_at arena n ≡ Some row
   pub takes : taken_by row.def ≡ Some nodes
   pub gives : GiveAll F (graph_of arena) nodes values
-  pub reason : (c : Call) → last_call old n ≡ Some c → c.arguments ≡ values → ⊥
+  pub reason : ((c : Call) → last_call old n ≡ Some c → c.arguments ≡ values → ⊥) ⊎ WasForced old new nodes
   pub is_last : last_call new n ≡ Some (record { arguments = values; result = result })
   pub answers : IsAnswer F row.def values result
   pub met : Met F (graph_of arena) none_died observed (λ (p : Point). part.Needed old.graph p) (main n)
 
--- what is kept beside a graph: what is needed is held for these observers, and each node's last arguments are kept
+-- what is kept beside a graph: what is needed is held for these observers, each node's last arguments are kept, and who has cutoff Never
 pub record StoodBeside (before : Beside) (work : Work) (observers : List Observed) : Type 0 where
   pub held : (p : Point) → part.Needed work.graph p → Held before observers p
   pub last : (n : NodeId) → before.last n ≡ arguments_of (last_call work n)
+  pub never : (n : NodeId) → before.never n ≡ never_at work n
 
 -- after a round that was accepted, with these nodes observed
 pub record IsUpToDate (F : Functions) (arena : Arena) (old new : Work) (observed : List NodeId) (ran : List NodeId) : Type 0 where
@@ -90,6 +100,7 @@ pub record IsUpToDate (F : Functions) (arena : Arena) (old new : Work) (observed
       → row_at arena n ≡ Some r → taken_by r.def ≡ Some nodes → GiveAll F (graph_of arena) nodes values
       → (c : Call) × (last_call new n ≡ Some c) × (c.arguments ≡ values)
   pub kept : (n : NodeId) → (Among n ran → ⊥) → last_call new n ≡ last_call old n
+  pub cutoffs : (n : NodeId) → never_at new n ≡ never_at old n
   pub once : NoRepeats ran
   pub called : (n : NodeId) → Among n ran → WasCalled F arena old new observed n
   pub work : (before : Beside) (observers : List Observed) → StoodBeside before old observers

@@ -7,7 +7,7 @@ use Rattle.inc_terms.specs.Depend.{main}
 use Rattle.point_map.specs.Rows.{at, Holds}
 use Rattle.link_table.specs.Links.{Reads}
 use Rattle.stabilize_round.specs.State.{Call}
-use Rattle.stabilizer.specs.Row.{settled_in}
+use Rattle.stabilizer.specs.Row.{settled_in, is_never}
 use Rattle.stabilizer.specs.Wiring.{KeepsGraph}
 use Rattle.stabilizer.specs.declared.row.Progress.{Progress}
 use Rattle.stabilizer.specs.declared.work.Work.{Work}
@@ -17,17 +17,17 @@ abbrev pub ran_then : Bool → List NodeId → NodeId → List NodeId
 ran_then true ran n = ran ++ n ∷ []
 ran_then false ran n = ran
 
--- a main of the heap was settled on an outcome, with this last call. It left the heap, and where its outcome is another than before, the points that
--- read it and weren't settled came in
+-- a main of the heap was settled on an outcome, with this last call. It left the heap, and where its outcome is another than before, or its cutoff is
+-- Never, the points that read it and weren't settled came in
 pub record IsSettled (old new : Work) (n : NodeId) (o : Outcome) (last : Option Call) (called : Bool) : Type 0 where
   pub row : Progress
   pub was : at old.rows (main n) ≡ Some row
-  pub now : at new.rows (main n) ≡ Some (record { stage = row.stage; settled = old.round; outcome = Some o; last = last })
+  pub now : at new.rows (main n) ≡ Some (record { stage = row.stage; settled = old.round; outcome = Some o; last = last; cutoff = row.cutoff })
   pub others : (p : Point) → p ≢ main n → at new.rows p ≡ at old.rows p
   pub graph : KeepsGraph old.graph new.graph
   pub kept : (p : Point) → p ≢ main n → Holds old.graph.heap p → Holds new.graph.heap p
   pub out : Holds new.graph.heap (main n) → Reads old.graph.links (main n) (main n)
-  pub told : (row.outcome ≡ Some o → ⊥) → (p : Point) → Reads old.graph.links p (main n)
+  pub told : (row.outcome ≡ Some o → ⊥) ⊎ (is_never row.cutoff ≡ true) → (p : Point) → Reads old.graph.links p (main n)
       → Holds new.graph.heap p ⊎ (settled_in old.round (at old.rows p) ≡ true)
   pub only : (p : Point) → p ≢ main n → Holds new.graph.heap p
       → Holds old.graph.heap p ⊎ (Reads old.graph.links p (main n) × (settled_in old.round (at old.rows p) ≡ false))

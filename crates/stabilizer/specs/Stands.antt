@@ -12,7 +12,7 @@ use Rattle.necessary_graph.specs.Part.{Needed}
 use Rattle.node_arena.specs.Arena.{Arena}
 use Rattle.node_arena.specs.Graph.{graph_of}
 use Rattle.stabilize_round.specs.State.{State, at_point}
-use Rattle.stabilizer.specs.Row.{stage_of, settled_in}
+use Rattle.stabilizer.specs.Row.{stage_of, settled_in, is_never}
 use Rattle.stabilizer.specs.declared.row.Progress.{Progress}
 use Rattle.stabilizer.specs.declared.work.Work.{Work}
 
@@ -36,6 +36,7 @@ pub record StandsWith (IsNeeded : Point → Type 0) (arena : Arena) (work : Work
   pub graph : s.graph ≡ graph_of arena
   pub out : (p : Point) (k : Progress) → at work.rows p ≡ Some k → s.out p ≡ k.outcome
   pub last : (n : NodeId) (k : Progress) → at work.rows (main n) ≡ Some k → s.last n ≡ k.last
+  pub never : (n : NodeId) (k : Progress) → at work.rows (main n) ≡ Some k → s.never n ≡ is_never k.cutoff
   pub links : (p q : Point) → s.links p q ≡ times work.graph.links p q
   pub root : (p : Point) → s.root p ≡ root_times work.graph.roots p
   pub needed : (p : Point) → (s.needed p ≡ true) ↔ IsNeeded p

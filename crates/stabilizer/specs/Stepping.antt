@@ -28,7 +28,7 @@ pub record MainIsSettled (value : FnRef → List Value → Value) (arena : Arena
   pub outcome : Outcome
   pub last : Option Call
   pub called : Bool
-  pub computed : IsComputed value arena old.rows n outcome last called
+  pub computed : IsComputed value arena old.round old.rows n outcome last called
   pub settled : IsSettled old new n outcome last called
   pub count : RoseBy before (calls_of called (cost_at (graph_of arena) n)) after
 

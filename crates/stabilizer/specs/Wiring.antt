@@ -17,7 +17,7 @@ use Rattle.stabilize_round.specs.Machine.{Moves}
 use Rattle.stabilize_round.specs.State.{State, Start}
 use Rattle.stabilize_round.specs.Wire.{IsConfirmed}
 use Rattle.stabilizer.specs.Stands.{Stands, Hand, hand}
-use Rattle.stabilizer.specs.Row.{IsRewritten, with_stage, settled_in}
+use Rattle.stabilizer.specs.Row.{IsRewritten, with_stage, settled_in, IsStopped}
 use Rattle.stabilizer.specs.declared.row.Progress.{Progress}
 use Rattle.stabilizer.specs.declared.row.Stage.TheVariants.{Bare}
 use Rattle.stabilizer.specs.declared.work.Work.{Work}
@@ -50,14 +50,14 @@ pub record AreEnqueued (old new : Work) (q : Point) : Type 0 where
   pub told : (r : Point) → Reads old.graph.links r q → Holds new.graph.heap r ⊎ (settled_in old.round (at old.rows r) ≡ true)
   pub only : (r : Point) → Holds new.graph.heap r → Holds old.graph.heap r ⊎ (Reads old.graph.links r q × (settled_in old.round (at old.rows r) ≡ false))
 
--- a point shows just this outcome already
-abbrev pub Shows : Work → Point → Outcome → Type 0
-Shows work p o = (k : Progress) × (at work.rows p ≡ Some k) × (k.outcome ≡ Some o)
+-- a point shows just this outcome already, and its cutoff is Equal
+abbrev pub Stops : Work → Point → Outcome → Type 0
+Stops work p o = (k : Progress) × (at work.rows p ≡ Some k) × IsStopped k o
 
--- where a point's outcome is another, the points that read it are in the heap, unless they were settled; but the point itself was settled now
+-- where a point's outcome is another, or its cutoff Never, the points that read it are in the heap, unless they were settled; but the point itself was settled now
 pub record IsTold (old new : Work) (p : Point) (o : Outcome) : Type 0 where
   pub kept : (r : Point) → Holds old.graph.heap r → Holds new.graph.heap r
-  pub told : (Shows old p o → ⊥) → (r : Point) → Reads old.graph.links r p → Holds new.graph.heap r ⊎ (settled_in new.round (at new.rows r) ≡ true)
+  pub told : (Stops old p o → ⊥) → (r : Point) → Reads old.graph.links r p → Holds new.graph.heap r ⊎ (settled_in new.round (at new.rows r) ≡ true)
   pub only : (r : Point) → Holds new.graph.heap r
       → Holds old.graph.heap r ⊎ (Reads old.graph.links r p × (settled_in new.round (at new.rows r) ≡ false))
 

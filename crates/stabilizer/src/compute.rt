@@ -12,7 +12,7 @@ ghost use Rattle.node_arena.specs.Graph.{AllCallFit};
 ghost use Rattle.node_arena.specs.Meanings.{SameNames, KeepsKnown, SameValues};
 ghost use Rattle.stabilize_round.specs.Counts.{RoseBy, RoseAtMost};
 ghost use Rattle.stabilizer.specs.Computing.{Computes, NotComputed, ComputesCall, IsKnown, IsCalled, KeepsAllButCount};
-ghost use Rattle.stabilizer.specs.Computing.{FoldFits, KeepsRest};
+ghost use Rattle.stabilizer.specs.Computing.{FoldFits, KeepsRest, forced_by};
 ghost use Rattle.stabilizer.specs.Row.{IsRewritten, with_call};
 ghost use Rattle.stabilizer.specs.Computing.{ShowsValue, value_shown};
 ghost use Rattle.stabilizer.specs.Kept.{IsKept};
@@ -27,7 +27,7 @@ use node_arena::{Arena, Functions};
 use std::alloc::{AllocError, Global};
 
 /// What a node gives. A map's or a fold's function is called unless it was last called on the same
-/// values of its children.
+/// values of its children, none of which has cutoff Never and was settled in this round.
 pub(crate) fn compute<F: Functions>(
     alloc: Global,
     arena: &Arena,
@@ -119,17 +119,21 @@ fn compute_fold<F: Functions>(
 }
 
 /// What a node gives whose function need not be called: Invalid where a child shows no value, and
-/// what was given last where it was last called on the values that its children show.
+/// what was given last where it was last called on the values that its children show, unless one
+/// of cutoff Never was settled in this round.
 fn known_outcome(
     alloc: Global,
     work: &Work,
     node: NodeId,
     kids: &[NodeId],
 ) -> Result<Option<Outcome>, AllocError>
-    ensures { IfOk result (λ o. IsKnown work.now.rows node kids.now o) }
+    ensures { IfOk result (λ o. IsKnown work.now.round work.now.rows node kids.now o) }
 {
     if !show_values(work, kids) {
         return Ok(Some(Outcome::Invalid));
+    }
+    if is_forced(work, kids) {
+        return Ok(None);
     }
     if let Some(last) = work.last_call(node) {
         if show(work, kids, &last.arguments) {
@@ -267,6 +271,18 @@ fn show_values(work: &Work, nodes: &[NodeId]) -> bool
     ensures { IsTrue result ↔ Every (λ n. IsSome (value_shown work.now.rows n)) nodes.now }
 {
     nodes.iter().all(|node| work.value_shown(*node).is_some())
+}
+
+/// Whether one of the nodes has cutoff Never and was settled in this round.
+fn is_forced(work: &Work, nodes: &[NodeId]) -> bool
+    ensures { result ≡ forced_by work.now.round work.now.rows nodes.now }
+{
+    for node in nodes {
+        if work.passes(*node) {
+            return true;
+        }
+    }
+    false
 }
 
 /// Whether the node shows this value.

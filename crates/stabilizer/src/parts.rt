@@ -1,5 +1,5 @@
 //! The nodes of a graph with all that a stabilizer keeps of them.
-ghost use Rattle.std.specs.Prelude.{◌≡◌, ◌⊎◌, ◌↔◌, ◌+◌, ◌<◌, ◌≤◌, ◌++◌, [], ◌∷◌, List, None, Some};
+ghost use Rattle.std.specs.Prelude.{◌≡◌, ◌⊎◌, ◌↔◌, ◌+◌, ◌<◌, ◌≤◌, ◌++◌, true, [], ◌∷◌, List, None, Some};
 ghost use Rattle.std.specs.Prelude.{IfOk, IfErr, OnOk, OnErr, IsErrOf, option_copied};
 ghost use Rattle.inc_value.specs.declared.node.NodeId.{NodeId};
 ghost use Rattle.inc_terms.specs.Code.{def_of};
@@ -15,12 +15,14 @@ ghost use Rattle.node_arena.specs.Arena.{row_at, live, IsLive, Changes, NamesGiv
 ghost use Rattle.node_arena.specs.Typing.{Makes, FitsNode};
 ghost use Rattle.stabilizer.specs.Between.{KeepsWork, IsMarked, outcome_in};
 ghost use Rattle.stabilizer.specs.Kept.{IsKept};
-ghost use Rattle.stabilizer.specs.Round.{IsReady, AreRooted};
+ghost use Rattle.stabilizer.specs.Round.{IsReady, AreRooted, never_at};
+ghost use Rattle.stabilizer.specs.Row.{IsRewritten, with_cutoff};
 
-use crate::row::{Stage, main_point};
+use crate::row::{Stage, main_point, set_cutoff};
 use crate::work::Work;
 use inc_terms::Def;
 use inc_value::{NodeId, Outcome, Point, Ty, Value};
+use map_nodes::Cutoff;
 use necessary_graph::NecessaryGraph;
 use node_arena::{AddFault, Arena, Row, SetFault};
 use std::alloc::{AllocError, Global};
@@ -84,11 +86,12 @@ impl Parts {
         ensures err { OnErr result (self.new.arena ≡ self.old.arena) }
         ensures err_work { OnErr result (KeepsWork self.old.work self.new.work) }
         ensures row { IfOk result (λ id. points.Changes self.old.work.rows self.new.work.rows (main id)
-            (Some (record { stage = Stage.Bare; settled = 0; outcome = None; last = None }))) }
+            (Some (record { stage = Stage.Bare; settled = 0; outcome = None; last = None; cutoff = Cutoff.Equal }))) }
         ensures point { IfOk result (λ id. points.Changes self.old.work.graph.heights self.new.work.graph.heights
             (main id) (Some 0)) }
         ensures rows { (n : NodeId) → Given self.old.arena.given n
             → at self.new.work.rows (main n) ≡ at self.old.work.rows (main n) }
+        ensures cutoffs { (n : NodeId) → never_at self.new.work n ≡ never_at self.old.work n }
         ensures links { self.new.work.graph.links ≡ self.old.work.graph.links }
         ensures roots { self.new.work.graph.roots ≡ self.old.work.graph.roots }
         ensures heap { KeepsRows self.old.work.graph.heap self.new.work.graph.heap }
@@ -150,6 +153,23 @@ impl Parts {
         Ok(())
     }
 
+    /// Sets the cutoff of a node, which is Equal at first. A dead one has none, and nothing changes. This takes no
+    /// memory.
+    pub fn set_cutoff(&mut self, id: NodeId, cutoff: Cutoff)
+        requires kept { IsKept self.old.arena self.old.work }
+        ensures cutoff { IsRewritten self.old.work.rows self.new.work.rows (main id) (with_cutoff cutoff) }
+        ensures rest { self.new ≡ record self.old { work = record self.old.work { rows = self.new.work.rows } } }
+        ensures dead { at self.old.work.rows (main id) ≡ None → self.new ≡ self.old }
+        ensures kept { IsKept self.new.arena self.new.work }
+        ensures ready { (F : Functions) → IsReady F self.old.arena self.old.work
+            → IsReady F self.new.arena self.new.work }
+    {
+        let p = main_point(id);
+        if self.work.rows.holds(p) {
+            set_cutoff(&mut self.work.rows, p, cutoff);
+        }
+    }
+
     /// Takes a root off a node, once. What is no longer needed then loses its links; its outcome and its last call
     /// stay. This takes no memory.
     pub fn unroot(&mut self, id: NodeId)
@@ -180,6 +200,8 @@ impl Parts {
         ensures given { self.new.arena.given ≡ self.old.arena.given }
         ensures rows { (n : NodeId) → n.gen_ < count
             → at self.new.work.rows (main n) ≡ at self.old.work.rows (main n) }
+        ensures cutoffs { (n : NodeId) → n.gen_ < count → never_at self.new.work n ≡ never_at self.old.work n }
+        ensures fewer_cutoffs { (n : NodeId) → never_at self.new.work n ≡ true → never_at self.old.work n ≡ true }
         ensures links { self.new.work.graph.links ≡ self.old.work.graph.links }
         ensures roots { self.new.work.graph.roots ≡ self.old.work.graph.roots }
         ensures heap { self.new.work.graph.heap ≡ self.old.work.graph.heap }

@@ -3,9 +3,10 @@ ghost use Rattle.std.specs.Prelude.{◌≡◌, ◌↔◌, None, Some, IsTrue};
 ghost use Rattle.point_map.specs.Rows.{at, Holds};
 ghost use Rattle.inc_value.specs.declared.node.Part.TheVariants.{Change, Main};
 ghost use Rattle.stabilizer.specs.declared.row.Progress.{Progress as Row};
-ghost use Rattle.stabilizer.specs.Row.{with_stage, with_outcome, with_call, settled_in, IsRewritten};
+ghost use Rattle.stabilizer.specs.Row.{with_stage, with_outcome, with_call, with_cutoff, settled_in, IsRewritten, IsStopped};
 
 use inc_value::{NodeId, Outcome, Part, Point, Value};
+use map_nodes::{Cutoff, stops};
 use necessary_graph::Skip;
 use point_map::PointMap;
 use std::marker::Model;
@@ -36,13 +37,14 @@ impl Model for LastCall {
 }
 
 /// What is kept of a point of a live node: its links' stage, the round in which it was settled last, its outcome,
-/// and the last call of its node's function. No round has the number 0.
+/// the last call of its node's function, and, of a main, its node's cutoff. No round has the number 0.
 #[derive(Debug, Drop)]
 pub(crate) struct Progress {
     pub stage: Stage,
     pub settled: u64,
     pub outcome: Option<Outcome>,
     pub last: Option<LastCall>,
+    pub cutoff: Cutoff,
 }
 
 /// The points that were settled in a round.
@@ -85,13 +87,14 @@ pub(crate) fn change_point(node: NodeId) -> Point
 
 /// A point that was never settled.
 pub(crate) fn unsettled() -> Progress
-    ensures { result ≡ record { stage = Stage.Bare; settled = 0; outcome = None; last = None } }
+    ensures { result ≡ record { stage = Stage.Bare; settled = 0; outcome = None; last = None; cutoff = Cutoff.Equal } }
 {
     Progress {
         stage: Stage::Bare,
         settled: 0,
         outcome: None,
         last: None,
+        cutoff: Cutoff::Equal,
     }
 }
 
@@ -105,17 +108,18 @@ pub(crate) fn was_settled(rows: &PointMap<Progress>, p: Point, round: u64) -> bo
     }
 }
 
-/// Whether a point shows just this outcome already.
-pub(crate) fn shows(rows: &PointMap<Progress>, p: Point, outcome: &Outcome) -> bool
-    ensures { IsTrue result ↔ ((k : Row) × (at rows.now p ≡ Some k) × (k.outcome ≡ Some outcome.now)) }
+/// Whether a point's readers needn't be told of an outcome: it shows just this one already, and its cutoff is Equal.
+pub(crate) fn is_stopped(rows: &PointMap<Progress>, p: Point, outcome: &Outcome) -> bool
+    ensures { IsTrue result ↔ ((k : Row) × (at rows.now p ≡ Some k) × IsStopped k outcome.now) }
 {
     match rows.get(p) {
         Some(
             Progress {
                 outcome: Some(before),
+                cutoff,
                 ..
             },
-        ) => before.same(outcome),
+        ) => stops(*cutoff, before, outcome),
         _ => false,
     }
 }
@@ -146,4 +150,13 @@ pub(crate) fn set_call(rows: &mut PointMap<Progress>, p: Point, call: LastCall)
 {
     let row = rows.get_mut(p).unwrap();
     row.last = Some(call);
+}
+
+/// Sets a node's cutoff.
+pub(crate) fn set_cutoff(rows: &mut PointMap<Progress>, p: Point, cutoff: Cutoff)
+    requires there { Holds rows.old p }
+    ensures { IsRewritten rows.old rows.new p (with_cutoff cutoff) }
+{
+    let row = rows.get_mut(p).unwrap();
+    row.cutoff = cutoff;
 }

@@ -8,14 +8,15 @@ ghost use Rattle.link_table.specs.Links.{times};
 ghost use Rattle.recompute_heap.specs.Agree.{IsEmpty};
 ghost use Rattle.necessity.specs.Need.{root_times};
 ghost use Rattle.necessary_graph.specs.Part.{Needed, IsInStep};
-ghost use Rattle.stabilizer.specs.Row.{IsRewritten, with_outcome, stage_in, value_in};
+ghost use Rattle.stabilizer.specs.Row.{IsRewritten, with_outcome, stage_in, value_in, passes_in};
 ghost use Rattle.stabilizer.specs.Wiring.{KeepsGraph, KeepsRound, IsEnqueued, AreEnqueued, IsTold, IsWoken, Looks};
 
 use crate::row::{
-    LastCall, Progress, Settled, Stage, main_point, set_outcome, set_stage, shows, unsettled,
+    LastCall, Progress, Settled, Stage, is_stopped, main_point, set_outcome, set_stage, unsettled,
     was_settled,
 };
 use inc_value::{NodeId, Outcome, Point, Value};
+use map_nodes::Cutoff;
 use necessary_graph::NecessaryGraph;
 use point_map::PointMap;
 use std::alloc::{AllocError, Global};
@@ -65,7 +66,7 @@ impl Work {
         requires absent { at self.old.graph.heights p ≡ None }
         requires no_row { at self.old.rows p ≡ None }
         ensures row { OnOk result (Changes self.old.rows self.new.rows p
-            (Some (record { stage = Stage.Bare; settled = 0; outcome = None; last = None }))) }
+            (Some (record { stage = Stage.Bare; settled = 0; outcome = None; last = None; cutoff = Cutoff.Equal }))) }
         ensures added { OnOk result (Changes self.old.graph.heights self.new.graph.heights p (Some 0)) }
         ensures err { OnErr result (KeepsRows self.old.rows self.new.rows) }
         ensures err_heights { OnErr result (KeepsRows self.old.graph.heights self.new.graph.heights) }
@@ -127,6 +128,19 @@ impl Work {
         self.rows.get(main_point(node))?.last.as_ref()
     }
 
+    /// Whether a node of cutoff Never was settled in this round.
+    pub fn passes(&self, node: NodeId) -> bool
+        ensures { result ≡ passes_in self.now.round (at self.now.rows (main node)) }
+    {
+        match self.rows.get(main_point(node)) {
+            Some(row) => match row.cutoff {
+                Cutoff::Equal => false,
+                Cutoff::Never => row.settled == self.round,
+            },
+            None => false,
+        }
+    }
+
     /// Puts a needed point into the heap, unless it was settled.
     pub fn enqueue(&mut self, p: Point)
         requires needed { Needed self.old.graph p }
@@ -139,8 +153,8 @@ impl Work {
         }
     }
 
-    /// Settles a main on an outcome. Where it is another than before, the points that read it are to be recomputed.
-    /// This takes no memory.
+    /// Settles a main on an outcome. Where it is another than before, or the cutoff is Never, the points that read it
+    /// are to be recomputed. This takes no memory.
     pub fn settle(&mut self, p: Point, outcome: Outcome)
         requires there { Holds self.old.rows p }
         ensures row { IsRewritten self.old.rows self.new.rows p (with_outcome outcome self.old.round) }
@@ -151,7 +165,7 @@ impl Work {
         ensures round { KeepsRound self.old self.new }
         ensures todo { self.new.todo ≡ self.old.todo }
     {
-        let stops = shows(&self.rows, p, &outcome);
+        let stops = is_stopped(&self.rows, p, &outcome);
         set_outcome(&mut self.rows, p, outcome, self.round);
         if !stops {
             self.enqueue_readers(p);

@@ -10,13 +10,14 @@ ghost use Rattle.inc_terms.specs.Within.{Given, ValueWithin};
 ghost use Rattle.node_arena.specs.Arena.{IsLive, IsVariable};
 ghost use Rattle.node_arena.specs.Typing.{FitsNode};
 ghost use Rattle.graph.specs.Standing.{IsUnbroken, IsBroken, in_use, rooted_nodes};
-ghost use Rattle.graph.specs.Effects.{top, NamesUnknown, IsMistyped, HasNoRoom, KeepsAll, IsAddFault, IsSetFault, Adds, Sets, TakesBack};
+ghost use Rattle.graph.specs.Effects.{top, NamesUnknown, IsMistyped, HasNoRoom, KeepsAll, IsAddFault, IsSetFault, IsCutoffFault, Adds, Sets, SetsCutoff, TakesBack};
 ghost use Rattle.graph.specs.declared.fault.Kept.{Kept as ACause};
 
 use super::Graph;
 use crate::fault::{GraphFault, add_fault, set_fault};
 use inc_terms::{Def, Nodes};
 use inc_value::{FnRef, NodeId, Ty, Value};
+use map_nodes::Cutoff;
 use node_arena::Functions;
 
 /// How many ids had been given.
@@ -155,6 +156,23 @@ impl<F: Functions> Graph<F> {
             Ok(()) => Ok(()),
             Err(fault) => Err(set_fault(fault)),
         }
+    }
+
+    /// Sets a node's cutoff, which is Equal at first: whether its readers are told of an outcome that is the one before.
+    /// A dead node has none, and nothing changes. Last calls stay. This takes no memory.
+    pub fn set_cutoff(&mut self, node: NodeId, cutoff: Cutoff) -> Result<(), GraphFault>
+        ensures broken { (cause : ACause) → IsErrOf result (GraphFault.Broken cause) ↔ IsBroken self.old cause }
+        ensures set { OnOk result (SetsCutoff self.old self.new node cutoff) }
+        ensures unknown { IsErrOf result GraphFault.Unknown ↔ (IsUnbroken self.old × ¬ Given self.old.parts.arena.given node) }
+        ensures setting { IfErr result IsCutoffFault }
+        ensures err { OnErr result (self.new ≡ self.old) }
+    {
+        self.check()?;
+        if node.gen_ >= self.parts.arena().given() {
+            return Err(GraphFault::Unknown);
+        }
+        self.parts.set_cutoff(node, cutoff);
+        Ok(())
     }
 
     /// Whether the node is live.

@@ -11,7 +11,7 @@ pub call_fold-requires-clause-fit : goal.call_fold-requires-clause-fit
 call_fold-requires-clause-fit g c =
     let rows = c.args.work.now.rows in
     let kids = c.args.kids.now in
-    let known : IsKnown rows c.args.node kids None = subst (λ o. IsKnown rows c.args.node kids o) c.in-None.is c.in_ok-outcome.ensures in
+    let known : IsKnown c.args.work.now.round rows c.args.node kids None = subst (λ o. IsKnown c.args.work.now.round rows c.args.node kids o) c.in-None.is c.in_ok-outcome.ensures in
     all_fit rows (λ values. FoldFits c.args.f c.args.initial.now values) kids c.requires.fit known.0
 
 pub returns-in-Some-clause-computed : goal.returns-in-Some-clause-computed
@@ -22,7 +22,7 @@ returns-in-Some-clause-computed g c =
     let kids = c.args.kids.now in
     known_computes value (folded (value f) from) f.sig.gives c.args.work.now c.args.node (Fold f from kids) kids (length kids) refl (λ values. refl)
     c.requires.there (g.F.Functions.calls c.args.functions.now) c.in-Some.outcome
-    (subst (λ o. IsKnown c.args.work.now.rows c.args.node kids o) c.in-Some.is c.in_ok-outcome.ensures)
+    (subst (λ o. IsKnown c.args.work.now.round c.args.work.now.rows c.args.node kids o) c.in-Some.is c.in_ok-outcome.ensures)
 
 pub returns-in-None-clause-computed : goal.returns-in-None-clause-computed
 returns-in-None-clause-computed g c =
@@ -33,7 +33,7 @@ returns-in-None-clause-computed g c =
     let kids = c.args.kids.now in
     let before = g.F.Functions.calls c.args.functions.now in
     let after = g.F.Functions.calls c.call_fold.new.functions in
-    let known : IsKnown old.rows c.args.node kids None = subst (λ o. IsKnown old.rows c.args.node kids o) c.in-None.is c.in_ok-outcome.ensures in
+    let known : IsKnown old.round old.rows c.args.node kids None = subst (λ o. IsKnown old.round old.rows c.args.node kids o) c.in-None.is c.in_ok-outcome.ensures in
     IfOk-weaker c.call_fold.result _ _
     (λ o called. called_computes value (folded (value f) from) f.sig.gives old c.args.node (Fold f from kids) kids (length kids) refl
     (λ values. refl) c.requires.there c.call_fold.new.work o before after known
@@ -45,7 +45,7 @@ pub returns-in-None-clause-refused : goal.returns-in-None-clause-refused
 returns-in-None-clause-refused g c =
     let old = c.args.work.now in
     let kids = c.args.kids.now in
-    let known : IsKnown old.rows c.args.node kids None = subst (λ o. IsKnown old.rows c.args.node kids o) c.in-None.is c.in_ok-outcome.ensures in
+    let known : IsKnown old.round old.rows c.args.node kids None = subst (λ o. IsKnown old.round old.rows c.args.node kids o) c.in-None.is c.in_ok-outcome.ensures in
     on_err_weaker c.call_fold.result
     (subst (λ (k : ℕ). KeepsAllButCount old c.call_fold.new.work k (g.F.Functions.calls c.args.functions.now)
     (g.F.Functions.calls c.call_fold.new.functions)) (all_shown old.rows kids known.0))

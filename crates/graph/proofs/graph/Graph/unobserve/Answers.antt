@@ -52,6 +52,7 @@ returns-then-place-self-clause-ended g c =
       refused = refl;
       shown = λ n. ap (λ (m : Rows Progress). seen_of (at m (main n))) u.rows;
       last = λ n. ap (λ (m : Rows Progress). last_of (at m (main n))) u.rows;
+      cutoffs = λ n. ap (λ (m : Rows Progress). never_in (at m (main n))) u.rows;
       fewer = u.unrooted.sweep.fewer;
       ran = u.ran;
       unrooted = roots_fewer _ _ (main c.in-Some.node) u.roots;

@@ -7,7 +7,8 @@ use Rattle.stabilizer.specs.Between.{Stays, KeepsWork}
 use Rattle.stabilizer.specs.Kept.{IsKept}
 use Rattle.stabilizer.specs.declared.work.Work.{Work}
 use Rattle.stabilizer.proofs.Between.{ready_stays, same_todo}
-use Rattle.stabilizer.proofs.Adding.{unsettled, added_kept, added_stays, back_kept, back_stays, dropped_again}
+use Rattle.stabilizer.proofs.Cutting.{rows_cutoffs, added_cutoffs}
+use Rattle.stabilizer.proofs.Adding.{no_row, unsettled, added_kept, added_stays, back_kept, back_stays, dropped_again}
 use Rattle.stabilizer.proofs.parts.Parts.add.Goals as goal
 
 -- ---- no memory for what is kept of it
@@ -40,6 +41,9 @@ returns-in-Err-clause-ready c F ready =
     (back_kept c.args.self.now.arena c.args.self.now.work c.add-added.new.self c.requires.kept same c.stands.ensures)
     (back_stays c.args.self.now.arena c.args.self.now.work c.add-added.new.self c.requires.kept same c.stands.ensures)
 
+pub returns-in-Err-clause-cutoffs : goal.returns-in-Err-clause-cutoffs
+returns-in-Err-clause-cutoffs c = rows_cutoffs c.args.self.now.work c.add-added.new.self c.in-Err.ensures.err
+
 -- ---- its point was added
 
 module _ (c : goal.In-Ok-insert) where
@@ -71,6 +75,10 @@ returns-in-Ok-insert-clause-kept c = kept c
 pub returns-in-Ok-insert-clause-ready : goal.returns-in-Ok-insert-clause-ready
 returns-in-Ok-insert-clause-ready c F ready = ready_stays F _ _ _ _ ready (kept c) (stays c)
 
+pub returns-in-Ok-insert-clause-cutoffs : goal.returns-in-Ok-insert-clause-cutoffs
+returns-in-Ok-insert-clause-cutoffs c = added_cutoffs (old c) (work c) c.next_id-id.result
+    (no_row c.args.self.now.arena (old c) c.next_id-id.result c.requires.kept c.next_id-id.ensures.generation) (row c)
+
 -- ---- no memory for the node: its point is dropped again
 
 dropped : (c : goal.After-drop_point) → KeepsWork c.args.self.now.work c.drop_point.new.self
@@ -89,6 +97,9 @@ dropped c =
 
 pub returns-in-Err-insert-clause-err_work : goal.returns-in-Err-insert-clause-err_work
 returns-in-Err-insert-clause-err_work c = dropped c
+
+pub returns-in-Err-insert-clause-cutoffs : goal.returns-in-Err-insert-clause-cutoffs
+returns-in-Err-insert-clause-cutoffs c = rows_cutoffs c.args.self.now.work c.drop_point.new.self (dropped c).rows
 
 pub returns-in-Err-insert-clause-kept : goal.returns-in-Err-insert-clause-kept
 returns-in-Err-insert-clause-kept c = subst (λ (a : Arena). IsKept a c.drop_point.new.self) (sym c.in-Err-insert.ensures.err)

@@ -47,7 +47,7 @@ returns-clause-calls g c =
     (round_counts (functions_of (g.F.Functions.value c.args.functions.now)) c.args.parts.now.arena c.args.parts.now.work c.put_roots.new.work before
     c.requires.ready c.in_ok-put_roots.ensures.wired settled after c.in_ok-settle_all.ensures.settled
     (subst (λ (a : Arena). IsKept a settled) c.settle_all.ensures.arena c.settle_all.ensures.kept) c.settle_all.ensures.quiet
-    c.in_ok-settle_all.ensures.empty)
+    c.in_ok-settle_all.ensures.empty (c.settle_all.ensures.round ∙ c.put_roots.ensures.round))
 
 next_is : (result : Option ℕ) (P : Type 0) (v next : ℕ) → SomeIff result P v → result ≡ Some next → next ≡ v
 next_is result P v next h e = (subst (λ (r : Option ℕ). SomeIff r P v) e h).1
@@ -67,7 +67,7 @@ returns-clause-right g c =
     subst (λ v. IsUpToDate F arena old new (c.args.roots.now ++ observed) v.items) (sym c.swap.ensures.x_after)
     (round_rights F arena old c.put_roots.new.work (g.F.Functions.calls c.args.functions.now) c.requires.ready c.in_ok-put_roots.ensures.wired settled
     (g.F.Functions.calls c.settle_all.new.functions) c.in_ok-settle_all.ensures.settled kept c.settle_all.ensures.quiet c.in_ok-settle_all.ensures.empty
-    new c.end_round.ensures.graph c.end_round.ensures.rows c.end_round.ensures.todo c.end_round.ensures.ran c.end_round.ensures.strict round
+    (c.settle_all.ensures.round ∙ c.put_roots.ensures.round) new c.end_round.ensures.graph c.end_round.ensures.rows c.end_round.ensures.todo c.end_round.ensures.ran c.end_round.ensures.strict round
     c.args.roots.now observed c.settle_all.ensures.roots c.in_ok-put_roots.ensures.rooted looks)
 
 pub returns-clause-ready : goal.returns-clause-ready
@@ -86,4 +86,4 @@ returns-clause-ready g c =
     (sym (same_meaning (g.F.Functions.value c.args.functions.now) (g.F.Functions.value c.settle_all.new.functions) c.settle_all.ensures.values))
     (round_readies F arena old c.put_roots.new.work (g.F.Functions.calls c.args.functions.now) c.requires.ready c.in_ok-put_roots.ensures.wired settled
     (g.F.Functions.calls c.settle_all.new.functions) c.in_ok-settle_all.ensures.settled kept c.settle_all.ensures.quiet c.in_ok-settle_all.ensures.empty
-    new c.end_round.ensures.graph c.end_round.ensures.rows c.end_round.ensures.todo c.end_round.ensures.ran c.end_round.ensures.strict round))
+    (c.settle_all.ensures.round ∙ c.put_roots.ensures.round) new c.end_round.ensures.graph c.end_round.ensures.rows c.end_round.ensures.todo c.end_round.ensures.ran c.end_round.ensures.strict round))

@@ -1,0 +1,162 @@
+-- A node's cutoff is set.
+use Rattle.std.proofs.Common.{◌≡◌, inl, inr, ℕ, Bool, Option, None, Some, refl, sym, ap, subst, ◌∙◌}
+use Rattle.std.specs.Prelude.{option_map}
+use Rattle.std.proofs.lemmas.Option.{none-some}
+use Rattle.inc_value.specs.declared.node.NodeId.{NodeId}
+use Rattle.inc_value.specs.declared.node.Point.{Point}
+use Rattle.inc_terms.specs.Depend.{main}
+use Rattle.inc_terms.specs.Term.{Functions}
+use Rattle.map_nodes.specs.declared.cutoff.Cutoff.{Cutoff}
+use Rattle.point_map.specs.Rows.{Rows, at, Changes, KeepsRows}
+use Rattle.node_arena.specs.Arena.{Arena}
+use Rattle.stabilize_round.specs.Machine.{Entry}
+use Rattle.stabilize_round.specs.State.{State, Start}
+use Rattle.stabilize_round.proofs.Points.{same_or_other, node_or_other}
+use Rattle.stabilizer.specs.Kept.{IsKept}
+use Rattle.stabilizer.specs.Round.{IsReady, never_at}
+use Rattle.stabilizer.specs.Row.{IsRewritten, with_cutoff, settled_in, stage_of, never_in}
+use Rattle.stabilizer.specs.Stands.{Stands}
+use Rattle.stabilizer.specs.declared.row.Progress.{Progress}
+use Rattle.stabilizer.specs.declared.work.Work.{Work}
+use Rattle.stabilizer.proofs.Keeping.{kept_rewritten}
+use Rattle.stabilizer.proofs.Adding.{unsettled}
+
+-- a node without a row has no cutoff to set
+pub no_cutoff : (rows : Rows Progress) (p : Point) (c : Cutoff) → at rows p ≡ None → IsRewritten rows rows p (with_cutoff c)
+no_cutoff rows p c none = record { changed = rw none refl; others = λ q ne. refl; points = λ i. refl }
+
+-- but for its cutoff a row is what it was
+record WasCut (old : Rows Progress) (p : Point) (k : Progress) : Type 0 where
+  row : Progress
+  was : at old p ≡ Some row
+  stage : k.stage ≡ row.stage
+  outcome : k.outcome ≡ row.outcome
+  last : k.last ≡ row.last
+
+mapped : (x : Option Progress) (c : Cutoff) (k : Progress) → option_map (with_cutoff c) x ≡ Some k → (row : Progress) × (x ≡ Some row) × (k ≡ with_cutoff c row)
+mapped None c k e = absurd (none-some k e)
+mapped (Some row) c k e = (row, refl, sym (some_eq e))
+  where
+    some_eq : {a b : Progress} → ◌≡◌ {A = Option Progress} (Some a) (Some b) → a ≡ b
+    some_eq h = cc
+
+settled_still : (round : ℕ) (c : Cutoff) (x : Option Progress) → settled_in round (option_map (with_cutoff c) x) ≡ settled_in round x
+settled_still round c None = refl
+settled_still round c (Some k) = refl
+
+module _ (arena : Arena) (old : Work) (rows : Rows Progress) (id : NodeId) (c : Cutoff) (kept : IsKept arena old)
+    (w : IsRewritten old.rows rows (main id) (with_cutoff c)) where
+  abbrev new : Work
+  new = record old { rows = rows }
+
+  pub cut_kept : IsKept arena new
+  cut_kept = kept_rewritten arena old new (main id) (with_cutoff c) kept w refl refl
+      (λ n k is fit. record { outcome = fit.outcome; call = fit.call; settled = fit.settled })
+
+  row_was : (p : Point) (k : Progress) → at rows p ≡ Some k → WasCut old.rows p k
+  row_was p k e = elim (same_or_other (main id) p) [
+    | inl same ↦
+        let m = mapped (at old.rows (main id)) c k (sym w.changed ∙ subst (λ (x : Point). at rows x ≡ Some k) (sym same) e) in
+        record {
+          row = m.0;
+          was = subst (λ (x : Point). at old.rows x ≡ Some m.0) same m.1;
+          stage = ap (λ (x : Progress). x.stage) m.2;
+          outcome = ap (λ (x : Progress). x.outcome) m.2;
+          last = ap (λ (x : Progress). x.last) m.2;
+        }
+    | inr ne ↦ record { row = k; was = sym (w.others p (λ h. ne (sym h))) ∙ e; stage = refl; outcome = refl; last = refl }
+  ]
+
+  settled_as : (p : Point) → settled_in old.round (at rows p) ≡ settled_in old.round (at old.rows p)
+  settled_as p = elim (same_or_other (main id) p) [
+    | inl same ↦ subst (λ (x : Point). settled_in old.round (at rows x) ≡ settled_in old.round (at old.rows x)) same
+        (ap (settled_in old.round) w.changed ∙ settled_still old.round c (at old.rows (main id)))
+    | inr ne ↦ ap (settled_in old.round) (w.others p (λ h. ne (sym h)))
+  ]
+
+  module _ (F : Functions) (ready : IsReady F arena old) where
+    abbrev state : State
+    state = record ready.state { never = never_at new }
+
+    abbrev start : Start
+    start = record ready.start { never = never_at new }
+
+    stands : Stands arena new ready.state.calls None state
+    stands = record {
+      graph = ready.stands.graph;
+      out = λ p k e. let b = row_was p k e in ready.stands.out p b.row b.was ∙ sym b.outcome;
+      last = λ n k e. let b = row_was (main n) k e in ready.stands.last n b.row b.was ∙ sym b.last;
+      never = λ n k e. ap never_in e;
+      links = ready.stands.links;
+      root = ready.stands.root;
+      needed = ready.stands.needed;
+      height = ready.stands.height;
+      heap = ready.stands.heap;
+      settled = λ p. ready.stands.settled p ∙ sym (settled_as p);
+      stage = λ p k e. let b = row_was p k e in ready.stands.stage p b.row b.was ∙ ap stage_of (sym b.stage);
+      owed = ready.stands.owed;
+      todo = ready.stands.todo;
+      strict = ready.stands.strict;
+      died = ready.stands.died;
+      ran = ready.stands.ran;
+      calls = refl;
+      given = ready.stands.given;
+    }
+
+    entry : Entry F start state
+    entry = record {
+      web = record {
+        from = ready.entry.web.from;
+        onto = ready.entry.web.onto;
+        rooted = ready.entry.web.rooted;
+        reached = ready.entry.web.reached;
+        rises = ready.entry.web.rises;
+        low = ready.entry.web.low;
+        heap = ready.entry.web.heap;
+      };
+      alive = ready.entry.alive;
+      links = ready.entry.links;
+      full = ready.entry.full;
+      bare = ready.entry.bare;
+      scoped = ready.entry.scoped;
+      rooted = ready.entry.rooted;
+      built = ready.entry.built;
+      fresh = ready.entry.fresh;
+      settled = ready.entry.settled;
+      owed = ready.entry.owed;
+      todo = ready.entry.todo;
+      strict = ready.entry.strict;
+      ran = ready.entry.ran;
+      taken = ready.entry.taken;
+      died = ready.entry.died;
+      held = ready.entry.held;
+      last = ready.entry.last;
+      never = λ n. refl;
+      calls = ready.entry.calls;
+      answers = ready.entry.answers;
+    }
+
+    pub cut_ready : IsReady F arena new
+    cut_ready = record {
+      kept = cut_kept;
+      start = start;
+      state = state;
+      stands = stands;
+      entry = entry;
+      numbered = ready.numbered;
+      todo = ready.todo;
+      ran = ready.ran;
+    }
+
+-- ---- cutoffs stay
+
+pub rows_cutoffs : (old new : Work) → KeepsRows old.rows new.rows → (n : NodeId) → never_at new n ≡ never_at old n
+rows_cutoffs old new same n = ap never_in (same (main n))
+
+-- a new node's is Equal, as that of a node that isn't there
+pub added_cutoffs : (old new : Work) (id : NodeId) → at old.rows (main id) ≡ None → Changes old.rows new.rows (main id) (Some unsettled)
+    → (n : NodeId) → never_at new n ≡ never_at old n
+added_cutoffs old new id none rows n = elim (node_or_other id n) [
+  | inl e ↦ subst (λ (x : NodeId). never_at new x ≡ never_at old x) e (ap never_in rows.changed ∙ sym (ap never_in none))
+  | inr ne ↦ ap never_in (rows.others (main n) (λ h. ne (sym (ap (λ (x : Point). x.node) h))))
+]
