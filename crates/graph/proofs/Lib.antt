@@ -5,3 +5,4 @@ pub mod Sounding
 pub mod Stabilizing
 pub mod Unobserving
 pub mod TakingBack
+pub mod Cutting

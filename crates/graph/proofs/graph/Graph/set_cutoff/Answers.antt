@@ -1,0 +1,11 @@
+use Rattle.std.proofs.Common.{refl}
+use Rattle.graph.proofs.Cutting.{sound_cut, sets_cutoff}
+use Rattle.graph.proofs.graph.Graph.set_cutoff.Goals as goal
+
+pub invariant_of-self : goal.invariant_of-self
+invariant_of-self g c = (
+  c.self.invariant.0,
+  (let a = c.set_cutoff.ensures in
+      sound_cut c.self.inside.parts c.set_cutoff.new.self c.args.node c.args.cutoff a.cutoff a.rest _ _ c.self.inside.observers.items
+      c.self.inside.rooted c.self.inside.refused c.self.invariant.1 (a.ready _)),
+)
