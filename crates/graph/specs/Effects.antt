@@ -25,8 +25,8 @@ abbrev pub top : Def → Ty → Row
 top def ty = record { def = def; ty = ty; scope = None }
 
 module _ {F : Type 0} where
-  -- beside the nodes all stays: functions, observers, what is shown and what functions were last called on, of the ids that were given; cutoffs, which
-  -- are Equal of a new node; links and roots; what broke the graph, and who was called in the last round
+  -- beside the nodes all stays: functions, observers, what is shown, what functions were last called on, and cutoffs, of the ids that were given, and
+  -- no further node has cutoff Never; links and roots; what broke the graph, and who was called in the last round
   pub record KeepsBeside (old new : Standing F) : Type 0 where
     pub functions : new.functions ≡ old.functions
     pub observers : new.observers ≡ old.observers
@@ -34,7 +34,8 @@ module _ {F : Type 0} where
     pub refused : new.refused ≡ old.refused
     pub shown : (n : NodeId) → Given old.parts.arena.given n → shown_of new n ≡ shown_of old n
     pub last : (n : NodeId) → Given old.parts.arena.given n → last_call new.parts.work n ≡ last_call old.parts.work n
-    pub cutoffs : (n : NodeId) → never_at new.parts.work n ≡ never_at old.parts.work n
+    pub cutoffs : (n : NodeId) → Given old.parts.arena.given n → never_at new.parts.work n ≡ never_at old.parts.work n
+    pub fewer_cutoffs : (n : NodeId) → never_at new.parts.work n ≡ true → never_at old.parts.work n ≡ true
     pub links : KeepsLinks old.parts.work.graph.links new.parts.work.graph.links
     pub roots : KeepsRoots old.parts.work.graph.roots new.parts.work.graph.roots
     pub ran : new.parts.ran ≡ old.parts.ran
@@ -57,12 +58,13 @@ module _ {F : Type 0} where
     pub given : (new.parts.arena.given ≡ old.parts.arena.given) ⊎ (new.parts.arena.given ≡ old.parts.arena.given + 1)
     pub rows : (n : NodeId) → row_at new.parts.arena n ≡ row_at old.parts.arena n
 
-  -- a node was added under an id that was never given
+  -- a node was added under an id that was never given; its cutoff is Equal
   pub record Adds (old new : Standing F) (id : NodeId) (row : Row) : Type 0 where
     pub beside : KeepsBeside old new
     pub fresh : id.gen_ ≡ old.parts.arena.given
     pub given : new.parts.arena.given ≡ old.parts.arena.given + 1
     pub changes : Changes old.parts.arena new.parts.arena id (Some row)
+    pub equal : never_at new.parts.work id ≡ false
 
   -- a variable was set
   pub record Sets (old new : Standing F) (id : NodeId) (v : Value) : Type 0 where

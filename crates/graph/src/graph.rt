@@ -1,8 +1,9 @@
 //! Graphs.
-ghost use Rattle.std.specs.Prelude.{◌≡◌, ◌↔◌, [], None, Some, IfOk, IfErr, IfSome, IfNone, IsErrOf, OnOk, option_copied};
+ghost use Rattle.std.specs.Prelude.{◌≡◌, ◌↔◌, false, [], None, Some, IfOk, IfErr, IfSome, IfNone, IsErrOf, OnOk, option_copied};
 ghost use Rattle.inc_value.specs.declared.node.NodeId.{NodeId};
 ghost use Rattle.node_arena.specs.Arena.{row_at, live, IsLive};
 ghost use Rattle.node_arena.specs.Sound.{IsSound as IsSoundArena};
+ghost use Rattle.stabilizer.specs.Round.{never_at};
 ghost use Rattle.graph.specs.Sound.{IsSound};
 ghost use Rattle.graph.specs.Standing.{IsUnbroken, IsBroken};
 ghost use Rattle.graph.specs.declared.fault.Kept.{Kept as ACause};
@@ -62,6 +63,7 @@ impl<F: Functions> Graph<F> {
     pub fn new(alloc: Global, functions: F) -> Result<Graph<F>, (AllocError, F)>
         ensures functions { IfOk result (λ g. g.functions ≡ functions) }
         ensures nodes { IfOk result (λ g. (n : NodeId) → row_at g.parts.arena n ≡ None) }
+        ensures cutoffs { IfOk result (λ g. (n : NodeId) → never_at g.parts.work n ≡ false) }
         ensures live { IfOk result (λ g. live g.parts.arena ≡ 0) }
         ensures given { IfOk result (λ g. g.parts.arena.given ≡ 0) }
         ensures observers { IfOk result (λ g. g.observers ≡ []) }

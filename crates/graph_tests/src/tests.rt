@@ -2,7 +2,7 @@
 ghost use Rattle.std.specs.Prelude.{IsTrue};
 ghost use Rattle.node_arena.specs.Arithmetic.{is_function};
 
-use graph::{Graph, GraphFault, Kept, Refused, StabilizeFault};
+use graph::{Cutoff, Graph, GraphFault, Kept, Refused, StabilizeFault};
 use inc_value::{FnId, FnKind, FnRef, NodeId, ObsId, Outcome, Sig, Ty, Value};
 use node_arena::Functions;
 use std::alloc::{AllocError, Global};
@@ -70,6 +70,10 @@ enum Act {
     /// Makes the fold from a number on over no nodes.
     FoldNone(i64),
     Set(usize, i64),
+    /// Sets a node's cutoff to Equal.
+    Equal(usize),
+    /// Sets a node's cutoff to Never.
+    Never(usize),
     Observe(usize),
     Unobserve(u32),
     Stabilize,
@@ -284,6 +288,8 @@ fn perform(graph: &mut Graph<Arithmetic>, nodes: &mut Vec<NodeId>, act: Act) -> 
         }
         Act::FoldNone(initial) => made(nodes, graph.fold(sum(), Value::Int(initial), &[])),
         Act::Set(i, value) => told(graph.set_var(nth(nodes, i), Value::Int(value))),
+        Act::Equal(i) => told(graph.set_cutoff(nth(nodes, i), Cutoff::Equal)),
+        Act::Never(i) => told(graph.set_cutoff(nth(nodes, i), Cutoff::Never)),
         Act::Observe(i) => observed(graph, nth(nodes, i)),
         Act::Unobserve(observer) => told(graph.unobserve(ObsId(observer))),
         Act::Stabilize => stabilized(graph),
@@ -498,6 +504,81 @@ fn a_fold_over_a_dead_node_is_invalid(rt: HostRuntime) -> Result<(), Fail> {
         Act::Calls,
     ];
     let want = [0, 0, 0, 0, 0, -109, 0];
+    assert_eq!(rt; answers(rt.alloc(), &acts)?.as_slice(), want.as_slice());
+    Ok(())
+}
+
+#[test]
+fn a_cutoff_of_never_stops_nothing(rt: HostRuntime) -> Result<(), Fail> {
+    let acts = [
+        Act::Var(3),
+        Act::Var(5),
+        Act::Sum(0, 1),
+        Act::Neg(2),
+        Act::Observe(3),
+        Act::Stabilize,
+        Act::Never(2),
+        Act::Stabilize,
+        Act::Set(0, 5),
+        Act::Set(1, 3),
+        Act::Stabilize,
+        Act::Ran(2),
+        Act::Ran(3),
+        Act::Show(0),
+        Act::Calls,
+        Act::Equal(2),
+        Act::Set(0, 3),
+        Act::Set(1, 5),
+        Act::Stabilize,
+        Act::Ran(2),
+        Act::Ran(3),
+        Act::Calls,
+    ];
+    let want = [
+        0, 0, 0, 0, 0, 2, 0, 0, 0, 0, 2, 1, 1, -8, 4, 0, 0, 0, 1, 1, 0, 5,
+    ];
+    assert_eq!(rt; answers(rt.alloc(), &acts)?.as_slice(), want.as_slice());
+    Ok(())
+}
+
+#[test]
+fn a_variable_of_cutoff_never_is_told_of_the_same_value(rt: HostRuntime) -> Result<(), Fail> {
+    let acts = [
+        Act::Var(1),
+        Act::Var(2),
+        Act::Fold(10, 0, 1, 0),
+        Act::Neg(2),
+        Act::Observe(3),
+        Act::Never(1),
+        Act::Stabilize,
+        Act::Calls,
+        Act::Set(1, 2),
+        Act::Stabilize,
+        Act::Ran(2),
+        Act::Ran(3),
+        Act::Calls,
+        Act::Set(0, 1),
+        Act::Stabilize,
+        Act::Calls,
+    ];
+    let want = [0, 0, 0, 0, 0, 0, 2, 4, 0, 1, 1, 0, 7, 0, 0, 7];
+    assert_eq!(rt; answers(rt.alloc(), &acts)?.as_slice(), want.as_slice());
+    Ok(())
+}
+
+#[test]
+fn a_dead_node_has_no_cutoff(rt: HostRuntime) -> Result<(), Fail> {
+    let acts = [
+        Act::Var(1),
+        Act::TakeBack(0),
+        Act::Never(1),
+        Act::Neg(1),
+        Act::Observe(3),
+        Act::Stabilize,
+        Act::Show(0),
+        Act::Calls,
+    ];
+    let want = [0, 0, 0, 0, 0, 0, -109, 0];
     assert_eq!(rt; answers(rt.alloc(), &acts)?.as_slice(), want.as_slice());
     Ok(())
 }

@@ -1,5 +1,5 @@
 -- A stabilize that was accepted is one of the script.
-use Rattle.std.proofs.Common.{◌≡◌, inl, ℕ, ◌+◌, suc, Bool, List, [], ◌∷◌, map, length, Option, None, Some, refl, ap, sym, subst, ◌∙◌, slice_get}
+use Rattle.std.proofs.Common.{◌≡◌, inl, inr, ℕ, ◌+◌, suc, Bool, true, List, [], ◌∷◌, map, length, Option, None, Some, refl, ap, sym, subst, ◌∙◌, slice_get}
 use Rattle.inc_value.specs.Choice.{Among, and_then}
 use Rattle.inc_value.specs.declared.function.FnRef.{FnRef}
 use Rattle.inc_value.specs.declared.node.NodeId.{NodeId}
@@ -19,7 +19,7 @@ use Rattle.stabilize_round.specs.Calling.{costs_of}
 use Rattle.stabilize_round.specs.Counts.{RoseBy}
 use Rattle.stabilizer.specs.Computing.{seen}
 use Rattle.stabilizer.specs.Meaning.{functions_of}
-use Rattle.stabilizer.specs.Round.{WasCalled, last_call}
+use Rattle.stabilizer.specs.Round.{WasCalled, last_call, never_at}
 use Rattle.stabilizer.proofs.Between.{code_row}
 use Rattle.script_model.specs.Blocked.{InTheWay, on_cycle, too_deep}
 use Rattle.script_model.specs.Check.{is_among}
@@ -148,7 +148,11 @@ module _ (named : List ℕ → Option FnRef) (value : FnRef → List GraphValue 
   fresh n c v is need at same =
       let w = holds.settled.ran v is need in
       let node : w.node ≡ n = (let e = w.is_node in cc) in
-      c.reason w.call (subst (λ (q : NodeId). last_call k.graph.parts.work q ≡ Some w.call) node w.is_last) (w.values_are ∙ sym same)
+      elim c.reason [
+        | inl differs ↦
+            differs w.call (subst (λ (q : NodeId). last_call k.graph.parts.work q ≡ Some w.call) node w.is_last) (w.values_are ∙ sym same)
+        | inr forced ↦ holds.settled.equal forced.0 forced.2
+      ]
 
   ran_each : (n : NodeId) → Among n ran → Ran x before n
   ran_each n among =
@@ -215,8 +219,11 @@ module _ (named : List ℕ → Option FnRef) (value : FnRef → List GraphValue 
         values_are = r.values_are;
       }
 
+  equal : (n : NodeId) → never_at g.parts.work n ≡ true → ⊥
+  equal n never = holds.settled.equal n (sym (done.right.cutoffs n) ∙ never)
+
   settled : Settled F then then new
-  settled = record { formulas = λ owner path f e. e; plain = represented.plain; ran = recalled }
+  settled = record { formulas = λ owner path f e. e; plain = represented.plain; ran = recalled; equal = equal }
 
   -- ---- the moment after it
 

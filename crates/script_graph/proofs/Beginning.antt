@@ -1,9 +1,10 @@
 -- What is kept before the first line.
-use Rattle.std.proofs.Common.{◌≡◌, [], None, refl, sym, ◌∙◌, arith}
+use Rattle.std.proofs.Common.{◌≡◌, false, [], None, refl, sym, ◌∙◌, arith}
 use Rattle.std.proofs.lemmas.Option.{none-some}
 use Rattle.graph.specs.Standing.{Standing, IsUnbroken}
 use Rattle.inc_value.specs.declared.node.NodeId.{NodeId}
 use Rattle.node_arena.specs.Arena.{row_at, live}
+use Rattle.stabilizer.specs.Round.{never_at}
 use Rattle.script_model.specs.Formula.{Meanings}
 use Rattle.script_model.specs.Step.{first_moment}
 use Rattle.script_graph.specs.Kept.{Kept, IsSound}
@@ -34,8 +35,8 @@ module _ (g : Standing (Unit {0})) (nodes : (n : NodeId) → row_at g.parts.aren
     unbroken = λ e. unbroken;
   }
 
-  pub first_stands : (F : Meanings) → Stands F (first_kept g) first_moment
-  first_stands F = record {
+  pub first_stands : ((n : NodeId) → never_at g.parts.work n ≡ false) → (F : Meanings) → Stands F (first_kept g) first_moment
+  first_stands cutoffs F = record {
     names = record { declared = refl; now = refl; in_use = λ name. refl };
     accepted = refl;
     broken = refl;
@@ -63,6 +64,7 @@ module _ (g : Standing (Unit {0})) (nodes : (n : NodeId) → row_at g.parts.aren
         formulas = λ owner path f is. is;
         plain = λ n body is. absurd (cc);
         ran = λ v visit need. absurd need.1;
+        equal = λ n never. let equal = cutoffs n in cc;
       };
     };
   }

@@ -261,4 +261,5 @@ module _ (named : List ℕ → Option FnRef) (value : FnRef → List GraphValue 
     formulas = λ owner path f at. formulas owner path f (st.formulas owner path f at);
     plain = st.plain;
     ran = λ v is need. ran_on st v is (st.ran v is need);
+    equal = λ n never. st.equal n (keeps.fewer_cutoffs n never);
   }

@@ -181,6 +181,8 @@ module _ {F : Type 0} (first now : Standing F) (names : Names) (nodes : List Nod
         refused = sets.beside.refused;
         shown = sets.beside.shown;
         last = sets.beside.last;
+        cutoffs = sets.beside.cutoffs;
+        fewer_cutoffs = sets.beside.fewer_cutoffs;
         links = sets.beside.links;
         roots = sets.beside.roots;
         ran = sets.beside.ran;

@@ -410,6 +410,7 @@ module _ (k : Kept) (name d : List ℕ) (i : ℕ) (o : ObsId) (g : Standing (Uni
       formulas = held.settled.formulas;
       plain = held.settled.plain;
       ran = λ v visit need. was (held.settled.ran v visit need);
+      equal = λ n never. held.settled.equal n (sym (ends.cutoffs n) ∙ never);
     }
       where
         was : {v : Visit} → WasRun (beside F s k) k v → WasRun (beside F then new) new v

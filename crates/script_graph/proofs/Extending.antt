@@ -50,6 +50,8 @@ module _ {F : Type 0} where
       refused = refl;
       shown = λ n h. refl;
       last = λ n h. refl;
+      cutoffs = λ n h. refl;
+      fewer_cutoffs = λ n never. never;
       links = λ p q. refl;
       roots = λ p. refl;
       ran = refl;
@@ -67,6 +69,8 @@ module _ {F : Type 0} where
       refused = h.beside.refused ∙ g.beside.refused;
       shown = λ n low. h.beside.shown n (omega (arith, low, g.given)) ∙ g.beside.shown n low;
       last = λ n low. h.beside.last n (omega (arith, low, g.given)) ∙ g.beside.last n low;
+      cutoffs = λ n low. h.beside.cutoffs n (omega (arith, low, g.given)) ∙ g.beside.cutoffs n low;
+      fewer_cutoffs = λ n never. g.beside.fewer_cutoffs n (h.beside.fewer_cutoffs n never);
       links = λ p q. h.beside.links p q ∙ g.beside.links p q;
       roots = λ p. h.beside.roots p ∙ g.beside.roots p;
       ran = h.beside.ran ∙ g.beside.ran;
@@ -99,6 +103,8 @@ module _ {F : Type 0} where
       refused = h.refused ∙ g.beside.refused;
       shown = λ n low. h.shown n (omega (arith, low, later)) ∙ g.beside.shown n low;
       last = λ n low. h.last n (omega (arith, low, later)) ∙ g.beside.last n low;
+      cutoffs = λ n low. h.cutoffs n (omega (arith, low, later)) ∙ g.beside.cutoffs n low;
+      fewer_cutoffs = λ n never. g.beside.fewer_cutoffs n (h.fewer_cutoffs n never);
       links = λ p q. h.links p q ∙ g.beside.links p q;
       roots = λ p. h.roots p ∙ g.beside.roots p;
       ran = h.ran ∙ g.beside.ran;
@@ -117,6 +123,8 @@ module _ {F : Type 0} where
       refused = h.beside.refused;
       shown = h.beside.shown;
       last = h.beside.last;
+      cutoffs = h.beside.cutoffs;
+      fewer_cutoffs = h.beside.fewer_cutoffs;
       links = h.beside.links;
       roots = h.beside.roots;
       ran = h.beside.ran;

@@ -141,6 +141,7 @@ settled_so F before s os k new nodes parts held = record {
   formulas = held.formulas;
   plain = held.plain;
   ran = λ v visit need. was (held.ran v visit need);
+  equal = λ n never. held.equal n (rw parts at never);
 }
   where
     was : {v : Visit} → WasRun (beside F s k) k v → WasRun (beside F (record s { observers = os }) new) new v

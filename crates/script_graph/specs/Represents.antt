@@ -1,5 +1,5 @@
 -- What a graph has to do with the state of a script.
-use Rattle.std.specs.Prelude.{◌≡◌, ◌+◌, ◌<◌, ◌≤◌, ℕ, List, [], ◌∷◌, map, length, Option, None, Some, slice_get}
+use Rattle.std.specs.Prelude.{◌≡◌, ◌+◌, ◌<◌, ◌≤◌, ℕ, true, List, [], ◌∷◌, map, length, Option, None, Some, slice_get}
 use Rattle.std.specs.List.{sum_by}
 use Rattle.inc_value.specs.Choice.{Among}
 use Rattle.inc_value.specs.declared.node.NodeId.{NodeId}
@@ -22,7 +22,7 @@ use Rattle.script_graph.specs.Kept.{Kept, arena_of, node_in}
 use Rattle.script_graph.specs.Plain.{AllPlain}
 use Rattle.stabilize_round.specs.State.{Call}
 use Rattle.stabilizer.specs.Meaning.{functions_of}
-use Rattle.stabilizer.specs.Round.{last_call}
+use Rattle.stabilizer.specs.Round.{last_call, never_at}
 use Rattle.transfer.specs.Both.{Both, graph_value, graph_outcome}
 use Rattle.transfer.specs.Items.{node_of, FormulasStay}
 use Rattle.transfer.specs.Shows.{Declares}
@@ -175,8 +175,10 @@ pub record WasRun (x : Both) (k : Kept) (v : Visit) : Type 0 where
   pub is_last : last_call k.graph.parts.work node ≡ Some call
   pub values_are : call.arguments ≡ map (graph_value x.nodes) v.values
 
--- the declarations that were there then have their formulas, and each call that was needed then was the last one of its node
+-- the declarations that were there then have their formulas, and each call that was needed then was the last one of its node; no node has cutoff
+-- Never
 pub record Settled (F : Meanings) (before s : State) (k : Kept) : Type 0 where
   pub formulas : FormulasStay before s
   pub plain : AllPlain before
   pub ran : (v : Visit) → IsVisit F before v → Needed F before v.item → WasRun (beside F s k) k v
+  pub equal : (n : NodeId) → never_at k.graph.parts.work n ≡ true → ⊥

@@ -71,6 +71,7 @@ ends_so old new o h = record {
   refused = h.refused;
   shown = h.shown;
   last = h.last;
+  cutoffs = h.cutoffs;
   fewer = h.fewer;
   ran = h.ran;
   unrooted = h.unrooted;

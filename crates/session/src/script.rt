@@ -1,5 +1,5 @@
 //! A script in the making: its names, and the graph of its formulas.
-ghost use Rattle.std.specs.Prelude.{◌≡◌, ◌<◌, ◌≤◌, ◌+◌, ◌-◌, ◌^◌, [], ℕ, List, length, slice_get, None, Some, IfOk, IfErr, IfSome, IfNone, OnOk, OnErr, IsErr, IsTrue, Ok, option_copied};
+ghost use Rattle.std.specs.Prelude.{◌≡◌, ◌<◌, ◌≤◌, ◌+◌, ◌-◌, ◌^◌, false, [], ℕ, List, length, slice_get, None, Some, IfOk, IfErr, IfSome, IfNone, OnOk, OnErr, IsErr, IsTrue, Ok, option_copied};
 ghost use Rattle.formula_lang.specs.CommandView.{body_view, command_view};
 ghost use Rattle.formula_lang.specs.Fits.{AssignmentFits, DeclarationFits, ObserverFits};
 ghost use Rattle.inc_value.specs.Value.{type_of};
@@ -12,6 +12,7 @@ ghost use Rattle.script_model.specs.Formula.{Meanings, meanings_of, places_of_bo
 ghost use Rattle.script_model.specs.Step.{Moment, first_moment, moved, shown_by};
 ghost use Rattle.script_model.specs.Values.{Value as AValue, to_engine};
 ghost use Rattle.script_graph.specs.Kept.{arena_of};
+ghost use Rattle.stabilizer.specs.Round.{never_at};
 ghost use Rattle.script_graph.specs.Shown.{ShowsIt, ShowsNothing};
 ghost use Rattle.script_graph.specs.Stabilizing.{IsAccepted, IsTooDeep, IsCutShort};
 ghost use Rattle.script_graph.specs.State.{Stands};
@@ -95,6 +96,7 @@ impl<L: Library> Script<L> {
     /// A script before its first line, over a graph without nodes.
     fn over(alloc: Global, graph: Graph<ScriptFns<L>>) -> Result<Script<L>, (AllocError, L)>
         requires nodes { (n : ANode) → row_at graph.parts.arena n ≡ None }
+        requires cutoffs { (n : ANode) → never_at graph.parts.work n ≡ false }
         requires live { live graph.parts.arena ≡ 0 }
         requires given { graph.parts.arena.given ≡ 0 }
         requires observers { graph.observers ≡ [] }

@@ -1,5 +1,5 @@
 //! The nodes of a graph with all that a stabilizer keeps of them.
-ghost use Rattle.std.specs.Prelude.{◌≡◌, ◌⊎◌, ◌↔◌, ◌+◌, ◌<◌, ◌≤◌, ◌++◌, true, [], ◌∷◌, List, None, Some};
+ghost use Rattle.std.specs.Prelude.{◌≡◌, ◌⊎◌, ◌↔◌, ◌+◌, ◌<◌, ◌≤◌, ◌++◌, true, false, [], ◌∷◌, List, None, Some};
 ghost use Rattle.std.specs.Prelude.{IfOk, IfErr, OnOk, OnErr, IsErrOf, option_copied};
 ghost use Rattle.inc_value.specs.declared.node.NodeId.{NodeId};
 ghost use Rattle.inc_terms.specs.Code.{def_of};
@@ -46,6 +46,7 @@ impl Parts {
         ensures given { IfOk result (λ p. p.arena.given ≡ 0) }
         ensures roots { IfOk result (λ p. AreRooted p.work []) }
         ensures ran { IfOk result (λ p. p.ran.items ≡ []) }
+        ensures cutoffs { IfOk result (λ p. (n : NodeId) → never_at p.work n ≡ false) }
     {
         let work = Work::new(alloc)?;
         work.graph.stands();
@@ -92,6 +93,7 @@ impl Parts {
         ensures rows { (n : NodeId) → Given self.old.arena.given n
             → at self.new.work.rows (main n) ≡ at self.old.work.rows (main n) }
         ensures cutoffs { (n : NodeId) → never_at self.new.work n ≡ never_at self.old.work n }
+        ensures equal { IfOk result (λ id. never_at self.new.work id ≡ false) }
         ensures links { self.new.work.graph.links ≡ self.old.work.graph.links }
         ensures roots { self.new.work.graph.roots ≡ self.old.work.graph.roots }
         ensures heap { KeepsRows self.old.work.graph.heap self.new.work.graph.heap }

@@ -5,4 +5,4 @@ use Rattle.session.proofs.script.Script.over.Goals as goal
 pub returns-in-Ok-clause-first : goal.returns-in-Ok-clause-first
 returns-in-Ok-clause-first g c = λ F.
     rw (c.in-Ok.ensures.ok, c.new-in-Ok.ensures.items, c.new-in-Ok-2.ensures.items)
-    (first_stands (without_functions c.args.graph) c.requires.nodes c.requires.observers F)
+    (first_stands (without_functions c.args.graph) c.requires.nodes c.requires.observers c.requires.cutoffs F)

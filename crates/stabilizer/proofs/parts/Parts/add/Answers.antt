@@ -1,10 +1,11 @@
-use Rattle.std.proofs.Common.{None, Some, refl, sym, subst}
+use Rattle.std.proofs.Common.{None, Some, refl, sym, ap, subst}
 use Rattle.inc_value.specs.declared.node.Point.{Point}
 use Rattle.inc_terms.specs.Depend.{main}
 use Rattle.point_map.specs.Rows.{Changes}
 use Rattle.node_arena.specs.Arena.{Arena}
 use Rattle.stabilizer.specs.Between.{Stays, KeepsWork}
 use Rattle.stabilizer.specs.Kept.{IsKept}
+use Rattle.stabilizer.specs.Row.{never_in}
 use Rattle.stabilizer.specs.declared.work.Work.{Work}
 use Rattle.stabilizer.proofs.Between.{ready_stays, same_todo}
 use Rattle.stabilizer.proofs.Cutting.{rows_cutoffs, added_cutoffs}
@@ -78,6 +79,9 @@ returns-in-Ok-insert-clause-ready c F ready = ready_stays F _ _ _ _ ready (kept 
 pub returns-in-Ok-insert-clause-cutoffs : goal.returns-in-Ok-insert-clause-cutoffs
 returns-in-Ok-insert-clause-cutoffs c = added_cutoffs (old c) (work c) c.next_id-id.result
     (no_row c.args.self.now.arena (old c) c.next_id-id.result c.requires.kept c.next_id-id.ensures.generation) (row c)
+
+pub returns-in-Ok-insert-clause-equal : goal.returns-in-Ok-insert-clause-equal
+returns-in-Ok-insert-clause-equal c = ap never_in (row c).changed
 
 -- ---- no memory for the node: its point is dropped again
 
