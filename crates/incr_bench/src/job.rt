@@ -23,6 +23,9 @@ pub enum Shape {
     /// A comparison that stays as it is, with readers behind it.
     Cut,
 
+    /// A comparison that stays as it is and tells its readers all the same.
+    Never,
+
     /// A chain of 10 that changes, beside nodes that don't.
     Idle,
 
@@ -49,7 +52,9 @@ fn most(shape: Shape) -> usize
         Shape::Chain => 128,
         Shape::Tree => 524_288,
         Shape::Random => 10_000,
-        Shape::Fan | Shape::Fold | Shape::Cut | Shape::Idle | Shape::Needs => 1_000_000,
+        Shape::Fan | Shape::Fold | Shape::Cut | Shape::Never | Shape::Idle | Shape::Needs => {
+            1_000_000
+        }
     }
 }
 
@@ -61,6 +66,7 @@ fn shape_named(name: &str) -> Option<Shape> {
         "tree" => Some(Shape::Tree),
         "fold" => Some(Shape::Fold),
         "cut" => Some(Shape::Cut),
+        "never" => Some(Shape::Never),
         "idle" => Some(Shape::Idle),
         "random" => Some(Shape::Random),
         _ => None,

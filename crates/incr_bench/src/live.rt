@@ -3,7 +3,7 @@ ghost use Rattle.std.specs.Prelude.{◌≡◌};
 
 use crate::adapter::StdFunctions;
 use crate::fault::{Fault, of_graph, of_stabilize};
-use graph::{Graph, GraphFault};
+use graph::{Cutoff, Graph, GraphFault};
 use inc_value::{NodeId, ObsId, Outcome, Value};
 use plain_evaluation::Definition;
 use std::alloc::Global;
@@ -172,6 +172,15 @@ impl Live {
     pub fn set(&mut self, place: usize, value: i64) -> Result<(), Fault> {
         let node = node_at(&self.nodes, place);
         match self.graph.set_var(node, Value::Int(value)) {
+            Ok(()) => Ok(()),
+            Err(fault) => Err(of_graph(fault)),
+        }
+    }
+
+    /// Has a node tell its readers of each outcome, an equal one too.
+    pub fn tell_all(&mut self, place: usize) -> Result<(), Fault> {
+        let node = node_at(&self.nodes, place);
+        match self.graph.set_cutoff(node, Cutoff::Never) {
             Ok(()) => Ok(()),
             Err(fault) => Err(of_graph(fault)),
         }

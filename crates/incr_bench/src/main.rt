@@ -24,7 +24,7 @@ use std::process::ExitCode;
 
 /// What is written where the words ask for nothing.
 const USAGE: &[u8] =
-    b"usage: incr_bench chain|fan|tree|fold|cut|idle|random SIZE ROUNDS | incr_bench needs SIZE\n";
+    b"usage: incr_bench chain|fan|tree|fold|cut|never|idle|random SIZE ROUNDS | incr_bench needs SIZE\n";
 
 fn main(rt: HostRuntime) -> ExitCode {
     let words = match words(&rt) {

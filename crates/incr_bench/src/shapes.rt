@@ -125,6 +125,12 @@ fn cut(live: &mut Live, size: usize) -> Result<(), Fault> {
     observe_all(live, 5, size)
 }
 
+/// The same, but the comparison tells its readers of each outcome.
+fn never(live: &mut Live, size: usize) -> Result<(), Fault> {
+    cut(live, size)?;
+    live.tell_all(4)
+}
+
 /// A variable and its negation, which is observed in every second pair.
 fn pair(live: &mut Live, i: usize) -> Result<(), Fault> {
     let place = live.len();
@@ -161,6 +167,7 @@ fn fill(live: &mut Live, shape: Shape, size: usize) -> Result<(), Fault>
         Shape::Tree => tree(live, size),
         Shape::Fold => folded(live, size),
         Shape::Cut => cut(live, size),
+        Shape::Never => never(live, size),
         Shape::Idle => idle(live, size),
         Shape::Fan | Shape::Random | Shape::Needs => fan(live, size),
     }
@@ -179,7 +186,7 @@ fn told(shape: Shape, size: usize) -> usize
     requires { 0 < size }
 {
     match shape {
-        Shape::Fan | Shape::Cut => size - 1,
+        Shape::Fan | Shape::Cut | Shape::Never => size - 1,
         _ => 0,
     }
 }
