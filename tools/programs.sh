@@ -62,6 +62,17 @@ echo 'usage: incr_profile run' >"$room/incr_profile.usage"
 printf 'stabilise\n# note\n' >"$room/refused.incr"
 echo 'refused 1' >"$room/refused.out"
 
+# folds whose elements take every place that a script may have, and one line more
+awk 'BEGIN {
+    for (i = 0; i < 1024; i++) {
+        printf "let a%d fold add from 0 [1", i
+        for (k = 1; k < (i < 1023 ? 1023 : 1022); k++) printf ",1"
+        print "]"
+    }
+    print "let z 1"
+}' >"$room/full.incr"
+awk 'BEGIN { for (i = 0; i < 1024; i++) print "ok"; print "refused 19" }' >"$room/full.out"
+
 for program in incr incr_profile; do
     if [ ! -x "crates/$program/out/$program" ]; then
         echo "programs: crates/$program/out/$program is missing: rt ci builds it"
@@ -70,6 +81,7 @@ for program in incr incr_profile; do
     fi
     runs "$program" 0 "$room/nothing" /dev/null run
     runs "$program" 1 "$room/refused.out" "$room/refused.incr" run
+    runs "$program" 1 "$room/full.out" "$room/full.incr" run
     runs "$program" 2 "$room/$program.usage" examples/first.incr
     runs "$program" 2 "$room/$program.usage" examples/first.incr run run
     runs "$program" 2 "$room/$program.usage" examples/first.incr Run
