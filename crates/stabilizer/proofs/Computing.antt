@@ -227,8 +227,15 @@ module _ (value : FnRef → List Value → Value) (answer : List Value → Value
     is_kept = is_kept;
     last = kept.last;
     called = false;
-    calls = (refl, λ others values its e. (call, is_last, same values (relisted old.rows def nodes others values takes its e),
-        λ f. free (subst (IsForcedBy old.round old.rows) (same_Some others nodes (sym its ∙ takes)) f)));
+    calls = (
+      refl,
+      λ others values its e. (
+        call,
+        is_last,
+        same values (relisted old.rows def nodes others values takes its e),
+        λ f. free (subst (IsForcedBy old.round old.rows) (same_Some others nodes (sym its ∙ takes)) f),
+      ),
+    );
     gives = λ answers known. gives answers;
     row = unmoved old.rows n kept is_kept;
     ran = refl;

@@ -420,8 +420,12 @@ module _ (F : Functions) (arena : Arena) (old mid : Work) (before after : ℕ) (
         gives = c.gives;
         reason = elim c.reason [
           | inl differs ↦ inl (λ k e. differs k (begun.last n ∙ e))
-          | inr k ↦ inr (k.0, k.1, sym (begun.never k.0) ∙ k.2,
-              sym (ap (λ (r : ℕ). settled_in r (at mid.rows (main k.0))) same_round) ∙ (sym (stands.settled (main k.0)) ∙ k.3))
+          | inr k ↦ inr (
+            k.0,
+            k.1,
+            sym (begun.never k.0) ∙ k.2,
+            sym (ap (λ (r : ℕ). settled_in r (at mid.rows (main k.0))) same_round) ∙ (sym (stands.settled (main k.0)) ∙ k.3),
+          )
         ];
         is_last = last_is n c.row c.is_row ∙ c.is_last;
         met = is_met (main n) c.met;

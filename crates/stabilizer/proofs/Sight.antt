@@ -180,8 +180,16 @@ module _ (s : State) (arena : Arena) (work : Work) (calls : ℕ) (kept : IsKept 
     λ ns values e g.
         let x = c.1 ns values e (sym (sees_together ns) ∙ g) in (x.0, st.last n k row ∙ x.1, x.2, λ f. x.3 (forced_seen ns f)),
   )
-  calls_are value n def k last' true row (ns, values, result, takes, show, reason, is_last, answers) =
-      (ns, values, result, takes, sees_together ns ∙ show, elim reason [
-        | inl other ↦ inl (λ c l a. other c (sym (st.last n k row) ∙ l) a)
-        | inr f ↦ inr (forced ns f)
-      ], is_last, answers)
+  calls_are value n def k last' true row (ns, values, result, takes, show, reason, is_last, answers) = (
+    ns,
+    values,
+    result,
+    takes,
+    sees_together ns ∙ show,
+    elim reason [
+      | inl other ↦ inl (λ c l a. other c (sym (st.last n k row) ∙ l) a)
+      | inr f ↦ inr (forced ns f)
+    ],
+    is_last,
+    answers,
+  )
