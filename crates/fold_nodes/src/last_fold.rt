@@ -1,5 +1,5 @@
 //! The children's values from which a fold was last computed.
-ghost use Rattle.std.specs.Prelude.{◌≡◌, ◌≤◌, ◌↔◌, false, length, Some, None, IsOk, OnOk, OnErr, IsTrue};
+ghost use Rattle.std.specs.Prelude.{◌≡◌, ◌≤◌, ◌↔◌, false, length, Some, None, IsOk, OnOk, OnErr, IsTrue, option_copied};
 ghost use Rattle.map_nodes.specs.Kept.{IsStale, HasNoText, KeepsAsMany};
 
 use inc_value::Value;
@@ -41,6 +41,13 @@ impl LastFold {
         ensures as_many { KeepsAsMany self.old kids.now → HasNoText kids.now → IsOk result }
     {
         self.kids.keep(kids)
+    }
+
+    /// The values that are kept, if some are.
+    pub fn kids(&self) -> Option<&[Value]>
+        ensures { option_copied result ≡ self.now }
+    {
+        self.kids.args()
     }
 
     /// Whether nothing is kept, or other values than these.

@@ -1,5 +1,5 @@
 //! Values.
-ghost use Rattle.std.specs.Prelude.{◌≡◌, ◌≢◌, ◌++◌, ◌↔◌, IfOk, OnOk, OnErr, IsOk, IsTrue, codes};
+ghost use Rattle.std.specs.Prelude.{◌≡◌, ◌≢◌, ◌++◌, ◌↔◌, false, IfOk, OnOk, OnErr, IsOk, IsTrue, codes};
 ghost use Rattle.inc_value.specs.Value.{type_of, printed_value, escaped, escaped_byte};
 
 use crate::{Base, NodeId, Text, Ty};
@@ -12,6 +12,17 @@ pub enum Value {
     Bool(bool),
     Text(Text),
     Node(NodeId, Base),
+}
+
+/// What stands in a place of a short list that is not used.
+impl Default for Value {
+    ghost use Rattle.inc_value.specs.declared.value.Value.TheVariants.{Bool};
+
+    ghost is_default = { λ v. v ≡ Bool false };
+
+    fn default() -> Value {
+        Value::Bool(false)
+    }
 }
 
 impl Value {

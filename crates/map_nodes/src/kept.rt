@@ -5,30 +5,6 @@ ghost use Rattle.map_nodes.specs.Kept.{HasNoText, changed, AreWithin};
 use inc_value::Value;
 use smallvec::SmallVec;
 use std::alloc::{AllocError, Global};
-use std::marker::Model;
-
-/// A value that is kept.
-#[derive(Debug, Drop)]
-pub(crate) struct Kept {
-    pub value: Value,
-}
-
-impl Model for Kept {
-    ghost use Rattle.inc_value.specs.declared.value.Value.{Value as AValue};
-
-    ghost Value = { AValue };
-
-    ghost view = { λ k. k.value };
-}
-
-/// What stands in a place that is not used.
-impl Default for Kept {
-    fn default() -> Kept {
-        Kept {
-            value: Value::Bool(false),
-        }
-    }
-}
 
 /// A value for a place.
 #[derive(Debug, Drop)]
@@ -37,25 +13,25 @@ pub(crate) struct Change {
     pub value: Value,
 }
 
-/// What stands in a place that is not used.
+/// What stands in a place of a short list that is not used.
 impl Default for Change {
     fn default() -> Change {
         Change {
             place: 0,
-            value: Value::Bool(false),
+            value: Value::default(),
         }
     }
 }
 
 /// Whether just these values are kept, in this order.
-pub(crate) fn are_kept(kept: &[Kept], values: &[Value]) -> bool
+pub(crate) fn are_kept(kept: &[Value], values: &[Value]) -> bool
     ensures { IsTrue result ↔ (kept.now ≡ values.now) }
 {
     if kept.len() != values.len() {
         return false;
     }
     for (kept, value) in kept.iter().zip(values) {
-        if !kept.value.same(value) {
+        if !kept.same(value) {
             return false;
         }
     }
@@ -63,36 +39,32 @@ pub(crate) fn are_kept(kept: &[Kept], values: &[Value]) -> bool
 }
 
 /// Copies of the values.
-pub(crate) fn copied(alloc: Global, values: &[Value]) -> Result<SmallVec<Kept, 2>, AllocError>
+pub(crate) fn copied(alloc: Global, values: &[Value]) -> Result<SmallVec<Value, 2>, AllocError>
     ensures ok { IfOk result (λ kept. kept.items ≡ values.now) }
     ensures short { length values.now ≤ 2 → HasNoText values.now → IsOk result }
 {
     let mut kept = SmallVec::with_capacity(alloc, values.len())?;
     for value in values {
-        kept.push_reserved(Kept {
-            value: value.copy(alloc)?,
-        });
+        kept.push_reserved(value.copy(alloc)?);
     }
     Ok(kept)
 }
 
 /// Puts the values in place of those that are kept, of which there are as many.
-pub(crate) fn overwrite(alloc: Global, kept: &mut [Kept], values: &[Value])
+pub(crate) fn overwrite(alloc: Global, kept: &mut [Value], values: &[Value])
     requires as_many { length kept.old ≡ length values.now }
     requires no_text { HasNoText values.now }
     ensures { kept.new ≡ values.now }
 {
     for (i, value) in values.iter().enumerate() {
-        kept[i] = Kept {
-            value: value.copy(alloc).unwrap(),
-        };
+        kept[i] = value.copy(alloc).unwrap();
     }
 }
 
 /// Copies of the values that aren't kept, with their places.
 pub(crate) fn changes(
     alloc: Global,
-    kept: &[Kept],
+    kept: &[Value],
     values: &[Value],
 ) -> Result<SmallVec<Change, 2>, AllocError>
     requires as_many { length kept.now ≡ length values.now }
@@ -103,7 +75,7 @@ pub(crate) fn changes(
     let mut changes = SmallVec::new(alloc);
     for (place, value) in values.iter().enumerate() {
         let before = &kept[place];
-        if !before.value.same(value) {
+        if !before.same(value) {
             let value = value.copy(alloc)?;
             changes.push(Change { place, value })?;
         }
@@ -112,14 +84,12 @@ pub(crate) fn changes(
 }
 
 /// Puts each value in its place.
-pub(crate) fn apply(kept: &mut [Kept], changes: SmallVec<Change, 2>)
+pub(crate) fn apply(kept: &mut [Value], changes: SmallVec<Change, 2>)
     requires within { AreWithin (length kept.old) changes.items }
     ensures { kept.new ≡ changed kept.old changes.items }
 {
     for change in changes {
-        kept[change.place] = Kept {
-            value: change.value,
-        };
+        kept[change.place] = change.value;
     }
 }
 

@@ -1,8 +1,8 @@
 //! The values on which a function was last called.
-ghost use Rattle.std.specs.Prelude.{◌≡◌, ◌≤◌, ◌↔◌, false, length, Some, None, IfOk, IsOk, OnOk, OnErr, IsTrue};
+ghost use Rattle.std.specs.Prelude.{◌≡◌, ◌≤◌, ◌↔◌, false, length, Some, None, IfOk, IsOk, OnOk, OnErr, IsTrue, option_copied};
 ghost use Rattle.map_nodes.specs.Kept.{IsStale, HasNoText, KeepsAsMany};
 
-use crate::kept::{Kept, apply, are_kept, changes, copied, have_no_text, overwrite};
+use crate::kept::{apply, are_kept, changes, copied, have_no_text, overwrite};
 use inc_value::Value;
 use smallvec::SmallVec;
 use std::alloc::{AllocError, Global};
@@ -13,7 +13,7 @@ use std::marker::Model;
 #[derive(Debug, Drop)]
 pub struct LastArgs {
     any: bool,
-    args: SmallVec<Kept, 2>,
+    args: SmallVec<Value, 2>,
 }
 
 impl Model for LastArgs {
@@ -58,6 +58,17 @@ impl LastArgs {
             apply(self.args.as_mut_slice(), changes);
         }
         Ok(())
+    }
+
+    /// The values that are kept, if some are.
+    pub fn args(&self) -> Option<&[Value]>
+        ensures { option_copied result ≡ self.now }
+    {
+        if self.any {
+            Some(self.args.as_slice())
+        } else {
+            None
+        }
     }
 
     /// Whether nothing is kept, or other values than these.

@@ -9,7 +9,7 @@ use Rattle.inc_value.specs.declared.value.Value.{Value}
 use Rattle.inc_terms.specs.Depend.{main}
 use Rattle.map_nodes.specs.declared.cutoff.Cutoff.{Cutoff}
 use Rattle.map_nodes.specs.declared.cutoff.Cutoff.TheVariants.{Equal, Never}
-use Rattle.point_map.specs.Rows.{Rows, at, Holds, KeepsRows}
+use Rattle.point_map.specs.Rows.{at, Holds, KeepsRows}
 use Rattle.link_table.specs.Links.{Reads}
 use Rattle.height_order.specs.Levels.{level}
 use Rattle.necessary_graph.specs.Part.{NecessaryPart, IsInStep}

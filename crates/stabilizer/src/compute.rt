@@ -19,11 +19,12 @@ ghost use Rattle.stabilizer.specs.Kept.{IsKept};
 ghost use Rattle.stabilizer.specs.Meaning.{lists_none};
 
 use crate::refused::Refused;
-use crate::row::{LastCall, main_point, set_call};
+use crate::row::{keep_fold, keep_map, main_point};
 use crate::work::Work;
 use inc_terms::Def;
 use inc_value::{FnKind, FnRef, NodeId, Outcome, Value};
 use node_arena::{Arena, Functions};
+use smallvec::SmallVec;
 use std::alloc::{AllocError, Global};
 
 /// What a node gives. A map's or a fold's function is called unless it was last called on the same
@@ -136,7 +137,7 @@ fn known_outcome(
         return Ok(None);
     }
     if let Some(last) = work.last_call(node) {
-        if show(work, kids, &last.arguments) {
+        if show(work, kids, last.arguments) {
             return Ok(Some(Outcome::Val(last.result.copy(alloc)?)));
         }
     }
@@ -167,9 +168,16 @@ fn call_map<F: Functions>(
 {
     let arguments = values_shown(alloc, work, kids)?;
     work.ran.reserve(1)?;
-    let result = functions.apply(alloc, f, &arguments)?;
-    let outcome = Outcome::Val(result.copy(alloc)?);
-    keep_call(work, node, LastCall { arguments, result });
+    let value = functions.apply(alloc, f, arguments.as_slice())?;
+    let outcome = Outcome::Val(value.copy(alloc)?);
+    keep_map(
+        alloc,
+        &mut work.rows,
+        main_point(node),
+        arguments.as_slice(),
+        value,
+    )?;
+    work.ran.push_reserved(node);
     Ok(outcome)
 }
 
@@ -199,22 +207,17 @@ fn call_fold<F: Functions>(
 {
     let arguments = values_shown(alloc, work, kids)?;
     work.ran.reserve(1)?;
-    let result = fold(alloc, functions, &f, initial, &arguments)?;
-    let outcome = Outcome::Val(result.copy(alloc)?);
-    keep_call(work, node, LastCall { arguments, result });
-    Ok(outcome)
-}
-
-/// Keeps what a node's function was called on and what it gave, and lists the node.
-fn keep_call(work: &mut Work, node: NodeId, call: LastCall)
-    requires there { Holds work.old.rows (main node) }
-    requires room { vec_len work.old.ran < vec_capacity work.old.ran }
-    ensures row { IsRewritten work.old.rows work.new.rows (main node) (with_call call) }
-    ensures ran { work.new.ran.items ≡ work.old.ran.items ++ node ∷ [] }
-    ensures rest { KeepsRest work.old work.new }
-{
-    set_call(&mut work.rows, main_point(node), call);
+    let value = fold(alloc, functions, &f, initial, arguments.as_slice())?;
+    let outcome = Outcome::Val(value.copy(alloc)?);
+    keep_fold(
+        alloc,
+        &mut work.rows,
+        main_point(node),
+        arguments.as_slice(),
+        value,
+    )?;
     work.ran.push_reserved(node);
+    Ok(outcome)
 }
 
 /// The function of two values, from the value on over the others in order: called once for each.
@@ -310,11 +313,15 @@ fn show(work: &Work, nodes: &[NodeId], values: &[Value]) -> bool
     true
 }
 
-/// Copies of the values that the nodes show.
-fn values_shown(alloc: Global, work: &Work, nodes: &[NodeId]) -> Result<Vec<Value>, AllocError>
+/// Copies of the values that the nodes show. Two values that are no texts take no memory.
+fn values_shown(
+    alloc: Global,
+    work: &Work,
+    nodes: &[NodeId],
+) -> Result<SmallVec<Value, 2>, AllocError>
     ensures { IfOk result (λ values. values.items ≡ filter_map (value_shown work.now.rows) nodes.now) }
 {
-    let mut values = Vec::with_capacity(alloc, nodes.len())?;
+    let mut values = SmallVec::with_capacity(alloc, nodes.len())?;
     for node in nodes {
         if let Some(value) = work.value_shown(*node) {
             values.push(value.copy(alloc)?)?;

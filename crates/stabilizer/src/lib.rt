@@ -2,6 +2,7 @@
 #![tactic(auto)]
 
 mod compute;
+mod last_call;
 mod parts;
 mod refused;
 mod row;

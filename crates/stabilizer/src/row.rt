@@ -1,15 +1,16 @@
 //! How far a point has come.
-ghost use Rattle.std.specs.Prelude.{◌≡◌, ◌↔◌, None, Some, IsTrue};
-ghost use Rattle.point_map.specs.Rows.{at, Holds};
+ghost use Rattle.std.specs.Prelude.{◌≡◌, ◌↔◌, None, Some, IsTrue, OnOk, OnErr};
+ghost use Rattle.point_map.specs.Rows.{at, Holds, KeepsRows};
 ghost use Rattle.inc_value.specs.declared.node.Part.TheVariants.{Change, Main};
 ghost use Rattle.stabilizer.specs.declared.row.Progress.{Progress as Row};
 ghost use Rattle.stabilizer.specs.Row.{with_stage, with_outcome, with_call, with_cutoff, settled_in, IsRewritten, IsStopped};
 
+use crate::last_call::LastCall;
 use inc_value::{NodeId, Outcome, Part, Point, Value};
 use map_nodes::{Cutoff, stops};
 use necessary_graph::Skip;
 use point_map::PointMap;
-use std::marker::Model;
+use std::alloc::{AllocError, Global};
 
 /// Which links a needed point has. Scopes and nodes of two points will add stages between these: with its gate's link
 /// alone, until the gate ran, and with all but right sides, until the node's change did.
@@ -21,21 +22,6 @@ pub(crate) enum Stage {
     Full,
 }
 
-/// What a node's function was last called on, and what it gave.
-#[derive(Debug, Drop)]
-pub(crate) struct LastCall {
-    pub arguments: Vec<Value>,
-    pub result: Value,
-}
-
-impl Model for LastCall {
-    ghost use Rattle.stabilize_round.specs.State.{Call};
-
-    ghost Value = { Call };
-
-    ghost view = { λ c. record { arguments = c.arguments.items; result = c.result } };
-}
-
 /// What is kept of a point of a live node: its links' stage, the round in which it was settled last, its outcome,
 /// the last call of its node's function, and, of a main, its node's cutoff. No round has the number 0.
 #[derive(Debug, Drop)]
@@ -43,7 +29,7 @@ pub(crate) struct Progress {
     pub stage: Stage,
     pub settled: u64,
     pub outcome: Option<Outcome>,
-    pub last: Option<LastCall>,
+    pub last: LastCall,
     pub cutoff: Cutoff,
 }
 
@@ -93,7 +79,7 @@ pub(crate) fn unsettled() -> Progress
         stage: Stage::Bare,
         settled: 0,
         outcome: None,
-        last: None,
+        last: LastCall::none(),
         cutoff: Cutoff::Equal,
     }
 }
@@ -143,13 +129,38 @@ pub(crate) fn set_outcome(rows: &mut PointMap<Progress>, p: Point, outcome: Outc
     row.settled = round;
 }
 
-/// Keeps the last call of a node's function.
-pub(crate) fn set_call(rows: &mut PointMap<Progress>, p: Point, call: LastCall)
+/// Keeps the last call of a map's function. Without memory all rows stay.
+pub(crate) fn keep_map(
+    alloc: Global,
+    rows: &mut PointMap<Progress>,
+    p: Point,
+    arguments: &[Value],
+    value: Value,
+) -> Result<(), AllocError>
     requires there { Holds rows.old p }
-    ensures { IsRewritten rows.old rows.new p (with_call call) }
+    ensures kept { OnOk result (IsRewritten rows.old rows.new p
+        (with_call (record { arguments = arguments.now; result = value }))) }
+    ensures err { OnErr result (KeepsRows rows.old rows.new) }
 {
     let row = rows.get_mut(p).unwrap();
-    row.last = Some(call);
+    row.last.keep_map(alloc, arguments, value)
+}
+
+/// Keeps the last calls of a fold's function. Without memory all rows stay.
+pub(crate) fn keep_fold(
+    alloc: Global,
+    rows: &mut PointMap<Progress>,
+    p: Point,
+    kids: &[Value],
+    value: Value,
+) -> Result<(), AllocError>
+    requires there { Holds rows.old p }
+    ensures kept { OnOk result (IsRewritten rows.old rows.new p
+        (with_call (record { arguments = kids.now; result = value }))) }
+    ensures err { OnErr result (KeepsRows rows.old rows.new) }
+{
+    let row = rows.get_mut(p).unwrap();
+    row.last.keep_fold(alloc, kids, value)
 }
 
 /// Sets a node's cutoff.

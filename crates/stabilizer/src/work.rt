@@ -11,8 +11,9 @@ ghost use Rattle.necessary_graph.specs.Part.{Needed, IsInStep};
 ghost use Rattle.stabilizer.specs.Row.{IsRewritten, with_outcome, stage_in, value_in, passes_in};
 ghost use Rattle.stabilizer.specs.Wiring.{KeepsGraph, KeepsRound, IsEnqueued, AreEnqueued, IsTold, IsWoken, Looks};
 
+use crate::last_call::Called;
 use crate::row::{
-    LastCall, Progress, Settled, Stage, is_stopped, main_point, set_outcome, set_stage, unsettled,
+    Progress, Settled, Stage, is_stopped, main_point, set_outcome, set_stage, unsettled,
     was_settled,
 };
 use inc_value::{NodeId, Outcome, Point, Value};
@@ -121,11 +122,11 @@ impl Work {
         }
     }
 
-    /// The last call of a node's function.
-    pub fn last_call(&self, node: NodeId) -> Option<&LastCall>
-        ensures { option_copied result ≡ option_and_then (λ k. k.last) (at self.now.rows (main node)) }
+    /// The last call of a node's function, if there was one.
+    pub fn last_call(&self, node: NodeId) -> Option<Called<'_>>
+        ensures { result ≡ option_and_then (λ k. k.last) (at self.now.rows (main node)) }
     {
-        self.rows.get(main_point(node))?.last.as_ref()
+        self.rows.get(main_point(node))?.last.get()
     }
 
     /// Whether a node of cutoff Never was settled in this round.

@@ -19,7 +19,7 @@ loop-place-preserved c =
           let pushed = w.in_ok-push.ensures.ok in
           (cc (more, last, pushed, w.changes-is, c.loop-place.invariant.0), rw (w.changes-is, pushed) within)
       | else-not-same w ↦
-          let same : c.index-kept-place.result ≡ c.index-values-place.result = cc (c.before-in-loop-place.view_is, w.if-not-same.ensures.0 refl) in
+          let same : c.index-kept-place.result ≡ c.index-values-place.result = w.if-not-same.ensures.0 refl in
           let stays = stays_at values kept i c.index-values-place.result c.index-kept-place.result c.requires.as_many c.loop-place-test.true
           c.index-values-place.is c.index-kept-place.is same in
           (cc (stays, w.changes-is, c.loop-place.invariant.0), rw w.changes-is c.loop-place.invariant.1)

@@ -1,6 +1,5 @@
 use Rattle.std.proofs.Common.{subst}
 use Rattle.inc_value.specs.declared.node.Point.{Point}
-use Rattle.inc_terms.specs.Depend.{main}
 use Rattle.stabilizer.specs.Row.{IsRewritten, with_cutoff}
 use Rattle.stabilizer.proofs.Cutting.{cut_kept, cut_ready}
 use Rattle.stabilizer.proofs.parts.Parts.set_cutoff.Goals as goal
