@@ -1,4 +1,4 @@
-ghost use Rattle.std.specs.Prelude.{[], ℕ, ◌≡◌, ◌+◌, ◌-◌, ◌*◌, ◌^◌, ◌<◌, ◌≤◌, min, None, Some, is_some, IsSome, IfSome, IfNone, IsTrue, IsOk, IfOk, OnOk, OnErr, option_copied, option_map};
+ghost use Rattle.std.specs.Prelude.{◌%◌, [], ℕ, ◌≡◌, ◌+◌, ◌-◌, ◌*◌, ◌^◌, ◌<◌, ◌≤◌, min, None, Some, is_some, IsSome, IfSome, IfNone, IsTrue, IsOk, IfOk, OnOk, OnErr, option_copied, option_map};
 ghost use Rattle.point_map.specs.Buckets.{Buckets as Seen, kept_count};
 ghost use Rattle.point_map.specs.BySlot.{IsBySlot, own_bucket, rows_of};
 ghost use Rattle.point_map.specs.Rows.{at, count, standing, Holds, Changes, KeepsRows, SamePoints, IsWalk};
@@ -28,6 +28,14 @@ impl<R> Model for PointMap<R> {
     ghost invariant = { λ m. IsBySlot m.buckets };
 }
 
+// The bucket of a slot. Where a map has room for all slots none is divided, which would take most of the time of a look.
+fn wrapped(slot: usize, width: usize) -> usize
+    requires some { 0 < width }
+    ensures { result ≡ slot % width }
+{
+    if slot < width { slot } else { slot % width }
+}
+
 // The bucket of a point, or none where there are no buckets.
 fn bucket_of(p: Point, width: usize) -> Option<usize>
     ensures within { IfSome result (λ b. b < width) }
@@ -37,7 +45,7 @@ fn bucket_of(p: Point, width: usize) -> Option<usize>
     if width == 0 {
         return None;
     }
-    Some(p.node.slot % width)
+    Some(wrapped(p.node.slot, width))
 }
 
 // How much room is made for `n` more points: at least twice what there was, so that growing takes constant time a point.
@@ -71,7 +79,7 @@ fn put<R>(buckets: &mut Buckets<R>, p: Point, row: R)
     ensures width { buckets.new.width ≡ buckets.old.width }
     ensures spare { buckets.new.spare + 1 ≡ buckets.old.spare }
 {
-    let bucket = p.node.slot % buckets.width();
+    let bucket = wrapped(p.node.slot, buckets.width());
     let _place = buckets.push(bucket, p, row);
 }
 
