@@ -172,10 +172,11 @@ impl Arena {
         }
     }
 
-    /// The id that the next node gets.
+    /// The id that the next node gets. No live node stands in its slot.
     pub fn next_id(&self) -> NodeId
         ensures generation { result.gen_ ≡ self.now.given }
         ensures fresh { row_at self.now result ≡ None }
+        ensures vacant { (n : NodeId) → n.slot ≡ result.slot → row_at self.now n ≡ None }
     {
         NodeId {
             slot: self.nodes.vacant_key(),
