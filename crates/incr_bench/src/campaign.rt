@@ -30,11 +30,10 @@ pub struct Tally {
     pub disagreements: u64,
 }
 
-/// A graph by chance, beside the definitions of its nodes.
+/// What a graph by chance has: the definitions of its nodes, and the observers in use.
 #[derive(Drop)]
 pub struct Campaign {
     alloc: Global,
-    live: Live,
     generator: Generator,
 
     /// What the nodes are, with the values that the variables have now.
@@ -91,12 +90,10 @@ fn shown(alloc: Global, live: &Live, watched: &[Watch]) -> Result<Vec<i64>, Faul
 }
 
 impl Campaign {
-    /// A graph of so many nodes, some of them observed, not yet stabilized.
-    pub fn new(alloc: Global, size: usize) -> Result<Campaign, Fault> {
-        let live = Live::new(alloc)?;
+    /// Makes a graph of so many nodes, where there are none, some of them observed. It is not yet stabilized.
+    pub fn new(alloc: Global, live: &mut Live, size: usize) -> Result<Campaign, Fault> {
         let mut campaign = Campaign {
             alloc,
-            live,
             generator: Generator::new(size as u64),
             definitions: Vec::new(alloc),
             numbers: Vec::new(alloc),
@@ -108,15 +105,15 @@ impl Campaign {
             comparisons: 0,
             disagreements: 0,
         };
-        campaign.fill(size)?;
-        campaign.watch_some(size / 8 + 1)?;
+        campaign.fill(live, size)?;
+        campaign.watch_some(live, size / 8 + 1)?;
         Ok(campaign)
     }
 
     /// Makes a node, beside its definition.
-    fn add(&mut self, definition: Definition) -> Result<(), Fault> {
+    fn add(&mut self, live: &mut Live, definition: Definition) -> Result<(), Fault> {
         let place = self.definitions.len();
-        self.live.add(definition)?;
+        live.add(definition)?;
         append(&mut self.definitions, definition)?;
         match definition {
             Definition::Less(..) => append(&mut self.truths, place)?,
@@ -144,25 +141,25 @@ impl Campaign {
     }
 
     /// Makes the nodes.
-    fn fill(&mut self, size: usize) -> Result<(), Fault> {
+    fn fill(&mut self, live: &mut Live, size: usize) -> Result<(), Fault> {
         for _ in 0..self.variables {
             let value = small(&mut self.generator);
-            self.add(Definition::Var(value))?;
+            self.add(live, Definition::Var(value))?;
         }
         for _ in self.variables..size {
             let definition = self.chosen();
-            self.add(definition)?;
+            self.add(live, definition)?;
         }
         Ok(())
     }
 
     /// Observes a node by chance.
-    fn watch(&mut self) -> Result<(), Fault> {
+    fn watch(&mut self, live: &mut Live) -> Result<(), Fault> {
         if self.definitions.is_empty() {
             return Ok(());
         }
         let node = self.generator.below(self.definitions.len());
-        self.live.observe(node)?;
+        live.observe(node)?;
         let observer = self.observers;
         append(&mut self.watched, Watch { node, observer })?;
         self.observers = observer.saturating_add(1);
@@ -170,28 +167,28 @@ impl Campaign {
     }
 
     /// Observes so many nodes by chance.
-    fn watch_some(&mut self, count: usize) -> Result<(), Fault> {
+    fn watch_some(&mut self, live: &mut Live, count: usize) -> Result<(), Fault> {
         for _ in 0..count {
-            self.watch()?;
+            self.watch(live)?;
         }
         Ok(())
     }
 
     /// Ends an observer by chance, if there is one.
-    fn end(&mut self) -> Result<(), Fault> {
+    fn end(&mut self, live: &mut Live) -> Result<(), Fault> {
         if self.watched.is_empty() {
             return Ok(());
         }
         let place = self.generator.below(self.watched.len());
         let watch = self.watched.swap_remove(place);
-        self.live.unobserve(watch.observer)
+        live.unobserve(watch.observer)
     }
 
     /// Gives a variable a value, both by chance.
-    fn set(&mut self) -> Result<(), Fault> {
+    fn set(&mut self, live: &mut Live) -> Result<(), Fault> {
         let place = self.generator.below(self.variables.max(1));
         let value = small(&mut self.generator);
-        self.live.set(place, value)?;
+        live.set(place, value)?;
         if place < self.definitions.len() {
             self.definitions[place] = Definition::Var(value);
         }
@@ -199,22 +196,22 @@ impl Campaign {
     }
 
     /// One to three changes of variables, and at times an observer made or ended.
-    fn change(&mut self) -> Result<(), Fault> {
+    fn change(&mut self, live: &mut Live) -> Result<(), Fault> {
         for _ in 0..1 + self.generator.below(3) {
-            self.set()?;
+            self.set(live)?;
         }
         match self.generator.below(4) {
-            0 if self.watched.len() < self.definitions.len() => self.watch(),
-            1 => self.end(),
+            0 if self.watched.len() < self.definitions.len() => self.watch(live),
+            1 => self.end(live),
             _ => Ok(()),
         }
     }
 
     /// Compares what is shown with what plain evaluation gives.
-    fn compare(&mut self) -> Result<(), Fault> {
+    fn compare(&mut self, live: &Live) -> Result<(), Fault> {
         let values = evaluate(self.alloc, &self.definitions)?;
         let meant = meant(self.alloc, &values, &self.watched)?;
-        let shown = shown(self.alloc, &self.live, &self.watched)?;
+        let shown = shown(self.alloc, live, &self.watched)?;
         self.comparisons = self.comparisons.saturating_add(meant.len() as u64);
         if !agree(&meant, &shown) {
             self.disagreements = self.disagreements.saturating_add(1);
@@ -223,38 +220,43 @@ impl Campaign {
     }
 
     /// One round.
-    fn round(&mut self) -> Result<(), Fault> {
-        self.change()?;
-        self.live.stabilize()?;
+    fn round(&mut self, live: &mut Live) -> Result<(), Fault> {
+        self.change(live)?;
+        live.stabilize()?;
         self.stabilizes = self.stabilizes.saturating_add(1);
-        self.compare()
+        self.compare(live)
     }
 
     /// So many rounds.
-    fn run(&mut self, rounds: u64) -> Result<(), Fault> {
+    fn run(&mut self, live: &mut Live, rounds: u64) -> Result<(), Fault> {
         for _ in 0..rounds {
-            self.round()?;
+            self.round(live)?;
         }
         Ok(())
     }
 
     /// What the last observer in use shows, 0 where there is none.
-    fn last(&self) -> Result<i64, Fault> {
+    fn last(&self, live: &Live) -> Result<i64, Fault> {
         match self.watched.last() {
-            Some(watch) => self.live.shown(watch.observer),
+            Some(watch) => live.shown(watch.observer),
             None => Ok(0),
         }
     }
 
     /// So many rounds, timed.
-    pub fn measure<C: Clock>(&mut self, clock: &C, rounds: u64) -> Result<Tally, Fault> {
+    pub fn measure<C: Clock>(
+        &mut self,
+        live: &mut Live,
+        clock: &C,
+        rounds: u64,
+    ) -> Result<Tally, Fault> {
         let start = begin(clock);
-        self.run(rounds)?;
+        self.run(live, rounds)?;
         let running = since(clock, start);
-        let last = self.last()?;
+        let last = self.last(live)?;
         Ok(Tally {
             running,
-            calls: self.live.calls(),
+            calls: live.calls(),
             last,
             stabilizes: self.stabilizes,
             comparisons: self.comparisons,

@@ -1,18 +1,18 @@
 //! A graph with the nodes and observers that were made.
 ghost use Rattle.std.specs.Prelude.{◌≡◌};
 
-use crate::adapter::StdFunctions;
-use crate::fault::{Fault, of_graph, of_stabilize};
-use graph::{Cutoff, Graph, GraphFault};
-use inc_value::{NodeId, ObsId, Outcome, Value};
+use crate::engine::Engine;
+use crate::fault::Fault;
+use crate::lists::append;
+use inc_value::{NodeId, ObsId};
 use plain_evaluation::Definition;
 use std::alloc::Global;
-use std_library::{Function, StdLib};
+use std_library::Function;
 
 /// A graph over the standard library. Nodes and observers go by the order in which they were made.
 #[derive(Drop)]
 pub struct Live {
-    graph: Graph<StdFunctions>,
+    engine: Engine,
     nodes: Vec<NodeId>,
     observers: Vec<ObsId>,
 }
@@ -36,56 +36,26 @@ fn observer_at(observers: &[ObsId], place: usize) -> ObsId {
     }
 }
 
-/// Keeps the node that was made.
-fn keep_node(nodes: &mut Vec<NodeId>, made: Result<NodeId, GraphFault>) -> Result<(), Fault> {
-    match made {
-        Ok(node) => match nodes.push(node) {
-            Ok(()) => Ok(()),
-            Err(_) => Err(Fault::Memory),
-        },
-        Err(fault) => Err(of_graph(fault)),
-    }
-}
-
-/// Keeps the observer that was made.
-fn keep_observer(observers: &mut Vec<ObsId>, made: Result<ObsId, GraphFault>) -> Result<(), Fault> {
-    match made {
-        Ok(observer) => match observers.push(observer) {
-            Ok(()) => Ok(()),
-            Err(_) => Err(Fault::Memory),
-        },
-        Err(fault) => Err(of_graph(fault)),
-    }
-}
-
-/// The number of an outcome: a truth counts as 1, and its contrary as 0.
-fn number_of(outcome: &Outcome) -> Result<i64, Fault> {
-    match outcome {
-        Outcome::Val(Value::Int(number)) => Ok(*number),
-        Outcome::Val(Value::Bool(true)) => Ok(1),
-        Outcome::Val(Value::Bool(false)) => Ok(0),
-        _ => Err(Fault::Refused),
-    }
-}
-
 impl Live {
     /// A graph without nodes.
     pub fn new(alloc: Global) -> Result<Live, Fault> {
-        match Graph::new(alloc, StdFunctions::new(StdLib::new())) {
-            Ok(graph) => Ok(Live {
-                graph,
-                nodes: Vec::new(alloc),
-                observers: Vec::new(alloc),
-            }),
-            Err(_) => Err(Fault::Memory),
-        }
+        Ok(Live {
+            engine: Engine::new(alloc)?,
+            nodes: Vec::new(alloc),
+            observers: Vec::new(alloc),
+        })
+    }
+
+    /// Gives all memory back.
+    pub fn end(self) {
+        self.engine.end();
     }
 
     /// How many functions were called so far.
     pub fn calls(&self) -> u64
-        ensures { result ≡ self.now.graph.functions.library.calls }
+        ensures { result ≡ self.now.engine }
     {
-        self.graph.functions().library().calls()
+        self.engine.calls()
     }
 
     /// How many nodes were made so far.
@@ -95,14 +65,16 @@ impl Live {
 
     /// Makes a variable with its first value.
     pub fn var(&mut self, value: i64) -> Result<(), Fault> {
-        let made = self.graph.var(Value::Int(value));
-        keep_node(&mut self.nodes, made)
+        let node = self.engine.var(value)?;
+        append(&mut self.nodes, node)?;
+        Ok(())
     }
 
     /// Makes a node that applies a function to nodes.
     fn map(&mut self, function: Function, kids: &[NodeId]) -> Result<(), Fault> {
-        let made = self.graph.map(function.reference(), kids);
-        keep_node(&mut self.nodes, made)
+        let node = self.engine.map(function, kids)?;
+        append(&mut self.nodes, node)?;
+        Ok(())
     }
 
     /// Makes the negation of a node.
@@ -135,10 +107,9 @@ impl Live {
 
     /// Makes the sum of all nodes that were made so far, as one fold.
     pub fn sum_all(&mut self) -> Result<(), Fault> {
-        let made = self
-            .graph
-            .fold(Function::Add.reference(), Value::Int(0), &self.nodes);
-        keep_node(&mut self.nodes, made)
+        let node = self.engine.sum(&self.nodes)?;
+        append(&mut self.nodes, node)?;
+        Ok(())
     }
 
     /// Makes what the definition says.
@@ -154,52 +125,33 @@ impl Live {
 
     /// Observes a node.
     pub fn observe(&mut self, place: usize) -> Result<(), Fault> {
-        let node = node_at(&self.nodes, place);
-        let made = self.graph.observe(node);
-        keep_observer(&mut self.observers, made)
+        let observer = self.engine.observe(node_at(&self.nodes, place))?;
+        append(&mut self.observers, observer)?;
+        Ok(())
     }
 
     /// Ends an observer.
     pub fn unobserve(&mut self, place: usize) -> Result<(), Fault> {
-        let observer = observer_at(&self.observers, place);
-        match self.graph.unobserve(observer) {
-            Ok(()) => Ok(()),
-            Err(fault) => Err(of_graph(fault)),
-        }
+        self.engine.unobserve(observer_at(&self.observers, place))
     }
 
     /// Gives a variable another value.
     pub fn set(&mut self, place: usize, value: i64) -> Result<(), Fault> {
-        let node = node_at(&self.nodes, place);
-        match self.graph.set_var(node, Value::Int(value)) {
-            Ok(()) => Ok(()),
-            Err(fault) => Err(of_graph(fault)),
-        }
+        self.engine.set(node_at(&self.nodes, place), value)
     }
 
     /// Has a node tell its readers of each outcome, an equal one too.
     pub fn tell_all(&mut self, place: usize) -> Result<(), Fault> {
-        let node = node_at(&self.nodes, place);
-        match self.graph.set_cutoff(node, Cutoff::Never) {
-            Ok(()) => Ok(()),
-            Err(fault) => Err(of_graph(fault)),
-        }
+        self.engine.tell_all(node_at(&self.nodes, place))
     }
 
     /// Brings what is observed up to date.
     pub fn stabilize(&mut self) -> Result<(), Fault> {
-        match self.graph.stabilize() {
-            Ok(()) => Ok(()),
-            Err(fault) => Err(of_stabilize(fault)),
-        }
+        self.engine.stabilize()
     }
 
     /// What an observer shows.
     pub fn shown(&self, place: usize) -> Result<i64, Fault> {
-        let observer = observer_at(&self.observers, place);
-        match self.graph.value(observer) {
-            Ok(outcome) => number_of(outcome),
-            Err(fault) => Err(of_graph(fault)),
-        }
+        self.engine.shown(observer_at(&self.observers, place))
     }
 }

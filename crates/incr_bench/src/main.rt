@@ -5,6 +5,7 @@
 mod adapter;
 mod campaign;
 mod clock;
+mod engine;
 mod fault;
 mod generator;
 mod job;

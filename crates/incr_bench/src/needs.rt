@@ -19,13 +19,6 @@ pub struct Ends {
     pub after: u64,
 }
 
-/// One variable under negations, and the order in which their observers are ended.
-#[derive(Drop)]
-pub struct Needs {
-    live: Live,
-    order: Vec<usize>,
-}
-
 /// The numbers below a count.
 fn numbers(alloc: Global, count: usize) -> Result<Vec<usize>, AllocError> {
     let mut all = Vec::new(alloc);
@@ -46,70 +39,76 @@ fn shuffle(items: &mut [usize]) {
     }
 }
 
-impl Needs {
-    /// A graph of one variable under so many negations, not observed.
-    pub fn new(alloc: Global, size: usize) -> Result<Needs, Fault> {
-        let mut live = Live::new(alloc)?;
-        star(&mut live, size)?;
-        let mut order = numbers(alloc, size)?;
-        shuffle(&mut order);
-        Ok(Needs { live, order })
-    }
+/// Makes one variable under so many negations, not observed. The answer is the order in which their observers end.
+pub fn build(alloc: Global, live: &mut Live, size: usize) -> Result<Vec<usize>, Fault> {
+    star(live, size)?;
+    let mut order = numbers(alloc, size)?;
+    shuffle(&mut order);
+    Ok(order)
+}
 
-    /// Observes each negation. The answer is the time.
-    fn observe<C: Clock>(&mut self, clock: &C) -> Result<u64, Fault> {
-        let start = begin(clock);
-        observe_all(&mut self.live, 1, self.order.len())?;
-        Ok(since(clock, start))
-    }
+/// Observes so many negations. The answer is the time.
+fn observe<C: Clock>(live: &mut Live, clock: &C, size: usize) -> Result<u64, Fault> {
+    let start = begin(clock);
+    observe_all(live, 1, size)?;
+    Ok(since(clock, start))
+}
 
-    /// Brings what is observed up to date. The answer is the time.
-    fn stabilize<C: Clock>(&mut self, clock: &C) -> Result<u64, Fault> {
-        let start = begin(clock);
-        self.live.stabilize()?;
-        Ok(since(clock, start))
-    }
+/// Brings what is observed up to date. The answer is the time.
+fn stabilize<C: Clock>(live: &mut Live, clock: &C) -> Result<u64, Fault> {
+    let start = begin(clock);
+    live.stabilize()?;
+    Ok(since(clock, start))
+}
 
-    /// Ends each observer, in another order. The answer is the time.
-    fn end<C: Clock>(&mut self, clock: &C) -> Result<u64, Fault> {
-        let start = begin(clock);
-        for place in &self.order {
-            self.live.unobserve(*place)?;
-        }
-        Ok(since(clock, start))
+/// Ends each observer, in the order. The answer is the time.
+fn end<C: Clock>(live: &mut Live, clock: &C, order: &[usize]) -> Result<u64, Fault> {
+    let start = begin(clock);
+    for place in order {
+        live.unobserve(*place)?;
     }
+    Ok(since(clock, start))
+}
 
-    /// Changes the variable, which is needed no more, and stabilizes. The answer is how many functions were called
-    /// for it.
-    fn change(&mut self) -> Result<u64, Fault> {
-        let before = self.live.calls();
-        change(&mut self.live, 0, 2)?;
-        Ok(self.live.calls().saturating_sub(before))
-    }
+/// Changes the variable, which is needed no more, and stabilizes. The answer is how many functions were called for it.
+fn change_unneeded(live: &mut Live) -> Result<u64, Fault> {
+    let before = live.calls();
+    change(live, 0, 2)?;
+    Ok(live.calls().saturating_sub(before))
+}
 
-    /// Ends each observer and changes the variable.
-    fn finish<C: Clock>(&mut self, clock: &C, ends: Ends) -> Result<Ends, Fault> {
-        let ending = self.end(clock)?;
-        let after = self.change()?;
-        Ok(Ends {
-            ending,
-            after,
-            ..ends
-        })
-    }
+/// Ends each observer and changes the variable.
+fn finish<C: Clock>(
+    live: &mut Live,
+    clock: &C,
+    order: &[usize],
+    ends: Ends,
+) -> Result<Ends, Fault> {
+    let ending = end(live, clock, order)?;
+    let after = change_unneeded(live)?;
+    Ok(Ends {
+        ending,
+        after,
+        ..ends
+    })
+}
 
-    /// Observes each negation, stabilizes and ends each observer.
-    pub fn measure<C: Clock>(&mut self, clock: &C, building: u64) -> Result<Ends, Fault> {
-        let observing = self.observe(clock)?;
-        let stabilizing = self.stabilize(clock)?;
-        let ends = Ends {
-            building,
-            observing,
-            stabilizing,
-            ending: 0,
-            calls: self.live.calls(),
-            after: 0,
-        };
-        self.finish(clock, ends)
-    }
+/// Observes each negation, stabilizes and ends each observer, in the order.
+pub fn measure<C: Clock>(
+    live: &mut Live,
+    clock: &C,
+    order: &[usize],
+    building: u64,
+) -> Result<Ends, Fault> {
+    let observing = observe(live, clock, order.len())?;
+    let stabilizing = stabilize(live, clock)?;
+    let ends = Ends {
+        building,
+        observing,
+        stabilizing,
+        ending: 0,
+        calls: live.calls(),
+        after: 0,
+    };
+    finish(live, clock, order, ends)
 }

@@ -6,7 +6,8 @@ use crate::campaign::{Campaign, Tally};
 use crate::clock::{begin, since};
 use crate::fault::Fault;
 use crate::job::{Job, Shape};
-use crate::needs::{Ends, Needs};
+use crate::live::Live;
+use crate::needs::{Ends, build, measure};
 use crate::report::{tell_ends, tell_rounds, tell_tally};
 use crate::shapes::{Rounds, Steady};
 use script_io::Sink;
@@ -14,32 +15,43 @@ use std::alloc::Global;
 use std::time::Clock;
 
 /// Builds a graph and runs rounds over it.
-fn measure_rounds<C: Clock>(alloc: Global, clock: &C, job: Job) -> Result<Rounds, Fault>
+fn measure_rounds<C: Clock>(live: &mut Live, clock: &C, job: Job) -> Result<Rounds, Fault>
     requires { IsWithin job }
 {
     let start = begin(clock);
-    let mut steady = Steady::new(alloc, job.shape, job.size)?;
+    let steady = Steady::new(live, job.shape, job.size)?;
     let building = since(clock, start);
-    steady.measure(clock, job.rounds, building)
+    steady.measure(live, clock, job.rounds, building)
 }
 
 /// Builds a graph by chance and runs rounds over it.
-fn measure_tally<C: Clock>(alloc: Global, clock: &C, job: Job) -> Result<Tally, Fault> {
-    let mut campaign = Campaign::new(alloc, job.size)?;
-    campaign.measure(clock, job.rounds)
+fn measure_tally<C: Clock>(
+    alloc: Global,
+    live: &mut Live,
+    clock: &C,
+    job: Job,
+) -> Result<Tally, Fault> {
+    let mut campaign = Campaign::new(alloc, live, job.size)?;
+    campaign.measure(live, clock, job.rounds)
 }
 
 /// Makes and ends observers.
-fn measure_ends<C: Clock>(alloc: Global, clock: &C, job: Job) -> Result<Ends, Fault> {
+fn measure_ends<C: Clock>(
+    alloc: Global,
+    live: &mut Live,
+    clock: &C,
+    job: Job,
+) -> Result<Ends, Fault> {
     let start = begin(clock);
-    let mut needs = Needs::new(alloc, job.size)?;
+    let order = build(alloc, live, job.size)?;
     let building = since(clock, start);
-    needs.measure(clock, building)
+    measure(live, clock, &order, building)
 }
 
 /// Measures rounds, and tells them.
 fn rounds<C: Clock, K: Sink, N: Sink>(
     alloc: Global,
+    live: &mut Live,
     clock: &C,
     job: Job,
     out: &mut K,
@@ -47,35 +59,56 @@ fn rounds<C: Clock, K: Sink, N: Sink>(
 ) -> Result<(), Fault>
     requires { IsWithin job }
 {
-    let rounds = measure_rounds(alloc, clock, job)?;
+    let rounds = measure_rounds(live, clock, job)?;
     tell_rounds(alloc, out, notes, job, rounds)
 }
 
 /// Measures a campaign, and tells it.
 fn tally<C: Clock, K: Sink, N: Sink>(
     alloc: Global,
+    live: &mut Live,
     clock: &C,
     job: Job,
     out: &mut K,
     notes: &mut N,
 ) -> Result<(), Fault> {
-    let tally = measure_tally(alloc, clock, job)?;
+    let tally = measure_tally(alloc, live, clock, job)?;
     tell_tally(alloc, out, notes, job, tally)
 }
 
 /// Measures how observers are made and ended, and tells it.
 fn ends<C: Clock, K: Sink, N: Sink>(
     alloc: Global,
+    live: &mut Live,
     clock: &C,
     job: Job,
     out: &mut K,
     notes: &mut N,
 ) -> Result<(), Fault> {
-    let ends = measure_ends(alloc, clock, job)?;
+    let ends = measure_ends(alloc, live, clock, job)?;
     tell_ends(alloc, out, notes, job, ends)
 }
 
-/// Does what the words ask for.
+/// Does what the words ask for over a graph without nodes.
+fn run_over<C: Clock, K: Sink, N: Sink>(
+    alloc: Global,
+    live: &mut Live,
+    clock: &C,
+    job: Job,
+    out: &mut K,
+    notes: &mut N,
+) -> Result<(), Fault>
+    requires { IsWithin job }
+{
+    match job.shape {
+        Shape::Random => tally(alloc, live, clock, job, out, notes),
+        Shape::Needs => ends(alloc, live, clock, job, out, notes),
+        _ => rounds(alloc, live, clock, job, out, notes),
+    }
+}
+
+/// Does what the words ask for. A graph is owned here alone and ended by a call: a function that drops one has each of
+/// the graph's lists in its proof.
 fn run<C: Clock, K: Sink, N: Sink>(
     alloc: Global,
     clock: &C,
@@ -85,11 +118,10 @@ fn run<C: Clock, K: Sink, N: Sink>(
 ) -> Result<(), Fault>
     requires { IsWithin job }
 {
-    match job.shape {
-        Shape::Random => tally(alloc, clock, job, out, notes),
-        Shape::Needs => ends(alloc, clock, job, out, notes),
-        _ => rounds(alloc, clock, job, out, notes),
-    }
+    let mut live = Live::new(alloc)?;
+    let done = run_over(alloc, &mut live, clock, job, out, notes);
+    live.end();
+    done
 }
 
 /// Does what the words ask for. The answer is the status.

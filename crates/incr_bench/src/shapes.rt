@@ -5,7 +5,6 @@ use crate::clock::{begin, since};
 use crate::fault::Fault;
 use crate::job::Shape;
 use crate::live::Live;
-use std::alloc::Global;
 use std::time::Clock;
 
 /// How many negations the chain has that changes beside nodes at rest.
@@ -20,11 +19,10 @@ pub struct Rounds {
     pub last: i64,
 }
 
-/// A stabilized graph, in which the first `variables` nodes take turns as the variable that a round changes, and
-/// which tells the observer `told` at the end.
-#[derive(Drop)]
+/// Of a stabilized graph, how many of the first nodes take turns as the variable that a round changes, and the observer
+/// that is told at the end.
+#[derive(Clone, Copy)]
 pub struct Steady {
-    live: Live,
     variables: usize,
     told: usize,
 }
@@ -209,50 +207,49 @@ pub fn change(live: &mut Live, place: usize, value: i64) -> Result<(), Fault> {
 }
 
 impl Steady {
-    /// A stabilized graph of a shape.
-    pub fn new(alloc: Global, shape: Shape, size: usize) -> Result<Steady, Fault>
+    /// Makes a graph of a shape, where there are no nodes, and stabilizes it.
+    pub fn new(live: &mut Live, shape: Shape, size: usize) -> Result<Steady, Fault>
         requires small { size ≤ 1000000 }
         requires some { 0 < size }
     {
-        let mut live = Live::new(alloc)?;
-        fill(&mut live, shape, size)?;
+        fill(live, shape, size)?;
         live.stabilize()?;
         Ok(Steady {
-            live,
             variables: turns(shape, size),
             told: told(shape, size),
         })
     }
 
     /// One round.
-    fn round(&mut self, round: u64) -> Result<(), Fault> {
-        change(&mut self.live, turn(round, self.variables), fresh(round))
+    fn round(self, live: &mut Live, round: u64) -> Result<(), Fault> {
+        change(live, turn(round, self.variables), fresh(round))
     }
 
     /// So many rounds.
-    fn run(&mut self, rounds: u64) -> Result<(), Fault> {
+    fn run(self, live: &mut Live, rounds: u64) -> Result<(), Fault> {
         for round in 0..rounds {
-            self.round(round)?;
+            self.round(live, round)?;
         }
         Ok(())
     }
 
     /// So many rounds, timed.
     pub fn measure<C: Clock>(
-        &mut self,
+        self,
+        live: &mut Live,
         clock: &C,
         rounds: u64,
         building: u64,
     ) -> Result<Rounds, Fault> {
-        let before = self.live.calls();
+        let before = live.calls();
         let start = begin(clock);
-        self.run(rounds)?;
+        self.run(live, rounds)?;
         let running = since(clock, start);
-        let last = self.live.shown(self.told)?;
+        let last = live.shown(self.told)?;
         Ok(Rounds {
             building,
             running,
-            calls: self.live.calls().saturating_sub(before),
+            calls: live.calls().saturating_sub(before),
             last,
         })
     }

@@ -1,0 +1,131 @@
+//! A graph over the standard library, of which callers see the count of calls alone.
+ghost use Rattle.std.specs.Prelude.{◌≡◌, IfOk};
+
+use crate::adapter::StdFunctions;
+use crate::fault::{Fault, of_graph, of_stabilize};
+use graph::{Cutoff, Graph};
+use inc_value::{NodeId, ObsId, Outcome, Value};
+use std::alloc::Global;
+use std::marker::Model;
+use std_library::{Function, StdLib};
+
+/// A graph over the standard library.
+#[derive(Drop)]
+pub struct Engine {
+    graph: Graph<StdFunctions>,
+}
+
+impl Model for Engine {
+    ghost use Rattle.std.specs.Prelude.{ℕ};
+
+    ghost Value = { ℕ };
+
+    ghost view = { λ e. e.graph.functions.library.calls };
+}
+
+/// The number of an outcome: a truth counts as 1, and its contrary as 0.
+fn number_of(outcome: &Outcome) -> Result<i64, Fault> {
+    match outcome {
+        Outcome::Val(Value::Int(number)) => Ok(*number),
+        Outcome::Val(Value::Bool(true)) => Ok(1),
+        Outcome::Val(Value::Bool(false)) => Ok(0),
+        _ => Err(Fault::Refused),
+    }
+}
+
+impl Engine {
+    /// A graph without nodes.
+    pub fn new(alloc: Global) -> Result<Engine, Fault>
+        ensures { IfOk result (λ engine. engine ≡ 0) }
+    {
+        match Graph::new(alloc, StdFunctions::new(StdLib::new())) {
+            Ok(graph) => Ok(Engine { graph }),
+            Err(_) => Err(Fault::Memory),
+        }
+    }
+
+    /// Gives all memory back: the graph's own drop of what it has, as its functions have none.
+    pub fn end(self) {
+        self.graph.into_functions();
+    }
+
+    /// How many functions were called so far.
+    pub fn calls(&self) -> u64
+        ensures { result ≡ self.now }
+    {
+        self.graph.functions().library().calls()
+    }
+
+    /// Makes a variable with its first value.
+    pub fn var(&mut self, value: i64) -> Result<NodeId, Fault> {
+        match self.graph.var(Value::Int(value)) {
+            Ok(node) => Ok(node),
+            Err(fault) => Err(of_graph(fault)),
+        }
+    }
+
+    /// Makes a node that applies a function to nodes.
+    pub fn map(&mut self, function: Function, kids: &[NodeId]) -> Result<NodeId, Fault> {
+        match self.graph.map(function.reference(), kids) {
+            Ok(node) => Ok(node),
+            Err(fault) => Err(of_graph(fault)),
+        }
+    }
+
+    /// Makes the sum of nodes, as one fold.
+    pub fn sum(&mut self, kids: &[NodeId]) -> Result<NodeId, Fault> {
+        let add = Function::Add.reference();
+        match self.graph.fold(add, Value::Int(0), kids) {
+            Ok(node) => Ok(node),
+            Err(fault) => Err(of_graph(fault)),
+        }
+    }
+
+    /// Observes a node.
+    pub fn observe(&mut self, node: NodeId) -> Result<ObsId, Fault> {
+        match self.graph.observe(node) {
+            Ok(observer) => Ok(observer),
+            Err(fault) => Err(of_graph(fault)),
+        }
+    }
+
+    /// Ends an observer.
+    pub fn unobserve(&mut self, observer: ObsId) -> Result<(), Fault> {
+        match self.graph.unobserve(observer) {
+            Ok(()) => Ok(()),
+            Err(fault) => Err(of_graph(fault)),
+        }
+    }
+
+    /// Gives a variable another value.
+    pub fn set(&mut self, node: NodeId, value: i64) -> Result<(), Fault> {
+        match self.graph.set_var(node, Value::Int(value)) {
+            Ok(()) => Ok(()),
+            Err(fault) => Err(of_graph(fault)),
+        }
+    }
+
+    /// Has a node tell its readers of each outcome, an equal one too.
+    pub fn tell_all(&mut self, node: NodeId) -> Result<(), Fault> {
+        match self.graph.set_cutoff(node, Cutoff::Never) {
+            Ok(()) => Ok(()),
+            Err(fault) => Err(of_graph(fault)),
+        }
+    }
+
+    /// Brings what is observed up to date.
+    pub fn stabilize(&mut self) -> Result<(), Fault> {
+        match self.graph.stabilize() {
+            Ok(()) => Ok(()),
+            Err(fault) => Err(of_stabilize(fault)),
+        }
+    }
+
+    /// What an observer shows.
+    pub fn shown(&self, observer: ObsId) -> Result<i64, Fault> {
+        match self.graph.value(observer) {
+            Ok(outcome) => number_of(outcome),
+            Err(fault) => Err(of_graph(fault)),
+        }
+    }
+}
