@@ -107,14 +107,14 @@ module _ (rows : Rows Progress) where
       let first = some_is (value_shown rows n) h.0 in let rest = values_of_all ns h.1 in
       (first.0 ∷ rest.0, (first.1, rest.1))
 
-  all_of_values : (nodes : List NodeId) (values : List Value) → AllZip (ShowsValue rows) nodes values → AllShow rows nodes
+  pub all_of_values : (nodes : List NodeId) (values : List Value) → AllZip (ShowsValue rows) nodes values → AllShow rows nodes
   all_of_values [] [] h = tt
   all_of_values [] (v ∷ vs) h = absurd h
   all_of_values (n ∷ ns) [] h = absurd h
   all_of_values (n ∷ ns) (v ∷ vs) h = (ap is_some h.0, all_of_values ns vs h.1)
 
   -- the values that nodes show
-  filter_is_values : (nodes : List NodeId) (values : List Value) → AllZip (ShowsValue rows) nodes values → filter_map (value_shown rows) nodes ≡ values
+  pub filter_is_values : (nodes : List NodeId) (values : List Value) → AllZip (ShowsValue rows) nodes values → filter_map (value_shown rows) nodes ≡ values
   filter_is_values [] [] h = refl
   filter_is_values [] (v ∷ vs) h = absurd h
   filter_is_values (n ∷ ns) [] h = absurd h

@@ -12,7 +12,7 @@ ghost use Rattle.node_arena.specs.Graph.{AllCallFit};
 ghost use Rattle.node_arena.specs.Meanings.{SameNames, KeepsKnown, SameValues};
 ghost use Rattle.stabilize_round.specs.Counts.{RoseBy, RoseAtMost};
 ghost use Rattle.stabilizer.specs.Computing.{Computes, NotComputed, ComputesCall, IsKnown, IsCalled, KeepsAllButCount};
-ghost use Rattle.stabilizer.specs.Computing.{FoldFits, KeepsRest, forced_by};
+ghost use Rattle.stabilizer.specs.Computing.{AllShow, FoldFits, forced_by};
 ghost use Rattle.stabilizer.specs.Row.{IsRewritten, with_call};
 ghost use Rattle.stabilizer.specs.Computing.{ShowsValue, value_shown};
 ghost use Rattle.stabilizer.specs.Kept.{IsKept};
@@ -24,7 +24,6 @@ use crate::work::Work;
 use inc_terms::Def;
 use inc_value::{FnKind, FnRef, NodeId, Outcome, Value};
 use node_arena::{Arena, Functions};
-use smallvec::SmallVec;
 use std::alloc::{AllocError, Global};
 
 /// What a node gives. A map's or a fold's function is called unless it was last called on the same
@@ -130,21 +129,23 @@ fn known_outcome(
 ) -> Result<Option<Outcome>, AllocError>
     ensures { IfOk result (λ o. IsKnown work.now.round work.now.rows node kids.now o) }
 {
-    if !show_values(work, kids) {
-        return Ok(Some(Outcome::Invalid));
-    }
-    if is_forced(work, kids) {
-        return Ok(None);
-    }
     if let Some(last) = work.last_call(node) {
         if show(work, kids, last.arguments) {
+            if is_forced(work, kids) {
+                return Ok(None);
+            }
             return Ok(Some(Outcome::Val(last.result.copy(alloc)?)));
         }
     }
-    Ok(None)
+    if show_values(work, kids) {
+        Ok(None)
+    } else {
+        Ok(Some(Outcome::Invalid))
+    }
 }
 
-/// Calls a map's function on the values that its children show, and keeps the call.
+/// Calls a map's function on the values that its children show, and keeps the call. One or two children have their
+/// values in an array.
 fn call_map<F: Functions>(
     alloc: Global,
     work: &mut Work,
@@ -156,6 +157,7 @@ fn call_map<F: Functions>(
     requires there { Holds work.old.rows (main node) }
     requires known { IsTrue (F.known functions.old f) }
     requires kind { f.id.kind ≡ FnKind.Map }
+    requires shown { AllShow work.old.rows kids.now }
     requires fit { HaveTypes (filter_map (value_shown work.old.rows) kids.now) f.sig.takes }
     ensures called { IfOk result (λ o. IsCalled (F.value functions.old f) f.sig.gives work.old work.new node
         (filter_map (value_shown work.old.rows) kids.now) o 1 (F.calls functions.old) (F.calls functions.new)) }
@@ -166,17 +168,51 @@ fn call_map<F: Functions>(
     ensures known { KeepsKnown (F.known functions.old) (F.known functions.new) }
     ensures values { SameValues (F.value functions.old) (F.value functions.new) }
 {
-    let arguments = values_shown(alloc, work, kids)?;
+    match kids {
+        [kid] => {
+            let arguments = [value_of(alloc, work, *kid)?];
+            call_on(alloc, work, functions, node, f, &arguments)
+        }
+        [first, second] => {
+            let arguments = [
+                value_of(alloc, work, *first)?,
+                value_of(alloc, work, *second)?,
+            ];
+            call_on(alloc, work, functions, node, f, &arguments)
+        }
+        _ => {
+            let arguments = values_shown(alloc, work, kids)?;
+            call_on(alloc, work, functions, node, f, &arguments)
+        }
+    }
+}
+
+/// Calls a map's function on values, and keeps the call.
+fn call_on<F: Functions>(
+    alloc: Global,
+    work: &mut Work,
+    functions: &mut F,
+    node: NodeId,
+    f: FnRef,
+    arguments: &[Value],
+) -> Result<Outcome, Refused>
+    requires there { Holds work.old.rows (main node) }
+    requires known { IsTrue (F.known functions.old f) }
+    requires kind { f.id.kind ≡ FnKind.Map }
+    requires fit { HaveTypes arguments.now f.sig.takes }
+    ensures called { IfOk result (λ o. IsCalled (F.value functions.old f) f.sig.gives work.old work.new node
+        arguments.now o 1 (F.calls functions.old) (F.calls functions.new)) }
+    ensures refused { OnErr result (KeepsAllButCount work.old work.new 1
+        (F.calls functions.old) (F.calls functions.new)) }
+    ensures memory { IfErr result (λ e. e ≡ Refused.Memory) }
+    ensures names { SameNames (F.named functions.old) (F.named functions.new) }
+    ensures known { KeepsKnown (F.known functions.old) (F.known functions.new) }
+    ensures values { SameValues (F.value functions.old) (F.value functions.new) }
+{
     work.ran.reserve(1)?;
-    let value = functions.apply(alloc, f, arguments.as_slice())?;
+    let value = functions.apply(alloc, f, arguments)?;
     let outcome = Outcome::Val(value.copy(alloc)?);
-    keep_map(
-        alloc,
-        &mut work.rows,
-        main_point(node),
-        arguments.as_slice(),
-        value,
-    )?;
+    keep_map(alloc, &mut work.rows, main_point(node), arguments, value)?;
     work.ran.push_reserved(node);
     Ok(outcome)
 }
@@ -207,15 +243,9 @@ fn call_fold<F: Functions>(
 {
     let arguments = values_shown(alloc, work, kids)?;
     work.ran.reserve(1)?;
-    let value = fold(alloc, functions, &f, initial, arguments.as_slice())?;
+    let value = fold(alloc, functions, &f, initial, &arguments)?;
     let outcome = Outcome::Val(value.copy(alloc)?);
-    keep_fold(
-        alloc,
-        &mut work.rows,
-        main_point(node),
-        arguments.as_slice(),
-        value,
-    )?;
+    keep_fold(alloc, &mut work.rows, main_point(node), &arguments, value)?;
     work.ran.push_reserved(node);
     Ok(outcome)
 }
@@ -313,15 +343,19 @@ fn show(work: &Work, nodes: &[NodeId], values: &[Value]) -> bool
     true
 }
 
-/// Copies of the values that the nodes show. Two values that are no texts take no memory.
-fn values_shown(
-    alloc: Global,
-    work: &Work,
-    nodes: &[NodeId],
-) -> Result<SmallVec<Value, 2>, AllocError>
+/// A copy of the value that a node shows.
+fn value_of(alloc: Global, work: &Work, node: NodeId) -> Result<Value, AllocError>
+    requires { IsSome (value_shown work.now.rows node) }
+    ensures { IfOk result (λ v. ShowsValue work.now.rows node v) }
+{
+    work.value_shown(node).unwrap().copy(alloc)
+}
+
+/// Copies of the values that the nodes show.
+fn values_shown(alloc: Global, work: &Work, nodes: &[NodeId]) -> Result<Vec<Value>, AllocError>
     ensures { IfOk result (λ values. values.items ≡ filter_map (value_shown work.now.rows) nodes.now) }
 {
-    let mut values = SmallVec::with_capacity(alloc, nodes.len())?;
+    let mut values = Vec::with_capacity(alloc, nodes.len())?;
     for node in nodes {
         if let Some(value) = work.value_shown(*node) {
             values.push(value.copy(alloc)?)?;

@@ -94,22 +94,6 @@ pub(crate) fn was_settled(rows: &PointMap<Progress>, p: Point, round: u64) -> bo
     }
 }
 
-/// Whether a point's readers needn't be told of an outcome: it shows just this one already, and its cutoff is Equal.
-pub(crate) fn is_stopped(rows: &PointMap<Progress>, p: Point, outcome: &Outcome) -> bool
-    ensures { IsTrue result ↔ ((k : Row) × (at rows.now p ≡ Some k) × IsStopped k outcome.now) }
-{
-    match rows.get(p) {
-        Some(
-            Progress {
-                outcome: Some(before),
-                cutoff,
-                ..
-            },
-        ) => stops(*cutoff, before, outcome),
-        _ => false,
-    }
-}
-
 /// Gives a point another stage.
 pub(crate) fn set_stage(rows: &mut PointMap<Progress>, p: Point, stage: Stage)
     requires there { Holds rows.old p }
@@ -119,14 +103,33 @@ pub(crate) fn set_stage(rows: &mut PointMap<Progress>, p: Point, stage: Stage)
     row.stage = stage;
 }
 
-/// Gives a point another outcome, settled in this round.
-pub(crate) fn set_outcome(rows: &mut PointMap<Progress>, p: Point, outcome: Outcome, round: u64)
+/// Whether a point's readers needn't be told of an outcome: it shows just this one already, and its cutoff is Equal.
+fn is_stopped(row: &Progress, outcome: &Outcome) -> bool
+    ensures { IsTrue result ↔ IsStopped row.now outcome.now }
+{
+    match &row.outcome {
+        Some(before) => stops(row.cutoff, before, outcome),
+        None => false,
+    }
+}
+
+/// Gives a point another outcome, settled in this round. The answer is whether its readers needn't be told: it showed
+/// just this one before, and its cutoff is Equal.
+pub(crate) fn set_outcome(
+    rows: &mut PointMap<Progress>,
+    p: Point,
+    outcome: Outcome,
+    round: u64,
+) -> bool
     requires there { Holds rows.old p }
-    ensures { IsRewritten rows.old rows.new p (with_outcome outcome round) }
+    ensures rewritten { IsRewritten rows.old rows.new p (with_outcome outcome round) }
+    ensures stopped { IsTrue result ↔ ((k : Row) × (at rows.old p ≡ Some k) × IsStopped k outcome) }
 {
     let row = rows.get_mut(p).unwrap();
+    let stopped = is_stopped(row, &outcome);
     row.outcome = Some(outcome);
     row.settled = round;
+    stopped
 }
 
 /// Keeps the last call of a map's function. Without memory all rows stay.

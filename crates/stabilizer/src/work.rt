@@ -13,8 +13,7 @@ ghost use Rattle.stabilizer.specs.Wiring.{KeepsGraph, KeepsRound, IsEnqueued, Ar
 
 use crate::last_call::Called;
 use crate::row::{
-    Progress, Settled, Stage, is_stopped, main_point, set_outcome, set_stage, unsettled,
-    was_settled,
+    Progress, Settled, Stage, main_point, set_outcome, set_stage, unsettled, was_settled,
 };
 use inc_value::{NodeId, Outcome, Point, Value};
 use map_nodes::Cutoff;
@@ -166,9 +165,8 @@ impl Work {
         ensures round { KeepsRound self.old self.new }
         ensures todo { self.new.todo ≡ self.old.todo }
     {
-        let stops = is_stopped(&self.rows, p, &outcome);
-        set_outcome(&mut self.rows, p, outcome, self.round);
-        if !stops {
+        let stopped = set_outcome(&mut self.rows, p, outcome, self.round);
+        if !stopped {
             self.enqueue_readers(p);
         }
         self.graph.stands();

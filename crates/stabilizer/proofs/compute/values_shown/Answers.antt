@@ -13,7 +13,7 @@ loop-node-preserved c =
           let shown : value_shown rows (get_or nodes i (record { slot = 0; gen_ = 0 })) ≡ Some w.in-Some.value.now =
           sym (rw w.in-Some.is at c.value_shown.ensures) in
           let more = filter_some rows nodes i (record { slot = 0; gen_ = 0 }) w.in-Some.value.now within shown in
-          let pushed = w.in_ok-push.ensures.ok in let copied = w.in_ok-copy.ensures.ok in
+          let pushed = w.in_ok-push.ensures.items in let copied = w.in_ok-copy.ensures.ok in
           cc (more, pushed, copied, w.values-is, c.loop-node.invariant)
       | in_default w ↦
           let shown : value_shown rows (get_or nodes i (record { slot = 0; gen_ = 0 })) ≡ None = sym (rw w.in_default.is at c.value_shown.ensures) in
