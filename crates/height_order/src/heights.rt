@@ -4,7 +4,7 @@ ghost use Rattle.inc_value.specs.declared.node.Point.{Point};
 ghost use Rattle.point_map.specs.Rows.{at, Holds, Changes, KeepsRows};
 ghost use Rattle.link_table.specs.Links.{times, Reads, KeepsLinks, OneLinkMore};
 ghost use Rattle.height_order.specs.Chains.{ReadsWith, IsChain, IsPath, Leads, HasChain, NoRepeats};
-ghost use Rattle.height_order.specs.Levels.{level, Rises, AllLow, IsSound, KeepsPoints, IsExact, Tells};
+ghost use Rattle.height_order.specs.Levels.{level, Rises, AllLow, IsSound, KeepsPoints, IsExact, Tells, IsLevelling};
 ghost use Rattle.height_order.specs.Climbs.{lifted, IsClimbed};
 ghost use Rattle.height_order.specs.Faults.{IfPath, IfOver, UnlessOver};
 
@@ -224,7 +224,7 @@ impl Heights {
         ensures points { KeepsPoints self.old.heights self.new.heights }
         ensures moved { Tells (level self.old.heights) (level self.new.heights) moved.old.items moved.new.items }
     {
-        let mut levels = levelled(self.alloc, &self.links, &self.heights)?;
+        let levels = levelled(self.alloc, &self.links, &self.heights)?;
         let new = Link { reader: p, kid: q };
         let mut lifts = PointMap::new(self.alloc);
         if let Some(path) = climb(self.alloc, &self.links, &levels, new, &mut lifts)? {
@@ -235,7 +235,32 @@ impl Heights {
             adopt(self.alloc, &mut self.heights, levels, moved)?;
             return Err(LinkFault::Over(chain));
         }
-        write_lifts(&mut levels, &lifts);
+        self.link_at(p, q, levels, &lifts, moved)?;
+        Ok(())
+    }
+
+    /// Makes the link where these levels, lifted, fit, and takes them for the heights.
+    fn link_at(
+        &mut self,
+        p: Point,
+        q: Point,
+        mut levels: PointMap<u32>,
+        lifts: &PointMap<Lift>,
+        moved: &mut Vec<Point>,
+    ) -> Result<(), AllocError>
+        requires reader { Holds self.old.heights p }
+        requires kid { Holds self.old.heights q }
+        requires levelling { IsLevelling self.old.heights levels self.old.links }
+        requires climbed { IsClimbed levels self.old.links p q lifts.now }
+        requires low { (x : Point) → Holds lifts.now x → lifted levels lifts.now x ≤ 128 }
+        ensures sound { IsSound self.new.heights self.new.links }
+        ensures linked { OnOk result (OneLinkMore self.old.links self.new.links p q) }
+        ensures err { OnErr result (KeepsLinks self.old.links self.new.links) }
+        ensures kept { OnErr result (self.new.heights ≡ self.old.heights) }
+        ensures points { KeepsPoints self.old.heights self.new.heights }
+        ensures moved { Tells (level self.old.heights) (level self.new.heights) moved.old.items moved.new.items }
+    {
+        write_lifts(&mut levels, lifts);
         let list = changed(self.alloc, &self.heights, &levels)?;
         add_told(&mut self.links, p, q, &list, moved)?;
         self.heights = levels;

@@ -106,7 +106,7 @@ fn carry_out<L: Library>(
         return refuse_broken(alloc, number, out);
     }
     match check(alloc, line, script.names(), script.library()) {
-        Ok(command) => perform(alloc, script, command, out),
+        Ok(command) => perform(alloc, script, &command, out),
         Err(CheckFault::Refusal(number)) => refuse(alloc, number, out),
         Err(CheckFault::Memory) => Err(AllocError),
     }
@@ -116,20 +116,20 @@ fn carry_out<L: Library>(
 fn perform<L: Library>(
     alloc: Global,
     script: &mut Script<L>,
-    command: Command,
+    command: &Command,
     out: &mut Vec<u8>,
 ) -> Result<Did, AllocError>
     requires count { script.old.kept.accepted + 1 < 2 ^ 64 }
     requires ids { (arena_of script.old.kept).given + 2 ^ 20 < 2 ^ 64 - 1 }
     requires observers { length script.old.kept.graph.observers < 2 ^ 32 - 1 }
     requires unbroken { script.old.kept.broken ≡ None }
-    requires fits { FitsNames (L.known script.old.library) script.old.kept.names (command_view command) }
+    requires fits { FitsNames (L.known script.old.library) script.old.kept.names (command_view command.now) }
 
     ensures followed { let F = meanings_of (L.named script.old.library) (L.value script.old.library) in
         IfOk result (λ how. (m : Moment) → Stands F script.old.kept m
-        → IsAnswered F m (Follows F m (verdict_on m (command_view command))) script.new.kept out.old.items out.new.items (L.calls script.old.library) (L.calls script.new.library) how) }
+        → IsAnswered F m (Follows F m (verdict_on m (command_view command.now))) script.new.kept out.old.items out.new.items (L.calls script.old.library) (L.calls script.new.library) how) }
     ensures stopped { let F = meanings_of (L.named script.old.library) (L.value script.old.library) in
-        OnErr result ((m : Moment) (bytes : List ℕ) → Stands F script.old.kept m → (command_view command ≡ Stabilize → AsksStabilize bytes)
+        OnErr result ((m : Moment) (bytes : List ℕ) → Stands F script.old.kept m → (command_view command.now ≡ Stabilize → AsksStabilize bytes)
         → Stops F m bytes script.new.kept (L.calls script.old.library) (L.calls script.new.library)) }
     ensures extended { OnErr result (Extends out.old.items out.new.items) }
     ensures accepted { script.new.kept.accepted ≤ script.old.kept.accepted + 1 }
@@ -137,13 +137,13 @@ fn perform<L: Library>(
     ensures observers { length script.new.kept.graph.observers ≤ length script.old.kept.graph.observers + 1 }
     ensures keeps_known { (f : AFunction) → IsTrue (L.known script.old.library f) → IsTrue (L.known script.new.library f) }
     ensures calls_grow { L.calls script.old.library ≤ L.calls script.new.library }
-    ensures library { (command_view command ≡ Stabilize → ⊥) → script.new.library ≡ script.old.library }
+    ensures library { (command_view command.now ≡ Stabilize → ⊥) → script.new.library ≡ script.old.library }
     ensures kept { IfOk result (λ how. KeepsUnlessAccepted how script.old.kept script.new.kept) }
     ensures functions { meanings_of (L.named script.new.library) (L.value script.new.library) ≡ meanings_of (L.named script.old.library) (L.value script.old.library) }
 {
-    match &command {
+    match command {
         Command::Declare { name, ty, body } => {
-            declare(alloc, script, &command, name.bytes(), *ty, body, out)
+            declare(alloc, script, command, name.bytes(), *ty, body, out)
         }
         Command::Assign { target, value } => set(alloc, script, *target, value, out),
         Command::Observe { observer, target } => observe(script, observer.bytes(), *target, out),

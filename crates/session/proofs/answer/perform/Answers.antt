@@ -52,7 +52,7 @@ returns-in-Declare-clause-followed g c =
     let new = c.declare.new.script in
     let is = ap (λ (n : List ℕ). Declare n c.in-Declare.ty (body_view c.in-Declare.body)) c.bytes.ensures ∙ ap command_view (sym c.in-Declare.is) in
     ok_from c.declare.result _ _ c.declare.ensures.followed (λ how followed m st.
-    subst (λ (x : g.row.L.Denot). IsAnswered F m (Follows F m (verdict_on m (command_view c.args.command))) new.kept c.args.out.now.items
+    subst (λ (x : g.row.L.Denot). IsAnswered F m (Follows F m (verdict_on m (command_view c.args.command.now))) new.kept c.args.out.now.items
     c.declare.new.out.items (g.L.Library.calls l) (g.L.Library.calls x) how) (sym c.declare.ensures.library)
     (subst (λ (x : Command). IsAnswered F m (Follows F m (verdict_on m x)) new.kept c.args.out.now.items c.declare.new.out.items
     (g.L.Library.calls l) (g.L.Library.calls l) how) is (followed m (g.L.Library.calls l) st)))
@@ -64,7 +64,7 @@ returns-in-Assign-clause-followed g c =
     let new = c.set.new.script in
     let is = ap command_view (sym c.in-Assign.is) in
     ok_from c.set.result _ _ c.set.ensures.followed (λ how followed m st.
-    subst (λ (x : g.row.L.Denot). IsAnswered F m (Follows F m (verdict_on m (command_view c.args.command))) new.kept c.args.out.now.items
+    subst (λ (x : g.row.L.Denot). IsAnswered F m (Follows F m (verdict_on m (command_view c.args.command.now))) new.kept c.args.out.now.items
     c.set.new.out.items (g.L.Library.calls l) (g.L.Library.calls x) how) (sym c.set.ensures.library)
     (subst (λ (x : Command). IsAnswered F m (Follows F m (verdict_on m x)) new.kept c.args.out.now.items c.set.new.out.items
     (g.L.Library.calls l) (g.L.Library.calls l) how) is (followed m (g.L.Library.calls l) st)))
@@ -76,7 +76,7 @@ returns-in-Observe-clause-followed g c =
     let new = c.observe.new.script in
     let is = ap (λ (n : List ℕ). Observe n c.in-Observe.target) c.bytes-in-Observe.ensures ∙ ap command_view (sym c.in-Observe.is) in
     ok_from c.observe.result _ _ c.observe.ensures.followed (λ how followed m st.
-    subst (λ (x : g.row.L.Denot). IsAnswered F m (Follows F m (verdict_on m (command_view c.args.command))) new.kept c.args.out.now.items
+    subst (λ (x : g.row.L.Denot). IsAnswered F m (Follows F m (verdict_on m (command_view c.args.command.now))) new.kept c.args.out.now.items
     c.observe.new.out.items (g.L.Library.calls l) (g.L.Library.calls x) how) (sym c.observe.ensures.library)
     (subst (λ (x : Command). IsAnswered F m (Follows F m (verdict_on m x)) new.kept c.args.out.now.items c.observe.new.out.items
     (g.L.Library.calls l) (g.L.Library.calls l) how) is (followed F m (g.L.Library.calls l) st)))
@@ -88,7 +88,7 @@ returns-in-Unobserve-clause-followed g c =
     let new = c.unobserve.new.script in
     let is = ap (λ (n : List ℕ). Unobserve n) c.bytes-in-Unobserve.ensures ∙ ap command_view (sym c.in-Unobserve.is) in
     ok_from c.unobserve.result _ _ c.unobserve.ensures.followed (λ how followed m st.
-    subst (λ (x : g.row.L.Denot). IsAnswered F m (Follows F m (verdict_on m (command_view c.args.command))) new.kept c.args.out.now.items
+    subst (λ (x : g.row.L.Denot). IsAnswered F m (Follows F m (verdict_on m (command_view c.args.command.now))) new.kept c.args.out.now.items
     c.unobserve.new.out.items (g.L.Library.calls l) (g.L.Library.calls x) how) (sym c.unobserve.ensures.library)
     (subst (λ (x : Command). IsAnswered F m (Follows F m (verdict_on m x)) new.kept c.args.out.now.items c.unobserve.new.out.items
     (g.L.Library.calls l) (g.L.Library.calls l) how) is (followed F m (g.L.Library.calls l) st)))
@@ -102,8 +102,8 @@ returns-in-Stabilize-clause-followed g c =
     subst (λ (x : Command). IsAnswered F m (Follows F m (verdict_on m x)) new.kept c.args.out.now.items c.stabilize.new.out.items
     (g.L.Library.calls l) (g.L.Library.calls new.library) how) (ap command_view (sym c.in-Stabilize.is)) (followed m st))
 
-pub returns-clause-followed : goal.returns-clause-followed
-returns-clause-followed g c =
+pub returns-in-Show-clause-followed : goal.returns-in-Show-clause-followed
+returns-in-Show-clause-followed g c =
     let l = c.args.script.now.library in
     let F = meanings_of (g.L.Library.named l) (g.L.Library.value l) in
     let is = ap (λ (n : List ℕ). Show n) c.bytes-in-Show.ensures ∙ ap command_view (sym c.in-Show.is) in
@@ -111,8 +111,8 @@ returns-clause-followed g c =
     subst (λ (x : Command). IsAnswered F m (Follows F m (verdict_on m x)) c.args.script.now.kept c.args.out.now.items c.show.new.out.items
     (g.L.Library.calls l) (g.L.Library.calls l) how) is (followed F m (g.L.Library.calls l) st))
 
-pub returns-clause-stopped : goal.returns-clause-stopped
-returns-clause-stopped g c =
+pub returns-in-Show-clause-stopped : goal.returns-in-Show-clause-stopped
+returns-in-Show-clause-stopped g c =
     let l = c.args.script.now.library in
     err_from c.show.result c.show.ensures.extended (λ more m bytes st asks.
     stops_standing (meanings_of (g.L.Library.named l) (g.L.Library.value l)) c.args.script.now.kept m bytes (g.L.Library.calls l) st)
