@@ -58,23 +58,3 @@ impl LastFold {
         self.kids.stale_by_args(kids)
     }
 }
-
-#[cfg(test)]
-mod tests {
-    use super::*;
-    use std::test::Fail;
-
-    #[test]
-    fn keeps_the_values_of_many_kids(rt: HostRuntime) -> Result<(), Fail> {
-        let mut last = LastFold::new(rt.alloc());
-        let mut kids = [Value::Int(0), Value::Int(1), Value::Int(2), Value::Int(3)];
-        for i in 0..4 {
-            kids[i] = Value::Bool(true);
-            assert!(rt; last.stale_by_kids(&kids), "before {kids:?}");
-            last.keep(&kids)?;
-            assert!(rt; !last.stale_by_kids(&kids), "after {kids:?}");
-        }
-        assert!(rt; last.stale_by_kids(&kids[..3]));
-        Ok(())
-    }
-}

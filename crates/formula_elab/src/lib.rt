@@ -17,6 +17,3 @@ pub use laws::{
 pub use lay::elaborate;
 pub use make::{Made, Make};
 pub use plan::Plan;
-
-#[cfg(test)]
-mod tests;

@@ -94,6 +94,203 @@ enum Act {
     Points,
 }
 
+/// A diamond, whose nodes are run once each.
+const DIAMOND: &[(Act, i64)] = &[
+    (Act::Var(2), 0),
+    (Act::Neg(0), 0),
+    (Act::Neg(0), 0),
+    (Act::Sum(1, 2), 0),
+    (Act::Observe(3), 0),
+    (Act::Show(0), -105),
+    (Act::Stabilize, 3),
+    (Act::Calls, 3),
+    (Act::Set(0, 3), 0),
+    (Act::Show(0), -4),
+    (Act::Stabilize, 3),
+    (Act::Show(0), -6),
+    (Act::Calls, 6),
+    (Act::Ran(0), 0),
+    (Act::Ran(1), 1),
+    (Act::Ran(2), 1),
+    (Act::Ran(3), 1),
+    (Act::Stabilize, 0),
+    (Act::Set(0, 3), 0),
+    (Act::Stabilize, 0),
+    (Act::Calls, 6),
+];
+
+/// What is not observed is not run.
+const UNOBSERVED: &[(Act, i64)] = &[
+    (Act::Var(3), 0),
+    (Act::Neg(0), 0),
+    (Act::Observe(1), 0),
+    (Act::Stabilize, 1),
+    (Act::Unobserve(0), 0),
+    (Act::Show(0), -102),
+    (Act::Set(0, 9), 0),
+    (Act::Stabilize, 0),
+    (Act::Observe(1), 0),
+    (Act::Stabilize, 1),
+    (Act::Show(1), -9),
+    (Act::Set(1, 4), -103),
+    (Act::Observe(7), 0),
+];
+
+/// What is taken back is dead.
+const TAKEN_BACK: &[(Act, i64)] = &[
+    (Act::Var(2), 0),
+    (Act::Neg(0), 0),
+    (Act::TakeBack(1), 0),
+    (Act::Live(0), 1),
+    (Act::Live(1), 1),
+    (Act::Live(2), 0),
+    (Act::Live(3), 0),
+    (Act::Owner(3), 0),
+    (Act::Set(2, 1), -103),
+    (Act::Var(5), 0),
+    (Act::Live(4), 1),
+    (Act::Observe(1), 0),
+    (Act::Observe(2), 0),
+    (Act::Stabilize, 1),
+    (Act::Show(0), -2),
+    (Act::Show(1), -109),
+];
+
+/// A fold is called once a child.
+const FOLD: &[(Act, i64)] = &[
+    (Act::Var(1), 0),
+    (Act::Var(2), 0),
+    (Act::Var(4), 0),
+    (Act::Fold(10, 0, 1, 2), 0),
+    (Act::Observe(3), 0),
+    (Act::Stabilize, 1),
+    (Act::Show(0), 17),
+    (Act::Calls, 3),
+    (Act::Set(1, 5), 0),
+    (Act::Stabilize, 1),
+    (Act::Show(0), 20),
+    (Act::Calls, 6),
+    (Act::Ran(3), 1),
+    (Act::Set(1, 5), 0),
+    (Act::Stabilize, 0),
+    (Act::Calls, 6),
+];
+
+/// A fold without children calls nothing.
+const EMPTY_FOLD: &[(Act, i64)] = &[
+    (Act::FoldNone(7), 0),
+    (Act::Observe(0), 0),
+    (Act::Stabilize, 1),
+    (Act::Show(0), 7),
+    (Act::Calls, 0),
+    (Act::Stabilize, 0),
+    (Act::Show(0), 7),
+    (Act::Calls, 0),
+];
+
+/// A fold over a dead node is invalid.
+const FOLD_OVER_DEAD: &[(Act, i64)] = &[
+    (Act::Var(1), 0),
+    (Act::TakeBack(0), 0),
+    (Act::Fold(10, 0, 1, 0), 0),
+    (Act::Observe(3), 0),
+    (Act::Stabilize, 0),
+    (Act::Show(0), -109),
+    (Act::Calls, 0),
+];
+
+/// A cutoff of Never stops nothing.
+const NEVER: &[(Act, i64)] = &[
+    (Act::Var(3), 0),
+    (Act::Var(5), 0),
+    (Act::Sum(0, 1), 0),
+    (Act::Neg(2), 0),
+    (Act::Observe(3), 0),
+    (Act::Stabilize, 2),
+    (Act::Never(2), 0),
+    (Act::Stabilize, 0),
+    (Act::Set(0, 5), 0),
+    (Act::Set(1, 3), 0),
+    (Act::Stabilize, 2),
+    (Act::Ran(2), 1),
+    (Act::Ran(3), 1),
+    (Act::Show(0), -8),
+    (Act::Calls, 4),
+    (Act::Equal(2), 0),
+    (Act::Set(0, 3), 0),
+    (Act::Set(1, 5), 0),
+    (Act::Stabilize, 1),
+    (Act::Ran(2), 1),
+    (Act::Ran(3), 0),
+    (Act::Calls, 5),
+];
+
+/// A variable of cutoff Never is told of the same value.
+const NEVER_OF_A_VARIABLE: &[(Act, i64)] = &[
+    (Act::Var(1), 0),
+    (Act::Var(2), 0),
+    (Act::Fold(10, 0, 1, 0), 0),
+    (Act::Neg(2), 0),
+    (Act::Observe(3), 0),
+    (Act::Never(1), 0),
+    (Act::Stabilize, 2),
+    (Act::Calls, 4),
+    (Act::Set(1, 2), 0),
+    (Act::Stabilize, 1),
+    (Act::Ran(2), 1),
+    (Act::Ran(3), 0),
+    (Act::Calls, 7),
+    (Act::Set(0, 1), 0),
+    (Act::Stabilize, 0),
+    (Act::Calls, 7),
+];
+
+/// A dead node has no cutoff.
+const DEAD_CUTOFF: &[(Act, i64)] = &[
+    (Act::Var(1), 0),
+    (Act::TakeBack(0), 0),
+    (Act::Never(1), 0),
+    (Act::Neg(1), 0),
+    (Act::Observe(3), 0),
+    (Act::Stabilize, 0),
+    (Act::Show(0), -109),
+    (Act::Calls, 0),
+];
+
+/// What a chain of 128 negations over a variable answers, observed.
+const CHAIN_THAT_FITS: &[(Act, i64)] = &[
+    (Act::StabilizeOrBack, 128),
+    (Act::Show(0), 1),
+    (Act::Observe(0), 0),
+    (Act::Unobserve(0), 0),
+    (Act::Set(0, 2), 0),
+    (Act::Constant(1), 0),
+    (Act::Var(1), 0),
+    (Act::Neg(0), 0),
+    (Act::TakeBack(0), 0),
+    (Act::Live(0), 1),
+    (Act::Stabilize, 0),
+    (Act::Owner(0), 1),
+    (Act::Points, 0),
+];
+
+/// What a chain of 129 negations over a variable answers, observed.
+const CHAIN_THAT_BREAKS: &[(Act, i64)] = &[
+    (Act::StabilizeOrBack, -112),
+    (Act::Show(0), -101),
+    (Act::Observe(0), -101),
+    (Act::Unobserve(0), -101),
+    (Act::Set(0, 2), -101),
+    (Act::Constant(1), -101),
+    (Act::Var(1), -101),
+    (Act::Neg(0), -101),
+    (Act::TakeBack(0), -101),
+    (Act::Live(0), -101),
+    (Act::Stabilize, -101),
+    (Act::Owner(0), 1),
+    (Act::Points, 130),
+];
+
 /// The sum of two integers.
 fn sum() -> FnRef
     ensures { IsTrue (is_function result) }
@@ -304,281 +501,103 @@ fn perform(graph: &mut Graph<Arithmetic>, nodes: &mut Vec<NodeId>, act: Act) -> 
     }
 }
 
-/// What the acts answer on a new graph, one after the other.
-fn answers(alloc: Global, acts: &[Act]) -> Result<Vec<i64>, AllocError> {
-    let mut numbers = Vec::new(alloc);
-    let Ok(mut graph) = Graph::new(alloc, Arithmetic { calls: 0 }) else {
-        return Err(AllocError);
-    };
-    let mut nodes = Vec::new(alloc);
-    for act in acts {
-        let number = perform(&mut graph, &mut nodes, *act);
-        numbers.push(number)?;
-    }
-    Ok(numbers)
-}
-
-/// A variable with so many negations over it, observed and stabilized; then every call once.
-fn chain(alloc: Global, length: usize) -> Result<Vec<i64>, AllocError> {
-    let mut acts = Vec::new(alloc);
-    acts.push(Act::Var(1))?;
-    for i in 0..length {
-        acts.push(Act::Neg(i))?;
-    }
-    let then = [
-        Act::Observe(length),
-        Act::StabilizeOrBack,
-        Act::Show(0),
-        Act::Observe(0),
-        Act::Unobserve(0),
-        Act::Set(0, 2),
-        Act::Constant(1),
-        Act::Var(1),
-        Act::Neg(0),
-        Act::TakeBack(0),
-        Act::Live(0),
-        Act::Stabilize,
-        Act::Owner(0),
-        Act::Points,
-    ];
-    for act in &then {
-        acts.push(*act)?;
-    }
-    answers(alloc, &acts)
-}
-
-/// Thirteen of the numbers, from a place on. One that isn't there is -1.
-fn thirteen_from(numbers: &[i64], start: usize) -> [i64; 13] {
-    let mut some = [-1; 13];
-    for i in 0..13 {
-        if let Some(number) = numbers.get(start.saturating_add(i)) {
-            some[i] = *number;
+/// The place of the first act that answers another number.
+fn misdone_on(
+    graph: &mut Graph<Arithmetic>,
+    nodes: &mut Vec<NodeId>,
+    acts: &[(Act, i64)],
+) -> Option<usize> {
+    for (place, (act, wanted)) in acts.iter().enumerate() {
+        if perform(graph, nodes, *act) != *wanted {
+            return Some(place);
         }
     }
-    some
+    None
+}
+
+/// The place of the first act that answers another number, of those done to a new graph. The graph is let
+/// go in one place, since each place where it may be costs a proof.
+fn misdone(alloc: Global, acts: &[(Act, i64)]) -> Result<Option<usize>, AllocError> {
+    let mut graph = match Graph::new(alloc, Arithmetic { calls: 0 }) {
+        Ok(graph) => graph,
+        Err((fault, _functions)) => return Err(fault),
+    };
+    let mut nodes = Vec::new(alloc);
+    Ok(misdone_on(&mut graph, &mut nodes, acts))
+}
+
+/// Acts that make a variable with so many negations over it and observe the last one, and what follows.
+fn chain(alloc: Global, length: usize, then: &[(Act, i64)]) -> Result<Vec<(Act, i64)>, AllocError> {
+    let mut acts = Vec::new(alloc);
+    acts.push((Act::Var(1), 0))?;
+    for below in 0..length {
+        acts.push((Act::Neg(below), 0))?;
+    }
+    acts.push((Act::Observe(length), 0))?;
+    acts.extend_from_slice(then)?;
+    Ok(acts)
 }
 
 #[test]
 fn a_diamond_is_run_once_a_node(rt: HostRuntime) -> Result<(), Fail> {
-    let acts = [
-        Act::Var(2),
-        Act::Neg(0),
-        Act::Neg(0),
-        Act::Sum(1, 2),
-        Act::Observe(3),
-        Act::Show(0),
-        Act::Stabilize,
-        Act::Calls,
-        Act::Set(0, 3),
-        Act::Show(0),
-        Act::Stabilize,
-        Act::Show(0),
-        Act::Calls,
-        Act::Ran(0),
-        Act::Ran(1),
-        Act::Ran(2),
-        Act::Ran(3),
-        Act::Stabilize,
-        Act::Set(0, 3),
-        Act::Stabilize,
-        Act::Calls,
-    ];
-    let want = [
-        0, 0, 0, 0, 0, -105, 3, 3, 0, -4, 3, -6, 6, 0, 1, 1, 1, 0, 0, 0, 6,
-    ];
-    assert_eq!(rt; answers(rt.alloc(), &acts)?.as_slice(), want.as_slice());
+    assert_eq!(rt; misdone(rt.alloc(), DIAMOND)?, None);
     Ok(())
 }
 
 #[test]
 fn what_is_not_observed_is_not_run(rt: HostRuntime) -> Result<(), Fail> {
-    let acts = [
-        Act::Var(3),
-        Act::Neg(0),
-        Act::Observe(1),
-        Act::Stabilize,
-        Act::Unobserve(0),
-        Act::Show(0),
-        Act::Set(0, 9),
-        Act::Stabilize,
-        Act::Observe(1),
-        Act::Stabilize,
-        Act::Show(1),
-        Act::Set(1, 4),
-        Act::Observe(7),
-    ];
-    let want = [0, 0, 0, 1, 0, -102, 0, 0, 0, 1, -9, -103, 0];
-    assert_eq!(rt; answers(rt.alloc(), &acts)?.as_slice(), want.as_slice());
-    Ok(())
-}
-
-#[test]
-fn a_chain_of_130_breaks_the_graph(rt: HostRuntime) -> Result<(), Fail> {
-    let fits = chain(rt.alloc(), 128)?;
-    let want = [128, 1, 0, 0, 0, 0, 0, 0, 0, 1, 0, 1, 0];
-    assert_eq!(rt; thirteen_from(&fits, 130), want);
-    let breaks = chain(rt.alloc(), 129)?;
-    let want = [
-        -112, -101, -101, -101, -101, -101, -101, -101, -101, -101, -101, 1, 130,
-    ];
-    assert_eq!(rt; thirteen_from(&breaks, 131), want);
+    assert_eq!(rt; misdone(rt.alloc(), UNOBSERVED)?, None);
     Ok(())
 }
 
 #[test]
 fn what_is_taken_back_is_dead(rt: HostRuntime) -> Result<(), Fail> {
-    let acts = [
-        Act::Var(2),
-        Act::Neg(0),
-        Act::TakeBack(1),
-        Act::Live(0),
-        Act::Live(1),
-        Act::Live(2),
-        Act::Live(3),
-        Act::Owner(3),
-        Act::Set(2, 1),
-        Act::Var(5),
-        Act::Live(4),
-        Act::Observe(1),
-        Act::Observe(2),
-        Act::Stabilize,
-        Act::Show(0),
-        Act::Show(1),
-    ];
-    let want = [0, 0, 0, 1, 1, 0, 0, 0, -103, 0, 1, 0, 0, 1, -2, -109];
-    assert_eq!(rt; answers(rt.alloc(), &acts)?.as_slice(), want.as_slice());
+    assert_eq!(rt; misdone(rt.alloc(), TAKEN_BACK)?, None);
     Ok(())
 }
 
 #[test]
 fn a_fold_is_called_once_a_child(rt: HostRuntime) -> Result<(), Fail> {
-    let acts = [
-        Act::Var(1),
-        Act::Var(2),
-        Act::Var(4),
-        Act::Fold(10, 0, 1, 2),
-        Act::Observe(3),
-        Act::Stabilize,
-        Act::Show(0),
-        Act::Calls,
-        Act::Set(1, 5),
-        Act::Stabilize,
-        Act::Show(0),
-        Act::Calls,
-        Act::Ran(3),
-        Act::Set(1, 5),
-        Act::Stabilize,
-        Act::Calls,
-    ];
-    let want = [0, 0, 0, 0, 0, 1, 17, 3, 0, 1, 20, 6, 1, 0, 0, 6];
-    assert_eq!(rt; answers(rt.alloc(), &acts)?.as_slice(), want.as_slice());
+    assert_eq!(rt; misdone(rt.alloc(), FOLD)?, None);
     Ok(())
 }
 
 #[test]
 fn a_fold_without_children_calls_nothing(rt: HostRuntime) -> Result<(), Fail> {
-    let acts = [
-        Act::FoldNone(7),
-        Act::Observe(0),
-        Act::Stabilize,
-        Act::Show(0),
-        Act::Calls,
-        Act::Stabilize,
-        Act::Show(0),
-        Act::Calls,
-    ];
-    let want = [0, 0, 1, 7, 0, 0, 7, 0];
-    assert_eq!(rt; answers(rt.alloc(), &acts)?.as_slice(), want.as_slice());
+    assert_eq!(rt; misdone(rt.alloc(), EMPTY_FOLD)?, None);
     Ok(())
 }
 
 #[test]
 fn a_fold_over_a_dead_node_is_invalid(rt: HostRuntime) -> Result<(), Fail> {
-    let acts = [
-        Act::Var(1),
-        Act::TakeBack(0),
-        Act::Fold(10, 0, 1, 0),
-        Act::Observe(3),
-        Act::Stabilize,
-        Act::Show(0),
-        Act::Calls,
-    ];
-    let want = [0, 0, 0, 0, 0, -109, 0];
-    assert_eq!(rt; answers(rt.alloc(), &acts)?.as_slice(), want.as_slice());
+    assert_eq!(rt; misdone(rt.alloc(), FOLD_OVER_DEAD)?, None);
     Ok(())
 }
 
 #[test]
 fn a_cutoff_of_never_stops_nothing(rt: HostRuntime) -> Result<(), Fail> {
-    let acts = [
-        Act::Var(3),
-        Act::Var(5),
-        Act::Sum(0, 1),
-        Act::Neg(2),
-        Act::Observe(3),
-        Act::Stabilize,
-        Act::Never(2),
-        Act::Stabilize,
-        Act::Set(0, 5),
-        Act::Set(1, 3),
-        Act::Stabilize,
-        Act::Ran(2),
-        Act::Ran(3),
-        Act::Show(0),
-        Act::Calls,
-        Act::Equal(2),
-        Act::Set(0, 3),
-        Act::Set(1, 5),
-        Act::Stabilize,
-        Act::Ran(2),
-        Act::Ran(3),
-        Act::Calls,
-    ];
-    let want = [
-        0, 0, 0, 0, 0, 2, 0, 0, 0, 0, 2, 1, 1, -8, 4, 0, 0, 0, 1, 1, 0, 5,
-    ];
-    assert_eq!(rt; answers(rt.alloc(), &acts)?.as_slice(), want.as_slice());
+    assert_eq!(rt; misdone(rt.alloc(), NEVER)?, None);
     Ok(())
 }
 
 #[test]
 fn a_variable_of_cutoff_never_is_told_of_the_same_value(rt: HostRuntime) -> Result<(), Fail> {
-    let acts = [
-        Act::Var(1),
-        Act::Var(2),
-        Act::Fold(10, 0, 1, 0),
-        Act::Neg(2),
-        Act::Observe(3),
-        Act::Never(1),
-        Act::Stabilize,
-        Act::Calls,
-        Act::Set(1, 2),
-        Act::Stabilize,
-        Act::Ran(2),
-        Act::Ran(3),
-        Act::Calls,
-        Act::Set(0, 1),
-        Act::Stabilize,
-        Act::Calls,
-    ];
-    let want = [0, 0, 0, 0, 0, 0, 2, 4, 0, 1, 1, 0, 7, 0, 0, 7];
-    assert_eq!(rt; answers(rt.alloc(), &acts)?.as_slice(), want.as_slice());
+    assert_eq!(rt; misdone(rt.alloc(), NEVER_OF_A_VARIABLE)?, None);
     Ok(())
 }
 
 #[test]
 fn a_dead_node_has_no_cutoff(rt: HostRuntime) -> Result<(), Fail> {
-    let acts = [
-        Act::Var(1),
-        Act::TakeBack(0),
-        Act::Never(1),
-        Act::Neg(1),
-        Act::Observe(3),
-        Act::Stabilize,
-        Act::Show(0),
-        Act::Calls,
-    ];
-    let want = [0, 0, 0, 0, 0, 0, -109, 0];
-    assert_eq!(rt; answers(rt.alloc(), &acts)?.as_slice(), want.as_slice());
+    assert_eq!(rt; misdone(rt.alloc(), DEAD_CUTOFF)?, None);
+    Ok(())
+}
+
+#[test]
+fn a_chain_of_130_breaks_the_graph(rt: HostRuntime) -> Result<(), Fail> {
+    let alloc = rt.alloc();
+    let fits = chain(alloc, 128, CHAIN_THAT_FITS)?;
+    assert_eq!(rt; misdone(alloc, &fits)?, None);
+    let breaks = chain(alloc, 129, CHAIN_THAT_BREAKS)?;
+    assert_eq!(rt; misdone(alloc, &breaks)?, None);
     Ok(())
 }

@@ -6,7 +6,5 @@ mod climb;
 mod heights;
 mod levels;
 mod lifts;
-#[cfg(test)]
-mod tests;
 
 pub use heights::{Heights, LinkFault};

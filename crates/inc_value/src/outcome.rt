@@ -52,24 +52,3 @@ impl Outcome {
         }
     }
 }
-
-#[cfg(test)]
-mod tests {
-    use super::*;
-    use std::test::Fail;
-
-    #[test]
-    fn prints_outcomes(rt: HostRuntime) -> Result<(), Fail> {
-        let alloc = rt.alloc();
-        let table = [
-            (Outcome::Val(Value::Int(-5)), "-5"),
-            (Outcome::Invalid, "invalid"),
-        ];
-        for (outcome, want) in &table {
-            let mut out = Vec::new(alloc);
-            outcome.copy(alloc)?.print_into(alloc, b"x", &mut out)?;
-            assert_eq!(rt; out.as_slice(), want.as_bytes(), "at {outcome:?}");
-        }
-        Ok(())
-    }
-}

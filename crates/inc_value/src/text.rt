@@ -90,37 +90,3 @@ fn is_printable(byte: u8) -> bool
 {
     (b' '..=b'~').contains(&byte)
 }
-
-#[cfg(test)]
-mod tests {
-    use super::*;
-    use std::test::Fail;
-
-    #[test]
-    fn tells_texts(rt: HostRuntime) -> Result<(), Fail> {
-        let alloc = rt.alloc();
-        let table = [
-            (b'a', 4_096, None),
-            (b'a', 4_097, Some(TextFault::TooLong)),
-            (b' ', 1, None),
-            (b'~', 1, None),
-            (0x0A, 1, Some(TextFault::NotPrintable)),
-            (0x7F, 1, Some(TextFault::NotPrintable)),
-            (0x0A, 4_097, Some(TextFault::TooLong)),
-        ];
-        for (byte, count, want) in table {
-            let bytes = vec![in alloc; byte; count]?;
-            let fault = Text::new(alloc, &bytes).err();
-            assert_eq!(rt; fault, want, "{count} of {byte}");
-        }
-        Ok(())
-    }
-
-    #[test]
-    fn copies_a_text(rt: HostRuntime) -> Result<(), Fail> {
-        let text = Text::new(rt.alloc(), b"spring").map_err(|_| "no text")?;
-        let copy = text.copy(rt.alloc())?;
-        assert_eq!(rt; copy.bytes(), b"spring".as_slice());
-        Ok(())
-    }
-}

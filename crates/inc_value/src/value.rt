@@ -118,32 +118,3 @@ fn push_escaped(out: &mut Vec<u8>, byte: u8) -> Result<(), AllocError>
     out.push(byte)?;
     Ok(())
 }
-
-#[cfg(test)]
-mod tests {
-    use super::*;
-    use std::test::Fail;
-
-    #[test]
-    fn prints_values(rt: HostRuntime) -> Result<(), Fail> {
-        let alloc = rt.alloc();
-        let quoted = Text::new(alloc, b"a\"b\\c").map_err(|_| "no text")?;
-        let node = NodeId { slot: 3, gen_: 7 };
-        let table = [
-            (Value::Int(i64::MIN), "-9223372036854775808"),
-            (Value::Int(0), "0"),
-            (Value::Int(9), "9"),
-            (Value::Bool(true), "true"),
-            (Value::Bool(false), "false"),
-            (Value::Text(quoted), "\"a\\\"b\\\\c\""),
-            (Value::Node(node, Base::Int), "&x"),
-        ];
-        for (value, want) in &table {
-            let mut out = Vec::from_slice(alloc, b"= ")?;
-            value.copy(alloc)?.print_into(alloc, b"x", &mut out)?;
-            let want = format!(in alloc; "= {want}")?;
-            assert_eq!(rt; out.as_slice(), want.as_bytes(), "at {value:?}");
-        }
-        Ok(())
-    }
-}

@@ -5,8 +5,6 @@ mod ends;
 mod link;
 mod sides;
 mod table;
-#[cfg(test)]
-mod tests;
 mod walks;
 
 pub use link::Link;

@@ -22,32 +22,3 @@ pub fn stops(cutoff: Cutoff, old: &Outcome, new: &Outcome) -> bool
         Cutoff::Never => false,
     }
 }
-
-#[cfg(test)]
-mod tests {
-    use super::*;
-    use inc_value::Value;
-    use std::test::Fail;
-
-    #[test]
-    fn stops_at_equal_outcomes(rt: HostRuntime) -> Result<(), Fail> {
-        let five = Outcome::Val(Value::Int(5));
-        let six = Outcome::Val(Value::Int(6));
-        let table = [
-            (Cutoff::Equal, &five, &five, true),
-            (Cutoff::Equal, &five, &six, false),
-            (Cutoff::Equal, &five, &Outcome::Invalid, false),
-            (Cutoff::Equal, &Outcome::Invalid, &Outcome::Invalid, true),
-            (Cutoff::Never, &five, &five, false),
-            (Cutoff::Never, &five, &six, false),
-        ];
-        for (cutoff, old, new, want) in table {
-            assert_eq!(rt;
-                stops(cutoff, old, new),
-                want,
-                "{cutoff:?} at {old:?} and {new:?}"
-            );
-        }
-        Ok(())
-    }
-}

@@ -79,34 +79,3 @@ impl LastArgs {
         !self.any || !are_kept(self.args.as_slice(), args)
     }
 }
-
-#[cfg(test)]
-mod tests {
-    use super::*;
-    use inc_value::Text;
-    use std::test::Fail;
-
-    #[test]
-    fn keeps_what_was_given_last(rt: HostRuntime) -> Result<(), Fail> {
-        let alloc = rt.alloc();
-        let text = |bytes: &[u8]| Text::new(alloc, bytes)
-            .map(Value::Text)
-            .map_err(|_| "no text");
-        let lists: [&[Value]; 7] = [
-            &[Value::Int(1), Value::Int(2)],
-            &[Value::Int(1), Value::Int(3)],
-            &[Value::Int(1), text(b"a")?],
-            &[Value::Int(2), text(b"a")?],
-            &[Value::Int(2), text(b"a")?, text(b"b")?],
-            &[Value::Bool(true), text(b"a")?, text(b"c")?],
-            &[],
-        ];
-        let mut last = LastArgs::new(alloc);
-        for args in lists {
-            assert!(rt; last.stale_by_args(args), "before {args:?}");
-            last.keep(args)?;
-            assert!(rt; !last.stale_by_args(args), "after {args:?}");
-        }
-        Ok(())
-    }
-}

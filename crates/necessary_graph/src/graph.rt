@@ -272,6 +272,3 @@ impl NecessaryGraph {
         self.needs.kids(p)
     }
 }
-
-#[cfg(test)]
-mod tests;

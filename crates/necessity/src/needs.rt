@@ -175,6 +175,3 @@ impl Needs {
         self.links.kids(p)
     }
 }
-
-#[cfg(test)]
-mod tests;

@@ -240,6 +240,3 @@ impl Arena {
         let _ = &self.given;
     }
 }
-
-#[cfg(test)]
-mod tests;

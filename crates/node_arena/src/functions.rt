@@ -64,6 +64,3 @@ pub trait Functions: Drop {
     // whatever its arguments, a known map gives no reference to a node
     ghost no_reference: { (s : Self) → GiveNoReference (known s) (value s) };
 }
-
-#[cfg(test)]
-mod tests;

@@ -73,6 +73,3 @@ pub trait Library: Drop {
     // whatever its arguments, a map gives no reference to a node
     ghost no_reference: { (l : Self) → GiveNoReference (known l) (value l) };
 }
-
-#[cfg(test)]
-pub(crate) mod tests;

@@ -4,8 +4,6 @@
 
 mod buckets;
 mod map;
-#[cfg(test)]
-mod tests;
 
 pub use buckets::Buckets;
 pub use map::PointMap;

@@ -2,7 +2,5 @@
 #![tactic(auto)]
 
 mod heap;
-#[cfg(test)]
-mod tests;
 
 pub use heap::RecomputeHeap;

@@ -11,8 +11,6 @@ mod memory;
 mod sink;
 mod source;
 mod standard;
-#[cfg(test)]
-mod tests;
 mod word;
 
 pub use command_line::{is_run, tell_usage, words};

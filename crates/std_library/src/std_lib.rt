@@ -112,6 +112,3 @@ impl Library for StdLib {
 
     ghost no_reference = { λ _ f args known kind. given_is_base f args known };
 }
-
-#[cfg(test)]
-mod tests;
