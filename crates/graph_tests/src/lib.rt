@@ -3,4 +3,6 @@
 #![tactic(auto)]
 
 #[cfg(test)]
+mod never;
+#[cfg(test)]
 mod tests;
