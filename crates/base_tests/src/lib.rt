@@ -1,5 +1,5 @@
 //! Tests of the crates below the graph: what no clause of theirs says, worked cases from outside, and each call that may
-//! want memory with plenty of it. They stand apart from those crates, which the gate would prove a second time for them.
+//! want memory with plenty of it. They stand apart from those crates, which the gate would prove again for them.
 #![tactic(auto)]
 
 #[cfg(test)]

@@ -1,6 +1,6 @@
-//! Tests of the language that no script of `examples/` can show: any byte in a line, lines too long for a session, what is a token
-//! of no command, the table of names, plans carried out, and the standard library against values from outside.
-//! They stand apart from the crates that they test, which the gate would prove a second time for them.
+//! Tests of the language that no script of `examples/` can show: any byte in a line, lines too long for a session, what
+//! is a token of no command, the table of names, plans carried out, and the standard library against values from
+//! outside. They stand apart from the crates that they test, which the gate would prove a second time for them.
 #![tactic(auto)]
 
 #[cfg(test)]
