@@ -14,7 +14,7 @@ const USAGE: &str = "usage: incr run | incr gen STEPS SEED\n";
 /// What the outside of a run is like.
 #[derive(Clone, Copy)]
 struct Outside {
-    /// How many bytes may be taken, up to a million.
+    /// How many bytes may be taken, up to four million.
     limit: u64,
 
     /// How many bytes a read gives; one where this is none.
@@ -29,7 +29,7 @@ struct Outside {
 
 /// With room for all.
 const WIDE: Outside = Outside {
-    limit: 1_000_000,
+    limit: 4_000_000,
     piece: 4_096,
     failing_read: 0,
     room: 1_000_000,
@@ -159,6 +159,19 @@ const SCRIPTS: &[(&str, &str, u8, u64)] = &[
         2,
     ),
     (
+        "var x int 2\nlet s sum9(x, x, x, x, x, x, x, x, x)\nlet f fold sub from 100 [x, x, 5]\n\
+         observe o s\nobserve p f\nstabilize\nshow o\nshow p\nset x 3\nstabilize\nshow p\n",
+        "ok\nok\nok\nok\nok\nstable 1\no = 18\np = 91\nok\nstable 2\np = 89\n",
+        0,
+        8,
+    ),
+    (
+        "var t text \"a\\\"b\"\nlet u cat(t, \"c\")\nobserve o u\nstabilize\nshow o\n",
+        "ok\nok\nok\nstable 1\no = \"a\\\"bc\"\n",
+        0,
+        1,
+    ),
+    (
         "var t text \"a\\\"b\"\nlet u t\nset u \"\\\\\"\nobserve o u\nstabilize\nshow o",
         "ok\nok\nok\nok\nstable 1\no = \"\\\\\"\n",
         0,
@@ -261,7 +274,7 @@ fn run_script(alloc: Global, script: &str, outside: &Outside) -> Result<Run, All
     let fails = [outside.failing_read].as_slice().to_vec(alloc)?;
     let mut source = MemSource::new(alloc, bytes, outside.piece.max(1), fails)?;
     let mut sink = MemSink::new(alloc, outside.room, Vec::new(alloc))?;
-    let limit = outside.limit.min(1_000_000);
+    let limit = outside.limit.min(4_000_000);
     let (status, library) = drive(alloc, &mut source, &mut sink, StdLib::new(), limit);
     Ok(Run {
         output: sink.written().to_vec(alloc)?,
@@ -504,6 +517,24 @@ fn ten_thousand_lines(rt: HostRuntime) -> Result<(), Fail> {
     let mut script = no_lines(rt.alloc());
     add_many_rounds(rt.alloc(), &mut script)?;
     assert!(rt; answers(rt.alloc(), &script, 0)?);
+    Ok(())
+}
+
+/// Folds of literals that fill all places, and one place more.
+fn add_full_places(alloc: Global, script: &mut Script) -> Result<(), AllocError> {
+    for number in 0..1_024u64 {
+        let more = if number == 1_023 { 1_021 } else { 1_022 };
+        let front = format!(in alloc; "let a{number} fold add from 0 [1")?;
+        add(script, &repeated(alloc, &front, ",1", more, "]")?, "ok\n")?;
+    }
+    add(script, "let z 1", "refused 19\n")
+}
+
+#[test]
+fn places_come_to_an_end(rt: HostRuntime) -> Result<(), Fail> {
+    let mut script = no_lines(rt.alloc());
+    add_full_places(rt.alloc(), &mut script)?;
+    assert!(rt; answers(rt.alloc(), &script, 1)?);
     Ok(())
 }
 
