@@ -1,5 +1,5 @@
 //! A graph by chance, compared with plain evaluation after each stabilize.
-ghost use Rattle.std.specs.Prelude.{◌≡◌, IfOk, map};
+ghost use Rattle.std.specs.Prelude.{◌≡◌, ◌+◌, ◌-◌, ◌^◌, min, IfOk, map};
 ghost use Rattle.plain_evaluation.specs.Plain.{at};
 
 use crate::clock::{begin, since};
@@ -87,6 +87,18 @@ fn shown(alloc: Global, live: &Live, watched: &[Watch]) -> Result<Vec<i64>, Faul
         append(&mut all, number)?;
     }
     Ok(all)
+}
+
+/// How many comparisons disagreed, with this one. The count stays at its last value.
+fn counted(disagreements: u64, meant: &[i64], shown: &[i64]) -> u64
+    ensures alike { meant.now ≡ shown.now → result ≡ disagreements }
+    ensures other { (meant.now ≡ shown.now → ⊥) → result ≡ min (disagreements + 1) (2 ^ 64 - 1) }
+{
+    if agree(meant, shown) {
+        disagreements
+    } else {
+        disagreements.saturating_add(1)
+    }
 }
 
 impl Campaign {
@@ -213,9 +225,7 @@ impl Campaign {
         let meant = meant(self.alloc, &values, &self.watched)?;
         let shown = shown(self.alloc, live, &self.watched)?;
         self.comparisons = self.comparisons.saturating_add(meant.len() as u64);
-        if !agree(&meant, &shown) {
-            self.disagreements = self.disagreements.saturating_add(1);
-        }
+        self.disagreements = counted(self.disagreements, &meant, &shown);
         Ok(())
     }
 

@@ -1,5 +1,5 @@
 //! A graph over the standard library, of which callers see the count of calls alone.
-ghost use Rattle.std.specs.Prelude.{◌≡◌, IfOk};
+ghost use Rattle.std.specs.Prelude.{◌≡◌, ◌≤◌, IfOk};
 
 use crate::adapter::StdFunctions;
 use crate::fault::{Fault, of_graph, of_stabilize};
@@ -57,7 +57,9 @@ impl Engine {
     }
 
     /// Makes a variable with its first value.
-    pub fn var(&mut self, value: i64) -> Result<NodeId, Fault> {
+    pub fn var(&mut self, value: i64) -> Result<NodeId, Fault>
+        ensures uncalled { self.new ≡ self.old }
+    {
         match self.graph.var(Value::Int(value)) {
             Ok(node) => Ok(node),
             Err(fault) => Err(of_graph(fault)),
@@ -65,7 +67,9 @@ impl Engine {
     }
 
     /// Makes a node that applies a function to nodes.
-    pub fn map(&mut self, function: Function, kids: &[NodeId]) -> Result<NodeId, Fault> {
+    pub fn map(&mut self, function: Function, kids: &[NodeId]) -> Result<NodeId, Fault>
+        ensures uncalled { self.new ≡ self.old }
+    {
         match self.graph.map(function.reference(), kids) {
             Ok(node) => Ok(node),
             Err(fault) => Err(of_graph(fault)),
@@ -73,7 +77,9 @@ impl Engine {
     }
 
     /// Makes the sum of nodes, as one fold.
-    pub fn sum(&mut self, kids: &[NodeId]) -> Result<NodeId, Fault> {
+    pub fn sum(&mut self, kids: &[NodeId]) -> Result<NodeId, Fault>
+        ensures uncalled { self.new ≡ self.old }
+    {
         let add = Function::Add.reference();
         match self.graph.fold(add, Value::Int(0), kids) {
             Ok(node) => Ok(node),
@@ -82,7 +88,9 @@ impl Engine {
     }
 
     /// Observes a node.
-    pub fn observe(&mut self, node: NodeId) -> Result<ObsId, Fault> {
+    pub fn observe(&mut self, node: NodeId) -> Result<ObsId, Fault>
+        ensures uncalled { self.new ≡ self.old }
+    {
         match self.graph.observe(node) {
             Ok(observer) => Ok(observer),
             Err(fault) => Err(of_graph(fault)),
@@ -90,7 +98,9 @@ impl Engine {
     }
 
     /// Ends an observer.
-    pub fn unobserve(&mut self, observer: ObsId) -> Result<(), Fault> {
+    pub fn unobserve(&mut self, observer: ObsId) -> Result<(), Fault>
+        ensures uncalled { self.new ≡ self.old }
+    {
         match self.graph.unobserve(observer) {
             Ok(()) => Ok(()),
             Err(fault) => Err(of_graph(fault)),
@@ -98,7 +108,9 @@ impl Engine {
     }
 
     /// Gives a variable another value.
-    pub fn set(&mut self, node: NodeId, value: i64) -> Result<(), Fault> {
+    pub fn set(&mut self, node: NodeId, value: i64) -> Result<(), Fault>
+        ensures uncalled { self.new ≡ self.old }
+    {
         match self.graph.set_var(node, Value::Int(value)) {
             Ok(()) => Ok(()),
             Err(fault) => Err(of_graph(fault)),
@@ -106,7 +118,9 @@ impl Engine {
     }
 
     /// Has a node tell its readers of each outcome, an equal one too.
-    pub fn tell_all(&mut self, node: NodeId) -> Result<(), Fault> {
+    pub fn tell_all(&mut self, node: NodeId) -> Result<(), Fault>
+        ensures uncalled { self.new ≡ self.old }
+    {
         match self.graph.set_cutoff(node, Cutoff::Never) {
             Ok(()) => Ok(()),
             Err(fault) => Err(of_graph(fault)),
@@ -114,7 +128,9 @@ impl Engine {
     }
 
     /// Brings what is observed up to date.
-    pub fn stabilize(&mut self) -> Result<(), Fault> {
+    pub fn stabilize(&mut self) -> Result<(), Fault>
+        ensures calls_grow { self.old ≤ self.new }
+    {
         match self.graph.stabilize() {
             Ok(()) => Ok(()),
             Err(fault) => Err(of_stabilize(fault)),

@@ -1,5 +1,5 @@
 //! A graph with the nodes and observers that were made.
-ghost use Rattle.std.specs.Prelude.{◌≡◌};
+ghost use Rattle.std.specs.Prelude.{◌≡◌, ◌≤◌, length};
 
 use crate::engine::Engine;
 use crate::fault::Fault;
@@ -59,7 +59,9 @@ impl Live {
     }
 
     /// How many nodes were made so far.
-    pub fn len(&self) -> usize {
+    pub fn len(&self) -> usize
+        ensures { result ≡ length self.now.nodes.items }
+    {
         self.nodes.len()
     }
 
@@ -124,29 +126,39 @@ impl Live {
     }
 
     /// Observes a node.
-    pub fn observe(&mut self, place: usize) -> Result<(), Fault> {
+    pub fn observe(&mut self, place: usize) -> Result<(), Fault>
+        ensures uncalled { self.new.engine ≡ self.old.engine }
+    {
         let observer = self.engine.observe(node_at(&self.nodes, place))?;
         append(&mut self.observers, observer)?;
         Ok(())
     }
 
     /// Ends an observer.
-    pub fn unobserve(&mut self, place: usize) -> Result<(), Fault> {
+    pub fn unobserve(&mut self, place: usize) -> Result<(), Fault>
+        ensures uncalled { self.new.engine ≡ self.old.engine }
+    {
         self.engine.unobserve(observer_at(&self.observers, place))
     }
 
     /// Gives a variable another value.
-    pub fn set(&mut self, place: usize, value: i64) -> Result<(), Fault> {
+    pub fn set(&mut self, place: usize, value: i64) -> Result<(), Fault>
+        ensures uncalled { self.new.engine ≡ self.old.engine }
+    {
         self.engine.set(node_at(&self.nodes, place), value)
     }
 
     /// Has a node tell its readers of each outcome, an equal one too.
-    pub fn tell_all(&mut self, place: usize) -> Result<(), Fault> {
+    pub fn tell_all(&mut self, place: usize) -> Result<(), Fault>
+        ensures uncalled { self.new.engine ≡ self.old.engine }
+    {
         self.engine.tell_all(node_at(&self.nodes, place))
     }
 
     /// Brings what is observed up to date.
-    pub fn stabilize(&mut self) -> Result<(), Fault> {
+    pub fn stabilize(&mut self) -> Result<(), Fault>
+        ensures calls_grow { self.old.engine ≤ self.new.engine }
+    {
         self.engine.stabilize()
     }
 
