@@ -62,7 +62,7 @@ module _ (F : Functions) (G : Graph) (b : NodeId) (now : Outcome) (due : IsDue F
 
 -- ---- two graphs
 
-same_present : (G G' : Graph) (n : NodeId) → G'.now ≡ G.now → G'.frozen n ≡ G.frozen n → G'.lists n ≡ G.lists n
+pub same_present : (G G' : Graph) (n : NodeId) → G'.now ≡ G.now → G'.frozen n ≡ G.frozen n → G'.lists n ≡ G.lists n
     → (def : Def) → present_def G' n def ≡ present_def G n def
 same_present G G' n now frozen lists (graph.Every base span) = rw now refl
 same_present G G' n now frozen lists (graph.Freeze kid f) = rw frozen refl

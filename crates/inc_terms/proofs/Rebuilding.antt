@@ -17,7 +17,7 @@ use Rattle.inc_terms.proofs.Rebuild.{same_after}
 use Rattle.inc_terms.proofs.Depending.{no_stand, subject_given}
 use Rattle.inc_terms.proofs.Meanings.{rebuild_keeps}
 
-later_given : (count later : ℕ) (n : NodeId) → count ≤ later → Given count n → Given later n
+pub later_given : (count later : ℕ) (n : NodeId) → count ≤ later → Given count n → Given later n
 later_given count later n le p = omega arith
 
 pub rebuilding_keeps : RebuildingKeeps
@@ -27,7 +27,7 @@ rebuilding_keeps F known ids m end (step {b = next} s rest) n p o =
     let there = rebuilding_keeps F known ids next end rest n (later_given m.given next.given n s.later p) o in
     ((λ g. there.0 (first.0 g)), (λ g. first.1 (there.1 g)))
 
-inside_through : (G : Graph) (a c n : NodeId) → Inside G a c → Inside G c n → Inside G a n
+pub inside_through : (G : Graph) (a c n : NodeId) → Inside G a c → Inside G c n → Inside G a n
 inside_through G a c n out (direct e s) = nested e s out
 inside_through G a c n out (nested {c = d} e s i) = nested e s (inside_through G a c d out i)
 
@@ -38,15 +38,15 @@ module _ (F : Functions) (known : FnRef → Bool) (ids : FnRef → List NodeId) 
   fine : FunctionsWithin F (Given count) (Fit count known ids)
   fine = functions_within F known ids (Given count) s.laws
 
-  scope_given : (a n : NodeId) → Inside G a n → Given count a
+  pub scope_given : (a n : NodeId) → Inside G a n → Given count a
   scope_given a n (direct {r} e sc) = s.names.scope n r a e sc
   scope_given a n (nested {c} e sc i) = scope_given a c i
 
   -- the bind that is due doesn't stand in its own scope
-  apart : Inside G b b → ⊥
+  pub apart : Inside G b b → ⊥
   apart i = no_stand F (Given count) (Fit count known ids) fine G H s.names b now s.due s.rebuilt b s.due.row i s.due.is_row s.due.stands
 
-  inside_before : (a n : NodeId) → Given count n → Inside H a n → Inside G a n
+  pub inside_before : (a n : NodeId) → Given count n → Inside H a n → Inside G a n
   inside_before a n p (direct {r} e sc) = elim (s.rebuilt.rows n p) [
     | inl h ↦ absurd (let x = h.1 in cc)
     | inr h ↦ direct (sym h.1 ∙ e) sc
@@ -56,7 +56,7 @@ module _ (F : Functions) (known : FnRef → Bool) (ids : FnRef → List NodeId) 
     | inr h ↦ nested (sym h.1 ∙ e) sc (inside_before a c (s.names.scope n r c (sym h.1 ∙ e) sc) i)
   ]
 
-  inside_after : (a n : NodeId) → Given count n → (Inside G b n → ⊥) → Inside G a n → Inside H a n
+  pub inside_after : (a n : NodeId) → Given count n → (Inside G b n → ⊥) → Inside G a n → Inside H a n
   inside_after a n p out (direct {r} e sc) = elim (s.rebuilt.rows n p) [
     | inl h ↦ absurd (out h.0)
     | inr h ↦ direct (h.1 ∙ e) sc
@@ -67,7 +67,7 @@ module _ (F : Functions) (known : FnRef → Bool) (ids : FnRef → List NodeId) 
   ]
 
   -- a bind round a node that stays is built for the same as before
-  built_before : (a n : NodeId) → (Inside G b n → ⊥) → Inside G a n → H.built a ≡ G.built a
+  pub built_before : (a n : NodeId) → (Inside G b n → ⊥) → Inside G a n → H.built a ≡ G.built a
   built_before a n out i = s.rebuilt.built a (scope_given a n i) (λ (same : a ≡ b). out (rw same at i)) (λ j. out (inside_through G b a n j i))
 
   -- the left of a bind is given
@@ -83,7 +83,7 @@ module _ (F : Functions) (known : FnRef → Bool) (ids : FnRef → List NodeId) 
   abbrev Step : Moment → Moment → Type 0
   Step m next = BuildStep F known ids m next
 
-  stays_dead : (m end : Moment) → Reaches Step m end → (n : NodeId) → Given m.given n → m.graph.row n ≡ None → end.graph.row n ≡ None
+  pub stays_dead : (m end : Moment) → Reaches Step m end → (n : NodeId) → Given m.given n → m.graph.row n ≡ None → end.graph.row n ≡ None
   stays_dead m end here n p e = e
   stays_dead m end (step {b = next} s rest) n p e =
       stays_dead next end rest n (later_given m.given next.given n s.step.later p)
@@ -144,7 +144,7 @@ module _ (F : Functions) (known : FnRef → Bool) (ids : FnRef → List NodeId) 
       ]
 
   -- the bind of a step is built for its outcome at the end, where it lives
-  built_at_end : (m next end : Moment) (s : Step m next) → Reaches Step next end → (x : Row) → end.graph.row s.step.bind ≡ Some x
+  pub built_at_end : (m next end : Moment) (s : Step m next) → Reaches Step next end → (x : Row) → end.graph.row s.step.bind ≡ Some x
       → outcome_of (end.graph.built s.step.bind) ≡ Some s.step.outcome
   built_at_end m next end s rest x live =
       let re = s.step.rebuilds in
@@ -159,7 +159,7 @@ module _ (F : Functions) (known : FnRef → Bool) (ids : FnRef → List NodeId) 
       (bind_stays m next s) re.due.is_bind gives is live
 
   -- what the bind of a step was built for before is another outcome
-  was_other : (m next : Moment) (s : Step m next) (w : Option Built) → m.graph.built s.step.bind ≡ w → outcome_of w ≡ Some s.step.outcome → ⊥
+  pub was_other : (m next : Moment) (s : Step m next) (w : Option Built) → m.graph.built s.step.bind ≡ w → outcome_of w ≡ Some s.step.outcome → ⊥
   was_other m next s None e h = absurd (cc)
   was_other m next s (Some w) e h = let same : w.outcome ≡ s.step.outcome = cc in s.step.rebuilds.due.changed w e same
 

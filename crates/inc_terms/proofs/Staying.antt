@@ -6,7 +6,7 @@ use Rattle.inc_value.specs.declared.node.NodeId.{NodeId}
 use Rattle.inc_terms.specs.Term.{Term, Terms, Const, Ref, Cap, Map, Fold, If, Join, Bind, At, Steps, Now, End, More, refs}
 use Rattle.inc_terms.specs.Graph.{Graph, Row, Def, present_def}
 use Rattle.inc_terms.specs.Within.{TermWithin, TermsWithin}
-use Rattle.inc_terms.specs.Unfold.{IsIn, Unfolds, UnfoldsAll}
+use Rattle.inc_terms.specs.Unfold.{IsIn, Outside, Unfolds, UnfoldsAll}
 use Rattle.inc_terms.specs.Rebuild.{Inside, direct, nested, Names, Rebuilt}
 use Rattle.inc_terms.specs.Stay.{KeepsScope}
 use Rattle.inc_terms.specs.Laws.{IsApart}
@@ -94,3 +94,34 @@ pub apart_scope : (P : NodeId → Type 0) (G G' : Graph) → ((n : NodeId) (r : 
     → KeepsScope P G G' S
 apart_scope P G G' live b re None h = top_scope P G G' live b re
 apart_scope P G G' live b re (Some c) h = other_scope P G G' live b c re h.0 h.1
+
+-- ---- graphs with the same rows
+
+module _ (G G' : Graph) (same : (n : NodeId) → G'.row n ≡ G.row n) (S : Option NodeId) (caps : List NodeId) where
+  in_rows : (n : NodeId) (def : Def) → IsIn G S n def → IsIn G' S n def
+  in_rows n def h = (h.0, same n ∙ h.1, h.2, h.3)
+
+  out_rows : (n : NodeId) → Outside G S n → Outside G' S n
+  out_rows n o r row sc = o r (sym (same n) ∙ row) sc
+
+  mutual
+    -- what a node reads back as hangs on rows alone
+    pub unfolds_rows : (t : Term) (n : NodeId) → Unfolds G S caps n t → Unfolds G' S caps n t
+    unfolds_rows (Const v) n h = in_rows n _ h
+    unfolds_rows (Ref m) n h = (h.0, out_rows n h.1)
+    unfolds_rows (Cap i) n h = (h.0, out_rows n h.1)
+    unfolds_rows (Map f ts) n h = (h.0, in_rows n _ h.1, unfolds_all_rows ts h.0 h.2)
+    unfolds_rows (Fold f v ts) n h = (h.0, in_rows n _ h.1, unfolds_all_rows ts h.0 h.2)
+    unfolds_rows (If t a b) n h =
+        (h.0, h.1, h.2, in_rows n _ h.3, unfolds_rows t h.0 h.4, unfolds_rows a h.1 h.5, unfolds_rows b h.2 h.6)
+    unfolds_rows (Join t) n h = (h.0, in_rows n _ h.1, unfolds_rows t h.0 h.2)
+    unfolds_rows (Bind l f ts) n h = (h.0, h.1, in_rows n _ h.2, unfolds_rows l h.0 h.3, unfolds_all_rows ts h.1 h.4)
+    unfolds_rows (At t) n h = in_rows n _ h
+    unfolds_rows (Steps v ss) n h = in_rows n _ h
+    unfolds_rows Now n h = in_rows n _ h
+
+    unfolds_all_rows : (ts : Terms) (ns : List NodeId) → UnfoldsAll G S caps ns ts → UnfoldsAll G' S caps ns ts
+    unfolds_all_rows End [] h = tt
+    unfolds_all_rows End (n ∷ ns) h = absurd h
+    unfolds_all_rows (More t ts) [] h = absurd h
+    unfolds_all_rows (More t ts) (n ∷ ns) h = (unfolds_rows t n h.0, unfolds_all_rows ts ns h.1)

@@ -1,6 +1,6 @@
 -- Visits of maps are their evaluation.
-use Rattle.std.proofs.Common.{◌≡◌, ◌⊎◌, inl, inr, ℕ, zero, suc, ◌+◌, List, [], ◌∷◌, Option, None, Some, Bool, true}
-use Rattle.std.proofs.Common.{false, cond, refl, sym, ◌∙◌, arith}
+use Rattle.std.proofs.Common.{◌≡◌, ◌⊎◌, inl, inr, ℕ, zero, suc, List, [], ◌∷◌, Option, None, Some, Bool, true}
+use Rattle.std.proofs.Common.{false, cond, refl}
 use Rattle.inc_value.specs.declared.function.FnRef.{FnRef}
 use Rattle.inc_value.specs.declared.node.NodeId.{NodeId}
 use Rattle.inc_value.specs.declared.outcome.Outcome.{Outcome}
@@ -13,7 +13,7 @@ use Rattle.inc_terms.specs.Term.{Ref, Map, Functions, refs}
 use Rattle.inc_terms.specs.Graph as graph
 use Rattle.inc_terms.specs.Graph.{Graph, Row, Built, Def, present}
 use Rattle.inc_terms.specs.Evaluate.{Query, Of, Around, Gathered, Unknown, SomeInvalid, Values, joined, gathered, given}
-use Rattle.inc_terms.specs.Evaluate.{with_value, as_built, left_holds, bind_holds, scope_level, answer, Gives}
+use Rattle.inc_terms.specs.Evaluate.{with_value, as_built, left_holds, bind_holds, answer, Gives}
 use Rattle.inc_terms.specs.Evaluate.{NodeGives, Stands, GiveAll}
 use Rattle.inc_terms.specs.Work.{Visit, IsVisit, MapVisits}
 use Rattle.inc_terms.proofs.Follows.{GathersAfter, joined_after}

@@ -1,5 +1,5 @@
 -- Laws of walks, of points with links of any kind.
-use Rattle.std.specs.Prelude.{◌≡◌, ◌≤◌, ◌<◌, ℕ, List, ◌∷◌, length}
+use Rattle.std.specs.Prelude.{◌≤◌, ◌<◌, ℕ, List, ◌∷◌, length}
 use Rattle.inc_value.specs.declared.node.Point.{Point}
 use Rattle.inc_value.specs.Choice.{Among, NoRepeats, Reaches}
 use Rattle.inc_value.specs.Walk.{IsWalk, IsDeep, Rises}

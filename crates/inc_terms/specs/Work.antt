@@ -1,5 +1,5 @@
 -- Visits, and how many calls of functions a call of the graph may make.
-use Rattle.std.specs.Prelude.{◌≡◌, ◌≤◌, ℕ, true, List, length, Option, None, Some}
+use Rattle.std.specs.Prelude.{◌≡◌, ◌≤◌, ℕ, true, List, [], ◌∷◌, length, Option, None, Some}
 use Rattle.std.specs.List.{sum_by}
 use Rattle.inc_value.specs.declared.function.FnRef.{FnRef}
 use Rattle.inc_value.specs.declared.node.NodeId.{NodeId}
@@ -30,6 +30,19 @@ cost_of G n (Fold f v ns) = Some (length ns)
 cost_of G n (Expert f v ns) = Some (length (G.lists n))
 cost_of G n (Freeze kid f) = predicate_cost (G.frozen n)
 cost_of G n def = None
+
+-- a freeze that keeps no value yet calls its predicate on its child's value
+abbrev pub predicate_kids : NodeId → Option Value → Option (List NodeId)
+predicate_kids kid None = Some (kid ∷ [])
+predicate_kids kid (Some v) = None
+
+-- the children on whose values a node's function is called; others have no function to call
+abbrev pub taken_by : Graph → NodeId → Def → Option (List NodeId)
+taken_by G n (Map f ns) = Some ns
+taken_by G n (Fold f v ns) = Some ns
+taken_by G n (Expert f v ns) = Some (G.lists n)
+taken_by G n (Freeze kid f) = predicate_kids kid (G.frozen n)
+taken_by G n def = None
 
 -- a live node that calls a function, whose scope stands, and whose children all give values
 pub record IsVisit (F : Functions) (G : Graph) (v : Visit) : Type 0 where

@@ -7,7 +7,7 @@ use std::alloc::{AllocError, Global};
 use std::marker::Model;
 
 /// A list of nodes. Lists of at most two take no memory of their own.
-#[derive(Debug, Drop)]
+#[derive(Drop)]
 pub struct Nodes {
     nodes: SmallVec<NodeId, 2>,
 }
@@ -41,7 +41,7 @@ impl Nodes {
 }
 
 /// What a node is.
-#[derive(Debug, Drop)]
+#[derive(Drop)]
 pub enum Def {
     /// Always the value.
     Const(Value),

@@ -17,8 +17,8 @@ use Rattle.node_arena.specs.Arena.{Arena}
 use Rattle.node_arena.specs.Graph.{graph_of}
 use Rattle.stabilize_round.specs.Calling.{costs_of}
 use Rattle.stabilize_round.specs.Counts.{RoseBy}
-use Rattle.stabilizer.specs.Computing.{seen}
-use Rattle.stabilizer.specs.Meaning.{functions_of}
+use Rattle.node_outcomes.specs.Computing.{seen}
+use Rattle.node_outcomes.specs.Meaning.{functions_of}
 use Rattle.stabilizer.specs.Round.{WasCalled, last_call, never_at}
 use Rattle.stabilizer.proofs.Between.{code_row}
 use Rattle.script_model.specs.Blocked.{InTheWay, on_cycle, too_deep}
@@ -38,7 +38,8 @@ use Rattle.script_graph.proofs.Beside.{represented_fits, grabs_bind}
 use Rattle.script_graph.proofs.Deep.{deep_in_graph}
 use Rattle.script_graph.proofs.Functions.{functions_are}
 use Rattle.script_graph.proofs.Holding.{ready_is_flat}
-use Rattle.script_graph.proofs.Plain.{name_gives_base}
+use Rattle.script_graph.proofs.Plain.{name_gives_base, plain_is_todays}
+use Rattle.script_model.proofs.Today.{today_has_no_cycle}
 use Rattle.script_graph.proofs.Recalling.{needed_is_right, visit_is_recalled}
 use Rattle.script_graph.proofs.Running.{taken_ran, all_ran, costs_within}
 use Rattle.script_graph.proofs.Same.{besides, observed_so, represents_so}
@@ -82,11 +83,11 @@ entries_become F before s after plain = all_become F before s after 0 s.entries
 -- ---- what stands in the way
 
 -- where nothing needed is too deep, nothing needed stands in the way
-pub nothing_in_the_way : (F : Meanings) (m : Moment) → ((i : Item) → Needed F m.present i → TooDeep F m.present i → ⊥) → NothingNeededIsBlocked F m
-nothing_in_the_way F m shallow i need blocked = by_cause i need blocked
+pub nothing_in_the_way : (F : Meanings) (m : Moment) → AllPlain m.present → ((i : Item) → Needed F m.present i → TooDeep F m.present i → ⊥) → NothingNeededIsBlocked F m
+nothing_in_the_way F m plain shallow i need blocked = by_cause i need blocked
   where
     by_cause : (j : Item) → Needed F m.present j → InTheWay F m.present j → ⊥
-    by_cause j n (on_cycle comes cycle) = cc
+    by_cause j n (on_cycle {n = k} cycle) = today_has_no_cycle F m.present (plain_is_todays m.present plain) k cycle
     by_cause j n (too_deep deep) = shallow j n deep
 
 -- ---- the stabilize
@@ -250,7 +251,7 @@ module _ (named : List ℕ → Option FnRef) (value : FnRef → List GraphValue 
   pub accepted_stands : IsAccepted F m new called calls
   accepted_stands = record {
     after = after;
-    stabilizes = settles [] (nothing_in_the_way F m shallow) (record {
+    stabilizes = settles [] (nothing_in_the_way F m holds.represents.plain shallow) (record {
       observers = subst (λ (xs : List Observer). ShowAll F s xs then.observers []) (sym holds.watches.in_order) (shows_then F s k g holds.watches.made shown);
       entries = entries_become F before s then holds.represents.plain;
       now = refl;

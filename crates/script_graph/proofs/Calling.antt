@@ -12,7 +12,9 @@ use Rattle.script_model.specs.Formula.{State}
 use Rattle.script_model.specs.Run.{most_calls}
 use Rattle.script_graph.specs.Represents.{Caller, IsCaller, HasFewCalls}
 use Rattle.script_graph.proofs.Callers.{calls_by}
-use Rattle.stabilize_round.specs.Calling.{taken_by, or_none, row_cost, cost_at}
+use Rattle.inc_terms.specs.Work.{taken_by}
+use Rattle.stabilize_round.proofs.Calling.{cost_taken}
+use Rattle.stabilize_round.specs.Calling.{or_none, row_cost, cost_at}
 use Rattle.stabilizer.specs.Round.{HasCalledFew}
 
 -- ---- lists
@@ -93,15 +95,13 @@ callers_few s arena cost ns has once each =
     omega (arith, within, all, has.few)
 
 -- what a live map or fold costs is how many calls its visit makes
-taken_costs : (G : Graph) (n : NodeId) (r : Row) (kids : List NodeId) → G.row n ≡ Some r → taken_by r.def ≡ Some kids
+taken_costs : (G : Graph) (n : NodeId) (r : Row) (kids : List NodeId) → G.row n ≡ Some r → taken_by G n r.def ≡ Some kids
     → cost_of G n r.def ≡ Some (cost_at G n)
 taken_costs G n r kids row takes =
     by_def r.def takes ∙ ap (λ (o : Option Row). Some (row_cost G n o)) (sym row)
   where
-    by_def : (def : Def) → taken_by def ≡ Some kids → cost_of G n def ≡ Some (or_none (cost_of G n def))
-    by_def (Map f ns) takes = refl
-    by_def (Fold f v ns) takes = refl
-    by_def def takes = absurd (cc)
+    by_def : (def : Def) → taken_by G n def ≡ Some kids → cost_of G n def ≡ Some (or_none (cost_of G n def))
+    by_def def takes = cost_taken G n def kids takes
 
 -- a refused round calls no more than one visit of each place would
 pub few_calls : (s : State) (arena : Arena) (before after : ℕ) → HasFewCalls s arena → HasCalledFew arena before after

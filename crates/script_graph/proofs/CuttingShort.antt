@@ -27,7 +27,7 @@ use Rattle.script_graph.specs.State.{Stands}
 use Rattle.script_graph.proofs.Beside.{kids_are}
 use Rattle.script_graph.proofs.Calling.{few_calls}
 use Rattle.script_graph.proofs.Holding.{main_among, ready_is_flat}
-use Rattle.stabilizer.specs.Meaning.{functions_of}
+use Rattle.node_outcomes.specs.Meaning.{functions_of}
 use Rattle.stabilizer.specs.Round.{HasCalledFew, IsLawful, ComesBack}
 use Rattle.stabilizer.specs.declared.refused.Refused.{Refused}
 use Rattle.stabilizer.specs.declared.refused.Refused.TheVariants as refused

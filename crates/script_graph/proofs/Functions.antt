@@ -10,7 +10,7 @@ use Rattle.node_arena.specs.Meanings.{SameNames, SameValues}
 use Rattle.script_model.specs.Formula.{Meanings, meanings_of}
 use Rattle.script_model.specs.Values.{Value, Int, Bool, Text, Reference, type_of, to_engine, from_engine, unnamed, unreferred, seen_value}
 use Rattle.script_graph.specs.Represents.{graph_functions}
-use Rattle.stabilizer.specs.Meaning.{functions_of}
+use Rattle.node_outcomes.specs.Meaning.{functions_of}
 use Rattle.transfer.specs.Both.{graph_value}
 
 -- ---- values there and back

@@ -15,7 +15,7 @@ use Rattle.script_model.specs.Formula.{State, Entry, Body, Observer, Meanings, b
 use Rattle.script_model.specs.Need.{Item, Named, Place, Edge, Argument, Test, Then, Else, Child, Left, Inside, Visit}
 use Rattle.script_model.specs.Step.{Moment, moved, find_observer, new_observer, shown_by}
 use Rattle.script_model.specs.Values.{Int, Bool as Truth, Text, Reference, Outcome, Val, Invalid}
-use Rattle.stabilizer.specs.Computing.{seen}
+use Rattle.node_outcomes.specs.Computing.{seen}
 use Rattle.stabilizer.specs.declared.parts.Parts.{Parts}
 use Rattle.script_graph.specs.Kept.{Kept, node_in}
 use Rattle.script_graph.specs.Represents.{beside, there_in, AreNames, IsBaseOutcome, IsObserver, IsShown, Settled, Watches, WasRun}

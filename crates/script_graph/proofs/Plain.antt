@@ -1,5 +1,5 @@
 -- What plain formulas are made of, and what they give.
-use Rattle.std.proofs.Common.{◌≡◌, ℕ, zero, suc, List, [], ◌∷◌, Option, None, Some, refl, ap, subst}
+use Rattle.std.proofs.Common.{◌≡◌, ◌<◌, ℕ, zero, suc, List, [], ◌∷◌, Option, None, Some, refl, ap, subst}
 use Rattle.inc_value.specs.Choice.{and_then}
 use Rattle.inc_value.specs.Ty.{IsBase}
 use Rattle.inc_value.specs.declared.function.FnRef.{FnRef}
@@ -7,10 +7,34 @@ use Rattle.inc_value.specs.declared.value.Value.{Value as GraphValue}
 use Rattle.script_model.specs.Evaluate.{Gathered, Unknown, SomeInvalid, Values, gathered, each_of, given, fold_from, name_level, body_level, value_at, NameGives}
 use Rattle.script_model.specs.Formula.{State, Entry, Body, Formula, Formulas, Meanings, meanings_of, entry_at, body_at, formula_of_body, Literal, Name, Apply, Fold, End, More, Variable, Computed}
 use Rattle.script_model.specs.Need.{Edge, Argument, argument_at, part_at, part_of, formula_at}
+use Rattle.script_model.specs.Today.{IsTodays, AreTodays, IsTodaysBody, IsTodaysState}
 use Rattle.script_model.specs.Values.{Value, Outcome, Val, Invalid, type_of}
 use Rattle.script_graph.specs.Plain.{IsPlain, ArePlain, IsPlainBody, IsEarlierTarget, AllPlain}
 use Rattle.script_graph.specs.Represents.{IsBaseOutcome}
 use Rattle.script_graph.proofs.Functions.{gives_no_reference}
+
+-- ---- today's forms
+
+abbrev mutual
+  todays_formula : (n : ℕ) (P : ℕ → Type 0) → ((m : ℕ) → P m → m < n) → (f : Formula) → IsPlain P f → IsTodays n f
+  todays_formula n P low (Literal v) plain = tt
+  todays_formula n P low (Name m) plain = low m plain
+  todays_formula n P low (Apply g arguments) plain = todays_formulas n P low arguments plain
+  todays_formula n P low (Fold g first elements) plain = todays_formulas n P low elements plain.1
+  todays_formula n P low f plain = absurd plain
+
+  todays_formulas : (n : ℕ) (P : ℕ → Type 0) → ((m : ℕ) → P m → m < n) → (fs : Formulas) → ArePlain P fs → AreTodays n fs
+  todays_formulas n P low End plain = tt
+  todays_formulas n P low (More f rest) plain = (todays_formula n P low f plain.0, todays_formulas n P low rest plain.1)
+
+todays_body : (s : State) (n : ℕ) (body : Body) → IsPlainBody (IsEarlierTarget s n) body → IsTodaysBody n body
+todays_body s n (Variable v) plain = tt
+todays_body s n (Computed f kept) plain = todays_formula n (IsEarlierTarget s n) (λ m h. h.0) f plain.0
+todays_body s n body plain = absurd plain
+
+-- a plain state is of today's forms
+pub plain_is_todays : (s : State) → AllPlain s → IsTodaysState s
+plain_is_todays s plain n body is = todays_body s n body (plain n body is)
 
 -- ---- parts
 

@@ -20,9 +20,9 @@ use Rattle.node_arena.specs.Arena.{Arena, row_at}
 use Rattle.node_arena.specs.Graph.{graph_of}
 use Rattle.script_model.specs.Formula.{State, Meanings}
 use Rattle.script_model.specs.Need.{Visit, IsVisit, Needed}
-use Rattle.stabilize_round.specs.Calling.{taken_by}
+use Rattle.inc_terms.specs.Work.{taken_by}
 use Rattle.stabilize_round.specs.State.{Call}
-use Rattle.stabilizer.specs.Computing.{seen}
+use Rattle.node_outcomes.specs.Computing.{seen}
 use Rattle.stabilizer.specs.Round.{IsUpToDate, last_call}
 use Rattle.stabilizer.specs.declared.work.Work.{Work}
 use Rattle.stabilizer.proofs.Between.{code_row}
@@ -49,19 +49,19 @@ module _ (M : Functions) (arena : Arena) (flat : IsFlat (graph_of arena)) (old n
 -- ---- what calls is a map or a fold
 
 -- a map or a fold whose children give the values
-record IsCalledOn (M : Functions) (G : Graph) (def : Def) (values : List GraphValue) : Type 0 where
+record IsCalledOn (M : Functions) (G : Graph) (n : NodeId) (def : Def) (values : List GraphValue) : Type 0 where
   kids : List NodeId
-  takes : taken_by def ≡ Some kids
+  takes : taken_by G n def ≡ Some kids
   give : GiveAll M G kids values
 
 called_on : (M : Functions) (G : Graph) (n : NodeId) (values : List GraphValue) (cost : ℕ) (d : declared.Def) (def : Def) → def ≡ def_of d
-    → GiveAll M G (kids_of G n def) values → cost_of G n def ≡ Some cost → IsCalledOn M G def values
+    → GiveAll M G (kids_of G n def) values → cost_of G n def ≡ Some cost → IsCalledOn M G n def values
 called_on M G n values cost (form.Const v) def e give is = absurd (let none = ap (cost_of G n) e in cc)
 called_on M G n values cost (form.Var v) def e give is = absurd (let none = ap (cost_of G n) e in cc)
 called_on M G n values cost (form.Map f kids) def e give is =
-    record { kids = kids; takes = ap taken_by e; give = subst (λ (x : Def). GiveAll M G (kids_of G n x) values) e give }
+    record { kids = kids; takes = ap (taken_by G n) e; give = subst (λ (x : Def). GiveAll M G (kids_of G n x) values) e give }
 called_on M G n values cost (form.Fold f v kids) def e give is =
-    record { kids = kids; takes = ap taken_by e; give = subst (λ (x : Def). GiveAll M G (kids_of G n x) values) e give }
+    record { kids = kids; takes = ap (taken_by G n) e; give = subst (λ (x : Def). GiveAll M G (kids_of G n x) values) e give }
 
 -- ---- the last calls
 

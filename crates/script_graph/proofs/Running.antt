@@ -7,20 +7,21 @@ use Rattle.inc_value.specs.declared.value.Value.{Value as GraphValue}
 use Rattle.inc_terms.specs.declared.def.Def as declared
 use Rattle.inc_terms.specs.declared.def.Def.TheVariants as form
 use Rattle.inc_terms.specs.Code.{def_of}
-use Rattle.inc_terms.specs.Depend.{main}
+use Rattle.inc_terms.specs.Depend.{main, unfrozen}
 use Rattle.inc_terms.specs.Evaluate.{Gathered, Unknown, SomeInvalid, Values, joined, gathered, answer, GiveAll, Stands, Of}
-use Rattle.inc_terms.specs.Graph.{Graph, Row, Def, Map, Fold}
+use Rattle.inc_terms.specs.Graph.{Graph, Row, Def, Map, Fold, Freeze, Expert}
 use Rattle.inc_terms.specs.Term.{Functions, Ref, refs}
 use Rattle.inc_terms.specs.Work as engine
 use Rattle.inc_value.specs.declared.outcome.Outcome.{Outcome}
 use Rattle.inc_value.specs.declared.outcome.Outcome.TheVariants.{Val, Invalid}
 use Rattle.inc_terms.proofs.Evaluation.{at_depth, gathered_at}
-use Rattle.stabilize_round.specs.Calling.{taken_by, or_none, row_cost, cost_at, costs_of}
+use Rattle.inc_terms.specs.Work.{taken_by, predicate_kids}
+use Rattle.stabilize_round.specs.Calling.{or_none, row_cost, cost_at, costs_of}
 use Rattle.script_model.specs.Formula.{State}
 use Rattle.script_model.specs.Need.{Visit, IsVisit, Needed, Met}
 use Rattle.transfer.specs.Both.{Both, graph_value}
 use Rattle.transfer.specs.Items.{node_of, CoveredBy}
-use Rattle.transfer.specs.Work.{Calls, Ran, AllRan, call_of, cost_of, calls_in}
+use Rattle.transfer.specs.Work.{Calls, Ran, AllRan, some_unless_empty, call_of, cost_of, calls_in}
 
 -- some depth tells all the values
 all_at : (F : Functions) (G : Graph) (ns : List NodeId) (vs : List GraphValue) → GiveAll F G ns vs
@@ -54,15 +55,21 @@ as_many F G d (n ∷ ns) vs e = by_first (answer F G d (Of (Ref n))) (gathered (
         sym (ap (λ (us : List GraphValue). length us) same) ∙ ap (λ (k : ℕ). suc k) (rest ws refl)
 
 -- what a node takes is what its function is called on
-taken_call : (G : Graph) (n : NodeId) (def : Def) (kids : List NodeId) → taken_by def ≡ Some kids → call_of G n def ≡ Some kids
+taken_call : (G : Graph) (n : NodeId) (def : Def) (kids : List NodeId) → taken_by G n def ≡ Some kids → call_of G n def ≡ Some kids
 taken_call G n (Map f ns) kids e = e
 taken_call G n (Fold f v ns) kids e = e
+taken_call G n (Expert f v ns) kids e = e
+taken_call G n (Freeze kid f) kids e = by_frozen (G.frozen n) e
+  where
+    by_frozen : (x : Option GraphValue) → predicate_kids kid x ≡ Some kids → some_unless_empty (unfrozen kid x) ≡ Some kids
+    by_frozen None e = e
+    by_frozen (Some v) e = absurd (cc)
 taken_call G n def kids e = absurd (cc)
 
 module _ (x : Both) (before : State) where
   -- a map or a fold that was called on other values than those that visits needed before have
   pub taken_ran : (n : NodeId) (r : Row) (kids : List NodeId) (values : List GraphValue) → x.graph.row n ≡ Some r
-      → Stands x.functions x.graph r.scope → taken_by r.def ≡ Some kids → GiveAll x.functions x.graph kids values
+      → Stands x.functions x.graph r.scope → taken_by x.graph n r.def ≡ Some kids → GiveAll x.functions x.graph kids values
       → CoveredBy x (Met x.meanings before x.state) (main n)
       → ((v : Visit) → IsVisit x.meanings before v → Needed x.meanings before v.item → node_of x v.item ≡ Some n
       → values ≡ map (graph_value x.nodes) v.values → ⊥)

@@ -36,7 +36,7 @@ use Rattle.script_graph.proofs.Holding.{ready_is_flat}
 use Rattle.script_graph.proofs.Owning.{aged_item}
 use Rattle.script_graph.proofs.Walking.{IsTooDeepAt, deep_in_script, covers_main}
 use Rattle.script_graph.proofs.Watching.{can_is_ready, meeting_is_covered}
-use Rattle.stabilizer.specs.Meaning.{functions_of}
+use Rattle.node_outcomes.specs.Meaning.{functions_of}
 use Rattle.stabilizer.specs.Round.{HasCalledFew, IsListed, IsLawful}
 use Rattle.stabilizer.specs.declared.refused.Refused.{Refused}
 use Rattle.stabilizer.specs.declared.refused.Refused.TheVariants as refused

@@ -487,7 +487,7 @@ module _ (x : Both) (fits : Fits x) (plain_state : AllPlain x.state) (grabs : Gr
           rest = w.points;
           begins = subst (λ (k : Item). Among (Main j.item) (points_of s k)) (sym j.own) (main_first s j.item);
           walk = w.walk;
-          distinct = (λ again. not_before n j.item j.is_node (w.before (Main j.item) again), w.distinct);
+          distinct = w.distinct;
           long = w.long ∙ deep.1;
         };
       }
@@ -521,4 +521,4 @@ module _ (x : Both) (fits : Fits x) (plain_state : AllPlain x.state) (grabs : Gr
       let f = closed.there owner path (subst (Needed F s) e need) in
       absurd (no_choice owner f.0 (plain_place s plain_state owner path f.0 f.1) (subst IsChoice f.1 choice))
   covers_main i p need (by_left {owner} {path} e at is) = absurd (left_of_none i owner path need e)
-  covers_main i p need (by_variable {owner} {path} v e at row scope def is) = absurd (left_of_none i owner path need e)
+  covers_main i p need (by_variable {owner} {path} e at row scope built for def is) = absurd (left_of_none i owner path need e)

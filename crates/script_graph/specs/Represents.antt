@@ -21,7 +21,7 @@ use Rattle.inc_value.specs.Ty.{IsBase}
 use Rattle.script_graph.specs.Kept.{Kept, arena_of, node_in}
 use Rattle.script_graph.specs.Plain.{AllPlain}
 use Rattle.stabilize_round.specs.State.{Call}
-use Rattle.stabilizer.specs.Meaning.{functions_of}
+use Rattle.node_outcomes.specs.Meaning.{functions_of}
 use Rattle.stabilizer.specs.Round.{last_call, never_at}
 use Rattle.transfer.specs.Both.{Both, graph_value, graph_outcome}
 use Rattle.transfer.specs.Items.{node_of, FormulasStay}

@@ -97,7 +97,7 @@ nothing_too_deep F s items points falls all falls' points_all few i needed deep 
 -- then nothing that is needed stands in the way
 pub nothing_is_blocked : (F : Meanings) (s : State) (items : List Item) (points : List Point) → Falls (Reads F s) items → AllAmong (roots s) items → Falls (Depends F s) points
     → PointsAmong s items points → length points ≤ 129 → (i : Item) → Needed F s i → InTheWay F s i → ⊥
-nothing_is_blocked F s items points falls all falls' points_all few i needed (on_cycle {n = n} come cycle) = nothing_on_cycle F s items falls all n needed cycle
+nothing_is_blocked F s items points falls all falls' points_all few i needed (on_cycle {n = n} cycle) = nothing_on_cycle F s items falls all n needed cycle
 nothing_is_blocked F s items points falls all falls' points_all few i needed (too_deep deep) =
     nothing_too_deep F s items points falls all falls' points_all few i needed deep
 

@@ -71,7 +71,7 @@ is_too_deep F neg =
       rest = down 128;
       begins = inl refl;
       walk = walks F neg 128 (omega arith);
-      distinct = distinct 129;
+      distinct = distinct 128;
       long = refl;
     }
 

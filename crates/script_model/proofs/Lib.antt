@@ -18,6 +18,7 @@ pub mod TypedValues
 pub mod TypedCalls
 pub mod NeededStands
 pub mod NeededGives
+pub mod Given
 pub mod Libraries
 pub mod Work
 pub mod Found

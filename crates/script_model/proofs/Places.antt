@@ -52,7 +52,7 @@ same_values v w e = absurd (cc)
 
 -- ---- parts
 
-among_either : {A : Type 0} (x : A) (xs ys : List A) → Among x (xs ++ ys) → Among x xs ⊎ Among x ys
+pub among_either : {A : Type 0} (x : A) (xs ys : List A) → Among x (xs ++ ys) → Among x xs ⊎ Among x ys
 among_either x [] ys h = inr h
 among_either x (z ∷ zs) ys (inl e) = inl (inl e)
 among_either x (z ∷ zs) ys (inr h) = elim (among_either x zs ys h) [ inl a ↦ inl (inr a) | inr b ↦ inr b ]

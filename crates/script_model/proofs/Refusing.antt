@@ -1,15 +1,12 @@
 -- When a stabilize is refused, and with which number.
-use Rattle.std.proofs.Common.{◌≡◌, ◌⊎◌, inl, inr, ℕ, true, false, List, [], ◌∷◌, refl, ◌∙◌, subst}
+use Rattle.std.proofs.Common.{◌≡◌, ◌⊎◌, inl, inr, ℕ, List, [], ◌∷◌, refl, ◌∙◌, subst}
 use Rattle.inc_value.specs.Choice.{Among, Reaches, here, step}
 use Rattle.script_model.specs.Blocked.{NameReads, EachReads, LastIs, IsCycle, OnCycle, on_cycle, too_deep}
-use Rattle.script_model.specs.Check.{command_of, names_of, first_that}
 use Rattle.script_model.specs.Formula.{State, Meanings}
-use Rattle.script_model.specs.Laws.{UnblockedIsAccepted, BlockedIsRefused, HeightsAloneToday}
+use Rattle.script_model.specs.Laws.{UnblockedIsAccepted, BlockedIsRefused}
 use Rattle.script_model.specs.Need.{Named}
-use Rattle.script_model.specs.Request.{Request, TooLong, Blank, Malformed, TooDeep, Asks}
-use Rattle.script_model.specs.Step.{Refusal, LineTooLong, NoCommand, LineTooDeep, Cycle, Height, breaks, Settle, Reply, Refused, Moment, Stabilizes, settles, by_cycle, by_height, Follows, Answers, verdict_of, holds, order}
+use Rattle.script_model.specs.Step.{Cycle, Height, settles, by_cycle, by_height}
 use Rattle.script_model.proofs.Reaching.{reaches_join}
-use Rattle.script_model.proofs.Steps.{breaking_follows, verdict_is_plain}
 
 -- ---- cycles
 
@@ -47,7 +44,7 @@ among_reached F s x n names each (inl same) = rw same here
 among_reached F s x n names each (inr later) = each_reached F s x n names each later
 
 -- each name of a cycle is on one
-cycle_names : (F : Meanings) (s : State) (names : List ℕ) (n : ℕ) → IsCycle F s names → Among n names → OnCycle F s n
+pub cycle_names : (F : Meanings) (s : State) (names : List ℕ) (n : ℕ) → IsCycle F s names → Among n names → OnCycle F s n
 cycle_names F s [] n cycle among = absurd cycle
 cycle_names F s (x ∷ names) n cycle among = elim (goes_on F s x x n names cycle.0 cycle.1 among) [
   | inl same ↦ rw same (first_goes_on F s x x names cycle.0 cycle.1)
@@ -58,36 +55,11 @@ cycle_names F s (x ∷ names) n cycle among = elim (goes_on F s x x n names cycl
 
 pub unblocked_is_accepted : UnblockedIsAccepted
 unblocked_is_accepted F m after replies (settles notices unblocked s settled broken is) free = broken
-unblocked_is_accepted F m after replies (by_cycle targets n come cycle among met leads is) free =
-    absurd (free (Named n) met (on_cycle come (cycle_names F m.present targets n cycle among)))
+unblocked_is_accepted F m after replies (by_cycle targets n cycle among met leads is) free =
+    absurd (free (Named n) met (on_cycle (cycle_names F m.present targets n cycle among)))
 unblocked_is_accepted F m after replies (by_height target i met deep named leads is) free = absurd (free i met (too_deep deep))
 
 pub blocked_is_refused : BlockedIsRefused
 blocked_is_refused F m after replies i (settles notices unblocked s settled broken is) needed blocked = absurd (unblocked i needed blocked)
-blocked_is_refused F m after replies i (by_cycle targets n come cycle among met leads is) needed blocked = (Cycle targets, is, refl)
+blocked_is_refused F m after replies i (by_cycle targets n cycle among met leads is) needed blocked = (Cycle targets, is, refl)
 blocked_is_refused F m after replies i (by_height target j met deep named leads is) needed blocked = (Height target, is, refl)
-
--- ---- today's forms
-
-stabilize_heights : (F : Meanings) (m after : Moment) (why : Refusal) (rest : List Reply) → Stabilizes F m after (Refused why ∷ rest)
-    → (target : ℕ) × (why ≡ Height target)
-stabilize_heights F m after why rest (settles notices free s settled broken is) = absurd (cc)
-stabilize_heights F m after why rest (by_cycle targets n come cycle among met leads is) = absurd (cc)
-stabilize_heights F m after why rest (by_height target i met deep named leads is) = (target, cc)
-
-plain_breaks_nothing : (why r : Refusal) (rest : List Reply) → breaks r ≡ false → breaks why ≡ true → Refused why ∷ rest ≡ Refused r ∷ [] → ⊥
-plain_breaks_nothing why r rest plain breaking is = let e : why ≡ r = cc in let f : breaks why ≡ false = rw e plain in cc
-
-answer_heights : (F : Meanings) (m after : Moment) (why : Refusal) (rest : List Reply) (request : Request) → breaks why ≡ true
-    → Answers F m request after (Refused why ∷ rest) → (target : ℕ) × (why ≡ Height target)
-answer_heights F m after why rest TooLong breaking h = absurd (plain_breaks_nothing why LineTooLong rest refl breaking h.1)
-answer_heights F m after why rest Blank breaking h = let is = h.1 in absurd (cc)
-answer_heights F m after why rest Malformed breaking h = absurd (plain_breaks_nothing why NoCommand rest refl breaking h.1)
-answer_heights F m after why rest TooDeep breaking h = absurd (plain_breaks_nothing why LineTooDeep rest refl breaking h.1)
-answer_heights F m after why rest (Asks l) breaking h =
-    let settle : verdict_of F m l ≡ Settle =
-    breaking_follows F m after why rest (verdict_of F m l) (verdict_is_plain m (command_of F (names_of m.present) l) (first_that (holds F m l) order)) breaking h in
-    stabilize_heights F m after why rest (subst (λ v. Follows F m v after (Refused why ∷ rest)) settle h)
-
-pub heights_alone_today : HeightsAloneToday
-heights_alone_today F m after line why rest h breaking = answer_heights F m after why rest h.0 breaking h.2

@@ -37,7 +37,7 @@ reason_is_plain m r = refl
 
 stabilize_leads : (F : Meanings) (m after : Moment) (why : Refusal) (rest : List Reply) → Stabilizes F m after (Refused why ∷ rest) → Refused-leads F m after why
 stabilize_leads F m after why rest (settles notices free s settled unbroken is) = absurd (cc)
-stabilize_leads F m after why rest (by_cycle targets n come cycle among met leads is) =
+stabilize_leads F m after why rest (by_cycle targets n cycle among met leads is) =
     let e : why ≡ Cycle targets = cc in
     record { nothing = λ h. absurd (let f : breaks why ≡ true = rw e refl in cc); broken = λ h. rw e leads }
 stabilize_leads F m after why rest (by_height target i met deep printed leads is) =

@@ -1,5 +1,5 @@
 -- The same lines print the same bytes.
-use Rattle.std.proofs.Common.{◌≡◌, ℕ, zero, suc, ◌+◌, Bool, true, false, cond, List, [], ◌∷◌, ◌++◌, map, Option, None, Some, refl, ap, sym, subst, ◌∙◌}
+use Rattle.std.proofs.Common.{◌≡◌, ℕ, zero, suc, ◌+◌, Bool, true, false, cond, List, [], ◌∷◌, ◌++◌, map, Option, None, Some, refl, ap, sym, subst, arith, ◌∙◌}
 use Rattle.std.proofs.lemmas.List.{take-map}
 use Rattle.std.specs.Prelude.{take}
 use Rattle.std.specs.List.{flat_map}
@@ -265,24 +265,27 @@ both_break m n after after' replies replies' k alike whole leads leads' =
       said = λ stays. absurd (let e : after.broken ≡ Some k = rw leads refl in cc);
     }
 
+number_apart : (a b : ℕ) → (a ≡ b → ⊥) → Some a ≡ Some b → ⊥
+number_apart a b apart e = apart (cc)
+
 stabilizes_alike : (F : Meanings) (m n after after' : Moment) (replies replies' : List Reply) → Alike m n → m.broken ≡ None
     → after.broken ≡ after'.broken → Stabilizes F m after replies → Stabilizes F n after' replies' → Ends m after after' replies replies'
-stabilizes_alike F m n after after' replies replies' alike whole same (by_cycle targets k come cycle among met leads is)
-    (by_cycle targets' k' come' cycle' among' met' leads' is') = both_break m n after after' replies replies' 20 alike whole leads leads'
-stabilizes_alike F m n after after' replies replies' alike whole same (by_cycle targets k come cycle among met leads is)
+stabilizes_alike F m n after after' replies replies' alike whole same (by_cycle targets k cycle among met leads is)
+    (by_cycle targets' k' cycle' among' met' leads' is') = both_break m n after after' replies replies' 20 alike whole leads leads'
+stabilizes_alike F m n after after' replies replies' alike whole same (by_cycle targets k cycle among met leads is)
     (by_height target i met' deep named leads' is') =
-    absurd (let e : after.broken ≡ Some 20 = rw leads refl in let f : after'.broken ≡ Some 21 = rw leads' refl in cc)
-stabilizes_alike F m n after after' replies replies' alike whole same (by_cycle targets k come cycle among met leads is)
+    absurd (number_apart 20 21 (λ e. omega (arith, e)) (sym (ap (λ (x : Moment). x.broken) leads) ∙ (same ∙ ap (λ (x : Moment). x.broken) leads')))
+stabilizes_alike F m n after after' replies replies' alike whole same (by_cycle targets k cycle among met leads is)
     (settles notices free s settled broken is') = absurd (let e : after.broken ≡ Some 20 = rw leads refl in cc)
 stabilizes_alike F m n after after' replies replies' alike whole same (by_height target i met deep named leads is)
-    (by_cycle targets k come cycle among met' leads' is') =
-    absurd (let e : after.broken ≡ Some 21 = rw leads refl in let f : after'.broken ≡ Some 20 = rw leads' refl in cc)
+    (by_cycle targets k cycle among met' leads' is') =
+    absurd (number_apart 21 20 (λ e. omega (arith, e)) (sym (ap (λ (x : Moment). x.broken) leads) ∙ (same ∙ ap (λ (x : Moment). x.broken) leads')))
 stabilizes_alike F m n after after' replies replies' alike whole same (by_height target i met deep named leads is)
     (by_height target' i' met' deep' named' leads' is') = both_break m n after after' replies replies' 21 alike whole leads leads'
 stabilizes_alike F m n after after' replies replies' alike whole same (by_height target i met deep named leads is)
     (settles notices free s settled broken is') = absurd (let e : after.broken ≡ Some 21 = rw leads refl in cc)
 stabilizes_alike F m n after after' replies replies' alike whole same (settles notices free s settled broken is)
-    (by_cycle targets k come cycle among met leads is') = absurd (let e : after'.broken ≡ Some 20 = rw leads refl in cc)
+    (by_cycle targets k cycle among met leads is') = absurd (let e : after'.broken ≡ Some 20 = rw leads refl in cc)
 stabilizes_alike F m n after after' replies replies' alike whole same (settles notices free s settled broken is)
     (by_height target i met deep named leads is') = absurd (let e : after'.broken ≡ Some 21 = rw leads refl in cc)
 stabilizes_alike F m n after after' replies replies' alike whole same (settles notices free s settled broken is)

@@ -126,7 +126,7 @@ module _ (F : Meanings) (s : State) (keep : KeepToTypes F) (valid : Valid F s) w
 
 -- ---- calls
 
-visit_values : (s : State) (i : Item) (cost : List Value → ℕ) (P : List Value → Type 0) (g : Gathered) (v : Visit) → GatheredAre P g
+pub visit_values : (s : State) (i : Item) (cost : List Value → ℕ) (P : List Value → Type 0) (g : Gathered) (v : Visit) → GatheredAre P g
     → Among v (visit_with s i cost g) → P v.values
 visit_values s i cost P Unknown v all among = absurd among
 visit_values s i cost P SomeInvalid v all among = absurd among

@@ -270,7 +270,7 @@ module _ (F : Meanings) (keep : KeepToTypes F) (m after : Moment) (replies : Lis
   stabilizes_valid (settles notices free s settled unbroken is) =
       let present = settles_valid F m.settled m.present after.present notices keep valid.1 s in
       (rw settled present, present)
-  stabilizes_valid (by_cycle targets n come cycle among met leads is) = rw leads valid
+  stabilizes_valid (by_cycle targets n cycle among met leads is) = rw leads valid
   stabilizes_valid (by_height target i met deep printed leads is) = rw leads valid
 
   allowed_valid : (c : Command) → Valid F (effect m.present c) → Follows F m (allowed (Some c)) after replies → ValidMoment F after

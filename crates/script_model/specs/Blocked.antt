@@ -1,5 +1,5 @@
 -- What stands in the way of a stabilize: names on a cycle, and items that are too deep.
-use Rattle.std.specs.Prelude.{◌≡◌, ℕ, Bool, true, false, List, [], ◌∷◌, Some}
+use Rattle.std.specs.Prelude.{◌≡◌, ℕ, List, [], ◌∷◌, Some}
 use Rattle.inc_value.specs.Choice.{NoRepeats, Reaches}
 use Rattle.script_model.specs.Formula.{State, Meanings, Grab, body_at}
 use Rattle.script_model.specs.Need.{Edge, Item, Named, Place, Reads}
@@ -34,13 +34,9 @@ IsCycle F s (x ∷ names) = EachReads F s x names × LastIs x names × NoRepeats
 abbrev pub OnCycle : Meanings → State → ℕ → Type 0
 OnCycle F s x = (y : ℕ) × NameReads F s x y × Reaches (NameReads F s) y x
 
--- whether a stabilize is refused for a cycle: not yet, since today's forms make none
-abbrev pub cycles_come : Bool
-cycles_come = false
-
 -- what stands in the way of a stabilize that meets it: a name on a cycle, and an item that is too deep
 pub data InTheWay (F : Meanings) (s : State) : Item → Type 0 where
-  on_cycle : {n : ℕ} → cycles_come ≡ true → OnCycle F s n → InTheWay F s (Named n)
+  on_cycle : {n : ℕ} → OnCycle F s n → InTheWay F s (Named n)
   too_deep : {i : Item} → TooDeep F s i → InTheWay F s i
 
 -- the name is the item, or its formula holds it

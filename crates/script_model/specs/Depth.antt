@@ -107,11 +107,12 @@ points_of s (Place owner path) = elim (and_then (formula_at s owner path) (chang
   | Some points ↦ Main (Place owner path) ∷ Change (Place owner path) ∷ []
 ]
 
--- an item is too deep that begins a walk of 130 points, no two of them equal
+-- an item is too deep that begins a walk of 130 points, no two of them equal but perhaps the first and another: where the first comes again it is on
+-- a cycle
 pub record TooDeep (F : Meanings) (s : State) (i : Item) : Type 0 where
   pub first : Point
   pub rest : List Point
   pub begins : Among first (points_of s (node_of s i))
   pub walk : IsWalk F s first rest
-  pub distinct : NoRepeats (first ∷ rest)
+  pub distinct : NoRepeats rest
   pub long : length rest ≡ 129

@@ -9,6 +9,7 @@ use Rattle.script_model.specs.Evaluate.{value_at, Gives, NameGives}
 use Rattle.script_model.specs.Grammar.{Line, IsLine, Stabilize, Grab}
 use Rattle.script_model.specs.Need.{Item, Named, Needed, ItemGives, WithinWork, Met, Visit, IsVisit, Edge, Inside, Place, Reads}
 use Rattle.script_model.specs.Blocked.{OnCycle, Holds, InTheWay}
+use Rattle.script_model.specs.Today.{IsTodaysState}
 use Rattle.script_model.specs.Valid.{HasType, BoundsFit, OutcomeHasType, Valid, KeepToTypes, LibraryKeepsToTypes}
 use Rattle.script_model.specs.Request.{Request, Asks, IsRequest}
 use Rattle.script_model.specs.Run.{Turn, IsRun, Halts, IsTurn, bytes_of, transcript}
@@ -51,6 +52,10 @@ abbrev pub NeededGives : Type 0
 NeededGives =
     (F : Meanings) (s : State) → KeepToTypes F → Valid F s → ((n : ℕ) → Needed F s (Named n) → OnCycle F s n → ⊥)
     → (i : Item) → Needed F s i → (o : Outcome) × ItemGives F s i o
+
+-- what gives an outcome is on no cycle
+abbrev pub GivenIsOnNoCycle : Type 0
+GivenIsOnNoCycle = (F : Meanings) (s : State) (n : ℕ) (o : Outcome) → NameGives F s n o → OnCycle F s n → ⊥
 
 -- where nothing changed since the last accepted stabilize, no call is due
 abbrev pub NothingDueAfterSettling : Type 0
@@ -236,10 +241,20 @@ BlockedIsRefused =
 
 -- ---- today's forms alone
 
--- a stabilize is refused for what is too deep alone, so its number is 21
+-- no name is on a cycle, since each reads earlier ones alone
+abbrev pub TodayHasNoCycle : Type 0
+TodayHasNoCycle = (F : Meanings) (s : State) → IsTodaysState s → (n : ℕ) → OnCycle F s n → ⊥
+
+-- behind a run both states are of today's forms
+abbrev pub RunsHoldTodays : Type 0
+RunsHoldTodays =
+    (F : Meanings) (lines : List (List ℕ)) (turns : List Turn) (run : IsRun F lines turns) → IsTodaysState run.end.settled × IsTodaysState run.end.present
+
+-- where the present state is of them a stabilize is refused for what is too deep alone, so its number is 21
 abbrev pub HeightsAloneToday : Type 0
 HeightsAloneToday =
-    (F : Meanings) (m after : Moment) (line : List ℕ) (why : Refusal) (rest : List Reply) → Step F m line after (Refused why ∷ rest) → breaks why ≡ true
+    (F : Meanings) (m after : Moment) (line : List ℕ) (why : Refusal) (rest : List Reply) → IsTodaysState m.present
+    → Step F m line after (Refused why ∷ rest) → breaks why ≡ true
     → (target : ℕ) × (why ≡ Height target)
 
 -- what a stabilize behind a run would meet is needed, so it is refused exactly where something that is needed is too deep

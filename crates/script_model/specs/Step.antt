@@ -13,7 +13,7 @@ use Rattle.script_model.specs.Check.{Reason, Command, SessionBroken, NotStabiliz
 use Rattle.script_model.specs.Request.{Request, TooLong, Blank, Malformed, TooDeep, Asks, IsRequest}
 use Rattle.script_model.specs.Need.{Item, Named, Needed, Met}
 use Rattle.script_model.specs.Depth as depth
-use Rattle.script_model.specs.Blocked.{IsCycle, InTheWay, IsPrintedFor, cycles_come}
+use Rattle.script_model.specs.Blocked.{IsCycle, InTheWay, IsPrintedFor}
 use Rattle.script_model.specs.Settle.{Notice, First, Changed, TurnedInvalid, Settles}
 
 -- ---- moments
@@ -272,7 +272,7 @@ NothingNeededIsBlocked F m = (i : Item) → Needed F m.present i → InTheWay F 
 pub data Stabilizes (F : Meanings) (m after : Moment) (replies : List Reply) : Type 0 where
   settles : (notices : List Notice) → NothingNeededIsBlocked F m → Settles F m.settled m.present after.present notices → after.settled ≡ after.present
       → after.broken ≡ None → replies ≡ Stable (m.present.accepted + 1) ∷ map (λ n. Tells n) notices → Stabilizes F m after replies
-  by_cycle : (targets : List ℕ) (n : ℕ) → cycles_come ≡ true → IsCycle F m.present targets → Among n targets → Met F m.settled m.present (Named n)
+  by_cycle : (targets : List ℕ) (n : ℕ) → IsCycle F m.present targets → Among n targets → Met F m.settled m.present (Named n)
       → after ≡ record m { broken = Some 20 } → replies ≡ Refused (Cycle targets) ∷ [] → Stabilizes F m after replies
   by_height : (target : ℕ) (i : Item) → Met F m.settled m.present i → depth.TooDeep F m.present i → IsPrintedFor m.present target i
       → after ≡ record m { broken = Some 21 } → replies ≡ Refused (Height target) ∷ [] → Stabilizes F m after replies

@@ -1,6 +1,6 @@
 //! Laws of the definitions. Each function does nothing: its contract is the law.
 ghost use Rattle.script_model.specs.GrammarLaws.{OneWriting, OneCommand, CommandsAreShallow, CommandsAreWellFormed, DeepLinesAreWellFormed, WhatIsReadIsWritten};
-ghost use Rattle.script_model.specs.Laws.{NothingDueAfterSettling, EveryDepthAgrees, OneOutcome, RefusalsChangeNothing, RefusedStabilizesBreak, OneRequest, OneEffect, StartIsValid, StepsKeepValidity, LinesKeepValidity, HaltsKeepValidity, RunsAreValid, ValuesHaveTypes, DeclarationsHaveTypes, CallsAreTyped, VisitsCountCalls, NeededGives, LibrariesKeepToTypes, EveryLineAsks, OnlyStabilizesCall, OneVisit, MeetsOnce, ReadsSuffice, OneTranscript, OneBeginning, OneTranscriptPastRefusals, OneEnd, UnblockedIsAccepted, BlockedIsRefused, HeightsAloneToday, MetIsNeededToday, OneTranscriptPastRefusalsToday, OneTranscriptToday, OneEndToday};
+ghost use Rattle.script_model.specs.Laws.{NothingDueAfterSettling, EveryDepthAgrees, OneOutcome, RefusalsChangeNothing, RefusedStabilizesBreak, OneRequest, OneEffect, StartIsValid, StepsKeepValidity, LinesKeepValidity, HaltsKeepValidity, RunsAreValid, ValuesHaveTypes, DeclarationsHaveTypes, CallsAreTyped, VisitsCountCalls, NeededGives, GivenIsOnNoCycle, LibrariesKeepToTypes, EveryLineAsks, OnlyStabilizesCall, OneVisit, MeetsOnce, ReadsSuffice, OneTranscript, OneBeginning, OneTranscriptPastRefusals, OneEnd, UnblockedIsAccepted, BlockedIsRefused, TodayHasNoCycle, RunsHoldTodays, HeightsAloneToday, MetIsNeededToday, OneTranscriptPastRefusalsToday, OneTranscriptToday, OneEndToday};
 ghost use Rattle.script_model.specs.TokenLaws.{OneSpelling};
 ghost use Rattle.script_model.specs.Row.{SumIsShown, SumIsOneCall, BindIsShown, BindIsOneCall, NameIsOnCycle, GrabDies, ChainIsTooDeep, GrabStateIsValid};
 
@@ -161,6 +161,11 @@ pub fn needed_gives()
     ensures { NeededGives }
 {}
 
+/// What gives an outcome is on no cycle.
+pub fn given_is_on_no_cycle()
+    ensures { GivenIsOnNoCycle }
+{}
+
 /// Functions of a library that keep to their types do so as the model has them.
 pub fn libraries_keep_to_types()
     ensures { LibrariesKeepToTypes }
@@ -227,6 +232,16 @@ pub fn unblocked_is_accepted()
 /// A stabilize is refused where something that is needed stands in the way.
 pub fn blocked_is_refused()
     ensures { BlockedIsRefused }
+{}
+
+/// Of today's forms no name is on a cycle.
+pub fn today_has_no_cycle()
+    ensures { TodayHasNoCycle }
+{}
+
+/// Behind a run both states are of today's forms.
+pub fn runs_hold_todays()
+    ensures { RunsHoldTodays }
 {}
 
 /// Of today's forms a stabilize is refused for what is too deep alone: its number is 21.

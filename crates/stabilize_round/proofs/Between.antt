@@ -105,14 +105,14 @@ move_depends F z s t inv (step_change quiet m e) p q st d = still_depends F s _ 
 move_depends F z s t inv (link m need e) p q st d = still_depends F s _ t e p q d
 move_depends F z s t inv (link_new m need k e) p q st d = still_depends F s _ t e p q d
 move_depends F z s t inv (root need e) p q st d = still_depends F s _ t e p q d
-move_depends F z s t inv (root_new need k e) p q st d = still_depends F s _ t e p q d
+move_depends F z s t inv (root_new given need k e) p q st d = still_depends F s _ t e p q d
 move_depends F z s t inv (raise m e) p q st d = still_depends F s _ t e p q d
 move_depends F z s t inv (finish m e) p q st d = still_depends F s _ t e p q d
 move_depends F z s t inv (schedule m e) p q st d = still_depends F s _ t e p q d
 move_depends F z s t inv (cut c w e) p q st d = still_depends F s _ t e p q d
-move_depends F z s t inv (rebuild {b} {now} {m} r made e) p q st d =
+move_depends F z s t inv (rebuild {b} {now} {m} r made count e) p q st d =
     let k = inv.settled.done p st in
-    still_depends F s _ t e p q (dep_grows F z s inv b now m r p q (r.given.live p.node k.row k.is_row) d)
+    still_depends F s _ t e p q (dep_grows F z s inv b now m r p q (r.given.names.live p.node k.row k.is_row) d)
 move_depends F z s t inv (level m e) p q st d = still_depends F s _ t e p q d
 move_depends F z s t inv (turn_strict u k e) p q st d = still_depends F s _ t e p q d
 
@@ -129,8 +129,8 @@ settled_reads_live F z s t u entry run p q st l on b now m move inside =
     let d = moves_depend F z t u inv on p q st (linked_depends F z t inv p q st l) in
     let done = there.settled.done p (moves_settled F z t u on p st) in
     let row = lives u.graph b q.node inside in
-    let fine = functions_within F z.known z.ids (Given u.given) move.step.laws in
-    no_stand F (Given u.given) (Fit u.given z.known z.ids) fine u.graph m.graph move.step.names b now move.step.due move.step.rebuilt q.node row.0
+    let fine = functions_within F z.known z.ids (Given u.given) move.given.laws in
+    no_stand F (Given u.given) (Fit u.given z.known z.ids) fine u.graph m.graph move.given.names b now move.due move.rebuilt q.node row.0
     inside row.1 (done.below q d row.0 row.1).0
   where
     lives : (G : Rattle.inc_terms.specs.Graph.Graph) (b n : NodeId) → Inside G b n → (r : Row) × (G.row n ≡ Some r)
@@ -185,12 +185,12 @@ new_links_confirmed F z s t (link {p = a} {q = b} {rest} {height'} m need e) p q
 new_links_confirmed F z s t (link_new {p = a} {q = b} {rest} {height'} m need k e) p q =
     by_link s t a b p q (λ l. link_back s a b rest height' p q (subst (λ (x : State). Linked x p q) e l)) m.confirmed
 new_links_confirmed F z s t (root need e) p q = no_link s _ t e p q (λ l. l)
-new_links_confirmed F z s t (root_new need k e) p q = no_link s _ t e p q (λ l. l)
+new_links_confirmed F z s t (root_new given need k e) p q = no_link s _ t e p q (λ l. l)
 new_links_confirmed F z s t (raise m e) p q = no_link s _ t e p q (λ l. l)
 new_links_confirmed F z s t (finish m e) p q = no_link s _ t e p q (λ l. l)
 new_links_confirmed F z s t (schedule m e) p q = no_link s _ t e p q (λ l. l)
 new_links_confirmed F z s t (cut {p = a} {r} {st} {row'} {needed'} {links'} {heap'} {owed'} d w e) p q =
     no_link s _ t e p q (λ l. cut_back s a r st row' d needed' links' heap' owed' w p q l)
-new_links_confirmed F z s t (rebuild r made e) p q = no_link s _ t e p q (λ l. l)
+new_links_confirmed F z s t (rebuild r made count e) p q = no_link s _ t e p q (λ l. l)
 new_links_confirmed F z s t (level m e) p q = no_link s _ t e p q (λ l. l)
 new_links_confirmed F z s t (turn_strict u k e) p q = no_link s _ t e p q (λ l. l)

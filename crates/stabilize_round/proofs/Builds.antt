@@ -51,12 +51,12 @@ move_built F z s t b (step_change quiet m e) p h = at F b _ t e h
 move_built F z s t b (link m need e) p h = at F b _ t e h
 move_built F z s t b (link_new m need k e) p h = at F b _ t e h
 move_built F z s t b (root need e) p h = at F b _ t e h
-move_built F z s t b (root_new need k e) p h = at F b _ t e h
+move_built F z s t b (root_new given need k e) p h = at F b _ t e h
 move_built F z s t b (raise m e) p h = at F b _ t e h
 move_built F z s t b (finish m e) p h = at F b _ t e h
 move_built F z s t b (schedule m e) p h = at F b _ t e h
 move_built F z s t b (cut d w e) p h = at F b _ t e h
-move_built F z s t b (rebuild {b = c} {now} {m = made} m built e) p h = at F b _ t e (elim (m.step.rebuilt.rows b p) [
+move_built F z s t b (rebuild {b = c} {now} {m = made} m built count e) p h = at F b _ t e (elim (m.rebuilt.rows b p) [
   | inl dead ↦ inl dead.1
   | inr lives ↦ by_state lives.0 lives.1 h
 ])
@@ -65,12 +65,12 @@ move_built F z s t b (rebuild {b = c} {now} {m = made} m built e) p h = at F b _
         → BuiltRight F made.graph b
     by_state out row (inl none) = inl (row ∙ none)
     by_state out row (inr h) = elim (node_or_other b c) [
-      | inl is ↦ absurd (not_due F s.graph b now (inr h) (subst (λ (y : NodeId). IsDue F s.graph y now) (sym is) m.step.due))
+      | inl is ↦ absurd (not_due F s.graph b now (inr h) (subst (λ (y : NodeId). IsDue F s.graph y now) (sym is) m.due))
       | inr ne ↦
           let sub : subject_of h.0.def ≡ Some h.1 = ap (λ (d : Def). subject_of d) h.6 in
           let given = subject_given F (Given s.given) (Fit s.given z.known z.ids)
           (functions_within F z.known z.ids
-          (Given s.given) m.step.laws) s.graph made.graph m.step.names c now m.step.due m.step.rebuilt b h.0 h.1 h.5 sub in
+          (Given s.given) m.given.laws) s.graph made.graph m.given.names c now m.due m.rebuilt b h.0 h.1 h.5 sub in
           inr (
             h.0,
             h.1,
@@ -79,10 +79,10 @@ move_built F z s t b (rebuild {b = c} {now} {m = made} m built e) p h = at F b _
             h.4,
             row ∙ h.5,
             h.6,
-            m.step.rebuilt.built b p ne out ∙ h.7,
+            m.rebuilt.built b p ne out ∙ h.7,
             same_after F (Given s.given) (Fit s.given z.known z.ids)
                 (functions_within F z.known z.ids
-                (Given s.given) m.step.laws) s.graph made.graph m.step.names c now m.step.due m.step.rebuilt h.1 given h.4.outcome h.8,
+                (Given s.given) m.given.laws) s.graph made.graph m.given.names c now m.due m.rebuilt h.1 given h.4.outcome h.8,
           )
     ]
 move_built F z s t b (level m e) p h = at F b _ t e h

@@ -5,21 +5,25 @@ use Rattle.std.proofs.lemmas.List.Sums.{sum_by-cons}
 use Rattle.inc_value.specs.declared.node.NodeId.{NodeId}
 use Rattle.inc_value.specs.declared.node.Part.TheVariants.{Change, Main}
 use Rattle.inc_value.specs.declared.node.Point.{Point}
-use Rattle.inc_value.specs.Choice.{Among, NoRepeats, Every, Reaches}
+use Rattle.inc_value.specs.Choice.{Among, NoRepeats, Every, Reaches, here}
 use Rattle.inc_terms.specs.Term.{Functions}
 use Rattle.inc_terms.specs.Graph.{Row}
 use Rattle.inc_terms.specs.Depend.{Depends, main}
 use Rattle.inc_terms.specs.Evaluate.{GiveAll}
 use Rattle.inc_terms.specs.Need.{Beside, Observed, nodes_of, Held, Met, from_root, from_held}
-use Rattle.inc_terms.specs.Work.{Visit, HasReason, other, passed, IsDueVisit}
+use Rattle.inc_terms.specs.Work.{Visit, HasReason, other, stale, passed, taken_by, IsDueVisit}
 use Rattle.stabilize_round.specs.Counts.{RoseAtMost}
 use Rattle.stabilize_round.specs.State.{State, Start, Call}
 use Rattle.stabilize_round.specs.Invariant as invariant
 use Rattle.stabilize_round.specs.Invariant.{Invariant, MetNow, HasCalled}
 use Rattle.stabilize_round.specs.Machine.{as_it_is, unbuilt, unkept}
 use Rattle.stabilize_round.specs.Ended.{RootsAre}
+use Rattle.stabilize_round.specs.Moves.{Quiet, IsLeast}
+use Rattle.stabilize_round.proofs.Ready.{ready}
 use Rattle.stabilize_round.specs.Calls.{BeginsFrom, RoundIsWithinWork, RefusedCalls}
-use Rattle.stabilize_round.specs.Calling.{taken_by, cost_at, costs_of}
+use Rattle.stabilize_round.specs.Calling as reason
+use Rattle.stabilize_round.specs.Calling.{Reason}
+use Rattle.stabilize_round.specs.Calling.{cost_at, costs_of}
 use Rattle.stabilize_round.proofs.Calling.{kids_taken, cost_of_taken}
 use Rattle.stabilize_round.proofs.Counts.{at_most, at_most_on}
 use Rattle.stabilize_round.proofs.Entry.{entry_holds}
@@ -51,11 +55,13 @@ module _ (F : Functions) (z : Start) (t : State) (inv : Invariant F z t) (before
 
   reason_of : (n : NodeId) (c : Called n) → HasReason t.graph before (visit_of n c)
   unfolding visit_of
-  reason_of n c = elim c.reason [
-    | inl differs ↦ other (λ last. other_arguments n c differs (z.last n) refl last)
-    | inr k ↦ passed {r = c.row} {kid = k.0} c.is_row
-        (subst (λ (ks : List NodeId). Among k.0 ks) (sym (kids_taken t.graph n c.row.def c.kids c.takes)) k.1) (from.never k.0 ∙ k.2)
-  ]
+  reason_of n c = by_reason c.reason
+    where
+      by_reason : Reason z.last z.never t.settled z.stale n c.kids c.values → HasReason t.graph before (visit_of n c)
+      by_reason (reason.other differs) = other (λ last. other_arguments n c differs (z.last n) refl last)
+      by_reason (reason.forced {kid} a never st) = passed {r = c.row} {kid = kid} c.is_row
+          (subst (λ (ks : List NodeId). Among kid ks) (sym (kids_taken t.graph n c.row.def c.kids c.takes)) a) (from.never kid ∙ never)
+      by_reason (reason.made_stale st) = stale (from.stale n ∙ st)
 
   due : (n : NodeId) (c : Called n) → IsDueVisit F t.graph t.died observers before (visit_of n c)
   unfolding visit_of
@@ -107,7 +113,7 @@ module _ (F : Functions) (z : Start) (t : State) (inv : Invariant F z t) (before
 pub round_is_within_work : RoundIsWithinWork
 round_is_within_work F z s t before observers calls entry run are from is =
     let inv = moves_keep F z s t run (entry_holds F z s entry) in
-    let k = inv.accounts.calls in
+    let k = inv.accounts.count in
     let most = k.most in
     let e = costs F z t inv before observers are from t.ran inv.accounts.called in
     record {
@@ -119,28 +125,36 @@ round_is_within_work F z s t before observers calls entry run are from is =
 
 -- ---- a round that is refused
 
-abbrev IsCalled : State → NodeId → Type 0
-IsCalled u n = (r : Row) × (kids : List NodeId) × (u.graph.row n ≡ Some r) × (taken_by r.def ≡ Some kids)
+-- what is taken is met
+least_met : (F : Functions) (z : Start) (s : State) → Invariant F z s → Quiet s → (p : Point) → IsLeast s p → MetNow F z s.graph s.died s.root p
+least_met F z s inv quiet p taken = elim (inv.met.needed p (inv.web.heap p taken.heap)) [
+  | inl m ↦ m
+  | inr h ↦ let k = ready F z s inv quiet p taken in invariant.from_held h k.is_row k.stands here
+]
 
-ran_called : (F : Functions) (z : Start) (u : State) → Invariant F z u → (n : NodeId) → Among n u.ran → IsCalled u n
-ran_called F z u inv n a = let c = inv.accounts.called n a in (c.row, c.kids, c.is_row, c.takes)
+abbrev IsCalled : Functions → Start → State → NodeId → Type 0
+IsCalled F z u n = (r : Row) × (kids : List NodeId) × (u.graph.row n ≡ Some r) × (taken_by u.graph n r.def ≡ Some kids)
+    × MetNow F z u.graph u.died u.root (main n)
 
-abbrev CalledAtMost : Start → State → Type 0
-CalledAtMost z u =
+ran_called : (F : Functions) (z : Start) (u : State) → Invariant F z u → (n : NodeId) → Among n u.ran → IsCalled F z u n
+ran_called F z u inv n a = let c = inv.accounts.called n a in (c.row, c.kids, c.is_row, c.takes, c.met)
+
+abbrev CalledAtMost : Functions → Start → State → Type 0
+CalledAtMost F z u =
     (called : List NodeId) × NoRepeats called × RoseAtMost z.calls (costs_of u.graph called) u.calls
-    × ((n : NodeId) → Among n called → IsCalled u n)
+    × ((n : NodeId) → Among n called → IsCalled F z u n)
 
-ran_alone : (F : Functions) (z : Start) (u : State) → Invariant F z u → CalledAtMost z u
-ran_alone F z u inv = (u.ran, inv.accounts.once, at_most inv.accounts.calls, (λ n a. ran_called F z u inv n a))
+ran_alone : (F : Functions) (z : Start) (u : State) → Invariant F z u → CalledAtMost F z u
+ran_alone F z u inv = (u.ran, inv.accounts.once, at_most inv.accounts.count, (λ n a. ran_called F z u inv n a))
 
 pub refused_calls : RefusedCalls
 refused_calls F z s t u entry run (as_it_is e) =
-    subst (λ (x : State). CalledAtMost z x) (sym e) (ran_alone F z t (moves_keep F z s t run (entry_holds F z s entry)))
-refused_calls F z s t u entry run (unbuilt {b} {now} {m} r none e) =
-    subst (λ (x : State). CalledAtMost z x) (sym e)
+    subst (λ (x : State). CalledAtMost F z x) (sym e) (ran_alone F z t (moves_keep F z s t run (entry_holds F z s entry)))
+refused_calls F z s t u entry run (unbuilt {b} {now} {m} r none count e) =
+    subst (λ (x : State). CalledAtMost F z x) (sym e)
     (ran_alone F z _ (rebuild_keeps F z t (moves_keep F z s t run (entry_holds F z s entry)) b now m r (inl none)))
 refused_calls F z s t u entry run (unkept {n} {r} {kids} {calls'} quiet taken row takes count e) =
-    subst (λ (x : State). CalledAtMost z x) (sym e)
+    subst (λ (x : State). CalledAtMost F z x) (sym e)
     (n ∷ t.ran, (not_ran, inv.accounts.once), counted, called)
   where
     inv : Invariant F z t
@@ -151,8 +165,8 @@ refused_calls F z s t u entry run (unkept {n} {r} {kids} {calls'} quiet taken ro
 
     counted : RoseAtMost z.calls (costs_of t.graph (n ∷ t.ran)) calls'
     counted = subst (λ (k : ℕ). RoseAtMost z.calls k calls') (sym (sum_by-cons (cost_at t.graph) n t.ran))
-        (at_most_on (at_most inv.accounts.calls) count)
+        (at_most_on (at_most inv.accounts.count) count)
 
-    called : (m : NodeId) → Among m (n ∷ t.ran) → IsCalled t m
-    called m (inl is) = (r, kids, subst (λ (y : NodeId). t.graph.row y ≡ Some r) (sym is) row, takes)
+    called : (m : NodeId) → Among m (n ∷ t.ran) → IsCalled F z t m
+    called m (inl is) = subst (λ (y : NodeId). IsCalled F z t y) (sym is) (r, kids, row, takes, least_met F z t inv quiet (main n) taken)
     called m (inr a) = ran_called F z t inv m a

@@ -25,6 +25,7 @@ use Rattle.stabilize_round.proofs.Low.{Low, plan_links, is_full, low_points}
 use Rattle.inc_terms.proofs.Seeing.{looks, shown_same, agrees_looks, exact_same}
 use Rattle.stabilize_round.proofs.Planned.{recalls_same, plan_same, plan_low, plan_change, looks_main}
 use Rattle.stabilize_round.proofs.Main.{at_false, main_change}
+use Rattle.stabilize_round.proofs.Reasons.{reason_more}
 
 module _ (F : Functions) (z : Start) (s : State) (inv : Invariant F z s) (quiet : Quiet s) (n : NodeId) (o : Outcome) (todo' : Point → Bool)
     (move : StepChange F s n o todo') where
@@ -113,7 +114,7 @@ module _ (F : Functions) (z : Start) (s : State) (inv : Invariant F z s) (quiet 
           same_out (news (subst (λ (y : Point). Exact F G s.out y) (sym e) x)) m
       | inr other ↦ at_other (change n) (Some o) s.out m other
     ]) d.agrees;
-    recalls = recalls_same F G G (shown G s.out) (shown G out') s.last s.last q d.row d.is_row d.is_row
+    recalls = recalls_same F G G (shown G s.out) (shown G out') s.last s.last q d.row d.is_row d.is_row refl
         (λ m among. shown_same F G s.out out' m (elim (same_or_other (change n) m) [
           | inl e ↦ let x = d.below m (done_links q d m
               (among_right m (gate_of d.row.scope) _ (among_left m (fixed_reads G q.node d.row.def q.part) _ among))) in
@@ -203,8 +204,9 @@ module _ (F : Functions) (z : Start) (s : State) (inv : Invariant F z s) (quiet 
   right_stays q r row nd ne right = (
     right.0,
     agrees_looks F G s.out out' q r row (at_other (change n) (Some o) s.out q ne) stays right.1,
-    recalls_same F G G (shown G s.out) (shown G out') s.last s.last q r row row
+    recalls_same F G G (shown G s.out) (shown G out') s.last s.last q r row row refl
         (λ m a. shown_same F G s.out out' m (stays m (among_left m (fixed_reads G q.node r.def q.part) _ a))) (λ part. refl) right.2,
+    right.3,
   )
     where
       stays : (m : Point) → Among m (looks G s.out q r) → out' m ≡ s.out m
@@ -289,8 +291,11 @@ module _ (F : Functions) (z : Start) (s : State) (inv : Invariant F z s) (quiet 
     met = c.met;
     gives = c.gives;
     is_last = c.is_last;
-    reason = elim c.reason [ inl other ↦ inl other | inr k ↦ inr (k.0, k.1, k.2, settled_more (main k.0) k.3) ];
+    reason = reason_more settled_more c.reason;
   }
+
+  main_other : (m : NodeId) → at_point (change n) true s.settled (main m) ≡ s.settled (main m)
+  main_other m = at_other (change n) true s.settled (main m) (apart m)
 
   last_settled : LastSettled after
   last_settled q e = let same : change n ≡ q = cc in
@@ -332,8 +337,12 @@ module _ (F : Functions) (z : Start) (s : State) (inv : Invariant F z s) (quiet 
       once = inv.accounts.once;
       called = λ m a. called_stays m (inv.accounts.called m a);
       kept = inv.accounts.kept;
-      calls = inv.accounts.calls;
+      count = inv.accounts.count;
       answers = inv.accounts.answers;
-      never = inv.accounts.never;
+      cutoffs = inv.accounts.cutoffs;
+      marked = λ m h. inv.accounts.marked m (sym (main_other m) ∙ h);
+      unmarked = λ m h. inv.accounts.unmarked m (sym (main_other m) ∙ h);
+      renewed = λ m r kids values st h. inv.accounts.renewed m r kids values st (sym (main_other m) ∙ h);
+      unfired = inv.accounts.unfired;
     };
   }

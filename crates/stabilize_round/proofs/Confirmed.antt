@@ -1,10 +1,16 @@
 -- Once a round is strict each link is in Depends.
-use Rattle.std.proofs.Common.{◌≡◌, ◌⊎◌, inl, inr, true, Option, None, Some, refl, sym, subst, arith}
+use Rattle.std.proofs.Common.{◌≡◌, ◌⊎◌, inl, inr, true, List, [], ◌∷◌, Option, None, Some, refl, sym, subst, arith}
 use Rattle.inc_value.specs.declared.node.NodeId.{NodeId}
 use Rattle.inc_value.specs.declared.node.Part.{Part}
 use Rattle.inc_value.specs.declared.node.Part.TheVariants.{Change, Main}
 use Rattle.inc_value.specs.declared.node.Point.{Point}
 use Rattle.inc_value.specs.Choice.{Among}
+use Rattle.inc_value.specs.Walk.{IsWalk}
+use Rattle.inc_terms.proofs.Walk.{rising_walks_end}
+use Rattle.stabilize_round.specs.StepLaws.{LinkedOr, ListedAreMet, ListedOnce}
+use Rattle.stabilize_round.proofs.Entry.{entry_holds}
+use Rattle.stabilize_round.proofs.Machine.{moves_keep}
+use Rattle.stabilize_round.proofs.Linking.{met_more}
 use Rattle.inc_terms.specs.Term.{Functions}
 use Rattle.inc_terms.specs.Graph as graph
 use Rattle.inc_terms.specs.Graph.{Graph, Row}
@@ -102,3 +108,34 @@ module _ (F : Functions) (z : Start) (s : State) (inv : Invariant F z s) (strict
 
   pub strict_met : (p : Point) → s.needed p ≡ true → MetNow F z s.graph s.died s.root p
   strict_met p need = let w = inv.web.reached p need in from_root w.1 (reaches_map (Linked s) (Depends F s.graph s.died) strict_depends w.0 p w.2)
+
+-- ---- what refusals list
+
+module _ (F : Functions) (z : Start) (s : State) (inv : Invariant F z s) (strict : s.strict ≡ true) (p q : Point) (tried : Depends F s.graph s.died p q) where
+  one_depends : (a b : Point) → LinkedOr s p q a b → Depends F s.graph s.died a b
+  one_depends a b (inl l) = strict_depends F z s inv strict a b l
+  one_depends a b (inr is) = subst (λ (y : Point). Depends F s.graph s.died y b) is.0 (subst (λ (y : Point). Depends F s.graph s.died p y) is.1 tried)
+
+  listed_depends : (x : Point) (rest : List Point) → IsWalk (LinkedOr s p q) (x ∷ rest) → IsWalk (Depends F s.graph s.died) (x ∷ rest)
+  listed_depends x [] w = tt
+  listed_depends x (y ∷ rest) w = (one_depends x y w.0, listed_depends y rest w.1)
+
+  listed_met : (x : Point) (rest : List Point) → MetNow F z s.graph s.died s.root x → IsWalk (LinkedOr s p q) (x ∷ rest)
+      → (y : Point) → Among y (x ∷ rest) → MetNow F z s.graph s.died s.root y
+  listed_met x rest met w y (inl is) = subst (λ (k : Point). MetNow F z s.graph s.died s.root k) (sym is) met
+  listed_met x [] met w y (inr a) = absurd a
+  listed_met x (k ∷ rest) met w y (inr a) = listed_met k rest (met_more F z s.graph s.died s.root x k met (one_depends x k w.0)) w.1 y a
+
+pub listed_are_met : ListedAreMet
+listed_are_met F z s t entry run strict p q tried x rest need walk =
+    let inv = moves_keep F z s t run (entry_holds F z s entry) in (
+      listed_depends F z t inv strict p q tried x rest walk,
+      λ y a. listed_met F z t inv strict p q tried x rest (strict_met F z t inv strict x need) walk y a,
+    )
+
+pub listed_once : ListedOnce
+listed_once F z s t entry run x rest walk =
+    let web = (moves_keep F z s t run (entry_holds F z s entry)).web in
+    let w = rising_walks_end t.links t.height x rest (λ a b l. web.rises a b l) walk in
+    let low = web.low x in let short = w.0 in
+    (w.1, omega arith)

@@ -1,26 +1,43 @@
 -- With the heap and the worklist empty all that is needed is exact, and the links are what is depended on.
-use Rattle.std.proofs.Common.{◌≡◌, inl, inr, suc, ◌<◌, ◌≤◌, Bool, true, false, cond, List, [], ◌∷◌, Option, None, Some, refl, sym, subst, arith}
+use Rattle.std.proofs.Common.{◌≡◌, inl, inr, suc, ◌<◌, ◌≤◌, Bool, true, false, cond, List, [], ◌∷◌, map, Option, None, Some, refl, sym, ap, subst, ◌∙◌, arith}
 use Rattle.inc_value.specs.declared.node.NodeId.{NodeId}
 use Rattle.inc_value.specs.declared.node.Part.TheVariants.{Main}
 use Rattle.inc_value.specs.declared.node.Point.{Point}
 use Rattle.inc_value.specs.Choice.{Among, Reaches, here, step}
 use Rattle.inc_value.specs.Walk.{IsWalk, IsDeep, IsOnCycle}
 use Rattle.inc_terms.specs.Term.{Functions}
-use Rattle.inc_terms.specs.Graph.{Row}
+use Rattle.inc_value.specs.declared.function.FnRef.{FnRef}
+use Rattle.inc_value.specs.declared.value.Value.{Value}
+use Rattle.inc_value.specs.declared.value.Value.TheVariants as value
+use Rattle.inc_terms.specs.Graph as graph
+use Rattle.inc_terms.specs.Graph.{Row, Def}
+use Rattle.inc_terms.specs.Evaluate.{GiveAll}
+use Rattle.inc_terms.specs.Work.{taken_by}
 use Rattle.inc_terms.specs.Depend.{Depends, gate, ghost, fixed, right, main, change, fixed_reads, subject_of}
 use Rattle.inc_terms.specs.Local.{shown, Agrees, HasRun}
-use Rattle.inc_terms.specs.Need.{Needed}
+use Rattle.inc_terms.specs.Need.{IsUnfrozen, Needed}
 use Rattle.inc_terms.specs.Plan.{gate_of}
 use Rattle.inc_terms.proofs.Local.{main_sees}
 use Rattle.inc_terms.proofs.Plan.{among_left, among_right, plan_depends, depends_plan}
 use Rattle.inc_terms.proofs.Walk.{low_is_not_deep}
-use Rattle.stabilize_round.specs.State.{State, Start, Stage, Bare, Gated, Static, Full, Linked, count}
+use Rattle.stabilize_round.specs.State.{State, Start, Call, Stage, Bare, Gated, Static, Full, Linked, count}
 use Rattle.stabilize_round.specs.Invariant.{Invariant, Recalls}
 use Rattle.stabilize_round.specs.Moves.{Quiet}
-use Rattle.stabilize_round.specs.Ended.{RootsAre, Ended, unsettled}
+use Rattle.stabilize_round.specs.Calling.{IsAnswer}
+use Rattle.stabilize_round.specs.Freezing.{fires, row_fires, fires_at}
+use Rattle.stabilize_round.specs.Ended.{RootsAre, Fires, Ended, unsettled}
+use Rattle.stabilize_round.proofs.Freezing.{Firing, firing, firing_fires}
+use Rattle.stabilize_round.proofs.Parts.{bool_cases}
+use Rattle.stabilize_round.proofs.Planned.{reads_taken}
+use Rattle.stabilize_round.proofs.Main.{gives_gathered}
 use Rattle.stabilize_round.proofs.Counts.{fewer_than}
-use Rattle.stabilize_round.proofs.Points.{count_among, among_count}
+use Rattle.stabilize_round.proofs.Points.{among_or_not, count_among, among_count}
 use Rattle.stabilize_round.proofs.Low.{Low, among_gate, gate_among, links_are, plan_links, links_plan, low_points}
+
+-- what a freeze's predicate answers
+predicate_answers : (F : Functions) (def : Def) (kid : NodeId) (f : FnRef) (given values : List Value) (w : Value) → def ≡ graph.Freeze kid f
+    → given ≡ values → IsAnswer F def given w → w ≡ F.value f values
+predicate_answers F def kid f given values w is e h = rw (is, e) at h
 
 module _ (F : Functions) (z : Start) (s : State) (inv : Invariant F z s) (quiet : Quiet s) (observed : List NodeId) (are : RootsAre s observed)
     (empty : (q : Point) → s.heap q ≡ true → ⊥) where
@@ -137,6 +154,101 @@ module _ (F : Functions) (z : Start) (s : State) (inv : Invariant F z s) (quiet 
     | inr (inr h) ↦ h.2 r kids values row
   ]
 
+  unmarked : (n : NodeId) (r : Row) → s.graph.row n ≡ Some r → s.needed (main n) ≡ true → s.stale n ≡ false
+  unmarked n r row need = elim (inv.fresh (main n) r row need) [
+    | inl h ↦ absurd (empty (main n) h)
+    | inr (inl h) ↦ inv.accounts.unmarked n h
+    | inr (inr h) ↦ h.3 refl
+  ]
+
+  renewed : (n : NodeId) (r : Row) (kids : List NodeId) (values : List Value) → z.stale n ≡ true → s.needed (main n) ≡ true
+      → s.graph.row n ≡ Some r → taken_by s.graph n r.def ≡ Some kids → GiveAll F s.graph kids values → Among n s.ran
+  renewed n r kids values st need row takes gives = elim (bool_cases (s.settled (main n))) [
+    | inl h ↦ inv.accounts.renewed n r kids values st h row takes gives
+    | inr h ↦ absurd (let a = unmarked n r row need in let b = inv.accounts.marked n h in cc)
+  ]
+
+  -- ---- freezes
+
+  kept_single : (kid : NodeId) (f : FnRef) (r : Row) (n : NodeId) → r.def ≡ graph.Freeze kid f → s.graph.frozen n ≡ None
+      → taken_by s.graph n r.def ≡ Some (kid ∷ [])
+  kept_single kid f r n is none = rw (is, none) refl
+
+  fired_by_call : (n : NodeId) (v : Value) (h : Firing (s.graph.row n) (s.graph.frozen n) (s.last n) v) → Among n s.ran → Fires F s.graph n v
+  fired_by_call n v h a =
+      let c = inv.accounts.called n a in
+      let mine = h.is_row in let its = c.is_row in
+      let rows : c.row ≡ h.row = cc in
+      let takes = kept_single h.kid h.predicate h.row n h.is_freeze h.keeps_none in
+      let takes' : taken_by s.graph n h.row.def ≡ Some c.kids = subst (λ (y : Row). taken_by s.graph n y.def ≡ Some c.kids) rows c.takes in
+      let kids : c.kids ≡ h.kid ∷ [] = cc in
+      let last = c.is_last in let last' = h.is_last in
+      let calls : h.call ≡ record { arguments = c.values; result = c.result } = cc in
+      let values : c.values ≡ v ∷ [] = sym (ap (λ (x : Call). x.arguments) calls) ∙ h.arguments in
+      let result : c.result ≡ value.Bool true = sym (ap (λ (x : Call). x.result) calls) ∙ h.result in
+      let gives : GiveAll F s.graph (h.kid ∷ []) (v ∷ []) = rw (kids, values) at c.gives in
+      let def : c.row.def ≡ graph.Freeze h.kid h.predicate = ap (λ (x : Row). x.def) rows ∙ h.is_freeze in
+      let answer : c.result ≡ F.value h.predicate (v ∷ []) = rw (def, values) at c.answers in
+      record {
+        row = h.row;
+        kid = h.kid;
+        predicate = h.predicate;
+        is_row = h.is_row;
+        is_freeze = h.is_freeze;
+        keeps_none = h.keeps_none;
+        gives = gives.0;
+        holds = sym answer ∙ result;
+      }
+
+  fired : (n : NodeId) (v : Value) → fires_at s n ≡ Some v → Fires F s.graph n v
+  fired n v e =
+      let h = firing (s.graph.row n) (s.graph.frozen n) (s.last n) v e in
+      elim (among_or_not n s.ran) [
+        | inl a ↦ fired_by_call n v h a
+        | inr no_ ↦ absurd (
+            let kept = inv.accounts.kept n h.row h.is_row no_ in
+            let none : fires h.row.def (s.graph.frozen n) (s.last n) ≡ None =
+            ap (λ (x : Option Call). fires h.row.def (s.graph.frozen n) x) kept ∙ inv.accounts.unfired n h.row h.is_row in
+            let some : fires h.row.def (s.graph.frozen n) (s.last n) ≡ Some v =
+            sym (ap (λ (x : Option Row). row_fires x (s.graph.frozen n) (s.last n)) h.is_row) ∙ e in
+            cc
+            )
+      ]
+
+  fires_now : (n : NodeId) (v : Value) → Fires F s.graph n v → fires_at s n ≡ Some v
+  fires_now n v h =
+      let unfrozen : IsUnfrozen s.graph n = record {
+        row = h.row;
+        kid = h.kid;
+        predicate = h.predicate;
+        is_row = h.is_row;
+        is_freeze = h.is_freeze;
+        keeps_none = h.keeps_none;
+      } in
+      let need = inv.web.rooted (main n) (are.on n (inr unfrozen)) in
+      let takes = kept_single h.kid h.predicate h.row n h.is_freeze h.keeps_none in
+      let sees = λ (k : NodeId) (a : Among (main k) (map main (h.kid ∷ []))).
+      let l = plan_links F z s inv quiet (main n) (main k) h.row Full h.is_row ((low (main n) need).full h.row h.is_row) need
+      (among_right (main k) (gate_of h.row.scope) _ (among_left (main k) (fixed_reads s.graph n h.row.def Main) _
+      (reads_taken s.graph n h.row.def (h.kid ∷ []) (main k) takes a))) in
+      main_sees F s.graph s.out k (low (main k) (inv.web.onto (main n) (main k) l)).exact in
+      let seen = gives_gathered F s.graph s.out (h.kid ∷ []) (v ∷ []) sees (h.gives, tt) in
+      let c = recalls (main n) need h.row (h.kid ∷ []) (v ∷ []) h.is_row refl takes seen in
+      let answer = predicate_answers F h.row.def h.kid h.predicate c.0.arguments (v ∷ []) c.0.result h.is_freeze c.2
+      (inv.accounts.answers n h.row (h.kid ∷ []) c.0 h.is_row takes c.1) in
+      firing_fires (s.graph.row n) (s.graph.frozen n) (s.last n) v (record {
+        row = h.row;
+        kid = h.kid;
+        predicate = h.predicate;
+        call = c.0;
+        is_row = h.is_row;
+        is_freeze = h.is_freeze;
+        keeps_none = h.keeps_none;
+        is_last = c.1;
+        arguments = c.2;
+        result = answer ∙ h.holds;
+      })
+
   pub ended : Ended F z s observed
   ended = record {
     full = λ p r row need. (low p need).full r row;
@@ -151,7 +263,10 @@ module _ (F : Functions) (z : Start) (s : State) (inv : Invariant F z s) (quiet 
     kept = inv.accounts.kept;
     once = inv.accounts.once;
     ran = inv.accounts.called;
-    calls = inv.accounts.calls;
+    calls = inv.accounts.count;
+    unmarked = unmarked;
+    renewed = renewed;
+    fires = λ n v. ((λ e. fired n v e), (λ h. fires_now n v h));
   }
 
 -- where some stay so, of the others no more are there

@@ -1,11 +1,15 @@
 -- A round begins with the invariant.
-use Rattle.std.proofs.Common.{◌≡◌, inl, inr, true, sym, ◌∙◌, arith}
+use Rattle.std.proofs.Common.{◌≡◌, inl, inr, true, Option, None, refl, sym, ap, ◌∙◌}
 use Rattle.inc_value.specs.declared.node.NodeId.{NodeId}
 use Rattle.inc_value.specs.declared.node.Point.{Point}
-use Rattle.inc_value.specs.Choice.{Among}
+use Rattle.inc_value.specs.Choice.{Among, here}
+use Rattle.inc_terms.specs.Graph.{Row}
+use Rattle.inc_terms.specs.Evaluate.{Stands, answer}
+use Rattle.inc_terms.specs.Depend.{main}
+use Rattle.stabilize_round.specs.Freezing.{fires, row_fires}
 use Rattle.inc_terms.specs.Term.{Functions}
-use Rattle.stabilize_round.specs.State.{State, Start}
-use Rattle.stabilize_round.specs.Invariant.{Invariant}
+use Rattle.stabilize_round.specs.State.{State, Start, Call}
+use Rattle.stabilize_round.specs.Invariant.{Invariant, from_held}
 use Rattle.stabilize_round.specs.Machine.{Entry}
 use Rattle.stabilize_round.proofs.Counts.{none_yet}
 
@@ -19,14 +23,19 @@ module _ (F : Functions) (z : Start) (s : State) (entry : Entry F z s) where
   none_ran : {P : Type 0} → (n : NodeId) → Among n s.ran → P
   none_ran n h = absurd (let x = rw entry.ran at h in x)
 
+  -- what stands in no scope stands
+  at_top : (x : Option NodeId) → x ≡ None → Stands F s.graph x
+  unfolding answer
+  at_top x e = rw e (1, refl)
+
   pub entry_holds : Invariant F z s
   entry_holds = record {
     web = entry.web;
     alive = entry.alive;
     rows = record {
-      links = λ p q need. let o = entry.owed p in let e = entry.links p q need in rw o (omega arith);
+      links = entry.links;
       bare = λ p need e. absurd (entry.bare p need e);
-      owed = λ p h. entry.owed p;
+      owed = entry.owed;
     };
     scoped = entry.scoped;
     rooted = entry.rooted;
@@ -35,20 +44,25 @@ module _ (F : Functions) (z : Start) (s : State) (entry : Entry F z s) where
       gated = λ p r row need td e. absurd (let f = entry.full p r row need in cc);
       static = λ p r row need td e. absurd (let f = entry.full p r row need in cc);
     };
-    fresh = λ p r row need. elim (entry.fresh p r row need) [ inl h ↦ inl h | inr a ↦ inr (inr (entry.full p r row need, a.0, a.1)) ];
+    fresh = λ p r row need. elim (entry.fresh p r row need) [ inl h ↦ inl h | inr a ↦ inr (inr (entry.full p r row need, a.0, a.1, a.2)) ];
     settled = record { done = λ p h. not_settled p h; twice = λ p h k. not_settled p h };
     strict = record { gates = λ h p r b row need sc st. not_strict h; rights = λ h n r q row need st among. not_strict h };
     last_settled = λ p e. absurd (let x = entry.taken in cc);
     met = record {
       needed = λ p need. inr (entry.held p ∙ need);
-      todo = λ p need td. absurd (let x = entry.todo p in cc);
+      todo = λ p need td. let r = entry.todo p need td in from_held (entry.held p ∙ need) r.1 (at_top r.0.scope r.2) here;
     };
     accounts = record {
       once = rw entry.ran tt;
       called = λ n a. none_ran n a;
       kept = λ n r row h. sym (entry.last n);
-      calls = rw (entry.ran, entry.calls) none_yet;
+      count = rw (entry.ran, entry.calls) none_yet;
       answers = entry.answers;
-      never = λ n. sym (entry.never n);
+      cutoffs = λ n. sym (entry.never n);
+      marked = λ n h. sym (entry.stale n);
+      unmarked = λ n h. not_settled (main n) h;
+      renewed = λ n r kids values st h row takes gives. not_settled (main n) h;
+      unfired = λ n r row. ap (λ (x : Option Call). fires r.def (s.graph.frozen n) x) (entry.last n)
+          ∙ sym (ap (λ (x : Option Row). row_fires x (s.graph.frozen n) (s.last n)) row) ∙ entry.unfired n;
     };
   }

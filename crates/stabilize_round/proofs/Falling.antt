@@ -37,12 +37,12 @@ move_strict F z s t (step_change quiet m e) h = strict_at s _ t e h
 move_strict F z s t (link m need e) h = strict_at s _ t e h
 move_strict F z s t (link_new m need k e) h = strict_at s _ t e h
 move_strict F z s t (root need e) h = strict_at s _ t e h
-move_strict F z s t (root_new need k e) h = strict_at s _ t e h
+move_strict F z s t (root_new given need k e) h = strict_at s _ t e h
 move_strict F z s t (raise m e) h = strict_at s _ t e h
 move_strict F z s t (finish m e) h = strict_at s _ t e h
 move_strict F z s t (schedule m e) h = strict_at s _ t e h
 move_strict F z s t (cut d w e) h = strict_at s _ t e h
-move_strict F z s t (rebuild r made e) h = strict_at s _ t e h
+move_strict F z s t (rebuild r made count e) h = strict_at s _ t e h
 move_strict F z s t (level m e) h = strict_at s _ t e h
 move_strict F z s t (turn_strict u k e) h = strict_at s _ t e refl
 
@@ -57,12 +57,12 @@ turned_from F z s t (step_change quiet m e) it = absurd it
 turned_from F z s t (link m need e) it = absurd it
 turned_from F z s t (link_new m need k e) it = absurd it
 turned_from F z s t (root need e) it = absurd it
-turned_from F z s t (root_new need k e) it = absurd it
+turned_from F z s t (root_new given need k e) it = absurd it
 turned_from F z s t (raise m e) it = absurd it
 turned_from F z s t (finish m e) it = absurd it
 turned_from F z s t (schedule m e) it = absurd it
 turned_from F z s t (cut d w e) it = absurd it
-turned_from F z s t (rebuild r made e) it = absurd it
+turned_from F z s t (rebuild r made count e) it = absurd it
 turned_from F z s t (level m e) it = absurd it
 
 settled_by : (F : Functions) (z : Start) (s t : State) (p : Point) (m : Move F z s t) → Settles p m → t.settled p ≡ true
@@ -75,12 +75,12 @@ settled_by F z s t p (step_change {n} quiet m e) it =
 settled_by F z s t p (link m need e) it = absurd it
 settled_by F z s t p (link_new m need k e) it = absurd it
 settled_by F z s t p (root need e) it = absurd it
-settled_by F z s t p (root_new need k e) it = absurd it
+settled_by F z s t p (root_new given need k e) it = absurd it
 settled_by F z s t p (raise m e) it = absurd it
 settled_by F z s t p (finish m e) it = absurd it
 settled_by F z s t p (schedule m e) it = absurd it
 settled_by F z s t p (cut d w e) it = absurd it
-settled_by F z s t p (rebuild r made e) it = absurd it
+settled_by F z s t p (rebuild r made count e) it = absurd it
 settled_by F z s t p (level m e) it = absurd it
 settled_by F z s t p (turn_strict u k e) it = absurd it
 
@@ -147,9 +147,9 @@ wire_kept F z s t (level m e) it = kept_at s _ t e
 wire_kept F z s t (step_main quiet m e) it = absurd it
 wire_kept F z s t (step_change quiet m e) it = absurd it
 wire_kept F z s t (root need e) it = absurd it
-wire_kept F z s t (root_new need k e) it = absurd it
+wire_kept F z s t (root_new given need k e) it = absurd it
 wire_kept F z s t (cut d w e) it = absurd it
-wire_kept F z s t (rebuild r made e) it = absurd it
+wire_kept F z s t (rebuild r made count e) it = absurd it
 wire_kept F z s t (turn_strict u k e) it = absurd it
 
 kept_on : (s u t : State) → Kept s u → Kept u t → Kept s t
@@ -287,9 +287,9 @@ idle_wire F z s t quiet owed (level m e) it = idle_at s _ t e (record { quiet = 
 idle_wire F z s t quiet owed (step_main q m e) it = absurd it
 idle_wire F z s t quiet owed (step_change q m e) it = absurd it
 idle_wire F z s t quiet owed (root need e) it = absurd it
-idle_wire F z s t quiet owed (root_new need k e) it = absurd it
+idle_wire F z s t quiet owed (root_new given need k e) it = absurd it
 idle_wire F z s t quiet owed (cut d w e) it = absurd it
-idle_wire F z s t quiet owed (rebuild r made e) it = absurd it
+idle_wire F z s t quiet owed (rebuild r made count e) it = absurd it
 idle_wire F z s t quiet owed (turn_strict u k e) it = absurd it
 
 idle_run : (F : Functions) (z : Start) (s t : State) → Quiet s → ((p : Point) → s.owed p ≡ []) → Reaches (Wiring F z) s t → Idle s t
@@ -415,12 +415,12 @@ module _ (F : Functions) (z : Start) (s : State) (inv : Invariant F z s) (quiet 
   settles_again (link m need e) it = absurd it
   settles_again (link_new m need k e) it = absurd it
   settles_again (root need e) it = absurd it
-  settles_again (root_new need k e) it = absurd it
+  settles_again (root_new given need k e) it = absurd it
   settles_again (raise m e) it = absurd it
   settles_again (finish m e) it = absurd it
   settles_again (schedule m e) it = absurd it
   settles_again (cut d w e) it = absurd it
-  settles_again (rebuild r made e) it = absurd it
+  settles_again (rebuild r made count e) it = absurd it
   settles_again (level m e) it = absurd it
   settles_again (turn_strict u k e) it = absurd it
 

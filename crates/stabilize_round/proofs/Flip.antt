@@ -25,7 +25,8 @@ use Rattle.stabilize_round.specs.Flip.{test, right, choice, right_row, choice_ro
 use Rattle.stabilize_round.proofs.Counts.{none_yet}
 use Rattle.stabilize_round.proofs.Points.{same_or_other, at_same, at_other}
 use Rattle.stabilize_round.proofs.Between.{link_back, round_ends}
-use Rattle.stabilize_round.proofs.Flipping.{A, B, C, M, never, one_of, not_at, row_case, scopeless, right_is, choice_is, LinkedThen, link_ma, root_m}
+use Rattle.stabilize_round.proofs.Flipping.{A, B, C, M, row_case, scopeless, right_is, choice_is, LinkedThen, link_ma, root_m}
+use Rattle.stabilize_round.proofs.Renewing.{never, one_of, not_at}
 use Rattle.stabilize_round.proofs.Flipping.{root_case, height_b, height_m, low, falls, begins, heap1, in_heap1, s1, step1, heap2, in_heap2, s2}
 use Rattle.stabilize_round.proofs.Flipping.{unsettled_c, scheduled, dropping, needed3, need3_m, LinkedNow, link3_case, sweeping, s3, todo4, s4}
 use Rattle.stabilize_round.proofs.Flipping.{stage_m, least_c, second}
@@ -370,7 +371,8 @@ round : (F : Functions) → Round F beginning before s11
 round F = record {
   entry = begins F;
   begun = before;
-  rooted = here;
+  opened = here;
+  idle = λ p. refl;
   steps = step {b = s1} (step1 F) (step {b = s9} (step2 F) (step {b = s10} (step3 F) (step {b = s11} (step4 F) here)));
 }
 

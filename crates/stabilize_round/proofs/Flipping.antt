@@ -12,8 +12,11 @@ use Rattle.inc_value.specs.Choice.{Among, Reaches, here, step}
 use Rattle.inc_terms.specs.Term.{Functions}
 use Rattle.inc_terms.specs.Graph.{Row}
 use Rattle.inc_terms.specs.Local.{shown, own, IsBuilt, PartAgrees, Agrees}
-use Rattle.stabilize_round.specs.Calling.{taken_by}
-use Rattle.stabilize_round.specs.Invariant.{Recalls}
+use Rattle.inc_terms.specs.Work.{taken_by}
+use Rattle.stabilize_round.specs.Freezing.{row_fires}
+use Rattle.stabilize_round.specs.Invariant.{Recalls, IsUnmarked}
+use Rattle.stabilize_round.proofs.Freezing.{never_called}
+use Rattle.stabilize_round.proofs.Renewing.{never, at_case, one_of, not_at, node_case}
 use Rattle.inc_terms.specs.Depend.{main, change}
 use Rattle.stabilize_round.specs.State.{State, Static, Full, Linked, count, one, live_plan, planned, at_point, at_node}
 use Rattle.stabilize_round.specs.Moves.{Quiet, IsLeast, computed, StepMain, Awaits, changed, StepChange}
@@ -22,7 +25,7 @@ use Rattle.stabilize_round.specs.Machine.{Entry, step_main}
 use Rattle.stabilize_round.specs.Steps.{plainly, Step}
 use Rattle.stabilize_round.specs.Flip.{test, left, right, choice, test_row, left_row, right_row, choice_row, links_before, before, beginning}
 use Rattle.stabilize_round.proofs.Counts.{none_yet}
-use Rattle.stabilize_round.proofs.Points.{same_or_other, node_or_other, at_same, at_other, node_same, node_other, count_among}
+use Rattle.stabilize_round.proofs.Points.{same_or_other, at_same, at_other, count_among}
 
 abbrev pub T : Point
 T = main test
@@ -39,37 +42,7 @@ C = change choice
 abbrev pub M : Point
 M = main choice
 
-pub never : {X : Type 0} → false ≡ true → X
-never h = absurd (cc)
-
--- what holds of a function at a point holds of the new value there, or of the old function
-pub at_case : {X : Type 0} (x : Point) (a : X) (f : Point → X) (p : Point) (Q : X → Type 0) → Q (at_point x a f p) → ((x ≡ p) × Q a) ⊎ Q (f p)
-at_case x a f p Q h = elim (same_or_other x p) [
-  | inl e ↦ inl (e, subst Q (subst (λ (y : Point). at_point x a f y ≡ a) e (at_same x a f)) h)
-  | inr ne ↦ inr (subst Q (at_other x a f p ne) h)
-]
-
-abbrev pub IsTrue : common.Bool → Type 0
-IsTrue b = b ≡ true
-
-pub one_of : (f : Point → common.Bool) (x p : Point) → at_point x true f p ≡ true → (x ≡ p) ⊎ (f p ≡ true)
-one_of f x p h = elim (at_case x true f p IsTrue h) [ inl k ↦ inl k.0 | inr k ↦ inr k ]
-
-pub not_at : (f : Point → common.Bool) (x p : Point) → at_point x false f p ≡ true → (x ≡ p → ⊥) × (f p ≡ true)
-not_at f x p h = elim (same_or_other x p) [
-  | inl e ↦ absurd (let a = at_same x false f in
-      let b : at_point x false f x ≡ true = subst (λ (y : Point). at_point x false f y ≡ true) (sym e) h in cc)
-  | inr ne ↦ (ne, sym (at_other x false f p ne) ∙ h)
-]
-
 -- ---- rows
-
-pub node_case : (n m : NodeId) (x : Option Row) (f : NodeId → Option Row) (r : Row) → at_node n x f m ≡ Some r → ((n ≡ m) × (x ≡ Some r))
-    ⊎ (f m ≡ Some r)
-node_case n m x f r h = elim (node_or_other n m) [
-  | inl e ↦ inl (e, sym (subst (λ (y : NodeId). at_node n x f y ≡ x) e (node_same n x f)) ∙ h)
-  | inr ne ↦ inr (sym (node_other n x f m ne) ∙ h)
-]
 
 abbrev pub IsRow : NodeId → Row → Type 0
 IsRow n r = ((test ≡ n) × (test_row ≡ r)) ⊎ ((left ≡ n) × (left_row ≡ r)) ⊎ ((right ≡ n) × (right_row ≡ r)) ⊎ ((choice ≡ n) × (choice_row ≡ r))
@@ -246,14 +219,14 @@ unfolding at_point at_node
 links_m q = refl
 
 abbrev pub Rights : Functions → Point → Type 0
-Rights F p = Agrees F before.graph before.out p × Recalls before.graph (shown before.graph before.out) before.last p
+Rights F p = Agrees F before.graph before.out p × Recalls before.graph (shown before.graph before.out) before.last p × IsUnmarked before.stale p
 
 pub no_map : (p : Point) → Recalls before.graph (shown before.graph before.out) before.last p
 no_map p r kids values row part def shows = elim (row_case p.node r row) [
-  | inl k ↦ absurd (let e = ap (λ (y : Row). taken_by y.def) k.1 in cc)
-  | inr (inl k) ↦ absurd (let e = ap (λ (y : Row). taken_by y.def) k.1 in cc)
-  | inr (inr (inl k)) ↦ absurd (let e = ap (λ (y : Row). taken_by y.def) k.1 in cc)
-  | inr (inr (inr k)) ↦ absurd (let e = ap (λ (y : Row). taken_by y.def) k.1 in cc)
+  | inl k ↦ absurd (let e = ap (λ (y : Row). taken_by before.graph p.node y.def) k.1 in cc)
+  | inr (inl k) ↦ absurd (let e = ap (λ (y : Row). taken_by before.graph p.node y.def) k.1 in cc)
+  | inr (inr (inl k)) ↦ absurd (let e = ap (λ (y : Row). taken_by before.graph p.node y.def) k.1 in cc)
+  | inr (inr (inr k)) ↦ absurd (let e = ap (λ (y : Row). taken_by before.graph p.node y.def) k.1 in cc)
 ]
 
 pub agrees_a : (F : Functions) → Agrees F before.graph before.out A
@@ -277,9 +250,9 @@ agrees_c F r row =
 pub fresh : (F : Functions) (p : Point) → before.needed p ≡ true → (before.heap p ≡ true) ⊎ Rights F p
 fresh F p need = elim (needed_case p need) [
   | inl e ↦ inl (subst (λ (y : Point). before.heap y ≡ true) e (at_same T true (λ (p : Point). false)))
-  | inr (inl e) ↦ inr (subst (λ (y : Point). Rights F y) e (agrees_a F, no_map A))
-  | inr (inr (inl e)) ↦ inr (subst (λ (y : Point). Rights F y) e (agrees_c F, no_map C))
-  | inr (inr (inr e)) ↦ inr (subst (λ (y : Point). Rights F y) e (agrees_m F, no_map M))
+  | inr (inl e) ↦ inr (subst (λ (y : Point). Rights F y) e (agrees_a F, no_map A, (λ part. refl)))
+  | inr (inr (inl e)) ↦ inr (subst (λ (y : Point). Rights F y) e (agrees_c F, no_map C, (λ part. refl)))
+  | inr (inr (inr e)) ↦ inr (subst (λ (y : Point). Rights F y) e (agrees_m F, no_map M, (λ part. refl)))
 ]
 
 pub built : (F : Functions) (n : NodeId) (r : Row) (o : Outcome) → before.graph.row n ≡ Some r → IsBuilt F before.graph n r.def o
@@ -300,6 +273,10 @@ starts p q (inl k) = subst (λ (y : Point). before.needed y ≡ true) k.0 need_c
 starts p q (inr (inl k)) = subst (λ (y : Point). before.needed y ≡ true) k.0 need_m
 starts p q (inr (inr k)) = subst (λ (y : Point). before.needed y ≡ true) k.0 need_m
 
+none_fires : (x : Option Row) → row_fires x None None ≡ None
+none_fires None = refl
+none_fires (Some r) = never_called r.def None
+
 pub begins : (F : Functions) → Entry F beginning before
 begins F = record {
   web = record {
@@ -313,10 +290,10 @@ begins F = record {
   };
   alive = λ p h. (test_row, subst (λ (y : Point). before.graph.row y.node ≡ Some test_row) (in_heap p h) test_is);
   links = λ p q need. elim (needed_case p need) [
-    | inl e ↦ subst (λ (y : Point). before.links y q ≡ count q (planned before y)) e (links_t q)
-    | inr (inl e) ↦ subst (λ (y : Point). before.links y q ≡ count q (planned before y)) e (links_a q)
-    | inr (inr (inl e)) ↦ subst (λ (y : Point). before.links y q ≡ count q (planned before y)) e (links_c q)
-    | inr (inr (inr e)) ↦ subst (λ (y : Point). before.links y q ≡ count q (planned before y)) e (links_m q)
+    | inl e ↦ subst (λ (y : Point). before.links y q + 0 ≡ count q (planned before y)) e (let x = links_t q in omega arith)
+    | inr (inl e) ↦ subst (λ (y : Point). before.links y q + 0 ≡ count q (planned before y)) e (let x = links_a q in omega arith)
+    | inr (inr (inl e)) ↦ subst (λ (y : Point). before.links y q + 0 ≡ count q (planned before y)) e (let x = links_c q in omega arith)
+    | inr (inr (inr e)) ↦ subst (λ (y : Point). before.links y q + 0 ≡ count q (planned before y)) e (let x = links_m q in omega arith)
   ];
   full = λ p r row need. refl;
   bare = λ p need e. (cc);
@@ -325,8 +302,8 @@ begins F = record {
   built = λ n r o row e. built F n r o row;
   fresh = λ p r row need. fresh F p need;
   settled = λ p. refl;
-  owed = λ p. refl;
-  todo = λ p. refl;
+  owed = λ p h. refl;
+  todo = λ p need h. never h;
   strict = refl;
   ran = refl;
   taken = refl;
@@ -335,7 +312,9 @@ begins F = record {
   last = λ n. refl;
   calls = refl;
   never = λ n. refl;
+  stale = λ n. refl;
   answers = λ n r kids c row def l. absurd (cc);
+  unfired = λ n. none_fires (before.graph.row n);
 }
 
 -- ---- the test is computed

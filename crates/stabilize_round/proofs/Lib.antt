@@ -3,6 +3,8 @@ pub mod Calling
 pub mod Points
 pub mod Low
 pub mod Planned
+pub mod Reasons
+pub mod Freezing
 pub mod Main
 pub mod End
 pub mod Parts
@@ -22,12 +24,14 @@ pub mod Meanings
 pub mod Row
 pub mod Composing
 pub mod Runs
+pub mod Ids
+pub mod Stopped
 pub mod Steps
 pub mod Between
 pub mod Falling
 pub mod Calls
-pub mod Flipping
-pub mod Flip
 pub mod Renewing
 pub mod Remaking
+pub mod Flipping
+pub mod Flip
 pub mod Renewal

@@ -84,7 +84,7 @@ module _ (F : Functions) (z : Start) (s : State) (parts : Parts F z s) (q : Poin
     | inr ne ↦ elim (parts.fresh a r row (need_old a ne need)) [
       | inl h ↦ inl (heap.kept a h)
       | inr (inl h) ↦ inr (inl h)
-      | inr (inr h) ↦ inr (inr (at_other q Bare s.stage a ne ∙ h.0, h.1, h.2))
+      | inr (inr h) ↦ inr (inr (at_other q Bare s.stage a ne ∙ h.0, h.1, h.2, h.3))
     ]
   ]
 
@@ -115,14 +115,7 @@ module _ (F : Functions) (z : Start) (s : State) (parts : Parts F z s) (q : Poin
     settled = new_settled;
     strict = new_strict;
     last_settled = parts.last_settled;
-    accounts = record {
-      once = parts.accounts.once;
-      called = parts.accounts.called;
-      kept = parts.accounts.kept;
-      calls = parts.accounts.calls;
-      answers = parts.accounts.answers;
-      never = parts.accounts.never;
-    };
+    accounts = parts.accounts;
   }
 
 -- ---- a link more
@@ -206,19 +199,12 @@ module _ (F : Functions) (z : Start) (s : State) (inv : Invariant F z s) (p q : 
     scoped = inv.scoped;
     rooted = inv.rooted;
     built = inv.built;
-    waits = record { gated = inv.waits.gated; static = inv.waits.static };
+    waits = inv.waits;
     fresh = inv.fresh;
-    settled = record { done = inv.settled.done; twice = inv.settled.twice };
-    strict = record { gates = inv.strict.gates; rights = inv.strict.rights };
+    settled = inv.settled;
+    strict = inv.strict;
     last_settled = inv.last_settled;
-    accounts = record {
-      once = inv.accounts.once;
-      called = inv.accounts.called;
-      kept = inv.accounts.kept;
-      calls = inv.accounts.calls;
-      answers = inv.accounts.answers;
-      never = inv.accounts.never;
-    };
+    accounts = inv.accounts;
   }
 
   met_target : MetNow F z s.graph s.died s.root q
@@ -247,7 +233,7 @@ module _ (F : Functions) (z : Start) (s : State) (inv : Invariant F z s) (p q : 
     strict = mid_parts.strict;
     last_settled = mid_parts.last_settled;
     accounts = mid_parts.accounts;
-    met = record { needed = inv.met.needed; todo = inv.met.todo };
+    met = inv.met;
   }
 
   module _ (unneeded : s.needed q ≡ false) (heap' : Point → Bool) (heap : Enqueues s s.heap heap' (IsIt s q) (IsIt s q)) where
@@ -380,22 +366,26 @@ module _ (F : Functions) (z : Start) (s : State) (inv : Invariant F z s) (p : Po
 
   root_parts : Parts F z (rooted s p)
   root_parts = record {
-    rows = record { links = inv.rows.links; bare = inv.rows.bare; owed = inv.rows.owed };
+    rows = inv.rows;
     scoped = inv.scoped;
     rooted = inv.rooted;
     built = inv.built;
-    waits = record { gated = inv.waits.gated; static = inv.waits.static };
+    waits = inv.waits;
     fresh = inv.fresh;
-    settled = record { done = inv.settled.done; twice = inv.settled.twice };
-    strict = record { gates = inv.strict.gates; rights = inv.strict.rights };
+    settled = inv.settled;
+    strict = inv.strict;
     last_settled = inv.last_settled;
     accounts = record {
       once = inv.accounts.once;
       called = λ n a. called_root n (inv.accounts.called n a);
       kept = inv.accounts.kept;
-      calls = inv.accounts.calls;
+      count = inv.accounts.count;
       answers = inv.accounts.answers;
-      never = inv.accounts.never;
+      cutoffs = inv.accounts.cutoffs;
+      marked = inv.accounts.marked;
+      unmarked = inv.accounts.unmarked;
+      renewed = inv.accounts.renewed;
+      unfired = inv.accounts.unfired;
     };
   }
 

@@ -27,13 +27,13 @@ move_keeps F z s t (link {p} {q} {rest} {height'} m need e) inv = back F z t _ e
 move_keeps F z s t (link_new {p} {q} {rest} {height'} {heap'} m need h e) inv = back F z t _ e
     (link_new_keeps F z s inv p q rest height' m need heap' h)
 move_keeps F z s t (root {p} need e) inv = back F z t _ e (root_keeps F z s inv p need)
-move_keeps F z s t (root_new {p} {heap'} need h e) inv = back F z t _ e (root_new_keeps F z s inv p need heap' h)
+move_keeps F z s t (root_new {p} {heap'} given need h e) inv = back F z t _ e (root_new_keeps F z s inv p need heap' h)
 move_keeps F z s t (raise {p} {st} {extra} m e) inv = back F z t _ e (raise_keeps F z s inv p st extra m)
 move_keeps F z s t (finish {p} m e) inv = back F z t _ e (finish_keeps F z s inv p m)
 move_keeps F z s t (schedule {heap'} m e) inv = back F z t _ e (schedule_keeps F z s inv heap' m)
 move_keeps F z s t (cut {p} {r} {st} {row'} {needed'} {links'} {heap'} {owed'} d w e) inv = back F z t _ e
     (cut_keeps F z s inv p r st row' d needed' links' heap' owed' w)
-move_keeps F z s t (rebuild {b} {now} {m} r built e) inv = back F z t _ e (rebuild_keeps F z s inv b now m r (inr built))
+move_keeps F z s t (rebuild {b} {now} {m} r built count e) inv = back F z t _ e (rebuild_keeps F z s inv b now m r (inr built))
 move_keeps F z s t (level {height'} m e) inv = back F z t _ e (level_keeps F z s inv height' m)
 move_keeps F z s t (turn_strict u h e) inv = back F z t _ e (strict_keeps F z s inv h)
 
@@ -56,12 +56,12 @@ move_settled F z s t (step_change {n} quiet m e) q h = stays t _ e q (more (chan
 move_settled F z s t (link m need e) q h = stays t _ e q h
 move_settled F z s t (link_new m need k e) q h = stays t _ e q h
 move_settled F z s t (root need e) q h = stays t _ e q h
-move_settled F z s t (root_new need k e) q h = stays t _ e q h
+move_settled F z s t (root_new given need k e) q h = stays t _ e q h
 move_settled F z s t (raise m e) q h = stays t _ e q h
 move_settled F z s t (finish m e) q h = stays t _ e q h
 move_settled F z s t (schedule m e) q h = stays t _ e q h
 move_settled F z s t (cut d w e) q h = stays t _ e q h
-move_settled F z s t (rebuild m made e) q h = stays t _ e q h
+move_settled F z s t (rebuild m made count e) q h = stays t _ e q h
 move_settled F z s t (level m e) q h = stays t _ e q h
 move_settled F z s t (turn_strict u k e) q h = stays t _ e q h
 

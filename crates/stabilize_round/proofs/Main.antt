@@ -22,8 +22,11 @@ use Rattle.inc_terms.proofs.Plan.{among_left, among_right, plan_depends, depends
 use Rattle.stabilize_round.specs.State.{State, Start, Call, Stage, Bare, Gated, Static, Full, Linked, count, ghost_plan, at_point, at_node}
 use Rattle.stabilize_round.specs.Invariant.{Invariant, Web, Rows, Waits, IsRight, IsDone, Recalls, Settled, Strict, MetNow, from_held, LastSettled}
 use Rattle.stabilize_round.specs.Invariant.{HasCalled, Accounts}
-use Rattle.stabilize_round.specs.Moves.{Quiet, Calls, computed, StepMain}
-use Rattle.stabilize_round.specs.Calling.{taken_by, IsAnswer, cost_at}
+use Rattle.stabilize_round.specs.Moves.{Quiet, Calls, ran_more, computed, StepMain}
+use Rattle.inc_terms.specs.Work.{taken_by}
+use Rattle.stabilize_round.specs.Calling.{made_stale, IsAnswer, cost_at}
+use Rattle.stabilize_round.proofs.Reasons.{reason_more, since_start}
+use Rattle.stabilize_round.proofs.Parts.{bool_cases}
 use Rattle.stabilize_round.specs.Counts.{RoseBy}
 use Rattle.stabilize_round.proofs.Counts.{none_more, more_on}
 use Rattle.stabilize_round.proofs.Points.{same_or_other, node_or_other, is_or_not, at_same, at_other, node_same, node_other, count_among}
@@ -65,6 +68,19 @@ gathered_gives F G out (k ∷ ks) vs sees e = first (sees k (inl refl)).0 (sees 
     first (Val v) is Unknown g rest = absurd (let x = rw (is, g) at e in cc)
     first (Val v) is SomeInvalid g rest = absurd (let x = rw (is, g) at e in cc)
     first (Val v) is (Values ws) g rest = let x = rw (is, g) at e in last v ws vs (cc) (sees k (inl refl)) is (rest ws g)
+
+-- what nodes give they show, where they are exact
+pub gives_gathered : (F : Functions) (G : Graph) (out : Point → Option Outcome) (kids : List NodeId) (vs : List Value)
+    → ((k : NodeId) → Among (main k) (map main kids) → Sees F G out k) → GiveAll F G kids vs → gathered (by_sight (shown G out)) (refs kids) ≡ Values vs
+gives_gathered F G out [] [] sees g = refl
+gives_gathered F G out [] (v ∷ vs) sees g = absurd g
+gives_gathered F G out (k ∷ ks) [] sees g = absurd g
+gives_gathered F G out (k ∷ ks) (v ∷ vs) sees g =
+    let x = sees k (inl refl) in
+    let o : x.0 ≡ Val v = one_outcome F G _ x.0 (Val v) x.2 g.0 in
+    let e : shown G out (main k) ≡ Some (Val v) = x.1 ∙ ap (λ (y : Outcome). Some y) o in
+    let rest = gives_gathered F G out ks vs (λ m a. sees m (inr a)) g.1 in
+    rw (e, rest) refl
 
 module _ (F : Functions) (z : Start) (s : State) (inv : Invariant F z s) (quiet : Quiet s) (n : NodeId) (o : Outcome) (heap' : Point → Bool)
     (last' : Option Call) (called : Bool) (calls' : ℕ)
@@ -155,6 +171,9 @@ module _ (F : Functions) (z : Start) (s : State) (inv : Invariant F z s) (quiet 
   last_stays : (q : Point) → (main n ≡ q → ⊥) → q.part ≡ Main → at_node n last' s.last q.node ≡ s.last q.node
   last_stays q ne part = node_other n last' s.last q.node (λ e. ne (λ i. record { node = e i; part = (sym part) i }))
 
+  mark_stays : (m : NodeId) → (n ≡ m → ⊥) → {b : Bool} → s.stale m ≡ b → at_node n false s.stale m ≡ b
+  mark_stays m ne e = node_other n false s.stale m ne ∙ e
+
   done_stays : (q : Point) → (main n ≡ q → ⊥) → IsDone F G s.out s.died s.last q → IsDone F G out' s.died (at_node n last' s.last) q
   done_stays q ne d = record {
     row = d.row;
@@ -163,7 +182,7 @@ module _ (F : Functions) (z : Start) (s : State) (inv : Invariant F z s) (quiet 
       | inl e ↦ let x = d.below m (done_links q d m among) in out_stays (subst (λ (y : Point). Exact F G s.out y) (sym e) x) m
       | inr other ↦ at_other (main n) (Some o) s.out m other
     ]) d.agrees;
-    recalls = recalls_same F G G (shown G s.out) (shown G out') s.last (at_node n last' s.last) q d.row d.is_row d.is_row
+    recalls = recalls_same F G G (shown G s.out) (shown G out') s.last (at_node n last' s.last) q d.row d.is_row d.is_row refl
         (λ m among. shown_same F G s.out out' m (elim (same_or_other (main n) m) [
           | inl e ↦ let x = d.below m (done_links q d m
               (among_right m (gate_of d.row.scope) _ (among_left m (fixed_reads G q.node d.row.def q.part) _ among))) in
@@ -178,7 +197,7 @@ module _ (F : Functions) (z : Start) (s : State) (inv : Invariant F z s) (quiet 
   recalls_by was is h r kids values row part def shows =
       let mine = move.is_row in
       let same : r ≡ move.row = cc in
-      let def' : taken_by move.row.def ≡ Some kids = rw (← same) def in
+      let def' : taken_by G n move.row.def ≡ Some kids = rw (← same) def in
       let seen = gathered_same F G (shown G s.out) (shown G out') kids
       (λ q a. shown_same F G s.out out' q
       (same_at q (linked q (among_right q (gate_of move.row.scope) _ (among_left q (fixed_reads G n move.row.def Main) _
@@ -186,7 +205,7 @@ module _ (F : Functions) (z : Start) (s : State) (inv : Invariant F z s) (quiet 
       by_call was h kids values def' (sym seen ∙ shows)
     where
       by_call : (was : Bool) → Calls F s n move.row.def last' was → (kids : List NodeId) (values : List Value)
-          → taken_by move.row.def ≡ Some kids → gathered (by_sight (shown G s.out)) (refs kids) ≡ Values values
+          → taken_by G n move.row.def ≡ Some kids → gathered (by_sight (shown G s.out)) (refs kids) ≡ Values values
           → (c : Call) × (at_node n last' s.last n ≡ Some c) × (c.arguments ≡ values)
       by_call false h kids values def' before = let c = h.1 kids values def' before in (c.0, node_same n last' s.last ∙ h.0 ∙ c.1, c.2)
       by_call true h kids values def' before =
@@ -281,9 +300,10 @@ module _ (F : Functions) (z : Start) (s : State) (inv : Invariant F z s) (quiet 
       keeps h = (
         right.0,
         agrees_same F G s.out out' q r row (at_other (main n) (Some o) s.out q ne) h right.1,
-        recalls_same F G G (shown G s.out) (shown G out') s.last (at_node n last' s.last) q r row row
+        recalls_same F G G (shown G s.out) (shown G out') s.last (at_node n last' s.last) q r row row refl
             (λ m a. shown_same F G s.out out' m (h m (among_right m (gate_of r.scope) _ (among_left m (fixed_reads G q.node r.def q.part) _ a))))
             (last_stays q ne) right.2,
+        λ part. mark_stays q.node (λ e. ne (λ i. record { node = e i; part = (sym part) i })) (right.3 part),
       )
 
       same_out : s.out (main n) ≡ Some o → (m : Point) → out' m ≡ s.out m
@@ -348,6 +368,12 @@ module _ (F : Functions) (z : Start) (s : State) (inv : Invariant F z s) (quiet 
       let st : s.settled (main n) ≡ true = subst (λ (y : NodeId). s.settled (main y) ≡ true) (sym e) c.is_settled in
       let x = inv.settled.twice (main n) st move.taken.heap in cc
 
+  not_settled : s.settled (main n) ≡ false
+  not_settled = elim (bool_cases (s.settled (main n))) [
+    | inr e ↦ e
+    | inl e ↦ absurd (let x : Main ≡ Change = inv.settled.twice (main n) e move.taken.heap in cc)
+  ]
+
   called_stays : (m : NodeId) → Among m s.ran → HasCalled F z G s.died s.root (at_point (main n) true s.settled) (at_node n last' s.last) m
   called_stays m a =
       let c = inv.accounts.called m a in
@@ -363,8 +389,55 @@ module _ (F : Functions) (z : Start) (s : State) (inv : Invariant F z s) (quiet 
         met = c.met;
         gives = c.gives;
         is_last = node_other n last' s.last m (not_ran m a) ∙ c.is_last;
-        reason = elim c.reason [ inl other ↦ inl other | inr k ↦ inr (k.0, k.1, k.2, settled_more (main k.0) k.3) ];
+        reason = reason_more settled_more c.reason;
       }
+
+  -- the children on whose values the function is called are exact
+  at_kid : (kids : List NodeId) → taken_by G n move.row.def ≡ Some kids → (q : Point) → Among q (map main kids) → Linked s (main n) q
+  at_kid kids takes q a = linked q
+      (among_right q (gate_of move.row.scope) _ (among_left q (fixed_reads G n move.row.def Main) _ (reads_taken G n move.row.def kids q takes a)))
+
+  kid_sees : (kids : List NodeId) → taken_by G n move.row.def ≡ Some kids → (k : NodeId) → Among (main k) (map main kids) → Sees F G s.out k
+  kid_sees kids takes k a = main_sees F G s.out k (below (main k) (at_kid kids takes (main k) a)).exact
+
+  marked : (m : NodeId) → at_point (main n) true s.settled (main m) ≡ false → at_node n false s.stale m ≡ z.stale m
+  marked m h = elim (node_or_other n m) [
+    | inl e ↦ absurd (let x = at_same (main n) true s.settled in
+        let y = subst (λ (y : NodeId). at_point (main n) true s.settled (main y) ≡ false) (sym e) h in cc)
+    | inr ne ↦ mark_stays m ne (inv.accounts.marked m (sym (at_other (main n) true s.settled (main m) (λ e. ne (ap (λ (p : Point). p.node) e))) ∙ h))
+  ]
+
+  unmarked : (m : NodeId) → at_point (main n) true s.settled (main m) ≡ true → at_node n false s.stale m ≡ false
+  unmarked m h = elim (node_or_other n m) [
+    | inl e ↦ subst (λ (y : NodeId). at_node n false s.stale y ≡ false) e (node_same n false s.stale)
+    | inr ne ↦ mark_stays m ne (inv.accounts.unmarked m (sym (at_other (main n) true s.settled (main m) (λ e. ne (ap (λ (p : Point). p.node) e))) ∙ h))
+  ]
+
+  -- a node that was made stale runs
+  renewed : (was : Bool) → Calls F s n move.row.def last' was → (m : NodeId) (r : Row) (kids : List NodeId) (values : List Value)
+      → z.stale m ≡ true → at_point (main n) true s.settled (main m) ≡ true → G.row m ≡ Some r → taken_by G m r.def ≡ Some kids
+      → GiveAll F G kids values → Among m (ran_more n was s.ran)
+  renewed was h m r kids values st settled row takes gives = elim (node_or_other n m) [
+    | inr ne ↦ more_ran was (inv.accounts.renewed m r kids values st
+        (sym (at_other (main n) true s.settled (main m) (λ e. ne (ap (λ (p : Point). p.node) e))) ∙ settled) row takes gives)
+    | inl e ↦ subst (λ (y : NodeId). Among y (ran_more n was s.ran)) e (by_call was h
+        (subst (λ (y : NodeId). z.stale y ≡ true) (sym e) st) (subst (λ (y : NodeId). G.row y ≡ Some r) (sym e) row)
+        (subst (λ (y : NodeId). taken_by G y r.def ≡ Some kids) (sym e) takes))
+  ]
+    where
+      more_ran : (was : Bool) → Among m s.ran → Among m (ran_more n was s.ran)
+      more_ran true a = inr a
+      more_ran false a = a
+
+      by_call : (was : Bool) → Calls F s n move.row.def last' was → z.stale n ≡ true → G.row n ≡ Some r → taken_by G n r.def ≡ Some kids
+          → Among n (ran_more n was s.ran)
+      by_call true h st row takes = inl refl
+      by_call false h st row takes =
+          let mine = move.is_row in
+          let same : r ≡ move.row = cc in
+          let takes' : taken_by G n move.row.def ≡ Some kids = subst (λ (y : Row). taken_by G n y.def ≡ Some kids) same takes in
+          absurd ((h.1 kids values takes' (gives_gathered F G s.out kids values (kid_sees kids takes') gives)).3
+          (made_stale (inv.accounts.marked n not_settled ∙ st)))
 
   accounts : (was : Bool) → called ≡ was → Calls F s n move.row.def last' was → Accounts F z after
   accounts false is h =
@@ -376,15 +449,17 @@ module _ (F : Functions) (z : Start) (s : State) (inv : Invariant F z s) (quiet 
         once = rw is inv.accounts.once;
         called = λ m a. called_stays m (rw is at a);
         kept = λ m r row a. same m ∙ inv.accounts.kept m r row (λ x. a (rw is x));
-        calls = rw is (none_more inv.accounts.calls (rw is at move.count));
+        count = rw is (none_more inv.accounts.count (rw is at move.count));
         answers = λ m r kids c row def l. inv.accounts.answers m r kids c row def (sym (same m) ∙ l);
-        never = inv.accounts.never;
+        cutoffs = inv.accounts.cutoffs;
+        marked = marked;
+        unmarked = unmarked;
+        renewed = rw is (renewed false h);
+        unfired = inv.accounts.unfired;
       }
   accounts true is h =
       let fresh_here : Among n s.ran → ⊥ = λ a. not_ran n a refl in
-      let at_kid = λ (q : Point) (a : Among q (map main h.0)). linked q
-      (among_right q (gate_of move.row.scope) _ (among_left q (fixed_reads G n move.row.def Main) _ (reads_taken G n move.row.def h.0 q h.3 a))) in
-      let gives = gathered_gives F G s.out h.0 h.1 (λ k a. main_sees F G s.out k (below (main k) (at_kid (main k) a)).exact) h.4 in
+      let gives = gathered_gives F G s.out h.0 h.1 (kid_sees h.0 h.3) h.4 in
       let mine : at_node n last' s.last n ≡ Some (record { arguments = h.1; result = h.2 }) = node_same n last' s.last ∙ h.6 in
       let mine_called : HasCalled F z G s.died s.root (at_point (main n) true s.settled) (at_node n last' s.last) n = record {
         row = move.row;
@@ -398,23 +473,25 @@ module _ (F : Functions) (z : Start) (s : State) (inv : Invariant F z s) (quiet 
         met = is_met;
         gives = gives;
         is_last = mine;
-        reason = elim h.5 [
-          | inl other ↦ inl (λ c l e. other c (inv.accounts.kept n move.row move.is_row fresh_here ∙ l) e)
-          | inr k ↦ inr (k.0, k.1, sym (inv.accounts.never k.0) ∙ k.2, settled_more (main k.0) k.3)
-        ];
+        reason = reason_more settled_more (since_start (inv.accounts.kept n move.row move.is_row fresh_here) inv.accounts.cutoffs
+            (inv.accounts.marked n not_settled) h.5);
       } in
       record {
         once = rw is (fresh_here, inv.accounts.once);
         called = λ m a. called_more m (rw is at a) mine_called;
         kept = λ m r row a. let a' : Among m (n ∷ s.ran) → ⊥ = λ x. a (rw is x) in
             node_other n last' s.last m (λ e. a' (inl (sym e))) ∙ inv.accounts.kept m r row (λ x. a' (inr x));
-        calls = rw is (subst (λ (k : ℕ). RoseBy z.calls k calls') (sym (sum_by-cons (cost_at G) n s.ran))
-            (more_on inv.accounts.calls (rw is at move.count)));
+        count = rw is (subst (λ (k : ℕ). RoseBy z.calls k calls') (sym (sum_by-cons (cost_at G) n s.ran))
+            (more_on inv.accounts.count (rw is at move.count)));
         answers = λ m r kids c row def l. elim (node_or_other n m) [
           | inl e ↦ by_call m r kids c row def e (subst (λ (y : NodeId). at_node n last' s.last y ≡ Some c) (sym e) l) h
           | inr ne ↦ inv.accounts.answers m r kids c row def (sym (node_other n last' s.last m ne) ∙ l)
         ];
-        never = inv.accounts.never;
+        cutoffs = inv.accounts.cutoffs;
+        marked = marked;
+        unmarked = unmarked;
+        renewed = rw is (renewed true h);
+        unfired = inv.accounts.unfired;
       }
     where
       called_more : (m : NodeId) → Among m (n ∷ s.ran) → HasCalled F z G s.died s.root (at_point (main n) true s.settled) (at_node n last' s.last) n
@@ -423,7 +500,7 @@ module _ (F : Functions) (z : Start) (s : State) (inv : Invariant F z s) (quiet 
           (sym e) c
       called_more m (inr a) c = called_stays m a
 
-      by_call : (m : NodeId) (r : Row) (kids : List NodeId) (c : Call) → G.row m ≡ Some r → taken_by r.def ≡ Some kids → n ≡ m
+      by_call : (m : NodeId) (r : Row) (kids : List NodeId) (c : Call) → G.row m ≡ Some r → taken_by G m r.def ≡ Some kids → n ≡ m
           → at_node n last' s.last n ≡ Some c → Calls F s n move.row.def last' true → IsAnswer F r.def c.arguments c.result
       by_call m r kids c row def e l h =
           let row' : G.row n ≡ Some r = subst (λ (y : NodeId). G.row y ≡ Some r) (sym e) row in
@@ -452,6 +529,6 @@ module _ (F : Functions) (z : Start) (s : State) (inv : Invariant F z s) (quiet 
     settled = settled;
     strict = strict;
     last_settled = last_settled;
-    met = record { needed = inv.met.needed; todo = inv.met.todo };
+    met = inv.met;
     accounts = accounts called refl move.calls;
   }

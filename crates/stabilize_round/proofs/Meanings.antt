@@ -37,9 +37,9 @@ pub taken_is_ready : TakenIsReady
 taken_is_ready F z s t entry moves quiet p taken = ready F z t (round_keeps F z s t entry moves) quiet p taken
 
 pub round_again : RoundAgain
-round_again F z s t observed entry moves are quiet empty links' needed' move =
+round_again F z s t observed entry moves are quiet empty root' links' needed' move =
     let inv = round_keeps F z s t entry moves in
-    (begins F z t inv quiet observed are empty links' needed' move, ends F z t inv quiet observed are empty links' needed' move)
+    (begins F z t inv quiet observed are empty root' links' needed' move, ends F z t inv quiet observed are empty root' links' needed' move)
 
 pub dead_were_unsettled : DeadWereUnsettled
 dead_were_unsettled F z s t entry moves b now m move p st i =

@@ -9,7 +9,7 @@ use Rattle.inc_value.specs.Choice.{Among}
 use Rattle.inc_terms.specs.Term.{Functions}
 use Rattle.inc_terms.specs.Graph.{Graph, Row, Def}
 use Rattle.inc_terms.specs.Depend.{main, change, fixed_reads, main_reads, change_reads, kids_of, subject_of, rights_of}
-use Rattle.stabilize_round.specs.Calling.{taken_by}
+use Rattle.inc_terms.specs.Work.{taken_by}
 use Rattle.stabilize_round.specs.Invariant.{Recalls}
 use Rattle.stabilize_round.proofs.Calling.{main_taken}
 use Rattle.stabilize_round.specs.State.{Call, Stage, Bare, Gated, Static, Full, live_plan, plan_at}
@@ -92,17 +92,17 @@ looks_main G out p n r h = elim (among_parts (change n) (fixed_reads G p.node r.
 
 -- ---- what it was last called on
 
-pub reads_taken : (G : Graph) (n : NodeId) (def : Def) (kids : List NodeId) (q : Point) → taken_by def ≡ Some kids
+pub reads_taken : (G : Graph) (n : NodeId) (def : Def) (kids : List NodeId) (q : Point) → taken_by G n def ≡ Some kids
     → Among q (map main kids) → Among q (fixed_reads G n def Main)
 reads_taken G n def kids q e a = subst (λ (ps : List Point). Among q ps) (sym (main_taken G n def kids e)) a
 
 pub recalls_same : (F : Functions) (G G' : Graph) (see see' : Point → Option Outcome) (last last' : NodeId → Option Call) (p : Point) (r : Row)
-    → G.row p.node ≡ Some r → G'.row p.node ≡ Some r
+    → G.row p.node ≡ Some r → G'.row p.node ≡ Some r → taken_by G' p.node r.def ≡ taken_by G p.node r.def
     → ((q : Point) → Among q (fixed_reads G p.node r.def p.part) → see' q ≡ see q) → (p.part ≡ Main → last' p.node ≡ last p.node)
     → Recalls G see last p → Recalls G' see' last' p
-recalls_same F G G' see see' last last' p r row row' seen kept recalls r' kids values at_row part def shows =
+recalls_same F G G' see see' last last' p r row row' taken seen kept recalls r' kids values at_row part def shows =
     let same : r' ≡ r = cc in
-    let def' : taken_by r.def ≡ Some kids = rw (← same) def in
+    let def' : taken_by G p.node r.def ≡ Some kids = sym taken ∙ rw (← same) def in
     let e = gathered_same F G see see' kids (λ q a. seen q (rw part (reads_taken G p.node r.def kids q def' a))) in
     let c = recalls r kids values row part def' (sym e ∙ shows) in
     (c.0, kept part ∙ c.1, c.2)

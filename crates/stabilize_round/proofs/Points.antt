@@ -94,3 +94,10 @@ is_or_not (Some a) o = elim (by_bool (same_outcome a o) (outcome_decides a o)) [
   | inl e ↦ inl (ap (λ (y : Outcome). Some y) e)
   | inr ne ↦ inr (λ (e : Some a ≡ Some o). ne (cc))
 ]
+
+pub among_or_not : (n : NodeId) (ns : List NodeId) → Among n ns ⊎ (Among n ns → ⊥)
+among_or_not n [] = inr (λ a. a)
+among_or_not n (m ∷ ms) = elim (node_or_other n m) [
+  | inl e ↦ inl (inl e)
+  | inr ne ↦ elim (among_or_not n ms) [ inl a ↦ inl (inr a) | inr no_ ↦ inr (λ a. elim a [ inl e ↦ ne e | inr h ↦ no_ h ]) ]
+]

@@ -22,7 +22,7 @@ use Rattle.inc_terms.specs.Plan.{gate_of, targets, right_links, plan}
 use Rattle.inc_terms.proofs.Evaluation.{one_outcome}
 use Rattle.inc_terms.proofs.Plan.{among_left, among_right, plan_depends, depends_plan}
 use Rattle.inc_terms.proofs.Within.{functions_within}
-use Rattle.inc_terms.proofs.Rebuild.{kept_row, same_after, inside_falls}
+use Rattle.inc_terms.proofs.Rebuild.{kept_row, same_after, same_before, inside_falls}
 use Rattle.inc_terms.proofs.Depending.{same_fixed, no_stand, stands_after, kept_or_not, subject_given, grows}
 use Rattle.inc_terms.proofs.Meeting.{depends_given}
 use Rattle.inc_terms.proofs.Staying.{unfolds_stay, other_scope}
@@ -32,9 +32,12 @@ use Rattle.stabilize_round.specs.Rebuilding.{Remade, remade, Rebuild, IsBuiltAne
 use Rattle.stabilize_round.proofs.Points.{same_or_other, node_or_other}
 use Rattle.stabilize_round.proofs.Low.{plan_links}
 use Rattle.inc_terms.proofs.Seeing.{looks, own_same}
-use Rattle.stabilize_round.specs.Calling.{taken_by, IsAnswer, costs_of}
+use Rattle.inc_terms.specs.Work.{taken_by}
+use Rattle.stabilize_round.specs.Calling.{IsAnswer, costs_of}
 use Rattle.stabilize_round.specs.Counts.{RoseBy}
-use Rattle.stabilize_round.proofs.Calling.{costs_same}
+use Rattle.stabilize_round.specs.Freezing.{fires}
+use Rattle.stabilize_round.proofs.Calling.{taken_same, costs_same}
+use Rattle.stabilize_round.proofs.Freezing.{never_called}
 use Rattle.stabilize_round.proofs.Planned.{recalls_same, reads_taken, looks_main}
 use Rattle.stabilize_round.proofs.Main.{main_change}
 use Rattle.inc_terms.proofs.Crossing.{same_targets, own_crosses}
@@ -51,7 +54,7 @@ module _ (F : Functions) (z : Start) (s : State) (inv : Invariant F z s) (b : No
   Q = Fit s.given z.known z.ids
 
   fine : FunctionsWithin F P Q
-  fine = functions_within F z.known z.ids P move.step.laws
+  fine = functions_within F z.known z.ids P move.given.laws
 
   abbrev G' : Graph
   G' = made.graph
@@ -72,37 +75,37 @@ module _ (F : Functions) (z : Start) (s : State) (inv : Invariant F z s) (b : No
   KeptNode n = P n × (Inside G b n → ⊥)
 
   row_stays : (n : NodeId) → KeptNode n → G'.row n ≡ G.row n
-  row_stays n k = kept_row F P Q fine G G' move.step.names b now move.step.due move.step.rebuilt n k
+  row_stays n k = kept_row F P Q fine G G' move.given.names b now move.due move.rebuilt n k
 
   gives_after : (n : NodeId) → P n → (o : Outcome) → NodeGives F G n o → NodeGives F G' n o
-  gives_after n p o g = same_after F P Q fine G G' move.step.names b now move.step.due move.step.rebuilt n p o g
+  gives_after n p o g = same_after F P Q fine G G' move.given.names b now move.due move.rebuilt n p o g
 
   stays_standing : (n : NodeId) (r : Row) → KeptNode n → G.row n ≡ Some r → Stands F G r.scope → Stands F G' r.scope
-  stays_standing n r k e st = stands_after F P Q fine G G' move.step.names b now move.step.due move.step.rebuilt n r k e st
+  stays_standing n r k e st = stands_after F P Q fine G G' move.given.names b now move.due move.rebuilt n r k e st
 
   standing_kept : (n : NodeId) (r : Row) → P n → G.row n ≡ Some r → Stands F G r.scope → KeptNode n
-  standing_kept n r p e st = kept_or_not F P Q fine G G' move.step.names b now move.step.due move.step.rebuilt n r p e st
+  standing_kept n r p e st = kept_or_not F P Q fine G G' move.given.names b now move.due move.rebuilt n r p e st
 
   none_stands : (n : NodeId) (r : Row) → Inside G b n → G.row n ≡ Some r → Stands F G r.scope → ⊥
-  none_stands n r i e st = no_stand F P Q fine G G' move.step.names b now move.step.due move.step.rebuilt n r i e st
+  none_stands n r i e st = no_stand F P Q fine G G' move.given.names b now move.due move.rebuilt n r i e st
 
   dep_given : (p q : Point) → P p.node → Depends F G s.died p q → P q.node
-  dep_given p q g d = depends_given F P Q fine G move.step.names s.died move.given.keeps p q g d
+  dep_given p q g d = depends_given F P Q fine G move.given.names s.died move.given.keeps p q g d
 
   pub dep_grows : (p q : Point) → P p.node → Depends F G s.died p q → Depends F G' died' p q
-  dep_grows p q g d = grows F P Q fine G G' move.step.names b now move.step.due move.step.rebuilt s.died died' move.deaths p q g d
+  dep_grows p q g d = grows F P Q fine G G' move.given.names b now move.due move.rebuilt s.died died' move.deaths p q g d
 
   sub_given : (n : NodeId) (r : Row) (k : NodeId) → G.row n ≡ Some r → subject_of r.def ≡ Some k → P k
-  sub_given n r k e sub = subject_given F P Q fine G G' move.step.names b now move.step.due move.step.rebuilt n r k e sub
+  sub_given n r k e sub = subject_given F P Q fine G G' move.given.names b now move.due move.rebuilt n r k e sub
 
   bind_kept : KeptNode b
   bind_kept = (
-    move.given.live b move.step.due.row move.step.due.is_row,
-    λ i. none_stands b move.step.due.row i move.step.due.is_row move.step.due.stands,
+    move.given.names.live b move.due.row move.due.is_row,
+    λ i. none_stands b move.due.row i move.due.is_row move.due.stands,
   )
 
   alive : (n : NodeId) (r : Row) → P n → G'.row n ≡ Some r → KeptNode n × (G.row n ≡ Some r)
-  alive n r p e = elim (move.step.rebuilt.rows n p) [
+  alive n r p e = elim (move.rebuilt.rows n p) [
     | inl h ↦ absurd (let x = h.1 in cc)
     | inr h ↦ ((p, h.0), sym h.1 ∙ e)
   ]
@@ -110,7 +113,7 @@ module _ (F : Functions) (z : Start) (s : State) (inv : Invariant F z s) (b : No
   -- the change wasn't exact
   not_exact : Exact F G s.out (change b) → ⊥
   not_exact x =
-      let due = move.step.due in
+      let due = move.due in
       let sub : subject_of due.row.def ≡ Some due.left = rw due.is_bind refl in
       let run : HasRun F G s.out b (graph.Bind due.left due.function due.captures) due.left = rw due.is_bind at
       ((x due.row due.is_row).1 due.left sub) in
@@ -127,10 +130,10 @@ module _ (F : Functions) (z : Start) (s : State) (inv : Invariant F z s) (b : No
     rootless = rooted.rootless;
     unfolds = λ v v_is.
         let x = rooted.unfolds v v_is in
-        let scope = other_scope P G G' move.given.live b n move.step.rebuilt ne k.1 in (
+        let scope = other_scope P G G' move.given.names.live b n move.rebuilt ne k.1 in (
           x.0,
           x.1,
-          unfolds_stay P Q G G' move.step.names (Some n) scope captures (F.term f v) x.0
+          unfolds_stay P Q G G' move.given.names (Some n) scope captures (F.term f v) x.0
               (move.given.keeps.roots n w x.0 k.0 at_built x.1) x.2,
         );
   }
@@ -138,7 +141,7 @@ module _ (F : Functions) (z : Start) (s : State) (inv : Invariant F z s) (b : No
   built_stays : (n : NodeId) (r : Row) (o : Outcome) → KeptNode n → (n ≡ b → ⊥) → (def : Def) → G.row n ≡ Some r → r.def ≡ def → IsBuilt F G n def o
       → IsBuilt F G' n def o
   built_stays n r o k ne (graph.Bind l f caps) row is (w, at_built, for, rooted) =
-      let e = move.step.rebuilt.built n k.0 ne k.1 in (w, e ∙ at_built, for, rooted_stays n f caps w k ne at_built rooted)
+      let e = move.rebuilt.built n k.0 ne k.1 in (w, e ∙ at_built, for, rooted_stays n f caps w k ne at_built rooted)
   built_stays n r o k ne _ row is h = h
 
   -- ---- exact points stay exact
@@ -171,6 +174,12 @@ module _ (F : Functions) (z : Start) (s : State) (inv : Invariant F z s) (b : No
       let h = ex r k.1 in
       (stays_standing x.node r k.0 k.1 h.0, exact_part x r k.0 k.1 row' ex x.part refl h.1)
 
+  takes_after : (n : NodeId) → KeptNode n → (def : Def) → taken_by G' n def ≡ taken_by G n def
+  takes_after n k def = taken_same G G' n (move.rebuilt.frozen n k.0) (move.rebuilt.lists n k.0) def
+
+  gives_before : (n : NodeId) → P n → (o : Outcome) → NodeGives F G' n o → NodeGives F G n o
+  gives_before n p o g = same_before F P Q fine G G' move.given.names b now move.due move.rebuilt n p o g
+
   -- ---- points that agree
 
   module _ (p : Point) (r : Row) (row : G.row p.node ≡ Some r) (k : KeptNode p.node) (not_change : change b ≡ p → ⊥) (not_main : main b ≡ p → ⊥)
@@ -194,11 +203,11 @@ module _ (F : Functions) (z : Start) (s : State) (inv : Invariant F z s) (b : No
         by_part Main is = not_main (λ i. record { node = (sym e) i; part = (sym is) i })
 
     built_same : G'.built p.node ≡ G.built p.node
-    built_same = move.step.rebuilt.built p.node k.0 not_bind k.1
+    built_same = move.rebuilt.built p.node k.0 not_bind k.1
 
     part_after : (part : Part) → p.part ≡ part → PartAgrees F G s.out p.node r.def part → PartAgrees F G' out' p.node r.def part
     part_after Main is h =
-        let re = move.step.rebuilt in
+        let re = move.rebuilt in
         let at_change : shown G s.out (change p.node) ≡ s.out (change p.node) = rw row refl in
         let cross = own_crosses G G' p.node F (shown G' out') re.clock (re.frozen p.node k.0) (re.lists p.node k.0) built_same r.def in
         let same = own_same F G (shown G s.out) (shown G' out') p.node r.def
@@ -218,7 +227,7 @@ module _ (F : Functions) (z : Start) (s : State) (inv : Invariant F z s) (b : No
         rw same (part_after p.part refl (agrees r row))
 
     recalls_after : Recalls G (shown G s.out) s.last p → Recalls G' (shown G' out') made.last p
-    recalls_after h = recalls_same F G G' (shown G s.out) (shown G' out') s.last made.last p r row (row_stays p.node k ∙ row)
+    recalls_after h = recalls_same F G G' (shown G s.out) (shown G' out') s.last made.last p r row (row_stays p.node k ∙ row) (takes_after p.node k r.def)
         (λ q a. seen q (among_left q (fixed_reads G p.node r.def p.part) _ a)) (λ part. move.beside.last p.node r (row_stays p.node k ∙ row) k.0) h
 
   -- ---- links
@@ -228,16 +237,16 @@ module _ (F : Functions) (z : Start) (s : State) (inv : Invariant F z s) (b : No
   rights_cross n r def Change k row ne = refl
   rights_cross n r def Main k row ne =
       let o = out_other (change n) r k row (change_other n ne) in
-      same_targets G G' n def (out' (change n)) (move.step.rebuilt.built n k.0 ne k.1) ∙ ap (λ (x : Option Outcome). targets G n def x) o
+      same_targets G G' n def (out' (change n)) (move.rebuilt.built n k.0 ne k.1) ∙ ap (λ (x : Option Outcome). targets G n def x) o
 
   live_cross : (p : Point) (r : Row) (st : Stage) → KeptNode p.node
       → (st ≡ Full → right_links G' out' p.node r.def p.part ≡ right_links G s.out p.node r.def p.part)
       → live_plan G' out' p r st ≡ live_plan G s.out p r st
   live_cross p r Bare k h = refl
   live_cross p r Gated k h = refl
-  live_cross p r Static k h = let e = same_fixed G G' p.node (move.step.rebuilt.frozen p.node k.0)
-      (move.step.rebuilt.lists p.node k.0) r.def p.part in rw e refl
-  live_cross p r Full k h = let e = same_fixed G G' p.node (move.step.rebuilt.frozen p.node k.0) (move.step.rebuilt.lists p.node k.0) r.def p.part in
+  live_cross p r Static k h = let e = same_fixed G G' p.node (move.rebuilt.frozen p.node k.0)
+      (move.rebuilt.lists p.node k.0) r.def p.part in rw e refl
+  live_cross p r Full k h = let e = same_fixed G G' p.node (move.rebuilt.frozen p.node k.0) (move.rebuilt.lists p.node k.0) r.def p.part in
       let x = h refl in rw (e, x) refl
 
   plan_cross : (p : Point) (r : Row) → KeptNode p.node → G.row p.node ≡ Some r → (p.node ≡ b → ⊥) → plan G' out' p r ≡ plan G s.out p r
@@ -253,9 +262,9 @@ module _ (F : Functions) (z : Start) (s : State) (inv : Invariant F z s) (b : No
   not_bare a need e = let x = inv.rows.bare a need e in let y = move.quiet a in cc
 
   planned_stays : (a : Point) → s.needed a ≡ true → planned after a ≡ planned s a
-  planned_stays a need = elim (move.step.rebuilt.rows a.node (move.given.needed a need)) [
+  planned_stays a need = elim (move.rebuilt.rows a.node (move.given.needed a need)) [
     | inl h ↦
-        let f = inside_falls F G b now move.step.due a.node h.0 in
+        let f = inside_falls F G b now move.due a.node h.0 in
         let st = move.gated a h.0 need in
         let d = move.deaths.now a.node f.0 f.1 h.1 in
         rw (h.1, f.1, st, d) (gate_alone f.0.scope (made.stage a) (move.beside.ghosts a h.1 need))
@@ -288,7 +297,7 @@ module _ (F : Functions) (z : Start) (s : State) (inv : Invariant F z s) (b : No
 
   module _ (q : Point) (d : IsDone F G s.out s.died s.last q) where
     q_given : P q.node
-    q_given = move.given.live q.node d.row d.is_row
+    q_given = move.given.names.live q.node d.row d.is_row
 
     q_stands : Stands F G d.row.scope
     q_stands = (d.exact d.row d.is_row).0
@@ -306,7 +315,7 @@ module _ (F : Functions) (z : Start) (s : State) (inv : Invariant F z s) (b : No
     q_not_main e =
         let node : b ≡ q.node = ap (λ (y : Point). y.node) e in
         let part : q.part ≡ Main = sym (ap (λ (y : Point). y.part) e) in
-        let due = move.step.due in
+        let due = move.due in
         let row : G.row q.node ≡ Some due.row = subst (λ (y : NodeId). G.row y ≡ Some due.row) node due.is_row in
         let mine = d.is_row in
         let same : d.row ≡ due.row = cc in
@@ -320,7 +329,7 @@ module _ (F : Functions) (z : Start) (s : State) (inv : Invariant F z s) (b : No
     q_looks m among =
         let dep = q_links m (among_right m (gate_of d.row.scope) _ among) in
         let ex = d.below m dep in
-        (dep_given q m q_given dep, λ i. let f = inside_falls F G b now move.step.due m.node i in none_stands m.node f.0 i f.1 (ex f.0 f.1).0)
+        (dep_given q m q_given dep, λ i. let f = inside_falls F G b now move.due m.node i in none_stands m.node f.0 i f.1 (ex f.0 f.1).0)
 
     row_after : G'.row q.node ≡ Some d.row
     row_after = row_stays q.node q_kept ∙ d.is_row
@@ -349,7 +358,7 @@ module _ (F : Functions) (z : Start) (s : State) (inv : Invariant F z s) (b : No
   some_dead : (xs : List Point) → ((q : Point) → Among q xs → P q.node) → ((q : Point) → Among q xs → KeptNode q.node)
       ⊎ ((x : Point) × Among x xs × Inside G b x.node)
   some_dead [] given = inl (λ q a. absurd a)
-  some_dead (x ∷ xs) given = elim (move.step.rebuilt.rows x.node (given x (inl refl))) [
+  some_dead (x ∷ xs) given = elim (move.rebuilt.rows x.node (given x (inl refl))) [
     | inl h ↦ inr (x, inl refl, h.0)
     | inr h ↦ elim (some_dead xs (λ q a. given q (inr a))) [
       | inl all ↦ inl (λ q a. first q a (given x (inl refl), h.0) all)
@@ -379,6 +388,7 @@ module _ (F : Functions) (z : Start) (s : State) (inv : Invariant F z s) (b : No
                   move.beside.stage a r row' need ∙ right.0,
                   agrees_after a r k.1 k.0 ne not_main all right.1,
                   recalls_after a r k.1 k.0 ne not_main all right.2,
+                  right.3,
                 ))
                 | inr d ↦ elim (move.heap.told a d.0 r k.1 k.0.1 d.2 (linked d.0 d.1)) [ inl h ↦ inl h | inr h ↦ inr (inl h) ]
               ]
@@ -394,8 +404,8 @@ module _ (F : Functions) (z : Start) (s : State) (inv : Invariant F z s) (b : No
   pub met_after : (p : Point) → MetNow F z G s.died s.root p → MetNow F z G' died' s.root p
   met_after p (from_root {r} a way) = from_root a (way_grows r p (move.given.rooted r a) way)
   met_after p (from_held {h} {r} is e st way) =
-      let k = standing_kept h.node r (move.given.held h is) e st in
-      from_held is (row_stays h.node k ∙ e) (stays_standing h.node r k e st) (way_grows h p (move.given.held h is) way)
+      let k = standing_kept h.node r (move.given.start.held h is) e st in
+      from_held is (row_stays h.node k ∙ e) (stays_standing h.node r k e st) (way_grows h p (move.given.start.held h is) way)
 
   -- ---- accounts
 
@@ -410,7 +420,7 @@ module _ (F : Functions) (z : Start) (s : State) (inv : Invariant F z s) (b : No
       let d = inv.settled.done (main n) c.is_settled in
       let mine = c.is_row in let its = d.is_row in
       let same : d.row ≡ c.row = cc in
-      let def : taken_by d.row.def ≡ Some c.kids = ap (λ (y : Row). taken_by y.def) same ∙ c.takes in
+      let def : taken_by G n d.row.def ≡ Some c.kids = ap (λ (y : Row). taken_by G n y.def) same ∙ c.takes in
       record {
         row = c.row;
         kids = c.kids;
@@ -418,7 +428,7 @@ module _ (F : Functions) (z : Start) (s : State) (inv : Invariant F z s) (b : No
         result = c.result;
         answers = c.answers;
         is_row = row_stays n (q_kept (main n) d) ∙ c.is_row;
-        takes = c.takes;
+        takes = takes_after n (q_kept (main n) d) c.row.def ∙ c.takes;
         is_settled = c.is_settled;
         met = met_after (main n) c.met;
         gives = gives_all c.kids c.values (λ k a. dep_given (main n) (main k) (q_given (main n) d) (q_links (main n) d (main k)
@@ -432,23 +442,52 @@ module _ (F : Functions) (z : Start) (s : State) (inv : Invariant F z s) (b : No
       let c = inv.accounts.called n a in
       record {
         row = c.row;
-        kids = c.kids;
         before = c.is_row;
         after = row_stays n (q_kept (main n) (inv.settled.done (main n) c.is_settled)) ∙ c.is_row;
-        takes = c.takes;
+        frozen = move.rebuilt.frozen n (q_given (main n) (inv.settled.done (main n) c.is_settled));
+        lists = move.rebuilt.lists n (q_given (main n) (inv.settled.done (main n) c.is_settled));
       })
 
-  answers_after : (n : NodeId) (r : Row) (kids : List NodeId) (c : Call) → G'.row n ≡ Some r → taken_by r.def ≡ Some kids
+  gives_all_before : (ks : List NodeId) (vs : List Value) → ((k : NodeId) → Among (main k) (map main ks) → P k) → GiveAll F G' ks vs → GiveAll F G ks vs
+  gives_all_before [] [] given h = tt
+  gives_all_before [] (v ∷ vs) given h = absurd h
+  gives_all_before (k ∷ ks) [] given h = absurd h
+  gives_all_before (k ∷ ks) (v ∷ vs) given h =
+      (gives_before k (given k (inl refl)) _ h.0, gives_all_before ks vs (λ m a. given m (inr a)) h.1)
+
+  renewed_after : (n : NodeId) (r : Row) (kids : List NodeId) (values : List Value) → z.stale n ≡ true → s.settled (main n) ≡ true
+      → G'.row n ≡ Some r → taken_by G' n r.def ≡ Some kids → GiveAll F G' kids values → Among n s.ran
+  renewed_after n r kids values st settled row' takes gives =
+      let d = inv.settled.done (main n) settled in
+      let k = q_kept (main n) d in
+      let row : G.row n ≡ Some r = sym (row_stays n k) ∙ row' in
+      let mine = d.is_row in
+      let same : d.row ≡ r = cc in
+      let takes' : taken_by G n r.def ≡ Some kids = sym (takes_after n k r.def) ∙ takes in
+      let takes_d : taken_by G n d.row.def ≡ Some kids = ap (λ (y : Row). taken_by G n y.def) same ∙ takes' in
+      inv.accounts.renewed n r kids values st settled row takes' (gives_all_before kids values (λ k a. dep_given (main n) (main k) (q_given (main n) d)
+      (q_links (main n) d (main k) (among_right (main k) (gate_of d.row.scope) _
+      (among_left (main k) (fixed_reads G n d.row.def Main) _ (reads_taken G n d.row.def kids (main k) takes_d a))))) gives)
+
+  unfired_after : (n : NodeId) (r : Row) → G'.row n ≡ Some r → fires r.def (G'.frozen n) (z.last n) ≡ None
+  unfired_after n r row' = elim (cases_lt n.gen_ s.given) [
+    | inl lt ↦ let k = alive n r lt row' in
+        ap (λ (x : Option Value). fires r.def x (z.last n)) (move.rebuilt.frozen n lt) ∙ inv.accounts.unfired n r k.1
+    | inr le ↦ ap (λ (x : Option Call). fires r.def (G'.frozen n) x) (move.given.start.last n le) ∙ never_called r.def (G'.frozen n)
+  ]
+
+  answers_after : (n : NodeId) (r : Row) (kids : List NodeId) (c : Call) → G'.row n ≡ Some r → taken_by G' n r.def ≡ Some kids
       → made.last n ≡ Some c → IsAnswer F r.def c.arguments c.result
   answers_after n r kids c row' def l = elim (cases_lt n.gen_ s.given) [
-    | inl lt ↦ let k = alive n r lt row' in inv.accounts.answers n r kids c k.1 def (sym (move.beside.last n r row' lt) ∙ l)
+    | inl lt ↦ let k = alive n r lt row' in
+        inv.accounts.answers n r kids c k.1 (sym (takes_after n k.0 r.def) ∙ def) (sym (move.beside.last n r row' lt) ∙ l)
     | inr le ↦ absurd (let x = move.beside.new_last n le in cc)
   ]
 
   last_after : (n : NodeId) (r : Row) → G'.row n ≡ Some r → (Among n s.ran → ⊥) → made.last n ≡ z.last n
   last_after n r row' a = elim (cases_lt n.gen_ s.given) [
     | inl lt ↦ let k = alive n r lt row' in move.beside.last n r row' lt ∙ inv.accounts.kept n r k.1 a
-    | inr le ↦ move.beside.new_last n le ∙ sym (move.given.last n le)
+    | inr le ↦ move.beside.new_last n le ∙ sym (move.given.start.last n le)
   ]
 
   built_after : (n : NodeId) (r : Row) (o : Outcome) → G'.row n ≡ Some r → out' (change n) ≡ Some o → IsBuilt F G' n r.def o
@@ -503,8 +542,8 @@ module _ (F : Functions) (z : Start) (s : State) (inv : Invariant F z s) (b : No
 
   alive_after : (q : Point) → heap' q ≡ true → (r : Row) × (G'.row q.node ≡ Some r)
   alive_after q h = elim (move.heap.new q h) [
-    | inl k ↦ let a = inv.alive q k.0 in (a.0, row_stays q.node (move.given.live q.node a.0 a.1, k.1) ∙ a.1)
-    | inr k ↦ (k.0, row_stays q.node (move.given.live q.node k.0 k.1, k.4) ∙ k.1)
+    | inl k ↦ let a = inv.alive q k.0 in (a.0, row_stays q.node (move.given.names.live q.node a.0 a.1, k.1) ∙ a.1)
+    | inr k ↦ (k.0, row_stays q.node (move.given.names.live q.node k.0 k.1, k.4) ∙ k.1)
   ]
 
   -- what dies wasn't settled
@@ -513,8 +552,8 @@ module _ (F : Functions) (z : Start) (s : State) (inv : Invariant F z s) (b : No
 
   -- ---- scopes and roots
 
-  due_after : G'.row b ≡ Some move.step.due.row
-  due_after = row_stays b bind_kept ∙ move.step.due.is_row
+  due_after : G'.row b ≡ Some move.due.row
+  due_after = row_stays b bind_kept ∙ move.due.is_row
 
   -- a scope is still that of a live bind
   scoped_after : Scoped G'
@@ -522,17 +561,17 @@ module _ (F : Functions) (z : Start) (s : State) (inv : Invariant F z s) (b : No
     | inl lt ↦
         let k = alive n r lt row' in
         let o = inv.scoped n r c k.1 sc in
-        let kept : KeptNode c = (move.given.live c o.0 o.4, λ i. k.0.1 (nested k.1 sc i)) in
+        let kept : KeptNode c = (move.given.names.live c o.0 o.4, λ i. k.0.1 (nested k.1 sc i)) in
         (o.0, o.1, o.2, o.3, row_stays c kept ∙ o.4, o.5)
     | inr le ↦
         let new = move.nodes.scope n r row' le in
         let x = new.0 in
         let same : c ≡ b = cc in
-        let due = move.step.due in
+        let due = move.due in
         (due.row, due.left, due.function, due.captures, subst (λ (y : NodeId). G'.row y ≡ Some due.row) (sym same) due_after, due.is_bind)
   ]
 
-  module _ (result : (G'.built b ≡ None) ⊎ IsBuiltAnew F G' b move.step.due.function move.step.due.captures now) where
+  module _ (result : (G'.built b ≡ None) ⊎ IsBuiltAnew F G' b move.due.function move.due.captures now) where
     rooted_after : Rooted F G'
     rooted_after n r l f captures w row' def at_built = elim (node_or_other n b) [
       | inl is ↦ by_result (subst (λ (y : NodeId). G'.row y ≡ Some r) is row') (subst (λ (y : NodeId). G'.built y ≡ Some w) is at_built)
@@ -540,17 +579,17 @@ module _ (F : Functions) (z : Start) (s : State) (inv : Invariant F z s) (b : No
       | inr ne ↦ elim (cases_lt n.gen_ s.given) [
         | inl lt ↦
             let k = alive n r lt row' in
-            let before = sym (move.step.rebuilt.built n lt ne k.0.1) ∙ at_built in
+            let before = sym (move.rebuilt.built n lt ne k.0.1) ∙ at_built in
             rooted_stays n f captures w k.0 ne before (inv.rooted n r l f captures w k.1 def before)
         | inr le ↦ absurd (let x = move.nodes.unbuilt n le in cc)
       ]
     ]
       where
         by_result : G'.row b ≡ Some r → G'.built b ≡ Some w → (IsRooted F G' b f captures w → IsRooted F G' n f captures w)
-            → (G'.built b ≡ None) ⊎ IsBuiltAnew F G' b move.step.due.function move.step.due.captures now → IsRooted F G' n f captures w
+            → (G'.built b ≡ None) ⊎ IsBuiltAnew F G' b move.due.function move.due.captures now → IsRooted F G' n f captures w
         by_result row at_b back (inl none) = absurd (cc)
         by_result row at_b back (inr h) =
-            let due = move.step.due in
+            let due = move.due in
             let d = due_after in let i = h.is_built in let bind = due.is_bind in
             let built : h.built ≡ w = cc in
             let same : due.row ≡ r = cc in
@@ -591,8 +630,12 @@ module _ (F : Functions) (z : Start) (s : State) (inv : Invariant F z s) (b : No
         once = inv.accounts.once;
         called = λ n a. called_after n (inv.accounts.called n a);
         kept = last_after;
-        calls = subst (λ (k : ℕ). RoseBy z.calls k s.calls) costs_after inv.accounts.calls;
+        count = subst (λ (k : ℕ). RoseBy z.calls k s.calls) costs_after inv.accounts.count;
         answers = answers_after;
-        never = inv.accounts.never;
+        cutoffs = inv.accounts.cutoffs;
+        marked = inv.accounts.marked;
+        unmarked = inv.accounts.unmarked;
+        renewed = renewed_after;
+        unfired = unfired_after;
       };
     }

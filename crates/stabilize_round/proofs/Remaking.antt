@@ -13,16 +13,18 @@ use Rattle.inc_terms.specs.Graph as graph
 use Rattle.inc_terms.specs.Graph.{Graph, Row, Built, present}
 use Rattle.inc_terms.specs.Evaluate.{NodeGives, Stands, answer}
 use Rattle.inc_terms.specs.Within.{Given, Fit, FunctionLaws, MayName, TermWithin, ValueWithin}
-use Rattle.inc_terms.specs.Rebuild.{Inside, direct, nested, Names, IsDue, Rebuilt, Rebuilds}
+use Rattle.inc_terms.specs.Rebuild.{Inside, direct, nested, Names, IsDue, Rebuilt}
 use Rattle.inc_terms.specs.Depend.{Deaths, none_died}
 use Rattle.inc_terms.specs.Local.{IsRooted}
 use Rattle.stabilize_round.specs.State.{State, Stage, Bare, Static, Full, Linked, at_point, at_node}
 use Rattle.stabilize_round.specs.Moves.{IsLeast}
-use Rattle.stabilize_round.specs.Rebuilding.{Remade, remade, AllGiven, KeptBeside, HeapAfter, NewNodes, Rebuild, IsBuiltAnew}
+use Rattle.stabilize_round.specs.Counts.{RoseBy}
+use Rattle.stabilize_round.specs.Ids.{AllGiven}
+use Rattle.stabilize_round.specs.Rebuilding.{Remade, remade, builds_of, KeptBeside, HeapAfter, NewNodes, Rebuild, IsBuiltAnew}
 use Rattle.stabilize_round.specs.Renewal.{function, functions, subject, bind, old, new, subject_row, bind_row, old_row, new_row, built_before}
 use Rattle.stabilize_round.specs.Renewal.{before, beginning}
-use Rattle.stabilize_round.proofs.Points.{node_or_other, at_same, at_other, node_other}
-use Rattle.stabilize_round.proofs.Flipping.{at_case, node_case}
+use Rattle.stabilize_round.proofs.Points.{node_or_other, at_same, at_other, node_same, node_other}
+use Rattle.stabilize_round.proofs.Renewing.{at_case, node_case}
 use Rattle.stabilize_round.proofs.Renewing.{L, C, N, M, row_case, subject_is, bind_is, old_is, built_case, scope_case, needed_case, root_case}
 use Rattle.stabilize_round.proofs.Renewing.{height_c, height_m, heap2, in_heap2}
 use Rattle.stabilize_round.proofs.Renewing.{kept_in, needed3, needed3_case, link3_case, s3}
@@ -192,9 +194,6 @@ rebuilt = record {
       node_other bind (Some built_after) (λ (n : NodeId). None) c apart ∙ sym (node_other bind (Some built_before) (λ (n : NodeId). None) c apart);
 }
 
-pub rebuilds : Rebuilds functions beginning.known beginning.ids 3 before.graph after bind (Val (Int (pos 2)))
-rebuilds = record { laws = laws; names = names; due = due; rebuilt = rebuilt }
-
 pub died_old : made.died old ≡ Some bind
 unfolding at_node
 died_old = refl
@@ -242,13 +241,23 @@ given_held p h = elim (needed_case p h) [
   | inr (inr (inr e)) ↦ subst (λ (y : Point). Given 3 y.node) e (omega arith)
 ]
 
-pub all_given : AllGiven beginning s3 3
-all_given = record {
-  live = given_case;
-  needed = given_needed;
-  held = given_held;
+-- a node that wasn't given is none of those that were
+pub not_given : (n m : NodeId) → Given 3 n → 3 ≤ m.gen_ → n ≡ m → ⊥
+not_given n m given le e = let x : Given 3 m = subst (λ (y : NodeId). Given 3 y) e given in omega arith
+
+pub not_point : (p q : Point) → Given 3 p.node → 3 ≤ q.node.gen_ → p ≡ q → ⊥
+not_point p q given le e = not_given p.node q.node given le (ap (λ (y : Point). y.node) e)
+
+pub given_before : AllGiven functions beginning before
+given_before = record {
+  laws = laws;
+  names = names;
+  needed = given_held;
   rooted = λ p h. subst (λ (y : Point). Given 3 y.node) (root_case p h) (omega arith);
   last = λ n le. refl;
+  never = λ n le. refl;
+  stale = λ n le. refl;
+  start = record { knows = refl; names = refl; held = given_held; last = λ n le. refl; never = λ n le. refl; stale = λ n le. refl };
   keeps = record {
     roots = λ b w m p is root.
         let k = built_case b w is in
@@ -264,12 +273,29 @@ all_given = record {
   };
 }
 
--- a node that wasn't given is none of those that were
-pub not_given : (n m : NodeId) → Given 3 n → 3 ≤ m.gen_ → n ≡ m → ⊥
-not_given n m given le e = let x : Given 3 m = subst (λ (y : NodeId). Given 3 y) e given in omega arith
+all_given : AllGiven functions beginning s3
+all_given = record {
+  laws = given_before.laws;
+  names = given_before.names;
+  keeps = given_before.keeps;
+  needed = given_needed;
+  rooted = given_before.rooted;
+  last = λ n le. node_other subject None (λ (n : NodeId). None) n (not_given subject n (omega arith) le);
+  never = λ n le. refl;
+  stale = λ n le. node_other subject false (λ (n : NodeId). false) n (not_given subject n (omega arith) le);
+  start = given_before.start;
+}
 
-pub not_point : (p q : Point) → Given 3 p.node → 3 ≤ q.node.gen_ → p ≡ q → ⊥
-not_point p q given le e = not_given p.node q.node given le (ap (λ (y : Point). y.node) e)
+-- what a function that speaks of one node alone gives
+at_case_node : {A : Type 0} (n : NodeId) (a : A) (m : NodeId) (x : A) → at_node n (Some a) (λ (k : NodeId). None) m ≡ Some x → (n ≡ m) × (a ≡ x)
+at_case_node n a m x h = elim (node_or_other n m) [
+  | inl e ↦ (
+    e,
+    (let y = node_same n (Some a) (λ (k : NodeId). None) in
+        let z = subst (λ (k : NodeId). at_node n (Some a) (λ (k : NodeId). None) k ≡ Some x) (sym e) h in cc),
+  )
+  | inr ne ↦ absurd (let y = node_other n (Some a) (λ (k : NodeId). None) m ne in cc)
+]
 
 pub never_bare : (p : Point) → s3.stage p ≡ Bare → ⊥
 never_bare p e = elim (at_case M Static before.stage p (λ (y : Stage). y ≡ Bare) e) [ inl k ↦ let x = k.1 in cc | inr x ↦ cc ]
@@ -311,8 +337,45 @@ heap_after = record {
   told = λ q x r row out i l. absurd (unread q x i l);
 }
 
-pub nodes : NewNodes s3 bind made
+after_given : (n : NodeId) (r : Row) → after.row n ≡ Some r → Given 4 n
+after_given n r row = elim (after_case n r row) [
+  | inl k ↦ subst (λ (y : NodeId). Given 4 y) k.0 (omega arith)
+  | inr (inl k) ↦ subst (λ (y : NodeId). Given 4 y) k.0 (omega arith)
+  | inr (inr k) ↦ subst (λ (y : NodeId). Given 4 y) k.0 (omega arith)
+]
+
+after_reads : (n : NodeId) (r : Row) → after.row n ≡ Some r → TermWithin (Given 4) (Fit 4 beginning.known beginning.ids) (present after n r)
+after_reads n r row = elim (after_case n r row) [
+  | inl k ↦ subst (λ (y : Row). TermWithin (Given 4) (Fit 4 beginning.known beginning.ids) (present after n y)) k.1 tt
+  | inr (inr k) ↦ subst (λ (y : Row). TermWithin (Given 4) (Fit 4 beginning.known beginning.ids) (present after n y)) k.1 tt
+  | inr (inl k) ↦ subst (λ (y : Row). TermWithin (Given 4) (Fit 4 beginning.known beginning.ids) (present after n y)) k.1
+      (((refl, refl), (λ n a. absurd a)), (omega arith), tt)
+]
+
+after_scope : (n : NodeId) (r : Row) (b : NodeId) → after.row n ≡ Some r → r.scope ≡ Some b → Given 4 b
+after_scope n r b row sc = elim (after_case n r row) [
+  | inl k ↦ absurd (let e = ap (λ (y : Row). y.scope) k.1 in let x : None ≡ Some b = e ∙ sc in cc)
+  | inr (inl k) ↦ absurd (let e = ap (λ (y : Row). y.scope) k.1 in let x : None ≡ Some b = e ∙ sc in cc)
+  | inr (inr k) ↦ let e = ap (λ (y : Row). y.scope) k.1 in let x : Some bind ≡ Some b = e ∙ sc in let same : bind ≡ b = cc in
+      subst (λ (y : NodeId). Given 4 y) same (omega arith)
+]
+
+pub nodes : NewNodes beginning s3 bind made
 nodes = record {
+  names = record { live = after_given; reads = after_reads; scope = after_scope };
+  keeps = record {
+    roots = λ b w m p is root.
+        let k = at_case_node bind built_after b w is in
+        let e : Some new ≡ Some m = ap (λ (y : Built). y.root) k.1 ∙ root in
+        let same : new ≡ m = cc in
+        subst (λ (y : NodeId). Given 4 y) same (omega arith);
+    scopes = λ n b p is. let k = at_case_node old bind n b is in subst (λ (y : NodeId). Given 4 y) k.1 (omega arith);
+    freezes = λ n r kid f row is. elim (after_case n r row) [
+      | inl k ↦ absurd (let e = ap (λ (y : Row). y.def) k.1 in cc)
+      | inr (inl k) ↦ absurd (let e = ap (λ (y : Row). y.def) k.1 in cc)
+      | inr (inr k) ↦ absurd (let e = ap (λ (y : Row). y.def) k.1 in cc)
+    ];
+  };
   number = 1;
   given = refl;
   adds = record { kept = omega arith; most = omega arith; exact = λ h. refl };
@@ -343,7 +406,8 @@ pub rebuilding : Rebuild functions beginning s3 bind (Val (Int (pos 2))) made
 rebuilding = record {
   quiet = λ p. refl;
   given = all_given;
-  step = rebuilds;
+  due = due;
+  rebuilt = rebuilt;
   deaths = deaths;
   taken = taken_c;
   right = λ need e. (let x = stage_m in let y : Static ≡ Full = sym x ∙ e in cc);
@@ -351,11 +415,13 @@ rebuilding = record {
   beside = beside;
   heap = heap_after;
   nodes = nodes;
-  builds = record { kept = omega arith; most = omega arith; exact = λ h. refl };
 }
 
-pub built_anew : IsBuiltAnew functions after bind rebuilding.step.due.function rebuilding.step.due.captures (Val (Int (pos 2)))
-unfolding rebuilding rebuilds due
+pub one_built : RoseBy s3.builds (builds_of (Val (Int (pos 2)))) made.builds
+one_built = record { kept = omega arith; most = omega arith; exact = λ h. refl }
+
+pub built_anew : IsBuiltAnew functions after bind rebuilding.due.function rebuilding.due.captures (Val (Int (pos 2)))
+unfolding rebuilding due
 built_anew = record { built = built_after; is_built = is_built_after; for_outcome = refl; rooted = new_root }
 
 abbrev pub s4 : State

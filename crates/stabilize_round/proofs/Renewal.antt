@@ -28,12 +28,12 @@ use Rattle.stabilize_round.specs.Renewal.{before, beginning, BindRenews}
 use Rattle.stabilize_round.proofs.Counts.{none_yet}
 use Rattle.stabilize_round.proofs.Points.{same_or_other, at_same, at_other}
 use Rattle.stabilize_round.proofs.Between.{link_back, round_ends}
-use Rattle.stabilize_round.proofs.Flipping.{never, one_of, not_at}
+use Rattle.stabilize_round.proofs.Renewing.{never, one_of, not_at}
 use Rattle.stabilize_round.proofs.Renewing.{L, C, R, M, root_m, root_case}
 use Rattle.stabilize_round.proofs.Renewing.{height_l, height_c, height_r, height_m, low, fall, begins, heap1, in_heap1, s1, step1, heap2, in_heap2}
 use Rattle.stabilize_round.proofs.Renewing.{s2}
 use Rattle.stabilize_round.proofs.Renewing.{scheduled, dropping, needed3, need3_m, sweeping, LinkedNow, link3_case, s3}
-use Rattle.stabilize_round.proofs.Remaking.{built_after, after, after_case, bind_after, new_after, old_gone, is_built_after, new_root, made}
+use Rattle.stabilize_round.proofs.Remaking.{one_built, given_before, built_after, after, after_case, bind_after, new_after, old_gone, is_built_after, new_root, made}
 use Rattle.stabilize_round.proofs.Remaking.{stands_top, died_old, least_c, change_in, given_needed, stage_m, rebuilding, built_anew, s4}
 
 -- ---- its change is settled
@@ -325,7 +325,7 @@ step2 = record {
   least = least1;
   ready = s4;
   prepared = step {b = s2} (schedule scheduled refl, tt) (step {b = s3} (cut dropping sweeping refl, tt)
-      (step {b = s4} (rebuild {b = bind} {now = Val (Int (pos 2))} {m = made} rebuilding built_anew refl, refl) here));
+      (step {b = s4} (rebuild {b = bind} {now = Val (Int (pos 2))} {m = made} rebuilding built_anew one_built refl, refl) here));
   next = s5;
   settles = step_change (λ p. refl) second refl;
   it = refl;
@@ -478,7 +478,8 @@ round : Round functions beginning before s13
 round = record {
   entry = begins;
   begun = before;
-  rooted = here;
+  opened = here;
+  idle = λ p. refl;
   steps = step {b = s1} step1 (step {b = s11} step2 (step {b = s12} step3 (step {b = s13} step4 here)));
 }
 
@@ -498,6 +499,7 @@ are = record {
 
 pub bind_renews : BindRenews
 bind_renews = (
+  given_before,
   s13,
   round,
   round_ends functions beginning before s13 (bind ∷ []) round are (λ p h. never h),

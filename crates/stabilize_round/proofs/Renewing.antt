@@ -1,5 +1,5 @@
 -- A bind built anew: the state before, its left computed, and the old root let go.
-use Rattle.std.proofs.Common.{◌≡◌, ◌⊎◌, inl, inr, ℕ, zero, suc, pos, ◌<◌, ◌≤◌, true, false, List, [], ◌∷◌, Option, None, Some, refl, sym, ap, subst}
+use Rattle.std.proofs.Common.{◌≡◌, ◌+◌, ◌⊎◌, inl, inr, ℕ, zero, suc, pos, ◌<◌, ◌≤◌, true, false, List, [], ◌∷◌, Option, None, Some, refl, sym, ap, subst}
 use Rattle.std.proofs.Common.{◌∙◌, arith}
 use Rattle.std.proofs.Common as common
 use Rattle.inc_value.specs.declared.function.FnRef.{FnRef}
@@ -16,8 +16,10 @@ use Rattle.inc_terms.specs.Graph.{Row, Built}
 use Rattle.inc_terms.specs.Depend.{main, change}
 use Rattle.inc_terms.specs.Local.{shown, IsRooted, IsBuilt, PartAgrees, Agrees}
 use Rattle.stabilize_round.specs.State.{State, Static, Linked, count, one, planned, at_point, at_node}
-use Rattle.stabilize_round.specs.Calling.{taken_by}
-use Rattle.stabilize_round.specs.Invariant.{Recalls}
+use Rattle.inc_terms.specs.Work.{taken_by}
+use Rattle.stabilize_round.specs.Freezing.{row_fires}
+use Rattle.stabilize_round.specs.Invariant.{Recalls, IsUnmarked}
+use Rattle.stabilize_round.proofs.Freezing.{never_called}
 use Rattle.stabilize_round.specs.Moves.{IsLeast, computed, StepMain}
 use Rattle.stabilize_round.specs.Wire.{heaped, Schedule, dropped, Drop, swept, Sweep}
 use Rattle.stabilize_round.specs.Machine.{Entry, step_main}
@@ -26,7 +28,38 @@ use Rattle.stabilize_round.specs.Renewal.{function, functions, subject, bind, ol
 use Rattle.stabilize_round.specs.Renewal.{before, beginning}
 use Rattle.stabilize_round.proofs.Counts.{none_yet}
 use Rattle.stabilize_round.proofs.Points.{same_or_other, node_or_other, at_same, at_other, node_same, node_other, count_among}
-use Rattle.stabilize_round.proofs.Flipping.{never, at_case, one_of, not_at, node_case}
+
+pub never : {X : Type 0} → false ≡ true → X
+never h = absurd (cc)
+
+-- what holds of a function at a point holds of the new value there, or of the old function
+pub at_case : {X : Type 0} (x : Point) (a : X) (f : Point → X) (p : Point) (Q : X → Type 0) → Q (at_point x a f p) → ((x ≡ p) × Q a) ⊎ Q (f p)
+at_case x a f p Q h = elim (same_or_other x p) [
+  | inl e ↦ inl (e, subst Q (subst (λ (y : Point). at_point x a f y ≡ a) e (at_same x a f)) h)
+  | inr ne ↦ inr (subst Q (at_other x a f p ne) h)
+]
+
+abbrev pub IsTrue : common.Bool → Type 0
+IsTrue b = b ≡ true
+
+pub one_of : (f : Point → common.Bool) (x p : Point) → at_point x true f p ≡ true → (x ≡ p) ⊎ (f p ≡ true)
+one_of f x p h = elim (at_case x true f p IsTrue h) [ inl k ↦ inl k.0 | inr k ↦ inr k ]
+
+pub not_at : (f : Point → common.Bool) (x p : Point) → at_point x false f p ≡ true → (x ≡ p → ⊥) × (f p ≡ true)
+not_at f x p h = elim (same_or_other x p) [
+  | inl e ↦ absurd (let a = at_same x false f in
+      let b : at_point x false f x ≡ true = subst (λ (y : Point). at_point x false f y ≡ true) (sym e) h in cc)
+  | inr ne ↦ (ne, sym (at_other x false f p ne) ∙ h)
+]
+
+-- ---- rows
+
+pub node_case : (n m : NodeId) (x : Option Row) (f : NodeId → Option Row) (r : Row) → at_node n x f m ≡ Some r → ((n ≡ m) × (x ≡ Some r))
+    ⊎ (f m ≡ Some r)
+node_case n m x f r h = elim (node_or_other n m) [
+  | inl e ↦ inl (e, sym (subst (λ (y : NodeId). at_node n x f y ≡ x) e (node_same n x f)) ∙ h)
+  | inr ne ↦ inr (sym (node_other n x f m ne) ∙ h)
+]
 
 abbrev pub L : Point
 L = main subject
@@ -232,13 +265,13 @@ unfolding at_point at_node same_outcome
 links_m q = refl
 
 abbrev Rights : Point → Type 0
-Rights p = Agrees functions before.graph before.out p × Recalls before.graph (shown before.graph before.out) before.last p
+Rights p = Agrees functions before.graph before.out p × Recalls before.graph (shown before.graph before.out) before.last p × IsUnmarked before.stale p
 
 no_map : (p : Point) → Recalls before.graph (shown before.graph before.out) before.last p
 no_map p r kids values row part def shows = elim (row_case p.node r row) [
-  | inl k ↦ absurd (let e = ap (λ (y : Row). taken_by y.def) k.1 in cc)
-  | inr (inl k) ↦ absurd (let e = ap (λ (y : Row). taken_by y.def) k.1 in cc)
-  | inr (inr k) ↦ absurd (let e = ap (λ (y : Row). taken_by y.def) k.1 in cc)
+  | inl k ↦ absurd (let e = ap (λ (y : Row). taken_by before.graph p.node y.def) k.1 in cc)
+  | inr (inl k) ↦ absurd (let e = ap (λ (y : Row). taken_by before.graph p.node y.def) k.1 in cc)
+  | inr (inr k) ↦ absurd (let e = ap (λ (y : Row). taken_by before.graph p.node y.def) k.1 in cc)
 ]
 
 built_is : before.graph.built bind ≡ Some built_before
@@ -288,9 +321,9 @@ agrees_c r row = elim (row_case bind r row) [
 fresh : (p : Point) → before.needed p ≡ true → (before.heap p ≡ true) ⊎ Rights p
 fresh p need = elim (needed_case p need) [
   | inl e ↦ inl (subst (λ (y : Point). before.heap y ≡ true) e (at_same L true (λ (p : Point). false)))
-  | inr (inl e) ↦ inr (subst (λ (y : Point). Rights y) e (agrees_c, no_map C))
-  | inr (inr (inl e)) ↦ inr (subst (λ (y : Point). Rights y) e (agrees_n, no_map N))
-  | inr (inr (inr e)) ↦ inr (subst (λ (y : Point). Rights y) e (agrees_m, no_map M))
+  | inr (inl e) ↦ inr (subst (λ (y : Point). Rights y) e (agrees_c, no_map C, (λ part. refl)))
+  | inr (inr (inl e)) ↦ inr (subst (λ (y : Point). Rights y) e (agrees_n, no_map N, (λ part. refl)))
+  | inr (inr (inr e)) ↦ inr (subst (λ (y : Point). Rights y) e (agrees_m, no_map M, (λ part. refl)))
 ]
 
 rooted : (n : NodeId) (r : Row) (l : NodeId) (f : FnRef) (captures : List NodeId) (w : Built) → before.graph.row n ≡ Some r
@@ -335,6 +368,10 @@ starts p q (inr (inl k)) = subst (λ (y : Point). before.needed y ≡ true) k.0 
 starts p q (inr (inr (inl k))) = subst (λ (y : Point). before.needed y ≡ true) k.0 need_m
 starts p q (inr (inr (inr k))) = subst (λ (y : Point). before.needed y ≡ true) k.0 need_m
 
+none_fires : (x : Option Row) → row_fires x None None ≡ None
+none_fires None = refl
+none_fires (Some r) = never_called r.def None
+
 pub begins : Entry functions beginning before
 begins = record {
   web = record {
@@ -348,10 +385,10 @@ begins = record {
   };
   alive = λ p h. (subject_row, subst (λ (y : Point). before.graph.row y.node ≡ Some subject_row) (in_heap p h) subject_is);
   links = λ p q need. elim (needed_case p need) [
-    | inl e ↦ subst (λ (y : Point). before.links y q ≡ count q (planned before y)) e (links_l q)
-    | inr (inl e) ↦ subst (λ (y : Point). before.links y q ≡ count q (planned before y)) e (links_c q)
-    | inr (inr (inl e)) ↦ subst (λ (y : Point). before.links y q ≡ count q (planned before y)) e (links_n q)
-    | inr (inr (inr e)) ↦ subst (λ (y : Point). before.links y q ≡ count q (planned before y)) e (links_m q)
+    | inl e ↦ subst (λ (y : Point). before.links y q + 0 ≡ count q (planned before y)) e (let x = links_l q in omega arith)
+    | inr (inl e) ↦ subst (λ (y : Point). before.links y q + 0 ≡ count q (planned before y)) e (let x = links_c q in omega arith)
+    | inr (inr (inl e)) ↦ subst (λ (y : Point). before.links y q + 0 ≡ count q (planned before y)) e (let x = links_n q in omega arith)
+    | inr (inr (inr e)) ↦ subst (λ (y : Point). before.links y q + 0 ≡ count q (planned before y)) e (let x = links_m q in omega arith)
   ];
   full = λ p r row need. refl;
   bare = λ p need e. (cc);
@@ -367,8 +404,8 @@ begins = record {
   built = built;
   fresh = λ p r row need. fresh p need;
   settled = λ p. refl;
-  owed = λ p. refl;
-  todo = λ p. refl;
+  owed = λ p h. refl;
+  todo = λ p need h. never h;
   strict = refl;
   ran = refl;
   taken = refl;
@@ -377,7 +414,9 @@ begins = record {
   last = λ n. refl;
   calls = refl;
   never = λ n. refl;
+  stale = λ n. refl;
   answers = λ n r kids c row def l. absurd (cc);
+  unfired = λ n. none_fires (before.graph.row n);
 }
 
 -- ---- the left is computed

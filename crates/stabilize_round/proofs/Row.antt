@@ -1,5 +1,5 @@
 -- One constant, observed.
-use Rattle.std.proofs.Common.{◌≡◌, inl, inr, pos, ◌<◌, Bool, true, false, [], ◌∷◌, None, Some, refl, sym, ap, subst, ◌∙◌, arith}
+use Rattle.std.proofs.Common.{◌≡◌, inl, inr, pos, ◌<◌, Bool, true, false, [], ◌∷◌, Option, None, Some, refl, sym, ap, subst, ◌∙◌, arith}
 use Rattle.inc_value.specs.declared.node.NodeId.{NodeId}
 use Rattle.inc_value.specs.declared.node.Point.{Point}
 use Rattle.inc_value.specs.declared.outcome.Outcome.TheVariants.{Val}
@@ -9,6 +9,8 @@ use Rattle.inc_terms.specs.Term.{Functions}
 use Rattle.inc_terms.specs.Graph.{Row}
 use Rattle.inc_terms.specs.Depend.{main}
 use Rattle.stabilize_round.specs.State.{State, Bare, Full, at_point, at_node}
+use Rattle.stabilize_round.specs.Freezing.{row_fires}
+use Rattle.stabilize_round.proofs.Freezing.{never_called}
 use Rattle.stabilize_round.specs.Moves.{Quiet, Enqueues, computed, StepMain}
 use Rattle.stabilize_round.specs.Wire.{newly, rooted, IsIt, raised, Raise, finished, Finish}
 use Rattle.stabilize_round.specs.Machine.{Entry, step_main, root_new, raise, finish, Moves}
@@ -34,6 +36,10 @@ only n r h = elim (node_or_other node n) [
   | inr ne ↦ absurd (let a = node_other node (Some row) (λ (n : NodeId). None) n ne in cc)
 ]
 
+none_fires : (x : Option Row) → row_fires x None None ≡ None
+none_fires None = refl
+none_fires (Some r) = never_called r.def None
+
 begins : (F : Functions) → Entry F empty_start empty_state
 begins F = record {
   web = record {
@@ -54,8 +60,8 @@ begins F = record {
   built = λ n r o e h. absurd (cc);
   fresh = λ a r e h. no h;
   settled = λ a. refl;
-  owed = λ a. refl;
-  todo = λ a. refl;
+  owed = λ a h. refl;
+  todo = λ a need h. no h;
   strict = refl;
   ran = refl;
   taken = refl;
@@ -64,7 +70,9 @@ begins F = record {
   last = λ n. refl;
   calls = refl;
   never = λ n. refl;
+  stale = λ n. refl;
   answers = λ n r ks c e d l. absurd (cc);
+  unfired = λ n. none_fires (empty_state.graph.row n);
 }
 
 abbrev heap1 : Point → Bool
@@ -138,7 +146,7 @@ abbrev s4 : State
 s4 = computed s3 node (Val (Int (pos 3))) heap2 None false 0
 
 moves : (F : Functions) → Moves F empty_start empty_state s4
-moves F = step (root_new {p = p} {heap' = heap1} refl told refl)
+moves F = step (root_new {p = p} {heap' = heap1} (omega arith) refl told refl)
     (step (raise rises refl) (step (finish ends refl) (step (step_main quiet (steps F) refl) here)))
 
 emptied : (q : Point) → heap2 q ≡ true → ⊥

@@ -24,7 +24,7 @@ use Rattle.inc_terms.proofs.Rebuilding.{building_kills}
 use Rattle.stabilize_round.specs.Counts.{RoseBy}
 use Rattle.stabilize_round.specs.State.{State, Start}
 use Rattle.stabilize_round.specs.Invariant.{Invariant, MetNow, from_held}
-use Rattle.stabilize_round.specs.Rebuilding.{Remade, remade, builds_of, Rebuild, IsBuiltAnew}
+use Rattle.stabilize_round.specs.Rebuilding.{Remade, remade, builds_of, Rebuild, rebuilds, IsBuiltAnew}
 use Rattle.stabilize_round.specs.Machine.{Move, step_main, step_change, link, link_new, root, root_new, raise, finish, schedule, cut, rebuild}
 use Rattle.stabilize_round.specs.Machine.{level, turn_strict, Moves, called_more, as_it_is, unbuilt, unkept}
 use Rattle.stabilize_round.specs.Runs.{built_by, built_in, LeftDiffers, BuildsAre, RunBuilds, IsBuiltRight, BuiltStays, RunAdds, RunKills}
@@ -39,20 +39,21 @@ use Rattle.stabilize_round.proofs.Rebuilding.{met_after, rebuild_keeps}
 
 -- ---- a move builds a bind anew, or leaves all of this
 
-record Still (s t : State) : Type 0 where
-  graph : t.graph ≡ s.graph
-  given : t.given ≡ s.given
-  builds : t.builds ≡ s.builds
-  adds : t.adds ≡ s.adds
-  died : t.died ≡ s.died
+pub record Still (s t : State) : Type 0 where
+  pub graph : t.graph ≡ s.graph
+  pub given : t.given ≡ s.given
+  pub builds : t.builds ≡ s.builds
+  pub adds : t.adds ≡ s.adds
+  pub died : t.died ≡ s.died
 
-record Makes (F : Functions) (z : Start) (s t : State) : Type 0 where
-  bind : NodeId
-  outcome : Outcome
-  made : Remade
-  rebuild : Rebuild F z s bind outcome made
-  built : IsBuiltAnew F made.graph bind rebuild.step.due.function rebuild.step.due.captures outcome
-  is : t ≡ remade s made
+pub record Makes (F : Functions) (z : Start) (s t : State) : Type 0 where
+  pub bind : NodeId
+  pub outcome : Outcome
+  pub made : Remade
+  pub rebuild : Rebuild F z s bind outcome made
+  pub built : IsBuiltAnew F made.graph bind rebuild.due.function rebuild.due.captures outcome
+  pub count : RoseBy s.builds (builds_of outcome) made.builds
+  pub is : t ≡ remade s made
 
 still : (s u t : State) → t ≡ u → Still s u → Still s t
 still s u t e h = subst (λ (x : State). Still s x) (sym e) h
@@ -60,21 +61,21 @@ still s u t e h = subst (λ (x : State). Still s x) (sym e) h
 alike : (s : State) → Still s s
 alike s = record { graph = refl; given = refl; builds = refl; adds = refl; died = refl }
 
-abbrev Kind : (F : Functions) (z : Start) (s t : State) → List NodeId → Type 0
+abbrev pub Kind : (F : Functions) (z : Start) (s t : State) → List NodeId → Type 0
 Kind F z s t binds = (Still s t × (binds ≡ [])) ⊎ ((k : Makes F z s t) × (binds ≡ k.bind ∷ []))
 
-kind_of : (F : Functions) (z : Start) (s t : State) (m : Move F z s t) → Kind F z s t (built_by m)
+pub kind_of : (F : Functions) (z : Start) (s t : State) (m : Move F z s t) → Kind F z s t (built_by m)
 kind_of F z s t (step_main quiet m e) = inl (still s _ t e (record { graph = refl; given = refl; builds = refl; adds = refl; died = refl }), refl)
 kind_of F z s t (step_change quiet m e) = inl (still s _ t e (record { graph = refl; given = refl; builds = refl; adds = refl; died = refl }), refl)
 kind_of F z s t (link m need e) = inl (still s _ t e (record { graph = refl; given = refl; builds = refl; adds = refl; died = refl }), refl)
 kind_of F z s t (link_new m need k e) = inl (still s _ t e (record { graph = refl; given = refl; builds = refl; adds = refl; died = refl }), refl)
 kind_of F z s t (root need e) = inl (still s _ t e (record { graph = refl; given = refl; builds = refl; adds = refl; died = refl }), refl)
-kind_of F z s t (root_new need k e) = inl (still s _ t e (record { graph = refl; given = refl; builds = refl; adds = refl; died = refl }), refl)
+kind_of F z s t (root_new given need k e) = inl (still s _ t e (record { graph = refl; given = refl; builds = refl; adds = refl; died = refl }), refl)
 kind_of F z s t (raise m e) = inl (still s _ t e (record { graph = refl; given = refl; builds = refl; adds = refl; died = refl }), refl)
 kind_of F z s t (finish m e) = inl (still s _ t e (record { graph = refl; given = refl; builds = refl; adds = refl; died = refl }), refl)
 kind_of F z s t (schedule m e) = inl (still s _ t e (record { graph = refl; given = refl; builds = refl; adds = refl; died = refl }), refl)
 kind_of F z s t (cut d w e) = inl (still s _ t e (record { graph = refl; given = refl; builds = refl; adds = refl; died = refl }), refl)
-kind_of F z s t (rebuild {b} {now} {m} r made e) = inr (record { bind = b; outcome = now; made = m; rebuild = r; built = made; is = e }, refl)
+kind_of F z s t (rebuild {b} {now} {m} r made count e) = inr (record { bind = b; outcome = now; made = m; rebuild = r; built = made; count = count; is = e }, refl)
 kind_of F z s t (level m e) = inl (still s _ t e (record { graph = refl; given = refl; builds = refl; adds = refl; died = refl }), refl)
 kind_of F z s t (turn_strict u k e) = inl (still s _ t e (record { graph = refl; given = refl; builds = refl; adds = refl; died = refl }), refl)
 
@@ -107,34 +108,34 @@ module _ (F : Functions) (z : Start) (s : State) (b : NodeId) (now : Outcome) (m
   Q = Fit s.given z.known z.ids
 
   fine : FunctionsWithin F P Q
-  fine = functions_within F z.known z.ids P move.step.laws
+  fine = functions_within F z.known z.ids P move.given.laws
 
-  left_given : (n : NodeId) (r : Row) (l : NodeId) (f : FnRef) (captures : List NodeId) → s.graph.row n ≡ Some r → r.def ≡ graph.Bind l f captures
+  pub left_given : (n : NodeId) (r : Row) (l : NodeId) (f : FnRef) (captures : List NodeId) → s.graph.row n ≡ Some r → r.def ≡ graph.Bind l f captures
       → P l
   left_given n r l f captures row def =
-      subject_given F P Q fine s.graph made.graph move.step.names b now move.step.due move.step.rebuilt n r l row (ap (λ (d : Def). subject_of d) def)
+      subject_given F P Q fine s.graph made.graph move.given.names b now move.due move.rebuilt n r l row (ap (λ (d : Def). subject_of d) def)
 
   gives_after : (n : NodeId) (o : Outcome) → P n → NodeGives F s.graph n o → NodeGives F made.graph n o
-  gives_after n o p g = same_after F P Q fine s.graph made.graph move.step.names b now move.step.due move.step.rebuilt n p o g
+  gives_after n o p g = same_after F P Q fine s.graph made.graph move.given.names b now move.due move.rebuilt n p o g
 
   gives_before : (n : NodeId) (o : Outcome) → P n → NodeGives F made.graph n o → NodeGives F s.graph n o
-  gives_before n o p g = same_before F P Q fine s.graph made.graph move.step.names b now move.step.due move.step.rebuilt n p o g
+  gives_before n o p g = same_before F P Q fine s.graph made.graph move.given.names b now move.due move.rebuilt n p o g
 
   -- of a given node that lives after it
-  lived : (n : NodeId) (r : Row) → P n → made.graph.row n ≡ Some r → (Inside s.graph b n → ⊥) × (s.graph.row n ≡ Some r)
-  lived n r p e = elim (move.step.rebuilt.rows n p) [
+  pub lived : (n : NodeId) (r : Row) → P n → made.graph.row n ≡ Some r → (Inside s.graph b n → ⊥) × (s.graph.row n ≡ Some r)
+  lived n r p e = elim (move.rebuilt.rows n p) [
     | inl h ↦ absurd (let x = h.1 in cc)
     | inr h ↦ (h.0, sym h.1 ∙ e)
   ]
 
-  bind_given : P b
-  bind_given = move.given.live b move.step.due.row move.step.due.is_row
+  pub bind_given : P b
+  bind_given = move.given.names.live b move.due.row move.due.is_row
 
-  module _ (built : IsBuiltAnew F made.graph b move.step.due.function move.step.due.captures now) where
+  module _ (built : IsBuiltAnew F made.graph b move.due.function move.due.captures now) where
     abbrev due : IsDue F s.graph b now
-    due = move.step.due
+    due = move.due
 
-    made_right : (r : Row) → made.graph.row b ≡ Some r → IsBuiltRight F made.graph b
+    pub made_right : (r : Row) → made.graph.row b ≡ Some r → IsBuiltRight F made.graph b
     made_right r row =
         let k = lived b r bind_given row in
         let mine = due.is_row in let before = k.1 in
@@ -152,8 +153,23 @@ module _ (F : Functions) (z : Start) (s : State) (b : NodeId) (now : Outcome) (m
               rw built.for_outcome left;
         }
 
+-- a bind that is due has a left that differs
+pub due_differs : (F : Functions) (z : Start) (s : State) (b : NodeId) (now : Outcome) (made : Remade) → Rebuild F z s b now made
+    → LeftDiffers F s.graph b
+due_differs F z s b now made move = let due = move.due in record {
+  row = due.row;
+  left = due.left;
+  function = due.function;
+  captures = due.captures;
+  is_row = due.is_row;
+  is_bind = due.is_bind;
+  outcome = now;
+  gives = due.gives;
+  changed = due.changed;
+}
+
 -- what is built for what its left gives isn't due
-not_differing : (F : Functions) (G : Graph) (b : NodeId) → IsBuiltRight F G b → LeftDiffers F G b → ⊥
+pub not_differing : (F : Functions) (G : Graph) (b : NodeId) → IsBuiltRight F G b → LeftDiffers F G b → ⊥
 not_differing F G b right d =
     let e = d.is_row in let e' = right.is_row in
     let same : d.row ≡ right.row = cc in
@@ -165,7 +181,7 @@ not_differing F G b right d =
     d.changed right.built right.is_built (one_outcome F G _ right.built.outcome d.outcome right.gives there)
 
 -- a left that differs afterwards did so before
-differed : (F : Functions) (z : Start) (s t : State) → Makes F z s t → (b : NodeId) → Given s.given b → LeftDiffers F t.graph b
+pub differed : (F : Functions) (z : Start) (s t : State) → Makes F z s t → (b : NodeId) → Given s.given b → LeftDiffers F t.graph b
     → LeftDiffers F s.graph b
 differed F z s t k b p d = by_graph (subst (λ (x : State). LeftDiffers F x.graph b) k.is d)
   where
@@ -183,7 +199,7 @@ differed F z s t k b p d = by_graph (subst (λ (x : State). LeftDiffers F x.grap
           outcome = d.outcome;
           gives = gives_before F z s k.bind k.outcome k.made k.rebuild d.left d.outcome left d.gives;
           changed = λ w e o. elim (node_or_other b k.bind) [
-            | inr ne ↦ d.changed w (k.rebuild.step.rebuilt.built b p ne was.0 ∙ e) o
+            | inr ne ↦ d.changed w (k.rebuild.rebuilt.built b p ne was.0 ∙ e) o
             | inl is ↦
                 let row : k.made.graph.row k.bind ≡ Some d.row = subst (λ (n : NodeId). k.made.graph.row n ≡ Some d.row) is d.is_row in
                 let right = made_right F z s k.bind k.outcome k.made k.rebuild k.built d.row row in
@@ -193,13 +209,13 @@ differed F z s t k b p d = by_graph (subst (λ (x : State). LeftDiffers F x.grap
 
 -- ---- what is built
 
-later : (n m : ℕ) (b : NodeId) → n ≤ m → Given n b → Given m b
+pub later : (n m : ℕ) (b : NodeId) → n ≤ m → Given n b → Given m b
 later n m b le p = omega arith
 
-grows : (F : Functions) (z : Start) (s t : State) (binds : List NodeId) → Kind F z s t binds → s.given ≤ t.given
+pub grows : (F : Functions) (z : Start) (s t : State) (binds : List NodeId) → Kind F z s t binds → s.given ≤ t.given
 grows F z s t binds k = let c = counted F z s t binds k in let e = c.1 in omega arith
 
-row_before : (F : Functions) (z : Start) (s t : State) → Moves F z s t → (n : NodeId) (r : Row) → Given s.given n → t.graph.row n ≡ Some r
+pub row_before : (F : Functions) (z : Start) (s t : State) → Moves F z s t → (n : NodeId) (r : Row) → Given s.given n → t.graph.row n ≡ Some r
     → s.graph.row n ≡ Some r
 row_before F z s t here n r p e = e
 row_before F z s t (step {b = u} m rest) n r p e = back kind
@@ -214,7 +230,7 @@ row_before F z s t (step {b = u} m rest) n r p e = back kind
         let row : k.0.made.graph.row n ≡ Some r = sym (ap (λ (x : State). x.graph.row n) k.0.is) ∙ h in
         (lived F z s k.0.bind k.0.outcome k.0.made k.0.rebuild n r p row).1
 
-run_grows : (F : Functions) (z : Start) (s t : State) → Moves F z s t → s.given ≤ t.given
+pub run_grows : (F : Functions) (z : Start) (s t : State) → Moves F z s t → s.given ≤ t.given
 run_grows F z s t run = let c = run_adds F z s t run in let e = c.1 in omega arith
 
 few_builds : (o : Outcome) → builds_of o ≤ 1
@@ -245,11 +261,11 @@ module _ (F : Functions) (z : Start) (s u t : State) (rest : List NodeId) (next 
         let p' = given_later b p in
         let row' : k.0.made.graph.row b ≡ Some r = sym (ap (λ (x : State). x.graph.row b) k.0.is) ∙ before b r p' row in
         let was = lived F z s k.0.bind k.0.outcome k.0.made k.0.rebuild b r p row' in
-        let same = k.0.rebuild.step.rebuilt.built b p (λ is. a (inl is)) was.0 in
+        let same = k.0.rebuild.rebuilt.built b p (λ is. a (inl is)) was.0 in
         next.others b r p' row (λ h. a (inr h)) ∙ ap (λ (x : State). x.graph.built b) k.0.is ∙ same;
     number = builds_of k.0.outcome + next.number;
     few = let a = few_builds k.0.outcome in let b = next.few in omega arith;
-    count = let e : u.builds ≡ k.0.made.builds = ap (λ (x : State). x.builds) k.0.is in rose_on k.0.rebuild.builds (rw e at next.count);
+    count = let e : u.builds ≡ k.0.made.builds = ap (λ (x : State). x.builds) k.0.is in rose_on k.0.count (rw e at next.count);
   })
     where
       given_later : (b : NodeId) → Given s.given b → Given u.given b
@@ -257,7 +273,7 @@ module _ (F : Functions) (z : Start) (s u t : State) (rest : List NodeId) (next 
 
       first : (b : NodeId) → b ≡ k.0.bind → LeftDiffers F s.graph b
       first b is =
-          let due = k.0.rebuild.step.due in
+          let due = k.0.rebuild.due in
           subst (λ (n : NodeId). LeftDiffers F s.graph n) (sym is) (record {
             row = due.row;
             left = due.left;
@@ -298,7 +314,7 @@ module _ (F : Functions) (z : Start) (s u t : State) (next : Reaches (BuildStep 
         step = record {
           bind = k.0.bind;
           outcome = k.0.outcome;
-          rebuilds = k.0.rebuild.step;
+          rebuilds = rebuilds k.0.rebuild;
           later = let e = k.0.rebuild.nodes.given in omega arith;
         };
         built = k.0.built.built;
@@ -319,7 +335,7 @@ run_kills F z s t run n r p row = building_kills F z.known z.ids (moment s) (mom
 
 module _ (F : Functions) (z : Start) (s t : State) (binds : List NodeId)
     (live : (n : NodeId) (r : Row) → s.graph.row n ≡ Some r → Given s.given n) where
-  new_by : Kind F z s t binds → (n : NodeId) (r : Row) → t.graph.row n ≡ Some r
+  pub new_by : Kind F z s t binds → (n : NodeId) (r : Row) → t.graph.row n ≡ Some r
       → (s.graph.row n ≡ Some r) ⊎ (((b : NodeId) × (r.scope ≡ Some b)) × Given t.given n)
   new_by (inl k) n r row = inl (sym (ap (λ (G : Graph). G.row n) k.0.graph) ∙ row)
   new_by (inr k) n r row =
@@ -353,13 +369,13 @@ new_nodes_stand F z s t (step {b = u} m rest) live n r row le =
 -- ---- which scopes the dead stood in
 
 -- of given nodes that are dead: those that lived are known with their scopes, of others what was known stays
-record Known (s t : State) (n : NodeId) : Type 0 where
-  now : (r : Row) → s.graph.row n ≡ Some r → t.died n ≡ r.scope
-  earlier : s.graph.row n ≡ None → t.died n ≡ s.died n
+pub record Known (s t : State) (n : NodeId) : Type 0 where
+  pub now : (r : Row) → s.graph.row n ≡ Some r → t.died n ≡ r.scope
+  pub earlier : s.graph.row n ≡ None → t.died n ≡ s.died n
 
 module _ (F : Functions) (z : Start) (s u t : State) (n : NodeId) (p : Given s.given n) (dead : t.graph.row n ≡ None)
     (next : Given u.given n → Known u t n) where
-  known_on : (binds : List NodeId) → Kind F z s u binds → Known s t n
+  pub known_on : (binds : List NodeId) → Kind F z s u binds → Known s t n
   known_on binds (inl k) =
       let g = k.0.given in
       let p' : Given u.given n = omega arith in
@@ -372,7 +388,7 @@ module _ (F : Functions) (z : Start) (s u t : State) (n : NodeId) (p : Given s.g
       let row : u.graph.row n ≡ k.0.made.graph.row n = ap (λ (x : State). x.graph.row n) k.0.is in
       let d : u.died n ≡ k.0.made.died n = ap (λ (x : State). x.died n) k.0.is in
       let deaths = k.0.rebuild.deaths in
-      elim (k.0.rebuild.step.rebuilt.rows n p) [
+      elim (k.0.rebuild.rebuilt.rows n p) [
         | inl h ↦ record {
           now = λ r e. k'.earlier (row ∙ h.1) ∙ d ∙ deaths.now n r e h.1;
           earlier = λ e. k'.earlier (row ∙ h.1) ∙ d ∙ deaths.earlier n e;
@@ -411,12 +427,12 @@ move_met F z s t inv (step_change quiet m e) p h = still_met F z s _ t e p h
 move_met F z s t inv (link m need e) p h = still_met F z s _ t e p h
 move_met F z s t inv (link_new m need k e) p h = still_met F z s _ t e p h
 move_met F z s t inv (root {p = r} need e) p h = still_met F z s _ t e p (met_root F z s inv r p h)
-move_met F z s t inv (root_new {p = r} need k e) p h = still_met F z s _ t e p (met_root F z s inv r p h)
+move_met F z s t inv (root_new {p = r} given need k e) p h = still_met F z s _ t e p (met_root F z s inv r p h)
 move_met F z s t inv (raise m e) p h = still_met F z s _ t e p h
 move_met F z s t inv (finish m e) p h = still_met F z s _ t e p h
 move_met F z s t inv (schedule m e) p h = still_met F z s _ t e p h
 move_met F z s t inv (cut d w e) p h = still_met F z s _ t e p h
-move_met F z s t inv (rebuild {b} {now} {m} r made e) p h = still_met F z s _ t e p (met_after F z s inv b now m r p h)
+move_met F z s t inv (rebuild {b} {now} {m} r made count e) p h = still_met F z s _ t e p (met_after F z s inv b now m r p h)
 move_met F z s t inv (level m e) p h = still_met F z s _ t e p h
 move_met F z s t inv (turn_strict u k e) p h = still_met F z s _ t e p h
 
@@ -447,7 +463,7 @@ right_stays F z s t k b r p row h = subst (λ (x : State). IsBuiltRight F x.grap
         let same : r ≡ h.row = cc in
         elim (node_or_other b k.bind) [
           | inl is ↦ absurd (not_differing F s.graph b h (
-              let due = k.rebuild.step.due in
+              let due = k.rebuild.due in
               subst (λ (n : NodeId). LeftDiffers F s.graph n) (sym is) (record {
                 row = due.row;
                 left = due.left;
@@ -467,12 +483,12 @@ right_stays F z s t k b r p row h = subst (λ (x : State). IsBuiltRight F x.grap
             built = h.built;
             is_row = row' ∙ ap (λ (x : Row). Some x) same;
             is_bind = h.is_bind;
-            is_built = k.rebuild.step.rebuilt.built b p ne was.0 ∙ h.is_built;
+            is_built = k.rebuild.rebuilt.built b p ne was.0 ∙ h.is_built;
             gives = gives_after F z s k.bind k.outcome k.made k.rebuild h.left h.built.outcome left h.gives;
           }
         ]
 
-right_at_end : (F : Functions) (z : Start) (s t : State) → Moves F z s t → (b : NodeId) (r : Row) → Given s.given b → t.graph.row b ≡ Some r
+pub right_at_end : (F : Functions) (z : Start) (s t : State) → Moves F z s t → (b : NodeId) (r : Row) → Given s.given b → t.graph.row b ≡ Some r
     → IsBuiltRight F s.graph b → IsBuiltRight F t.graph b
 right_at_end F z s t here b r p row h = h
 right_at_end F z s t (step {b = u} m rest) b r p row h = right_at_end F z u t rest b r p' row (on kind)
@@ -487,10 +503,10 @@ right_at_end F z s t (step {b = u} m rest) b r p row h = right_at_end F z u t re
     on (inl k) = subst (λ (G : Graph). IsBuiltRight F G b) (sym k.0.graph) h
     on (inr k) = right_stays F z s u k.0 b r p (row_before F z u t rest b r p' row) h
 
-abbrev BuiltSince : (F : Functions) (z : Start) (s t : State) → NodeId → Type 0
+abbrev pub BuiltSince : (F : Functions) (z : Start) (s t : State) → NodeId → Type 0
 BuiltSince F z s t b = (t.graph.built b ≡ s.graph.built b) ⊎ (IsBuiltRight F t.graph b × MetNow F z t.graph t.died t.root (change b))
 
-built_on : (F : Functions) (z : Start) (s t : State) → Invariant F z s → Moves F z s t → (b : NodeId) (r : Row) → Given s.given b
+pub built_on : (F : Functions) (z : Start) (s t : State) → Invariant F z s → Moves F z s t → (b : NodeId) (r : Row) → Given s.given b
     → t.graph.row b ≡ Some r
     → BuiltSince F z s t b
 built_on F z s t inv here b r p row = inl refl
@@ -505,7 +521,7 @@ built_on F z s t inv (step {b = u} m rest) b r p row =
         let p' = later s.given u.given b (grows F z s u (built_by m) kind) p in
         let row' : k.made.graph.row b ≡ Some r = sym (ap (λ (x : State). x.graph.row b) k.is) ∙ row_before F z u t rest b r p' row in
         let was = lived F z s k.bind k.outcome k.made k.rebuild b r p row' in
-        inl (same ∙ ap (λ (x : State). x.graph.built b) k.is ∙ k.rebuild.step.rebuilt.built b p ne was.0)
+        inl (same ∙ ap (λ (x : State). x.graph.built b) k.is ∙ k.rebuild.rebuilt.built b p ne was.0)
     by_made k same (inl is) =
         let p' = later s.given u.given b (grows F z s u (built_by m) kind) p in
         let row' : k.made.graph.row b ≡ Some r = sym (ap (λ (x : State). x.graph.row b) k.is) ∙ row_before F z u t rest b r p' row in
@@ -537,7 +553,7 @@ KeptApart F z u = (v : State) × Invariant F z v × (u ≡ called_more v u.calls
 pub refused_keeps : RefusedKeeps
 refused_keeps F z s t u entry run (as_it_is e) =
     subst (λ (x : State). KeptApart F z x) (sym e) (t, moves_keep F z s t run (entry_holds F z s entry), refl)
-refused_keeps F z s t u entry run (unbuilt {b} {now} {m} r none e) =
+refused_keeps F z s t u entry run (unbuilt {b} {now} {m} r none count e) =
     let inv = moves_keep F z s t run (entry_holds F z s entry) in
     subst (λ (x : State). KeptApart F z x) (sym e) (remade t m, rebuild_keeps F z t inv b now m r (inl none), refl)
 refused_keeps F z s t u entry run (unkept {calls'} quiet taken row takes count e) =

@@ -59,15 +59,7 @@ module _ (F : Functions) (z : Start) (s : State) (inv : Invariant F z s) where
 
     pub raise_keeps : Invariant F z after
     raise_keeps = record {
-      web = record {
-        from = inv.web.from;
-        onto = inv.web.onto;
-        rooted = inv.web.rooted;
-        reached = inv.web.reached;
-        rises = inv.web.rises;
-        low = inv.web.low;
-        heap = inv.web.heap;
-      };
+      web = inv.web;
       alive = inv.alive;
       rows = record {
         links = λ a b need. elim (same_or_other p a) [
@@ -93,21 +85,14 @@ module _ (F : Functions) (z : Start) (s : State) (inv : Invariant F z s) where
         | inr (inl h) ↦ inr (inl h)
         | inr (inr h) ↦ elim (same_or_other p a) [
           | inl e ↦ absurd (move.lower (subst (λ (y : Point). s.stage y ≡ Full) (sym e) h.0))
-          | inr ne ↦ inr (inr (at_other p st s.stage a ne ∙ h.0, h.1, h.2))
+          | inr ne ↦ inr (inr (at_other p st s.stage a ne ∙ h.0, h.1, h.2, h.3))
         ]
       ];
-      settled = record { done = inv.settled.done; twice = inv.settled.twice };
+      settled = inv.settled;
       strict = record { gates = gates_at; rights = rights_at };
       last_settled = inv.last_settled;
-      met = record { needed = inv.met.needed; todo = inv.met.todo };
-      accounts = record {
-        once = inv.accounts.once;
-        called = inv.accounts.called;
-        kept = inv.accounts.kept;
-        calls = inv.accounts.calls;
-        answers = inv.accounts.answers;
-        never = inv.accounts.never;
-      };
+      met = inv.met;
+      accounts = inv.accounts;
     }
 
   module _ (p : Point) (move : Finish s p) where
@@ -120,15 +105,7 @@ module _ (F : Functions) (z : Start) (s : State) (inv : Invariant F z s) where
 
     pub finish_keeps : Invariant F z (finished s p)
     finish_keeps = record {
-      web = record {
-        from = inv.web.from;
-        onto = inv.web.onto;
-        rooted = inv.web.rooted;
-        reached = inv.web.reached;
-        rises = inv.web.rises;
-        low = inv.web.low;
-        heap = inv.web.heap;
-      };
+      web = inv.web;
       alive = inv.alive;
       rows = record {
         links = inv.rows.links;
@@ -159,18 +136,11 @@ module _ (F : Functions) (z : Start) (s : State) (inv : Invariant F z s) where
         ];
       };
       fresh = inv.fresh;
-      settled = record { done = inv.settled.done; twice = inv.settled.twice };
-      strict = record { gates = inv.strict.gates; rights = inv.strict.rights };
+      settled = inv.settled;
+      strict = inv.strict;
       last_settled = inv.last_settled;
       met = record { needed = inv.met.needed; todo = λ a need td. inv.met.todo a need (was_todo a td) };
-      accounts = record {
-        once = inv.accounts.once;
-        called = inv.accounts.called;
-        kept = inv.accounts.kept;
-        calls = inv.accounts.calls;
-        answers = inv.accounts.answers;
-        never = inv.accounts.never;
-      };
+      accounts = inv.accounts;
     }
 
   pub schedule_keeps : (heap' : Point → Bool) → Schedule s heap' → Invariant F z (heaped s heap')
@@ -185,7 +155,7 @@ module _ (F : Functions) (z : Start) (s : State) (inv : Invariant F z s) where
       heap = λ a h. elim (move.new a h) [ inl k ↦ inv.web.heap a k | inr k ↦ k.2 ];
     };
     alive = λ a h. elim (move.new a h) [ inl k ↦ inv.alive a k | inr k ↦ (k.0, k.1) ];
-    rows = record { links = inv.rows.links; bare = inv.rows.bare; owed = inv.rows.owed };
+    rows = inv.rows;
     scoped = inv.scoped;
     rooted = inv.rooted;
     built = inv.built;
@@ -201,17 +171,10 @@ module _ (F : Functions) (z : Start) (s : State) (inv : Invariant F z s) where
         | inr new ↦ elim new.3 [ inl u ↦ absurd (cc) | inr c ↦ c.0 ]
       ];
     };
-    strict = record { gates = inv.strict.gates; rights = inv.strict.rights };
+    strict = inv.strict;
     last_settled = inv.last_settled;
-    met = record { needed = inv.met.needed; todo = inv.met.todo };
-    accounts = record {
-      once = inv.accounts.once;
-      called = inv.accounts.called;
-      kept = inv.accounts.kept;
-      calls = inv.accounts.calls;
-      answers = inv.accounts.answers;
-      never = inv.accounts.never;
-    };
+    met = inv.met;
+    accounts = inv.accounts;
   }
 
   pub level_keeps : (height' : Point → ℕ) → Level s height' → Invariant F z (levelled s height')
@@ -226,55 +189,33 @@ module _ (F : Functions) (z : Start) (s : State) (inv : Invariant F z s) where
       heap = inv.web.heap;
     };
     alive = inv.alive;
-    rows = record { links = inv.rows.links; bare = inv.rows.bare; owed = inv.rows.owed };
+    rows = inv.rows;
     scoped = inv.scoped;
     rooted = inv.rooted;
     built = inv.built;
-    waits = record { gated = inv.waits.gated; static = inv.waits.static };
+    waits = inv.waits;
     fresh = inv.fresh;
-    settled = record { done = inv.settled.done; twice = inv.settled.twice };
-    strict = record { gates = inv.strict.gates; rights = inv.strict.rights };
+    settled = inv.settled;
+    strict = inv.strict;
     last_settled = inv.last_settled;
-    met = record { needed = inv.met.needed; todo = inv.met.todo };
-    accounts = record {
-      once = inv.accounts.once;
-      called = inv.accounts.called;
-      kept = inv.accounts.kept;
-      calls = inv.accounts.calls;
-      answers = inv.accounts.answers;
-      never = inv.accounts.never;
-    };
+    met = inv.met;
+    accounts = inv.accounts;
   }
 
   -- where nothing unconfirmed is linked
   pub strict_keeps : Strict (made_strict s) → Invariant F z (made_strict s)
   strict_keeps strict = record {
-    web = record {
-      from = inv.web.from;
-      onto = inv.web.onto;
-      rooted = inv.web.rooted;
-      reached = inv.web.reached;
-      rises = inv.web.rises;
-      low = inv.web.low;
-      heap = inv.web.heap;
-    };
+    web = inv.web;
     alive = inv.alive;
-    rows = record { links = inv.rows.links; bare = inv.rows.bare; owed = inv.rows.owed };
+    rows = inv.rows;
     scoped = inv.scoped;
     rooted = inv.rooted;
     built = inv.built;
-    waits = record { gated = inv.waits.gated; static = inv.waits.static };
+    waits = inv.waits;
     fresh = inv.fresh;
-    settled = record { done = inv.settled.done; twice = inv.settled.twice };
+    settled = inv.settled;
     strict = strict;
     last_settled = inv.last_settled;
-    met = record { needed = inv.met.needed; todo = inv.met.todo };
-    accounts = record {
-      once = inv.accounts.once;
-      called = inv.accounts.called;
-      kept = inv.accounts.kept;
-      calls = inv.accounts.calls;
-      answers = inv.accounts.answers;
-      never = inv.accounts.never;
-    };
+    met = inv.met;
+    accounts = inv.accounts;
   }

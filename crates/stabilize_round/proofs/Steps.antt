@@ -15,7 +15,7 @@ use Rattle.stabilize_round.specs.Machine.{Move, step_main, step_change, link, li
 use Rattle.stabilize_round.specs.Machine.{level, turn_strict, Moves}
 use Rattle.stabilize_round.specs.Runs.{built_by, built_in}
 use Rattle.stabilize_round.specs.Steps.{Prepares, Settles, Wires, TakesOff, Turns, Preparing, Wiring, TakingOff, Wired, plainly, after_refusal, Step}
-use Rattle.stabilize_round.specs.Steps.{Rooting, Round}
+use Rattle.stabilize_round.specs.Steps.{Opening, by_root, by_links, Round}
 use Rattle.stabilize_round.proofs.Runs.{run_builds}
 
 abbrev pub joined : {A : Type 0} (R : A → A → Type 0) (a b c : A) → Reaches R a b → Reaches R b c → Reaches R a c
@@ -57,14 +57,14 @@ module _ (F : Functions) (z : Start) where
   ]
 
   prepares_own : (p : Point) (s t : State) (m : Move F z s t) → Prepares p m → (n : NodeId) → Among n (built_by m) → p ≡ change n
-  prepares_own p s t (rebuild {b} r made e) it n (inl is) = it ∙ ap (λ (x : NodeId). change x) (sym is)
-  prepares_own p s t (rebuild {b} r made e) it n (inr h) = absurd h
+  prepares_own p s t (rebuild {b} r made count e) it n (inl is) = it ∙ ap (λ (x : NodeId). change x) (sym is)
+  prepares_own p s t (rebuild {b} r made count e) it n (inr h) = absurd h
   prepares_own p s t (step_main quiet m e) it n h = absurd h
   prepares_own p s t (step_change quiet m e) it n h = absurd h
   prepares_own p s t (link m need e) it n h = absurd h
   prepares_own p s t (link_new m need k e) it n h = absurd h
   prepares_own p s t (root need e) it n h = absurd h
-  prepares_own p s t (root_new need k e) it n h = absurd h
+  prepares_own p s t (root_new given need k e) it n h = absurd h
   prepares_own p s t (raise m e) it n h = absurd h
   prepares_own p s t (finish m e) it n h = absurd h
   prepares_own p s t (schedule m e) it n h = absurd h
@@ -85,13 +85,13 @@ module _ (F : Functions) (z : Start) where
   BuildsNone s t m = (n : NodeId) → Among n (built_by m) → ⊥
 
   settles_none : (p : Point) (s t : State) (m : Move F z s t) → Settles p m → BuildsNone s t m
-  settles_none p s t (rebuild r made e) it n h = it
+  settles_none p s t (rebuild r made count e) it n h = it
   settles_none p s t (step_main quiet m e) it n h = h
   settles_none p s t (step_change quiet m e) it n h = h
   settles_none p s t (link m need e) it n h = h
   settles_none p s t (link_new m need k e) it n h = h
   settles_none p s t (root need e) it n h = h
-  settles_none p s t (root_new need k e) it n h = h
+  settles_none p s t (root_new given need k e) it n h = h
   settles_none p s t (raise m e) it n h = h
   settles_none p s t (finish m e) it n h = h
   settles_none p s t (schedule m e) it n h = h
@@ -100,13 +100,13 @@ module _ (F : Functions) (z : Start) where
   settles_none p s t (turn_strict u k e) it n h = h
 
   wires_none : (s t : State) (m : Move F z s t) → Wires m → BuildsNone s t m
-  wires_none s t (rebuild r made e) it n h = it
+  wires_none s t (rebuild r made count e) it n h = it
   wires_none s t (step_main quiet m e) it n h = h
   wires_none s t (step_change quiet m e) it n h = h
   wires_none s t (link m need e) it n h = h
   wires_none s t (link_new m need k e) it n h = h
   wires_none s t (root need e) it n h = h
-  wires_none s t (root_new need k e) it n h = h
+  wires_none s t (root_new given need k e) it n h = h
   wires_none s t (raise m e) it n h = h
   wires_none s t (finish m e) it n h = h
   wires_none s t (schedule m e) it n h = h
@@ -115,13 +115,13 @@ module _ (F : Functions) (z : Start) where
   wires_none s t (turn_strict u k e) it n h = h
 
   off_none : (s t : State) (m : Move F z s t) → TakesOff m → BuildsNone s t m
-  off_none s t (rebuild r made e) it n h = it
+  off_none s t (rebuild r made count e) it n h = it
   off_none s t (step_main quiet m e) it n h = h
   off_none s t (step_change quiet m e) it n h = h
   off_none s t (link m need e) it n h = h
   off_none s t (link_new m need k e) it n h = h
   off_none s t (root need e) it n h = h
-  off_none s t (root_new need k e) it n h = h
+  off_none s t (root_new given need k e) it n h = h
   off_none s t (raise m e) it n h = h
   off_none s t (finish m e) it n h = h
   off_none s t (schedule m e) it n h = h
@@ -130,13 +130,13 @@ module _ (F : Functions) (z : Start) where
   off_none s t (turn_strict u k e) it n h = h
 
   turns_none : (s t : State) (m : Move F z s t) → Turns m → BuildsNone s t m
-  turns_none s t (rebuild r made e) it n h = it
+  turns_none s t (rebuild r made count e) it n h = it
   turns_none s t (step_main quiet m e) it n h = h
   turns_none s t (step_change quiet m e) it n h = h
   turns_none s t (link m need e) it n h = h
   turns_none s t (link_new m need k e) it n h = h
   turns_none s t (root need e) it n h = h
-  turns_none s t (root_new need k e) it n h = h
+  turns_none s t (root_new given need k e) it n h = h
   turns_none s t (raise m e) it n h = h
   turns_none s t (finish m e) it n h = h
   turns_none s t (schedule m e) it n h = h
@@ -207,16 +207,16 @@ module _ (F : Functions) (z : Start) where
   steps_moves s t here = here
   steps_moves s t (step {b = u} k rest) = joined (Move F z) s u t (step_moves s u k) (steps_moves u t rest)
 
-  pub rooting_moves : (s t : State) → Reaches (Rooting F z) s t → Moves F z s t
-  rooting_moves s t here = here
-  rooting_moves s t (step {b = u} k rest) = joined (Move F z) s u t (step {b = k.next} k.puts (wired_moves k.next u k.wired)) (rooting_moves u t rest)
+  opening_moves : (s t : State) → Opening F z s t → Moves F z s t
+  opening_moves s t (by_root k) = step {b = k.next} k.puts (wired_moves k.next t k.wired)
+  opening_moves s t (by_links w) = wired_moves s t w
+
+  opened_moves : (s t : State) → Reaches (Opening F z) s t → Moves F z s t
+  opened_moves s t here = here
+  opened_moves s t (step {b = u} k rest) = joined (Move F z) s u t (opening_moves s u k) (opened_moves u t rest)
 
   pub round_moves : (s t : State) → Round F z s t → Moves F z s t
-  round_moves s t r = joined (Move F z) s r.begun t (rooting_moves s r.begun r.rooted) (steps_moves r.begun t r.steps)
-
-  rooting_quiet : (s t : State) → Quiet s → Reaches (Rooting F z) s t → Quiet t
-  rooting_quiet s t quiet here = quiet
-  rooting_quiet s t quiet (step {b = u} k rest) = rooting_quiet u t k.ends rest
+  round_moves s t r = joined (Move F z) s r.begun t (opened_moves s r.begun r.opened) (steps_moves r.begun t r.steps)
 
   steps_quiet : (s t : State) → Quiet s → Reaches (Step F z) s t → Quiet t
   steps_quiet s t quiet here = quiet
@@ -224,4 +224,4 @@ module _ (F : Functions) (z : Start) where
 
   -- between steps the worklist is empty
   pub round_quiet : (s t : State) → Round F z s t → Quiet t
-  round_quiet s t r = steps_quiet r.begun t (rooting_quiet s r.begun r.entry.todo r.rooted) r.steps
+  round_quiet s t r = steps_quiet r.begun t r.idle r.steps

@@ -152,7 +152,7 @@ module _ (F : Functions) (z : Start) (s : State) (inv : Invariant F z s) (p : Po
     | inr ne ↦ elim (inv.fresh a r' row (sweep.was a need)) [
       | inl h ↦ inl (sweep.heap_kept a need h)
       | inr (inl h) ↦ inr (inl h)
-      | inr (inr h) ↦ inr (inr (at_other p st s.stage a ne ∙ h.0, h.1, h.2))
+      | inr (inr h) ↦ inr (inr (at_other p st s.stage a ne ∙ h.0, h.1, h.2, h.3))
     ]
   ]
 
@@ -193,12 +193,5 @@ module _ (F : Functions) (z : Start) (s : State) (inv : Invariant F z s) (p : Po
     strict = new_strict;
     last_settled = inv.last_settled;
     met = record { needed = λ a need. inv.met.needed a (sweep.was a need); todo = λ a need td. inv.met.todo a (sweep.was a need) td };
-    accounts = record {
-      once = inv.accounts.once;
-      called = inv.accounts.called;
-      kept = inv.accounts.kept;
-      calls = inv.accounts.calls;
-      answers = inv.accounts.answers;
-      never = inv.accounts.never;
-    };
+    accounts = inv.accounts;
   }

@@ -1,4 +1,4 @@
--- How a node's function is called: on what, for what, and how often.
+-- How a node's function is called: for what, with what answer, and how often.
 use Rattle.std.specs.Prelude.{◌≡◌, ℕ, Bool, true, List, Option, None, Some}
 use Rattle.std.specs.List.{sum_by}
 use Rattle.inc_value.specs.declared.node.NodeId.{NodeId}
@@ -6,25 +6,26 @@ use Rattle.inc_value.specs.declared.value.Value.{Value}
 use Rattle.inc_value.specs.declared.node.Point.{Point}
 use Rattle.inc_value.specs.Choice.{Among}
 use Rattle.inc_terms.specs.Term.{Functions}
-use Rattle.inc_terms.specs.Graph.{Graph, Row, Def, Map, Fold}
+use Rattle.inc_terms.specs.Graph.{Graph, Row, Def, Map, Fold, Freeze, Expert}
 use Rattle.inc_terms.specs.Depend.{main}
 use Rattle.inc_terms.specs.Evaluate.{folded}
 use Rattle.inc_terms.specs.Work.{cost_of}
+use Rattle.stabilize_round.specs.State.{Call}
 
--- the children on whose values a definition's function is called: those of a map or a fold
-abbrev pub taken_by : Def → Option (List NodeId)
-taken_by (Map f ns) = Some ns
-taken_by (Fold f v ns) = Some ns
-taken_by def = None
+-- why a node's function is called on the values of its children: it wasn't last called on these; a child whose cutoff is Never was settled; or it was
+-- made stale
+pub data Reason (last : NodeId → Option Call) (never : NodeId → Bool) (settled : Point → Bool) (stale : NodeId → Bool) (n : NodeId)
+    (kids : List NodeId) (values : List Value) : Type 0 where
+  other : ((c : Call) → last n ≡ Some c → c.arguments ≡ values → ⊥) → Reason last never settled stale n kids values
+  forced : {kid : NodeId} → Among kid kids → never kid ≡ true → settled (main kid) ≡ true → Reason last never settled stale n kids values
+  made_stale : stale n ≡ true → Reason last never settled stale n kids values
 
--- one of the children has cutoff Never and was settled in the round: the function is called even on the values of its last call
-abbrev pub IsForced : (NodeId → Bool) → (Point → Bool) → List NodeId → Type 0
-IsForced never settled kids = (k : NodeId) × Among k kids × (never k ≡ true) × (settled (main k) ≡ true)
-
--- what the calls give on these values: a map calls its function on all of them, a fold on each in turn
+-- what the calls give on these values: a map and a freeze's predicate are called on all of them, a fold and an expert on each in turn
 abbrev pub IsAnswer : Functions → Def → List Value → Value → Type 0
 IsAnswer F (Map f ns) values w = w ≡ F.value f values
 IsAnswer F (Fold f v ns) values w = w ≡ folded (F.value f) v values
+IsAnswer F (Freeze kid f) values w = w ≡ F.value f values
+IsAnswer F (Expert f v ns) values w = w ≡ folded (F.value f) v values
 IsAnswer F def values w = ⊥
 
 -- none is 0

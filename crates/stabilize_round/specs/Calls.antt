@@ -6,11 +6,13 @@ use Rattle.inc_value.specs.declared.value.Value.{Value}
 use Rattle.inc_value.specs.Choice.{Among, NoRepeats}
 use Rattle.inc_terms.specs.Term.{Functions}
 use Rattle.inc_terms.specs.Graph.{Row}
+use Rattle.inc_terms.specs.Depend.{main}
 use Rattle.inc_terms.specs.Need.{Beside, Observed, nodes_of, Held}
-use Rattle.inc_terms.specs.Work.{WithinWork}
-use Rattle.stabilize_round.specs.Calling.{taken_by, costs_of}
+use Rattle.inc_terms.specs.Work.{taken_by, WithinWork}
+use Rattle.stabilize_round.specs.Calling.{costs_of}
 use Rattle.stabilize_round.specs.Counts.{RoseAtMost}
 use Rattle.stabilize_round.specs.State.{State, Start, Call}
+use Rattle.stabilize_round.specs.Invariant.{MetNow}
 use Rattle.stabilize_round.specs.Machine.{Entry, Moves, Stops}
 use Rattle.stabilize_round.specs.Ended.{RootsAre}
 
@@ -20,11 +22,12 @@ arguments_of None = None
 arguments_of (Some c) = Some c.arguments
 
 -- a round begins with what stood beside the graph: what is held for it was held there, last calls have the arguments that are kept there, and the nodes
--- of cutoff Never are the same
+-- of cutoff Never, and those that were made stale, are the same
 pub record BeginsFrom (z : Start) (before : Beside) (observers : List Observed) : Type 0 where
   pub held : (p : Point) → z.held p ≡ true → Held before observers p
   pub last : (n : NodeId) → before.last n ≡ arguments_of (z.last n)
   pub never : (n : NodeId) → before.never n ≡ z.never n
+  pub stale : (n : NodeId) → before.stale n ≡ z.stale n
 
 -- whatever was called so far is within the work
 abbrev pub RoundIsWithinWork : Type 0
@@ -32,9 +35,10 @@ RoundIsWithinWork =
     (F : Functions) (z : Start) (s t : State) (before : Beside) (observers : List Observed) (calls : ℕ) → Entry F z s → Moves F z s t
     → RootsAre t (nodes_of observers) → BeginsFrom z before observers → t.calls ≡ z.calls + calls → WithinWork F t.graph t.died observers before calls
 
--- where a refused round stops, the count of calls rose by at most what it takes to compute each of some live maps and folds
+-- where a refused round stops, the count of calls rose by at most what it takes to compute each of some live and met nodes that call functions
 abbrev pub RefusedCalls : Type 0
 RefusedCalls =
     (F : Functions) (z : Start) (s t u : State) → Entry F z s → Moves F z s t → Stops F z t u
     → (called : List NodeId) × NoRepeats called × RoseAtMost z.calls (costs_of u.graph called) u.calls
-    × ((n : NodeId) → Among n called → (r : Row) × (kids : List NodeId) × (u.graph.row n ≡ Some r) × (taken_by r.def ≡ Some kids))
+    × ((n : NodeId) → Among n called → (r : Row) × (kids : List NodeId) × (u.graph.row n ≡ Some r) × (taken_by u.graph n r.def ≡ Some kids)
+    × MetNow F z u.graph u.died u.root (main n))

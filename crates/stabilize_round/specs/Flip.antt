@@ -81,11 +81,12 @@ before = record {
   adds = 0;
   given = 4;
   never = λ n. false;
+  stale = λ n. false;
 }
 
 -- what the round begins with
 abbrev pub beginning : Start
-beginning = record { held = before.needed; last = λ n. None; calls = 0; known = λ f. false; ids = λ f. []; never = λ n. false }
+beginning = record { held = before.needed; last = λ n. None; calls = 0; known = λ f. false; ids = λ f. []; never = λ n. false; stale = λ n. false }
 
 -- the round ends with the choice's main at the right branch, and the left one isn't needed any more
 abbrev pub IfFlips : Type 0

@@ -86,8 +86,8 @@ abbrev pub RoundAgain : Type 0
 RoundAgain =
     (F : Functions) (z : Start) (s t : State) (observed : List NodeId) → Entry F z s → Moves F z s t → RootsAre t observed → Quiet t
     → ((p : Point) → t.heap p ≡ true → ⊥)
-    → (links' : Point → Point → ℕ) (needed' : Point → Bool) → Close t links' needed'
-    → Entry F (next_start z t needed') (closed t links' needed') × Ended F (next_start z t needed') (closed t links' needed') observed
+    → (root' : Point → ℕ) (links' : Point → Point → ℕ) (needed' : Point → Bool) → Close t observed root' links' needed'
+    → Entry F (next_start z t needed') (closed t root' links' needed') × Ended F (next_start z t needed') (closed t root' links' needed') observed
 
 -- what a round doesn't touch of a given node: its row, unless it dies, and what the graph keeps beside
 pub record GraphStays (count later : ℕ) (G G' : Graph) : Type 0 where

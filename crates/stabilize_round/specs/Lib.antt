@@ -1,9 +1,11 @@
 pub mod Counts
 pub mod State
 pub mod Calling
+pub mod Freezing
 pub mod Invariant
 pub mod Moves
 pub mod Ended
+pub mod Ids
 pub mod Wire
 pub mod Rebuilding
 pub mod Machine
@@ -12,6 +14,7 @@ pub mod Rows
 pub mod Laws
 pub mod Composing
 pub mod Runs
+pub mod Stopped
 pub mod Steps
 pub mod StepLaws
 pub mod Calls

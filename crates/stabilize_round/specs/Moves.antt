@@ -9,7 +9,8 @@ use Rattle.inc_terms.specs.Graph.{Row, Def}
 use Rattle.inc_terms.specs.Evaluate.{gathered, Values}
 use Rattle.inc_terms.specs.Depend.{main, change, subject_of}
 use Rattle.inc_terms.specs.Local.{shown, by_sight, own, IsBuilt}
-use Rattle.stabilize_round.specs.Calling.{taken_by, IsForced, IsAnswer, cost_at}
+use Rattle.inc_terms.specs.Work.{taken_by}
+use Rattle.stabilize_round.specs.Calling.{Reason, IsAnswer, cost_at}
 use Rattle.stabilize_round.specs.Counts.{RoseBy}
 use Rattle.stabilize_round.specs.State.{State, Call, Static, Gated, Full, Linked, at_point, at_node}
 
@@ -28,17 +29,16 @@ pub record Enqueues (s : State) (heap heap' : Point → Bool) (May Must : Point 
   pub new : (q : Point) → heap' q ≡ true → (heap q ≡ true) ⊎ (May q × (s.settled q ≡ false))
   pub told : (q : Point) → Must q → (heap' q ≡ true) ⊎ (s.settled q ≡ true)
 
--- what a node's function was last called on, after its main was computed anew: it was called, on other values than before or as it was forced, or
--- that stays
+-- what a node's function was last called on, after its main was computed anew: it was called, with a reason, or that stays
 abbrev pub Calls : Functions → State → NodeId → Def → Option Call → Bool → Type 0
 Calls F s n def last' false = (last' ≡ s.last n)
-    × ((kids : List NodeId) (values : List Value) → taken_by def ≡ Some kids
+    × ((kids : List NodeId) (values : List Value) → taken_by s.graph n def ≡ Some kids
     → gathered (by_sight (shown s.graph s.out)) (refs kids) ≡ Values values → (c : Call) × (s.last n ≡ Some c) × (c.arguments ≡ values)
-    × (IsForced s.never s.settled kids → ⊥))
+    × (Reason s.last s.never s.settled s.stale n kids values → ⊥))
 Calls F s n def last' true =
-    (kids : List NodeId) × (values : List Value) × (result : Value) × (taken_by def ≡ Some kids)
+    (kids : List NodeId) × (values : List Value) × (result : Value) × (taken_by s.graph n def ≡ Some kids)
     × (gathered (by_sight (shown s.graph s.out)) (refs kids) ≡ Values values)
-    × (((c : Call) → s.last n ≡ Some c → c.arguments ≡ values → ⊥) ⊎ IsForced s.never s.settled kids)
+    × Reason s.last s.never s.settled s.stale n kids values
     × (last' ≡ Some (record { arguments = values; result = result }))
     × IsAnswer F def values result
 
@@ -52,7 +52,7 @@ abbrev pub calls_of : Bool → ℕ → ℕ
 calls_of true cost = cost
 calls_of false cost = 0
 
--- a main was computed
+-- a main was computed; where its node was made stale it isn't any more
 abbrev pub computed : State → NodeId → Outcome → (Point → Bool) → Option Call → Bool → ℕ → State
 computed s n o heap' last' called calls' = record s {
   out = at_point (main n) (Some o) s.out;
@@ -62,6 +62,7 @@ computed s n o heap' last' called calls' = record s {
   ran = ran_more n called s.ran;
   calls = calls';
   taken = Some (main n);
+  stale = at_node n false s.stale;
 }
 
 -- the main that is taken gets its own function of what it sees; its readers are told where its outcome is another than before, or its cutoff is Never

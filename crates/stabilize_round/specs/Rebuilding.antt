@@ -1,5 +1,5 @@
 -- A bind is built anew: its scope dies, and new nodes are made.
-use Rattle.std.specs.Prelude.{◌≡◌, ◌⊎◌, ◌≤◌, ◌<◌, ◌+◌, ℕ, true, false, Bool, List, Option, None, Some}
+use Rattle.std.specs.Prelude.{◌≡◌, ◌⊎◌, ◌≤◌, ◌+◌, ℕ, true, false, Bool, List, Option, None, Some}
 use Rattle.inc_value.specs.declared.function.FnRef.{FnRef}
 use Rattle.inc_value.specs.declared.node.NodeId.{NodeId}
 use Rattle.inc_value.specs.declared.node.Point.{Point}
@@ -7,12 +7,13 @@ use Rattle.inc_value.specs.declared.outcome.Outcome.{Outcome}
 use Rattle.inc_value.specs.declared.outcome.Outcome.TheVariants.{Val, Invalid}
 use Rattle.inc_terms.specs.Term.{Functions}
 use Rattle.inc_terms.specs.Graph.{Graph, Row, Built}
-use Rattle.inc_terms.specs.Within.{Given}
-use Rattle.inc_terms.specs.Rebuild.{Inside, Rebuilds}
+use Rattle.inc_terms.specs.Within.{Given, Fit}
+use Rattle.inc_terms.specs.Rebuild.{Inside, Names, IsDue, Rebuilt, Rebuilds}
 use Rattle.inc_terms.specs.Need.{Keeps}
 use Rattle.inc_terms.specs.Depend.{Deaths, main, change}
 use Rattle.inc_terms.specs.Local.{IsRooted}
 use Rattle.stabilize_round.specs.Counts.{RoseBy}
+use Rattle.stabilize_round.specs.Ids.{AllGiven}
 use Rattle.stabilize_round.specs.State.{State, Start, Call, Stage, Bare, Gated, Full, Linked}
 use Rattle.stabilize_round.specs.Moves.{Quiet, IsLeast}
 
@@ -42,15 +43,6 @@ remade s m = record s {
   adds = m.adds;
 }
 
--- what the graph's keeper promises: of which ids the nodes are that a round speaks of
-pub record AllGiven (z : Start) (s : State) (count : ℕ) : Type 0 where
-  pub live : (n : NodeId) (r : Row) → s.graph.row n ≡ Some r → Given count n
-  pub needed : (p : Point) → s.needed p ≡ true → Given count p.node
-  pub held : (p : Point) → z.held p ≡ true → Given count p.node
-  pub rooted : (p : Point) → 0 < s.root p → Given count p.node
-  pub last : (n : NodeId) → count ≤ n.gen_ → z.last n ≡ None
-  pub keeps : Keeps (Given count) s.graph s.died
-
 -- of live nodes and needed points all stays but the outcome of the bind's change, which is gone; new nodes have none. Of what died nothing is said
 -- but that it isn't without its stage
 pub record KeptBeside (s : State) (b : NodeId) (m : Remade) : Type 0 where
@@ -72,13 +64,16 @@ pub record HeapAfter (s : State) (b : NodeId) (heap' : Point → Bool) : Type 0 
   pub told : (q x : Point) (r : Row) → s.graph.row q.node ≡ Some r → (Inside s.graph b q.node → ⊥) → Inside s.graph b x.node → Linked s q x
       → (heap' q ≡ true) ⊎ (s.settled q ≡ true)
 
--- new nodes stand in the bind's scope and aren't built, and as many were added as ids were given
-pub record NewNodes (s : State) (b : NodeId) (m : Remade) : Type 0 where
+-- new nodes stand in the bind's scope and aren't built, and as many were added as ids were given; what is live then, and what the graph keeps, names
+-- what was given
+pub record NewNodes (z : Start) (s : State) (b : NodeId) (m : Remade) : Type 0 where
   pub number : ℕ
   pub given : m.given ≡ s.given + number
   pub adds : RoseBy s.adds number m.adds
   pub scope : (n : NodeId) (r : Row) → m.graph.row n ≡ Some r → s.given ≤ n.gen_ → (r.scope ≡ Some b) × Given m.given n
   pub unbuilt : (n : NodeId) → s.given ≤ n.gen_ → m.graph.built n ≡ None
+  pub names : Names (Given m.given) (Fit m.given z.known z.ids) m.graph
+  pub keeps : Keeps (Given m.given) m.graph m.died
 
 -- a right side is built for a value, and none for Invalid
 abbrev pub builds_of : Outcome → ℕ
@@ -89,16 +84,21 @@ builds_of Invalid = 0
 -- their gates' links alone; they die
 pub record Rebuild (F : Functions) (z : Start) (s : State) (b : NodeId) (now : Outcome) (m : Remade) : Type 0 where
   pub quiet : Quiet s
-  pub given : AllGiven z s s.given
-  pub step : Rebuilds F z.known z.ids s.given s.graph m.graph b now
+  pub given : AllGiven F z s
+  pub due : IsDue F s.graph b now
+  pub rebuilt : Rebuilt (Given s.given) s.graph m.graph b
   pub deaths : Deaths s.graph m.graph s.died m.died
   pub taken : IsLeast s (change b)
   pub right : s.needed (main b) ≡ true → s.stage (main b) ≡ Full → ⊥
   pub gated : (p : Point) → Inside s.graph b p.node → s.needed p ≡ true → s.stage p ≡ Gated
   pub beside : KeptBeside s b m
   pub heap : HeapAfter s b m.heap
-  pub nodes : NewNodes s b m
-  pub builds : RoseBy s.builds (builds_of now) m.builds
+  pub nodes : NewNodes z s b m
+
+-- what it does to the graph
+abbrev pub rebuilds : {F : Functions} {z : Start} {s : State} {b : NodeId} {now : Outcome} {m : Remade} → Rebuild F z s b now m
+    → Rebuilds F z.known z.ids s.given s.graph m.graph b now
+rebuilds r = record { laws = r.given.laws; names = r.given.names; due = r.due; rebuilt = r.rebuilt }
 
 -- the bind is built for the outcome, with a root that reads back as its function's term at it, or with none for Invalid
 pub record IsBuiltAnew (F : Functions) (G : Graph) (b : NodeId) (f : FnRef) (captures : List NodeId) (now : Outcome) : Type 0 where

@@ -13,6 +13,7 @@ use Rattle.inc_terms.specs.Graph.{Row, Built, Const, Var, Bind}
 use Rattle.inc_terms.specs.Depend.{main, change, none_died}
 use Rattle.stabilize_round.specs.State.{State, Start, Full, count, at_point, at_node}
 use Rattle.stabilize_round.specs.Ended.{Ended}
+use Rattle.stabilize_round.specs.Ids.{AllGiven}
 use Rattle.stabilize_round.specs.Steps.{Round}
 
 -- a right side that is the left's value
@@ -95,15 +96,16 @@ before = record {
   adds = 0;
   given = 3;
   never = λ n. false;
+  stale = λ n. false;
 }
 
 -- what the round begins with; every function is known and names no node
 abbrev pub beginning : Start
-beginning = record { held = before.needed; last = λ n. None; calls = 0; known = λ f. true; ids = λ f. []; never = λ n. false }
+beginning = record { held = before.needed; last = λ n. None; calls = 0; known = λ f. true; ids = λ f. []; never = λ n. false; stale = λ n. false }
 
--- the round ends with the bind at 2; the old root died, and one build was made
+-- all that the round speaks of is given, and it ends with the bind at 2; the old root died, and one build was made
 abbrev pub BindRenews : Type 0
-BindRenews =
-    (end : State) × Round functions beginning before end × Ended functions beginning end (bind ∷ [])
+BindRenews = AllGiven functions beginning before
+    × (end : State) × Round functions beginning before end × Ended functions beginning end (bind ∷ [])
     × (end.out (main bind) ≡ Some (Val (Int (pos 2))))
     × (end.graph.row old ≡ None) × (end.died old ≡ Some bind) × (end.builds ≡ 1)

@@ -43,11 +43,12 @@ empty_state = record {
   adds = 0;
   given = 1;
   never = λ n. false;
+  stale = λ n. false;
 }
 
 -- what the round begins with
 abbrev pub empty_start : Start
-empty_start = record { held = λ p. false; last = λ n. None; calls = 0; known = λ f. false; ids = λ f. []; never = λ n. false }
+empty_start = record { held = λ p. false; last = λ n. None; calls = 0; known = λ f. false; ids = λ f. []; never = λ n. false; stale = λ n. false }
 
 -- a round begins there, and some moves lead to a state in which the node is needed and shows 3
 abbrev pub ConstantWorks : Type 0

@@ -19,7 +19,7 @@ use Rattle.stabilize_round.specs.Machine.{Entry, Move, rebuild, Moves, called_mo
 
 -- the binds that a move builds anew: one or none
 abbrev pub built_by : {F : Functions} {z : Start} {s t : State} → Move F z s t → List NodeId
-built_by (rebuild {b} r made e) = b ∷ []
+built_by (rebuild {b} r made count e) = b ∷ []
 built_by m = []
 
 -- the binds that a run builds anew

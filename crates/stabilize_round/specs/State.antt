@@ -55,8 +55,8 @@ pub record Call : Type 0 where
 -- a state of a round: the graph; per point its outcome, its links, how often it is a root, whether it is needed, its height, whether it is in the
 -- heap, whether it was settled in the round, its stage, the links that it is yet to be given, and whether it is in the worklist; per node its
 -- last call; the point that was settled last; whether the round takes refusals as final; the nodes that died in the round, with their scopes;
--- the nodes whose functions were called in it; the counts of calls, of builds, of nodes that were added, and of ids that were given; and the nodes
--- whose outcomes are told to their readers even where they stay: those of cutoff Never
+-- the nodes whose functions were called in it; the counts of calls, of builds, of nodes that were added, and of ids that were given; the nodes
+-- whose outcomes are told to their readers even where they stay: those of cutoff Never; and the experts that were made stale and didn't run since
 pub record State : Type 0 where
   pub graph : Graph
   pub out : Point → Option Outcome
@@ -79,9 +79,10 @@ pub record State : Type 0 where
   pub adds : ℕ
   pub given : ℕ
   pub never : NodeId → Bool
+  pub stale : NodeId → Bool
 
--- what a round began with: what was held, last calls, the count of calls; the functions that are known, with the nodes that each may name; and the
--- nodes of cutoff Never
+-- what a round began with: what was held, last calls, the count of calls; the functions that are known, with the nodes that each may name; the
+-- nodes of cutoff Never; and the experts that were made stale
 pub record Start : Type 0 where
   pub held : Point → Bool
   pub last : NodeId → Option Call
@@ -89,6 +90,7 @@ pub record Start : Type 0 where
   pub known : FnRef → Bool
   pub ids : FnRef → List NodeId
   pub never : NodeId → Bool
+  pub stale : NodeId → Bool
 
 -- linked at least once
 abbrev pub Linked : State → Point → Point → Type 0

@@ -1,18 +1,20 @@
 -- Laws of steps and of the states between them.
-use Rattle.std.specs.Prelude.{◌≡◌, ◌⊎◌, ◌<◌, ◌≤◌, ◌&&◌, ℕ, Bool, true, false, cond, List, Some}
+use Rattle.std.specs.Prelude.{◌≡◌, ◌⊎◌, ◌<◌, ◌≤◌, ◌&&◌, ℕ, Bool, true, false, cond, List, ◌∷◌, length, Some}
 use Rattle.inc_value.specs.declared.function.FnRef.{FnRef}
 use Rattle.inc_value.specs.declared.node.NodeId.{NodeId}
 use Rattle.inc_value.specs.declared.node.Point.{Point}
 use Rattle.inc_value.specs.declared.outcome.Outcome.{Outcome}
-use Rattle.inc_value.specs.Choice.{Among, Reaches}
+use Rattle.inc_value.specs.Choice.{Among, NoRepeats, Reaches}
+use Rattle.inc_value.specs.Walk.{IsWalk}
 use Rattle.inc_terms.specs.Term.{Functions}
 use Rattle.inc_terms.specs.Graph.{Row, Built, Bind}
 use Rattle.inc_terms.specs.Within.{Given}
 use Rattle.inc_terms.specs.Rebuild.{Inside, IsDue}
-use Rattle.inc_terms.specs.Depend.{main, change}
+use Rattle.inc_terms.specs.Depend.{Depends, main, change}
 use Rattle.inc_terms.specs.Local.{shown, Agrees, Exact}
 use Rattle.stabilize_round.specs.Counts.{RoseBy, number_of}
 use Rattle.stabilize_round.specs.State.{State, Start, Stage, Gated, Static, Full, Linked}
+use Rattle.stabilize_round.specs.Invariant.{MetNow}
 use Rattle.stabilize_round.specs.Moves.{Quiet, IsLeast}
 use Rattle.stabilize_round.specs.Wire.{IsConfirmed}
 use Rattle.stabilize_round.specs.Rebuilding.{Remade, Rebuild}
@@ -130,3 +132,23 @@ WiringFalls =
     → t.todo p ≡ false
     → ((q : Point) → t.needed q ≡ true → s.needed q ≡ false → Among q points)
     → (unneeded t points < unneeded s points) ⊎ ((unneeded t points ≡ unneeded s points) × (listed t points < listed s points))
+
+-- ---- what refusals list
+
+-- linked, or the one link more that is tried
+abbrev pub LinkedOr : State → Point → Point → Point → Point → Type 0
+LinkedOr s p q a b = Linked s a b ⊎ ((p ≡ a) × (q ≡ b))
+
+-- once refusals are final a walk over links, and over the one more that is tried, is a walk of what points depend on, whose points are met where the
+-- first is needed
+abbrev pub ListedAreMet : Type 0
+ListedAreMet =
+    (F : Functions) (z : Start) (s t : State) → Entry F z s → Moves F z s t → t.strict ≡ true → (p q : Point) → Depends F t.graph t.died p q
+    → (x : Point) (rest : List Point) → t.needed x ≡ true → IsWalk (LinkedOr t p q) (x ∷ rest)
+    → IsWalk (Depends F t.graph t.died) (x ∷ rest) × ((y : Point) → Among y (x ∷ rest) → MetNow F z t.graph t.died t.root y)
+
+-- a walk over links has no point twice, and at most 129 points. So where the link of p to q closes a cycle, what is listed after p has no point twice
+abbrev pub ListedOnce : Type 0
+ListedOnce =
+    (F : Functions) (z : Start) (s t : State) → Entry F z s → Moves F z s t → (x : Point) (rest : List Point) → IsWalk (Linked t) (x ∷ rest)
+    → NoRepeats (x ∷ rest) × (length rest ≤ 128)

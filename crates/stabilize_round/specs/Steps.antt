@@ -15,7 +15,7 @@ use Rattle.stabilize_round.specs.Machine.{level, turn_strict}
 abbrev pub Prepares : {F : Functions} {z : Start} {s t : State} → Point → Move F z s t → Type 0
 Prepares p (schedule m e) = Unit {0}
 Prepares p (cut d w e) = Unit {0}
-Prepares p (rebuild {b} r made e) = p ≡ change b
+Prepares p (rebuild {b} r made count e) = p ≡ change b
 Prepares p m = ⊥
 
 -- the move that settles it
@@ -48,7 +48,7 @@ Turns m = ⊥
 -- a move that puts a root on
 abbrev pub Roots : {F : Functions} {z : Start} {s t : State} → Move F z s t → Type 0
 Roots (root need e) = Unit {0}
-Roots (root_new need h e) = Unit {0}
+Roots (root_new given need h e) = Unit {0}
 Roots m = ⊥
 
 -- a move that prepares, between states
@@ -87,17 +87,22 @@ pub record Step (F : Functions) (z : Start) (s t : State) : Type 0 where
   pub attaches : (n : NodeId) → point ≡ change n → s.settled point ≡ true → s.needed (main n) ≡ true → s.stage (main n) ≡ Static
       → ((t.needed (main n) ≡ true) × (t.stage (main n) ≡ Full)) ⊎ ((s.strict ≡ false) × (t.strict ≡ true))
 
--- a root is put on, and what is newly needed gets its links
+-- a root is put on, and points get their links
 pub record Rooting (F : Functions) (z : Start) (s t : State) : Type 0 where
   pub next : State
   pub puts : Move F z s next
   pub it : Roots puts
   pub wired : Wired F z next t
-  pub ends : Quiet t
 
--- a round: from the state in which it begins roots are put on, and steps are made
+-- a round opens: a root is put on, or points get links that they are owed from the start
+pub data Opening (F : Functions) (z : Start) (s t : State) : Type 0 where
+  by_root : Rooting F z s t → Opening F z s t
+  by_links : Wired F z s t → Opening F z s t
+
+-- a round: from the state in which it begins roots are put on, and links that were owed, and then steps are made
 pub record Round (F : Functions) (z : Start) (s t : State) : Type 0 where
   pub entry : Entry F z s
   pub begun : State
-  pub rooted : Reaches (Rooting F z) s begun
+  pub opened : Reaches (Opening F z) s begun
+  pub idle : Quiet begun
   pub steps : Reaches (Step F z) begun t

@@ -12,6 +12,14 @@ ghost use Rattle.stabilize_round.specs.Calls.{RoundIsWithinWork, RefusedCalls};
 ghost use Rattle.stabilize_round.specs.Flip.{IfFlips};
 ghost use Rattle.stabilize_round.specs.Composing.{SweepsCompose};
 ghost use Rattle.stabilize_round.specs.Renewal.{BindRenews};
+ghost use Rattle.stabilize_round.specs.Stopped.{GivenStays};
+ghost use Rattle.stabilize_round.specs.Stopped.{StartStays};
+ghost use Rattle.stabilize_round.specs.Stopped.{NewBindsBuilt};
+ghost use Rattle.stabilize_round.specs.Stopped.{NewNodesInside};
+ghost use Rattle.stabilize_round.specs.Stopped.{StopsLeave};
+ghost use Rattle.stabilize_round.specs.StepLaws.{ListedAreMet};
+ghost use Rattle.stabilize_round.specs.StepLaws.{ListedOnce};
+ghost use Rattle.stabilize_round.specs.Stopped.{GivenAgain};
 
 /// The invariant holds at each state of a round.
 pub fn round_keeps()
@@ -175,7 +183,7 @@ pub fn round_is_within_work()
     ensures { RoundIsWithinWork }
 {}
 
-/// Where a refused round stops, the count of calls rose by at most one for each of some live maps.
+/// Where a refused round stops, the count of calls rose by at most the cost of each of some live and met nodes.
 pub fn refused_calls()
     ensures { RefusedCalls }
 {}
@@ -198,4 +206,44 @@ pub fn new_nodes_stand()
 /// A bind whose left changed, worked out: its old root dies, and it is built anew with another.
 pub fn bind_renews()
     ensures { BindRenews }
+{}
+
+/// All that a round speaks of stays given, also where it stops.
+pub fn given_stays()
+    ensures { GivenStays }
+{}
+
+/// What a round began with says nothing of ids that are given later.
+pub fn start_stays()
+    ensures { StartStays }
+{}
+
+/// A bind that was made in the round is built for nothing, or for what its left gives.
+pub fn new_binds_built()
+    ensures { NewBindsBuilt }
+{}
+
+/// New nodes stand where a bind that was given before is built for another outcome.
+pub fn new_nodes_inside()
+    ensures { NewNodesInside }
+{}
+
+/// What a round leaves of the graph wherever it stops: who died and why, roots, new nodes.
+pub fn stops_leave()
+    ensures { StopsLeave }
+{}
+
+/// Once refusals are final what a refusal lists is a walk of what points depend on, and met.
+pub fn listed_are_met()
+    ensures { ListedAreMet }
+{}
+
+/// A walk over links has no point twice, and is short.
+pub fn listed_once()
+    ensures { ListedOnce }
+{}
+
+/// After a round that was closed all that the next one speaks of is given.
+pub fn given_again()
+    ensures { GivenAgain }
 {}

@@ -585,7 +585,7 @@ module _ (x : Both) (fits : Fits x) where
     where
       by_loss : (left body : Formula) (kept : script.Kept) → body_at x.state b ≡ Some (Computed (Bind left body) kept)
           → Lost x (x.nodes k) b v → NameSays d k
-      by_loss left body kept bind_is (p, row, died, other, left_gives) =
+      by_loss left body kept bind_is (p, row, died, other, left_gives, elsewhere) =
           let gives = left_gives left body kept bind_is in
           let said = said_by (λ d. while_built v (value_at x.meanings x.state d [] left)
           (value_at x.meanings x.state d (v ∷ []) body))

@@ -20,15 +20,11 @@ use Rattle.script_model.specs.Evaluate.{value_at, Gives}
 use Rattle.script_model.specs.Need.{Edge, Argument, Test, Then, Else, Child, Left, Inside, Item, Named, Place, environment, part_at, formula_at, outcome_at, ItemGives, part_reads, scope_reads, grab_reads}
 use Rattle.script_model.proofs.NeededStands.{among_left}
 use Rattle.transfer.specs.Both.{Both, graph_outcome}
+use Rattle.transfer.specs.Cycles.{IsForm}
 use Rattle.transfer.specs.Shows.{Built, Binding, values, Shows, Declares, IsOwn, Fits, Sound}
 use Rattle.transfer.specs.Items.{part_node, root_at, node_at, node_of, around, scope_at, Closed}
 use Rattle.transfer.proofs.Places.{opened, part_above, then_some, place_shows}
 use Rattle.transfer.proofs.Agreement.{own_or, term_agrees, same_itself, grab_facts}
-
--- a name, or another formula
-abbrev pub IsForm : Formula → Type 0
-IsForm (Name t) = ⊥
-IsForm f = Unit {0}
 
 pub name_or : (f : Formula) → ((t : ℕ) × (f ≡ Name t)) ⊎ IsForm f
 name_or (Name t) = inl (t, refl)

@@ -44,7 +44,7 @@ get_last [] e = refl
 get_last (d ∷ es) e = get_last es e
 
 -- what is its own target, by its body
-own_target : (k : ℕ) (b : Body) → IsOwn (Some b) → target_of_body k b ≡ k
+pub own_target : (k : ℕ) (b : Body) → IsOwn (Some b) → target_of_body k b ≡ k
 own_target k (Computed (Name t) kept) own = absurd own
 own_target k b own = refl
 

@@ -18,7 +18,7 @@ either_list a (x ∷ xs) ys (inl e) = inl (inl e)
 either_list a (x ∷ xs) ys (inr h) = elim (either_list a xs ys h) [ inl l ↦ inl (inr l) | inr r ↦ inr r ]
 
 -- the bind of the innermost round, and those round that
-beyond : (path bind : List Edge) (k : ℕ) → bind_around 0 path ≡ Some bind
+pub beyond : (path bind : List Edge) (k : ℕ) → bind_around 0 path ≡ Some bind
     → bind_around (suc k) path ≡ bind_around k bind
 beyond [] bind k e = absurd (cc)
 beyond (Inside v ∷ path) bind k e = let same : path ≡ bind = cc in rw same refl
@@ -234,38 +234,38 @@ module _ (F : Meanings) (s : State) (X : Item → Type 0) where
       go true = inl refl
       go false = inl refl
 
-  name_enclosed : GrabsBind s → ((i j : Item) → X i → Reads F s i j → X j) → (n d : ℕ) (body : Option Body)
-      → X (Named n) → body_at s n ≡ body → AllEnclosed (name_reads F s d n body)
-  name_enclosed grabs closed n d (Some (Grab b v true)) it is =
+  name_enclosed : GrabsBind s → (n d : ℕ) (body : Option Body) → ((j : Item) → Reads F s (Named n) j → X j)
+      → body_at s n ≡ body → AllEnclosed (name_reads F s d n body)
+  name_enclosed grabs n d (Some (Grab b v true)) closed is =
       let g = grabs n b v is in
       let o = outcome_at F s d (Place b (Left ∷ [])) in
-      grab_enclosed b v g.0 g.1 g.2 o g.3 (closed (Named n) (Place b (Left ∷ [])) it (d, rw is (grab_left b v o)))
-  name_enclosed grabs closed n d None it is = none_enclosed
-  name_enclosed grabs closed n d (Some (Variable v)) it is = none_enclosed
-  name_enclosed grabs closed n d (Some (Computed f kept)) it is =
+      grab_enclosed b v g.0 g.1 g.2 o g.3 (closed (Place b (Left ∷ [])) (d, rw is (grab_left b v o)))
+  name_enclosed grabs n d None closed is = none_enclosed
+  name_enclosed grabs n d (Some (Variable v)) closed is = none_enclosed
+  name_enclosed grabs n d (Some (Computed f kept)) closed is =
       more_enclosed (Place n []) [] (whole_enclosed n f (rw is refl)) none_enclosed
-  name_enclosed grabs closed n d (Some (Freeze child p None)) it is =
+  name_enclosed grabs n d (Some (Freeze child p None)) closed is =
       more_enclosed (Place n []) [] (whole_enclosed n child (rw is refl)) none_enclosed
-  name_enclosed grabs closed n d (Some (Freeze child p (Some v))) it is = none_enclosed
-  name_enclosed grabs closed n d (Some (After t)) it is = none_enclosed
-  name_enclosed grabs closed n d (Some (Every t u)) it is = none_enclosed
-  name_enclosed grabs closed n d (Some (Expert g v links st)) it is = links_enclosed links
-  name_enclosed grabs closed n d (Some (Grab b v false)) it is = none_enclosed
+  name_enclosed grabs n d (Some (Freeze child p (Some v))) closed is = none_enclosed
+  name_enclosed grabs n d (Some (After t)) closed is = none_enclosed
+  name_enclosed grabs n d (Some (Every t u)) closed is = none_enclosed
+  name_enclosed grabs n d (Some (Expert g v links st)) closed is = links_enclosed links
+  name_enclosed grabs n d (Some (Grab b v false)) closed is = none_enclosed
 
-  -- what an item reads is enclosed where it is
-  pub reads_enclosed : GrabsBind s → ((i j : Item) → X i → Reads F s i j → X j) → (i j : Item) → X i → Enclosed i
-      → Reads F s i j → Enclosed j
-  reads_enclosed grabs closed (Named n) j is enclosed (d, among) =
-      name_enclosed grabs closed n d (body_at s n) is refl j among
-  reads_enclosed grabs closed (Place owner path) j is ((f, f_is), lefts) (d, among) =
-      place_enclosed owner path d f lefts f_is (λ k a. closed (Place owner path) k is (d, rw f_is a)) j
-      (rw f_is at among)
+  -- what an item reads is enclosed where it is, and what it reads is of the set
+  pub read_enclosed : GrabsBind s → (i j : Item) → ((j : Item) → Reads F s i j → X j) → Enclosed i → Reads F s i j
+      → Enclosed j
+  read_enclosed grabs (Named n) j closed enclosed (d, among) =
+      name_enclosed grabs n d (body_at s n) closed refl j among
+  read_enclosed grabs (Place owner path) j closed ((f, f_is), lefts) (d, among) =
+      place_enclosed owner path d f lefts f_is (λ k a. closed k (d, rw f_is a)) j (rw f_is at among)
 
   pub reached_enclosed : GrabsBind s → ((i j : Item) → X i → Reads F s i j → X j) → (i j : Item) → X i → Enclosed i
       → Reaches (Reads F s) i j → Enclosed j
   reached_enclosed grabs closed i j is enclosed here = enclosed
   reached_enclosed grabs closed i j is enclosed (step {b = b} r on) =
-      reached_enclosed grabs closed b j (closed i b is r) (reads_enclosed grabs closed i b is enclosed r) on
+      reached_enclosed grabs closed b j (closed i b is r)
+      (read_enclosed grabs i b (λ k q. closed i k is q) enclosed r) on
 
 -- ---- what is needed, what is met
 
@@ -318,7 +318,7 @@ met_reads F before s i j (from_held {h = h} held stands on) r =
     from_held held stands (reach_more (Reads F s) h i j on r)
 
 -- what is round a bind round a place is round the place
-tail_stands : (F : Meanings) (s : State) (owner : ℕ) (path : List Edge) (k : ℕ) (bind : List Edge)
+pub tail_stands : (F : Meanings) (s : State) (owner : ℕ) (path : List Edge) (k : ℕ) (bind : List Edge)
     → bind_around k path ≡ Some bind → StillStands F s (Place owner path)
     → StillStands F s (Place owner (Left ∷ bind))
 tail_stands F s owner [] k bind e stands = absurd (no_bind k bind e)

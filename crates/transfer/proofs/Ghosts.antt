@@ -14,11 +14,12 @@ use Rattle.transfer.specs.Shows.{Mode, Spelled, Built, Binding, Opens, graph_ste
 use Rattle.transfer.specs.Items.{node_at, node_of, around, scope_at, by_main, by_choice, by_left, by_variable, IsChoice, CoveredBy, Closed, GhostsCovered}
 use Rattle.transfer.proofs.Places.{opened, part_above, place_shows}
 use Rattle.transfer.proofs.Agreement.{own_or, live_facts}
-use Rattle.transfer.proofs.Carriers.{IsForm, name_or, part_in, whole_in}
+use Rattle.transfer.proofs.Carriers.{name_or, part_in, whole_in}
+use Rattle.transfer.specs.Cycles.{IsForm}
 use Rattle.transfer.proofs.Enclosed.{grab_left}
 
 -- a form that a node shows has a row
-form_row : (x : Both) (m : Mode) (E : List Binding) (n : NodeId) (f : Formula) → IsForm f → Shows x m E (term.Ref n) f
+pub form_row : (x : Both) (m : Mode) (E : List Binding) (n : NodeId) (f : Formula) → IsForm f → Shows x m E (term.Ref n) f
     → x.graph.row n ≡ None → ⊥
 form_row x m E n f form shows gone = by_form f form shows
   where
@@ -65,7 +66,7 @@ module _ (x : Both) (fits : Fits x) (X : Item → Type 0) (closed : Closed x X) 
   own_ghost k b (Some (Grab c v false)) is body dec own gone died = absurd (let e = dec.1 in cc)
   own_ghost k b (Some (Grab c v true)) is body (inl live) own gone died =
       absurd (let g = live_facts x fits k c v body live in let row = g.6 in cc)
-  own_ghost k b (Some (Grab c v true)) is body (inr (p, row, was, other, gives)) own gone died =
+  own_ghost k b (Some (Grab c v true)) is body (inr (p, row, was, other, gives, elsewhere)) own gone died =
       let g = fits.grabbed k c v body in by_bind g.left g.body g.kept g.is_bind
     where
       by_bind : (left body : Formula) (kept : script.Kept) → body_at x.state c ≡ Some (Computed (Bind left body) kept)
@@ -135,5 +136,5 @@ module _ (x : Both) (fits : Fits x) (X : Item → Type 0) (closed : Closed x X) 
       let above = part_above x.state owner path Left there.0 there.1 in
       absurd (form_row x (Built (scope_at x owner path)) (around x owner path) c above.0
       (left_form above.0 there.0 above.2) (place_shows x fits owner path c above.0 above.1 at) (rw e at gone))
-  ghosts_covered i p b is (by_variable {c = c} v item at row scope def e) gone died =
+  ghosts_covered i p b is (by_variable {c = c} item at row scope built for def e) gone died =
       absurd (let none = rw e at gone in cc)

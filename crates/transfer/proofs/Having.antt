@@ -35,13 +35,14 @@ use Rattle.transfer.specs.Both.{Both, graph_value, graph_outcome}
 use Rattle.transfer.specs.Shows.{Mode, Built, Binding, Opens, graph_step, Shows, ShowsAll, Declares, Lost, Fits}
 use Rattle.transfer.specs.Items.{part_node, root_at, node_at, around, scope_at, IsChoice, GrabsBind, RootsHave}
 use Rattle.transfer.proofs.Places.{if_subject, join_subject, binding, map_parts, fold_parts, part_above, then_some, plain_map, plain_fold, plain_if, plain_join, plain_bind, opened, place_shows}
-use Rattle.transfer.proofs.Carriers.{IsForm, name_or, place_agrees}
+use Rattle.transfer.proofs.Carriers.{name_or, place_agrees}
+use Rattle.transfer.specs.Cycles.{IsForm}
 use Rattle.transfer.proofs.Agreement.{live_facts}
 use Rattle.transfer.proofs.Stepping.{row_scope, bound_or}
 use Rattle.transfer.proofs.Enclosed.{needed_enclosed, needed_reads, root_named}
 
 -- where the binds round a place are
-scope_is : (x : Both) (owner : ℕ) (path bind : List Edge) → bind_around 0 path ≡ Some bind
+pub scope_is : (x : Both) (owner : ℕ) (path bind : List Edge) → bind_around 0 path ≡ Some bind
     → scope_at x owner path ≡ node_at x owner bind
 scope_is x owner [] bind e = absurd (cc)
 scope_is x owner (Inside v ∷ path) bind e = let same : path ≡ bind = cc in rw same refl
@@ -91,7 +92,7 @@ argument_is owner path k (More f fs) i (inr later) =
     let same : suc k + r.0 ≡ k + suc r.0 = omega arith in
     (suc r.0, r.1, r.2 ∙ ap (λ j. Place owner (Argument j ∷ path)) same, r.3)
 
-either_list : {A : Type 0} (a : A) (xs ys : List A) → Among a (xs ++ ys) → Among a xs ⊎ Among a ys
+pub either_list : {A : Type 0} (a : A) (xs ys : List A) → Among a (xs ++ ys) → Among a xs ⊎ Among a ys
 either_list a [] ys h = inr h
 either_list a (x ∷ xs) ys (inl e) = inl (inl e)
 either_list a (x ∷ xs) ys (inr h) = elim (either_list a xs ys h) [ inl l ↦ inl (inr l) | inr r ↦ inr r ]
@@ -116,7 +117,7 @@ row_of x S E n (Steps v ss) form free shows =
 row_of x S E n Now form free shows = let o = opened x.graph S n term.Now shows in (o.0, o.1)
 
 -- the innermost bind round a place that has a node has one too, and is a bind
-bind_round : (x : Both) (owner : ℕ) (path bind : List Edge) (f : Formula) (n : NodeId) → node_at x owner path ≡ Some n
+pub bind_round : (x : Both) (owner : ℕ) (path bind : List Edge) (f : Formula) (n : NodeId) → node_at x owner path ≡ Some n
     → formula_at x.state owner path ≡ Some f → bind_around 0 path ≡ Some bind
     → (b : NodeId) × (l : Formula) × (body : Formula) × (node_at x owner bind ≡ Some b)
     × (formula_at x.state owner bind ≡ Some (Bind l body))
@@ -166,19 +167,19 @@ given_at : (x : Both) (owner : ℕ) (path : List Edge) (f g : Formula) (edge : E
 given_at x owner path f g edge p f_is part same (d, gives) =
     (d, rw (part_is x.state owner path f edge f_is, part, same) at gives)
 
-right_then : (x : Both) (n t y z : NodeId) (def : Def) (o : GraphOutcome) → def ≡ graph.If t y z
+pub right_then : (x : Both) (n t y z : NodeId) (def : Def) (o : GraphOutcome) → def ≡ graph.If t y z
     → o ≡ outcome.Val (held.Bool true) → right_of x.graph n def o ≡ Some y
 right_then x n t y z def o e e' = rw (e, e') refl
 
-right_else : (x : Both) (n t y z : NodeId) (def : Def) (o : GraphOutcome) → def ≡ graph.If t y z
+pub right_else : (x : Both) (n t y z : NodeId) (def : Def) (o : GraphOutcome) → def ≡ graph.If t y z
     → o ≡ outcome.Val (held.Bool false) → right_of x.graph n def o ≡ Some z
 right_else x n t y z def o e e' = rw (e, e') refl
 
-right_named : (x : Both) (n k : NodeId) (def : Def) (o : GraphOutcome) (t : ℕ) (b : _) → def ≡ graph.Join k
+pub right_named : (x : Both) (n k : NodeId) (def : Def) (o : GraphOutcome) (t : ℕ) (b : _) → def ≡ graph.Join k
     → o ≡ graph_outcome x.nodes (Val (script_value.Reference t b)) → right_of x.graph n def o ≡ Some (x.nodes t)
 right_named x n k def o t b e e' = rw (e, e') refl
 
-bind_built : (x : Both) (n l : NodeId) (h : FnRef) (caps : List NodeId) (def : Def) (o : GraphOutcome)
+pub bind_built : (x : Both) (n l : NodeId) (h : FnRef) (caps : List NodeId) (def : Def) (o : GraphOutcome)
     → def ≡ graph.Bind l h caps → IsBuilt x.functions x.graph n def o
     → IsBuilt x.functions x.graph n (graph.Bind l h caps) o
 bind_built x n l h caps def o e b = rw e at b
@@ -234,7 +235,7 @@ module _ (x : Both) (fits : Fits x) (grabs : GrabsBind x.state) (died : NodeId �
   to_gate p r b row scope y = on p (change b) y (depend.gate row scope refl)
 
   -- the subject's outcome, as the item gives it
-  subject_has : (owner : ℕ) (path : List Edge) (f g : Formula) (edge : Edge) (n s : NodeId) (r : Row) (d : ℕ)
+  pub subject_has : (owner : ℕ) (path : List Edge) (f g : Formula) (edge : Edge) (n s : NodeId) (r : Row) (d : ℕ)
       (p : Outcome) → formula_at x.state owner path ≡ Some f → part_at f edge ≡ Some g
       → node_at x owner (edge ∷ path) ≡ Some s → scope_at x owner (edge ∷ path) ≡ r.scope
       → environment (edge ∷ path) ≡ environment path → x.graph.row n ≡ Some r → subject_of r.def ≡ Some s
@@ -591,7 +592,7 @@ module _ (x : Both) (fits : Fits x) (grabs : GrabsBind x.state) (died : NodeId �
 
       by_loss : (left body : Formula) (kept : script.Kept) → body_at x.state b ≡ Some (Computed (Bind left body) kept)
           → Lost x (x.nodes k) b v → AllHave (grab_reads b v (outcome_at x.meanings x.state d (Place b (Left ∷ []))))
-      by_loss left body kept bind_is (p, row, died_is, other, gives) =
+      by_loss left body kept bind_is (p, row, died_is, other, gives, elsewhere) =
           by_outcome (outcome_at x.meanings x.state d (Place b (Left ∷ []))) refl
         where
           first : Has (Place b (Left ∷ []))

@@ -98,7 +98,7 @@ module _ (x : Both) (fits : Fits x) (before : Valid x.meanings x.state) (H : Fun
     rw (value_on x H Q terms G s nodes Old same kept v p.1) for,
     root,
   )
-  declares_on k n (Some (Grab b v true)) is p at bind (inr (o, row, lost, other, rest)) =
+  declares_on k n (Some (Grab b v true)) is p at bind (inr (o, row, lost, other, rest, elsewhere)) =
       absurd (let none = none_dead n in cc)
 
   stays_declare : (k : ℕ) → Stays x next k → Declares next (nodes k) (body_at s k)

@@ -18,8 +18,14 @@ pub mod Frame
 pub mod Typed
 pub mod Keeping
 pub mod Commands
+pub mod Staying
 pub mod Holding
+pub mod Rebuilt
 pub mod Working
 pub mod Recalling
 pub mod Deep
+pub mod Numbers
+pub mod Leading
+pub mod Readers
 pub mod Chains
+pub mod Cycles

@@ -24,7 +24,8 @@ use Rattle.transfer.specs.Both.{Both, graph_value, graph_outcome}
 use Rattle.transfer.specs.Shows.{Built, Shows, Fits}
 use Rattle.transfer.specs.Items.{part_node, root_at, node_at, around, scope_at, ApartAt}
 use Rattle.transfer.proofs.Places.{stands_none, part_above, then_some, if_true, opened, plain_bind, place_shows}
-use Rattle.transfer.proofs.Carriers.{IsForm, place_agrees, outer_stands}
+use Rattle.transfer.proofs.Carriers.{place_agrees, outer_stands}
+use Rattle.transfer.specs.Cycles.{IsForm}
 use Rattle.transfer.proofs.Says.{value_alone}
 use Rattle.transfer.proofs.Stepping.{row_scope}
 

@@ -31,7 +31,8 @@ use Rattle.transfer.specs.Items.{part_node, node_at, node_of, around, scope_at, 
 use Rattle.transfer.proofs.Places.{binding, map_parts, fold_parts, plain_map, plain_fold, plain_if, plain_join, plain_bind, opened, part_above, place_shows}
 use Rattle.transfer.proofs.Enclosed.{pass, grab_left}
 use Rattle.transfer.proofs.Agreement.{grab_facts}
-use Rattle.transfer.proofs.Carriers.{Carrier, at_name, at_place, at_grab, live_place, IsForm, IsForm-body, part_in, carrier, place_agrees}
+use Rattle.transfer.proofs.Carriers.{Carrier, at_name, at_place, at_grab, live_place, IsForm-body, part_in, carrier, place_agrees}
+use Rattle.transfer.specs.Cycles.{IsForm}
 
 -- ---- parts
 
@@ -88,7 +89,7 @@ around_bind x owner (Else ∷ path) k b n e m = rw (pass k Else path tt) (around
 around_bind x owner (Child ∷ path) k b n e m = rw (pass k Child path tt) (around_bind x owner path k b n e m)
 around_bind x owner (Left ∷ path) k b n e m = rw (pass k Left path tt) (around_bind x owner path k b n e m)
 
-scope_bind : (x : Both) (owner : ℕ) (path : List Edge) (n : NodeId) → scope_at x owner path ≡ Some n
+pub scope_bind : (x : Both) (owner : ℕ) (path : List Edge) (n : NodeId) → scope_at x owner path ≡ Some n
     → (bind : List Edge) × (bind_around 0 path ≡ Some bind) × (node_at x owner bind ≡ Some n)
 scope_bind x owner [] n e = absurd (cc)
 scope_bind x owner (Inside v ∷ path) n e = (path, refl, e)
@@ -743,9 +744,9 @@ module _ (x : Both) (fits : Fits x) (X : Item → Type 0) (closed : Closed x X) 
         let w = bind_shows owner path b is at in left_covered owner path w.0 w.1 b r q is at w.2 row w.3 among
     left_step owner path b q is at (depend.right row stands part sub gives among e) = absurd (cc)
 
-    variable_step : (owner : ℕ) (path : List Edge) (b c : NodeId) (r : Row) (v : Value) (q : Point)
+    variable_step : (owner : ℕ) (path : List Edge) (b c : NodeId) (r : Row) (v : GraphValue) (q : Point)
         → X (Place owner (Left ∷ path)) → node_at x owner path ≡ Some b → x.graph.row c ≡ Some r → r.scope ≡ Some b
-        → r.def ≡ graph.Const (graph_value x.nodes v) → Depends x.functions x.graph died (main c) q → CoveredBy x X q
+        → r.def ≡ graph.Const v → Depends x.functions x.graph died (main c) q → CoveredBy x X q
     variable_step owner path b c r v q is at row scope def (depend.ghost row' was e) = absurd (cc)
     variable_step owner path b c r v q is at row scope def (depend.gate {r = r'} {b = b'} row' scope' e) =
         let same : r ≡ r' = cc in
@@ -768,7 +769,7 @@ module _ (x : Both) (fits : Fits x) (X : Item → Type 0) (closed : Closed x X) 
     step_covered i p q is (by_left {owner = owner} {path = path} {b = b} item at e) dep =
         left_step owner path b q (rw item at is) at (rw e at dep)
     step_covered i p q is (by_variable {owner = owner} {path = path} {b = b} {c = c}
-        {r = r} v item at row scope def e) dep =
+        {r = r} {v = v} item at row scope built for def e) dep =
         variable_step owner path b c r v q (rw item at is) at row scope def (rw e at dep)
 
     -- and so is all that is reached from it

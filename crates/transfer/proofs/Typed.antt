@@ -186,7 +186,7 @@ module _ (F : Meanings) (s : State) (valid : Valid F s) where
   abbrev pub IsOwnName : ℕ → Type 0
   IsOwnName t = (b : Body) × (body_at s t ≡ Some b) × IsOwn (Some b)
 
-  name_own : (n t : ℕ) (u : Ty) → NameHasType s n t u → IsOwnName t
+  pub name_own : (n t : ℕ) (u : Ty) → NameHasType s n t u → IsOwnName t
   name_own n t u name =
       let target = (valid.entries t name.entry name.stands).target_is in
       let is : body_at s t ≡ Some name.entry.body = ap (λ e. and_then e (λ (e : Entry). Some e.body)) name.stands in

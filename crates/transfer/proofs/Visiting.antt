@@ -26,7 +26,8 @@ use Rattle.transfer.specs.Items.{node_at, node_of, around, scope_at, by_main, by
 use Rattle.transfer.specs.Work.{call_of, cost_of, Calls, Ran, AllRan, calls_in}
 use Rattle.transfer.proofs.Places.{stands_none, plain_map, plain_fold, opened, place_shows}
 use Rattle.transfer.proofs.Agreement.{gathered_agree, links_agree}
-use Rattle.transfer.proofs.Carriers.{Carrier, at_name, at_place, at_grab, live_place, IsForm, IsForm-body, carrier, values_around, sound_at}
+use Rattle.transfer.proofs.Carriers.{Carrier, at_name, at_place, at_grab, live_place, IsForm-body, carrier, values_around, sound_at}
+use Rattle.transfer.specs.Cycles.{IsForm}
 
 -- the visit that a node's call is
 record Visited (x : Both) (X : Item → Type 0) (n : NodeId) (given : List GraphValue) (cost : ℕ) : Type 0 where
@@ -267,10 +268,10 @@ module _ (x : Both) (fits : Fits x) (X : Item → Type 0) (closed : Closed x X) 
   called n c (i, is, by_choice item at choice e) =
       absurd (let e' : Main ≡ Change = ap (λ (p : Point). p.part) e in cc)
   called n c (i, is, by_left item at e) = absurd (let e' : Main ≡ Change = ap (λ (p : Point). p.part) e in cc)
-  called n c (i, is, by_variable {c = m} {r = r} v item at row scope def e) =
+  called n c (i, is, by_variable {c = m} {r = r} {v = v} item at row scope built for def e) =
       let same : m ≡ n = sym (ap (λ (p : Point). p.node) e) in
       absurd
-      (no_variable_call n c r (graph_value x.nodes v) (rw same at row) def)
+      (no_variable_call n c r v (rw same at row) def)
 
 -- ---- the work
 

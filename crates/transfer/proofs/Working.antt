@@ -1,11 +1,11 @@
 -- Calls that are within the work of a graph are within the work of the script.
-use Rattle.std.proofs.Common.{◌≡◌, inl, inr, ℕ, ◌+◌, ◌≤◌, List, [], ◌∷◌, map, length, Option, None, Some, refl, sym, arith}
+use Rattle.std.proofs.Common.{◌≡◌, inl, inr, ℕ, ◌+◌, ◌≤◌, List, [], ◌∷◌, map, length, Option, None, Some, refl, sym, ap, subst, ◌∙◌, arith}
 use Rattle.std.specs.List.{sum_by}
 use Rattle.std.proofs.lemmas.List.Sums.{sum_by-cons}
 use Rattle.inc_value.specs.declared.node.NodeId.{NodeId}
 use Rattle.inc_value.specs.declared.outcome.Outcome.TheVariants as outcome
 use Rattle.inc_value.specs.declared.value.Value.{Value as GraphValue}
-use Rattle.inc_value.specs.Choice.{Among, NoRepeats, Every as Each}
+use Rattle.inc_value.specs.Choice.{and_then, Among, NoRepeats, Every as Each}
 use Rattle.inc_terms.specs.Depend.{main, kids_of, unfrozen}
 use Rattle.inc_terms.specs.Evaluate.{Of, Values, answer, gathered, GiveAll}
 use Rattle.inc_terms.specs.Graph as graph
@@ -16,24 +16,35 @@ use Rattle.inc_terms.specs.Work as work
 use Rattle.inc_terms.specs.Work.{IsDueVisit, HasReason, other, stale, passed}
 use Rattle.inc_terms.proofs.Evaluation.{at_depth, gathered_at}
 use Rattle.inc_terms.proofs.Work.{one_visit}
-use Rattle.script_model.specs.Need.{Visit, IsVisit, Needed, Met, stamp_of}
+use Rattle.script_model.specs.Formula.{Body, Entry, body_at}
+use Rattle.script_model.specs.Need.{Item, Named, Place, environment, Visit, IsVisit, Needed, Met, stamp_of, body_visits, visits_at}
+use Rattle.script_model.specs.Valid.{Valid}
+use Rattle.script_model.specs.Values.{Value}
+use Rattle.script_model.proofs.Places.{needed_stands}
 use Rattle.transfer.specs.Both.{Both, graph_value}
 use Rattle.transfer.specs.Holding.{Remembers}
-use Rattle.transfer.specs.Items.{node_of, RootsAre, GrabsBind}
+use Rattle.transfer.specs.Items.{node_of, RootsAre}
+use Rattle.transfer.specs.Keeping.{NodesApart}
 use Rattle.transfer.specs.Laws.{MetIsCovered, WorkIsCovered}
 use Rattle.transfer.specs.Shows.{Fits}
 use Rattle.transfer.specs.Work.{some_unless_empty, call_of, cost_of, Calls, Ran, AllRan, calls_in}
 use Rattle.transfer.proofs.Ghosts.{ghosts_covered}
 use Rattle.transfer.proofs.Holding.{held_are}
 use Rattle.transfer.proofs.Reaching.{met_covered, met_closed}
+use Rattle.transfer.proofs.Enclosed.{needed_enclosed}
+use Rattle.transfer.proofs.Staying.{IsOwnValue, stands_own, visit_own, own_alike, all_alike, place_one}
+use Rattle.transfer.proofs.Typed.{valid_grabs}
 use Rattle.transfer.proofs.Visiting.{ran_within_work}
 
 pub met_is_covered : MetIsCovered
-met_is_covered x then beside observers r fits grabs are p met =
-    met_covered then fits grabs x.state r.grabs r.later.formulas then.died
+met_is_covered x then beside observers r fits valid apart are p met =
+    let grabs = valid_grabs then.meanings then.state valid in
+    let before = valid_grabs x.meanings x.state r.valid in
+    met_covered then fits grabs x.state before r.later.formulas then.died
     (ghosts_covered then fits (Met then.meanings x.state then.state)
-    (met_closed then x.state r.grabs grabs r.later.formulas)) (nodes_of observers) are
-    (GraphHeld beside observers) (held_are x then r.fits r.flat r.grabs r.later beside observers r.holders r.links) p
+    (met_closed then x.state before grabs r.later.formulas)) (nodes_of observers) are
+    (GraphHeld beside observers)
+    (held_are x then r.fits r.keep r.valid r.later fits valid apart beside observers r.holders r.links) p
     met
 
 -- ---- a visit of the graph is a call
@@ -87,7 +98,7 @@ same_cost F G n def c vs e h = absurd (cc)
 
 module _ (x then : Both) (beside : Beside) (observers : List Observed) (r : Remembers x then beside observers)
     (fits : Fits then)
-    (grabs : GrabsBind then.state) (are : RootsAre then (nodes_of observers)) where
+    (valid : Valid then.meanings then.state) (apart : NodesApart then.state then.nodes) (are : RootsAre then (nodes_of observers)) where
   abbrev Due : work.Visit → Type 0
   Due v = IsDueVisit then.functions then.graph then.died observers beside v
 
@@ -105,6 +116,33 @@ module _ (x then : Both) (beside : Beside) (observers : List Observed) (r : Reme
         gives = g.1;
       }
 
+  -- the values of a visit that was needed have the nodes that they had
+  visit_alike : (w : Visit) → IsVisit x.meanings x.state w → Needed x.meanings x.state w.item
+      → map (graph_value then.nodes) w.values ≡ map (graph_value x.nodes) w.values
+  visit_alike w is needed =
+      all_mapped w.values (visit_own x r.keep r.valid w is (needed_stands x.meanings x.state w.item needed))
+    where
+      all_mapped : (vs : List Value) → Each (IsOwnValue x.state) vs
+          → map (graph_value then.nodes) vs ≡ map (graph_value x.nodes) vs
+      all_mapped [] h = refl
+      all_mapped (v ∷ vs) h = rw (own_alike x then r.fits r.later v h.0, all_mapped vs h.1) refl
+
+  -- a visit that was needed has its node still, if it has one
+  same_node : (i : Item) (w : Visit) (d : ℕ) → Needed x.meanings x.state i → Among w (visits_at x.meanings x.state d i)
+      → (m n : NodeId) → node_of x i ≡ Some m → node_of then i ≡ Some n → m ≡ n
+  same_node (Named k) w d needed among m n at at' = elim (r.later.names k) [
+    | inl same ↦ (let e : Some (x.nodes k) ≡ Some (then.nodes k) = ap (λ n. Some n) (sym same) in cc)
+    | inr gone ↦ absurd (let none : body_at x.state k ≡ None =
+        ap (λ e. and_then e (λ (e : Entry). Some e.body)) gone.0 in
+        subst (λ (b : Option Body). Among w (body_visits x.meanings x.state d (Named k) b)) none among)
+  ]
+  same_node (Place owner path) w d needed among m n at at' =
+      let there = (needed_enclosed x.meanings x.state (valid_grabs x.meanings x.state r.valid) (Place owner path) needed).0 in
+      let own = stands_own x r.keep r.valid owner path there.0 there.1
+      (needed_stands x.meanings x.state (Place owner path) needed) in
+      place_one x then r.fits r.later fits owner path there.0 m n there.1 at at'
+      (all_alike x then r.fits r.later (environment path) own)
+
   -- no visit of what was needed has the node, its values and its stamp
   anew : (v : work.Visit) (w : Visit) → IsVisit x.meanings x.state w → Needed x.meanings x.state w.item
       → node_of then w.item ≡ Some v.node
@@ -112,9 +150,13 @@ module _ (x then : Both) (beside : Beside) (observers : List Observed) (r : Reme
       → HasReason then.graph beside v → ⊥
   anew v w is needed node stamp same (other h) =
       let kept = r.last w is needed in
-      let there : kept.0 ≡ v.node = (let e = kept.1 in cc) in
-      h (rw (there, ← same) at kept.2)
-  anew v w is needed node stamp same (stale marked) = r.marks w v.node is needed node marked stamp
+      let there = same_node w.item w is.0 needed is.1 kept.0 v.node kept.1 node in
+      let values = same ∙ visit_alike w is needed in
+      h (rw (there, ← values) at kept.2)
+  anew v w is needed node stamp same (stale marked) =
+      let kept = r.last w is needed in
+      let there = same_node w.item w is.0 needed is.1 kept.0 v.node kept.1 node in
+      r.marks w v.node is needed (rw there at kept.1) marked stamp
   anew v w is needed node stamp same (passed {kid} row among cutoff) = r.cutoffs kid cutoff
 
   -- a visit that is due is a call that ran anew
@@ -122,7 +164,7 @@ module _ (x then : Both) (beside : Beside) (observers : List Observed) (r : Reme
   ran v due =
       record {
         calls = call v due.visit;
-        met = met_is_covered x then beside observers r fits grabs are (main v.node) due.met;
+        met = met_is_covered x then beside observers r fits valid apart are (main v.node) due.met;
         fresh = λ w is needed node stamp same. anew v w (rw (← r.later.meanings) is)
             (rw (← r.later.meanings) needed) node stamp same due.reason;
       }
@@ -158,10 +200,12 @@ module _ (x then : Both) (beside : Beside) (observers : List Observed) (r : Reme
           once.0 (rw same w.1)
 
 pub work_is_covered : WorkIsCovered
-work_is_covered x then beside observers r fits grabs are calls within =
-    let ran = all_ran x then beside observers r fits grabs are within.visits within.due in
+work_is_covered x then beside observers r fits valid apart are calls within =
+    let grabs = valid_grabs then.meanings then.state valid in
+    let before = valid_grabs x.meanings x.state r.valid in
+    let ran = all_ran x then beside observers r fits valid apart are within.visits within.due in
     let few : calls ≤ calls_in then x.state (map (λ (v : work.Visit). v.node) within.visits) ran =
-    rw (all_cost x then beside observers r fits grabs are within.visits within.due) within.enough in
-    ran_within_work then fits x.state (met_closed then x.state r.grabs grabs r.later.formulas)
+    rw (all_cost x then beside observers r fits valid apart are within.visits within.due) within.enough in
+    ran_within_work then fits x.state (met_closed then x.state before grabs r.later.formulas)
     (map (λ (v : work.Visit). v.node) within.visits) ran calls
-    (distinct x then beside observers r fits grabs are within.visits within.due within.distinct) few
+    (distinct x then beside observers r fits valid apart are within.visits within.due within.distinct) few

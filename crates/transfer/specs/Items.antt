@@ -3,6 +3,7 @@ use Rattle.std.specs.Prelude.{◌≡◌, ℕ, true, List, [], ◌∷◌, Option,
 use Rattle.inc_value.specs.declared.node.NodeId.{NodeId}
 use Rattle.inc_value.specs.declared.node.Point.{Point}
 use Rattle.inc_value.specs.declared.outcome.Outcome.TheVariants as outcome
+use Rattle.inc_value.specs.declared.value.Value.{Value as GraphValue}
 use Rattle.inc_value.specs.Choice.{Among, and_then, Every as Each}
 use Rattle.inc_terms.specs.Depend.{main, change}
 use Rattle.inc_terms.specs.Evaluate.{Stands}
@@ -83,9 +84,10 @@ pub data Covers (x : Both) (i : Item) (p : Point) : Type 0 where
       → IsChoice (formula_at x.state owner path) → p ≡ change n → Covers x i p
   by_left : {owner : ℕ} {path : List Edge} {b : NodeId} → i ≡ Place owner (Left ∷ path)
       → node_at x owner path ≡ Some b → p ≡ change b → Covers x i p
-  by_variable : {owner : ℕ} {path : List Edge} {b c : NodeId} {r : Row} → (v : Value) → i ≡ Place owner (Left ∷ path)
-      → node_at x owner path ≡ Some b → x.graph.row c ≡ Some r
-      → r.scope ≡ Some b → r.def ≡ graph.Const (graph_value x.nodes v) → p ≡ main c → Covers x i p
+  by_variable : {owner : ℕ} {path : List Edge} {b c : NodeId} {r : Row} {w : BuiltFor} {v : GraphValue}
+      → i ≡ Place owner (Left ∷ path) → node_at x owner path ≡ Some b → x.graph.row c ≡ Some r
+      → r.scope ≡ Some b → x.graph.built b ≡ Some w → w.outcome ≡ outcome.Val v → r.def ≡ graph.Const v → p ≡ main c
+      → Covers x i p
 
 -- one of a set of items covers the point
 abbrev pub CoveredBy : Both → (Item → Type 0) → Point → Type 0
@@ -121,6 +123,11 @@ abbrev pub FormulasStay : State → State → Type 0
 FormulasStay before s =
     (owner : ℕ) (path : List Edge) (f : Formula) → formula_at before owner path ≡ Some f
     → formula_at s owner path ≡ Some f
+
+-- live grabs stay
+abbrev pub GrabsStay : State → State → Type 0
+GrabsStay before s =
+    (k b : ℕ) (v : Value) → body_at before k ≡ Some (script.Grab b v true) → body_at s k ≡ Some (script.Grab b v true)
 
 -- what a live grab is of is a bind
 abbrev pub GrabsBind : State → Type 0

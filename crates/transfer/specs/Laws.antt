@@ -1,26 +1,34 @@
 -- Laws of a script and a graph that fit.
-use Rattle.std.specs.Prelude.{◌≡◌, ◌≤◌, ℕ, pos, List, [], ◌∷◌, map, length, Option, None, Some}
+use Rattle.std.specs.Prelude.{◌≡◌, ◌≤◌, ℕ, Bool, pos, List, [], ◌∷◌, ◌++◌, map, length, Option, None, Some}
 use Rattle.inc_value.specs.declared.node.NodeId.{NodeId}
 use Rattle.inc_value.specs.declared.node.Point.{Point}
 use Rattle.inc_value.specs.declared.outcome.Outcome.{Outcome as GraphOutcome}
-use Rattle.inc_terms.specs.Depend.{Depends, IsFlat, main}
+use Rattle.inc_terms.specs.Depend.{Depends, main}
 use Rattle.inc_terms.specs.Evaluate.{NodeGives, Stands}
 use Rattle.inc_terms.specs.Graph.{Row}
 use Rattle.inc_terms.specs.Local.{Exact}
 use Rattle.inc_terms.specs.Need.{Beside, Observed, nodes_of, Needed as GraphNeeded, Held as GraphHeld, Met as GraphMet}
 use Rattle.inc_terms.specs.Work.{IsVisit as IsGraphVisit, WithinWork as GraphWork}
 use Rattle.inc_value.specs.Walk.{IsWalk, IsDeep}
-use Rattle.inc_value.specs.Choice.{NoRepeats}
+use Rattle.inc_value.specs.Choice.{NoRepeats, Every, Reaches}
+use Rattle.inc_value.specs.declared.function.FnRef.{FnRef}
+use Rattle.inc_terms.specs.Rebuilding.{Moment, BuildStep}
+use Rattle.inc_terms.specs.Term.{Functions}
+use Rattle.inc_terms.specs.Within.{Given}
 use Rattle.script_model.specs.Formula.{State, Formula}
+use Rattle.script_model.specs.Blocked.{IsCycle, OnCycle}
 use Rattle.script_model.specs.Depth.{TooDeep}
-use Rattle.script_model.specs.Valid.{Valid}
+use Rattle.script_model.specs.Valid.{Valid, KeepToTypes}
 use Rattle.script_model.specs.Evaluate.{NameGives}
-use Rattle.script_model.specs.Need.{Edge, Argument, Inside, Item, Place, formula_at, ItemGives, Needed, Met, Visit, IsVisit, WithinWork}
+use Rattle.script_model.specs.Need.{Edge, Argument, Inside, Item, Named, Place, formula_at, ItemGives, Needed, Met, Visit, IsVisit, WithinWork}
 use Rattle.script_model.specs.Values.{Outcome, Int}
 use Rattle.transfer.specs.Both.{Both, graph_value, graph_outcome}
 use Rattle.transfer.specs.Shows.{Fits}
-use Rattle.transfer.specs.Items.{node_at, node_of, scope_at, CoveredBy, RootsAre, RootsHave, FormulasStay, GrabsBind}
-use Rattle.transfer.specs.Holding.{Remembers}
+use Rattle.transfer.specs.Items.{node_at, node_of, scope_at, CoveredBy, RootsAre, RootsHave, FormulasStay, GrabsStay, GrabsBind}
+use Rattle.transfer.specs.Holding.{ScopesStay, Remembers}
+use Rattle.transfer.specs.Keeping.{NodesApart}
+use Rattle.transfer.specs.Cycles.{PartsApart, EndsAt, Passes}
+use Rattle.transfer.specs.Deep.{IsToldOf}
 use Rattle.transfer.specs.Work.{AllRan, calls_in}
 use Rattle.transfer.specs.Worked.{node, both}
 
@@ -66,32 +74,56 @@ VisitsHaveNodes =
     × IsGraphVisit x.functions x.graph
     (record { node = n; values = map (graph_value x.nodes) v.values; cost = v.cost })
 
--- there, where the graph has no choices and nothing that is needed over it is too deep, nothing that is needed of the
--- script is
+-- there no name that is needed of the script is on a cycle
+abbrev pub NeededIsOnNoCycle : Type 0
+NeededIsOnNoCycle =
+    (x : Both) → Fits x → GrabsBind x.state → (observed : List NodeId) → RootsHave x observed
+    → (out : Point → Option GraphOutcome)
+    → ((p : Point) → GraphNeeded x.functions x.graph x.died observed p → Exact x.functions x.graph out p)
+    → (n : ℕ) → Needed x.meanings x.state (Named n) → OnCycle x.meanings x.state n → ⊥
+
+-- there, where no needed point begins a walk of 130 points, nothing that is needed of the script is too deep
 abbrev pub NeededIsShallow : Type 0
 NeededIsShallow =
-    (x : Both) → Fits x → Valid x.meanings x.state → IsFlat x.graph → (observed : List NodeId) → RootsHave x observed
+    (x : Both) → Fits x → Valid x.meanings x.state → (observed : List NodeId) → RootsHave x observed
     → (out : Point → Option GraphOutcome)
     → ((p : Point) → GraphNeeded x.functions x.graph x.died observed p → Exact x.functions x.graph out p)
     → ((p : Point) → GraphNeeded x.functions x.graph x.died observed p → IsDeep (Depends x.functions x.graph x.died) p → ⊥)
     → (i : Item) → Needed x.meanings x.state i → TooDeep x.meanings x.state i → ⊥
 
--- where the graph has no choices, a live node whose point is of a met item and begins a walk of 130 distinct points
--- is that of a met item that is too deep
+-- a covered point that begins a walk of 130 distinct points tells of a met item that is too deep
 abbrev pub DeepHasItem : Type 0
 DeepHasItem =
-    (x : Both) → Fits x → Valid x.meanings x.state → IsFlat x.graph → ((n : NodeId) → x.died n ≡ None)
+    (x : Both) → Fits x → KeepToTypes x.meanings → Valid x.meanings x.state → (before : State) → GrabsBind before
+    → FormulasStay before x.state → GrabsStay before x.state
+    → (p : Point) (rest : List Point) → CoveredBy x (Met x.meanings before x.state) p → length rest ≡ 129
+    → IsWalk (Depends x.functions x.graph x.died) (p ∷ rest) → NoRepeats (p ∷ rest)
+    → (i : Item) × Met x.meanings before x.state i × IsToldOf x p i × TooDeep x.meanings x.state i
+
+-- the names that a listed cycle of covered points passes are a cycle of met names, with the first of them once more at its end
+abbrev pub CyclesAreNamed : Type 0
+CyclesAreNamed =
+    (x : Both) → Fits x → KeepToTypes x.meanings → Valid x.meanings x.state → NodesApart x.state x.nodes → PartsApart x
     → (before : State) → GrabsBind before → FormulasStay before x.state
-    → (n : NodeId) (r : Row) → x.graph.row n ≡ Some r → CoveredBy x (Met x.meanings before x.state) (main n)
-    → (rest : List Point) → length rest ≡ 129
-    → IsWalk (Depends x.functions x.graph x.died) (main n ∷ rest) → NoRepeats (main n ∷ rest)
-    → (i : Item) × Met x.meanings before x.state i × (node_of x i ≡ Some n) × TooDeep x.meanings x.state i
+    → (p q : Point) (rest : List Point) (names : List ℕ) → CoveredBy x (Met x.meanings before x.state) p
+    → IsWalk (Depends x.functions x.graph x.died) (p ∷ q ∷ rest) → EndsAt p (q ∷ rest) → NoRepeats (q ∷ rest)
+    → Passes x p (q ∷ rest) names
+    → (first : ℕ) × (more : List ℕ) × (names ≡ first ∷ more) × IsCycle x.meanings x.state (first ∷ (more ++ first ∷ []))
+    × Every (λ k. Met x.meanings before x.state (Named k)) names
+
+-- binds built anew, one after the other, keep what scopes have
+abbrev pub BuildsKeepScopes : Type 0
+BuildsKeepScopes =
+    (F : Functions) (known : FnRef → Bool) (ids : FnRef → List NodeId) (m end : Moment) → Reaches (BuildStep F known ids) m end
+    → ((n : NodeId) (r : Row) → m.graph.row n ≡ Some r → Given m.given n)
+    → ((n : NodeId) (r : Row) (b : NodeId) → m.graph.row n ≡ Some r → r.scope ≡ Some b → (q : Row) × (m.graph.row b ≡ Some q))
+    → ScopesStay m.graph end.graph
 
 -- what is met over a graph, from what was held since the last round, is covered by what is met of the script
 abbrev pub MetIsCovered : Type 0
 MetIsCovered =
     (x then : Both) (beside : Beside) (observers : List Observed) → Remembers x then beside observers → Fits then
-    → GrabsBind then.state → RootsAre then (nodes_of observers) → (p : Point)
+    → Valid then.meanings then.state → NodesApart then.state then.nodes → RootsAre then (nodes_of observers) → (p : Point)
     → GraphMet then.functions then.graph then.died (nodes_of observers) (GraphHeld beside observers) p
     → CoveredBy then (Met then.meanings x.state then.state) p
 
@@ -99,7 +131,7 @@ MetIsCovered =
 abbrev pub WorkIsCovered : Type 0
 WorkIsCovered =
     (x then : Both) (beside : Beside) (observers : List Observed) → Remembers x then beside observers → Fits then
-    → GrabsBind then.state → RootsAre then (nodes_of observers) → (calls : ℕ)
+    → Valid then.meanings then.state → NodesApart then.state then.nodes → RootsAre then (nodes_of observers) → (calls : ℕ)
     → GraphWork then.functions then.graph then.died observers beside calls
     → WithinWork then.meanings x.state then.state calls
 

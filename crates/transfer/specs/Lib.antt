@@ -2,6 +2,8 @@ pub mod Both
 pub mod Shows
 pub mod Items
 pub mod Work
+pub mod Deep
+pub mod Cycles
 pub mod Keeping
 pub mod Holding
 pub mod Worked

@@ -162,12 +162,13 @@ abbrev mutual
 abbrev pub IsTop : Graph → NodeId → Def → Type 0
 IsTop G n def = (r : Row) × (G.row n ≡ Some r) × (r.scope ≡ None) × (r.def ≡ def)
 
--- a grab that died in the call: its bind's left gives another outcome
+-- a grab that died in the call: its bind's left gives another outcome, and the bind is built for another
 abbrev pub Lost : Both → NodeId → ℕ → Value → Type 0
 Lost x n bind v =
     (p : Outcome) × (x.graph.row n ≡ None) × (x.died n ≡ Some (x.nodes bind)) × (p ≡ Val v → ⊥)
     × ((left body : Formula) (kept : script.Kept) → body_at x.state bind ≡ Some (Computed (Bind left body) kept)
     → Gives x.meanings x.state [] left p)
+    × ((w : BuiltFor) → x.graph.built (x.nodes bind) ≡ Some w → w.outcome ≡ outcome.Val (graph_value x.nodes v) → ⊥)
 
 -- the node shows what is declared of a name
 abbrev pub Declares : Both → NodeId → Option Body → Type 0

@@ -1,6 +1,6 @@
 //! Laws of the definitions. Each function does nothing: its contract is the law.
 ghost use Rattle.transfer.specs.Laws.{NamesAgree, PlacesAgree, NeededIsCovered, NeededHasNodes, VisitsHaveNodes};
-ghost use Rattle.transfer.specs.Laws.{NeededIsShallow, DeepHasItem};
+ghost use Rattle.transfer.specs.Laws.{NeededIsOnNoCycle, NeededIsShallow, DeepHasItem, CyclesAreNamed, BuildsKeepScopes};
 ghost use Rattle.transfer.specs.Laws.{MetIsCovered, WorkIsCovered, RanIsWithinWork, SomeFit, BodyHasNodes};
 
 /// What the node of a name gives, the name gives.
@@ -29,16 +29,29 @@ pub fn visits_have_nodes()
     ensures { VisitsHaveNodes }
 {}
 
-/// There, where the graph has no choices and nothing that is needed over it is too deep, nothing that is needed of the
-/// script is.
+/// There no name that is needed of the script is on a cycle.
+pub fn needed_is_on_no_cycle()
+    ensures { NeededIsOnNoCycle }
+{}
+
+/// There, where no needed point begins a walk of 130 points, nothing that is needed of the script is too deep.
 pub fn needed_is_shallow()
     ensures { NeededIsShallow }
 {}
 
-/// Where the graph has no choices, a met node that begins a walk of 130 distinct points is that of a met item that is
-/// too deep.
+/// A covered point that begins a walk of 130 distinct points tells of a met item that is too deep.
 pub fn deep_has_item()
     ensures { DeepHasItem }
+{}
+
+/// The names that a listed cycle of covered points passes are a cycle of met names.
+pub fn cycles_are_named()
+    ensures { CyclesAreNamed }
+{}
+
+/// Binds built anew, one after the other, keep what scopes have.
+pub fn builds_keep_scopes()
+    ensures { BuildsKeepScopes }
 {}
 
 /// What is met over a graph, from what was held since the last round, is covered by what is met of the script.
