@@ -8,7 +8,7 @@ use std::alloc::{AllocError, Global};
 use std::marker::Model;
 
 /// The values of a fold's children when it was last computed, if it was.
-#[derive(Debug, Drop)]
+#[derive(Drop)]
 pub struct LastFold {
     kids: LastArgs,
 }

@@ -4,14 +4,14 @@ use inc_terms::Def;
 use inc_value::NodeId;
 
 /// What is to be made in a graph.
-#[derive(Debug, Drop)]
+#[derive(Drop)]
 pub enum Make {
     /// A node that is so defined.
     Node(Def),
 }
 
 /// What was made in a graph.
-#[derive(Clone, Copy, Debug, PartialEq, Eq)]
+#[derive(Clone, Copy, PartialEq, Eq)]
 pub enum Made {
     /// The node.
     Node(NodeId),

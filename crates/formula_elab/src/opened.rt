@@ -9,7 +9,7 @@ use std::alloc::{AllocError, Global};
 use std::marker::Model;
 
 /// A node that a node is made of.
-#[derive(Clone, Copy, Debug, PartialEq, Eq)]
+#[derive(Clone, Copy, PartialEq, Eq)]
 pub(crate) enum Part {
     /// One that is there before anything is made.
     Given(NodeId),
@@ -31,7 +31,7 @@ impl Part {
 }
 
 /// The nodes of a function's arguments or a fold's elements in order, seen as a list.
-#[derive(Debug, Drop)]
+#[derive(Drop)]
 pub(crate) struct Parts {
     parts: Vec<Part>,
 }
@@ -62,7 +62,7 @@ impl Parts {
 }
 
 /// What a node is to be, over nodes that may not be made yet.
-#[derive(Debug, Drop)]
+#[derive(Drop)]
 pub(crate) enum Open {
     Const(Value),
     Var(Value),

@@ -65,6 +65,7 @@ pub fn check<L: Library>(
     names.keeps_order();
     let command = command_of(alloc, line, names, library)?;
     if let Some(reason) = first_reason(line, names, library, command.is_none()) {
+        drop(command);
         return Err(CheckFault::Refusal(reason.number()));
     }
     match command {

@@ -9,7 +9,7 @@ use inc_value::{Base, FnRef, NodeId, Text, Ty, Value};
 use std::alloc::{AllocError, Global};
 
 /// A value as a command holds it.
-#[derive(Debug, Drop)]
+#[derive(Drop)]
 pub enum Constant {
     Int(i64),
     Bool(bool),
@@ -43,7 +43,7 @@ fn node_at(position: usize) -> NodeId
 }
 
 /// A formula with a position for each name and a reference for each function.
-#[derive(Debug, Drop)]
+#[derive(Drop)]
 pub enum Formula {
     Literal(Constant),
     /// The declaration at this position.
@@ -61,7 +61,7 @@ pub enum Formula {
 }
 
 /// What is declared.
-#[derive(Debug, Drop)]
+#[derive(Drop)]
 pub enum Declaration {
     /// A variable with its first value.
     Variable(Constant),
@@ -86,7 +86,7 @@ impl Declaration {
 }
 
 /// A command with a position for each name that it reads.
-#[derive(Debug, Drop)]
+#[derive(Drop)]
 pub enum Command {
     /// Declares a name.
     Declare {

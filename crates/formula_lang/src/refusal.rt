@@ -14,7 +14,7 @@ use crate::typing::{declared_as, has_unknown_function, has_unknown_name, is_decl
 use node_arena::Library;
 
 /// Why a command is refused.
-#[derive(Clone, Copy, Debug, PartialEq, Eq)]
+#[derive(Clone, Copy, PartialEq, Eq)]
 pub(crate) enum Reason {
     NameTaken,
     ObserverTaken,

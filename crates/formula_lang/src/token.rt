@@ -3,7 +3,7 @@
 use std::marker::Model;
 
 /// A unit of time.
-#[derive(Clone, Copy, Debug, PartialEq, Eq)]
+#[derive(Clone, Copy, PartialEq, Eq)]
 pub(crate) enum TimeUnit {
     Nanoseconds,
     Microseconds,
@@ -12,7 +12,7 @@ pub(crate) enum TimeUnit {
 }
 
 /// A sign.
-#[derive(Clone, Copy, Debug, PartialEq, Eq)]
+#[derive(Clone, Copy, PartialEq, Eq)]
 pub(crate) enum Sign {
     Open,
     Close,
@@ -25,7 +25,7 @@ pub(crate) enum Sign {
 }
 
 /// What stands between the quotes of a text, without the escapes, seen as its bytes: printable ones.
-#[derive(Debug, Drop)]
+#[derive(Drop)]
 pub(crate) struct Content {
     pub(crate) bytes: Vec<u8>,
 }
@@ -42,7 +42,7 @@ impl Model for Content {
 }
 
 /// A token of a line.
-#[derive(Debug, Drop)]
+#[derive(Drop)]
 pub(crate) enum Token<'a> {
     /// A letter or `_`, and the letters, digits and `_` behind it.
     Word(&'a [u8]),

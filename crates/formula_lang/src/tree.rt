@@ -4,7 +4,7 @@ use crate::name::Name;
 use inc_value::{Text, Ty};
 
 /// A literal.
-#[derive(Debug, Drop)]
+#[derive(Drop)]
 pub enum Literal {
     Integer(i64),
     /// `true` or `false`.
@@ -14,7 +14,7 @@ pub enum Literal {
 }
 
 /// A formula as it is written.
-#[derive(Debug, Drop)]
+#[derive(Drop)]
 pub enum Tree {
     /// A literal.
     Literal(Literal),
@@ -34,7 +34,7 @@ pub enum Tree {
 }
 
 /// A command as it is written.
-#[derive(Debug, Drop)]
+#[derive(Drop)]
 pub enum Line {
     /// `var NAME TYPE LITERAL`.
     Var { name: Name, ty: Ty, first: Literal },

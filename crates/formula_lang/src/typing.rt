@@ -21,14 +21,14 @@ use node_arena::Library;
 use std::alloc::{AllocError, Global};
 
 /// A formula with its type.
-#[derive(Debug, Drop)]
+#[derive(Drop)]
 pub(crate) struct TypedFormula {
     pub(crate) formula: Formula,
     pub(crate) ty: Ty,
 }
 
 /// Formulas with their types.
-#[derive(Debug, Drop)]
+#[derive(Drop)]
 struct TypedFormulas {
     formulas: Vec<Formula>,
     tys: Vec<Ty>,

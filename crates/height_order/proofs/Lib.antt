@@ -10,3 +10,4 @@ pub mod Pending
 pub mod Queuing
 pub mod Moving
 pub mod Sounding
+pub mod Answering

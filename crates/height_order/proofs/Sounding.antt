@@ -1,6 +1,6 @@
 -- What stands between two calls, kept by each.
 use Rattle.std.proofs.Common.{◌≡◌, ◌≢◌, ◌∙◌, ℕ, ◌<◌, ◌≤◌, List, [], ◌∷◌, ◌++◌, refl, ap, sym, subst, inl, inr, arith}
-use Rattle.std.specs.Prelude.{◌⊎◌, Some, None, Result, Ok, Err, OnOk, OnErr, IfErr, IsSome}
+use Rattle.std.specs.Prelude.{◌⊎◌, Some, None, Result, Ok, Err, OnOk, OnErr, IfErr, is_some, IsSome}
 use Rattle.inc_value.specs.declared.node.Point.{Point}
 use Rattle.point_map.specs.Rows.{Rows, at, Holds, Changes, KeepsRows}
 use Rattle.point_map.proofs.Places.{point_cases}
@@ -22,6 +22,19 @@ sound_kept old new links same there s = record {
   ends = λ p q r. let e = s.ends p q r in (there p e.0, there q e.1);
   rises = λ p q r. let h = s.rises p q r in let a = same p in let b = same q in omega (arith, h, a, b);
   low = λ p. let h = s.low p in let a = same p in omega (arith, h, a);
+}
+
+-- the same points at the same heights
+pub sound_rows : (old new : Rows ℕ) (links : Links) → KeepsRows old new → IsSound old links → IsSound new links
+sound_rows old new links same s = sound_kept old new links (λ q. level_kept old new q same) (λ q there. subst IsSome (sym (same q)) there) s
+
+-- levels of a queue that has all points by their heights
+pub levelled_rows : (old queue new : Rows ℕ) (links : Links) → KeepsRows old queue → IsLevelling queue new links → IsLevelling old new links
+levelled_rows old queue new links same by = record {
+  points = λ p. by.points p ∙ ap is_some (same p);
+  rises = by.rises;
+  supported = by.supported;
+  under = λ p. let u = by.under p in let e = level_kept old queue p same in omega (arith, u, e);
 }
 
 added_level : (old new : Rows ℕ) (p q : Point) → Changes old new p (Some 0) → at old p ≡ None → (q ≡ p) ⊎ (q ≢ p) → level new q ≡ level old q

@@ -65,13 +65,35 @@ fn lift_all(
     ensures climbed { IfOk result (λ o. IfNone o (IsClimbed heights.now links.now new.reader new.kid lifts.new)) }
 {
     let mut queue = RecomputeHeap::new(alloc)?;
+    let met = lift_queued(links, heights, new, lifts, &mut queue);
+    drop(queue);
+    met
+}
+
+/// Does so over a queue of the points that are lifted and whose readers weren't looked at.
+fn lift_queued(
+    links: &LinkTable,
+    heights: &PointMap<u32>,
+    new: Link,
+    lifts: &mut PointMap<Lift>,
+    queue: &mut RecomputeHeap,
+) -> Result<Option<Point>, AllocError>
+    requires sound { IsSound heights.now links.now }
+    requires reader { Holds heights.now new.reader }
+    requires other { new.reader ≢ new.kid }
+    requires none { lifts.old.places ≡ [] }
+    requires empty { queue.old.places ≡ [] }
+    ensures met { IfOk result (λ o. IfSome o (λ x. Reads links.now new.kid x × Holds lifts.new x)) }
+    ensures asked { IfOk result (λ _. AllAsked links.now new.reader new.kid lifts.new) }
+    ensures climbed { IfOk result (λ o. IfNone o (IsClimbed heights.now links.now new.reader new.kid lifts.new)) }
+{
     let height = level_of(heights, new.kid) + 1;
     if level_of(heights, new.reader) < height {
         let kid = new.kid;
-        lift(heights, lifts, &mut queue, new.reader, Lift { height, kid })?;
+        lift(heights, lifts, queue, new.reader, Lift { height, kid })?;
     }
     while let Some((x, _height)) = queue.pop_least() {
-        if lift_readers(links, heights, new, lifts, &mut queue, x)? {
+        if lift_readers(links, heights, new, lifts, queue, x)? {
             return Ok(Some(x));
         }
     }

@@ -1,16 +1,13 @@
 //! Points with heights that rise along every link.
-ghost use Rattle.std.specs.Prelude.{◌≡◌, ◌+◌, ◌<◌, ◌≤◌, ◌++◌, None, Some, is_some, OnOk, OnErr, IfErr, length};
+ghost use Rattle.std.specs.Prelude.{◌≡◌, ◌≤◌, None, Some, is_some, OnOk, OnErr};
 ghost use Rattle.inc_value.specs.declared.node.Point.{Point};
 ghost use Rattle.point_map.specs.Rows.{at, Holds, Changes, KeepsRows};
-ghost use Rattle.link_table.specs.Links.{times, Reads, KeepsLinks, OneLinkMore};
-ghost use Rattle.height_order.specs.Chains.{ReadsWith, IsChain, IsPath, Leads, HasChain, NoRepeats};
-ghost use Rattle.height_order.specs.Levels.{level, Rises, AllLow, IsSound, KeepsPoints, IsExact, Tells, IsLevelling};
-ghost use Rattle.height_order.specs.Climbs.{lifted, IsClimbed};
-ghost use Rattle.height_order.specs.Faults.{IfPath, IfOver, UnlessOver};
+ghost use Rattle.link_table.specs.Links.{times, Reads, OneLinkMore};
+ghost use Rattle.height_order.specs.Levels.{level, Rises, KeepsPoints, IsExact, Tells};
+ghost use Rattle.height_order.specs.Answers.{IsLinkAnswer};
 
-use crate::climb::climb;
-use crate::levels::{add_at, changed, level_of, levelled};
-use crate::lifts::{Lift, lifted_points, long_chain, too_high, write_lifts};
+use crate::levels::{add_at, level_of, levelled};
+use crate::linking::{adopt, make_link};
 use inc_value::Point;
 use link_table::{Link, LinkTable};
 use point_map::PointMap;
@@ -128,37 +125,10 @@ impl Heights {
     pub fn link(&mut self, p: Point, q: Point, moved: &mut Vec<Point>) -> Result<(), LinkFault>
         requires reader { Holds self.old.heights p }
         requires kid { Holds self.old.heights q }
-        ensures linked { OnOk result (OneLinkMore self.old.links self.new.links p q) }
-        ensures err { OnErr result (KeepsLinks self.old.links self.new.links) }
-        ensures path { IfErr result (λ e. IfPath (λ list. IsPath (Reads self.old.links) list q p) e) }
-        ensures path_once { IfErr result (λ e. IfPath NoRepeats e) }
-        ensures no_path { OnOk result (Leads (Reads self.old.links) q p → ⊥) }
-        ensures over { IfErr result (λ e. IfOver (λ list. IsChain (ReadsWith self.old.links p q) list) e) }
-        ensures over_length { IfErr result (λ e. IfOver (λ list. length list ≡ 130) e) }
-        ensures over_no_path { IfErr result (λ e. IfOver (λ _. Leads (Reads self.old.links) q p → ⊥) e) }
-        ensures over_levelled { IfErr result (λ e. IfOver (λ _. IsExact self.new.heights self.new.links) e) }
-        ensures no_over { OnOk result (HasChain (ReadsWith self.old.links p q) 130 → ⊥) }
-        ensures kept { IfErr result (λ e. UnlessOver (KeepsRows self.old.heights self.new.heights) e) }
-        ensures still { level self.old.heights q < level self.old.heights p → KeepsRows self.old.heights self.new.heights }
-        ensures rises { Rises (Reads self.new.links) (level self.new.heights) }
-        ensures low { AllLow (level self.new.heights) }
-        ensures points { KeepsPoints self.old.heights self.new.heights }
-        ensures moved { Tells (level self.old.heights) (level self.new.heights) moved.old.items moved.new.items }
+        ensures { IsLinkAnswer self.old self.new p q moved.old.items moved.new.items result }
     {
-        if level_of(&self.heights, q) < level_of(&self.heights, p) {
-            self.links.add(p, q)?;
-            return Ok(());
-        }
         let new = Link { reader: p, kid: q };
-        let mut lifts = PointMap::new(self.alloc);
-        if let Some(path) = climb(self.alloc, &self.links, &self.heights, new, &mut lifts)? {
-            return Err(LinkFault::Path(path));
-        }
-        if too_high(&self.heights, &lifts).is_some() {
-            return self.link_levelled(p, q, moved);
-        }
-        self.link_lifted(p, q, &lifts, moved)?;
-        Ok(())
+        make_link(self.alloc, &mut self.heights, &mut self.links, new, moved)
     }
 
     /// Takes one link off. Heights stay.
@@ -179,128 +149,9 @@ impl Heights {
         ensures moved { Tells (level self.old.heights) (level self.new.heights) moved.old.items moved.new.items }
         ensures err { OnErr result (self.new ≡ self.old) }
     {
-        let levels = levelled(self.alloc, &self.links, &self.heights)?;
-        adopt(self.alloc, &mut self.heights, levels, moved)
+        let mut levels = levelled(self.alloc, &self.links, &self.heights)?;
+        let adopted = adopt(self.alloc, &mut self.heights, &mut levels, moved);
+        drop(levels);
+        adopted
     }
-
-    /// Makes the link where lifted heights fit.
-    fn link_lifted(
-        &mut self,
-        p: Point,
-        q: Point,
-        lifts: &PointMap<Lift>,
-        moved: &mut Vec<Point>,
-    ) -> Result<(), AllocError>
-        requires reader { Holds self.old.heights p }
-        requires kid { Holds self.old.heights q }
-        requires climbed { IsClimbed self.old.heights self.old.links p q lifts.now }
-        requires low { (x : Point) → Holds lifts.now x → lifted self.old.heights lifts.now x ≤ 128 }
-        ensures sound { IsSound self.new.heights self.new.links }
-        ensures linked { OnOk result (OneLinkMore self.old.links self.new.links p q) }
-        ensures err { OnErr result (KeepsLinks self.old.links self.new.links) }
-        ensures kept { OnErr result (self.new.heights ≡ self.old.heights) }
-        ensures points { KeepsPoints self.old.heights self.new.heights }
-        ensures moved { Tells (level self.old.heights) (level self.new.heights) moved.old.items moved.new.items }
-    {
-        let list = lifted_points(self.alloc, lifts)?;
-        add_told(&mut self.links, p, q, &list, moved)?;
-        write_lifts(&mut self.heights, lifts);
-        Ok(())
-    }
-
-    /// Levels all heights, and makes the link over these if it fits. Heights stay unless it is `Over`.
-    fn link_levelled(&mut self, p: Point, q: Point, moved: &mut Vec<Point>) -> Result<(), LinkFault>
-        requires reader { Holds self.old.heights p }
-        requires kid { Holds self.old.heights q }
-        ensures sound { IsSound self.new.heights self.new.links }
-        ensures linked { OnOk result (OneLinkMore self.old.links self.new.links p q) }
-        ensures err { OnErr result (KeepsLinks self.old.links self.new.links) }
-        ensures path { IfErr result (λ e. IfPath (λ list. IsPath (Reads self.old.links) list q p) e) }
-        ensures over { IfErr result (λ e. IfOver (λ list. IsChain (ReadsWith self.old.links p q) list) e) }
-        ensures over_length { IfErr result (λ e. IfOver (λ list. length list ≡ 130) e) }
-        ensures over_no_path { IfErr result (λ e. IfOver (λ _. Leads (Reads self.old.links) q p → ⊥) e) }
-        ensures over_levelled { IfErr result (λ e. IfOver (λ _. IsExact self.new.heights self.new.links) e) }
-        ensures kept { IfErr result (λ e. UnlessOver (self.new.heights ≡ self.old.heights) e) }
-        ensures points { KeepsPoints self.old.heights self.new.heights }
-        ensures moved { Tells (level self.old.heights) (level self.new.heights) moved.old.items moved.new.items }
-    {
-        let levels = levelled(self.alloc, &self.links, &self.heights)?;
-        let new = Link { reader: p, kid: q };
-        let mut lifts = PointMap::new(self.alloc);
-        if let Some(path) = climb(self.alloc, &self.links, &levels, new, &mut lifts)? {
-            return Err(LinkFault::Path(path));
-        }
-        if let Some(top) = too_high(&levels, &lifts) {
-            let chain = long_chain(self.alloc, &self.links, &levels, &lifts, p, q, top)?;
-            adopt(self.alloc, &mut self.heights, levels, moved)?;
-            return Err(LinkFault::Over(chain));
-        }
-        self.link_at(p, q, levels, &lifts, moved)?;
-        Ok(())
-    }
-
-    /// Makes the link where these levels, lifted, fit, and takes them for the heights.
-    fn link_at(
-        &mut self,
-        p: Point,
-        q: Point,
-        mut levels: PointMap<u32>,
-        lifts: &PointMap<Lift>,
-        moved: &mut Vec<Point>,
-    ) -> Result<(), AllocError>
-        requires reader { Holds self.old.heights p }
-        requires kid { Holds self.old.heights q }
-        requires levelling { IsLevelling self.old.heights levels self.old.links }
-        requires climbed { IsClimbed levels self.old.links p q lifts.now }
-        requires low { (x : Point) → Holds lifts.now x → lifted levels lifts.now x ≤ 128 }
-        ensures sound { IsSound self.new.heights self.new.links }
-        ensures linked { OnOk result (OneLinkMore self.old.links self.new.links p q) }
-        ensures err { OnErr result (KeepsLinks self.old.links self.new.links) }
-        ensures kept { OnErr result (self.new.heights ≡ self.old.heights) }
-        ensures points { KeepsPoints self.old.heights self.new.heights }
-        ensures moved { Tells (level self.old.heights) (level self.new.heights) moved.old.items moved.new.items }
-    {
-        write_lifts(&mut levels, lifts);
-        let list = changed(self.alloc, &self.heights, &levels)?;
-        add_told(&mut self.links, p, q, &list, moved)?;
-        self.heights = levels;
-        Ok(())
-    }
-}
-
-/// Takes new heights of the same points, and tells which changed.
-fn adopt(
-    alloc: Global,
-    heights: &mut PointMap<u32>,
-    levels: PointMap<u32>,
-    moved: &mut Vec<Point>,
-) -> Result<(), AllocError>
-    requires points { KeepsPoints heights.old levels }
-    ensures adopted { OnOk result (heights.new ≡ levels) }
-    ensures err { OnErr result (heights.new ≡ heights.old) }
-    ensures moved { Tells (level heights.old) (level heights.new) moved.old.items moved.new.items }
-{
-    let list = changed(alloc, heights, &levels)?;
-    moved.extend_from_slice(&list)?;
-    *heights = levels;
-    Ok(())
-}
-
-/// Adds a link and appends points to `moved`: both, or neither where memory is lacking.
-fn add_told(
-    links: &mut LinkTable,
-    p: Point,
-    q: Point,
-    list: &[Point],
-    moved: &mut Vec<Point>,
-) -> Result<(), AllocError>
-    ensures linked { OnOk result (OneLinkMore links.old links.new p q) }
-    ensures told { OnOk result (moved.new.items ≡ moved.old.items ++ list.now) }
-    ensures err { OnErr result (KeepsLinks links.old links.new) }
-    ensures untold { OnErr result (moved.new.items ≡ moved.old.items) }
-{
-    moved.reserve(list.len())?;
-    links.add(p, q)?;
-    moved.extend_from_slice(list).unwrap();
-    Ok(())
 }

@@ -1,5 +1,5 @@
 //! Tables of heights, and the least heights that rise along all links.
-ghost use Rattle.std.specs.Prelude.{◌≡◌, ◌≢◌, ◌+◌, ◌<◌, ◌≤◌, None, Some, IfOk, OnOk, OnErr};
+ghost use Rattle.std.specs.Prelude.{[], ◌≡◌, ◌≢◌, ◌+◌, ◌<◌, ◌≤◌, None, Some, IfOk, OnOk, OnErr};
 ghost use Rattle.inc_value.specs.declared.node.Point.{Point};
 ghost use Rattle.point_map.specs.Rows.{at, Changes, KeepsRows};
 ghost use Rattle.link_table.specs.Links.{Reads};
@@ -39,13 +39,34 @@ pub fn levelled(
     requires sound { IsSound heights.now links.now }
     ensures { IfOk result (λ m. IsLevelling heights.now m links.now) }
 {
-    let mut levels = PointMap::new(alloc);
     let mut queue = queued(alloc, heights)?;
-    while let Some((p, _height)) = queue.pop_least() {
-        let height = height_over(links, &levels, p);
-        add_at(&mut levels, p, height)?;
+    let mut levels = PointMap::new(alloc);
+    let done = level_queued(links, &mut queue, &mut levels);
+    drop(queue);
+    match done {
+        Ok(()) => Ok(levels),
+        Err(AllocError) => {
+            drop(levels);
+            Err(AllocError)
+        }
     }
-    Ok(levels)
+}
+
+/// Levels the points of a queue that has them all by their heights, each after what it reads.
+fn level_queued(
+    links: &LinkTable,
+    queue: &mut RecomputeHeap,
+    levels: &mut PointMap<u32>,
+) -> Result<(), AllocError>
+    requires sound { IsSound queue.old links.now }
+    requires none { levels.old.places ≡ [] }
+    ensures { OnOk result (IsLevelling queue.old levels.new links.now) }
+{
+    while let Some((p, _height)) = queue.pop_least() {
+        let height = height_over(links, levels, p);
+        add_at(levels, p, height)?;
+    }
+    Ok(())
 }
 
 /// All points by their heights.

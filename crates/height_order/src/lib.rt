@@ -6,5 +6,6 @@ mod climb;
 mod heights;
 mod levels;
 mod lifts;
+mod linking;
 
 pub use heights::{Heights, LinkFault};

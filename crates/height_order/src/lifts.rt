@@ -14,7 +14,7 @@ use point_map::PointMap;
 use std::alloc::{AllocError, Global};
 
 /// A point's new height, and the point that it reads and that asks for this.
-#[derive(Clone, Copy, Debug, PartialEq, Eq)]
+#[derive(Clone, Copy)]
 pub struct Lift {
     pub height: u32,
     pub kid: Point,

@@ -6,21 +6,21 @@ use crate::Ty;
 use std::marker::Model;
 
 /// What a function makes: a value of its arguments, or the right-hand side of a bind.
-#[derive(Clone, Copy, Debug, PartialEq, Eq)]
+#[derive(Clone, Copy, PartialEq, Eq)]
 pub enum FnKind {
     Map,
     Rhs,
 }
 
 /// A function of one library.
-#[derive(Clone, Copy, Debug, PartialEq, Eq)]
+#[derive(Clone, Copy, PartialEq, Eq)]
 pub struct FnId {
     pub kind: FnKind,
     pub number: u64,
 }
 
 /// The types that a function takes, 1 to 64, and the one that it gives.
-#[derive(Clone, Copy, Debug, PartialEq, Eq)]
+#[derive(Clone, Copy, PartialEq, Eq)]
 pub struct Sig {
     takes: [Ty; 64],
     count: usize,
@@ -91,7 +91,7 @@ impl Sig {
 
 /// A function with its types. Of a right-hand-side function the first type taken is that of the
 /// bind's left value, and the rest are its captures'.
-#[derive(Clone, Copy, Debug, PartialEq, Eq)]
+#[derive(Clone, Copy, PartialEq, Eq)]
 pub struct FnRef {
     pub id: FnId,
     pub sig: Sig,

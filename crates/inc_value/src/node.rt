@@ -9,7 +9,7 @@ pub struct NodeId {
 }
 
 /// An observer: how many of the same graph were made before it.
-#[derive(Clone, Copy, Debug, PartialEq, Eq)]
+#[derive(Clone, Copy, PartialEq, Eq)]
 pub struct ObsId(pub u32);
 
 /// A bind, an if and a join are two points each, change and main; every other node is main alone.

@@ -7,7 +7,7 @@ use std::alloc::{AllocError, Global};
 
 /// What evaluating a node gives. Invalid is the outcome of what stands on a right-hand side that is
 /// gone.
-#[derive(Debug, Drop)]
+#[derive(Drop)]
 pub enum Outcome {
     Val(Value),
     Invalid,

@@ -10,7 +10,7 @@ use thiserror::Error;
 const MAX_LEN: usize = 4_096;
 
 /// A text: at most 4,096 bytes, each from 0x20 to 0x7E.
-#[derive(Debug, Drop)]
+#[derive(Drop)]
 pub struct Text {
     bytes: Vec<u8>,
 }

@@ -1,7 +1,7 @@
 //! Types of values.
 
 /// The types that a node reference may lead to.
-#[derive(Clone, Copy, Debug, PartialEq, Eq)]
+#[derive(Clone, Copy, PartialEq, Eq)]
 pub enum Base {
     Int,
     Bool,
@@ -9,7 +9,7 @@ pub enum Base {
 }
 
 /// The type of a value; `Node` is a reference to a node of that base type.
-#[derive(Clone, Copy, Debug, PartialEq, Eq)]
+#[derive(Clone, Copy, PartialEq, Eq)]
 pub enum Ty {
     Int,
     Bool,

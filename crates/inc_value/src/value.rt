@@ -6,7 +6,7 @@ use crate::{Base, NodeId, Text, Ty};
 use std::alloc::{AllocError, Global};
 
 /// What a node holds.
-#[derive(Debug, Drop)]
+#[derive(Drop)]
 pub enum Value {
     Int(i64),
     Bool(bool),

@@ -11,7 +11,7 @@ use std::alloc::{AllocError, Global};
 
 /// What a point knows of one of its links: the point at the other end, and the place of the link
 /// among the ends that are kept there.
-#[derive(Clone, Copy, Debug)]
+#[derive(Clone, Copy)]
 pub struct End {
     pub(crate) point: Point,
     pub(crate) back: usize,

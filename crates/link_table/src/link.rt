@@ -3,7 +3,7 @@
 use inc_value::Point;
 
 /// One link: `reader` reads `kid`.
-#[derive(Clone, Copy, Debug, PartialEq, Eq)]
+#[derive(Clone, Copy, PartialEq, Eq)]
 pub struct Link {
     pub reader: Point,
     pub kid: Point,

@@ -5,7 +5,7 @@ ghost use Rattle.map_nodes.specs.Cutoff.{IsStopped};
 use inc_value::Outcome;
 
 /// Which new outcomes of a node are told to its readers.
-#[derive(Clone, Copy, Debug, PartialEq, Eq)]
+#[derive(Clone, Copy, PartialEq, Eq)]
 pub enum Cutoff {
     /// Those that differ from the one before.
     Equal,

@@ -7,7 +7,7 @@ use smallvec::SmallVec;
 use std::alloc::{AllocError, Global};
 
 /// A value for a place.
-#[derive(Debug, Drop)]
+#[derive(Drop)]
 pub(crate) struct Change {
     pub place: usize,
     pub value: Value,

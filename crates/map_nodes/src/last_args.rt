@@ -10,7 +10,7 @@ use std::marker::Model;
 
 /// The values on which a function was last called, if it was called. Two values that are no texts take no memory of
 /// their own.
-#[derive(Debug, Drop)]
+#[derive(Drop)]
 pub struct LastArgs {
     any: bool,
     args: SmallVec<Value, 2>,

@@ -1,5 +1,5 @@
 -- Points come and go, and so does what is in the heap.
-use Rattle.std.proofs.Common.{◌≡◌, ◌≢◌, inl, inr, ℕ, ◌<◌, Some, arith, sym, refl, ap, ◌∙◌}
+use Rattle.std.proofs.Common.{◌≡◌, ◌≢◌, inl, inr, ℕ, ◌<◌, ◌≤◌, Some, arith, sym, refl, ap, ◌∙◌}
 use Rattle.std.proofs.lemmas.Bool.{cases_lt}
 use Rattle.std.proofs.lemmas.Option.{none-some}
 use Rattle.necessary_graph.proofs.Sweeping.{none_of}
@@ -62,13 +62,10 @@ module _ (g : NecessaryPart) (inv : IsInStep g) where
     heap = λ a h e. let was = inv.heap a h (sym (kept a) ∙ e) in (same a ∙ was.0, was.1);
   }
 
-  -- a point is added at height 0
-  module _ (heights heap : Rows ℕ) (p : Point) (absent : at g.heights p ≡ None) (c : Changes g.heights heights p (Some 0)) (kept : KeepsRows g.heap heap) where
-    same_level : (a : Point) → level heights a ≡ level g.heights a
-    same_level a = elim (point_cases a p) [
-      | inl same ↦ ap (level heights) same ∙ (ap or_zero c.changed ∙ (sym (ap or_zero absent) ∙ ap (level g.heights) (sym same)))
-      | inr other ↦ ap or_zero (c.others a other)
-    ]
+  -- a point is added
+  module _ (heights heap : Rows ℕ) (p : Point) (height : ℕ) (height_low : height ≤ 128) (absent : at g.heights p ≡ None) (c : Changes g.heights heights p (Some height)) (kept : KeepsRows g.heap heap) where
+    old_other : (a : Point) → Holds g.heights a → a ≢ p
+    old_other a h same = let e : is_some (at g.heights a) ≡ is_some {T = ℕ} None = ap is_some (ap (at g.heights) same ∙ absent) in cc
 
     still_there : (a : Point) → Holds g.heights a → Holds heights a
     still_there a h = elim (point_cases a p) [
@@ -85,8 +82,11 @@ module _ (g : NecessaryPart) (inv : IsInStep g) where
     pub added_in_step : IsInStep (record g { heights = heights; heap = heap })
     added_in_step = record {
       ends = λ a b r. let e = inv.ends a b r in (still_there a e.0, still_there b e.1);
-      rises = λ a b r. rw (same_level a, same_level b) (inv.rises a b r);
-      low = λ a. rw (same_level a) (inv.low a);
+      rises = λ a b r. let e = inv.ends a b r in rw (c.others a (old_other a e.0), c.others b (old_other b e.1)) (inv.rises a b r);
+      low = λ a. elim (point_cases a p) [
+        | inl same ↦ rw (same, c.changed) height_low
+        | inr other ↦ rw (c.others a other) (inv.low a)
+      ];
       readers = inv.readers;
       there = λ a n. still_there a (inv.there a n);
       heap = λ a h e. let was = inv.heap a h (sym (kept a) ∙ e) in (same_row a h was.0, was.1);

@@ -75,10 +75,11 @@ impl NecessaryGraph {
         let _points = self.points;
     }
 
-    /// Adds a point that isn't there, at height 0, and makes room for it in the heap. Without memory nothing changes.
-    pub fn add(&mut self, p: Point) -> Result<(), AllocError>
+    /// Adds a point that isn't there, at a height, and makes room for it in the heap. Without memory nothing changes.
+    pub fn add(&mut self, p: Point, height: u32) -> Result<(), AllocError>
         requires absent { at self.old.heights p ≡ None }
-        ensures added { OnOk result (Changes self.old.heights self.new.heights p (Some 0)) }
+        requires low { height ≤ 128 }
+        ensures added { OnOk result (Changes self.old.heights self.new.heights p (Some height)) }
         ensures err { OnErr result (KeepsRows self.old.heights self.new.heights) }
         ensures roots { self.new.roots ≡ self.old.roots }
         ensures links { self.new.links ≡ self.old.links }
@@ -86,7 +87,7 @@ impl NecessaryGraph {
     {
         let points = self.points.checked_add(1).ok_or(AllocError)?;
         self.heap.reserve(points - self.heap.len())?;
-        self.heights.add(p)?;
+        self.heights.add_at(p, height)?;
         self.points = points;
         Ok(())
     }

@@ -1,6 +1,4 @@
 pub mod Arena
-pub mod Arithmetic
-pub mod ArithmeticLaws
 pub mod Graph
 pub mod Meanings
 pub mod Sound

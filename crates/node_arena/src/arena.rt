@@ -26,7 +26,7 @@ pub use variable::SetFault;
 const MAX_LIVE: usize = 1_048_576;
 
 /// A live node: what it is, the type of its values, and the bind in whose scope it stands.
-#[derive(Debug, Drop)]
+#[derive(Drop)]
 pub struct Row {
     pub def: Def,
     pub ty: Ty,
@@ -164,7 +164,10 @@ impl Arena {
             ↔ (NamesGiven self.old.given (def_of def) × Makes self.old (def_of def) ty × IsFull self.old) }
         ensures err { OnErr result (self.new ≡ self.old) }
     {
-        self.admits(&def, ty)?;
+        if let Err(fault) = self.admits(&def, ty) {
+            drop(def);
+            return Err(fault);
+        }
         let id = self.next_id();
         match self.insert(id, Row { def, ty, scope }) {
             Ok(()) => Ok(id),
@@ -201,9 +204,13 @@ impl Arena {
         // The slab uses free slots first, so the slot is below; its contract doesn't say so.
         let next = self.nodes.vacant_key();
         if next >= MAX_LIVE || id.slot != next || id.gen_ != self.given {
+            drop(row);
             return Err(AllocError);
         }
-        make_room(&self.nodes, &mut self.order)?;
+        if make_room(&self.nodes, &mut self.order).is_err() {
+            drop(row);
+            return Err(AllocError);
+        }
         let gen_ = self.given;
         let slot = self.nodes.insert(Entry { gen_, row })?;
         self.order.push_reserved(NodeId { slot, gen_ });

@@ -1,6 +1,7 @@
 -- Places and buckets that agree: what each change leaves.
 use Rattle.std.proofs.Common.{◌≡◌, ◌≢◌, ◌∙◌, ℕ, ◌<◌, ◌≤◌, List, [], ◌∷◌, refl, ap, sym, subst, inl, inr, arith, false, is_some, IsSome, option_map}
-use Rattle.std.specs.Prelude.{Option, Some, None, slice_index_or, option_and_then}
+use Rattle.std.proofs.lemmas.Grind.{common_steps}
+use Rattle.std.specs.Prelude.{Option, Some, None, slice_index_or, option_and_then, count_by}
 use Rattle.std.proofs.Math.ListN.{get_or-map}
 use Rattle.std.proofs.lemmas.Bool.{cases_eq}
 use Rattle.inc_value.specs.declared.node.Point.{Point}
@@ -288,6 +289,12 @@ module _ {R : Type 0} where
       let under = every_height (λ n. least ≤ n) b p h below is in
       let over = every_height (λ n. n ≤ 128) b p h above is in
       omega (arith, under, over, high))
+
+  -- where no point is counted, none is there
+  pub none_counted : (kept : List (Option (Kept R))) (p : Point) → count_by is_some kept ≡ 0 → row_in (heights_of kept) p ≡ None
+  none_counted [] p zero = refl
+  none_counted (None ∷ rest) p zero = none_counted rest p zero
+  none_counted (Some k ∷ rest) p zero = absurd (grind (arith, common_steps, zero))
 
   pub point_none : (o : Option (Kept R)) → option_map (λ k. k.point) o ≡ None → o ≡ None
   point_none None h = refl

@@ -127,6 +127,9 @@ impl RecomputeHeap {
         ensures none { IfNone result (IsEmpty self.old) }
         ensures unchanged { IfNone result (self.new ≡ self.old) }
     {
+        if self.buckets.len() == 0 {
+            return None;
+        }
         while self.least <= 128 {
             let height = self.least;
             if let Some((_place, p, ())) = self.buckets.pop(height) {

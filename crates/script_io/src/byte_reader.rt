@@ -12,7 +12,7 @@ use std::marker::Model;
 const BUFFER: usize = 4096;
 
 /// Why there is no next byte.
-#[derive(Clone, Copy, Debug, PartialEq, Eq)]
+#[derive(Clone, Copy, PartialEq, Eq)]
 pub enum Stop {
     End,
     Limit,
@@ -20,7 +20,7 @@ pub enum Stop {
 }
 
 /// Bytes that were read from a source, and how many of them were taken so far.
-#[derive(Debug, Drop)]
+#[derive(Drop)]
 pub struct ByteReader {
     buffer: Vec<u8>,
     start: usize,

@@ -2,7 +2,7 @@
 use std::alloc::AllocError;
 
 /// How a run ended.
-#[derive(Clone, Copy, Debug, PartialEq, Eq)]
+#[derive(Clone, Copy, PartialEq, Eq)]
 pub enum Ending {
     /// The input was read to its end, and no line was refused.
     Accepted,

@@ -13,7 +13,7 @@ use std::marker::Model;
 const LONGEST: usize = 4096;
 
 /// What a reader of lines got.
-#[derive(Clone, Copy, Debug, PartialEq, Eq)]
+#[derive(Clone, Copy, PartialEq, Eq)]
 pub enum Got {
     /// A line, which `line` tells.
     Line,
@@ -34,7 +34,7 @@ pub enum Got {
 /// A reader of the lines of a source. A line ends at a newline, or at the end of the source where at
 /// least one byte stands after the last newline. Each read is offered room for 4,096 bytes, and is made
 /// only where every byte read before was taken and another one is needed.
-#[derive(Debug, Drop)]
+#[derive(Drop)]
 pub struct LineReader {
     bytes: ByteReader,
     line: Vec<u8>,

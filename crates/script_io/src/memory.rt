@@ -24,7 +24,7 @@ fn copy_front(bytes: &[u8], buf: &mut [u8], most: usize) -> usize
 
 /// A source of bytes in memory that gives at most a piece of them in a call, and fails the calls whose
 /// numbers, counted from 1, are listed.
-#[derive(Debug, Drop)]
+#[derive(Drop)]
 pub struct MemSource {
     bytes: Vec<u8>,
     given: usize,
@@ -103,7 +103,7 @@ impl Source for MemSource {
 }
 
 /// A source of bytes in memory that never fails, and gives as much in a call as fits into the buffer.
-#[derive(Debug, Drop)]
+#[derive(Drop)]
 pub struct SureSource {
     bytes: Vec<u8>,
     given: usize,
@@ -152,7 +152,7 @@ impl Source for SureSource {
 
 /// A sink into memory that has room for a number of bytes, and fails the calls whose numbers, counted
 /// from 1, are listed.
-#[derive(Debug, Drop)]
+#[derive(Drop)]
 pub struct MemSink {
     bytes: Vec<u8>,
     room: usize,
@@ -233,7 +233,7 @@ impl Sink for MemSink {
 }
 
 /// A sink that takes each piece whole, keeps nothing and never fails. It doesn't tell what was written.
-#[derive(Clone, Copy, Debug, Default)]
+#[derive(Clone, Copy, Default)]
 pub struct SureSink;
 
 impl SureSink {

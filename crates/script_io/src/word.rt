@@ -5,7 +5,7 @@ use std::convert::AsStr;
 use std::marker::Model;
 
 /// A word of the command line, seen as its bytes.
-#[derive(Debug, Drop)]
+#[derive(Drop)]
 pub struct Word {
     text: String,
 }

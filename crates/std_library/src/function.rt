@@ -12,7 +12,7 @@ use inc_value::{FnId, FnKind, FnRef, Sig, Ty, Value};
 use std::alloc::{AllocError, Global};
 
 /// A function of the standard library. Integers have 64 bits.
-#[derive(Clone, Copy, Debug, PartialEq, Eq)]
+#[derive(Clone, Copy, PartialEq, Eq)]
 pub enum Function {
     /// The sum of two integers, wrapping.
     Add,

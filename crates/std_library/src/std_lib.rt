@@ -8,7 +8,7 @@ use std::alloc::{AllocError, Global};
 use std::marker::Model;
 
 /// The functions that scripts may use, with how often they were called.
-#[derive(Debug, Drop)]
+#[derive(Drop)]
 pub struct StdLib {
     calls: u64,
     wants: u64,

@@ -64,10 +64,16 @@ fn let_of(alloc: Global, tokens: &mut Cursor<'_, '_>) -> Result<Option<Line>, Al
         return Ok(None);
     };
     if !tokens.is_empty() {
+        drop(formula);
         return Ok(None);
     }
-    let name = Name::new(alloc, name)?;
-    Ok(Some(Line::Let { name, formula }))
+    match Name::new(alloc, name) {
+        Ok(name) => Ok(Some(Line::Let { name, formula })),
+        Err(error) => {
+            drop(formula);
+            Err(error)
+        }
+    }
 }
 
 /// `observe NAME NAME`, behind its first word.

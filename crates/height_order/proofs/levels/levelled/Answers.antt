@@ -1,8 +1,9 @@
-use Rattle.height_order.proofs.Levelling.{levelled_more}
+use Rattle.height_order.proofs.Sounding.{sound_rows, levelled_rows}
 use Rattle.height_order.proofs.levels.levelled.Goals as goal
 
-pub loop-p-preserved : goal.loop-p-preserved
-loop-p-preserved c =
-    levelled_more c.args.heights.now c.args.links.now c.loop-p.queue c.loop-p.levels c.requires.sound c.loop-p.invariant c.in-Some.p c.in-Some._height
-    c.in-Some.ensures.was c.in-Some.ensures.least c.pop_least.new.self c.add_at.new.heights c.height_over-height.result c.in-Some.ensures.changes
-    c.in_ok-add_at.ensures.added c.height_over-height.ensures.above c.height_over-height.ensures.near
+pub level_queued-done-requires-clause-sound : goal.level_queued-done-requires-clause-sound
+level_queued-done-requires-clause-sound c = sound_rows c.args.heights.now c.in_ok-queue.queue c.args.links.now c.in_ok-queue.ensures c.requires.sound
+
+pub returns-in-Ok : goal.returns-in-Ok
+returns-in-Ok c =
+    levelled_rows c.args.heights.now c.in_ok-queue.queue c.level_queued-done.new.levels c.args.links.now c.in_ok-queue.ensures c.in-Ok.ensures

@@ -5,14 +5,14 @@ use Rattle.necessary_graph.proofs.Room.{room_added, room_kept, one_more}
 use Rattle.necessary_graph.proofs.Standing.{same_in_step, added_in_step}
 use Rattle.necessary_graph.proofs.graph.NecessaryGraph.add.Goals as goal
 
-pub invariant_of-self-in_err-add : goal.invariant_of-self-in_err-add
-invariant_of-self-in_err-add c =
+pub invariant_of-self-in_err-add_at : goal.invariant_of-self-in_err-add_at
+invariant_of-self-in_err-add_at c =
     let i = c.self.inside in
-    let heights = c.in_err-add.ensures.err in
+    let heights = c.in_err-add_at.ensures.err in
     let heap = c.reserve.ensures.points in (
-      rw c.add.ensures.links c.self.invariant.0,
-      same_in_step (part_of i.heights i.needs i.heap) c.self.invariant.1 c.add.new.self.heights c.reserve.new.self heights heap,
-      room_kept i.heights.heights c.add.new.self.heights i.heap c.reserve.new.self i.points c.self.invariant.2 (λ a. ap is_some (heights a))
+      rw c.add_at.ensures.links c.self.invariant.0,
+      same_in_step (part_of i.heights i.needs i.heap) c.self.invariant.1 c.add_at.new.self.heights c.reserve.new.self heights heap,
+      room_kept i.heights.heights c.add_at.new.self.heights i.heap c.reserve.new.self i.points c.self.invariant.2 (λ a. ap is_some (heights a))
           (λ a. ap is_some (heap a)) c.reserve.ensures.count c.reserve.ensures.spare,
     )
 
@@ -20,11 +20,11 @@ pub invariant_of-self-2 : goal.invariant_of-self-2
 invariant_of-self-2 c =
     let i = c.self.inside in
     let absent = rw (← c.self.view_is) at c.requires.absent in
-    let added = c.in_ok-add.ensures.added in
+    let added = c.in_ok-add_at.ensures.added in
     let heap = c.reserve.ensures.points in
     let e : c.in_ok-points.points ≡ i.points + 1 = one_more _ _ _ _ c.checked_add.ensures c.in_ok-points.ensures.ok_part in (
-      rw c.add.ensures.links c.self.invariant.0,
-      added_in_step (part_of i.heights i.needs i.heap) c.self.invariant.1 c.add.new.self.heights c.reserve.new.self c.args.p absent added heap,
-      rw e (room_added i.heights.heights c.add.new.self.heights i.heap c.reserve.new.self i.points c.args.p 0 c.self.invariant.2 added heap
+      rw c.add_at.ensures.links c.self.invariant.0,
+      added_in_step (part_of i.heights i.needs i.heap) c.self.invariant.1 c.add_at.new.self.heights c.reserve.new.self c.args.p c.args.height c.requires.low absent added heap,
+      rw e (room_added i.heights.heights c.add_at.new.self.heights i.heap c.reserve.new.self i.points c.args.p c.args.height c.self.invariant.2 added heap
           c.reserve.ensures.count (omega (arith, e, c.len.ensures, c.reserve.ensures.count, c.in_ok-reserve.ensures.room))),
     )

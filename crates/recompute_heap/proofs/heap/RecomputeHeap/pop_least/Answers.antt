@@ -3,7 +3,7 @@ use Rattle.std.specs.Prelude.{option_and_then}
 use Rattle.point_map.specs.Rows.{at}
 use Rattle.point_map.specs.Buckets.{kept_at}
 use Rattle.recompute_heap.specs.Agree.{Agree, heights_of}
-use Rattle.recompute_heap.proofs.Agreeing.{agree_off, height_off, height_none, view_at, every_off, every_height, none_there}
+use Rattle.recompute_heap.proofs.Agreeing.{agree_off, height_off, height_none, view_at, every_off, every_height, none_there, none_counted}
 use Rattle.recompute_heap.proofs.heap.RecomputeHeap.pop_least.Goals as goal
 
 pub remove-place-requires : goal.remove-place-requires
@@ -99,3 +99,7 @@ returns-clause-none c = λ p.
     let out = c.loop-self-test.false in
     sym (ap (λ m. at m p) view) ∙ none_there now.buckets now.least p c.loop-self.invariant.2
     (subst (λ b. (i : _) (k : _) → kept_at b i ≡ Some k → k.bucket ≤ 128) (sym bs) c.self.invariant.5) (omega (arith, out))
+
+pub returns-then-len-eq0-clause-none : goal.returns-then-len-eq0-clause-none
+returns-then-len-eq0-clause-none c = λ p.
+    sym (ap (λ m. at m p) c.self.view_is) ∙ none_counted c.self.inside.buckets.kept p (sym c.len.ensures ∙ c.if-len-eq0.true)

@@ -6,8 +6,8 @@ use Rattle.height_order.proofs.Climbing.{climbing_none, climbing_first, climbing
 use Rattle.height_order.proofs.Ending.{climbing_ends}
 use Rattle.height_order.proofs.Pending.{pop_keeps, pending_less}
 use Rattle.height_order.proofs.Points.{some_there}
-use Rattle.height_order.proofs.climb.lift_all.Goals.{then-level_of-height+in_ok-lift, else-level_of-height}
-use Rattle.height_order.proofs.climb.lift_all.Goals as goal
+use Rattle.height_order.proofs.climb.lift_queued.Goals.{then-level_of-height+in_ok-lift, else-level_of-height}
+use Rattle.height_order.proofs.climb.lift_queued.Goals as goal
 
 pub loop-x-init : goal.loop-x-init
 loop-x-init c =
@@ -22,8 +22,8 @@ loop-x-init c =
             level heights p,
             subst (λ m. IsClimbing heights c.args.links.now p q m c.if-level_of-height.queue (level heights p) p []) (sym w.lifts-is)
                 (subst (λ k. IsClimbing heights c.args.links.now p q w.lift.new.lifts k (level heights p) p []) (sym w.queue-is)
-                (climbing_first heights c.args.links.now p q c.requires.sound c.args.lifts.now w.lift.new.lifts c.in_ok-queue.queue w.lift.new.queue c.requires.none
-                c.in_ok-queue.ensures.empty (record { height = c.level_of-height.result + 1; kid = q }) refl (omega (arith, a)) (omega (arith, a, b, t)) c.requires.reader
+                (climbing_first heights c.args.links.now p q c.requires.sound c.args.lifts.now w.lift.new.lifts c.args.queue.now w.lift.new.queue c.requires.none
+                c.requires.empty (record { height = c.level_of-height.result + 1; kid = q }) refl (omega (arith, a)) (omega (arith, a, b, t)) c.requires.reader
                 c.requires.other w.in_ok-lift.ensures)),
           )
       | else-level_of-height w ↦
@@ -31,7 +31,7 @@ loop-x-init c =
             0,
             subst (λ m. IsClimbing heights c.args.links.now p q m c.if-level_of-height.queue 0 p []) (sym w.lifts-is)
                 (subst (λ k. IsClimbing heights c.args.links.now p q c.args.lifts.now k 0 p []) (sym w.queue-is)
-                (climbing_none heights c.args.links.now p q c.requires.sound c.args.lifts.now c.in_ok-queue.queue c.requires.none c.in_ok-queue.ensures.empty
+                (climbing_none heights c.args.links.now p q c.requires.sound c.args.lifts.now c.args.queue.now c.requires.none c.requires.empty
                 (omega (arith, a, b, t)))),
           )
     ]

@@ -1,0 +1,51 @@
+use Rattle.std.proofs.Common.{◌∙◌, ◌++◌, refl, ap, sym, subst, arith}
+use Rattle.height_order.specs.Levels.{level, IsSound, KeepsPoints, Tells}
+use Rattle.height_order.proofs.Points.{still_there}
+use Rattle.height_order.proofs.Sounding.{sound_same, sound_levelled, sound_lifted}
+use Rattle.height_order.proofs.Answering.{memory_told, made_told}
+use Rattle.height_order.proofs.linking.link_at.Goals as goal
+
+pub returns-in-Ok-add_told-clause-sound : goal.returns-in-Ok-add_told-clause-sound
+returns-in-Ok-add_told-clause-sound c =
+    let old = c.args.heights.now in
+    let levels = c.args.levels.now in
+    let links = c.args.links.now in
+    let by = c.requires.levelling in
+    subst (λ m. IsSound m c.add_told.new.links) (sym c.swap.ensures.x_after)
+    (sound_lifted levels c.write_lifts.new.heights links c.args.new.reader c.args.new.kid c.args.lifts.now
+    (sound_levelled old levels links c.requires.sound by) c.requires.climbed c.requires.low
+    c.write_lifts.ensures.written c.add_told.new.links c.in-Ok-add_told.ensures.linked c.write_lifts.ensures.points
+    (still_there old levels c.args.new.reader by.points c.requires.reader) (still_there old levels c.args.new.kid by.points c.requires.kid))
+
+pub returns-in-Ok-add_told-clause-answer : goal.returns-in-Ok-add_told-clause-answer
+returns-in-Ok-add_told-clause-answer c =
+    let old = c.args.heights.now in
+    let points : KeepsPoints old c.swap.new.x =
+    subst (KeepsPoints old) (sym c.swap.ensures.x_after) (λ x. c.write_lifts.ensures.points x ∙ c.requires.levelling.points x) in
+    let moved : Tells (level old) (level c.swap.new.x) c.args.moved.now.items c.add_told.new.moved.items =
+    subst (λ m. Tells (level old) (level m) c.args.moved.now.items c.add_told.new.moved.items) (sym c.swap.ensures.x_after) (record {
+      list = c.in-Ok.list.items;
+      appended = c.in-Ok-add_told.ensures.told ∙ ap (λ xs. c.args.moved.now.items ++ xs) c.deref.ensures.value;
+      moved = c.in-Ok.ensures;
+    }) in
+    made_told (record { heights = old; links = c.args.links.now }) c.args.new.reader c.args.new.kid c.args.moved.now.items
+    (record { heights = c.swap.new.x; links = c.add_told.new.links }) c.add_told.new.moved.items tt
+    c.in-Ok-add_told.ensures.linked (returns-in-Ok-add_told-clause-sound c)
+    (λ higher. absurd (let n = c.requires.not_higher in omega (arith, higher, n))) points moved
+
+pub returns-clause-sound : goal.returns-clause-sound
+returns-clause-sound c =
+    sound_same c.args.links.now c.add_told.new.links c.args.heights.now c.in-Err-add_told.ensures.err c.requires.sound
+
+pub returns-clause-answer : goal.returns-clause-answer
+returns-clause-answer c =
+    memory_told (record { heights = c.args.heights.now; links = c.args.links.now }) c.args.new.reader c.args.new.kid c.args.moved.now.items
+    (record { heights = c.args.heights.now; links = c.add_told.new.links }) c.add_told.new.moved.items
+    c.in-Err-add_told.ensures.err refl c.in-Err-add_told.ensures.untold
+    (sound_same c.args.links.now c.add_told.new.links c.args.heights.now c.in-Err-add_told.ensures.err c.requires.sound)
+
+pub returns-in-Err-clause-answer : goal.returns-in-Err-clause-answer
+returns-in-Err-clause-answer c =
+    memory_told (record { heights = c.args.heights.now; links = c.args.links.now }) c.args.new.reader c.args.new.kid c.args.moved.now.items
+    (record { heights = c.args.heights.now; links = c.args.links.now }) c.args.moved.now.items
+    (λ a b. refl) refl refl c.requires.sound
