@@ -14,14 +14,14 @@ use Rattle.necessity.specs.Need.{root_times}
 use Rattle.node_arena.specs.Arena.{Arena, row_at, IsLive}
 use Rattle.node_arena.specs.Graph.{AllCallFit}
 use Rattle.stabilize_round.proofs.Points.{same_or_other}
-use Rattle.stabilizer.specs.Computing.{seen_of, seen}
+use Rattle.node_outcomes.specs.Computing.{seen_of, seen}
 use Rattle.stabilizer.specs.Kept.{IsKept}
-use Rattle.stabilizer.specs.Meaning.{functions_of, lists_none}
+use Rattle.node_outcomes.specs.Meaning.{functions_of, lists_none}
 use Rattle.stabilizer.specs.Round.{IsReady}
-use Rattle.stabilizer.specs.Row.{IsRewritten, with_cutoff}
+use Rattle.node_outcomes.specs.Row.{IsRewritten, with_cutoff}
 use Rattle.stabilizer.specs.declared.parts.Parts.{Parts}
 use Rattle.stabilizer.specs.declared.refused.Refused.{Refused}
-use Rattle.stabilizer.specs.declared.row.Progress.{Progress}
+use Rattle.node_outcomes.specs.declared.row.Progress.{Progress}
 use Rattle.graph.specs.Effects.{SetsCutoff}
 use Rattle.graph.specs.Sound.{IsSound, ReadOlder}
 use Rattle.graph.specs.Standing.{Standing}

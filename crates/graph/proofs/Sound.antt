@@ -10,10 +10,10 @@ use Rattle.inc_terms.specs.Depend.{main}
 use Rattle.point_map.specs.Rows.{at}
 use Rattle.necessity.specs.Need.{root_times}
 use Rattle.node_arena.specs.Graph.{AllCallFit}
-use Rattle.stabilizer.specs.Computing.{seen_of}
-use Rattle.stabilizer.specs.Meaning.{functions_of, lists_none}
+use Rattle.node_outcomes.specs.Computing.{seen_of}
+use Rattle.node_outcomes.specs.Meaning.{functions_of, lists_none}
 use Rattle.stabilizer.specs.Round.{IsReady}
-use Rattle.stabilizer.specs.declared.row.Progress.{Progress}
+use Rattle.node_outcomes.specs.declared.row.Progress.{Progress}
 use Rattle.stabilizer.specs.declared.parts.Parts.{Parts}
 use Rattle.graph.specs.Standing.{in_use}
 use Rattle.graph.specs.Sound.{CanStabilize, ReadOlder}

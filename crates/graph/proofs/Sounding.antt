@@ -20,7 +20,7 @@ use Rattle.node_arena.specs.declared.arena.AddFault.TheVariants as add
 use Rattle.node_arena.specs.Arena.{Arena, row_at, Changes, IsSet, NamesGiven}
 use Rattle.node_arena.specs.Graph.{AllCallFit, CallsFit}
 use Rattle.stabilize_round.proofs.Points.{node_or_other}
-use Rattle.stabilizer.specs.Meaning.{functions_of, lists_none}
+use Rattle.node_outcomes.specs.Meaning.{functions_of, lists_none}
 use Rattle.stabilizer.specs.Round.{IsReady}
 use Rattle.stabilizer.specs.declared.parts.Parts.{Parts}
 use Rattle.stabilizer.specs.declared.refused.Refused.{Refused}

@@ -18,8 +18,8 @@ use Rattle.node_arena.specs.Arena.{Arena, row_at}
 use Rattle.node_arena.specs.Graph.{graph_of}
 use Rattle.node_arena.specs.Meanings.{KeepsKnown}
 use Rattle.stabilize_round.specs.State.{count}
-use Rattle.stabilizer.specs.Computing.{seen}
-use Rattle.stabilizer.specs.Meaning.{functions_of}
+use Rattle.node_outcomes.specs.Computing.{seen}
+use Rattle.node_outcomes.specs.Meaning.{functions_of}
 use Rattle.stabilizer.specs.Round.{AreRooted, IsReady, IsUpToDate, WasCalled, IsLawful, IsListed}
 use Rattle.stabilizer.specs.declared.parts.Parts.{Parts}
 use Rattle.stabilizer.specs.declared.refused.Refused.{Refused}

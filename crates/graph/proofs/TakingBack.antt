@@ -20,7 +20,7 @@ use Rattle.stabilize_round.specs.State.{count}
 use Rattle.stabilize_round.proofs.Points.{count_among}
 use Rattle.stabilizer.specs.Between.{IsBetween}
 use Rattle.stabilizer.specs.Round.{IsReady, AreRooted}
-use Rattle.stabilizer.specs.Meaning.{functions_of, lists_none}
+use Rattle.node_outcomes.specs.Meaning.{functions_of, lists_none}
 use Rattle.stabilizer.specs.declared.parts.Parts.{Parts}
 use Rattle.stabilizer.specs.declared.refused.Refused.{Refused}
 use Rattle.stabilizer.specs.declared.work.Work.{Work}

@@ -14,12 +14,12 @@ use Rattle.point_map.specs.Rows.{Rows, at}
 use Rattle.necessity.specs.Need.{Roots, root_times, OneRootMore}
 use Rattle.stabilize_round.proofs.Points.{among_count, same_or_other}
 use Rattle.stabilizer.specs.Between.{outcome_in}
-use Rattle.stabilizer.specs.Computing.{seen_of}
+use Rattle.node_outcomes.specs.Computing.{seen_of}
 use Rattle.node_arena.specs.Arena.{Arena}
 use Rattle.node_arena.specs.Graph.{AllCallFit}
-use Rattle.stabilizer.specs.Meaning.{functions_of, lists_none}
+use Rattle.node_outcomes.specs.Meaning.{functions_of, lists_none}
 use Rattle.stabilizer.specs.Round.{IsReady, AreRooted}
-use Rattle.stabilizer.specs.declared.row.Progress.{Progress}
+use Rattle.node_outcomes.specs.declared.row.Progress.{Progress}
 use Rattle.stabilizer.specs.declared.parts.Parts.{Parts}
 use Rattle.stabilizer.specs.declared.refused.Refused.{Refused}
 use Rattle.graph.specs.Standing.{in_use, looked_at}

@@ -14,7 +14,7 @@ use Rattle.necessity.specs.Need.{root_times, KeepsRoots}
 use Rattle.node_arena.specs.Arena.{row_at, Changes, IsLive, IsFull, IsSet, NamesGiven}
 use Rattle.node_arena.specs.Typing.{Makes}
 use Rattle.stabilizer.specs.Round.{last_call, never_at}
-use Rattle.stabilizer.specs.Row.{IsRewritten, with_cutoff}
+use Rattle.node_outcomes.specs.Row.{IsRewritten, with_cutoff}
 use Rattle.graph.specs.Standing.{Standing, node_at, shown_of}
 use Rattle.graph.specs.declared.fault.Kept.{Kept}
 use Rattle.graph.specs.declared.fault.GraphFault.{GraphFault}

@@ -9,8 +9,8 @@ use Rattle.inc_terms.specs.Graph.{Row, kids}
 use Rattle.inc_terms.specs.Within.{Given}
 use Rattle.node_arena.specs.Arena.{Arena, row_at}
 use Rattle.node_arena.specs.Graph.{AllCallFit}
-use Rattle.stabilizer.specs.Computing.{seen}
-use Rattle.stabilizer.specs.Meaning.{functions_of, lists_none}
+use Rattle.node_outcomes.specs.Computing.{seen}
+use Rattle.node_outcomes.specs.Meaning.{functions_of, lists_none}
 use Rattle.stabilizer.specs.Round.{IsReady, AreRooted}
 use Rattle.stabilizer.specs.declared.parts.Parts.{Parts}
 use Rattle.stabilizer.specs.declared.refused.Refused.{Refused}

@@ -6,7 +6,7 @@ use Rattle.inc_value.specs.declared.outcome.Outcome.{Outcome}
 use Rattle.inc_terms.specs.Depend.{main}
 use Rattle.inc_terms.specs.Graph.{Graph}
 use Rattle.node_arena.specs.Graph.{graph_of}
-use Rattle.stabilizer.specs.Computing.{seen}
+use Rattle.node_outcomes.specs.Computing.{seen}
 use Rattle.stabilizer.specs.declared.parts.Parts.{Parts}
 use Rattle.stabilizer.specs.declared.refused.Refused.{Refused}
 use Rattle.graph.specs.Fault.{kept_of}

@@ -96,7 +96,19 @@ impl<F: Functions> Graph<F> {
     pub fn into_functions(self) -> F
         ensures { result ≡ self.functions }
     {
-        self.functions
+        let Graph {
+            functions,
+            parts,
+            observers,
+            invalid,
+            refused,
+            ..
+        } = self;
+        drop(parts);
+        drop(observers);
+        drop(invalid);
+        drop(refused);
+        functions
     }
 
     /// What a refused stabilize met, if one was refused.

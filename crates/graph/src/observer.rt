@@ -6,7 +6,7 @@ use inc_value::NodeId;
 use std::alloc::{AllocError, Global};
 
 /// An observer of a node, and whether it is in use.
-#[derive(Clone, Copy, Debug)]
+#[derive(Clone, Copy)]
 pub(crate) struct Observer {
     pub node: NodeId,
     pub in_use: bool,

@@ -17,8 +17,8 @@ use Rattle.stabilize_round.proofs.Points.{node_or_other}
 use Rattle.stabilizer.specs.Between.{Stays, KeepsWork}
 use Rattle.stabilizer.specs.Kept.{IsKept}
 use Rattle.stabilizer.specs.Wiring.{KeepsRound}
-use Rattle.stabilizer.specs.declared.row.Progress.{Progress}
-use Rattle.stabilizer.specs.declared.row.Stage.TheVariants.{Bare}
+use Rattle.node_outcomes.specs.declared.row.Progress.{Progress}
+use Rattle.node_outcomes.specs.declared.row.Stage.TheVariants.{Bare}
 use Rattle.stabilizer.specs.declared.work.Work.{Work}
 use Rattle.stabilizer.proofs.Between.{same_some, need_same}
 
@@ -49,9 +49,9 @@ no_row arena work id kept gen = by_row (at work.rows (main id)) refl
 abbrev pub unsettled : Progress
 unsettled = record { stage = Bare; settled = 0; outcome = None; last = None; cutoff = Equal }
 
-module _ (before arena : Arena) (old work : Work) (id : NodeId) (row : Row) (kept : IsKept before old) (gen : id.gen_ ≡ before.given)
+module _ (before arena : Arena) (old work : Work) (id : NodeId) (row : Row) (height : ℕ) (kept : IsKept before old) (gen : id.gen_ ≡ before.given)
     (added : nodes.Changes before arena id (Some row)) (top : row.scope ≡ None) (given : arena.given ≡ before.given + 1)
-    (rows : Changes old.rows work.rows (main id) (Some unsettled)) (points : Changes old.graph.heights work.graph.heights (main id) (Some 0))
+    (rows : Changes old.rows work.rows (main id) (Some unsettled)) (points : Changes old.graph.heights work.graph.heights (main id) (Some height))
     (links : work.graph.links ≡ old.graph.links) (roots : work.graph.roots ≡ old.graph.roots)
     (heap : (p : Point) → at work.graph.heap p ≡ at old.graph.heap p) (step : IsInStep work.graph) (round : KeepsRound old work)
     (todo : work.todo.items ≡ old.todo.items) where
@@ -177,8 +177,8 @@ came_and_went old mid new p row none came went q = elim (point_cases q p) [
   | inr ne ↦ went.others q ne ∙ came.others q ne
 ]
 
-module _ (arena : Arena) (old mid : Work) (id : NodeId) (kept : IsKept arena old) (gen : id.gen_ ≡ arena.given)
-    (rows : Changes old.rows mid.rows (main id) (Some unsettled)) (points : Changes old.graph.heights mid.graph.heights (main id) (Some 0))
+module _ (arena : Arena) (old mid : Work) (id : NodeId) (height : ℕ) (kept : IsKept arena old) (gen : id.gen_ ≡ arena.given)
+    (rows : Changes old.rows mid.rows (main id) (Some unsettled)) (points : Changes old.graph.heights mid.graph.heights (main id) (Some height))
     (links : mid.graph.links ≡ old.graph.links) (roots : mid.graph.roots ≡ old.graph.roots)
     (heap : (p : Point) → at mid.graph.heap p ≡ at old.graph.heap p) (round : KeepsRound old mid) (todo : mid.todo.items ≡ old.todo.items) where
   -- a new point isn't needed
@@ -191,7 +191,7 @@ module _ (arena : Arena) (old mid : Work) (id : NodeId) (kept : IsKept arena old
       → work.todo.items ≡ mid.todo.items → KeepsWork old work
   dropped_again work rows' points' links' roots' heap' round' todo' = record {
     rows = came_and_went old.rows mid.rows work.rows (main id) unsettled (no_row arena old id kept gen) rows rows';
-    points = came_and_went old.graph.heights mid.graph.heights work.graph.heights (main id) 0 (absent arena old id kept gen) points points';
+    points = came_and_went old.graph.heights mid.graph.heights work.graph.heights (main id) height (absent arena old id kept gen) points points';
     links = links' ∙ links;
     roots = roots' ∙ roots;
     heap = λ p. ap (λ (h : Rows ℕ). at h p) heap' ∙ heap p;

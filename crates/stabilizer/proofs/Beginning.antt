@@ -1,5 +1,5 @@
 -- A round begins: at the count of calls of now, with the last calls that the rows keep.
-use Rattle.std.proofs.Common.{◌≡◌, inl, inr, ℕ, true, List, Option, None, Some, refl, sym, ap, ◌∙◌}
+use Rattle.std.proofs.Common.{◌≡◌, inl, inr, ℕ, true, List, Option, None, Some, refl, sym, ap, ◌∙◌, false}
 use Rattle.std.specs.Prelude.{is_some, ◌↔◌}
 use Rattle.std.proofs.Math.Path.{fun_ext}
 use Rattle.inc_value.specs.declared.function.FnRef.{FnRef}
@@ -14,11 +14,13 @@ use Rattle.point_map.specs.Rows.{at}
 use Rattle.necessary_graph.specs.Part.{Needed}
 use Rattle.node_arena.specs.Arena.{Arena, row_at}
 use Rattle.node_arena.specs.Meanings.{SameValues}
+use Rattle.stabilize_round.proofs.Freezing.{other_rests}
+use Rattle.stabilizer.proofs.Between.{no_freeze}
 use Rattle.stabilize_round.specs.Invariant.{Recalls}
 use Rattle.stabilize_round.specs.Machine.{Entry}
 use Rattle.stabilize_round.specs.State.{State, Start}
 use Rattle.stabilizer.specs.Round.{IsReady, last_of, last_call, never_at}
-use Rattle.stabilizer.specs.Row.{never_in}
+use Rattle.node_outcomes.specs.Row.{never_in}
 use Rattle.stabilizer.specs.Stands.{Stands}
 use Rattle.stabilizer.specs.declared.work.Work.{Work}
 
@@ -40,6 +42,7 @@ pub record Begun (F : Functions) (arena : Arena) (work : Work) (count : ℕ) : T
   pub calls : start.calls ≡ count
   pub last : (n : NodeId) → start.last n ≡ last_call work n
   pub never : (n : NodeId) → start.never n ≡ never_at work n
+  pub stale : (n : NodeId) → start.stale n ≡ false
   pub held : (p : Point) → (start.held p ≡ true) ↔ Needed work.graph p
 
 module _ (F : Functions) (arena : Arena) (work : Work) (ready : IsReady F arena work) (count : ℕ) where
@@ -70,6 +73,7 @@ module _ (F : Functions) (arena : Arena) (work : Work) (ready : IsReady F arena 
     out = ready.stands.out;
     last = λ n k e. ap last_of e;
     never = λ n k e. ap never_in e;
+    stale = ready.stands.stale;
     links = ready.stands.links;
     root = ready.stands.root;
     needed = ready.stands.needed;
@@ -104,7 +108,7 @@ module _ (F : Functions) (arena : Arena) (work : Work) (ready : IsReady F arena 
     scoped = ready.entry.scoped;
     rooted = ready.entry.rooted;
     built = ready.entry.built;
-    fresh = λ p r row need. elim (ready.entry.fresh p r row need) [ inl h ↦ inl h | inr a ↦ inr (a.0, recalls p a.1) ];
+    fresh = λ p r row need. elim (ready.entry.fresh p r row need) [ inl h ↦ inl h | inr a ↦ inr (a.0, recalls p a.1, a.2) ];
     settled = ready.entry.settled;
     owed = ready.entry.owed;
     todo = ready.entry.todo;
@@ -115,6 +119,8 @@ module _ (F : Functions) (arena : Arena) (work : Work) (ready : IsReady F arena 
     held = λ p. refl;
     last = λ n. refl;
     never = λ n. refl;
+    stale = ready.entry.stale;
+    unfired = λ n. other_rests state n (λ r kid f row is. no_freeze arena n r kid f (sym (ap (λ G. G.row n) ready.stands.graph) ∙ row) is);
     calls = refl;
     answers = λ n r kids c row def e. ready.entry.answers n r kids c row def (sym (last_known n r row) ∙ e);
   }
@@ -128,5 +134,6 @@ module _ (F : Functions) (arena : Arena) (work : Work) (ready : IsReady F arena 
     calls = refl;
     last = λ n. refl;
     never = λ n. refl;
+    stale = λ n. ready.entry.stale n ∙ ready.stands.stale n;
     held = ready.stands.needed;
   }

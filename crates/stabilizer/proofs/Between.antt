@@ -4,6 +4,7 @@ use Rattle.std.proofs.Common.{refl, sym, ap, subst, ◌∙◌, arith, slice_inde
 use Rattle.std.specs.Prelude.{is_some, reverse, ◌↔◌}
 use Rattle.std.proofs.lemmas.Bool.Decides.{nat_tests}
 use Rattle.std.proofs.lemmas.Option.{none-some}
+use Rattle.inc_value.specs.declared.function.FnRef.{FnRef}
 use Rattle.inc_value.specs.declared.node.NodeId.{NodeId}
 use Rattle.inc_value.specs.declared.node.Part.{Part}
 use Rattle.inc_value.specs.declared.node.Part.TheVariants.{Main}
@@ -31,21 +32,22 @@ use Rattle.node_arena.specs.Arena.{Arena, row_at}
 use Rattle.node_arena.specs.Graph.{graph_of}
 use Rattle.stabilize_round.specs.State as machine
 use Rattle.stabilize_round.specs.State.{State, Start, Call, count, planned, plan_at, live_plan}
-use Rattle.stabilize_round.specs.Calling.{taken_by}
-use Rattle.stabilize_round.proofs.Calling.{listed_taken}
-use Rattle.stabilize_round.specs.Invariant.{Recalls}
+use Rattle.inc_terms.specs.Work.{taken_by}
+use Rattle.stabilize_round.proofs.Freezing.{other_rests}
+use Rattle.inc_terms.specs.Graph as spec
+use Rattle.stabilize_round.specs.Invariant.{Recalls, IsUnmarked}
 use Rattle.stabilize_round.specs.Machine.{Entry as Begins}
 use Rattle.stabilize_round.proofs.Points.{among_count}
 use Rattle.stabilizer.specs.Between.{IsBetween, IsFresh, Stays, outcome_in}
-use Rattle.stabilizer.specs.Computing.{seen, seen_of}
+use Rattle.node_outcomes.specs.Computing.{seen, seen_of}
 use Rattle.stabilizer.specs.Deciding.{is_needed}
 use Rattle.stabilizer.specs.Kept.{IsKept}
 use Rattle.stabilizer.specs.Round.{IsReady, last_of}
-use Rattle.stabilizer.specs.Row.{settled_in, stage_of, never_in}
+use Rattle.node_outcomes.specs.Row.{settled_in, stage_of, never_in}
 use Rattle.stabilizer.specs.Stands.{Stands}
-use Rattle.stabilizer.specs.declared.row.Progress.{Progress}
-use Rattle.stabilizer.specs.declared.row.Stage.{Stage}
-use Rattle.stabilizer.specs.declared.row.Stage.TheVariants as code
+use Rattle.node_outcomes.specs.declared.row.Progress.{Progress}
+use Rattle.node_outcomes.specs.declared.row.Stage.{Stage}
+use Rattle.node_outcomes.specs.declared.row.Stage.TheVariants as code
 use Rattle.stabilizer.specs.declared.work.Work.{Work}
 use Rattle.stabilizer.proofs.Deciding.{decides_needed}
 use Rattle.stabilizer.proofs.Flat.{plan_is_kids}
@@ -68,6 +70,38 @@ by_entry g r (Some x) h = by_test x r (x.gen_ == g) h
 
 pub code_row : (a : Arena) (n : NodeId) (r : Row) → row_at a n ≡ Some r → (d : declared.Def) × (r.def ≡ def_of d)
 code_row a n r e = by_entry n.gen_ r (slice_index_or a.slots n.slot None) e
+
+-- what a node's function is called on is what its definition lists
+listed_taken : (a : Arena) (n : NodeId) (r : Row) (ns : List NodeId) → row_at a n ≡ Some r → taken_by (graph_of a) n r.def ≡ Some ns → kids r.def ≡ ns
+listed_taken a n r ns row takes = let d = code_row a n r row in ap kids d.1 ∙ by_def d.0 (sym (ap (taken_by (graph_of a) n) d.1) ∙ takes)
+  where
+    by_def : (d : declared.Def) → taken_by (graph_of a) n (def_of d) ≡ Some ns → kids (def_of d) ≡ ns
+    by_def (form.Const v) e = absurd cc
+    by_def (form.Var v) e = absurd cc
+    by_def (form.Map g ks) e = cc
+    by_def (form.Fold g v ks) e = cc
+
+-- whatever the graph
+pub taken_code : (a b : Arena) (n : NodeId) (r : Row) (ns : List NodeId) → row_at b n ≡ Some r → taken_by (graph_of b) n r.def ≡ Some ns
+    → taken_by (graph_of a) n r.def ≡ Some ns
+taken_code a b n r ns row takes = let d = code_row b n r row in
+    ap (taken_by (graph_of a) n) d.1 ∙ by_def d.0 (sym (ap (taken_by (graph_of b) n) d.1) ∙ takes)
+  where
+    by_def : (d : declared.Def) → taken_by (graph_of b) n (def_of d) ≡ Some ns → taken_by (graph_of a) n (def_of d) ≡ Some ns
+    by_def (form.Const v) e = e
+    by_def (form.Var v) e = e
+    by_def (form.Map g ks) e = e
+    by_def (form.Fold g v ks) e = e
+
+-- the code has no freezes yet
+pub no_freeze : (a : Arena) (n : NodeId) (r : Row) (kid : NodeId) (f : FnRef) → row_at a n ≡ Some r → r.def ≡ spec.Freeze kid f → ⊥
+no_freeze a n r kid f row is = let d = code_row a n r row in by_def d.0 (sym d.1 ∙ is)
+  where
+    by_def : (d : declared.Def) → def_of d ≡ spec.Freeze kid f → ⊥
+    by_def (form.Const v) e = cc
+    by_def (form.Var v) e = cc
+    by_def (form.Map g ks) e = cc
+    by_def (form.Fold g v ks) e = cc
 
 at_part : NodeId → Part → Point
 at_part n part = record { node = n; part = part }
@@ -172,10 +206,14 @@ module _ (F : Functions) (arena : Arena) (work : Work) (ready : IsReady F arena 
         shows = ap outcome_in k.1 ∙ (sym (ready.stands.out (main n) k.0 k.1) ∙ a.1);
         gives = own_of F s.graph (graph_of arena) (shown s.graph s.out) (seen work.rows) n r.def d.0 d.1 (seen_now (kids r.def)) ∙ a.2;
         recalls = λ nodes values def e.
-            let c = recalls r nodes values (row_now n r row) refl def
+            let c = recalls r nodes values (row_now n r row) refl
+            (subst (λ (G : Graph). taken_by G n r.def ≡ Some nodes) (sym ready.stands.graph) def)
             (sym (gathered_same F s.graph (shown s.graph s.out) (seen work.rows) nodes (seen_now nodes)) ∙ e) in
             (c.0, ap last_of k.1 ∙ (sym (ready.stands.last n k.0 k.1) ∙ c.1), c.2);
       }
+
+  plain_links : (p q : Point) → s.needed p ≡ true → s.links p q ≡ count q (planned s p)
+  plain_links p q need = let e = ready.entry.links p q need in let o = ready.stands.owed p in let e' = rw o at e in omega arith
 
   pub ready_is_between : IsBetween F arena work
   ready_is_between = record {
@@ -187,13 +225,14 @@ module _ (F : Functions) (arena : Arena) (work : Work) (ready : IsReady F arena 
         let r = node_of arena work ready.kept p.node k here in
         is_full k.stage (sym (ready.stands.stage (main p.node) k here) ∙ stage_now p.node r.0 needed r.1);
     links = λ n r need row q.
-        sym (ready.stands.links (main n) q) ∙ (ready.entry.links (main n) q ((ready.stands.needed (main n)).1 need)
+        sym (ready.stands.links (main n) q) ∙ (plain_links (main n) q ((ready.stands.needed (main n)).1 need)
         ∙ ap (count q) (planned_now n r need row));
     fresh = λ n r need row. elim (ready.entry.fresh (main n) r (row_now n r row) ((ready.stands.needed (main n)).1 need)) [
       | inl h ↦ inl (sym (ready.stands.heap (main n)) ∙ h)
       | inr a ↦ inr (fresh_now n r row a.0 a.1)
     ];
-    answers = λ n r nodes k c row def e last. ready.entry.answers n r nodes c (row_now n r row) def (ready.stands.last n k e ∙ last);
+    answers = λ n r nodes k c row def e last. ready.entry.answers n r nodes c (row_now n r row)
+        (subst (λ (G : Graph). taken_by G n r.def ≡ Some nodes) (sym ready.stands.graph) def) (ready.stands.last n k e ∙ last);
     unsettled = λ p. sym (ready.stands.settled p) ∙ ready.entry.settled p;
     numbered = ready.numbered;
     strict = sym ready.stands.strict ∙ ready.entry.strict;
@@ -230,10 +269,11 @@ state_of need arena work = record {
   adds = 0;
   given = arena.given;
   never = λ n. never_in (at work.rows (main n));
+  stale = λ n. false;
 }
 
 abbrev start_of : (Point → Bool) → Work → Start
-start_of need work = record { held = need; last = λ n. last_of (at work.rows (main n)); calls = 0; known = λ f. false; ids = λ f. []; never = λ n. never_in (at work.rows (main n)) }
+start_of need work = record { held = need; last = λ n. last_of (at work.rows (main n)); calls = 0; known = λ f. false; ids = λ f. []; never = λ n. never_in (at work.rows (main n)); stale = λ n. false }
 
 none_of : (n : ℕ) → (0 < n → ⊥) → n ≡ 0
 none_of zero h = refl
@@ -281,7 +321,7 @@ module _ (F : Functions) (arena : Arena) (work : Work) (b : IsBetween F arena wo
       → Recalls now.graph (shown now.graph now.out) now.last (main n)
   recalls_then n r row fresh r' nodes values row' part def e =
       let same : r ≡ r' = same_some (sym row ∙ row') in
-      fresh.recalls nodes values (ap (λ (x : Row). taken_by x.def) same ∙ def)
+      fresh.recalls nodes values (ap (λ (x : Row). taken_by now.graph n x.def) same ∙ def)
       (sym (gathered_same F (graph_of arena) (seen work.rows) (shown now.graph now.out) nodes (seen_then nodes)) ∙ e)
 
   stands_then : Stands arena work 0 None now
@@ -290,6 +330,7 @@ module _ (F : Functions) (arena : Arena) (work : Work) (b : IsBetween F arena wo
     out = λ p k e. ap outcome_in e;
     last = λ n k e. ap last_of e;
     never = λ n k e. ap never_in e;
+    stale = λ n. refl;
     links = λ p q. refl;
     root = λ p. refl;
     needed = exact;
@@ -307,13 +348,14 @@ module _ (F : Functions) (arena : Arena) (work : Work) (b : IsBetween F arena wo
   }
 
   fresh_then : (p : Point) (r : Row) → row_at arena p.node ≡ Some r → Needed work.graph p → (now.heap p ≡ true)
-      ⊎ (Agrees F now.graph now.out p × Recalls now.graph (shown now.graph now.out) now.last p)
+      ⊎ (Agrees F now.graph now.out p × Recalls now.graph (shown now.graph now.out) now.last p × IsUnmarked now.stale p)
   fresh_then p r row n =
       let is = main_is p (needed_is_main arena work b.kept p n) in
-      subst (λ (x : Point). (now.heap x ≡ true) ⊎ (Agrees F now.graph now.out x × Recalls now.graph (shown now.graph now.out) now.last x)) (sym is)
+      subst (λ (x : Point). (now.heap x ≡ true) ⊎ (Agrees F now.graph now.out x × Recalls now.graph (shown now.graph now.out) now.last x
+      × IsUnmarked now.stale x)) (sym is)
       (elim (b.fresh p.node r (subst (λ (x : Point). Needed work.graph x) is n) row) [
         | inl h ↦ inl h
-        | inr f ↦ inr (agrees_then p.node r row f, recalls_then p.node r row f)
+        | inr f ↦ inr (agrees_then p.node r row f, recalls_then p.node r row f, λ part. refl)
       ])
 
   entry_then : Begins F (start_of need work) now
@@ -338,8 +380,8 @@ module _ (F : Functions) (arena : Arena) (work : Work) (b : IsBetween F arena wo
     links = λ p q t.
         let n = (exact p).0 t in
         let is = main_is p (needed_is_main arena work b.kept p n) in
-        subst (λ (x : Point). times work.graph.links x q ≡ count q (planned now x)) (sym is)
-        (links_then p.node q (subst (λ (x : Point). Needed work.graph x) is n));
+        let e = subst (λ (x : Point). times work.graph.links x q ≡ count q (planned now x)) (sym is)
+        (links_then p.node q (subst (λ (x : Point). Needed work.graph x) is n)) in omega arith;
     full = λ p r row t. stage_then p ((exact p).0 t);
     bare = λ p t e. absurd (let f : now.stage p ≡ machine.Full = stage_then p ((exact p).0 t) in let h = sym f ∙ e in cc);
     scoped = λ n r c row sc. absurd (none-some c (sym (b.kept.flat n r row) ∙ sc));
@@ -350,8 +392,8 @@ module _ (F : Functions) (arena : Arena) (work : Work) (b : IsBetween F arena wo
     ];
     fresh = λ p r row t. fresh_then p r row ((exact p).0 t);
     settled = b.unsettled;
-    owed = λ p. refl;
-    todo = λ p. refl;
+    owed = λ p h. refl;
+    todo = λ p need h. absurd (let e = h in cc);
     strict = refl;
     ran = refl;
     taken = refl;
@@ -359,6 +401,8 @@ module _ (F : Functions) (arena : Arena) (work : Work) (b : IsBetween F arena wo
     held = λ p. refl;
     last = λ n. refl;
     never = λ n. refl;
+    stale = λ n. refl;
+    unfired = λ n. other_rests now n (λ r kid f row is. no_freeze arena n r kid f row is);
     calls = refl;
     answers = λ n r nodes c row def last.
         let k = row_of arena work b.kept n r row in
@@ -417,8 +461,8 @@ module _ (F : Functions) (before arena : Arena) (old work : Work) (b : IsBetween
         shows = ap outcome_in (stays.rows (main n) need) ∙ f.shows;
         gives = own_of F (graph_of before) (graph_of arena) (seen old.rows) (seen work.rows) n r.def d.0 d.1 (seen_still n r need row) ∙ f.gives;
         recalls = λ nodes values def e.
-            let c = f.recalls nodes values def (sym (gathered_same F (graph_of arena) (seen old.rows) (seen work.rows) nodes
-            (λ q a. seen_still n r need row q (subst (λ (ns : List NodeId). Among q (map main ns)) (sym (listed_taken r.def nodes def)) a))) ∙ e) in
+            let c = f.recalls nodes values (taken_code before arena n r nodes row def) (sym (gathered_same F (graph_of arena) (seen old.rows) (seen work.rows) nodes
+            (λ q a. seen_still n r need row q (subst (λ (ns : List NodeId). Among q (map main ns)) (sym (listed_taken arena n r nodes row def)) a))) ∙ e) in
             (c.0, ap last_of (stays.rows (main n) need) ∙ c.1, c.2);
       }
 

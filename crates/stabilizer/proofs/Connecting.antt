@@ -37,13 +37,13 @@ use Rattle.stabilize_round.proofs.Steps.{joined}
 use Rattle.stabilizer.specs.Growing.{PushesOne}
 use Rattle.stabilizer.specs.Kept.{IsKept}
 use Rattle.stabilizer.specs.Refusing.{IsHeightOf, IsCycleOf, IsWhy, RefusedBy}
-use Rattle.stabilizer.specs.Row.{IsRewritten, with_stage}
+use Rattle.node_outcomes.specs.Row.{IsRewritten, with_stage}
 use Rattle.stabilizer.specs.Stands.{Stands, Hand, hand}
 use Rattle.stabilizer.specs.Wiring.{IsWoken, IsReached, Looks, Connects, ConnectRefused, KeepsNeed}
 use Rattle.stabilizer.specs.declared.refused.Refused.{Refused}
 use Rattle.stabilizer.specs.declared.refused.Refused.TheVariants.{Height, Cycle, Full, Memory}
-use Rattle.stabilizer.specs.declared.row.Progress.{Progress}
-use Rattle.stabilizer.specs.declared.row.Stage.TheVariants as code
+use Rattle.node_outcomes.specs.declared.row.Progress.{Progress}
+use Rattle.node_outcomes.specs.declared.row.Stage.TheVariants as code
 use Rattle.stabilizer.specs.declared.work.Work.{Work}
 use Rattle.stabilizer.proofs.Flat.{no_targets}
 use Rattle.stabilizer.proofs.Linking.{IsBefore, row_before, linked_stands, linked_new_stands, some_or_none}

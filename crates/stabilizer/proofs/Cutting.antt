@@ -14,9 +14,9 @@ use Rattle.stabilize_round.specs.State.{State, Start}
 use Rattle.stabilize_round.proofs.Points.{same_or_other, node_or_other}
 use Rattle.stabilizer.specs.Kept.{IsKept}
 use Rattle.stabilizer.specs.Round.{IsReady, never_at}
-use Rattle.stabilizer.specs.Row.{IsRewritten, with_cutoff, settled_in, stage_of, never_in}
+use Rattle.node_outcomes.specs.Row.{IsRewritten, with_cutoff, settled_in, stage_of, never_in}
 use Rattle.stabilizer.specs.Stands.{Stands}
-use Rattle.stabilizer.specs.declared.row.Progress.{Progress}
+use Rattle.node_outcomes.specs.declared.row.Progress.{Progress}
 use Rattle.stabilizer.specs.declared.work.Work.{Work}
 use Rattle.stabilizer.proofs.Keeping.{kept_rewritten}
 use Rattle.stabilizer.proofs.Adding.{unsettled}
@@ -87,6 +87,7 @@ module _ (arena : Arena) (old : Work) (rows : Rows Progress) (id : NodeId) (c : 
       out = λ p k e. let b = row_was p k e in ready.stands.out p b.row b.was ∙ sym b.outcome;
       last = λ n k e. let b = row_was (main n) k e in ready.stands.last n b.row b.was ∙ sym b.last;
       never = λ n k e. ap never_in e;
+      stale = ready.stands.stale;
       links = ready.stands.links;
       root = ready.stands.root;
       needed = ready.stands.needed;
@@ -132,6 +133,8 @@ module _ (arena : Arena) (old : Work) (rows : Rows Progress) (id : NodeId) (c : 
       held = ready.entry.held;
       last = ready.entry.last;
       never = λ n. refl;
+      stale = ready.entry.stale;
+      unfired = ready.entry.unfired;
       calls = ready.entry.calls;
       answers = ready.entry.answers;
     }

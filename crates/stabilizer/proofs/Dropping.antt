@@ -16,9 +16,9 @@ use Rattle.stabilize_round.proofs.Points.{node_or_other}
 use Rattle.stabilizer.specs.Between.{Stays, HasDropped}
 use Rattle.stabilizer.specs.Kept.{IsKept}
 use Rattle.stabilizer.specs.Round.{IsReady, never_at}
-use Rattle.stabilizer.specs.Row.{never_in}
+use Rattle.node_outcomes.specs.Row.{never_in}
 use Rattle.stabilizer.specs.Wiring.{KeepsRound}
-use Rattle.stabilizer.specs.declared.row.Progress.{Progress}
+use Rattle.node_outcomes.specs.declared.row.Progress.{Progress}
 use Rattle.stabilizer.specs.declared.work.Work.{Work}
 use Rattle.stabilizer.proofs.Between.{need_same}
 use Rattle.stabilizer.proofs.Adding.{main_other}

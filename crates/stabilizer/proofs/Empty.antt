@@ -13,7 +13,7 @@ use Rattle.node_arena.specs.Arena.{Arena, row_at}
 use Rattle.stabilizer.specs.Between.{IsBetween}
 use Rattle.stabilizer.specs.Kept.{IsKept}
 use Rattle.stabilizer.specs.Round.{IsReady}
-use Rattle.stabilizer.specs.Row.{settled_in}
+use Rattle.node_outcomes.specs.Row.{settled_in}
 use Rattle.stabilizer.specs.declared.work.Work.{Work}
 use Rattle.stabilizer.proofs.Between.{between_is_ready}
 

@@ -37,8 +37,15 @@ use Rattle.recompute_heap.specs.Agree.{IsEmpty}
 use Rattle.node_arena.specs.Arena.{Arena, row_at, row_of}
 use Rattle.node_arena.specs.declared.arena.Entry as arena_entry
 use Rattle.node_arena.specs.Graph.{graph_of}
+use Rattle.inc_terms.specs.Need.{IsRoot}
+use Rattle.stabilize_round.specs.Calling as reason
+use Rattle.stabilize_round.specs.Calling.{Reason}
+use Rattle.stabilize_round.specs.Freezing.{fires_at}
+use Rattle.stabilize_round.proofs.Freezing.{other_rests, graph_rests}
+use Rattle.stabilizer.specs.Round.{WasForced}
 use Rattle.stabilize_round.specs.Closing.{closed, Close, next_start}
-use Rattle.stabilize_round.specs.Calling.{taken_by, cost_at, costs_of}
+use Rattle.inc_terms.specs.Work.{taken_by}
+use Rattle.stabilize_round.specs.Calling.{cost_at, costs_of}
 use Rattle.stabilize_round.specs.Counts.{RoseBy}
 use Rattle.stabilize_round.proofs.Planned.{reads_taken}
 use Rattle.stabilize_round.specs.Ended.{RootsAre, Ended}
@@ -52,12 +59,12 @@ use Rattle.stabilize_round.proofs.Low.{links_are}
 use Rattle.stabilize_round.proofs.Meanings.{round_keeps, round_is_right, round_again}
 use Rattle.stabilize_round.proofs.Parts.{bool_cases}
 use Rattle.stabilize_round.proofs.Points.{count_among, among_count}
-use Rattle.stabilizer.specs.Computing.{seen, seen_of}
+use Rattle.node_outcomes.specs.Computing.{seen, seen_of}
 use Rattle.stabilizer.specs.Kept.{IsKept}
 use Rattle.stabilizer.specs.Round.{IsReady, AreRooted, last_of, last_call, never_at, WasCalled, IsUpToDate}
-use Rattle.stabilizer.specs.Row.{settled_in, is_never, never_in}
+use Rattle.node_outcomes.specs.Row.{settled_in, is_never, never_in}
 use Rattle.stabilizer.specs.Stands.{Stands}
-use Rattle.stabilizer.specs.declared.row.Progress.{Progress}
+use Rattle.node_outcomes.specs.declared.row.Progress.{Progress}
 use Rattle.stabilizer.specs.declared.work.Work.{Work}
 use Rattle.stabilizer.proofs.Beginning.{Begun}
 use Rattle.stabilizer.proofs.Counting.{within}
@@ -96,7 +103,8 @@ leaf_plan q machine.Static = refl
 leaf_plan q machine.Full = refl
 
 -- where no node died nothing is let go when the round is closed
-module _ (F : Functions) (z : Start) (t : State) (inv : Invariant F z t) (quiet : Quiet t) (died : (n : NodeId) → t.died n ≡ None) where
+module _ (F : Functions) (z : Start) (t : State) (inv : Invariant F z t) (quiet : Quiet t) (died : (n : NodeId) → t.died n ≡ None)
+    (observed : List NodeId) (are : RootsAre t observed) (still : (n : NodeId) → fires_at t n ≡ None) where
   gone : (a b : Point) → t.needed a ≡ false → t.links a b ≡ 0
   gone a b e = none_then (t.links a b) (λ l. let k = inv.web.from a b l in absurd (cc))
 
@@ -106,9 +114,13 @@ module _ (F : Functions) (z : Start) (t : State) (inv : Invariant F z t) (quiet 
     | inl need ↦ rw (row, died a.node) at (links_are F z t inv quiet a b need) ∙ leaf_plan b (t.stage a)
   ]
 
-  pub closes : Close t t.links t.needed
+  pub closes : Close t observed t.root t.links t.needed
   closes = record {
-    live = λ a b r row need. refl;
+    on = λ n r. are.on n (subst (λ (G : Graph). IsRoot G observed n) (graph_rests t still) r);
+    fewer = λ a. omega arith;
+    off = λ n v e. absurd (let x = still n in cc);
+    fired = λ n r v b row need e. absurd (let x = still n in cc);
+    live = λ a b r row need k. refl;
     dead = dead;
     gone = gone;
     was = λ a need. need;
@@ -339,9 +351,12 @@ module _ (F : Functions) (arena : Arena) (old mid : Work) (before after : ℕ) (
   ended : Ended F begun.start last observed
   ended = round_is_right F begun.start begun.state last observed begun.entry moves are quiet none
 
-  again : Entry F (next_start begun.start last last.needed) (closed last last.links last.needed)
-  again = (round_again F begun.start begun.state last observed begun.entry moves are quiet none last.links last.needed
-      (closes F begun.start last inv quiet (λ n. refl))).0
+  still : (n : NodeId) → fires_at last n ≡ None
+  still n = other_rests last n (λ r kid f row is. let d = code_def arena n r row in no_freeze d.0 kid f (sym d.1 ∙ is))
+
+  again : Entry F (next_start begun.start last last.needed) (closed last last.root last.links last.needed)
+  again = (round_again F begun.start begun.state last observed begun.entry moves are quiet none last.root last.links last.needed
+      (closes F begun.start last inv quiet (λ n. refl) observed are still)).0
 
   abbrev IsWanted : Point → Type 0
   IsWanted p = Needed F G none_died observed p
@@ -371,7 +386,7 @@ module _ (F : Functions) (arena : Arena) (old mid : Work) (before after : ℕ) (
   last_is n r row = last_case (at mid.rows (main n)) (row_at arena n) r (t.last n) (kept.rows n) row (λ k e. stands.last n k e)
 
   kid_wanted : (n : NodeId) (r : Row) (nodes : List NodeId) (k : NodeId) → part.Needed mid.graph (main n) → row_at arena n ≡ Some r
-      → taken_by r.def ≡ Some nodes → Among k nodes → IsWanted (main k)
+      → taken_by G n r.def ≡ Some nodes → Among k nodes → IsWanted (main k)
   kid_wanted n r nodes k need row def a =
       let among : Among (main k) (fixed_reads G n r.def Main) =
       reads_taken G n r.def nodes (main k) def (among_map main k nodes a) in
@@ -379,7 +394,7 @@ module _ (F : Functions) (arena : Arena) (old mid : Work) (before after : ℕ) (
       (fixed row (ended.exact (main n) ((stands.needed (main n)).1 need) r row).0 among)
 
   recalls : (n : NodeId) (r : Row) (nodes : List NodeId) (values : List Value) → part.Needed mid.graph (main n) → row_at arena n ≡ Some r
-      → taken_by r.def ≡ Some nodes → GiveAll F G nodes values → (c : Call) × (last_call mid n ≡ Some c) × (c.arguments ≡ values)
+      → taken_by G n r.def ≡ Some nodes → GiveAll F G nodes values → (c : Call) × (last_call mid n ≡ Some c) × (c.arguments ≡ values)
   recalls n r nodes values need row def gives =
       let all = gathered_by F G t.out nodes values gives (λ k a. ended.sees k (kid_wanted n r nodes k need row def a)) in
       let c = ended.recalls (main n) ((stands.needed (main n)).1 need) r nodes values row refl def all in
@@ -398,7 +413,7 @@ module _ (F : Functions) (arena : Arena) (old mid : Work) (before after : ℕ) (
   -- cutoffs stay
   cutoffs : (n : NodeId) → never_at mid n ≡ never_at old n
   cutoffs n = never_case (at mid.rows (main n)) (at old.rows (main n)) (kept.rows n ∙ sym (first.rows n)) (λ k e.
-      sym (stands.never n k e) ∙ (inv.accounts.never n ∙ begun.never n))
+      sym (stands.never n k e) ∙ (inv.accounts.cutoffs n ∙ begun.never n))
 
   is_met : (p : Point) → MetNow F begun.start G none_died t.root p → Met F G none_died observed (λ (q : Point). part.Needed old.graph q) p
   is_met p (invariant.from_root {r} root way) =
@@ -418,18 +433,21 @@ module _ (F : Functions) (arena : Arena) (old mid : Work) (before after : ℕ) (
         takes = c.takes;
         answers = c.answers;
         gives = c.gives;
-        reason = elim c.reason [
-          | inl differs ↦ inl (λ k e. differs k (begun.last n ∙ e))
-          | inr k ↦ inr (
-            k.0,
-            k.1,
-            sym (begun.never k.0) ∙ k.2,
-            sym (ap (λ (r : ℕ). settled_in r (at mid.rows (main k.0))) same_round) ∙ (sym (stands.settled (main k.0)) ∙ k.3),
-          )
-        ];
+        reason = by_reason c.kids c.values c.reason;
         is_last = last_is n c.row c.is_row ∙ c.is_last;
         met = is_met (main n) c.met;
       }
+    where
+      by_reason : (kids : List NodeId) (values : List Value) → Reason begun.start.last begun.start.never last.settled begun.start.stale n kids values
+          → ((c : Call) → last_call old n ≡ Some c → c.arguments ≡ values → ⊥) ⊎ WasForced old mid kids
+      by_reason kids values (reason.other differs) = inl (λ k e. differs k (begun.last n ∙ e))
+      by_reason kids values (reason.forced {kid} a never settled) = inr (
+        kid,
+        a,
+        sym (begun.never kid) ∙ never,
+        sym (ap (λ (r : ℕ). settled_in r (at mid.rows (main kid))) same_round) ∙ (sym (stands.settled (main kid)) ∙ settled),
+      )
+      by_reason kids values (reason.made_stale marked) = absurd (let x = begun.stale n in cc)
 
   -- the count of calls rose by what each costs
   pub counted : RoseBy before (costs_of G mid.ran.items) after
@@ -492,12 +510,13 @@ module _ (F : Functions) (arena : Arena) (old mid : Work) (before after : ℕ) (
       rounds = λ p k e. let l = kept.rounds p k e in rw round (omega arith);
     }
 
-    stands_next : Stands arena next t.calls None (closed last last.links last.needed)
+    stands_next : Stands arena next t.calls None (closed last last.root last.links last.needed)
     stands_next = record {
-      graph = refl;
+      graph = graph_rests last still;
       out = stands.out;
       last = stands.last;
       never = stands.never;
+      stale = stands.stale;
       links = stands.links;
       root = stands.root;
       needed = stands.needed;
@@ -518,7 +537,7 @@ module _ (F : Functions) (arena : Arena) (old mid : Work) (before after : ℕ) (
     ready_again = subst (λ (w : Work). IsReady F arena w) is_next (record {
       kept = keeps;
       start = next_start begun.start last last.needed;
-      state = closed last last.links last.needed;
+      state = closed last last.root last.links last.needed;
       stands = stands_next;
       entry = again;
       todo = idle;

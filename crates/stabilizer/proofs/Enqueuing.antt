@@ -11,10 +11,10 @@ use Rattle.necessary_graph.specs.Part.{NecessaryPart, Needed, IsInStep}
 use Rattle.necessary_graph.specs.Readers.{HasReaders}
 use Rattle.necessary_graph.proofs.Standing.{has_level, put_in_step}
 use Rattle.stabilize_round.proofs.Parts.{bool_cases}
-use Rattle.stabilizer.specs.Row.{IsRewritten, settled_in, with_stage}
+use Rattle.node_outcomes.specs.Row.{IsRewritten, settled_in, with_stage}
 use Rattle.stabilizer.specs.Wiring.{KeepsGraph, IsEnqueued, AreEnqueued, IsWoken}
-use Rattle.stabilizer.specs.declared.row.Progress.{Progress}
-use Rattle.stabilizer.specs.declared.row.Stage.TheVariants.{Bare}
+use Rattle.node_outcomes.specs.declared.row.Progress.{Progress}
+use Rattle.node_outcomes.specs.declared.row.Stage.TheVariants.{Bare}
 use Rattle.stabilizer.specs.declared.work.Work.{Work}
 
 -- where just the heap changed, all else of the graph stays

@@ -10,7 +10,7 @@ use Rattle.necessary_graph.specs.Part.{NecessaryPart, Needed, IsInStep}
 use Rattle.stabilize_round.proofs.Counts.{no_more, fewer_than}
 use Rattle.stabilizer.specs.Deciding.{is_needed}
 use Rattle.stabilizer.specs.Growing.{PushesOne, unneeded, Grows}
-use Rattle.stabilizer.specs.declared.row.Progress.{Progress}
+use Rattle.node_outcomes.specs.declared.row.Progress.{Progress}
 use Rattle.stabilizer.specs.declared.work.Work.{Work}
 use Rattle.stabilizer.proofs.Deciding.{decides_needed}
 

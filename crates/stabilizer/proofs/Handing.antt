@@ -31,13 +31,13 @@ use Rattle.stabilize_round.proofs.Points.{same_or_other, at_same, at_other}
 use Rattle.stabilizer.specs.Growing.{PushesOne, Grows}
 use Rattle.stabilizer.specs.Kept.{IsKept}
 use Rattle.stabilizer.specs.Refusing.{RefusedBy, TellsWhy}
-use Rattle.stabilizer.specs.Row.{IsRewritten, with_stage, stage_of, stage_in}
+use Rattle.node_outcomes.specs.Row.{IsRewritten, with_stage, stage_of, stage_in}
 use Rattle.stabilizer.specs.Stands.{Stands, hand}
 use Rattle.stabilizer.specs.Wiring.{KeepsRound, Connects, ConnectRefused, Wires, WireRefused, KeepsNeed, IsRowed}
 use Rattle.stabilizer.specs.declared.refused.Refused.{Refused}
-use Rattle.stabilizer.specs.declared.row.Progress.{Progress}
-use Rattle.stabilizer.specs.declared.row.Stage.{Stage}
-use Rattle.stabilizer.specs.declared.row.Stage.TheVariants as code
+use Rattle.node_outcomes.specs.declared.row.Progress.{Progress}
+use Rattle.node_outcomes.specs.declared.row.Stage.{Stage}
+use Rattle.node_outcomes.specs.declared.row.Stage.TheVariants as code
 use Rattle.stabilizer.specs.declared.work.Work.{Work}
 use Rattle.stabilizer.proofs.Flat.{no_targets, plan_is_kids, depends_on_kid, kid_is_confirmed}
 use Rattle.stabilizer.proofs.Growing.{grows_by_one, grows_then}
@@ -120,6 +120,7 @@ module _ (F : Functions) (z : Start) (s : State) (arena : Arena) (work : Work) (
       out = st.out;
       last = st.last;
       never = st.never;
+      stale = st.stale;
       links = st.links;
       root = st.root;
       needed = st.needed;

@@ -19,10 +19,10 @@ use Rattle.node_arena.specs.Arena.{Arena, row_at}
 use Rattle.stabilize_round.specs.State.{Call}
 use Rattle.stabilize_round.proofs.Points.{same_or_other}
 use Rattle.stabilizer.specs.Kept.{IsKept}
-use Rattle.stabilizer.specs.Row.{IsRewritten, with_stage}
+use Rattle.node_outcomes.specs.Row.{IsRewritten, with_stage}
 use Rattle.stabilizer.specs.Wiring.{KeepsGraph}
-use Rattle.stabilizer.specs.declared.row.Progress.{Progress}
-use Rattle.stabilizer.specs.declared.row.Stage.{Stage}
+use Rattle.node_outcomes.specs.declared.row.Progress.{Progress}
+use Rattle.node_outcomes.specs.declared.row.Stage.{Stage}
 use Rattle.stabilizer.specs.declared.work.Work.{Work}
 
 -- ---- rows

@@ -23,11 +23,11 @@ use Rattle.stabilize_round.proofs.Parts.{bool_cases}
 use Rattle.stabilize_round.proofs.Points.{same_or_other, at_same, at_other}
 use Rattle.stabilizer.specs.Growing.{unneeded, Grows}
 use Rattle.stabilizer.specs.Kept.{IsKept}
-use Rattle.stabilizer.specs.Row.{stage_of, stage_in}
+use Rattle.node_outcomes.specs.Row.{stage_of, stage_in}
 use Rattle.stabilizer.specs.Stands.{Stands, hand}
 use Rattle.stabilizer.specs.Wiring.{KeepsRound, Looks, Wires, WireRefused, KeepsNeed}
-use Rattle.stabilizer.specs.declared.row.Stage.{Stage}
-use Rattle.stabilizer.specs.declared.row.Stage.TheVariants as code
+use Rattle.node_outcomes.specs.declared.row.Stage.{Stage}
+use Rattle.node_outcomes.specs.declared.row.Stage.TheVariants as code
 use Rattle.stabilizer.specs.declared.work.Work.{Work}
 use Rattle.stabilizer.proofs.Growing.{points_of, row_is_listed}
 use Rattle.stabilizer.proofs.Handing.{moves_then, is_main, same_need, need_then, nothing, owes_nothing, leaves_hand, full_finishes}
@@ -72,6 +72,7 @@ module _ (F : Functions) (z : Start) (s : State) (arena : Arena) (work : Work) (
     out = st.out;
     last = st.last;
     never = st.never;
+    stale = st.stale;
     links = st.links;
     root = st.root;
     needed = st.needed;

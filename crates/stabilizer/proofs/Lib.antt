@@ -1,5 +1,3 @@
-pub mod Folding
-pub mod Rewriting
 pub mod Enqueuing
 pub mod Linking
 pub mod Rooting
@@ -12,7 +10,6 @@ pub mod Connecting
 pub mod Handing
 pub mod Leaving
 pub mod Putting
-pub mod Computing
 pub mod Settling
 pub mod Carrying
 pub mod Mains

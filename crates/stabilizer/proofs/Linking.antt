@@ -23,12 +23,12 @@ use Rattle.stabilize_round.specs.Moves.{Enqueues}
 use Rattle.stabilize_round.specs.Wire.{linked, newly, IsIt, Link, IsConfirmed, raised, Raise, finished, Finish}
 use Rattle.stabilize_round.proofs.Parts.{bool_cases}
 use Rattle.stabilize_round.proofs.Points.{same_or_other, at_same, at_other}
-use Rattle.stabilizer.specs.Row.{IsRewritten, with_stage, settled_in, stage_of, is_never}
+use Rattle.node_outcomes.specs.Row.{IsRewritten, with_stage, settled_in, stage_of, is_never}
 use Rattle.stabilizer.specs.Stands.{Stands, StandsWith, Hand, hand, owed_in, IsInHand}
 use Rattle.stabilizer.specs.Wiring.{IsReached, IsWoken}
-use Rattle.stabilizer.specs.declared.row.Progress.{Progress}
-use Rattle.stabilizer.specs.declared.row.Stage.{Stage}
-use Rattle.stabilizer.specs.declared.row.Stage.TheVariants as code
+use Rattle.node_outcomes.specs.declared.row.Progress.{Progress}
+use Rattle.node_outcomes.specs.declared.row.Stage.{Stage}
+use Rattle.node_outcomes.specs.declared.row.Stage.TheVariants as code
 use Rattle.stabilizer.specs.declared.work.Work.{Work}
 
 -- one link more is one link more in the state
@@ -150,6 +150,7 @@ module _ (F : Functions) (z : Start) (s : State) (arena : Arena) (old : Work) (g
     out = st.out;
     last = st.last;
     never = st.never;
+    stale = st.stale;
     links = links_after;
     root = λ a. st.root a ∙ sym (roots a);
     needed = needed;
@@ -245,6 +246,7 @@ module _ (F : Functions) (z : Start) (s : State) (arena : Arena) (mid new : Work
     out = λ a k e. let b = row_before mid.rows new.rows q code.Bare w.rows a k e in st.out a b.row b.was ∙ sym b.outcome;
     last = λ n k e. let b = row_before mid.rows new.rows q code.Bare w.rows (main n) k e in st.last n b.row b.was ∙ sym b.last;
     never = λ n k e. let b = row_before mid.rows new.rows q code.Bare w.rows (main n) k e in st.never n b.row b.was ∙ ap is_never (sym b.cutoff);
+    stale = st.stale;
     links = λ a b. st.links a b ∙ ap (λ (l : Links). times l a b) (sym w.graph.links);
     root = λ a. st.root a ∙ ap (λ (r : Roots). root_times r a) (sym w.graph.roots);
     needed = needed_now;

@@ -14,13 +14,13 @@ use Rattle.link_table.specs.Links.{Reads}
 use Rattle.height_order.specs.Levels.{level}
 use Rattle.necessary_graph.specs.Part.{NecessaryPart, IsInStep}
 use Rattle.node_arena.specs.Arena.{Arena}
-use Rattle.stabilizer.specs.Computing.{Computes, NotComputed}
+use Rattle.node_outcomes.specs.Computing.{Computes, NotComputed, noted}
 use Rattle.stabilizer.specs.Kept.{IsKept}
-use Rattle.stabilizer.specs.Row.{IsRewritten, with_last, with_outcome, settled_in, is_never}
+use Rattle.node_outcomes.specs.Row.{IsRewritten, with_last, with_outcome, settled_in, is_never}
 use Rattle.stabilizer.specs.Settling.{IsSettled}
 use Rattle.stabilizer.specs.Stepping.{MainIsSettled}
 use Rattle.stabilizer.specs.Wiring.{KeepsGraph, KeepsRound, IsTold, Stops}
-use Rattle.stabilizer.specs.declared.row.Progress.{Progress}
+use Rattle.node_outcomes.specs.declared.row.Progress.{Progress}
 use Rattle.stabilizer.specs.declared.work.Work.{Work}
 use Rattle.stabilizer.proofs.Carrying.{kept_same, settled_kept}
 
@@ -31,9 +31,16 @@ some_row a b e = cc
 pub is_main : (arena : Arena) (work : Work) → IsKept arena work → (p : Point) → Holds work.rows p → p ≡ main p.node
 is_main arena work kept p h = λ i. record { node = p.node; part = (kept.row_mains p h) i }
 
+-- of what a stabilize works on all stays but rows and the list of nodes whose functions were called
+pub record KeepsRest (old new : Work) : Type 0 where
+  pub graph : new.graph ≡ old.graph
+  pub todo : new.todo.items ≡ old.todo.items
+  pub strict : new.strict ≡ old.strict
+  pub round : new.round ≡ old.round
+
 module _ (value : FnRef → List Value → Value) (arena : Arena) (old mid new : Work) (p : Point) (o : Outcome) (before after : ℕ)
     (kept : IsKept arena old) (row : Holds old.rows p) (gone : at old.graph.heap p ≡ None)
-    (c : Computes value arena old mid p.node o before after)
+    (rest : KeepsRest old mid) (c : Computes value arena old.round (noted old.rows old.ran.items before) (noted mid.rows mid.ran.items after) p.node o)
     (rewritten : IsRewritten mid.rows new.rows p (with_outcome o mid.round)) (graph : KeepsGraph mid.graph new.graph)
     (tells : IsTold mid new p o) (round : KeepsRound mid new) (todo : new.todo ≡ mid.todo) where
   abbrev n : NodeId
@@ -52,10 +59,10 @@ module _ (value : FnRef → List Value → Value) (arena : Arena) (old mid new :
   told = subst (λ (x : Point). IsTold mid new x o) same tells
 
   graph_is : mid.graph ≡ old.graph
-  graph_is = c.rest.graph
+  graph_is = rest.graph
 
   round_is : mid.round ≡ old.round
-  round_is = c.rest.round
+  round_is = rest.round
 
   was : at old.rows (main n) ≡ Some c.computed.kept
   was = c.computed.is_kept
@@ -110,8 +117,8 @@ module _ (value : FnRef → List Value → Value) (arena : Arena) (old mid new :
       | inr k ↦ inr (reads p k.0, sym (settled_as p ne) ∙ k.1)
     ];
     ran = round.ran ∙ c.ran;
-    todo = rw todo c.rest.todo;
-    strict = round.strict ∙ c.rest.strict;
+    todo = rw todo rest.todo;
+    strict = round.strict ∙ rest.strict;
     round = round.round ∙ round_is;
   }
     where
@@ -152,6 +159,6 @@ left_kept arena old new kept rows graph round = kept_same arena old new kept row
     (subst IsInStep (sym graph) kept.step)
     (λ p h. kept.heap p (subst (λ (g : NecessaryPart). Holds g.heap p) graph h)) round
 
-pub uncomputed_kept : (arena : Arena) (old mid : Work) (n : NodeId) (before after : ℕ) → IsKept arena old → NotComputed arena old mid n before after
-    → IsKept arena mid
-uncomputed_kept arena old mid n before after kept c = left_kept arena old mid kept c.rows c.rest.graph c.rest.round
+pub uncomputed_kept : (arena : Arena) (old mid : Work) (n : NodeId) (before after : ℕ) → IsKept arena old → KeepsRest old mid
+    → NotComputed arena (noted old.rows old.ran.items before) (noted mid.rows mid.ran.items after) n → IsKept arena mid
+uncomputed_kept arena old mid n before after kept rest c = left_kept arena old mid kept c.rows rest.graph rest.round

@@ -13,6 +13,7 @@ use Rattle.necessity.specs.Need.{Roots, root_times, KeepsRoots, OneRootMore}
 use Rattle.necessary_graph.specs.Part.{NecessaryPart, Needed, IsInStep, AlsoNeeded}
 use Rattle.node_arena.specs.Arena.{Arena, row_at}
 use Rattle.node_arena.specs.Graph.{NoScopes}
+use Rattle.inc_terms.specs.Within.{Given}
 use Rattle.stabilize_round.specs.Machine.{Move, Moves}
 use Rattle.stabilize_round.specs.State.{State, Start}
 use Rattle.stabilize_round.proofs.Machine.{moves_keep}
@@ -69,13 +70,13 @@ module _ (old mid new : Work) (g : NecessaryPart) (p : Point) (newly : Bool) (lo
   fresh : IsTrue newly → Needed mid.graph p → ⊥
   fresh t n = let f = newly_is.1 n in let e = t in cc
 
-  pub root_follows : (arena : Arena) → IsRowed old arena p → Follows arena old new
-  root_follows arena rowed F z s calls st =
+  pub root_follows : (arena : Arena) → Given arena.given p.node → IsRowed old arena p → Follows arena old new
+  root_follows arena given rowed F z s calls st =
       let at_mid = looks_stands s arena old mid calls None looks st in
       let row : is_some (at mid.rows p) ≡ is_some (s.graph.row p.node) =
       ap is_some (looks.rows p) ∙ (rowed ∙ sym (ap (λ (G : Graph). is_some (G.row p.node)) st.graph)) in
       elim (bool_cases newly) [
-        | inl t ↦ rooted_new_stands F z s arena mid g calls p at_mid also more links heights heap new (fresh t) (woken t)
+        | inl t ↦ rooted_new_stands F z s arena mid g calls p at_mid also more links heights heap new given (fresh t) (woken t)
             (same_need g new.graph (λ a. ap (λ (r : Roots). root_times r a) (woken t).graph.roots)
             (λ a b. ap (λ (l : Links). times l a b) (woken t).graph.links)) row
         | inr f ↦ subst (λ (x : Work). (t : State) × Moves F z s t × Stands arena x calls None t) (sym (same f))

@@ -10,6 +10,7 @@ use Rattle.necessity.specs.Need.{Roots, root_times, OneRootMore}
 use Rattle.height_order.specs.Levels.{level}
 use Rattle.necessary_graph.specs.Part.{NecessaryPart, Needed, AlsoNeeded}
 use Rattle.node_arena.specs.Arena.{Arena}
+use Rattle.inc_terms.specs.Within.{Given}
 use Rattle.stabilize_round.specs.State.{State, Start, at_point}
 use Rattle.stabilize_round.specs.Machine as move
 use Rattle.stabilize_round.specs.Machine.{Moves}
@@ -39,6 +40,7 @@ module _ (F : Functions) (z : Start) (s : State) (arena : Arena) (old : Work) (g
     out = st.out;
     last = st.last;
     never = st.never;
+    stale = st.stale;
     links = λ a b. st.links a b ∙ sym (links a b);
     root = roots_more s.root old.graph.roots g.roots p st.root more;
     needed = needed;
@@ -68,7 +70,7 @@ module _ (F : Functions) (z : Start) (s : State) (arena : Arena) (old : Work) (g
     )),
   )
 
-  module _ (new : Work) (fresh : Needed old.graph p → ⊥) (w : IsWoken (record old { graph = g }) new p)
+  module _ (new : Work) (given : Given arena.given p.node) (fresh : Needed old.graph p → ⊥) (w : IsWoken (record old { graph = g }) new p)
       (woken_needs : (a : Point) → Needed new.graph a ↔ Needed g a) (same : is_some (at old.rows p) ≡ is_some (s.graph.row p.node)) where
     now : (a : Point) → Needed new.graph a ↔ (Needed old.graph a ⊎ (a ≡ p))
     now a = (λ n. (also a).0 ((woken_needs a).0 n), λ h. (woken_needs a).1 ((also a).1 h))
@@ -80,4 +82,4 @@ module _ (F : Functions) (z : Start) (s : State) (arena : Arena) (old : Work) (g
         let u = unneeded F z (rooted s p) arena (record old { graph = g }) new calls None p (Needed old.graph) base fresh now refl w same in
         let on = woken_stands F z (rooted s p) arena (record old { graph = g }) new calls None p (Needed old.graph) base fresh now refl w same in
         let h : Enqueues s s.heap (λ a. is_some (at new.graph.heap a)) (IsIt s p) (IsIt s p) = record { kept = e.kept; new = e.new; told = e.told } in
-        (on.0, step (move.root_new u h refl) on.1, on.2)
+        (on.0, step (move.root_new (rw st.given given) u h refl) on.1, on.2)

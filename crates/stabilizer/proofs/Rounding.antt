@@ -20,9 +20,10 @@ use Rattle.necessity.specs.Need.{Roots, root_times, OneRootMore}
 use Rattle.node_arena.specs.Arena.{Arena}
 use Rattle.node_arena.specs.Graph.{graph_of}
 use Rattle.node_arena.specs.Meanings.{SameValues}
+use Rattle.inc_terms.specs.Work.{taken_by}
 use Rattle.stabilize_round.specs.Calling.{cost_at, costs_of}
 use Rattle.stabilize_round.specs.Counts.{RoseBy, RoseAtMost, number_of}
-use Rattle.stabilizer.specs.Computing.{HasCalledSome}
+use Rattle.node_outcomes.specs.Computing.{HasCalledSome}
 use Rattle.stabilize_round.specs.Invariant.{Invariant}
 use Rattle.stabilize_round.specs.Machine.{Move, Moves, Stops, as_it_is, unkept, called_more}
 use Rattle.stabilize_round.specs.State.{State, count}
@@ -33,13 +34,13 @@ use Rattle.stabilize_round.proofs.Machine.{moves_keep}
 use Rattle.stabilize_round.proofs.Points.{same_or_other, one_same, one_other, count_append, count_among}
 use Rattle.stabilize_round.proofs.Steps.{joined, step_moves}
 use Rattle.stabilizer.specs.Kept.{IsKept}
-use Rattle.stabilizer.specs.Meaning.{functions_of}
+use Rattle.node_outcomes.specs.Meaning.{functions_of}
 use Rattle.stabilizer.specs.Round.{IsReady, AreRooted, IsUpToDate, HasCalledFew, IsInRound, RootsMore, OnlyRoots, Settles, SettleRefused}
-use Rattle.stabilizer.specs.Row.{settled_in}
+use Rattle.node_outcomes.specs.Row.{settled_in}
 use Rattle.stabilizer.specs.Stands.{Stands}
 use Rattle.stabilizer.specs.Stepping.{Steps, StepRefused, SettledOneMore, SettlesOne}
 use Rattle.stabilizer.specs.Wiring.{Wires, WireRefused}
-use Rattle.stabilizer.specs.declared.row.Progress.{Progress}
+use Rattle.node_outcomes.specs.declared.row.Progress.{Progress}
 use Rattle.stabilizer.specs.declared.work.Work.{Work}
 use Rattle.stabilizer.proofs.Beginning.{Begun, begun, same_meaning, there_as}
 use Rattle.stabilizer.proofs.Ending.{quiet_of, root_nodes, rooted_observed, all_observed, counted, ready_again, right_again}
@@ -319,7 +320,7 @@ module _ (F : Functions) (arena : Arena) (old rooted : Work) (before : ℕ) (rea
             row = m.0;
             nodes = m.1;
             is_row = subst (λ (G : Graph). G.row n ≡ Some m.0) graph m.2;
-            takes = m.3;
+            takes = subst (λ (G : Graph). taken_by G n m.0.def ≡ Some m.1) graph m.3;
           };
           count = subst (λ (x : ℕ). RoseAtMost before (costs_of (graph_of arena) k.0) x) calls
               (subst (λ (x : ℕ). RoseAtMost x (costs_of (graph_of arena) k.0) u.calls) first.calls
@@ -334,7 +335,8 @@ module _ (F : Functions) (arena : Arena) (old rooted : Work) (before : ℕ) (rea
         elim k.calls [
           | inl e ↦ few_of k.state k.state run (as_it_is refl) k.graph (sym e)
           | inr c ↦ few_of k.state (called_more k.state after) run
-              (unkept k.quiet c.1 (subst (λ (G : Graph). G.row c.0 ≡ Some c.2.caller.row) (sym k.graph) c.2.caller.is_row) c.2.caller.takes
+              (unkept k.quiet c.1 (subst (λ (G : Graph). G.row c.0 ≡ Some c.2.caller.row) (sym k.graph) c.2.caller.is_row)
+              (subst (λ (G : Graph). taken_by G c.0 c.2.caller.row.def ≡ Some c.2.caller.nodes) (sym k.graph) c.2.caller.takes)
               (subst (λ (G : Graph). RoseAtMost k.state.calls (cost_at G c.0) after) (sym k.graph) c.2.count) refl) k.graph refl
         ]
 

@@ -15,12 +15,13 @@ use Rattle.point_map.proofs.Places.{point_cases}
 use Rattle.link_table.specs.Links.{Links, times, Reads}
 use Rattle.necessary_graph.specs.Part.{Needed, IsInStep}
 use Rattle.node_arena.specs.Arena.{Arena, row_at, IsSet, IsVariable, with_value}
+use Rattle.node_arena.specs.Graph.{graph_of}
 use Rattle.stabilize_round.proofs.Points.{node_or_other}
 use Rattle.stabilizer.specs.Between.{IsMarked, Stays}
 use Rattle.stabilizer.specs.Kept.{IsKept}
-use Rattle.stabilize_round.specs.Calling.{taken_by}
+use Rattle.inc_terms.specs.Work.{taken_by}
 use Rattle.stabilizer.specs.Wiring.{KeepsRound}
-use Rattle.stabilizer.specs.declared.row.Progress.{Progress}
+use Rattle.node_outcomes.specs.declared.row.Progress.{Progress}
 use Rattle.stabilizer.specs.declared.work.Work.{Work}
 use Rattle.stabilizer.proofs.Between.{code_row, same_some, need_same}
 
@@ -119,7 +120,7 @@ module _ (before arena : Arena) (old work : Work) (id : NodeId) (v : Value) (kep
     ];
     calls = λ n r nodes k l e def is last. let w = row_was n r e in elim w.same [
       | inl same ↦ (w.is_was ∙ ap Some same, sym (same_rows (main n)) ∙ is)
-      | inr h ↦ absurd (none-some nodes (sym (ap taken_by h.1) ∙ def))
+      | inr h ↦ absurd (none-some nodes (sym (ap (taken_by (graph_of arena) n) h.1) ∙ def))
     ];
     unsettled = λ p k e. inl (sym (same_rows p) ∙ e);
     round = round;

@@ -17,10 +17,11 @@ use Rattle.node_arena.specs.Arena.{Arena}
 use Rattle.stabilize_round.specs.State.{State, Call, Linked, at_point, at_node}
 use Rattle.stabilize_round.specs.Moves.{Enqueues, computed, ran_more}
 use Rattle.stabilize_round.proofs.Points.{same_or_other, at_same, at_other, node_or_other, node_same, node_other}
-use Rattle.stabilizer.specs.Row.{settled_in, stage_of, is_never}
-use Rattle.stabilizer.specs.Settling.{IsSettled, ran_then}
+use Rattle.node_outcomes.specs.Computing.{ran_then}
+use Rattle.node_outcomes.specs.Row.{settled_in, stage_of, is_never}
+use Rattle.stabilizer.specs.Settling.{IsSettled}
 use Rattle.stabilizer.specs.Stands.{Stands}
-use Rattle.stabilizer.specs.declared.row.Progress.{Progress}
+use Rattle.node_outcomes.specs.declared.row.Progress.{Progress}
 use Rattle.stabilizer.specs.declared.work.Work.{Work}
 
 pub same_number : (n : ℕ) → (n == n) ≡ true
@@ -57,6 +58,10 @@ module _ (s : State) (arena : Arena) (old new : Work) (calls calls' : ℕ) (n : 
       | inl h ↦ subst (λ (x : NodeId). at_node n last' s.last x ≡ k.last) h
           (node_same n last' s.last ∙ ap (λ (x : Progress). x.last) (row_now k (subst (λ (x : NodeId). at new.rows (main x) ≡ Some k) (sym h) e)))
       | inr ne ↦ node_other n last' s.last m ne ∙ st.last m k (row_other (main m) k (λ h. ne (ap (λ (x : Point). x.node) h)) e)
+    ];
+    stale = λ m. elim (node_or_other n m) [
+      | inl h ↦ subst (λ (x : NodeId). at_node n false s.stale x ≡ false) h (node_same n false s.stale)
+      | inr ne ↦ node_other n false s.stale m ne ∙ st.stale m
     ];
     never = λ m k e. elim (node_or_other n m) [
       | inl h ↦ subst (λ (x : NodeId). s.never x ≡ is_never k.cutoff) h

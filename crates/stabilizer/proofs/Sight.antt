@@ -20,18 +20,20 @@ use Rattle.point_map.specs.Rows.{Rows, at}
 use Rattle.node_arena.specs.declared.arena.Entry.{Entry}
 use Rattle.node_arena.specs.Arena.{Arena, row_at, row_of}
 use Rattle.node_arena.specs.Graph.{graph_of}
-use Rattle.stabilize_round.specs.Calling.{IsForced}
+use Rattle.inc_terms.specs.Work.{taken_by}
 use Rattle.stabilize_round.specs.Invariant.{Invariant}
 use Rattle.stabilize_round.specs.Laws as law
 use Rattle.stabilize_round.specs.Moves.{Quiet, IsLeast, Calls}
 use Rattle.stabilize_round.specs.State.{State, Start, Call}
 use Rattle.stabilize_round.proofs.Ready.{ready}
-use Rattle.stabilizer.specs.Computing.{IsForcedBy, CallsSeen, KeepsAnswers, seen, seen_of, seen_together}
+use Rattle.stabilize_round.specs.Calling as why
+use Rattle.stabilize_round.specs.Calling.{Reason, other, made_stale}
+use Rattle.node_outcomes.specs.Computing.{IsForced, IsForcedBy, CallsSeen, KeepsAnswers, seen, seen_of, seen_together}
 use Rattle.stabilizer.specs.Kept.{IsKept}
-use Rattle.stabilizer.specs.Meaning.{functions_of}
-use Rattle.stabilizer.specs.Row.{is_never, never_in, settled_in, passes_in}
+use Rattle.node_outcomes.specs.Meaning.{functions_of}
+use Rattle.node_outcomes.specs.Row.{is_never, never_in, settled_in, passes_in}
 use Rattle.stabilizer.specs.Stands.{Stands}
-use Rattle.stabilizer.specs.declared.row.Progress.{Progress}
+use Rattle.node_outcomes.specs.declared.row.Progress.{Progress}
 use Rattle.stabilizer.specs.declared.work.Work.{Work}
 use Rattle.stabilizer.proofs.Flat.{depends_on_kid}
 
@@ -132,7 +134,8 @@ module _ (s : State) (arena : Arena) (work : Work) (calls : ℕ) (kept : IsKept 
 
   -- what a call gave is kept
   pub keeps_answers : (value : FnRef → List Value → Value) (z : Start) → Invariant (functions_of value) z s → KeepsAnswers value arena work.rows
-  keeps_answers value z inv n r ns k c live def row last = inv.accounts.answers n r ns c (row_is n ∙ live) def (st.last n k row ∙ last)
+  keeps_answers value z inv n r ns k c live def row last = inv.accounts.answers n r ns c (row_is n ∙ live)
+      (subst (λ (G : Graph). taken_by G n r.def ≡ Some ns) (sym st.graph) def) (st.last n k row ∙ last)
 
   module _ (F : Functions) (z : Start) (inv : Invariant F z s) (quiet : Quiet s) (n : NodeId) (taken : IsLeast s (main n)) where
     abbrev made : law.IsReady F s (main n)
@@ -172,13 +175,20 @@ module _ (s : State) (arena : Arena) (work : Work) (calls : ℕ) (kept : IsKept 
   forced_seen ns f = one_forces work.round work.rows ns f.0 f.1
       (never_settled f.0 (at work.rows (main f.0)) refl f.2 (sym (st.settled (main f.0)) ∙ f.3))
 
+  -- a function was called on these values, isn't forced, and its node isn't marked: there is no reason to call it
+  no_reason : (n : NodeId) (ns : List NodeId) (values : List Value) → Reason s.last s.never s.settled s.stale n ns values → (c : Call) → s.last n ≡ Some c
+      → c.arguments ≡ values → (IsForced s.never s.settled ns → ⊥) → ⊥
+  no_reason n ns values (other differs) c is same free = differs c is same
+  no_reason n ns values (why.forced {kid} a never settled) c is same free = free (kid, a, never, settled)
+  no_reason n ns values (made_stale marked) c is same free = let x = st.stale n in absurd (cc)
+
   -- a call that was seen is a call
   pub calls_are : (value : FnRef → List Value → Value) (n : NodeId) (def : Def) (k : Progress) (last' : Option Call) (called : Bool)
-      → at work.rows (main n) ≡ Some k → CallsSeen value work.round work.rows def k.last last' called → Calls (functions_of value) s n def last' called
+      → at work.rows (main n) ≡ Some k → CallsSeen value s.graph n work.round work.rows def k.last last' called → Calls (functions_of value) s n def last' called
   calls_are value n def k last' false row c = (
     c.0 ∙ sym (st.last n k row),
     λ ns values e g.
-        let x = c.1 ns values e (sym (sees_together ns) ∙ g) in (x.0, st.last n k row ∙ x.1, x.2, λ f. x.3 (forced_seen ns f)),
+        let x = c.1 ns values e (sym (sees_together ns) ∙ g) in (x.0, st.last n k row ∙ x.1, x.2, λ f. no_reason n ns values f (x.0) (st.last n k row ∙ x.1) x.2 (λ a. x.3 (forced_seen ns a))),
   )
   calls_are value n def k last' true row (ns, values, result, takes, show, reason, is_last, answers) = (
     ns,
@@ -187,8 +197,8 @@ module _ (s : State) (arena : Arena) (work : Work) (calls : ℕ) (kept : IsKept 
     takes,
     sees_together ns ∙ show,
     elim reason [
-      | inl other ↦ inl (λ c l a. other c (sym (st.last n k row) ∙ l) a)
-      | inr f ↦ inr (forced ns f)
+      | inl differs ↦ other (λ c l a. differs c (sym (st.last n k row) ∙ l) a)
+      | inr f ↦ let a = forced ns f in why.forced {kid = a.0} a.1 a.2 a.3
     ],
     is_last,
     answers,

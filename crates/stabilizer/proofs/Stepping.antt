@@ -19,6 +19,7 @@ use Rattle.necessary_graph.specs.Part.{NecessaryPart, Needed}
 use Rattle.node_arena.specs.Arena.{Arena}
 use Rattle.inc_terms.specs.Graph.{Graph}
 use Rattle.node_arena.specs.Graph.{graph_of}
+use Rattle.node_outcomes.specs.Computing.{CallsSeen}
 use Rattle.stabilize_round.specs.Calling.{cost_at}
 use Rattle.stabilize_round.specs.Counts.{RoseBy}
 use Rattle.stabilize_round.specs.Moves.{IsLeast, StepMain, computed, calls_of}
@@ -27,8 +28,8 @@ use Rattle.stabilize_round.specs.State.{State, Call}
 use Rattle.stabilize_round.specs.Steps.{Step, plainly}
 use Rattle.stabilize_round.proofs.Parts.{bool_cases}
 use Rattle.stabilizer.specs.Kept.{IsKept}
-use Rattle.stabilizer.specs.Meaning.{functions_of}
-use Rattle.stabilizer.specs.Row.{settled_in}
+use Rattle.node_outcomes.specs.Meaning.{functions_of}
+use Rattle.node_outcomes.specs.Row.{settled_in}
 use Rattle.stabilizer.specs.Settling.{IsSettled}
 use Rattle.stabilizer.specs.Stands.{Stands}
 use Rattle.stabilizer.specs.Stepping.{MainIsSettled, MainIsLeft, Steps, StepRefused, SettlesOne}
@@ -124,7 +125,8 @@ module _ (value : FnRef → List Value → Value) (arena : Arena) (old new : Wor
         own = own_sees s arena old before kept st F n m.computed.row m.computed.is_row
             ∙ m.computed.own (keeps_answers s arena old before kept st value z inv)
             (kids_known s arena old before kept st F z inv quiet n least m.computed.row m.computed.is_row);
-        calls = calls_are s arena old before kept st value n m.computed.row.def m.computed.kept m.last m.called m.computed.is_kept m.computed.calls;
+        calls = calls_are s arena old before kept st value n m.computed.row.def m.computed.kept m.last m.called m.computed.is_kept
+            (subst (λ (G : Graph). CallsSeen value G n old.round old.rows m.computed.row.def m.computed.kept.last m.last m.called) (sym st.graph) m.computed.calls);
         count = subst (λ (H : Graph). RoseBy s.calls (calls_of m.called (cost_at H n)) after) (sym st.graph)
             (subst (λ (k : ℕ). RoseBy k (calls_of m.called (cost_at (graph_of arena) n)) after) (sym st.calls) m.count);
         heap = settled_enqueues s arena old new before after n m.outcome m.last m.called st w
@@ -203,6 +205,7 @@ module _ (arena : Arena) (old mid : Work) (g g' : NecessaryPart) (p : Point) (be
     out = λ a k e. st.out a k (sym (left.rows a) ∙ e);
     last = λ m k e. st.last m k (sym (left.rows (main m)) ∙ e);
     never = λ m k e. st.never m k (sym (left.rows (main m)) ∙ e);
+    stale = st.stale;
     links = λ a b. st.links a b ∙ ap (λ (l : Links). times l a b) (sym same_graph.links);
     root = λ a. st.root a ∙ ap (λ (r : Roots). root_times r a) (sym same_graph.roots);
     needed = λ a. (λ t. needed_now old.graph g' same_graph a ((st.needed a).0 t), λ h. (st.needed a).1 (needed_before old.graph g' same_graph a h));

@@ -22,11 +22,11 @@ use Rattle.stabilize_round.specs.Machine.{Moves}
 use Rattle.stabilize_round.specs.Wire.{raised, Raise, levelled, made_strict}
 use Rattle.stabilize_round.proofs.Parts.{bool_cases}
 use Rattle.stabilize_round.proofs.Points.{same_or_other, at_same, at_other}
-use Rattle.stabilizer.specs.Row.{IsRewritten, with_stage, settled_in, is_never}
+use Rattle.node_outcomes.specs.Row.{IsRewritten, with_stage, settled_in, is_never}
 use Rattle.stabilizer.specs.Stands.{Stands, Hand, hand, IsInHand}
 use Rattle.stabilizer.specs.Wiring.{KeepsRound, Looks}
-use Rattle.stabilizer.specs.declared.row.Progress.{Progress}
-use Rattle.stabilizer.specs.declared.row.Stage.TheVariants as code
+use Rattle.node_outcomes.specs.declared.row.Progress.{Progress}
+use Rattle.node_outcomes.specs.declared.row.Stage.TheVariants as code
 use Rattle.stabilizer.specs.declared.work.Work.{Work}
 use Rattle.stabilizer.proofs.Linking.{row_before, settled_as, stage_now}
 
@@ -45,6 +45,7 @@ taken_stands s arena old new calls p st graph rows round listed = record {
   out = λ a k e. st.out a k (ap (λ (m : Rows Progress). at m a) (sym rows) ∙ e);
   last = λ n k e. st.last n k (ap (λ (m : Rows Progress). at m (main n)) (sym rows) ∙ e);
   never = λ n k e. st.never n k (ap (λ (m : Rows Progress). at m (main n)) (sym rows) ∙ e);
+  stale = st.stale;
   links = λ a b. st.links a b ∙ ap (λ (g : NecessaryPart). times g.links a b) (sym graph);
   root = λ a. st.root a ∙ ap (λ (g : NecessaryPart). root_times g.roots a) (sym graph);
   needed = λ a. (
@@ -117,6 +118,7 @@ module _ (F : Functions) (z : Start) (s : State) (arena : Arena) (old new : Work
       out = λ a k e. let b = row_before old.rows new.rows p code.Full w a k e in st.out a b.row b.was ∙ sym b.outcome;
       last = λ n k e. let b = row_before old.rows new.rows p code.Full w (main n) k e in st.last n b.row b.was ∙ sym b.last;
       never = λ n k e. let b = row_before old.rows new.rows p code.Full w (main n) k e in st.never n b.row b.was ∙ ap is_never (sym b.cutoff);
+      stale = st.stale;
       links = λ a b. st.links a b ∙ ap (λ (g : NecessaryPart). times g.links a b) (sym graph);
       root = λ a. st.root a ∙ ap (λ (g : NecessaryPart). root_times g.roots a) (sym graph);
       needed = λ a. (
@@ -152,6 +154,7 @@ looks_stands s arena old new calls held same st = record {
   out = λ a k e. st.out a k (sym (same.rows a) ∙ e);
   last = λ n k e. st.last n k (sym (same.rows (main n)) ∙ e);
   never = λ n k e. st.never n k (sym (same.rows (main n)) ∙ e);
+  stale = st.stale;
   links = λ a b. st.links a b ∙ sym (same.links a b);
   root = λ a. st.root a ∙ sym (same.roots a);
   needed = λ a. (λ t. (same.needed a).1 ((st.needed a).0 t), λ n. (st.needed a).1 ((same.needed a).0 n));
@@ -189,6 +192,7 @@ module _ (F : Functions) (z : Start) (s : State) (arena : Arena) (old : Work) (g
       out = st.out;
       last = st.last;
       never = st.never;
+      stale = st.stale;
       links = λ a b. st.links a b ∙ sym (links a b);
       root = λ a. st.root a ∙ sym (roots a);
       needed = λ a. (λ t. (needs a).1 ((st.needed a).0 t), λ n. (st.needed a).1 ((needs a).0 n));
@@ -229,6 +233,7 @@ strict_stands F z s arena old calls held st top no_right = elim (bool_cases s.st
       out = k.out;
       last = k.last;
       never = k.never;
+      stale = k.stale;
       links = k.links;
       root = k.root;
       needed = k.needed;
@@ -251,6 +256,7 @@ strict_stands F z s arena old calls held st top no_right = elim (bool_cases s.st
       out = st.out;
       last = st.last;
       never = st.never;
+      stale = st.stale;
       links = st.links;
       root = st.root;
       needed = st.needed;

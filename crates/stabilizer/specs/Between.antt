@@ -14,15 +14,15 @@ use Rattle.link_table.specs.Links.{times}
 use Rattle.necessary_graph.specs.Part.{NecessaryPart, Needed}
 use Rattle.node_arena.specs.Arena.{Arena, row_at}
 use Rattle.node_arena.specs.Graph.{graph_of}
-use Rattle.stabilize_round.specs.Calling.{taken_by}
+use Rattle.inc_terms.specs.Work.{taken_by}
 use Rattle.stabilize_round.specs.State.{Call, count}
-use Rattle.stabilizer.specs.Computing.{seen, seen_together, KeepsAnswers}
+use Rattle.node_outcomes.specs.Computing.{seen, seen_together, KeepsAnswers}
 use Rattle.stabilizer.specs.Kept.{IsKept}
 use Rattle.stabilizer.specs.Round.{IsReady, last_of, never_at}
-use Rattle.stabilizer.specs.Row.{settled_in}
+use Rattle.node_outcomes.specs.Row.{settled_in}
 use Rattle.stabilizer.specs.Wiring.{KeepsRound, KeepsGraph}
-use Rattle.stabilizer.specs.declared.row.Progress.{Progress}
-use Rattle.stabilizer.specs.declared.row.Stage.TheVariants.{Full}
+use Rattle.node_outcomes.specs.declared.row.Progress.{Progress}
+use Rattle.node_outcomes.specs.declared.row.Stage.TheVariants.{Full}
 use Rattle.stabilizer.specs.declared.work.Work.{Work}
 
 -- the outcome of a point that has a row
@@ -35,7 +35,7 @@ pub record IsFresh (F : Functions) (arena : Arena) (rows : Rows Progress) (n : N
   pub outcome : Outcome
   pub shows : outcome_in (at rows (main n)) ≡ Some outcome
   pub gives : own F (graph_of arena) (seen rows) n def ≡ Some outcome
-  pub recalls : (nodes : List NodeId) (values : List Value) → taken_by def ≡ Some nodes → seen_together rows nodes ≡ Values values
+  pub recalls : (nodes : List NodeId) (values : List Value) → taken_by (graph_of arena) n def ≡ Some nodes → seen_together rows nodes ≡ Values values
       → (c : Call) × (last_of (at rows (main n)) ≡ Some c) × (c.arguments ≡ values)
 
 -- a needed live point has all its links, and is in the heap or fresh; nothing was settled, called or found final since the last round
@@ -79,7 +79,7 @@ pub record Stays (before arena : Arena) (old work : Work) : Type 0 where
   pub rows : (p : Point) → Needed work.graph p → at work.rows p ≡ at old.rows p
   pub nodes : (n : NodeId) (r : Row) → Needed work.graph (main n) → row_at arena n ≡ Some r → (row_at before n ≡ Some r)
       ⊎ (Holds work.graph.heap (main n) × (was : Row) × (row_at before n ≡ Some was) × (kids r.def ≡ kids was.def))
-  pub calls : (n : NodeId) (r : Row) (nodes : List NodeId) (k : Progress) (c : Call) → row_at arena n ≡ Some r → taken_by r.def ≡ Some nodes
+  pub calls : (n : NodeId) (r : Row) (nodes : List NodeId) (k : Progress) (c : Call) → row_at arena n ≡ Some r → taken_by (graph_of arena) n r.def ≡ Some nodes
       → at work.rows (main n) ≡ Some k → k.last ≡ Some c → (row_at before n ≡ Some r) × (at old.rows (main n) ≡ Some k)
   pub unsettled : (p : Point) (k : Progress) → at work.rows p ≡ Some k → (at old.rows p ≡ Some k) ⊎ (k.settled ≡ 0)
   pub round : KeepsRound old work

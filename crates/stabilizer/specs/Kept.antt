@@ -15,7 +15,7 @@ use Rattle.necessary_graph.specs.Part.{IsInStep}
 use Rattle.node_arena.specs.Arena.{Arena, row_at}
 use Rattle.node_arena.specs.Graph.{NoScopes}
 use Rattle.stabilize_round.specs.State.{Call}
-use Rattle.stabilizer.specs.declared.row.Progress.{Progress}
+use Rattle.node_outcomes.specs.declared.row.Progress.{Progress}
 use Rattle.stabilizer.specs.declared.work.Work.{Work}
 
 -- the mains of live nodes are what has rows, and they are there; what else is there is a main of a given node; what has links or is in

@@ -1,6 +1,3 @@
-pub mod Meaning
-pub mod LastCall
-pub mod Row
 pub mod Stands
 pub mod Kept
 pub mod Deciding
@@ -8,7 +5,6 @@ pub mod Wiring
 pub mod Refusing
 pub mod Growing
 pub mod Settling
-pub mod Computing
 pub mod Stepping
 pub mod Round
 pub mod Between

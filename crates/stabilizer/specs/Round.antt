@@ -19,20 +19,21 @@ use Rattle.node_arena.specs.Arena.{Arena, row_at}
 use Rattle.node_arena.specs.Graph.{graph_of}
 use Rattle.point_map.specs.Rows.{at}
 use Rattle.stabilize_round.specs.Calls.{arguments_of}
-use Rattle.stabilize_round.specs.Calling.{taken_by, IsAnswer, costs_of}
+use Rattle.inc_terms.specs.Work.{taken_by}
+use Rattle.stabilize_round.specs.Calling.{IsAnswer, costs_of}
 use Rattle.stabilize_round.specs.Counts.{RoseAtMost}
 use Rattle.stabilize_round.specs.Invariant.{Invariant}
 use Rattle.stabilize_round.specs.Machine.{Entry, Moves}
 use Rattle.stabilize_round.specs.Moves.{Quiet, IsLeast}
 use Rattle.stabilize_round.specs.State.{State, Start, Call, count}
-use Rattle.stabilizer.specs.Computing.{seen, IsCallerAt, HasCalledSome}
+use Rattle.node_outcomes.specs.Computing.{seen, IsCallerAt, HasCalledSome}
 use Rattle.height_order.specs.Chains.{StartsAt, EndsAt}
 use Rattle.stabilizer.specs.declared.refused.Refused.{Refused}
 use Rattle.stabilizer.specs.declared.refused.Refused.TheVariants.{Height, Cycle, Full, Memory}
 use Rattle.stabilizer.specs.Kept.{IsKept}
-use Rattle.stabilizer.specs.Row.{never_in, settled_in}
+use Rattle.node_outcomes.specs.Row.{never_in, settled_in}
 use Rattle.stabilizer.specs.Stands.{Stands}
-use Rattle.stabilizer.specs.declared.row.Progress.{Progress}
+use Rattle.node_outcomes.specs.declared.row.Progress.{Progress}
 use Rattle.stabilizer.specs.declared.work.Work.{Work}
 
 -- a round may begin: the parts stand for a state in which rounds begin, and its number isn't that of what was never settled
@@ -74,7 +75,7 @@ pub record WasCalled (F : Functions) (arena : Arena) (old new : Work) (observed 
   pub values : List Value
   pub result : Value
   pub is_row : row_at arena n ≡ Some row
-  pub takes : taken_by row.def ≡ Some nodes
+  pub takes : taken_by (graph_of arena) n row.def ≡ Some nodes
   pub gives : GiveAll F (graph_of arena) nodes values
   pub reason : ((c : Call) → last_call old n ≡ Some c → c.arguments ≡ values → ⊥) ⊎ WasForced old new nodes
   pub is_last : last_call new n ≡ Some (record { arguments = values; result = result })
@@ -97,7 +98,7 @@ pub record IsUpToDate (F : Functions) (arena : Arena) (old new : Work) (observed
   pub shallow : (p : Point) → Needed F (graph_of arena) none_died observed p → IsDeep (Depends F (graph_of arena) none_died) p → ⊥
   pub links : (p q : Point) → part.Needed new.graph p → Reads new.graph.links p q ↔ Depends F (graph_of arena) none_died p q
   pub recalls : (n : NodeId) (r : Row) (nodes : List NodeId) (values : List Value) → part.Needed new.graph (main n)
-      → row_at arena n ≡ Some r → taken_by r.def ≡ Some nodes → GiveAll F (graph_of arena) nodes values
+      → row_at arena n ≡ Some r → taken_by (graph_of arena) n r.def ≡ Some nodes → GiveAll F (graph_of arena) nodes values
       → (c : Call) × (last_call new n ≡ Some c) × (c.arguments ≡ values)
   pub kept : (n : NodeId) → (Among n ran → ⊥) → last_call new n ≡ last_call old n
   pub cutoffs : (n : NodeId) → never_at new n ≡ never_at old n

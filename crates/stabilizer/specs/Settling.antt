@@ -1,5 +1,5 @@
 -- What is done to a main that is settled.
-use Rattle.std.specs.Prelude.{◌≡◌, ◌≢◌, ◌⊎◌, ◌++◌, Bool, true, false, List, [], ◌∷◌, Option, Some}
+use Rattle.std.specs.Prelude.{◌≡◌, ◌≢◌, ◌⊎◌, Bool, true, false, Option, Some}
 use Rattle.inc_value.specs.declared.node.NodeId.{NodeId}
 use Rattle.inc_value.specs.declared.node.Point.{Point}
 use Rattle.inc_value.specs.declared.outcome.Outcome.{Outcome}
@@ -7,15 +7,11 @@ use Rattle.inc_terms.specs.Depend.{main}
 use Rattle.point_map.specs.Rows.{at, Holds}
 use Rattle.link_table.specs.Links.{Reads}
 use Rattle.stabilize_round.specs.State.{Call}
-use Rattle.stabilizer.specs.Row.{settled_in, is_never}
+use Rattle.node_outcomes.specs.Computing.{ran_then}
+use Rattle.node_outcomes.specs.Row.{settled_in, is_never}
 use Rattle.stabilizer.specs.Wiring.{KeepsGraph}
-use Rattle.stabilizer.specs.declared.row.Progress.{Progress}
+use Rattle.node_outcomes.specs.declared.row.Progress.{Progress}
 use Rattle.stabilizer.specs.declared.work.Work.{Work}
-
--- the nodes whose functions were called, with this one where its was
-abbrev pub ran_then : Bool → List NodeId → NodeId → List NodeId
-ran_then true ran n = ran ++ n ∷ []
-ran_then false ran n = ran
 
 -- a main of the heap was settled on an outcome, with this last call. It left the heap, and where its outcome is another than before, or its cutoff is
 -- Never, the points that read it and weren't settled came in

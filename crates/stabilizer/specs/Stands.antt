@@ -1,5 +1,5 @@
 -- How the nodes of an arena, and what a stabilizer keeps of them, stand for a state of a round.
-use Rattle.std.specs.Prelude.{◌≡◌, ◌⊎◌, ◌↔◌, ℕ, true, List, [], Option, None, Some, is_some, reverse}
+use Rattle.std.specs.Prelude.{◌≡◌, ◌⊎◌, ◌↔◌, ℕ, true, false, List, [], Option, None, Some, is_some, reverse}
 use Rattle.inc_value.specs.declared.node.NodeId.{NodeId}
 use Rattle.inc_value.specs.declared.node.Point.{Point}
 use Rattle.inc_value.specs.Choice.{Among}
@@ -12,8 +12,8 @@ use Rattle.necessary_graph.specs.Part.{Needed}
 use Rattle.node_arena.specs.Arena.{Arena}
 use Rattle.node_arena.specs.Graph.{graph_of}
 use Rattle.stabilize_round.specs.State.{State, at_point}
-use Rattle.stabilizer.specs.Row.{stage_of, settled_in, is_never}
-use Rattle.stabilizer.specs.declared.row.Progress.{Progress}
+use Rattle.node_outcomes.specs.Row.{stage_of, settled_in, is_never}
+use Rattle.node_outcomes.specs.declared.row.Progress.{Progress}
 use Rattle.stabilizer.specs.declared.work.Work.{Work}
 
 -- a point that is being given its links, and those that are yet to come
@@ -37,6 +37,7 @@ pub record StandsWith (IsNeeded : Point → Type 0) (arena : Arena) (work : Work
   pub out : (p : Point) (k : Progress) → at work.rows p ≡ Some k → s.out p ≡ k.outcome
   pub last : (n : NodeId) (k : Progress) → at work.rows (main n) ≡ Some k → s.last n ≡ k.last
   pub never : (n : NodeId) (k : Progress) → at work.rows (main n) ≡ Some k → s.never n ≡ is_never k.cutoff
+  pub stale : (n : NodeId) → s.stale n ≡ false
   pub links : (p q : Point) → s.links p q ≡ times work.graph.links p q
   pub root : (p : Point) → s.root p ≡ root_times work.graph.roots p
   pub needed : (p : Point) → (s.needed p ≡ true) ↔ IsNeeded p

@@ -16,11 +16,11 @@ use Rattle.stabilize_round.specs.Invariant.{Invariant}
 use Rattle.stabilize_round.specs.Moves.{Quiet, IsLeast, calls_of}
 use Rattle.stabilize_round.specs.State.{State, Start, Call}
 use Rattle.stabilize_round.specs.Steps.{Step}
-use Rattle.stabilizer.specs.Computing.{IsComputed, HasCalledSome}
-use Rattle.stabilizer.specs.Row.{settled_in}
+use Rattle.node_outcomes.specs.Computing.{IsComputed, HasCalledSome}
+use Rattle.node_outcomes.specs.Row.{settled_in}
 use Rattle.stabilizer.specs.Settling.{IsSettled}
 use Rattle.stabilizer.specs.Stands.{Stands}
-use Rattle.stabilizer.specs.declared.row.Progress.{Progress}
+use Rattle.node_outcomes.specs.declared.row.Progress.{Progress}
 use Rattle.stabilizer.specs.declared.work.Work.{Work}
 
 -- a live main was computed, and settled on its outcome

@@ -17,9 +17,9 @@ use Rattle.stabilize_round.specs.Machine.{Moves}
 use Rattle.stabilize_round.specs.State.{State, Start}
 use Rattle.stabilize_round.specs.Wire.{IsConfirmed}
 use Rattle.stabilizer.specs.Stands.{Stands, Hand, hand}
-use Rattle.stabilizer.specs.Row.{IsRewritten, with_stage, settled_in, IsStopped}
-use Rattle.stabilizer.specs.declared.row.Progress.{Progress}
-use Rattle.stabilizer.specs.declared.row.Stage.TheVariants.{Bare}
+use Rattle.node_outcomes.specs.Row.{IsRewritten, with_stage, settled_in, IsStopped}
+use Rattle.node_outcomes.specs.declared.row.Progress.{Progress}
+use Rattle.node_outcomes.specs.declared.row.Stage.TheVariants.{Bare}
 use Rattle.stabilizer.specs.declared.work.Work.{Work}
 
 -- of the round itself nothing changed

@@ -1,5 +1,5 @@
 //! The nodes of a graph with all that a stabilizer keeps of them.
-ghost use Rattle.std.specs.Prelude.{◌≡◌, ◌⊎◌, ◌↔◌, ◌+◌, ◌<◌, ◌≤◌, ◌++◌, true, false, [], ◌∷◌, List, None, Some};
+ghost use Rattle.std.specs.Prelude.{ℕ, ◌≡◌, ◌⊎◌, ◌↔◌, ◌+◌, ◌<◌, ◌≤◌, ◌++◌, true, false, [], ◌∷◌, List, None, Some};
 ghost use Rattle.std.specs.Prelude.{IfOk, IfErr, OnOk, OnErr, IsErrOf, option_copied};
 ghost use Rattle.inc_value.specs.declared.node.NodeId.{NodeId};
 ghost use Rattle.inc_terms.specs.Code.{def_of};
@@ -16,15 +16,15 @@ ghost use Rattle.node_arena.specs.Typing.{Makes, FitsNode};
 ghost use Rattle.stabilizer.specs.Between.{KeepsWork, IsMarked, outcome_in};
 ghost use Rattle.stabilizer.specs.Kept.{IsKept};
 ghost use Rattle.stabilizer.specs.Round.{IsReady, AreRooted, never_at};
-ghost use Rattle.stabilizer.specs.Row.{IsRewritten, with_cutoff};
+ghost use Rattle.node_outcomes.specs.Row.{IsRewritten, with_cutoff};
 
-use crate::row::{Stage, main_point, set_cutoff};
 use crate::work::Work;
 use inc_terms::Def;
 use inc_value::{NodeId, Outcome, Point, Ty, Value};
 use map_nodes::Cutoff;
 use necessary_graph::NecessaryGraph;
 use node_arena::{AddFault, Arena, Row, SetFault};
+use node_outcomes::{Stage, main_point, set_cutoff};
 use std::alloc::{AllocError, Global};
 
 /// The nodes of a graph with all that a stabilizer keeps of them.
@@ -88,8 +88,8 @@ impl Parts {
         ensures err_work { OnErr result (KeepsWork self.old.work self.new.work) }
         ensures row { IfOk result (λ id. points.Changes self.old.work.rows self.new.work.rows (main id)
             (Some (record { stage = Stage.Bare; settled = 0; outcome = None; last = None; cutoff = Cutoff.Equal }))) }
-        ensures point { IfOk result (λ id. points.Changes self.old.work.graph.heights self.new.work.graph.heights
-            (main id) (Some 0)) }
+        ensures point { IfOk result (λ id. (h : ℕ) × points.Changes self.old.work.graph.heights
+            self.new.work.graph.heights (main id) (Some h)) }
         ensures rows { (n : NodeId) → Given self.old.arena.given n
             → at self.new.work.rows (main n) ≡ at self.old.work.rows (main n) }
         ensures cutoffs { (n : NodeId) → never_at self.new.work n ≡ never_at self.old.work n }
@@ -102,13 +102,20 @@ impl Parts {
         ensures ready { (F : Functions) → IsReady F self.old.arena self.old.work
             → IsReady F self.new.arena self.new.work }
     {
-        self.arena.admits(&def, ty)?;
+        if let Err(fault) = self.arena.admits(&def, ty) {
+            drop(def);
+            return Err(fault);
+        }
         let id = self.arena.next_id();
-        let added = self.work.add(main_point(id));
+        let height = height_over(&self.work.graph, def.kids());
+        let added = self.work.add(main_point(id), height);
         self.work.graph.stands();
         match added {
             Ok(()) => {}
-            Err(AllocError) => return Err(AddFault::Memory),
+            Err(AllocError) => {
+                drop(def);
+                return Err(AddFault::Memory);
+            }
         }
         let row = Row {
             def,
@@ -263,4 +270,19 @@ fn mark(graph: &mut NecessaryGraph, p: Point)
         graph.insert(p);
     }
     graph.stands();
+}
+
+/// A height above those of the nodes that are there, where there is one. A point that is made at it needn't be lifted when
+/// it is linked.
+fn height_over(graph: &NecessaryGraph, kids: &[NodeId]) -> u32
+    ensures { result ≤ 128 }
+{
+    let mut height = 0;
+    for kid in kids {
+        let p = main_point(*kid);
+        if graph.is_there(p) {
+            height = height.max(graph.height(p) + 1);
+        }
+    }
+    height.min(128)
 }

@@ -9,22 +9,22 @@ ghost use Rattle.stabilize_round.specs.Calling.{costs_of};
 ghost use Rattle.stabilize_round.specs.Counts.{RoseBy};
 ghost use Rattle.recompute_heap.specs.Agree.{IsEmpty};
 ghost use Rattle.node_arena.specs.Graph.{graph_of, AllCallFit};
-ghost use Rattle.node_arena.specs.Meanings.{SameNames, KeepsKnown, SameValues};
 ghost use Rattle.stabilizer.specs.Kept.{IsKept};
-ghost use Rattle.stabilizer.specs.Meaning.{functions_of, lists_none};
+ghost use Rattle.node_outcomes.specs.Computing.{KeepsFunctions};
+ghost use Rattle.node_outcomes.specs.Meaning.{functions_of, lists_none};
 ghost use Rattle.stabilizer.specs.Refusing.{TellsWhy};
 ghost use Rattle.stabilizer.specs.Round.{IsReady, AreRooted, IsUpToDate, IsLawful, HasCalledFew};
 ghost use Rattle.stabilizer.specs.Round.{IsInRound, RootsMore, OnlyRoots, Settles, SettleRefused};
 ghost use Rattle.stabilizer.specs.Stepping.{MainIsSettled, MainIsLeft, Steps, StepRefused, SettlesOne};
 ghost use Rattle.stabilizer.specs.Wiring.{Wires, WireRefused};
 
-use crate::compute::compute;
 use crate::parts::Parts;
 use crate::refused::Refused;
-use crate::row::main_point;
 use crate::work::Work;
 use inc_value::{NodeId, Point};
 use node_arena::{Arena, Functions};
+use node_outcomes::{compute, main_point};
+use std::alloc::AllocError;
 use std::mem;
 
 /// Brings what is needed of a graph up to date.
@@ -52,9 +52,8 @@ impl Stabilizer {
         ensures roots { parts.new.work.graph.roots ≡ parts.old.work.graph.roots }
         ensures round { parts.new.work.round ≡ parts.old.work.round }
         ensures ran { parts.new.ran ≡ parts.old.ran }
-        ensures names { SameNames (F.named functions.old) (F.named functions.new) }
-        ensures known { KeepsKnown (F.known functions.old) (F.known functions.new) }
-        ensures values { SameValues (F.value functions.old) (F.value functions.new) }
+        ensures functions { KeepsFunctions (F.named functions.old) (F.named functions.new)
+            (F.known functions.old) (F.known functions.new) (F.value functions.old) (F.value functions.new) }
     {
         let Some(p) = parts.work.graph.pop_least() else {
             return Ok(false);
@@ -89,11 +88,12 @@ impl Stabilizer {
         ensures few { OnErr result (HasCalledFew parts.old.arena (F.calls functions.old) (F.calls functions.new)) }
         ensures ran { OnErr result (parts.new.ran ≡ parts.old.ran) }
         ensures arena { parts.new.arena ≡ parts.old.arena }
-        ensures names { SameNames (F.named functions.old) (F.named functions.new) }
-        ensures known { KeepsKnown (F.known functions.old) (F.known functions.new) }
-        ensures values { SameValues (F.value functions.old) (F.value functions.new) }
+        ensures functions { KeepsFunctions (F.named functions.old) (F.named functions.new)
+            (F.known functions.old) (F.known functions.new) (F.value functions.old) (F.value functions.new) }
     {
-        let next = parts.work.round.checked_add(1).ok_or(Refused::Memory)?;
+        let Some(next) = parts.work.round.checked_add(1) else {
+            return Err(Refused::Memory);
+        };
         put_roots(&mut parts.work, &parts.arena, roots)?;
         settle_all(parts, functions)?;
         mem::swap(&mut parts.ran, &mut parts.work.ran);
@@ -141,9 +141,8 @@ fn settle_all<F: Functions>(parts: &mut Parts, functions: &mut F) -> Result<(), 
     ensures roots { parts.new.work.graph.roots ≡ parts.old.work.graph.roots }
     ensures round { parts.new.work.round ≡ parts.old.work.round }
     ensures ran { parts.new.ran ≡ parts.old.ran }
-    ensures names { SameNames (F.named functions.old) (F.named functions.new) }
-    ensures known { KeepsKnown (F.known functions.old) (F.known functions.new) }
-    ensures values { SameValues (F.value functions.old) (F.value functions.new) }
+    ensures functions { KeepsFunctions (F.named functions.old) (F.named functions.new)
+        (F.known functions.old) (F.known functions.new) (F.value functions.old) (F.value functions.new) }
 {
     while Stabilizer::step(parts, functions)? {}
     Ok(())
@@ -163,17 +162,23 @@ fn step_main<F: Functions>(parts: &mut Parts, functions: &mut F, p: Point) -> Re
     ensures arena { parts.new.arena ≡ parts.old.arena }
     ensures ran { parts.new.ran ≡ parts.old.ran }
     ensures kept { IsKept parts.new.arena parts.new.work }
-    ensures names { SameNames (F.named functions.old) (F.named functions.new) }
-    ensures known { KeepsKnown (F.known functions.old) (F.known functions.new) }
-    ensures values { SameValues (F.value functions.old) (F.value functions.new) }
+    ensures functions { KeepsFunctions (F.named functions.old) (F.named functions.new)
+        (F.known functions.old) (F.known functions.new) (F.value functions.old) (F.value functions.new) }
 {
-    let outcome = compute(
+    let computed = compute(
         parts.alloc,
         &parts.arena,
-        &mut parts.work,
+        &mut parts.work.rows,
+        &mut parts.work.ran,
+        parts.work.round,
         functions,
         p.node,
-    )?;
-    parts.work.settle(p, outcome);
-    Ok(())
+    );
+    match computed {
+        Ok(outcome) => {
+            parts.work.settle(p, outcome);
+            Ok(())
+        }
+        Err(AllocError) => Err(Refused::Memory),
+    }
 }

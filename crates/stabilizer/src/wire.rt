@@ -17,17 +17,17 @@ ghost use Rattle.node_arena.specs.Arena.{Arena as AArena};
 ghost use Rattle.stabilizer.specs.Growing.{PushesOne, Grows};
 ghost use Rattle.stabilizer.specs.Kept.{IsKept};
 ghost use Rattle.stabilizer.specs.Refusing.{RefusedBy, IsWhy, TellsWhy};
-ghost use Rattle.stabilizer.specs.Row.{stage_in};
+ghost use Rattle.node_outcomes.specs.Row.{stage_in};
 ghost use Rattle.stabilizer.specs.Stands.{hand};
 ghost use Rattle.stabilizer.specs.Wiring.{Connects, ConnectRefused, Wires, WireRefused, KeepsNeed, IsWoken, Looks};
 
 use crate::refused::Refused;
-use crate::row::{Stage, change_point, main_point, set_stage};
 use crate::work::Work;
 use inc_terms::Def;
 use inc_value::{NodeId, Point};
 use necessary_graph::LinkFault;
 use node_arena::{Arena, Row};
+use node_outcomes::{Stage, change_point, is_bare, main_point, set_stage};
 use std::alloc::AllocError;
 
 impl Work {
@@ -71,7 +71,7 @@ impl Work {
         ensures told { IfErr result (TellsWhy arena.now self.new) }
     {
         while let Some(p) = self.todo.pop() {
-            if self.graph.is_needed(p) && self.stage(p) == Some(Stage::Bare) {
+            if self.graph.is_needed(p) && is_bare(&self.rows, p) {
                 self.wire_one(arena, p)?;
             }
         }
@@ -203,7 +203,10 @@ impl Work {
 fn gate(row: &Row) -> Option<Point>
     ensures { result ≡ option_map change row.now.scope }
 {
-    row.scope.map(change_point)
+    match row.scope {
+        Some(binder) => Some(change_point(binder)),
+        None => None,
+    }
 }
 
 /// The right sides of a node of two points, whatever its change gave. Each definition of today makes a node of one

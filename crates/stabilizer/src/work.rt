@@ -1,23 +1,20 @@
 //! What a stabilize works on beside the nodes: who is needed, how far each point has come, and what is to be done.
-ghost use Rattle.std.specs.Prelude.{◌≡◌, ◌≢◌, ◌↔◌, ◌<◌, [], None, Some, IsTrue, IsFalse};
-ghost use Rattle.std.specs.Prelude.{IfOk, OnOk, OnErr, option_copied, option_and_then, vec_len, vec_capacity};
+ghost use Rattle.std.specs.Prelude.{◌≡◌, ◌≢◌, ◌↔◌, ◌<◌, ◌≤◌, [], None, Some, IsTrue, IsFalse};
+ghost use Rattle.std.specs.Prelude.{IfOk, OnOk, OnErr, vec_len, vec_capacity};
 ghost use Rattle.inc_value.specs.declared.node.Point.{Point};
-ghost use Rattle.inc_terms.specs.Depend.{main};
 ghost use Rattle.point_map.specs.Rows.{at, Holds, Changes, KeepsRows};
 ghost use Rattle.link_table.specs.Links.{times};
 ghost use Rattle.recompute_heap.specs.Agree.{IsEmpty};
 ghost use Rattle.necessity.specs.Need.{root_times};
 ghost use Rattle.necessary_graph.specs.Part.{Needed, IsInStep};
-ghost use Rattle.stabilizer.specs.Row.{IsRewritten, with_outcome, stage_in, value_in, passes_in};
+ghost use Rattle.node_outcomes.specs.Row.{IsRewritten, with_outcome};
 ghost use Rattle.stabilizer.specs.Wiring.{KeepsGraph, KeepsRound, IsEnqueued, AreEnqueued, IsTold, IsWoken, Looks};
 
-use crate::last_call::Called;
-use crate::row::{
-    Progress, Settled, Stage, main_point, set_outcome, set_stage, unsettled, was_settled,
-};
-use inc_value::{NodeId, Outcome, Point, Value};
+use crate::settled::Settled;
+use inc_value::{NodeId, Outcome, Point};
 use map_nodes::Cutoff;
 use necessary_graph::NecessaryGraph;
+use node_outcomes::{Progress, Stage, set_outcome, set_stage, unsettled, was_settled};
 use point_map::PointMap;
 use std::alloc::{AllocError, Global};
 
@@ -62,12 +59,13 @@ impl Work {
     }
 
     /// Adds a point of a new node, with all memory that it needs in a round but for links.
-    pub fn add(&mut self, p: Point) -> Result<(), AllocError>
+    pub fn add(&mut self, p: Point, height: u32) -> Result<(), AllocError>
+        requires low { height ≤ 128 }
         requires absent { at self.old.graph.heights p ≡ None }
         requires no_row { at self.old.rows p ≡ None }
         ensures row { OnOk result (Changes self.old.rows self.new.rows p
             (Some (record { stage = Stage.Bare; settled = 0; outcome = None; last = None; cutoff = Cutoff.Equal }))) }
-        ensures added { OnOk result (Changes self.old.graph.heights self.new.graph.heights p (Some 0)) }
+        ensures added { OnOk result (Changes self.old.graph.heights self.new.graph.heights p (Some height)) }
         ensures err { OnErr result (KeepsRows self.old.rows self.new.rows) }
         ensures err_heights { OnErr result (KeepsRows self.old.graph.heights self.new.graph.heights) }
         ensures links { self.new.graph.links ≡ self.old.graph.links }
@@ -78,7 +76,7 @@ impl Work {
         ensures round { KeepsRound self.old self.new }
     {
         self.rows.reserve(1)?;
-        self.graph.add(p)?;
+        self.graph.add(p, height)?;
         self.rows.insert(p, unsettled());
         Ok(())
     }
@@ -100,45 +98,7 @@ impl Work {
     {
         self.graph.drop_point(p);
         self.graph.stands();
-        let _row = self.rows.remove(p);
-    }
-
-    /// The stage of a point of a live node.
-    pub fn stage(&self, p: Point) -> Option<Stage>
-        ensures { result ≡ stage_in (at self.now.rows p) }
-    {
-        let row = self.rows.get(p)?;
-        Some(row.stage)
-    }
-
-    /// The value that a node shows, if it shows one. A dead node shows none.
-    pub fn value_shown(&self, node: NodeId) -> Option<&Value>
-        ensures { option_copied result ≡ value_in (at self.now.rows (main node)) }
-    {
-        match &self.rows.get(main_point(node))?.outcome {
-            Some(Outcome::Val(value)) => Some(value),
-            _ => None,
-        }
-    }
-
-    /// The last call of a node's function, if there was one.
-    pub fn last_call(&self, node: NodeId) -> Option<Called<'_>>
-        ensures { result ≡ option_and_then (λ k. k.last) (at self.now.rows (main node)) }
-    {
-        self.rows.get(main_point(node))?.last.get()
-    }
-
-    /// Whether a node of cutoff Never was settled in this round.
-    pub fn passes(&self, node: NodeId) -> bool
-        ensures { result ≡ passes_in self.now.round (at self.now.rows (main node)) }
-    {
-        match self.rows.get(main_point(node)) {
-            Some(row) => match row.cutoff {
-                Cutoff::Equal => false,
-                Cutoff::Never => row.settled == self.round,
-            },
-            None => false,
-        }
+        drop(self.rows.remove(p));
     }
 
     /// Puts a needed point into the heap, unless it was settled.
@@ -217,7 +177,7 @@ impl Work {
         if self.graph.is_there(p) {
             return Ok(false);
         }
-        self.graph.add(p)?;
+        self.graph.add(p, 0)?;
         Ok(true)
     }
 

@@ -19,9 +19,10 @@ use inc_terms::{Def, Nodes};
 use inc_value::{FnRef, NodeId, Ty, Value};
 use map_nodes::Cutoff;
 use node_arena::Functions;
+use std::alloc::AllocError;
 
 /// How many ids had been given.
-#[derive(Clone, Copy, Debug)]
+#[derive(Clone, Copy)]
 pub struct Mark {
     given: u64,
 }
@@ -108,9 +109,20 @@ impl<F: Functions> Graph<F> {
         ensures adding { IfErr result IsAddFault }
         ensures err { OnErr result (KeepsAll self.old self.new) }
     {
-        self.check()?;
-        let nodes = Nodes::from_slice(self.alloc, kids)?;
-        self.add(Def::Fold(f, initial, nodes), f.sig.gives())
+        match self.check() {
+            Ok(()) => {}
+            Err(fault) => {
+                drop(initial);
+                return Err(fault);
+            }
+        }
+        match Nodes::from_slice(self.alloc, kids) {
+            Ok(nodes) => self.add(Def::Fold(f, initial, nodes), f.sig.gives()),
+            Err(AllocError) => {
+                drop(initial);
+                Err(GraphFault::Memory)
+            }
+        }
     }
 
     /// Adds a node.
@@ -128,7 +140,13 @@ impl<F: Functions> Graph<F> {
         ensures err { OnErr result (KeepsAll self.old self.new) }
         ensures nodes { OnErr result (self.new.parts.arena ≡ self.old.parts.arena) }
     {
-        self.check()?;
+        match self.check() {
+            Ok(()) => {}
+            Err(fault) => {
+                drop(def);
+                return Err(fault);
+            }
+        }
         let added = self.parts.add(def, ty);
         self.parts.arena().is_sound();
         match added {
@@ -151,7 +169,13 @@ impl<F: Functions> Graph<F> {
         ensures setting { IfErr result IsSetFault }
         ensures err { OnErr result (self.new ≡ self.old) }
     {
-        self.check()?;
+        match self.check() {
+            Ok(()) => {}
+            Err(fault) => {
+                drop(value);
+                return Err(fault);
+            }
+        }
         match self.parts.set_var(node, value) {
             Ok(()) => Ok(()),
             Err(fault) => Err(set_fault(fault)),

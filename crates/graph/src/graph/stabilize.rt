@@ -5,7 +5,8 @@ ghost use Rattle.node_arena.specs.Meanings.{SameNames, KeepsKnown, SameValues};
 ghost use Rattle.node_arena.specs.Graph.{graph_of};
 ghost use Rattle.stabilize_round.specs.Calling.{costs_of};
 ghost use Rattle.stabilize_round.specs.Counts.{RoseBy};
-ghost use Rattle.stabilizer.specs.Meaning.{functions_of};
+ghost use Rattle.node_outcomes.specs.Computing.{KeepsFunctions};
+ghost use Rattle.node_outcomes.specs.Meaning.{functions_of};
 ghost use Rattle.stabilizer.specs.Round.{IsUpToDate, IsLawful, HasCalledFew};
 ghost use Rattle.graph.specs.Sound.{CanStabilize};
 ghost use Rattle.graph.specs.Standing.{IsBroken, in_use};
@@ -98,9 +99,8 @@ fn run<F: Functions>(
     ensures few { OnErr result (HasCalledFew parts.old.arena (F.calls functions.old) (F.calls functions.new)) }
     ensures ran { OnErr result (parts.new.ran ≡ parts.old.ran) }
     ensures arena { parts.new.arena ≡ parts.old.arena }
-    ensures names { SameNames (F.named functions.old) (F.named functions.new) }
-    ensures known { KeepsKnown (F.known functions.old) (F.known functions.new) }
-    ensures values { SameValues (F.value functions.old) (F.value functions.new) }
+    ensures functions { KeepsFunctions (F.named functions.old) (F.named functions.new)
+        (F.known functions.old) (F.known functions.new) (F.value functions.old) (F.value functions.new) }
 {
     let roots = nodes_in_use(alloc, observers, rooted)?;
     Stabilizer::run(parts, functions, &roots)

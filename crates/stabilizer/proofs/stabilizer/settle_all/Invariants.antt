@@ -1,6 +1,6 @@
 use Rattle.std.proofs.Common.{◌≡◌}
-use Rattle.node_arena.specs.Meanings.{SameNames, KeepsKnown, SameValues}
-use Rattle.stabilizer.specs.Meaning.{functions_of}
+use Rattle.node_outcomes.specs.Computing.{KeepsFunctions}
+use Rattle.node_outcomes.specs.Meaning.{functions_of}
 use Rattle.stabilizer.proofs.Rounding.{AreSettled, points_at, unsettled_in}
 use Rattle.stabilizer.proofs.stabilizer.settle_all.Given as goal
 
@@ -10,9 +10,8 @@ invariant-loop g l = record {
   ran : l.parts.ran ≡ l.fn.parts.ran;
   so : AreSettled (functions_of (g.F.Functions.value l.fn.functions)) l.fn.parts.arena l.fn.parts.work l.parts.work
       (g.F.Functions.calls l.fn.functions) (g.F.Functions.calls l.functions);
-  names : SameNames (g.F.Functions.named l.fn.functions) (g.F.Functions.named l.functions);
-  known : KeepsKnown (g.F.Functions.known l.fn.functions) (g.F.Functions.known l.functions);
-  values : SameValues (g.F.Functions.value l.fn.functions) (g.F.Functions.value l.functions);
+  functions : KeepsFunctions (g.F.Functions.named l.fn.functions) (g.F.Functions.named l.functions) (g.F.Functions.known l.fn.functions)
+      (g.F.Functions.known l.functions) (g.F.Functions.value l.fn.functions) (g.F.Functions.value l.functions);
 }
 
 abbrev pub decreases-loop : goal.decreases-loop

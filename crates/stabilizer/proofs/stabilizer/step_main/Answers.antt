@@ -1,21 +1,30 @@
+use Rattle.std.proofs.Common.{refl}
+use Rattle.stabilizer.specs.declared.work.Work.{Work}
 use Rattle.stabilizer.proofs.Mains.{main_settled, main_kept, uncomputed_kept}
 use Rattle.stabilizer.proofs.stabilizer.step_main.Goals as goal
 
-pub returns-in_err-outcome-clause-kept : goal.returns-in_err-outcome-clause-kept
-returns-in_err-outcome-clause-kept g c =
-    uncomputed_kept c.args.parts.now.arena c.args.parts.now.work c.compute.new.work c.args.p.node (g.F.Functions.calls c.args.functions.now)
-    (g.F.Functions.calls c.compute.new.functions) c.requires.kept c.in_err-outcome.ensures.refused
+pub returns-in-Err-clause-kept : goal.returns-in-Err-clause-kept
+returns-in-Err-clause-kept g c =
+    let old = c.args.parts.now.work in
+    let mid : Work = record old { rows = c.compute-computed.new.rows; ran = c.compute-computed.new.ran } in
+    uncomputed_kept c.args.parts.now.arena old mid c.args.p.node (g.F.Functions.calls c.args.functions.now)
+    (g.F.Functions.calls c.compute-computed.new.functions) c.requires.kept (record { graph = refl; todo = refl; strict = refl; round = refl })
+    c.in-Err.ensures.computed
 
-pub returns-clause-settled : goal.returns-clause-settled
-returns-clause-settled g c =
-    main_settled (g.F.Functions.value c.args.functions.now) c.args.parts.now.arena c.args.parts.now.work c.compute.new.work
-    c.settle.new.self c.args.p c.in_ok-outcome.outcome (g.F.Functions.calls c.args.functions.now) (g.F.Functions.calls c.compute.new.functions)
-    c.requires.kept c.requires.row c.requires.taken c.in_ok-outcome.ensures.computed
+pub returns-in-Ok-clause-settled : goal.returns-in-Ok-clause-settled
+returns-in-Ok-clause-settled g c =
+    let old = c.args.parts.now.work in
+    let mid : Work = record old { rows = c.compute-computed.new.rows; ran = c.compute-computed.new.ran } in
+    main_settled (g.F.Functions.value c.args.functions.now) c.args.parts.now.arena old mid c.settle.new.self c.args.p c.in-Ok.outcome
+    (g.F.Functions.calls c.args.functions.now) (g.F.Functions.calls c.compute-computed.new.functions) c.requires.kept c.requires.row c.requires.taken
+    (record { graph = refl; todo = refl; strict = refl; round = refl }) c.in-Ok.ensures.computed
     c.settle.ensures.row c.settle.ensures.graph c.settle.ensures.told c.settle.ensures.round c.settle.ensures.todo
 
-pub returns-clause-kept : goal.returns-clause-kept
-returns-clause-kept g c =
-    main_kept (g.F.Functions.value c.args.functions.now) c.args.parts.now.arena c.args.parts.now.work c.compute.new.work
-    c.settle.new.self c.args.p c.in_ok-outcome.outcome (g.F.Functions.calls c.args.functions.now) (g.F.Functions.calls c.compute.new.functions)
-    c.requires.kept c.requires.row c.requires.taken c.in_ok-outcome.ensures.computed
+pub returns-in-Ok-clause-kept : goal.returns-in-Ok-clause-kept
+returns-in-Ok-clause-kept g c =
+    let old = c.args.parts.now.work in
+    let mid : Work = record old { rows = c.compute-computed.new.rows; ran = c.compute-computed.new.ran } in
+    main_kept (g.F.Functions.value c.args.functions.now) c.args.parts.now.arena old mid c.settle.new.self c.args.p c.in-Ok.outcome
+    (g.F.Functions.calls c.args.functions.now) (g.F.Functions.calls c.compute-computed.new.functions) c.requires.kept c.requires.row c.requires.taken
+    (record { graph = refl; todo = refl; strict = refl; round = refl }) c.in-Ok.ensures.computed
     c.settle.ensures.row c.settle.ensures.graph c.settle.ensures.told c.settle.ensures.round c.settle.ensures.todo c.settle.ensures.step

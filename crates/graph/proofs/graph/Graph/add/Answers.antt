@@ -6,7 +6,7 @@ use Rattle.inc_terms.specs.Code.{def_of}
 use Rattle.necessity.specs.Need.{Roots, root_times}
 use Rattle.graph.proofs.Sounding.{AddAnswers, sound_still, answer_fits, answer_older, answer_given}
 use Rattle.graph.proofs.graph.Graph.add.Goals as goal
-use Rattle.graph.proofs.graph.Graph.add.Goals.{in-Ok, in-Err}
+use Rattle.graph.proofs.graph.Graph.add.Goals.{in-Ok-added, in-Err-added}
 
 pub invariant_of-self : goal.invariant_of-self
 invariant_of-self g c = (
@@ -26,6 +26,6 @@ invariant_of-self g c = (
 pub returns-clause-wrong_type : goal.returns-clause-wrong_type
 returns-clause-wrong_type g c = rw (← c.self.view_is) (add_passed c.add-added.result c.match-added.result add.WrongType fault.WrongType
     (elim c.match-added.branch [
-      | in-Ok w ↦ subst (λ r. AddPasses r c.match-added.result) (sym w.in-Ok.is) w.result-is
-      | in-Err w ↦ subst (λ r. AddPasses r c.match-added.result) (sym w.in-Err.is) (w.result-is ∙ ap Err w.add_fault.ensures)
-    ]) add_wrong_type refl c.add-added.ensures.wrong_type (rw (← c.self.view_is) at c.in_ok-check.ensures.unbroken))
+      | in-Ok-added w ↦ subst (λ r. AddPasses r c.match-added.result) (sym w.in-Ok-added.is) w.result-is
+      | in-Err-added w ↦ subst (λ r. AddPasses r c.match-added.result) (sym w.in-Err-added.is) (w.result-is ∙ ap Err w.add_fault.ensures)
+    ]) add_wrong_type refl c.add-added.ensures.wrong_type (rw (← c.self.view_is) at c.in-Ok.ensures.unbroken))

@@ -3,7 +3,7 @@ use Rattle.inc_value.specs.Choice.{here}
 use Rattle.inc_terms.specs.Evaluate.{NodeGives}
 use Rattle.node_arena.specs.Arena.{Arena}
 use Rattle.node_arena.specs.Graph.{graph_of}
-use Rattle.stabilizer.specs.Meaning.{functions_of}
+use Rattle.node_outcomes.specs.Meaning.{functions_of}
 use Rattle.graph.proofs.Observing.{looked_among}
 use Rattle.graph.proofs.graph.Graph.stabilize.Goals as goal
 

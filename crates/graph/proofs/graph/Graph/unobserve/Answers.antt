@@ -1,10 +1,10 @@
 use Rattle.std.proofs.Common.{List, refl, sym, ap, subst, ◌∙◌}
 use Rattle.inc_terms.specs.Depend.{main}
 use Rattle.point_map.specs.Rows.{Rows, at}
-use Rattle.stabilizer.specs.Computing.{seen_of}
+use Rattle.node_outcomes.specs.Computing.{seen_of}
 use Rattle.stabilizer.specs.Round.{last_of}
-use Rattle.stabilizer.specs.Row.{never_in}
-use Rattle.stabilizer.specs.declared.row.Progress.{Progress}
+use Rattle.node_outcomes.specs.Row.{never_in}
+use Rattle.node_outcomes.specs.declared.row.Progress.{Progress}
 use Rattle.graph.specs.Sound.{IsSound}
 use Rattle.graph.specs.declared.observer.Observer.{Observer}
 use Rattle.graph.proofs.Observing.{front_among}

@@ -26,7 +26,7 @@ returns-clause-can g c =
     on_both c.run.result
     (λ right ready. can_again (g.F.Functions.known c.args.functions.now) (g.F.Functions.known c.run.new.functions) (g.F.Functions.value c.args.functions.now) (g.F.Functions.value c.run.new.functions)
     c.args.parts.now c.run.new.parts c.args.observers.now c.args.rooted c.requires.can c.requires.within
-    c.run.ensures.arena c.run.ensures.known ready right)
+    c.run.ensures.arena c.run.ensures.functions.known ready right)
     (returns-clause-right g c) c.run.ensures.ready
 
 pub returns-clause-lawful : goal.returns-clause-lawful

@@ -5,7 +5,7 @@ use Rattle.point_map.specs.Rows.{Changes}
 use Rattle.node_arena.specs.Arena.{Arena}
 use Rattle.stabilizer.specs.Between.{Stays, KeepsWork}
 use Rattle.stabilizer.specs.Kept.{IsKept}
-use Rattle.stabilizer.specs.Row.{never_in}
+use Rattle.node_outcomes.specs.Row.{never_in}
 use Rattle.stabilizer.specs.declared.work.Work.{Work}
 use Rattle.stabilizer.proofs.Between.{ready_stays, same_todo}
 use Rattle.stabilizer.proofs.Cutting.{rows_cutoffs, added_cutoffs}
@@ -14,36 +14,36 @@ use Rattle.stabilizer.proofs.parts.Parts.add.Goals as goal
 
 -- ---- no memory for what is kept of it
 
-pub returns-in-Err-clause-kept : goal.returns-in-Err-clause-kept
-returns-in-Err-clause-kept c =
+pub returns-in-Err-added-clause-kept : goal.returns-in-Err-added-clause-kept
+returns-in-Err-added-clause-kept c =
     let same : KeepsWork c.args.self.now.work c.add-added.new.self = record {
-      rows = c.in-Err.ensures.err;
-      points = c.in-Err.ensures.err_heights;
-      links = c.in-Err.ensures.links;
-      roots = c.in-Err.ensures.roots;
-      heap = c.in-Err.ensures.heap;
-      todo = same_todo c.args.self.now.work c.add-added.new.self c.in-Err.ensures.todo;
-      round = c.in-Err.ensures.round;
+      rows = c.in-Err-added.ensures.err;
+      points = c.in-Err-added.ensures.err_heights;
+      links = c.in-Err-added.ensures.links;
+      roots = c.in-Err-added.ensures.roots;
+      heap = c.in-Err-added.ensures.heap;
+      todo = same_todo c.args.self.now.work c.add-added.new.self c.in-Err-added.ensures.todo;
+      round = c.in-Err-added.ensures.round;
     } in
     back_kept c.args.self.now.arena c.args.self.now.work c.add-added.new.self c.requires.kept same c.stands.ensures
 
-pub returns-in-Err-clause-ready : goal.returns-in-Err-clause-ready
-returns-in-Err-clause-ready c F ready =
+pub returns-in-Err-added-clause-ready : goal.returns-in-Err-added-clause-ready
+returns-in-Err-added-clause-ready c F ready =
     let same : KeepsWork c.args.self.now.work c.add-added.new.self = record {
-      rows = c.in-Err.ensures.err;
-      points = c.in-Err.ensures.err_heights;
-      links = c.in-Err.ensures.links;
-      roots = c.in-Err.ensures.roots;
-      heap = c.in-Err.ensures.heap;
-      todo = same_todo c.args.self.now.work c.add-added.new.self c.in-Err.ensures.todo;
-      round = c.in-Err.ensures.round;
+      rows = c.in-Err-added.ensures.err;
+      points = c.in-Err-added.ensures.err_heights;
+      links = c.in-Err-added.ensures.links;
+      roots = c.in-Err-added.ensures.roots;
+      heap = c.in-Err-added.ensures.heap;
+      todo = same_todo c.args.self.now.work c.add-added.new.self c.in-Err-added.ensures.todo;
+      round = c.in-Err-added.ensures.round;
     } in
     ready_stays F _ _ _ _ ready
     (back_kept c.args.self.now.arena c.args.self.now.work c.add-added.new.self c.requires.kept same c.stands.ensures)
     (back_stays c.args.self.now.arena c.args.self.now.work c.add-added.new.self c.requires.kept same c.stands.ensures)
 
-pub returns-in-Err-clause-cutoffs : goal.returns-in-Err-clause-cutoffs
-returns-in-Err-clause-cutoffs c = rows_cutoffs c.args.self.now.work c.add-added.new.self c.in-Err.ensures.err
+pub returns-in-Err-added-clause-cutoffs : goal.returns-in-Err-added-clause-cutoffs
+returns-in-Err-added-clause-cutoffs c = rows_cutoffs c.args.self.now.work c.add-added.new.self c.in-Err-added.ensures.err
 
 -- ---- its point was added
 
@@ -57,16 +57,16 @@ module _ (c : goal.In-Ok-insert) where
   row : Changes old.rows work.rows (main c.next_id-id.result) (Some unsettled)
   row = subst (λ (p : Point). Changes old.rows work.rows p (Some unsettled)) c.main_point.ensures c.in-Ok.ensures.row
 
-  point : Changes old.graph.heights work.graph.heights (main c.next_id-id.result) (Some 0)
-  point = subst (λ (p : Point). Changes old.graph.heights work.graph.heights p (Some 0)) c.main_point.ensures c.in-Ok.ensures.added
+  point : Changes old.graph.heights work.graph.heights (main c.next_id-id.result) (Some c.height_over-height.result)
+  point = subst (λ (p : Point). Changes old.graph.heights work.graph.heights p (Some c.height_over-height.result)) c.main_point.ensures c.in-Ok.ensures.added
 
   kept : IsKept c.insert.new.self work
-  kept = added_kept c.args.self.now.arena c.insert.new.self old work c.next_id-id.result _ c.requires.kept c.next_id-id.ensures.generation
+  kept = added_kept c.args.self.now.arena c.insert.new.self old work c.next_id-id.result _ c.height_over-height.result c.requires.kept c.next_id-id.ensures.generation
       c.in-Ok-insert.ensures.added refl c.in-Ok-insert.ensures.given row point c.in-Ok.ensures.links c.in-Ok.ensures.roots c.in-Ok.ensures.heap
       c.stands.ensures c.in-Ok.ensures.round (same_todo old work c.in-Ok.ensures.todo)
 
   stays : Stays c.args.self.now.arena c.insert.new.self old work
-  stays = added_stays c.args.self.now.arena c.insert.new.self old work c.next_id-id.result _ c.requires.kept c.next_id-id.ensures.generation
+  stays = added_stays c.args.self.now.arena c.insert.new.self old work c.next_id-id.result _ c.height_over-height.result c.requires.kept c.next_id-id.ensures.generation
       c.in-Ok-insert.ensures.added refl c.in-Ok-insert.ensures.given row point c.in-Ok.ensures.links c.in-Ok.ensures.roots c.in-Ok.ensures.heap
       c.stands.ensures c.in-Ok.ensures.round (same_todo old work c.in-Ok.ensures.todo)
 
@@ -91,9 +91,9 @@ dropped c =
     let mid = c.add-added.new.self in
     let work = c.drop_point.new.self in
     let d = c.drop_point.ensures in
-    dropped_again c.args.self.now.arena old mid c.next_id-id.result c.requires.kept c.next_id-id.ensures.generation
+    dropped_again c.args.self.now.arena old mid c.next_id-id.result c.height_over-height.result c.requires.kept c.next_id-id.ensures.generation
     (subst (λ (p : Point). Changes old.rows mid.rows p (Some unsettled)) c.main_point.ensures c.in-Ok.ensures.row)
-    (subst (λ (p : Point). Changes old.graph.heights mid.graph.heights p (Some 0)) c.main_point.ensures c.in-Ok.ensures.added)
+    (subst (λ (p : Point). Changes old.graph.heights mid.graph.heights p (Some c.height_over-height.result)) c.main_point.ensures c.in-Ok.ensures.added)
     c.in-Ok.ensures.links c.in-Ok.ensures.roots c.in-Ok.ensures.heap c.in-Ok.ensures.round (same_todo old mid c.in-Ok.ensures.todo) work
     (subst (λ (p : Point). Changes mid.rows work.rows p None) c.main_point-in-Err-insert.ensures d.row)
     (subst (λ (p : Point). Changes mid.graph.heights work.graph.heights p None) c.main_point-in-Err-insert.ensures d.dropped)

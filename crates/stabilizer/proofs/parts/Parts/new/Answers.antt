@@ -1,6 +1,6 @@
 use Rattle.std.proofs.Common.{ap}
 use Rattle.inc_terms.specs.Depend.{main}
-use Rattle.stabilizer.specs.Row.{never_in}
+use Rattle.node_outcomes.specs.Row.{never_in}
 use Rattle.stabilizer.proofs.Empty.{empty_ready}
 use Rattle.stabilizer.proofs.parts.Parts.new.Goals as goal
 

@@ -1,6 +1,6 @@
 use Rattle.std.proofs.Common.{subst}
 use Rattle.inc_value.specs.declared.node.Point.{Point}
-use Rattle.stabilizer.specs.Row.{IsRewritten, with_cutoff}
+use Rattle.node_outcomes.specs.Row.{IsRewritten, with_cutoff}
 use Rattle.stabilizer.proofs.Cutting.{cut_kept, cut_ready}
 use Rattle.stabilizer.proofs.parts.Parts.set_cutoff.Goals as goal
 

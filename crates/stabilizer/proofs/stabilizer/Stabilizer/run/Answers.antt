@@ -7,7 +7,7 @@ use Rattle.node_arena.specs.Graph.{graph_of}
 use Rattle.stabilize_round.specs.Calling.{costs_of}
 use Rattle.stabilize_round.specs.Counts.{RoseBy}
 use Rattle.stabilizer.specs.Kept.{IsKept}
-use Rattle.stabilizer.specs.Meaning.{functions_of}
+use Rattle.node_outcomes.specs.Meaning.{functions_of}
 use Rattle.stabilizer.specs.Round.{IsReady, IsUpToDate, AreRooted, IsLawful}
 use Rattle.stabilizer.proofs.Beginning.{same_meaning}
 use Rattle.stabilizer.proofs.Lawful.{round_lawful}
@@ -20,8 +20,8 @@ returns-in_err-put_roots-clause-lawful g c =
     let arena = c.args.parts.now.arena in
     let old = c.args.parts.now.work in
     let e = c.in_err-put_roots.field-0.0 in
-    let is : IsErrAnd c.from_residual-in_err-put_roots.result (λ x. x ≡ e) = c.from_residual-in_err-put_roots.ensures.1 in
-    exit_is c.from_residual-in_err-put_roots.result e
+    let is : IsErrAnd c.from_residual.result (λ x. x ≡ e) = c.from_residual.ensures.1 in
+    exit_is c.from_residual.result e
     (λ x. (observed : List NodeId) → AreRooted old observed → IsLawful F arena old (c.args.roots.now ++ observed) x) is
     (λ observed looks. round_lawful F arena old c.put_roots.new.work (g.F.Functions.calls c.args.functions.now) c.requires.ready
     c.in_err-put_roots.ensures.refused c.args.roots.now observed c.put_roots.ensures.roots looks e c.in_err-put_roots.ensures.told)
@@ -61,7 +61,7 @@ returns-clause-right g c =
     let settled = c.settle_all.new.parts.work in
     let kept : IsKept arena settled = subst (λ (a : Arena). IsKept a settled) c.settle_all.ensures.arena c.settle_all.ensures.kept in
     let round : new.round ≡ settled.round + 1 =
-    c.end_round.ensures.round ∙ (next_is c.checked_add.result _ (old.round + 1) c.in_ok-next.next c.checked_add.ensures c.in_ok-next.ensures.ok_part
+    c.end_round.ensures.round ∙ (next_is c.checked_add.result _ (old.round + 1) c.in-Some.next c.checked_add.ensures c.in-Some.is
     ∙ ap (λ (k : ℕ). k + 1) (sym (c.settle_all.ensures.round ∙ c.put_roots.ensures.round))) in
     λ observed looks.
     subst (λ v. IsUpToDate F arena old new (c.args.roots.now ++ observed) v.items) (sym c.swap.ensures.x_after)
@@ -79,11 +79,11 @@ returns-clause-ready g c =
     let settled = c.settle_all.new.parts.work in
     let kept : IsKept arena settled = subst (λ (a : Arena). IsKept a settled) c.settle_all.ensures.arena c.settle_all.ensures.kept in
     let round : new.round ≡ settled.round + 1 =
-    c.end_round.ensures.round ∙ (next_is c.checked_add.result _ (old.round + 1) c.in_ok-next.next c.checked_add.ensures c.in_ok-next.ensures.ok_part
+    c.end_round.ensures.round ∙ (next_is c.checked_add.result _ (old.round + 1) c.in-Some.next c.checked_add.ensures c.in-Some.is
     ∙ ap (λ (k : ℕ). k + 1) (sym (c.settle_all.ensures.round ∙ c.put_roots.ensures.round))) in
     subst (λ (a : Arena). IsReady (functions_of (g.F.Functions.value c.settle_all.new.functions)) a new) (sym c.settle_all.ensures.arena)
     (subst (λ v. IsReady (functions_of v) arena new)
-    (sym (same_meaning (g.F.Functions.value c.args.functions.now) (g.F.Functions.value c.settle_all.new.functions) c.settle_all.ensures.values))
+    (sym (same_meaning (g.F.Functions.value c.args.functions.now) (g.F.Functions.value c.settle_all.new.functions) c.settle_all.ensures.functions.values))
     (round_readies F arena old c.put_roots.new.work (g.F.Functions.calls c.args.functions.now) c.requires.ready c.in_ok-put_roots.ensures.wired settled
     (g.F.Functions.calls c.settle_all.new.functions) c.in_ok-settle_all.ensures.settled kept c.settle_all.ensures.quiet c.in_ok-settle_all.ensures.empty
     (c.settle_all.ensures.round ∙ c.put_roots.ensures.round) new c.end_round.ensures.graph c.end_round.ensures.rows c.end_round.ensures.todo c.end_round.ensures.ran c.end_round.ensures.strict round))

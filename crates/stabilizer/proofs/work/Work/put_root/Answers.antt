@@ -2,6 +2,8 @@ use Rattle.std.proofs.Common.{inl, refl, ap, ◌∙◌}
 use Rattle.std.proofs.lemmas.Result.{on_ok_weaker, on_err_weaker}
 use Rattle.point_map.specs.Rows.{Rows, at}
 use Rattle.std.specs.Prelude.{is_some}
+use Rattle.necessity.specs.Need.{Roots, root_times}
+use Rattle.stabilizer.specs.declared.work.Work.{Work}
 use Rattle.stabilizer.proofs.Connecting.{same_need, on_err, IsLeft, left_room, left_link, grown_kept}
 use Rattle.stabilizer.proofs.Putting.{root_grown, root_more, root_round, root_follows, main_is_rowed, wires_then, refused_then, left_refuses, on_ok}
 use Rattle.stabilizer.proofs.work.Work.put_root.Goals as goal
@@ -49,7 +51,7 @@ returns-in-Ok-clause-wired c =
     let follows = root_follows c.args.self.now m.new.self k.new.self l.new.self c.args.p ok.newly m.ensures.looks ok.ensures.needed ok.ensures.rooted
     l.ensures.links
     l.ensures.heights l.ensures.heap ok.ensures.newly k.ensures.woken k.ensures.unchanged c.args.arena.now
-    (main_is_rowed c.args.arena.now c.args.self.now c.args.p c.requires.kept c.requires.main) in
+    c.requires.given (main_is_rowed c.args.arena.now c.args.self.now c.args.p c.requires.kept c.requires.main) in
     on_ok_weaker c.wire.result (λ w. wires_then c.args.arena.now c.args.self.now c.wake.new.self c.wire.new.self follows w) c.wire.ensures.wired
 
 pub returns-in-Ok-clause-refused : goal.returns-in-Ok-clause-refused
@@ -61,7 +63,7 @@ returns-in-Ok-clause-refused c =
     let follows = root_follows c.args.self.now m.new.self k.new.self l.new.self c.args.p ok.newly m.ensures.looks ok.ensures.needed ok.ensures.rooted
     l.ensures.links
     l.ensures.heights l.ensures.heap ok.ensures.newly k.ensures.woken k.ensures.unchanged c.args.arena.now
-    (main_is_rowed c.args.arena.now c.args.self.now c.args.p c.requires.kept c.requires.main) in
+    c.requires.given (main_is_rowed c.args.arena.now c.args.self.now c.args.p c.requires.kept c.requires.main) in
     on_err_weaker c.wire.result (λ w. refused_then c.args.arena.now c.args.self.now c.wake.new.self c.wire.new.self follows w) c.wire.ensures.refused
 
 pub returns-in-Ok-clause-round : goal.returns-in-Ok-clause-round
@@ -94,3 +96,25 @@ returns-in-Err-clause-refused c =
     (λ a. ap (λ (h : Rows _). is_some (at h a)) l.ensures.heights) (λ a. ap (λ (h : Rows _). is_some (at h a)) l.ensures.heap) d.ensures.closed
     d.ensures.kept d.ensures.links d.ensures.roots d.ensures.heap d.ensures.rest d.new.self refl (inl refl) c.stands.ensures in
     left_refuses c.args.arena.now c.args.self.now d.new.self left c.requires.kept.flat
+
+pub returns-in_err-opened-clause-round : goal.returns-in_err-opened-clause-round
+returns-in_err-opened-clause-round c = c.make_room.ensures.looks.round.round
+
+pub returns-in_err-opened-clause-others : goal.returns-in_err-opened-clause-others
+returns-in_err-opened-clause-others c = λ a ne. c.make_room.ensures.looks.roots a
+
+pub returns-in-Ok-clause-empty : goal.returns-in-Ok-clause-empty
+returns-in-Ok-clause-empty c = c.wire.ensures.empty
+
+pub returns-in-Ok-clause-kept : goal.returns-in-Ok-clause-kept
+returns-in-Ok-clause-kept c = on_ok c.wire.result c.wire.ensures.kept
+
+pub returns-in-Ok-clause-told : goal.returns-in-Ok-clause-told
+returns-in-Ok-clause-told c = c.wire.ensures.told
+
+pub returns-in-Err-clause-round : goal.returns-in-Err-clause-round
+returns-in-Err-clause-round c = ap (λ (w : Work). w.round) c.close.ensures.rest ∙ c.make_room.ensures.looks.round.round
+
+pub returns-in-Err-clause-others : goal.returns-in-Err-clause-others
+returns-in-Err-clause-others c = λ a ne.
+    ap (λ (r : Roots). root_times r a) c.close.ensures.roots ∙ (c.in-Err.ensures.err a ∙ c.make_room.ensures.looks.roots a)

@@ -1,8 +1,7 @@
-use Rattle.std.proofs.Common.{◌≡◌, Some, refl, ◌∙◌}
-use Rattle.stabilizer.specs.declared.row.Stage.TheVariants.{Bare}
+use Rattle.std.proofs.Common.{refl}
 use Rattle.stabilizer.proofs.Connecting.{on_err}
 use Rattle.stabilizer.proofs.Leaving.{popped_of, wiring_first, wiring_skip, wiring_one, wiring_refused, wiring_last, one_less}
-use Rattle.stabilizer.proofs.work.Work.wire.Goals.{else-is_needed-via-then-is_needed+else-eq, else-is_needed-via-else-is_needed}
+use Rattle.stabilizer.proofs.work.Work.wire.Goals.{else-is_needed-via-then-is_needed+else-is_bare, else-is_needed-via-else-is_needed}
 use Rattle.stabilizer.proofs.work.Work.wire.Goals as goal
 
 pub loop-p-init : goal.loop-p-init
@@ -14,14 +13,14 @@ returns-in_err-wire_one-clause-refused c =
     c.loop-p.invariant (popped_of c.loop-p.self c.pop.new.self c.in-Some.p c.in-Some.ensures.items)
     c.wire_one.new.self c.in_err-wire_one.ensures.refused)
 
-pub loop-p-smaller-then-eq : goal.loop-p-smaller-then-eq
-loop-p-smaller-then-eq c =
+pub loop-p-smaller-then-is_bare : goal.loop-p-smaller-then-is_bare
+loop-p-smaller-then-is_bare c =
     one_less c.args.arena.now c.args.self.now c.loop-p.self (record c.loop-p.self { todo = c.pop.new.self }) c.in-Some.p
     c.loop-p.invariant (popped_of c.loop-p.self c.pop.new.self c.in-Some.p c.in-Some.ensures.items)
     c.wire_one.new.self c.in_ok-wire_one.ensures.pushed
 
-pub loop-p-preserved-then-eq : goal.loop-p-preserved-then-eq
-loop-p-preserved-then-eq c =
+pub loop-p-preserved-then-is_bare : goal.loop-p-preserved-then-is_bare
+loop-p-preserved-then-is_bare c =
     wiring_one c.args.arena.now c.args.self.now c.loop-p.self (record c.loop-p.self { todo = c.pop.new.self }) c.in-Some.p
     c.loop-p.invariant (popped_of c.loop-p.self c.pop.new.self c.in-Some.p c.in-Some.ensures.items)
     c.wire_one.new.self c.in_ok-wire_one.ensures.wired c.wire_one.ensures.need c.wire_one.ensures.kept
@@ -31,10 +30,8 @@ loop-p-preserved c =
     wiring_skip c.args.arena.now c.args.self.now c.loop-p.self (record c.loop-p.self { todo = c.pop.new.self }) c.in-Some.p
     c.loop-p.invariant (popped_of c.loop-p.self c.pop.new.self c.in-Some.p c.in-Some.ensures.items)
     (λ need bare. elim c.else-is_needed.branch [
-      | else-is_needed-via-then-is_needed+else-eq w ↦
-          let e : w.stage.result ≡ Some Bare = w.stage.ensures ∙ bare in
-          let f = rw e at w.if-eq.ensures in
-          cc
+      | else-is_needed-via-then-is_needed+else-is_bare w ↦
+          let f = w.if-is_bare.ensures.1 bare in cc
       | else-is_needed-via-else-is_needed w ↦ let f = w.if-is_needed.ensures.1 need in cc
     ])
 

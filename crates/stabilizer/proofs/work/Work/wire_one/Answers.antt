@@ -28,8 +28,26 @@ among_at : (d : Def) (q : Point) (ns : List NodeId) (i : _) (n : NodeId) → i <
 among_at d q ns i n below is all =
     subst (λ (xs : List NodeId). Among q (map main xs)) all (subst (λ (x : Point). Among x (map main ns)) (sym is) (kid_among ns i n below))
 
+-- ---- a point with a row has a live node
+
 pub returns-in_default-clause-wired : goal.returns-in_default-clause-wired
 returns-in_default-clause-wired c =
+    absurd (never_dead c.args.arena.now c.args.self.now c.args.p c.requires.kept c.requires.there (sym c.in_default.ensures))
+
+pub returns-in_default-clause-need : goal.returns-in_default-clause-need
+returns-in_default-clause-need c =
+    absurd (never_dead c.args.arena.now c.args.self.now c.args.p c.requires.kept c.requires.there (sym c.in_default.ensures))
+
+pub returns-in_default-clause-kept : goal.returns-in_default-clause-kept
+returns-in_default-clause-kept c =
+    absurd (never_dead c.args.arena.now c.args.self.now c.args.p c.requires.kept c.requires.there (sym c.in_default.ensures))
+
+pub returns-in_default-clause-pushed : goal.returns-in_default-clause-pushed
+returns-in_default-clause-pushed c =
+    absurd (never_dead c.args.arena.now c.args.self.now c.args.p c.requires.kept c.requires.there (sym c.in_default.ensures))
+
+pub returns-in_default-clause-told : goal.returns-in_default-clause-told
+returns-in_default-clause-told c =
     absurd (never_dead c.args.arena.now c.args.self.now c.args.p c.requires.kept c.requires.there (sym c.in_default.ensures))
 
 pub loop-kid-init : goal.loop-kid-init
@@ -114,10 +132,76 @@ returns-clause-wired c =
     let top = top_of c.args.arena.now c.args.self.now c.args.p row c.requires.kept c.requires.there c.in-Some.ensures in
     handed_last c.args.arena.now c.args.p row.def top c.args.self.now c.loop-target.self c.loop-target.invariant
 
--- ---- today's nodes have no gate
+-- ---- today's nodes have no gate, and no right sides
+
+pub returns-in_err-connect-clause-refused : goal.returns-in_err-connect-clause-refused
+returns-in_err-connect-clause-refused c =
+    let row = c.in-Some.row.now in
+    absurd (no_gate c.in-Some-gate.gate row.scope (c.requires.kept.flat c.args.p.node (row_of row) (sym c.in-Some.ensures))
+    (sym c.in-Some-gate.is ∙ c.gate.ensures))
+
+pub returns-in_err-connect-clause-need : goal.returns-in_err-connect-clause-need
+returns-in_err-connect-clause-need c =
+    let row = c.in-Some.row.now in
+    absurd (no_gate c.in-Some-gate.gate row.scope (c.requires.kept.flat c.args.p.node (row_of row) (sym c.in-Some.ensures))
+    (sym c.in-Some-gate.is ∙ c.gate.ensures))
 
 pub returns-in_err-connect-clause-kept : goal.returns-in_err-connect-clause-kept
 returns-in_err-connect-clause-kept c =
     let row = c.in-Some.row.now in
     absurd (no_gate c.in-Some-gate.gate row.scope (c.requires.kept.flat c.args.p.node (row_of row) (sym c.in-Some.ensures))
     (sym c.in-Some-gate.is ∙ c.gate.ensures))
+
+pub returns-in_err-connect-clause-told : goal.returns-in_err-connect-clause-told
+returns-in_err-connect-clause-told c =
+    let row = c.in-Some.row.now in
+    absurd (no_gate c.in-Some-gate.gate row.scope (c.requires.kept.flat c.args.p.node (row_of row) (sym c.in-Some.ensures))
+    (sym c.in-Some-gate.is ∙ c.gate.ensures))
+
+pub returns-then-not-branch-clause-wired : goal.returns-then-not-branch-clause-wired
+returns-then-not-branch-clause-wired c =
+    let row = c.in-Some.row.now in
+    absurd (no_gate c.in-Some-gate.gate row.scope (c.requires.kept.flat c.args.p.node (row_of row) (sym c.in-Some.ensures))
+    (sym c.in-Some-gate.is ∙ c.gate.ensures))
+
+pub returns-then-not-branch-clause-need : goal.returns-then-not-branch-clause-need
+returns-then-not-branch-clause-need c =
+    let row = c.in-Some.row.now in
+    absurd (no_gate c.in-Some-gate.gate row.scope (c.requires.kept.flat c.args.p.node (row_of row) (sym c.in-Some.ensures))
+    (sym c.in-Some-gate.is ∙ c.gate.ensures))
+
+pub returns-then-not-branch-clause-kept : goal.returns-then-not-branch-clause-kept
+returns-then-not-branch-clause-kept c =
+    let row = c.in-Some.row.now in
+    absurd (no_gate c.in-Some-gate.gate row.scope (c.requires.kept.flat c.args.p.node (row_of row) (sym c.in-Some.ensures))
+    (sym c.in-Some-gate.is ∙ c.gate.ensures))
+
+pub returns-then-not-branch-clause-pushed : goal.returns-then-not-branch-clause-pushed
+returns-then-not-branch-clause-pushed c =
+    let row = c.in-Some.row.now in
+    absurd (no_gate c.in-Some-gate.gate row.scope (c.requires.kept.flat c.args.p.node (row_of row) (sym c.in-Some.ensures))
+    (sym c.in-Some-gate.is ∙ c.gate.ensures))
+
+pub returns-in_err-connect-3-clause-refused : goal.returns-in_err-connect-3-clause-refused
+returns-in_err-connect-3-clause-refused c = absurd (let none = ap length c.targets-target-items.ensures.none in let below = c.loop-target-test.true in omega (arith, none, below))
+
+pub returns-in_err-connect-3-clause-need : goal.returns-in_err-connect-3-clause-need
+returns-in_err-connect-3-clause-need c = absurd (let none = ap length c.targets-target-items.ensures.none in let below = c.loop-target-test.true in omega (arith, none, below))
+
+pub returns-in_err-connect-3-clause-kept : goal.returns-in_err-connect-3-clause-kept
+returns-in_err-connect-3-clause-kept c = absurd (let none = ap length c.targets-target-items.ensures.none in let below = c.loop-target-test.true in omega (arith, none, below))
+
+pub returns-in_err-connect-3-clause-told : goal.returns-in_err-connect-3-clause-told
+returns-in_err-connect-3-clause-told c = absurd (let none = ap length c.targets-target-items.ensures.none in let below = c.loop-target-test.true in omega (arith, none, below))
+
+pub returns-then-not-branch-3-clause-wired : goal.returns-then-not-branch-3-clause-wired
+returns-then-not-branch-3-clause-wired c = absurd (let none = ap length c.targets-target-items.ensures.none in let below = c.loop-target-test.true in omega (arith, none, below))
+
+pub returns-then-not-branch-3-clause-need : goal.returns-then-not-branch-3-clause-need
+returns-then-not-branch-3-clause-need c = absurd (let none = ap length c.targets-target-items.ensures.none in let below = c.loop-target-test.true in omega (arith, none, below))
+
+pub returns-then-not-branch-3-clause-kept : goal.returns-then-not-branch-3-clause-kept
+returns-then-not-branch-3-clause-kept c = absurd (let none = ap length c.targets-target-items.ensures.none in let below = c.loop-target-test.true in omega (arith, none, below))
+
+pub returns-then-not-branch-3-clause-pushed : goal.returns-then-not-branch-3-clause-pushed
+returns-then-not-branch-3-clause-pushed c = absurd (let none = ap length c.targets-target-items.ensures.none in let below = c.loop-target-test.true in omega (arith, none, below))

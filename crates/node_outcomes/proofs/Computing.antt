@@ -1,0 +1,494 @@
+-- What a node gives by what its children show.
+use Rattle.std.proofs.Common.{◌≡◌, ◌⊎◌, inl, inr, ℕ, suc, ◌<◌, ◌+◌, ◌++◌, Bool, true, false, List, [], ◌∷◌, length, take, get_or, Option, None, Some}
+use Rattle.std.proofs.Common.{refl, sym, ap, subst, ◌∙◌, IsTrue, IsSome, arith, append-nil}
+use Rattle.std.specs.Prelude.{is_some, IfSome, option_and_then, Result, Ok, Err}
+use Rattle.std.specs.List.{AllZip, filter_map}
+use Rattle.std.proofs.lemmas.List.{take_more}
+use Rattle.std.proofs.lemmas.List.Elements.{filter_map-append}
+use Rattle.std.proofs.lemmas.Option.{none-some, same_Some}
+use Rattle.inc_value.specs.Choice.{Every}
+use Rattle.inc_value.specs.Value.{type_of, HaveTypes}
+use Rattle.inc_value.specs.declared.function.FnRef.{FnRef}
+use Rattle.inc_value.specs.declared.node.NodeId.{NodeId}
+use Rattle.inc_value.specs.declared.outcome.Outcome.{Outcome}
+use Rattle.inc_value.specs.declared.outcome.Outcome.TheVariants.{Val, Invalid}
+use Rattle.inc_value.specs.declared.ty.Ty.{Ty}
+use Rattle.inc_value.specs.declared.value.Value.{Value}
+use Rattle.inc_terms.specs.declared.def.Def as declared
+use Rattle.inc_terms.specs.declared.def.Def.TheVariants as form
+use Rattle.inc_terms.specs.Code.{def_of}
+use Rattle.inc_terms.specs.Depend.{main}
+use Rattle.inc_terms.specs.Evaluate.{Gathered, Unknown, SomeInvalid, Values, joined, given}
+use Rattle.inc_terms.specs.Graph.{Graph, Row, Def, Const, Var, Map, Fold, kids}
+use Rattle.inc_terms.specs.Work.{cost_of}
+use Rattle.inc_terms.specs.Local.{own}
+use Rattle.point_map.specs.Rows.{Rows, at, Holds}
+use Rattle.node_arena.specs.Arena.{Arena, row_at}
+use Rattle.node_arena.specs.Graph.{graph_of}
+use Rattle.node_arena.specs.Sound.{IsSound}
+use Rattle.node_arena.specs.Typing.{Fits, Makes, MapMakes, FoldMakes, FoldTakes}
+use Rattle.inc_terms.specs.Work.{taken_by}
+use Rattle.stabilize_round.specs.Calling.{IsAnswer, cost_at, row_cost, or_none}
+use Rattle.stabilize_round.specs.Counts.{RoseBy, RoseAtMost}
+use Rattle.stabilize_round.specs.Moves.{calls_of}
+use Rattle.stabilize_round.specs.State.{Call}
+use Rattle.node_outcomes.specs.Computing.{seen, seen_of, seen_together, value_shown, ShowsValue, IsForcedBy, CallsSeen, Noted, KeepsTypes, KeepsFunctions}
+use Rattle.node_outcomes.specs.Computing.{IsCalled, Calls, IsKnown, AllShow, LastWas, FoldFits, KeepsAllButCount, ComputesCall, CallComputes, Computes, NotComputed, Ends}
+use Rattle.node_outcomes.specs.Meaning.{functions_of}
+use Rattle.node_outcomes.specs.Row.{IsRewritten, with_last, value_of, value_in}
+use Rattle.node_outcomes.specs.declared.row.Progress.{Progress}
+
+some_is : {A : Type 0} (x : Option A) → IsSome x → (a : A) × (x ≡ Some a)
+some_is None h = cc
+some_is (Some a) h = (a, refl)
+
+-- what was kept of functions, and is kept on, is kept
+pub functions_on : {a b c : List ℕ → Option FnRef} {d e f : FnRef → Bool} {u v w : FnRef → List Value → Value}
+    → KeepsFunctions a b d e u v → KeepsFunctions b c e f v w → KeepsFunctions a c d f u w
+functions_on h k = record {
+  names = λ name. k.names name ∙ h.names name;
+  known = λ f t. k.known f (h.known f t);
+  values = λ f xs. k.values f xs ∙ h.values f xs;
+}
+
+-- ---- what is seen, and which value is shown
+
+shown_outcome : (o : Option Outcome) (v : Value) → value_of o ≡ Some v → o ≡ Some (Val v)
+shown_outcome None v e = cc
+shown_outcome (Some Invalid) v e = cc
+shown_outcome (Some (Val w)) v e = cc
+
+outcome_shown : (o : Option Outcome) (v : Value) → o ≡ Some (Val v) → value_of o ≡ Some v
+outcome_shown o v e = rw e refl
+
+shown_is_seen : (k : Option Progress) (v : Value) → value_in k ≡ Some v → seen_of k ≡ Some (Val v)
+shown_is_seen None v e = cc
+shown_is_seen (Some k) v e = shown_outcome k.outcome v e
+
+seen_is_shown : (k : Option Progress) (v : Value) → seen_of k ≡ Some (Val v) → value_in k ≡ Some v
+seen_is_shown None v e = cc
+seen_is_shown (Some k) v e = outcome_shown k.outcome v e
+
+-- values are put together of a first and the rest
+record Joins (o : Option Outcome) (g : Gathered) (values : List Value) : Type 0 where
+  first : Value
+  rest : List Value
+  is_first : o ≡ Some (Val first)
+  is_rest : g ≡ Values rest
+  both : values ≡ first ∷ rest
+
+joins : (o : Option Outcome) (g : Gathered) (values : List Value) → joined o g ≡ Values values → Joins o g values
+joins None g values e = cc
+joins (Some Invalid) Unknown values e = cc
+joins (Some Invalid) SomeInvalid values e = cc
+joins (Some Invalid) (Values vs) values e = cc
+joins (Some (Val v)) Unknown values e = cc
+joins (Some (Val v)) SomeInvalid values e = cc
+joins (Some (Val v)) (Values vs) values e = record { first = v; rest = vs; is_first = refl; is_rest = refl; both = cc }
+
+module _ (rows : Rows Progress) where
+  -- where nodes show values, these are put together
+  together_from_shown : (nodes : List NodeId) (values : List Value) → AllZip (ShowsValue rows) nodes values → seen_together rows nodes ≡ Values values
+  together_from_shown [] [] h = refl
+  together_from_shown [] (v ∷ vs) h = absurd h
+  together_from_shown (n ∷ ns) [] h = absurd h
+  together_from_shown (n ∷ ns) (v ∷ vs) h =
+      ap (λ (o : Option Outcome). joined o (seen_together rows ns)) (shown_is_seen (at rows (main n)) v h.0)
+      ∙ ap (λ (g : Gathered). joined (Some (Val v)) g) (together_from_shown ns vs h.1)
+
+  -- values that are put together are shown
+  shown_from_together : (nodes : List NodeId) (values : List Value) → seen_together rows nodes ≡ Values values → AllZip (ShowsValue rows) nodes values
+  shown_from_together [] [] e = tt
+  shown_from_together [] (v ∷ vs) e = cc
+  shown_from_together (n ∷ ns) [] e = let j = joins _ _ _ e in cc
+  shown_from_together (n ∷ ns) (v ∷ vs) e =
+      let j = joins (seen rows (main n)) (seen_together rows ns) (v ∷ vs) e in
+      let first : j.first ≡ v = cc in let rest : j.rest ≡ vs = cc in (
+        seen_is_shown (at rows (main n)) v (j.is_first ∙ ap (λ (x : Value). Some (Val x)) first),
+        shown_from_together ns vs (j.is_rest ∙ ap Values rest),
+      )
+
+  -- nodes that all show a value show their values
+  values_of_all : (nodes : List NodeId) → AllShow rows nodes → (values : List Value) × AllZip (ShowsValue rows) nodes values
+  values_of_all [] h = ([], tt)
+  values_of_all (n ∷ ns) h =
+      let first = some_is (value_shown rows n) h.0 in let rest = values_of_all ns h.1 in
+      (first.0 ∷ rest.0, (first.1, rest.1))
+
+  pub all_of_values : (nodes : List NodeId) (values : List Value) → AllZip (ShowsValue rows) nodes values → AllShow rows nodes
+  all_of_values [] [] h = tt
+  all_of_values [] (v ∷ vs) h = absurd h
+  all_of_values (n ∷ ns) [] h = absurd h
+  all_of_values (n ∷ ns) (v ∷ vs) h = (ap is_some h.0, all_of_values ns vs h.1)
+
+  -- the values that nodes show
+  pub filter_is_values : (nodes : List NodeId) (values : List Value) → AllZip (ShowsValue rows) nodes values → filter_map (value_shown rows) nodes ≡ values
+  filter_is_values [] [] h = refl
+  filter_is_values [] (v ∷ vs) h = absurd h
+  filter_is_values (n ∷ ns) [] h = absurd h
+  filter_is_values (n ∷ ns) (v ∷ vs) h = rw (h.0, filter_is_values ns vs h.1) refl
+
+  filter_is_shown : (nodes : List NodeId) → AllShow rows nodes → AllZip (ShowsValue rows) nodes (filter_map (value_shown rows) nodes)
+  filter_is_shown nodes all =
+      let w = values_of_all nodes all in
+      subst (λ (vs : List Value). AllZip (ShowsValue rows) nodes vs) (sym (filter_is_values nodes w.0 w.1)) w.1
+
+  -- one node more, which shows a value
+  pub filter_some : (nodes : List NodeId) (i : ℕ) (d : NodeId) (v : Value) → i < length nodes → value_shown rows (get_or nodes i d) ≡ Some v
+      → filter_map (value_shown rows) (take (i + 1) nodes) ≡ filter_map (value_shown rows) (take i nodes) ++ v ∷ []
+  filter_some nodes i d v h e = rw (take_more nodes i d h, filter_map-append (value_shown rows) (take i nodes) (get_or nodes i d ∷ []), e) refl
+
+  -- one node more, which shows none
+  pub filter_none : (nodes : List NodeId) (i : ℕ) (d : NodeId) → i < length nodes → value_shown rows (get_or nodes i d) ≡ None
+      → filter_map (value_shown rows) (take (i + 1) nodes) ≡ filter_map (value_shown rows) (take i nodes)
+  filter_none nodes i d h e =
+      rw (take_more nodes i d h, filter_map-append (value_shown rows) (take i nodes) (get_or nodes i d ∷ []), e) (append-nil _)
+
+  -- what is so of the values that children show is so of what children show that all show a value
+  pub all_fit : (P : List Value → Type 0) (nodes : List NodeId) → ((values : List Value) → AllZip (ShowsValue rows) nodes values → P values)
+      → AllShow rows nodes → P (filter_map (value_shown rows) nodes)
+  all_fit P nodes fit all = fit (filter_map (value_shown rows) nodes) (filter_is_shown nodes all)
+
+  -- as many as there are nodes
+  pub as_many : (nodes : List NodeId) (values : List Value) → AllZip (ShowsValue rows) nodes values → length values ≡ length nodes
+  as_many [] [] h = refl
+  as_many [] (v ∷ vs) h = absurd h
+  as_many (n ∷ ns) [] h = absurd h
+  as_many (n ∷ ns) (v ∷ vs) h = ap suc (as_many ns vs h.1)
+
+  pub all_shown : (nodes : List NodeId) → AllShow rows nodes → length (filter_map (value_shown rows) nodes) ≡ length nodes
+  all_shown nodes all = as_many nodes (filter_map (value_shown rows) nodes) (filter_is_shown nodes all)
+
+  -- the test tells that the children don't show what the function was last called on
+  pub not_last : (nodes : List NodeId) (x : Option Call) (a b : Call) (values : List Value) (shows : Bool)
+      → Some a ≡ x → x ≡ Some b → values ≡ a.arguments → shows ≡ false → (AllZip (ShowsValue rows) nodes values → IsTrue shows)
+      → AllZip (ShowsValue rows) nodes b.arguments → ⊥
+  not_last nodes x a b values shows was is same not tells shown =
+      let arguments : values ≡ b.arguments = same ∙ ap (λ (c : Call). c.arguments) (same_Some a b (was ∙ is)) in
+      let h : IsTrue shows = tells (subst (λ (vs : List Value). AllZip (ShowsValue rows) nodes vs) (sym arguments) shown) in
+      cc
+
+-- it was never called
+pub never_last : (x : Option Call) (b : Call) → None ≡ x → x ≡ Some b → ⊥
+never_last x b none some = none-some b (none ∙ some)
+
+-- ---- what a node gives whose function is called on what its children show
+
+unmoved : (rows : Rows Progress) (n : NodeId) (kept : Progress) → at rows (main n) ≡ Some kept → IsRewritten rows rows (main n) (with_last kept.last)
+unmoved rows n kept e = record { changed = rw e refl; others = λ q ne. refl; points = λ i. refl }
+
+no_rise : (n : ℕ) → RoseBy n 0 n
+no_rise n = record { kept = omega arith; most = omega arith; exact = λ h. omega arith }
+
+last_of_kept : (x : Option Progress) (kept : Progress) → x ≡ Some kept → option_and_then (λ (k : Progress). k.last) x ≡ kept.last
+last_of_kept x kept e = rw e refl
+
+-- where some is Invalid and none unknown, the function isn't called
+invalid_gives : (f : List Value → Value) (g : Gathered) → (g ≡ Unknown → ⊥) → ((values : List Value) → g ≡ Values values → ⊥)
+    → given f g ≡ Some Invalid
+invalid_gives f Unknown known some = absurd (known refl)
+invalid_gives f SomeInvalid known some = refl
+invalid_gives f (Values vs) known some = absurd (some vs refl)
+
+-- the children whose values are taken are those that the definition lists
+relisted : (G : Graph) (n : NodeId) (rows : Rows Progress) (def : Def) (nodes others : List NodeId) (values : List Value)
+    → taken_by G n def ≡ Some nodes → taken_by G n def ≡ Some others
+    → seen_together rows others ≡ Values values → seen_together rows nodes ≡ Values values
+relisted G n rows def nodes others values mine its e =
+    ap (seen_together rows) (same_Some nodes others (sym mine ∙ its)) ∙ e
+
+module _ (value : FnRef → List Value → Value) (answer : List Value → Value) (t : Ty) (round : ℕ) (old : Noted) (n : NodeId) (def : Def)
+    (nodes : List NodeId) (cost : ℕ) (takes : (G : Graph) → taken_by G n def ≡ Some nodes) (is_answer : (values : List Value) → IsAnswer (functions_of value) def values (answer values))
+    (there : Holds old.rows (main n)) where
+  abbrev kept : Progress
+  kept = (some_is (at old.rows (main n)) there).0
+
+  is_kept : at old.rows (main n) ≡ Some kept
+  is_kept = (some_is (at old.rows (main n)) there).1
+
+  -- a child shows no value
+  invalid_computes : (AllShow old.rows nodes → ⊥) → ComputesCall value answer t round old old n def nodes Invalid cost
+  invalid_computes some = record {
+    kept = kept;
+    is_kept = is_kept;
+    last = kept.last;
+    called = false;
+    calls = λ G. (refl, λ others values its e. absurd (none values (relisted G n old.rows def nodes others values (takes G) its e)));
+    gives = λ answers known. invalid_gives answer (seen_together old.rows nodes) known none;
+    row = unmoved old.rows n kept is_kept;
+    ran = refl;
+    count = no_rise old.calls;
+    shows = λ v e. cc;
+    answer_typed = λ c e. inl e;
+  } where
+    none : (values : List Value) → seen_together old.rows nodes ≡ Values values → ⊥
+    none values e = some (all_of_values old.rows nodes values (shown_from_together old.rows nodes values e))
+
+  -- the children show what the function was last called on
+  last_computes : (call : Call) (v : Value) → LastWas old.rows n call → AllZip (ShowsValue old.rows) nodes call.arguments → v ≡ call.result
+      → (IsForcedBy round old.rows nodes → ⊥) → ComputesCall value answer t round old old n def nodes (Val v) cost
+  last_computes call v was shown is free = record {
+    kept = kept;
+    is_kept = is_kept;
+    last = kept.last;
+    called = false;
+    calls = λ G. (
+      refl,
+      λ others values its e. (
+        call,
+        is_last,
+        same values (relisted G n old.rows def nodes others values (takes G) its e),
+        λ f. free (subst (IsForcedBy round old.rows) (same_Some others nodes (sym its ∙ takes G)) f),
+      ),
+    );
+    gives = λ answers known. gives answers;
+    row = unmoved old.rows n kept is_kept;
+    ran = refl;
+    count = no_rise old.calls;
+    shows = λ w e. (call, is_last, cc);
+    answer_typed = λ c e. inl e;
+  } where
+    is_last : kept.last ≡ Some call
+    is_last = sym (last_of_kept (at old.rows (main n)) kept is_kept) ∙ was
+
+    together : seen_together old.rows nodes ≡ Values call.arguments
+    together = together_from_shown old.rows nodes call.arguments shown
+
+    same : (values : List Value) → seen_together old.rows nodes ≡ Values values → call.arguments ≡ values
+    same values e = let t = together in cc
+
+    gives : ((c : Call) → kept.last ≡ Some c → c.result ≡ answer c.arguments) → given answer (seen_together old.rows nodes) ≡ Some (Val v)
+    gives answers = ap (given answer) together ∙ (let e = answers call is_last in cc)
+
+  -- the function need not be called
+  pub known_computes : (o : Outcome) → IsKnown round old.rows n nodes (Some o) → ComputesCall value answer t round old old n def nodes o cost
+  known_computes Invalid some = invalid_computes some
+  known_computes (Val v) h = last_computes h.0 v h.1 h.2 h.3 h.4
+
+  abbrev now_shown : List Value
+  now_shown = filter_map (value_shown old.rows) nodes
+
+  abbrev now_called : Call
+  now_called = record { arguments = now_shown; result = answer now_shown }
+
+  -- the function was called
+  called_computes : (new : Noted) (o : Outcome) → IsKnown round old.rows n nodes None → IsCalled answer t old new n now_shown o cost
+      → ComputesCall value answer t round old new n def nodes o cost
+  called_computes new o unknown called = record {
+    kept = kept;
+    is_kept = is_kept;
+    last = Some now_called;
+    called = true;
+    calls = λ G. (nodes, now_shown, answer now_shown, takes G, together, others, refl, is_answer now_shown);
+    gives = λ answers known. ap (given answer) together ∙ sym (ap Some called.outcome);
+    row = called.row;
+    ran = called.ran;
+    count = called.count;
+    shows = λ v e. (now_called, refl, let h = called.outcome in cc);
+    answer_typed = λ c e. inr (ap (λ (x : Call). type_of x.result) (sym (same_Some now_called c e)) ∙ called.type);
+  } where
+    shown : AllZip (ShowsValue old.rows) nodes now_shown
+    shown = filter_is_shown old.rows nodes unknown.0
+
+    together : seen_together old.rows nodes ≡ Values now_shown
+    together = together_from_shown old.rows nodes now_shown shown
+
+    others : ((c : Call) → kept.last ≡ Some c → c.arguments ≡ now_shown → ⊥) ⊎ IsForcedBy round old.rows nodes
+    others = elim unknown.1 [
+      | inl differs ↦ inl (λ c e same. differs c (last_of_kept (at old.rows (main n)) kept is_kept ∙ e)
+          (subst (λ (vs : List Value). AllZip (ShowsValue old.rows) nodes vs) (sym same) shown))
+      | inr f ↦ inr f
+    ]
+
+  -- so the calls' end is
+  pub ends_computes : {E : Type 0} (new : Noted) (result : Result Outcome E) → IsKnown round old.rows n nodes None
+      → Calls answer t old new n now_shown cost result → CallComputes value answer t round old new n def nodes cost result
+  ends_computes new (Ok o) unknown called = called_computes new o unknown called
+  ends_computes new (Err e) unknown m = m
+
+-- ---- what a node gives
+
+-- what shows a value has a row that does
+record ShownBy (rows : Rows Progress) (n : NodeId) (v : Value) : Type 0 where
+  row : Progress
+  is_row : at rows (main n) ≡ Some row
+  outcome : row.outcome ≡ Some (Val v)
+
+shown_by : (rows : Rows Progress) (n : NodeId) (v : Value) → ShowsValue rows n v → ShownBy rows n v
+shown_by rows n v e = go (at rows (main n)) refl e
+  where
+    go : (x : Option Progress) → at rows (main n) ≡ x → value_in x ≡ Some v → ShownBy rows n v
+    go None is h = cc
+    go (Some k) is h = record { row = k; is_row = is; outcome = shown_outcome k.outcome v h }
+
+module _ (arena : Arena) (rows : Rows Progress) (kept : KeepsTypes arena rows) where
+  -- what a node shows has the type that it fits
+  shown_type : (n : NodeId) (t : Ty) (v : Value) → Fits arena n t → ShowsValue rows n v → type_of v ≡ t
+  shown_type n t v fits shows =
+      let b = shown_by rows n v shows in
+      let r = some_is (row_at arena n) (sym (kept.rows n) ∙ ap is_some b.is_row) in
+      kept.outcomes n r.0 b.row v r.1 b.is_row b.outcome
+      ∙ subst (λ (x : Option Row). IfSome x (λ (k : Row). k.ty ≡ t)) r.1 fits
+
+  -- so what children show has the types that their function takes
+  types_fit : (nodes : List NodeId) (takes : List Ty) (values : List Value) → AllZip (Fits arena) nodes takes
+      → AllZip (ShowsValue rows) nodes values → HaveTypes values takes
+  types_fit [] [] [] fits shows = refl
+  types_fit [] [] (v ∷ vs) fits shows = absurd shows
+  types_fit [] (t ∷ ts) values fits shows = absurd fits
+  types_fit (n ∷ ns) [] values fits shows = absurd fits
+  types_fit (n ∷ ns) (t ∷ ts) [] fits shows = absurd shows
+  types_fit (n ∷ ns) (t ∷ ts) (v ∷ vs) fits shows =
+      let first = shown_type n t v fits.0 shows.0 in let rest = types_fit ns ts vs fits.1 shows.1 in cc
+
+  -- and what children show that are all of one type
+  each_type : (nodes : List NodeId) (t : Ty) (values : List Value) → Every (λ (n : NodeId). Fits arena n t) nodes
+      → AllZip (ShowsValue rows) nodes values → Every (λ (v : Value). type_of v ≡ t) values
+  each_type [] t [] fits shows = tt
+  each_type [] t (v ∷ vs) fits shows = absurd shows
+  each_type (n ∷ ns) t [] fits shows = absurd shows
+  each_type (n ∷ ns) t (v ∷ vs) fits shows = (shown_type n t v fits.0 shows.0, each_type ns t vs fits.1 shows.1)
+
+  -- so what children show fits a fold
+  fold_shown : (f : FnRef) (from : Value) (nodes : List NodeId) (t : Ty) (tys : List Ty) (values : List Value) → f.sig.takes ≡ tys
+      → FoldTakes arena t nodes tys → f.sig.gives ≡ t → type_of from ≡ t → AllZip (ShowsValue rows) nodes values → FoldFits f from values
+  fold_shown f from nodes t (first ∷ element ∷ []) values is takes gives type shows = record {
+    element = element;
+    takes = is ∙ ap (λ (x : Ty). x ∷ element ∷ []) (takes.0 ∙ sym gives);
+    first = type ∙ sym gives;
+    types = each_type nodes element values takes.1 shows;
+  }
+  fold_shown f from nodes t [] values is takes gives type shows = absurd takes
+  fold_shown f from nodes t (first ∷ []) values is takes gives type shows = absurd takes
+  fold_shown f from nodes t (first ∷ element ∷ more ∷ tys) values is takes gives type shows = absurd takes
+
+-- what the code's definition holds
+pub holds_value : (d : declared.Def) (v w : Value) → w ≡ v → (d ≡ form.Const v) ⊎ (d ≡ form.Var v) → (def_of d ≡ Const w) ⊎ (def_of d ≡ Var w)
+holds_value d v w same (inl h) = inl (ap def_of h ∙ ap Const (sym same))
+holds_value d v w same (inr h) = inr (ap def_of h ∙ ap Var (sym same))
+
+module _ (value : FnRef → List Value → Value) (arena : Arena) (round : ℕ) (old : Noted) (n : NodeId) (row : Row) (kept : KeepsTypes arena old.rows)
+    (sound : IsSound arena) (is_row : row_at arena n ≡ Some row) where
+  there : Holds old.rows (main n)
+  there = kept.rows n ∙ ap is_some is_row
+
+  abbrev progress : Progress
+  progress = (some_is (at old.rows (main n)) there).0
+
+  is_progress : at old.rows (main n) ≡ Some progress
+  is_progress = (some_is (at old.rows (main n)) there).1
+
+  same_row : (r : Row) → row_at arena n ≡ Some r → row ≡ r
+  same_row r e = same_Some row r (sym is_row ∙ e)
+
+  abbrev gives_own : Def → Option Outcome
+  gives_own d = own (functions_of value) (graph_of arena) (seen old.rows) n d
+
+  -- what holds a value gives it
+  pub holder_computes : (v : Value) → (row.def ≡ Const v) ⊎ (row.def ≡ Var v) → Computes value arena round old old n (Val v)
+  holder_computes v holds = record {
+    last = progress.last;
+    called = false;
+    computed = record {
+      row = row;
+      is_row = is_row;
+      kept = progress;
+      is_kept = is_progress;
+      calls = (refl, λ nodes values takes e. absurd (none_taken nodes takes holds));
+      own = λ answers known. gives holds;
+    };
+    row = unmoved old.rows n progress is_progress;
+    ran = refl;
+    count = no_rise old.calls;
+    typed = λ r w e is. let type = typed holds in let same = same_row r e in cc;
+    answer_typed = λ r c e is. kept.calls n r progress c e is_progress is;
+  } where
+    none_taken : (nodes : List NodeId) → taken_by (graph_of arena) n row.def ≡ Some nodes → (row.def ≡ Const v) ⊎ (row.def ≡ Var v) → ⊥
+    none_taken nodes takes (inl h) = none-some nodes (sym (ap (taken_by (graph_of arena) n) h) ∙ takes)
+    none_taken nodes takes (inr h) = none-some nodes (sym (ap (taken_by (graph_of arena) n) h) ∙ takes)
+
+    gives : (row.def ≡ Const v) ⊎ (row.def ≡ Var v) → gives_own row.def ≡ Some (Val v)
+    gives (inl h) = ap gives_own h
+    gives (inr h) = ap gives_own h
+
+    typed : (row.def ≡ Const v) ⊎ (row.def ≡ Var v) → type_of v ≡ row.ty
+    typed (inl h) = (subst (λ (d : Def). Makes arena d row.ty) h (sound.types n row is_row)).type
+    typed (inr h) = (subst (λ (d : Def). Makes arena d row.ty) h (sound.types n row is_row)).type
+
+  module _ (f : FnRef) (nodes : List NodeId) (is_map : row.def ≡ Map f nodes) where
+    map_makes : MapMakes arena f nodes row.ty
+    map_makes = subst (λ (d : Def). Makes arena d row.ty) is_map (sound.types n row is_row)
+
+    -- what the children of a map show has the types that its function takes
+    pub map_fits : (values : List Value) → AllZip (ShowsValue old.rows) nodes values → HaveTypes values f.sig.takes
+    map_fits values shows = types_fit arena old.rows kept nodes f.sig.takes values map_makes.children shows
+
+    pub map_gives : f.sig.gives ≡ row.ty
+    map_gives = map_makes.gives
+
+  module _ (f : FnRef) (from : Value) (nodes : List NodeId) (is_fold : row.def ≡ Fold f from nodes) where
+    fold_makes : FoldMakes arena f from nodes row.ty
+    fold_makes = subst (λ (d : Def). Makes arena d row.ty) is_fold (sound.types n row is_row)
+
+    -- what the children of a fold show fits it
+    pub fold_fits : (values : List Value) → AllZip (ShowsValue old.rows) nodes values → FoldFits f from values
+    fold_fits values shows =
+        fold_shown arena old.rows kept f from nodes row.ty f.sig.takes values refl fold_makes.takes fold_makes.gives fold_makes.initial.type shows
+
+    pub fold_gives : f.sig.gives ≡ row.ty
+    fold_gives = fold_makes.gives
+
+  abbrev G : Graph
+  G = graph_of arena
+
+  module _ (answer : List Value → Value) (t : Ty) (def : Def) (nodes : List NodeId) (cost : ℕ) (is_def : row.def ≡ def) (takes : taken_by G n def ≡ Some nodes)
+      (from_answer : (values : List Value) (w : Value) → IsAnswer (functions_of value) def values w → w ≡ answer values)
+      (own_is : gives_own def ≡ given answer (seen_together old.rows nodes)) (kids_are : kids def ≡ nodes) (cost_is : or_none (cost_of G n def) ≡ cost)
+      (type : t ≡ row.ty) where
+    cost_here : cost ≡ cost_at G n
+    cost_here = sym cost_is ∙ sym (ap (λ (d : Def). or_none (cost_of G n d)) is_def) ∙ sym (ap (λ (x : Option Row). row_cost G n x) is_row)
+
+    -- a live node was computed
+    call_computes : (new : Noted) (o : Outcome) → ComputesCall value answer t round old new n def nodes o cost → Computes value arena round old new n o
+    call_computes new o m = record {
+      last = m.last;
+      called = m.called;
+      computed = record {
+        row = row;
+        is_row = is_row;
+        kept = m.kept;
+        is_kept = m.is_kept;
+        calls = subst (λ (d : Def). CallsSeen value G n round old.rows d m.kept.last m.last m.called) (sym is_def) (m.calls G);
+        own = λ answers known. subst (λ (d : Def). gives_own d ≡ Some o) (sym is_def)
+            (own_is ∙ m.gives (λ c is. from_answer c.arguments c.result (subst (λ (d : Def). IsAnswer (functions_of value) d c.arguments c.result) is_def
+            (answers n row nodes m.kept c is_row (ap (taken_by G n) is_def ∙ takes) m.is_kept is)))
+            (subst (λ (ns : List NodeId). seen_together old.rows ns ≡ Unknown → ⊥) (ap kids is_def ∙ kids_are) known));
+      };
+      row = m.row;
+      ran = m.ran;
+      count = subst (λ (k : ℕ). RoseBy old.calls (calls_of m.called k) new.calls) cost_here m.count;
+      typed = λ r v e is. let w = m.shows v is in ap type_of (sym w.2) ∙ typed r w.0 e w.1;
+      answer_typed = typed;
+    } where
+      typed : (r : Row) (c : Call) → row_at arena n ≡ Some r → m.last ≡ Some c → type_of c.result ≡ r.ty
+      typed r c e is = elim (m.answer_typed c is) [
+        | inl was ↦ kept.calls n r m.kept c e m.is_kept was
+        | inr its ↦ its ∙ (type ∙ ap (λ (x : Row). x.ty) (same_row r e))
+      ]
+
+    -- it wasn't
+    call_fails : (new : Noted) → KeepsAllButCount old new cost → NotComputed arena old new n
+    call_fails new m = record {
+      rows = m.rows;
+      ran = m.ran;
+      count = inr (record {
+        caller = record { row = row; nodes = nodes; is_row = is_row; takes = ap (taken_by G n) is_def ∙ takes };
+        count = subst (λ (k : ℕ). RoseAtMost old.calls k new.calls) cost_here m.count;
+      });
+    }
+
+    -- so it ends
+    pub call_ends : {E : Type 0} (new : Noted) (result : Result Outcome E) → CallComputes value answer t round old new n def nodes cost result
+        → Ends value arena round old new n result
+    call_ends new (Ok o) m = call_computes new o m
+    call_ends new (Err e) m = call_fails new m

@@ -1,0 +1,16 @@
+use Rattle.std.proofs.Common.{◌≡◌, take}
+use Rattle.inc_value.specs.Value.{type_of}
+use Rattle.inc_terms.specs.Evaluate.{folded}
+use Rattle.stabilize_round.specs.Counts.{RoseBy}
+use Rattle.node_outcomes.specs.Computing.{KeepsFunctions}
+use Rattle.node_outcomes.proofs.call.fold.Given as goal
+
+-- what the values so far gave, by a call for each
+abbrev pub invariant-loop-value : goal.invariant-loop-value
+invariant-loop-value g l = record {
+  gathered : l.result ≡ folded (g.F.Functions.value l.fn.functions l.f) l.fn.initial (take l.value-index l.values);
+  type : type_of l.result ≡ l.f.sig.gives;
+  calls : RoseBy (g.F.Functions.calls l.fn.functions) l.value-index (g.F.Functions.calls l.functions);
+  functions : KeepsFunctions (g.F.Functions.named l.fn.functions) (g.F.Functions.named l.functions) (g.F.Functions.known l.fn.functions)
+      (g.F.Functions.known l.functions) (g.F.Functions.value l.fn.functions) (g.F.Functions.value l.functions);
+}

@@ -1,0 +1,70 @@
+use Rattle.std.proofs.Common.{◌≡◌, Some, refl, sym, ap, ◌∙◌, length}
+use Rattle.inc_terms.specs.Code.{def_of}
+use Rattle.inc_terms.specs.Evaluate.{folded}
+use Rattle.inc_terms.specs.Graph.{Map, Fold}
+use Rattle.node_arena.specs.Arena.{row_at, row_of}
+use Rattle.node_outcomes.specs.Computing.{noted}
+use Rattle.node_outcomes.proofs.Computing.{holder_computes, map_fits, map_gives, fold_fits, fold_gives, call_ends, holds_value}
+use Rattle.node_outcomes.proofs.outcome.compute.Goals as goal
+
+pub compute_map-requires-clause-fit : goal.compute_map-requires-clause-fit
+compute_map-requires-clause-fit g c =
+    let value = g.F.Functions.value c.args.functions.now in
+    let old = noted c.args.rows.now c.args.ran.now.items (g.F.Functions.calls c.args.functions.now) in
+    let f = c.in-Map.f in
+    let nodes = c.as_slice.result.now in
+    let row = row_of c.unwrap-row.result.now in
+    let is_row : row_at c.args.arena.now c.args.node ≡ Some row = sym (rw c.unwrap-row.ensures at c.get.ensures) in
+    let is_map : row.def ≡ Map f nodes = ap def_of c.in-Map.is ∙ ap (Map f) (sym c.as_slice.ensures) in
+    map_fits value c.args.arena.now c.args.round old c.args.node row c.requires.types c.is_sound.ensures is_row f nodes is_map
+
+pub returns-in-Map-clause-computed : goal.returns-in-Map-clause-computed
+returns-in-Map-clause-computed g c =
+    let value = g.F.Functions.value c.args.functions.now in
+    let old = noted c.args.rows.now c.args.ran.now.items (g.F.Functions.calls c.args.functions.now) in
+    let f = c.in-Map.f in
+    let nodes = c.as_slice.result.now in
+    let row = row_of c.unwrap-row.result.now in
+    let is_row : row_at c.args.arena.now c.args.node ≡ Some row = sym (rw c.unwrap-row.ensures at c.get.ensures) in
+    let is_map : row.def ≡ Map f nodes = ap def_of c.in-Map.is ∙ ap (Map f) (sym c.as_slice.ensures) in
+    call_ends value c.args.arena.now c.args.round old c.args.node row c.requires.types c.is_sound.ensures is_row
+    (value f) f.sig.gives (Map f nodes) nodes 1 is_map refl (λ values w e. e) refl refl refl
+    (map_gives value c.args.arena.now c.args.round old c.args.node row c.requires.types c.is_sound.ensures is_row f nodes is_map)
+    (noted c.compute_map.new.rows c.compute_map.new.ran.items (g.F.Functions.calls c.compute_map.new.functions))
+    c.compute_map.result c.compute_map.ensures.computed
+
+pub compute_fold-requires-clause-fit : goal.compute_fold-requires-clause-fit
+compute_fold-requires-clause-fit g c =
+    let value = g.F.Functions.value c.args.functions.now in
+    let old = noted c.args.rows.now c.args.ran.now.items (g.F.Functions.calls c.args.functions.now) in
+    let f = c.in-Fold.f in
+    let from = c.in-Fold.initial in
+    let nodes = c.as_slice-in-Fold.result.now in
+    let row = row_of c.unwrap-row.result.now in
+    let is_row : row_at c.args.arena.now c.args.node ≡ Some row = sym (rw c.unwrap-row.ensures at c.get.ensures) in
+    let is_fold : row.def ≡ Fold f from nodes = ap def_of c.in-Fold.is ∙ ap (Fold f from) (sym c.as_slice-in-Fold.ensures) in
+    fold_fits value c.args.arena.now c.args.round old c.args.node row c.requires.types c.is_sound.ensures is_row f from nodes is_fold
+
+pub returns-in-Fold-clause-computed : goal.returns-in-Fold-clause-computed
+returns-in-Fold-clause-computed g c =
+    let value = g.F.Functions.value c.args.functions.now in
+    let old = noted c.args.rows.now c.args.ran.now.items (g.F.Functions.calls c.args.functions.now) in
+    let f = c.in-Fold.f in
+    let from = c.in-Fold.initial in
+    let nodes = c.as_slice-in-Fold.result.now in
+    let row = row_of c.unwrap-row.result.now in
+    let is_row : row_at c.args.arena.now c.args.node ≡ Some row = sym (rw c.unwrap-row.ensures at c.get.ensures) in
+    let is_fold : row.def ≡ Fold f from nodes = ap def_of c.in-Fold.is ∙ ap (Fold f from) (sym c.as_slice-in-Fold.ensures) in
+    call_ends value c.args.arena.now c.args.round old c.args.node row c.requires.types c.is_sound.ensures is_row
+    (folded (value f) from) f.sig.gives (Fold f from nodes) nodes (length nodes) is_fold refl (λ values w e. e) refl refl refl
+    (fold_gives value c.args.arena.now c.args.round old c.args.node row c.requires.types c.is_sound.ensures is_row f from nodes is_fold)
+    (noted c.compute_fold.new.rows c.compute_fold.new.ran.items (g.F.Functions.calls c.compute_fold.new.functions))
+    c.compute_fold.result c.compute_fold.ensures.computed
+
+pub returns-in-Ok-clause-computed : goal.returns-in-Ok-clause-computed
+returns-in-Ok-clause-computed g c =
+    let row = row_of c.unwrap-row.result.now in
+    let is_row : row_at c.args.arena.now c.args.node ≡ Some row = sym (rw c.unwrap-row.ensures at c.get.ensures) in
+    holder_computes (g.F.Functions.value c.args.functions.now) c.args.arena.now c.args.round
+    (noted c.args.rows.now c.args.ran.now.items (g.F.Functions.calls c.args.functions.now)) c.args.node row c.requires.types c.is_sound.ensures is_row
+    c.in-Ok.copy (holds_value c.unwrap-row.result.now.def c.in-Const.value c.in-Ok.copy c.in-Ok.ensures.ok c.in-Const.is)

@@ -1,0 +1,22 @@
+use Rattle.std.proofs.Common.{◌≡◌, Some, None, get_or, sym}
+use Rattle.node_outcomes.specs.Computing.{value_shown}
+use Rattle.node_outcomes.proofs.Computing.{filter_some, filter_none}
+use Rattle.node_outcomes.proofs.sight.values_shown.Goals.{in-Some+in_ok-copy+in_ok-push, in_default}
+use Rattle.node_outcomes.proofs.sight.values_shown.Goals as goal
+
+pub loop-node-preserved : goal.loop-node-preserved
+loop-node-preserved c =
+    let rows = c.args.rows.now in let nodes = c.args.nodes.now in let i = c.loop-node.node-index in
+    let within = c.loop-node-test.true in
+    elim c.match-value_shown.branch [
+      | in-Some+in_ok-copy+in_ok-push w ↦
+          let shown : value_shown rows (get_or nodes i (record { slot = 0; gen_ = 0 })) ≡ Some w.in-Some.value.now =
+          sym (rw w.in-Some.is at c.value_shown.ensures) in
+          let more = filter_some rows nodes i (record { slot = 0; gen_ = 0 }) w.in-Some.value.now within shown in
+          let pushed = w.in_ok-push.ensures.items in let copied = w.in_ok-copy.ensures.ok in
+          cc (more, pushed, copied, w.values-is, c.loop-node.invariant)
+      | in_default w ↦
+          let shown : value_shown rows (get_or nodes i (record { slot = 0; gen_ = 0 })) ≡ None = sym (rw w.in_default.is at c.value_shown.ensures) in
+          let same = filter_none rows nodes i (record { slot = 0; gen_ = 0 }) within shown in
+          cc (same, w.values-is, c.loop-node.invariant)
+    ]

@@ -1,0 +1,8 @@
+use Rattle.std.proofs.Common.{◌≡◌, take}
+use Rattle.std.specs.List.{filter_map}
+use Rattle.node_outcomes.specs.Computing.{value_shown}
+use Rattle.node_outcomes.proofs.sight.values_shown.Given as goal
+
+-- the values of the nodes so far
+abbrev pub invariant-loop-node : goal.invariant-loop-node
+invariant-loop-node l = l.values.items ≡ filter_map (value_shown l.rows) (take l.node-index l.nodes)

@@ -1,0 +1,221 @@
+-- What a node gives by what its children show, and what its function was called on.
+use Rattle.std.specs.Prelude.{◌≡◌, ◌||◌, ◌⊎◌, ◌++◌, ℕ, Bool, true, false, List, [], ◌∷◌, Option, None, Some, IsSome, option_and_then, is_some, Result, Ok, Err}
+use Rattle.std.specs.List.{AllZip}
+use Rattle.inc_value.specs.Choice.{Among, Every}
+use Rattle.inc_value.specs.declared.ty.Ty.{Ty}
+use Rattle.inc_value.specs.declared.function.FnRef.{FnRef}
+use Rattle.inc_value.specs.declared.node.NodeId.{NodeId}
+use Rattle.inc_value.specs.declared.node.Point.{Point}
+use Rattle.inc_value.specs.declared.outcome.Outcome.{Outcome}
+use Rattle.inc_value.specs.declared.outcome.Outcome.TheVariants.{Invalid}
+use Rattle.inc_value.specs.declared.value.Value.{Value}
+use Rattle.inc_terms.specs.Depend.{main}
+use Rattle.inc_terms.specs.Evaluate.{Gathered, Unknown, Values, gathered, given}
+use Rattle.inc_terms.specs.Graph.{Graph, Row, Def, kids}
+use Rattle.inc_terms.specs.Local.{by_sight, own}
+use Rattle.inc_terms.specs.Term.{refs}
+use Rattle.point_map.specs.Rows.{Rows, at}
+use Rattle.node_arena.specs.Arena.{Arena, row_at}
+use Rattle.node_arena.specs.Graph.{graph_of}
+use Rattle.node_arena.specs.Meanings.{SameNames, KeepsKnown, SameValues}
+use Rattle.inc_terms.specs.Work.{taken_by}
+use Rattle.stabilize_round.specs.Calling.{IsAnswer, cost_at}
+use Rattle.stabilize_round.specs.Counts.{RoseBy, RoseAtMost}
+use Rattle.stabilize_round.specs.Moves.{calls_of}
+use Rattle.stabilize_round.specs.State.{Call}
+use Rattle.inc_value.specs.Value.{type_of}
+use Rattle.inc_value.specs.declared.outcome.Outcome.TheVariants.{Val}
+use Rattle.point_map.specs.Rows.{KeepsRows}
+use Rattle.node_outcomes.specs.Meaning.{functions_of}
+use Rattle.node_outcomes.specs.Row.{IsRewritten, with_call, with_last, value_in, passes_in}
+use Rattle.node_outcomes.specs.declared.row.Progress.{Progress}
+
+-- what is seen of a point by its row: Invalid without one
+abbrev pub seen_of : Option Progress → Option Outcome
+seen_of None = Some Invalid
+seen_of (Some k) = k.outcome
+
+-- what is seen of a point
+abbrev pub seen : Rows Progress → Point → Option Outcome
+seen rows p = seen_of (at rows p)
+
+-- the value that a node shows, if it shows one
+abbrev pub value_shown : Rows Progress → NodeId → Option Value
+value_shown rows n = value_in (at rows (main n))
+
+-- the node shows the value
+abbrev pub ShowsValue : Rows Progress → NodeId → Value → Type 0
+ShowsValue rows n v = value_shown rows n ≡ Some v
+
+-- what is seen of the children of a definition, put together
+abbrev pub seen_together : Rows Progress → List NodeId → Gathered
+seen_together rows nodes = gathered (by_sight (seen rows)) (refs nodes)
+
+-- what is kept of calls is what the functions give
+abbrev pub KeepsAnswers : (FnRef → List Value → Value) → Arena → Rows Progress → Type 0
+KeepsAnswers value arena rows =
+    (n : NodeId) (r : Row) (nodes : List NodeId) (k : Progress) (c : Call) → row_at arena n ≡ Some r → taken_by (graph_of arena) n r.def ≡ Some nodes
+    → at rows (main n) ≡ Some k → k.last ≡ Some c → IsAnswer (functions_of value) r.def c.arguments c.result
+
+-- one of the nodes has cutoff Never and was settled in the round, as a test
+abbrev pub forced_by : ℕ → Rows Progress → List NodeId → Bool
+forced_by round rows [] = false
+forced_by round rows (n ∷ ns) = passes_in round (at rows (main n)) || forced_by round rows ns
+
+-- one of the nodes has cutoff Never and was settled in the round
+abbrev pub IsForced : (NodeId → Bool) → (Point → Bool) → List NodeId → Type 0
+IsForced never settled kids = (k : NodeId) × Among k kids × (never k ≡ true) × (settled (main k) ≡ true)
+
+-- so it is
+abbrev pub IsForcedBy : ℕ → Rows Progress → List NodeId → Type 0
+IsForcedBy round rows nodes = forced_by round rows nodes ≡ true
+
+-- what a node's function was last called on after the node was computed: it was called, on other values than before or as it was forced, or that stays
+abbrev pub CallsSeen : (FnRef → List Value → Value) → Graph → NodeId → ℕ → Rows Progress → Def → Option Call → Option Call → Bool → Type 0
+CallsSeen value G n round rows def last last' false = (last' ≡ last)
+    × ((nodes : List NodeId) (values : List Value) → taken_by G n def ≡ Some nodes → seen_together rows nodes ≡ Values values
+    → (c : Call) × (last ≡ Some c) × (c.arguments ≡ values) × (IsForcedBy round rows nodes → ⊥))
+CallsSeen value G n round rows def last last' true =
+    (nodes : List NodeId) × (values : List Value) × (result : Value) × (taken_by G n def ≡ Some nodes) × (seen_together rows nodes ≡ Values values)
+    × (((c : Call) → last ≡ Some c → c.arguments ≡ values → ⊥) ⊎ IsForcedBy round rows nodes) × (last' ≡ Some (record { arguments = values; result = result }))
+    × IsAnswer (functions_of value) def values result
+
+-- a live node was computed: its outcome is its own function of what is seen, where something is seen of each child
+pub record IsComputed (value : FnRef → List Value → Value) (arena : Arena) (round : ℕ) (rows : Rows Progress) (n : NodeId) (o : Outcome)
+    (last' : Option Call) (called : Bool) : Type 0 where
+  pub row : Row
+  pub is_row : row_at arena n ≡ Some row
+  pub kept : Progress
+  pub is_kept : at rows (main n) ≡ Some kept
+  pub calls : CallsSeen value (graph_of arena) n round rows row.def kept.last last' called
+  pub own : KeepsAnswers value arena rows → (seen_together rows (kids row.def) ≡ Unknown → ⊥)
+      → own (functions_of value) (graph_of arena) (seen rows) n row.def ≡ Some o
+
+-- a live node whose function is called on its children's values
+pub record IsCallerAt (arena : Arena) (n : NodeId) : Type 0 where
+  pub row : Row
+  pub nodes : List NodeId
+  pub is_row : row_at arena n ≡ Some row
+  pub takes : taken_by (graph_of arena) n row.def ≡ Some nodes
+
+-- what computing a node may change: what is kept of points, the nodes whose functions were called in the round, and the count of calls
+pub record Noted : Type 0 where
+  pub rows : Rows Progress
+  pub ran : List NodeId
+  pub calls : ℕ
+
+abbrev pub noted : Rows Progress → List NodeId → ℕ → Noted
+noted rows ran calls = record { rows = rows; ran = ran; calls = calls }
+
+-- live mains are what has rows, and outcomes and results of calls have their nodes' types
+pub record KeepsTypes (arena : Arena) (kept : Rows Progress) : Type 0 where
+  pub rows : (n : NodeId) → is_some (at kept (main n)) ≡ is_some (row_at arena n)
+  pub outcomes : (n : NodeId) (r : Row) (k : Progress) (v : Value) → row_at arena n ≡ Some r → at kept (main n) ≡ Some k
+      → k.outcome ≡ Some (Val v) → type_of v ≡ r.ty
+  pub calls : (n : NodeId) (r : Row) (k : Progress) (c : Call) → row_at arena n ≡ Some r → at kept (main n) ≡ Some k
+      → k.last ≡ Some c → type_of c.result ≡ r.ty
+
+-- the nodes whose functions were called, with this one where its was
+abbrev pub ran_then : Bool → List NodeId → NodeId → List NodeId
+ran_then true ran n = ran ++ n ∷ []
+ran_then false ran n = ran
+
+-- a live node was computed: what its function was last called on is kept, the node is listed where it was called, and the count of calls rose so
+pub record Computes (value : FnRef → List Value → Value) (arena : Arena) (round : ℕ) (old new : Noted) (n : NodeId) (o : Outcome) : Type 0 where
+  pub last : Option Call
+  pub called : Bool
+  pub computed : IsComputed value arena round old.rows n o last called
+  pub row : IsRewritten old.rows new.rows (main n) (with_last last)
+  pub ran : new.ran ≡ ran_then called old.ran n
+  pub count : RoseBy old.calls (calls_of called (cost_at (graph_of arena) n)) new.calls
+  pub typed : (r : Row) (v : Value) → row_at arena n ≡ Some r → o ≡ Val v → type_of v ≡ r.ty
+  pub answer_typed : (r : Row) (c : Call) → row_at arena n ≡ Some r → last ≡ Some c → type_of c.result ≡ r.ty
+
+-- calls of a node's function, some of those that it takes
+pub record HasCalledSome (arena : Arena) (n : NodeId) (before after : ℕ) : Type 0 where
+  pub caller : IsCallerAt arena n
+  pub count : RoseAtMost before (cost_at (graph_of arena) n) after
+
+-- without memory nothing is kept of it; some of the calls that it takes may have been made
+pub record NotComputed (arena : Arena) (old new : Noted) (n : NodeId) : Type 0 where
+  pub rows : KeepsRows old.rows new.rows
+  pub ran : new.ran ≡ old.ran
+  pub count : (new.calls ≡ old.calls) ⊎ HasCalledSome arena n old.calls new.calls
+
+-- how computing a node ends: it is computed, or there was no memory
+abbrev pub Ends : (FnRef → List Value → Value) → Arena → ℕ → Noted → Noted → NodeId → {E : Type 0} → Result Outcome E → Type 0
+Ends value arena round old new n (Ok o) = Computes value arena round old new n o
+Ends value arena round old new n (Err e) = NotComputed arena old new n
+
+-- names stand for the functions that they stood for, known functions stay known, and give what they gave
+pub record KeepsFunctions (named named' : List ℕ → Option FnRef) (knows knows' : FnRef → Bool) (value value' : FnRef → List Value → Value) : Type 0 where
+  pub names : SameNames named named'
+  pub known : KeepsKnown knows knows'
+  pub values : SameValues value value'
+
+-- ---- the parts of it
+
+-- without memory nothing is kept of calls, of which so many at most were made
+pub record KeepsAllButCount (old new : Noted) (most : ℕ) : Type 0 where
+  pub rows : KeepsRows old.rows new.rows
+  pub ran : new.ran ≡ old.ran
+  pub count : RoseAtMost old.calls most new.calls
+
+-- a node's function was last called so
+abbrev pub LastWas : Rows Progress → NodeId → Call → Type 0
+LastWas rows n c = option_and_then (λ (k : Progress). k.last) (at rows (main n)) ≡ Some c
+
+-- the nodes all show a value
+abbrev pub AllShow : Rows Progress → List NodeId → Type 0
+AllShow rows nodes = Every (λ (m : NodeId). IsSome (value_shown rows m)) nodes
+
+-- a node's function was called on these values, so often: what the calls gave is kept, and the node listed
+pub record IsCalled (answer : List Value → Value) (t : Ty) (old new : Noted) (n : NodeId) (values : List Value) (o : Outcome) (cost : ℕ) : Type 0 where
+  pub outcome : o ≡ Val (answer values)
+  pub type : type_of (answer values) ≡ t
+  pub row : IsRewritten old.rows new.rows (main n) (with_call (record { arguments = values; result = answer values }))
+  pub ran : new.ran ≡ old.ran ++ n ∷ []
+  pub count : RoseBy old.calls cost new.calls
+
+-- how calls of a node's function on these values end: it was called so often, or there was no memory
+abbrev pub Calls : (List Value → Value) → Ty → Noted → Noted → NodeId → List Value → ℕ → {E : Type 0} → Result Outcome E → Type 0
+Calls answer t old new n values cost (Ok o) = IsCalled answer t old new n values o cost
+Calls answer t old new n values cost (Err e) = KeepsAllButCount old new cost
+
+-- the types of values that a function folds from a value on: it takes the type that it gives and the type of each of them
+pub record FoldFits (f : FnRef) (from : Value) (values : List Value) : Type 0 where
+  pub element : Ty
+  pub takes : f.sig.takes ≡ f.sig.gives ∷ element ∷ []
+  pub first : type_of from ≡ f.sig.gives
+  pub types : Every (λ v. type_of v ≡ element) values
+
+-- what is known of a node's outcome before its function is called: it is Invalid where a child shows no value, and what the last calls gave where the
+-- children show what these were made on and it isn't forced; else the function is to be called
+abbrev pub IsKnown : ℕ → Rows Progress → NodeId → List NodeId → Option Outcome → Type 0
+IsKnown round rows n nodes (Some Invalid) = AllShow rows nodes → ⊥
+IsKnown round rows n nodes (Some (Val v)) =
+    (c : Call) × LastWas rows n c × AllZip (ShowsValue rows) nodes c.arguments × (v ≡ c.result) × (IsForcedBy round rows nodes → ⊥)
+IsKnown round rows n nodes None =
+    AllShow rows nodes × (((c : Call) → LastWas rows n c → AllZip (ShowsValue rows) nodes c.arguments → ⊥) ⊎ IsForcedBy round rows nodes)
+
+-- a node was computed of what is seen of its children: a value that it gives is what its function gave when it was last called, then or now
+pub record ComputesCall (value : FnRef → List Value → Value) (answer : List Value → Value) (t : Ty) (round : ℕ) (old new : Noted) (n : NodeId) (def : Def)
+    (nodes : List NodeId) (o : Outcome) (cost : ℕ) : Type 0 where
+  pub kept : Progress
+  pub is_kept : at old.rows (main n) ≡ Some kept
+  pub last : Option Call
+  pub called : Bool
+  pub calls : (G : Graph) → CallsSeen value G n round old.rows def kept.last last called
+  pub gives : ((c : Call) → kept.last ≡ Some c → c.result ≡ answer c.arguments) → (seen_together old.rows nodes ≡ Unknown → ⊥)
+      → given answer (seen_together old.rows nodes) ≡ Some o
+  pub row : IsRewritten old.rows new.rows (main n) (with_last last)
+  pub ran : new.ran ≡ ran_then called old.ran n
+  pub count : RoseBy old.calls (calls_of called cost) new.calls
+  pub shows : (v : Value) → o ≡ Val v → (c : Call) × (last ≡ Some c) × (c.result ≡ v)
+  pub answer_typed : (c : Call) → last ≡ Some c → (kept.last ≡ Some c) ⊎ (type_of c.result ≡ t)
+
+-- how computing a node of what is seen of its children ends: it is computed, or there was no memory
+abbrev pub CallComputes : (FnRef → List Value → Value) → (List Value → Value) → Ty → ℕ → Noted → Noted → NodeId → Def → List NodeId → ℕ
+    → {E : Type 0} → Result Outcome E → Type 0
+CallComputes value answer t round old new n def nodes cost (Ok o) = ComputesCall value answer t round old new n def nodes o cost
+CallComputes value answer t round old new n def nodes cost (Err e) = KeepsAllButCount old new cost

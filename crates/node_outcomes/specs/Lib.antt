@@ -1,0 +1,4 @@
+pub mod Meaning
+pub mod LastCall
+pub mod Row
+pub mod Computing

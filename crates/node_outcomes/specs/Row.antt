@@ -1,0 +1,82 @@
+-- What is kept of a point.
+use Rattle.std.specs.Prelude.{◌≡◌, ◌≢◌, ◌==◌, ◌&&◌, ℕ, Bool, true, false, Option, None, Some, option_map}
+use Rattle.inc_value.specs.declared.node.Point.{Point}
+use Rattle.inc_value.specs.declared.outcome.Outcome.{Outcome}
+use Rattle.inc_value.specs.declared.outcome.Outcome.TheVariants.{Val}
+use Rattle.inc_value.specs.declared.value.Value.{Value}
+use Rattle.map_nodes.specs.declared.cutoff.Cutoff.{Cutoff}
+use Rattle.map_nodes.specs.declared.cutoff.Cutoff.TheVariants.{Equal, Never}
+use Rattle.point_map.specs.Rows.{Rows, at, SamePoints}
+use Rattle.stabilize_round.specs.State as machine
+use Rattle.node_outcomes.specs.declared.row.Progress.{Progress}
+use Rattle.node_outcomes.specs.declared.row.Stage.{Stage}
+use Rattle.node_outcomes.specs.declared.row.Stage.TheVariants as stage
+
+-- the row with another stage
+abbrev pub with_stage : Stage → Progress → Progress
+with_stage s k = record { stage = s; settled = k.settled; outcome = k.outcome; last = k.last; cutoff = k.cutoff }
+
+-- the row with another outcome, settled in a round
+abbrev pub with_outcome : Outcome → ℕ → Progress → Progress
+with_outcome o round k = record { stage = k.stage; settled = round; outcome = Some o; last = k.last; cutoff = k.cutoff }
+
+-- the row with another last call
+abbrev pub with_call : machine.Call → Progress → Progress
+with_call c k = record { stage = k.stage; settled = k.settled; outcome = k.outcome; last = Some c; cutoff = k.cutoff }
+
+-- the row with another last call, or none
+abbrev pub with_last : Option machine.Call → Progress → Progress
+with_last c k = record { stage = k.stage; settled = k.settled; outcome = k.outcome; last = c; cutoff = k.cutoff }
+
+-- the row with another cutoff
+abbrev pub with_cutoff : Cutoff → Progress → Progress
+with_cutoff c k = record { stage = k.stage; settled = k.settled; outcome = k.outcome; last = k.last; cutoff = c }
+
+-- a point's row is changed so, and all other rows stay
+pub record IsRewritten (old new : Rows Progress) (p : Point) (change : Progress → Progress) : Type 0 where
+  pub changed : at new p ≡ option_map change (at old p)
+  pub others : (q : Point) → q ≢ p → at new q ≡ at old q
+  pub points : SamePoints old new
+
+-- the machine's stage that a row's stage stands for
+abbrev pub stage_of : Stage → machine.Stage
+stage_of stage.Bare = machine.Bare
+stage_of stage.Full = machine.Full
+
+-- whether a row was settled in the round
+abbrev pub settled_in : ℕ → Option Progress → Bool
+settled_in round None = false
+settled_in round (Some k) = k.settled == round
+
+-- the cutoff is Never
+abbrev pub is_never : Cutoff → Bool
+is_never Equal = false
+is_never Never = true
+
+-- whether a row's cutoff is Never
+abbrev pub never_in : Option Progress → Bool
+never_in None = false
+never_in (Some k) = is_never k.cutoff
+
+-- whether a row of cutoff Never was settled in the round
+abbrev pub passes_in : ℕ → Option Progress → Bool
+passes_in round x = never_in x && settled_in round x
+
+-- readers needn't be told of the outcome: a row of cutoff Equal shows it already
+abbrev pub IsStopped : Progress → Outcome → Type 0
+IsStopped k o = (k.cutoff ≡ Equal) × (k.outcome ≡ Some o)
+
+-- the value that a row shows
+abbrev pub value_of : Option Outcome → Option Value
+value_of (Some (Val v)) = Some v
+value_of o = None
+
+-- the value that a point shows, if it has a row that does
+abbrev pub value_in : Option Progress → Option Value
+value_in None = None
+value_in (Some k) = value_of k.outcome
+
+-- the stage of a point, if it has a row
+abbrev pub stage_in : Option Progress → Option Stage
+stage_in None = None
+stage_in (Some k) = Some k.stage

@@ -1,0 +1,319 @@
+//! Calls of a node's function on the values that its children show.
+ghost use Rattle.std.specs.Prelude.{◌≡◌, [], ◌∷◌, length, IsTrue, IfOk, OnOk, OnErr};
+ghost use Rattle.std.specs.List.{filter_map};
+ghost use Rattle.inc_value.specs.Value.{type_of, HaveTypes};
+ghost use Rattle.inc_terms.specs.Depend.{main};
+ghost use Rattle.inc_terms.specs.Evaluate.{folded};
+ghost use Rattle.point_map.specs.Rows.{Holds};
+ghost use Rattle.stabilize_round.specs.Counts.{RoseBy, RoseAtMost};
+ghost use Rattle.node_outcomes.specs.Computing.{AllShow, Calls, FoldFits, KeepsFunctions, noted, value_shown};
+
+use crate::row::{Progress, keep_fold, keep_map, main_point};
+use crate::sight::{value_of, values_shown};
+use inc_value::{FnKind, FnRef, NodeId, Outcome, Value};
+use node_arena::Functions;
+use point_map::PointMap;
+use std::alloc::{AllocError, Global};
+
+/// Calls a map's function on the values that its children show, and keeps the call. One or two children have their
+/// values in an array.
+pub(crate) fn call_map<F: Functions>(
+    alloc: Global,
+    rows: &mut PointMap<Progress>,
+    ran: &mut Vec<NodeId>,
+    functions: &mut F,
+    node: NodeId,
+    f: &FnRef,
+    kids: &[NodeId],
+) -> Result<Outcome, AllocError>
+    requires there { Holds rows.old (main node) }
+    requires known { IsTrue (F.known functions.old f.now) }
+    requires kind { f.now.id.kind ≡ FnKind.Map }
+    requires shown { AllShow rows.old kids.now }
+    requires fit { HaveTypes (filter_map (value_shown rows.old) kids.now) f.now.sig.takes }
+    ensures called { Calls (F.value functions.old f.now) f.now.sig.gives
+        (noted rows.old ran.old.items (F.calls functions.old)) (noted rows.new ran.new.items (F.calls functions.new))
+        node (filter_map (value_shown rows.old) kids.now) 1 result }
+    ensures functions { KeepsFunctions (F.named functions.old) (F.named functions.new)
+        (F.known functions.old) (F.known functions.new) (F.value functions.old) (F.value functions.new) }
+{
+    match kids {
+        [kid] => call_on_one(alloc, rows, ran, functions, node, f, *kid),
+        [first, second] => call_on_two(alloc, rows, ran, functions, node, f, *first, *second),
+        _ => call_on_all(alloc, rows, ran, functions, node, f, kids),
+    }
+}
+
+/// Calls a map's function on the value that its one child shows, and keeps the call.
+fn call_on_one<F: Functions>(
+    alloc: Global,
+    rows: &mut PointMap<Progress>,
+    ran: &mut Vec<NodeId>,
+    functions: &mut F,
+    node: NodeId,
+    f: &FnRef,
+    kid: NodeId,
+) -> Result<Outcome, AllocError>
+    requires there { Holds rows.old (main node) }
+    requires known { IsTrue (F.known functions.old f.now) }
+    requires kind { f.now.id.kind ≡ FnKind.Map }
+    requires shown { AllShow rows.old (kid ∷ []) }
+    requires fit { HaveTypes (filter_map (value_shown rows.old) (kid ∷ [])) f.now.sig.takes }
+    ensures called { Calls (F.value functions.old f.now) f.now.sig.gives
+        (noted rows.old ran.old.items (F.calls functions.old)) (noted rows.new ran.new.items (F.calls functions.new))
+        node (filter_map (value_shown rows.old) (kid ∷ [])) 1 result }
+    ensures functions { KeepsFunctions (F.named functions.old) (F.named functions.new)
+        (F.known functions.old) (F.known functions.new) (F.value functions.old) (F.value functions.new) }
+{
+    let arguments = match value_of(alloc, rows, kid) {
+        Ok(value) => [value],
+        Err(AllocError) => return Err(AllocError),
+    };
+    let outcome = call_on(alloc, rows, ran, functions, node, f, &arguments);
+    drop(arguments);
+    outcome
+}
+
+/// Calls a map's function on the values that its two children show, and keeps the call.
+fn call_on_two<F: Functions>(
+    alloc: Global,
+    rows: &mut PointMap<Progress>,
+    ran: &mut Vec<NodeId>,
+    functions: &mut F,
+    node: NodeId,
+    f: &FnRef,
+    first: NodeId,
+    second: NodeId,
+) -> Result<Outcome, AllocError>
+    requires there { Holds rows.old (main node) }
+    requires known { IsTrue (F.known functions.old f.now) }
+    requires kind { f.now.id.kind ≡ FnKind.Map }
+    requires shown { AllShow rows.old (first ∷ second ∷ []) }
+    requires fit { HaveTypes (filter_map (value_shown rows.old) (first ∷ second ∷ [])) f.now.sig.takes }
+    ensures called { Calls (F.value functions.old f.now) f.now.sig.gives
+        (noted rows.old ran.old.items (F.calls functions.old)) (noted rows.new ran.new.items (F.calls functions.new))
+        node (filter_map (value_shown rows.old) (first ∷ second ∷ [])) 1 result }
+    ensures functions { KeepsFunctions (F.named functions.old) (F.named functions.new)
+        (F.known functions.old) (F.known functions.new) (F.value functions.old) (F.value functions.new) }
+{
+    let one = match value_of(alloc, rows, first) {
+        Ok(value) => value,
+        Err(AllocError) => return Err(AllocError),
+    };
+    let arguments = match value_of(alloc, rows, second) {
+        Ok(value) => [one, value],
+        Err(AllocError) => {
+            drop(one);
+            return Err(AllocError);
+        }
+    };
+    let outcome = call_on(alloc, rows, ran, functions, node, f, &arguments);
+    drop(arguments);
+    outcome
+}
+
+/// Calls a map's function on the values that its children show, and keeps the call.
+fn call_on_all<F: Functions>(
+    alloc: Global,
+    rows: &mut PointMap<Progress>,
+    ran: &mut Vec<NodeId>,
+    functions: &mut F,
+    node: NodeId,
+    f: &FnRef,
+    kids: &[NodeId],
+) -> Result<Outcome, AllocError>
+    requires there { Holds rows.old (main node) }
+    requires known { IsTrue (F.known functions.old f.now) }
+    requires kind { f.now.id.kind ≡ FnKind.Map }
+    requires fit { HaveTypes (filter_map (value_shown rows.old) kids.now) f.now.sig.takes }
+    ensures called { Calls (F.value functions.old f.now) f.now.sig.gives
+        (noted rows.old ran.old.items (F.calls functions.old)) (noted rows.new ran.new.items (F.calls functions.new))
+        node (filter_map (value_shown rows.old) kids.now) 1 result }
+    ensures functions { KeepsFunctions (F.named functions.old) (F.named functions.new)
+        (F.known functions.old) (F.known functions.new) (F.value functions.old) (F.value functions.new) }
+{
+    let arguments = match values_shown(alloc, rows, kids) {
+        Ok(arguments) => arguments,
+        Err(AllocError) => return Err(AllocError),
+    };
+    let outcome = call_on(alloc, rows, ran, functions, node, f, &arguments);
+    drop(arguments);
+    outcome
+}
+
+/// Calls a map's function on values, and keeps the call.
+fn call_on<F: Functions>(
+    alloc: Global,
+    rows: &mut PointMap<Progress>,
+    ran: &mut Vec<NodeId>,
+    functions: &mut F,
+    node: NodeId,
+    f: &FnRef,
+    arguments: &[Value],
+) -> Result<Outcome, AllocError>
+    requires there { Holds rows.old (main node) }
+    requires known { IsTrue (F.known functions.old f.now) }
+    requires kind { f.now.id.kind ≡ FnKind.Map }
+    requires fit { HaveTypes arguments.now f.now.sig.takes }
+    ensures called { Calls (F.value functions.old f.now) f.now.sig.gives
+        (noted rows.old ran.old.items (F.calls functions.old)) (noted rows.new ran.new.items (F.calls functions.new))
+        node arguments.now 1 result }
+    ensures functions { KeepsFunctions (F.named functions.old) (F.named functions.new)
+        (F.known functions.old) (F.known functions.new) (F.value functions.old) (F.value functions.new) }
+{
+    if ran.reserve(1).is_err() {
+        return Err(AllocError);
+    }
+    let value = match functions.apply(alloc, *f, arguments) {
+        Ok(value) => value,
+        Err(AllocError) => return Err(AllocError),
+    };
+    let copy = match value.copy(alloc) {
+        Ok(copy) => copy,
+        Err(AllocError) => {
+            drop(value);
+            return Err(AllocError);
+        }
+    };
+    if keep_map(alloc, rows, main_point(node), arguments, value).is_err() {
+        drop(copy);
+        return Err(AllocError);
+    }
+    ran.push_reserved(node);
+    Ok(Outcome::Val(copy))
+}
+
+/// Folds the values that a fold's children show, and keeps these and the result.
+pub(crate) fn call_fold<F: Functions>(
+    alloc: Global,
+    rows: &mut PointMap<Progress>,
+    ran: &mut Vec<NodeId>,
+    functions: &mut F,
+    node: NodeId,
+    f: &FnRef,
+    initial: &Value,
+    kids: &[NodeId],
+) -> Result<Outcome, AllocError>
+    requires there { Holds rows.old (main node) }
+    requires known { IsTrue (F.known functions.old f.now) }
+    requires kind { f.now.id.kind ≡ FnKind.Map }
+    requires fit { FoldFits f.now initial.now (filter_map (value_shown rows.old) kids.now) }
+    ensures called { Calls (folded (F.value functions.old f.now) initial.now) f.now.sig.gives
+        (noted rows.old ran.old.items (F.calls functions.old)) (noted rows.new ran.new.items (F.calls functions.new))
+        node (filter_map (value_shown rows.old) kids.now)
+        (length (filter_map (value_shown rows.old) kids.now)) result }
+    ensures functions { KeepsFunctions (F.named functions.old) (F.named functions.new)
+        (F.known functions.old) (F.known functions.new) (F.value functions.old) (F.value functions.new) }
+{
+    let arguments = match values_shown(alloc, rows, kids) {
+        Ok(arguments) => arguments,
+        Err(AllocError) => return Err(AllocError),
+    };
+    let outcome = fold_on(alloc, rows, ran, functions, node, f, initial, &arguments);
+    drop(arguments);
+    outcome
+}
+
+/// Folds values, and keeps these and the result.
+fn fold_on<F: Functions>(
+    alloc: Global,
+    rows: &mut PointMap<Progress>,
+    ran: &mut Vec<NodeId>,
+    functions: &mut F,
+    node: NodeId,
+    f: &FnRef,
+    initial: &Value,
+    arguments: &[Value],
+) -> Result<Outcome, AllocError>
+    requires there { Holds rows.old (main node) }
+    requires known { IsTrue (F.known functions.old f.now) }
+    requires kind { f.now.id.kind ≡ FnKind.Map }
+    requires fit { FoldFits f.now initial.now arguments.now }
+    ensures called { Calls (folded (F.value functions.old f.now) initial.now) f.now.sig.gives
+        (noted rows.old ran.old.items (F.calls functions.old)) (noted rows.new ran.new.items (F.calls functions.new))
+        node arguments.now (length arguments.now) result }
+    ensures functions { KeepsFunctions (F.named functions.old) (F.named functions.new)
+        (F.known functions.old) (F.known functions.new) (F.value functions.old) (F.value functions.new) }
+{
+    if ran.reserve(1).is_err() {
+        return Err(AllocError);
+    }
+    let value = match fold(alloc, functions, f, initial, arguments) {
+        Ok(value) => value,
+        Err(AllocError) => return Err(AllocError),
+    };
+    let copy = match value.copy(alloc) {
+        Ok(copy) => copy,
+        Err(AllocError) => {
+            drop(value);
+            return Err(AllocError);
+        }
+    };
+    if keep_fold(alloc, rows, main_point(node), arguments, value).is_err() {
+        drop(copy);
+        return Err(AllocError);
+    }
+    ran.push_reserved(node);
+    Ok(Outcome::Val(copy))
+}
+
+/// The function of two values, from the value on over the others in order: called once for each.
+fn fold<F: Functions>(
+    alloc: Global,
+    functions: &mut F,
+    f: &FnRef,
+    initial: &Value,
+    values: &[Value],
+) -> Result<Value, AllocError>
+    requires known { IsTrue (F.known functions.old f.now) }
+    requires kind { f.now.id.kind ≡ FnKind.Map }
+    requires fit { FoldFits f.now initial.now values.now }
+    ensures value { IfOk result (λ v. v ≡ folded (F.value functions.old f.now) initial.now values.now) }
+    ensures typed { IfOk result (λ v. type_of v ≡ f.now.sig.gives) }
+    ensures calls { OnOk result (RoseBy (F.calls functions.old) (length values.now) (F.calls functions.new)) }
+    ensures few { OnErr result (RoseAtMost (F.calls functions.old) (length values.now) (F.calls functions.new)) }
+    ensures functions { KeepsFunctions (F.named functions.old) (F.named functions.new)
+        (F.known functions.old) (F.known functions.new) (F.value functions.old) (F.value functions.new) }
+{
+    let mut result = match initial.copy(alloc) {
+        Ok(copy) => copy,
+        Err(AllocError) => return Err(AllocError),
+    };
+    for value in values {
+        result = match call_with(alloc, functions, f, result, value) {
+            Ok(given) => given,
+            Err(AllocError) => return Err(AllocError),
+        };
+    }
+    Ok(result)
+}
+
+/// Calls a function of two values.
+fn call_with<F: Functions>(
+    alloc: Global,
+    functions: &mut F,
+    f: &FnRef,
+    first: Value,
+    second: &Value,
+) -> Result<Value, AllocError>
+    requires known { IsTrue (F.known functions.old f.now) }
+    requires kind { f.now.id.kind ≡ FnKind.Map }
+    requires fit { HaveTypes (first ∷ second.now ∷ []) f.now.sig.takes }
+    ensures value { IfOk result (λ v. v ≡ F.value functions.old f.now (first ∷ second.now ∷ [])) }
+    ensures typed { IfOk result (λ v. type_of v ≡ f.now.sig.gives) }
+    ensures calls { OnOk result (RoseBy (F.calls functions.old) 1 (F.calls functions.new)) }
+    ensures few { OnErr result (RoseAtMost (F.calls functions.old) 1 (F.calls functions.new)) }
+    ensures functions { KeepsFunctions (F.named functions.old) (F.named functions.new)
+        (F.known functions.old) (F.known functions.new) (F.value functions.old) (F.value functions.new) }
+{
+    let arguments = match second.copy(alloc) {
+        Ok(copy) => [first, copy],
+        Err(AllocError) => {
+            drop(first);
+            return Err(AllocError);
+        }
+    };
+    let given = functions.apply(alloc, *f, &arguments);
+    drop(arguments);
+    given
+}

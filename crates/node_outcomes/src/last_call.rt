@@ -1,0 +1,133 @@
+//! What a node's function was last called on, and what it gave.
+ghost use Rattle.std.specs.Prelude.{◌≡◌, None, Some, OnOk, OnErr};
+
+use fold_nodes::LastFold;
+use inc_value::Value;
+use map_nodes::LastArgs;
+use std::alloc::{AllocError, Global};
+use std::marker::Model;
+use std::mem;
+
+/// What a node's function was last called on, if it was called, and what it gave.
+#[derive(Drop)]
+pub struct LastCall {
+    kept: Kept,
+}
+
+/// What is kept of the last call, by what called.
+#[derive(Drop)]
+pub(crate) enum Kept {
+    /// The function was not called yet.
+    Nothing,
+    Map(LastArgs, Value),
+    Fold(LastFold, Value),
+}
+
+impl Model for LastCall {
+    ghost use Rattle.std.specs.Prelude.{Option};
+    ghost use Rattle.stabilize_round.specs.State.{Call};
+    ghost use Rattle.node_outcomes.specs.LastCall.{call_of};
+
+    ghost Value = { Option Call };
+
+    ghost view = { λ c. call_of c.kept };
+}
+
+/// A call that is kept.
+#[derive(Drop)]
+pub struct Called<'a> {
+    pub arguments: &'a [Value],
+    pub result: &'a Value,
+}
+
+impl<'a> Model for Called<'a> {
+    ghost use Rattle.stabilize_round.specs.State.{Call};
+
+    ghost Value = { Call };
+
+    ghost view = { λ c. record { arguments = c.arguments.now; result = c.result.now } };
+}
+
+impl LastCall {
+    /// The function was not called yet.
+    pub(crate) fn none() -> LastCall
+        ensures { result ≡ None }
+    {
+        LastCall {
+            kept: Kept::Nothing,
+        }
+    }
+
+    /// The last call, if there was one.
+    pub fn get(&self) -> Option<Called<'_>>
+        ensures { result ≡ self.now }
+    {
+        match &self.kept {
+            Kept::Nothing => None,
+            Kept::Map(arguments, result) => Some(Called {
+                arguments: arguments.args()?,
+                result,
+            }),
+            Kept::Fold(kids, result) => Some(Called {
+                arguments: kids.kids()?,
+                result,
+            }),
+        }
+    }
+
+    /// Keeps a call of a map's function. Without memory what was kept stays.
+    pub(crate) fn keep_map(
+        &mut self,
+        alloc: Global,
+        arguments: &[Value],
+        value: Value,
+    ) -> Result<(), AllocError>
+        ensures kept { OnOk result (self.new ≡ Some (record { arguments = arguments.now; result = value })) }
+        ensures err { OnErr result (self.new ≡ self.old) }
+    {
+        if let Kept::Map(kept, given) = &mut self.kept {
+            if kept.keep(arguments).is_err() {
+                drop(value);
+                return Err(AllocError);
+            }
+            drop(mem::replace(given, value));
+            return Ok(());
+        }
+        let mut kept = LastArgs::new(alloc);
+        if kept.keep(arguments).is_err() {
+            drop(kept);
+            drop(value);
+            return Err(AllocError);
+        }
+        drop(mem::replace(&mut self.kept, Kept::Map(kept, value)));
+        Ok(())
+    }
+
+    /// Keeps the calls of a fold's function. Without memory what was kept stays.
+    pub(crate) fn keep_fold(
+        &mut self,
+        alloc: Global,
+        kids: &[Value],
+        value: Value,
+    ) -> Result<(), AllocError>
+        ensures kept { OnOk result (self.new ≡ Some (record { arguments = kids.now; result = value })) }
+        ensures err { OnErr result (self.new ≡ self.old) }
+    {
+        if let Kept::Fold(kept, given) = &mut self.kept {
+            if kept.keep(kids).is_err() {
+                drop(value);
+                return Err(AllocError);
+            }
+            drop(mem::replace(given, value));
+            return Ok(());
+        }
+        let mut kept = LastFold::new(alloc);
+        if kept.keep(kids).is_err() {
+            drop(kept);
+            drop(value);
+            return Err(AllocError);
+        }
+        drop(mem::replace(&mut self.kept, Kept::Fold(kept, value)));
+        Ok(())
+    }
+}

@@ -1,0 +1,156 @@
+//! What a node gives by its own function of what its children show.
+ghost use Rattle.std.specs.Prelude.{◌≡◌, List, length, IsTrue, IfOk};
+ghost use Rattle.std.specs.List.{AllZip};
+ghost use Rattle.inc_value.specs.Value.{HaveTypes};
+ghost use Rattle.inc_terms.specs.Depend.{main};
+ghost use Rattle.inc_terms.specs.Evaluate.{folded};
+ghost use Rattle.inc_terms.specs.Graph.{Map, Fold};
+ghost use Rattle.point_map.specs.Rows.{Holds};
+ghost use Rattle.node_arena.specs.Arena.{IsLive};
+ghost use Rattle.node_arena.specs.Graph.{AllCallFit};
+ghost use Rattle.node_outcomes.specs.Computing.{CallComputes, Ends, IsKnown, KeepsFunctions, KeepsTypes};
+ghost use Rattle.node_outcomes.specs.Computing.{FoldFits, ShowsValue, noted};
+ghost use Rattle.node_outcomes.specs.Meaning.{lists_none};
+
+use crate::call::{call_fold, call_map};
+use crate::row::Progress;
+use crate::sight::{is_forced, last_call, show, show_values};
+use inc_terms::Def;
+use inc_value::{FnKind, FnRef, NodeId, Outcome, Value};
+use node_arena::{Arena, Functions};
+use point_map::PointMap;
+use std::alloc::{AllocError, Global};
+
+/// What a node gives. A map's or a fold's function is called unless it was last called on the same
+/// values of its children, none of which has cutoff Never and was settled in this round.
+pub fn compute<F: Functions>(
+    alloc: Global,
+    arena: &Arena,
+    rows: &mut PointMap<Progress>,
+    ran: &mut Vec<NodeId>,
+    round: u64,
+    functions: &mut F,
+    node: NodeId,
+) -> Result<Outcome, AllocError>
+    requires types { KeepsTypes arena.now rows.old }
+    requires live { IsLive arena.now node }
+    requires fit { AllCallFit (F.known functions.old) lists_none arena.now }
+    ensures computed { Ends (F.value functions.old) arena.now round
+        (noted rows.old ran.old.items (F.calls functions.old))
+        (noted rows.new ran.new.items (F.calls functions.new)) node result }
+    ensures functions { KeepsFunctions (F.named functions.old) (F.named functions.new)
+        (F.known functions.old) (F.known functions.new) (F.value functions.old) (F.value functions.new) }
+{
+    arena.is_sound();
+    let row = arena.get(node).unwrap();
+    match &row.def {
+        Def::Const(value) | Def::Var(value) => match value.copy(alloc) {
+            Ok(copy) => Ok(Outcome::Val(copy)),
+            Err(AllocError) => Err(AllocError),
+        },
+        Def::Map(f, kids) => {
+            compute_map(alloc, rows, ran, round, functions, node, f, kids.as_slice())
+        }
+        Def::Fold(f, initial, kids) => compute_fold(
+            alloc,
+            rows,
+            ran,
+            round,
+            functions,
+            node,
+            f,
+            initial,
+            kids.as_slice(),
+        ),
+    }
+}
+
+/// What a map gives.
+fn compute_map<F: Functions>(
+    alloc: Global,
+    rows: &mut PointMap<Progress>,
+    ran: &mut Vec<NodeId>,
+    round: u64,
+    functions: &mut F,
+    node: NodeId,
+    f: &FnRef,
+    kids: &[NodeId],
+) -> Result<Outcome, AllocError>
+    requires there { Holds rows.old (main node) }
+    requires known { IsTrue (F.known functions.old f.now) }
+    requires kind { f.now.id.kind ≡ FnKind.Map }
+    requires fit { (values : List Value) → AllZip (ShowsValue rows.old) kids.now values
+        → HaveTypes values f.now.sig.takes }
+    ensures computed { CallComputes (F.value functions.old) (F.value functions.old f.now) f.now.sig.gives round
+        (noted rows.old ran.old.items (F.calls functions.old))
+        (noted rows.new ran.new.items (F.calls functions.new)) node (Map f.now kids.now) kids.now 1 result }
+    ensures functions { KeepsFunctions (F.named functions.old) (F.named functions.new)
+        (F.known functions.old) (F.known functions.new) (F.value functions.old) (F.value functions.new) }
+{
+    match known_outcome(alloc, rows, round, node, kids) {
+        Ok(Some(outcome)) => Ok(outcome),
+        Ok(None) => call_map(alloc, rows, ran, functions, node, f, kids),
+        Err(AllocError) => Err(AllocError),
+    }
+}
+
+/// What a fold gives.
+fn compute_fold<F: Functions>(
+    alloc: Global,
+    rows: &mut PointMap<Progress>,
+    ran: &mut Vec<NodeId>,
+    round: u64,
+    functions: &mut F,
+    node: NodeId,
+    f: &FnRef,
+    initial: &Value,
+    kids: &[NodeId],
+) -> Result<Outcome, AllocError>
+    requires there { Holds rows.old (main node) }
+    requires known { IsTrue (F.known functions.old f.now) }
+    requires kind { f.now.id.kind ≡ FnKind.Map }
+    requires fit { (values : List Value) → AllZip (ShowsValue rows.old) kids.now values
+        → FoldFits f.now initial.now values }
+    ensures computed { CallComputes (F.value functions.old) (folded (F.value functions.old f.now) initial.now)
+        f.now.sig.gives round (noted rows.old ran.old.items (F.calls functions.old))
+        (noted rows.new ran.new.items (F.calls functions.new)) node (Fold f.now initial.now kids.now) kids.now
+        (length kids.now) result }
+    ensures functions { KeepsFunctions (F.named functions.old) (F.named functions.new)
+        (F.known functions.old) (F.known functions.new) (F.value functions.old) (F.value functions.new) }
+{
+    match known_outcome(alloc, rows, round, node, kids) {
+        Ok(Some(outcome)) => Ok(outcome),
+        Ok(None) => call_fold(alloc, rows, ran, functions, node, f, initial, kids),
+        Err(AllocError) => Err(AllocError),
+    }
+}
+
+/// What a node gives whose function need not be called: Invalid where a child shows no value, and
+/// what was given last where it was last called on the values that its children show, unless one
+/// of cutoff Never was settled in this round.
+fn known_outcome(
+    alloc: Global,
+    rows: &PointMap<Progress>,
+    round: u64,
+    node: NodeId,
+    kids: &[NodeId],
+) -> Result<Option<Outcome>, AllocError>
+    ensures { IfOk result (λ o. IsKnown round rows.now node kids.now o) }
+{
+    if let Some(last) = last_call(rows, node) {
+        if show(rows, kids, last.arguments) {
+            if is_forced(rows, round, kids) {
+                return Ok(None);
+            }
+            return match last.result.copy(alloc) {
+                Ok(copy) => Ok(Some(Outcome::Val(copy))),
+                Err(AllocError) => Err(AllocError),
+            };
+        }
+    }
+    if show_values(rows, kids) {
+        Ok(None)
+    } else {
+        Ok(Some(Outcome::Invalid))
+    }
+}

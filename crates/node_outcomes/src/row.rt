@@ -1,0 +1,165 @@
+//! How far a point has come.
+ghost use Rattle.std.specs.Prelude.{◌≡◌, ◌↔◌, None, Some, IsTrue, OnOk, OnErr};
+ghost use Rattle.point_map.specs.Rows.{at, Holds, KeepsRows};
+ghost use Rattle.inc_value.specs.declared.node.Part.TheVariants.{Change, Main};
+ghost use Rattle.node_outcomes.specs.declared.row.Progress.{Progress as Row};
+ghost use Rattle.node_outcomes.specs.Row.{with_stage, with_outcome, with_call, with_cutoff, stage_in, settled_in, IsRewritten, IsStopped};
+
+use crate::last_call::LastCall;
+use inc_value::{NodeId, Outcome, Part, Point, Value};
+use map_nodes::{Cutoff, stops};
+use point_map::PointMap;
+use std::alloc::{AllocError, Global};
+
+/// Which links a needed point has. Scopes and nodes of two points will add stages between these: with its gate's link
+/// alone, until the gate ran, and with all but right sides, until the node's change did.
+#[derive(Clone, Copy)]
+pub enum Stage {
+    /// None yet.
+    Bare,
+    /// All.
+    Full,
+}
+
+/// What is kept of a point of a live node: its links' stage, the round in which it was settled last, its outcome,
+/// the last call of its node's function, and, of a main, its node's cutoff. No round has the number 0.
+#[derive(Drop)]
+pub struct Progress {
+    pub stage: Stage,
+    pub settled: u64,
+    pub outcome: Option<Outcome>,
+    pub last: LastCall,
+    pub cutoff: Cutoff,
+}
+
+/// The main of a node.
+pub fn main_point(node: NodeId) -> Point
+    ensures { result ≡ record { node = node; part = Main } }
+{
+    Point {
+        node,
+        part: Part::Main,
+    }
+}
+
+/// The change of a node of two points.
+pub fn change_point(node: NodeId) -> Point
+    ensures { result ≡ record { node = node; part = Change } }
+{
+    Point {
+        node,
+        part: Part::Change,
+    }
+}
+
+/// A point that was never settled.
+pub fn unsettled() -> Progress
+    ensures { result ≡ record { stage = Stage.Bare; settled = 0; outcome = None; last = None; cutoff = Cutoff.Equal } }
+{
+    Progress {
+        stage: Stage::Bare,
+        settled: 0,
+        outcome: None,
+        last: LastCall::none(),
+        cutoff: Cutoff::Equal,
+    }
+}
+
+/// Whether a point was settled in this round.
+pub fn was_settled(rows: &PointMap<Progress>, p: Point, round: u64) -> bool
+    ensures { result ≡ settled_in round (at rows.now p) }
+{
+    match rows.get(p) {
+        Some(row) => row.settled == round,
+        None => false,
+    }
+}
+
+/// Whether a point of a live node has no links yet.
+pub fn is_bare(rows: &PointMap<Progress>, p: Point) -> bool
+    ensures { IsTrue result ↔ stage_in (at rows.now p) ≡ Some Stage.Bare }
+{
+    match rows.get(p) {
+        Some(row) => match row.stage {
+            Stage::Bare => true,
+            Stage::Full => false,
+        },
+        None => false,
+    }
+}
+
+/// Gives a point another stage.
+pub fn set_stage(rows: &mut PointMap<Progress>, p: Point, stage: Stage)
+    requires there { Holds rows.old p }
+    ensures { IsRewritten rows.old rows.new p (with_stage stage) }
+{
+    let row = rows.get_mut(p).unwrap();
+    row.stage = stage;
+}
+
+/// Whether a point's readers needn't be told of an outcome: it shows just this one already, and its cutoff is Equal.
+fn is_stopped(row: &Progress, outcome: &Outcome) -> bool
+    ensures { IsTrue result ↔ IsStopped row.now outcome.now }
+{
+    match &row.outcome {
+        Some(before) => stops(row.cutoff, before, outcome),
+        None => false,
+    }
+}
+
+/// Gives a point another outcome, settled in this round. The answer is whether its readers needn't be told: it showed
+/// just this one before, and its cutoff is Equal.
+pub fn set_outcome(rows: &mut PointMap<Progress>, p: Point, outcome: Outcome, round: u64) -> bool
+    requires there { Holds rows.old p }
+    ensures rewritten { IsRewritten rows.old rows.new p (with_outcome outcome round) }
+    ensures stopped { IsTrue result ↔ ((k : Row) × (at rows.old p ≡ Some k) × IsStopped k outcome) }
+{
+    let row = rows.get_mut(p).unwrap();
+    let stopped = is_stopped(row, &outcome);
+    row.outcome = Some(outcome);
+    row.settled = round;
+    stopped
+}
+
+/// Keeps the last call of a map's function. Without memory all rows stay.
+pub(crate) fn keep_map(
+    alloc: Global,
+    rows: &mut PointMap<Progress>,
+    p: Point,
+    arguments: &[Value],
+    value: Value,
+) -> Result<(), AllocError>
+    requires there { Holds rows.old p }
+    ensures kept { OnOk result (IsRewritten rows.old rows.new p
+        (with_call (record { arguments = arguments.now; result = value }))) }
+    ensures err { OnErr result (KeepsRows rows.old rows.new) }
+{
+    let row = rows.get_mut(p).unwrap();
+    row.last.keep_map(alloc, arguments, value)
+}
+
+/// Keeps the last calls of a fold's function. Without memory all rows stay.
+pub(crate) fn keep_fold(
+    alloc: Global,
+    rows: &mut PointMap<Progress>,
+    p: Point,
+    kids: &[Value],
+    value: Value,
+) -> Result<(), AllocError>
+    requires there { Holds rows.old p }
+    ensures kept { OnOk result (IsRewritten rows.old rows.new p
+        (with_call (record { arguments = kids.now; result = value }))) }
+    ensures err { OnErr result (KeepsRows rows.old rows.new) }
+{
+    let row = rows.get_mut(p).unwrap();
+    row.last.keep_fold(alloc, kids, value)
+}
+
+/// Sets a node's cutoff.
+pub fn set_cutoff(rows: &mut PointMap<Progress>, p: Point, cutoff: Cutoff)
+    requires there { Holds rows.old p }
+    ensures { IsRewritten rows.old rows.new p (with_cutoff cutoff) }
+{
+    let row = rows.get_mut(p).unwrap();
+    row.cutoff = cutoff;
+}

@@ -1,0 +1,122 @@
+//! What is seen of nodes by their rows.
+ghost use Rattle.std.specs.Prelude.{◌≡◌, ◌↔◌, None, Some, IsTrue, IsSome, IfOk, option_copied, option_and_then};
+ghost use Rattle.std.specs.List.{AllZip, filter_map};
+ghost use Rattle.inc_terms.specs.Depend.{main};
+ghost use Rattle.point_map.specs.Rows.{at};
+ghost use Rattle.node_outcomes.specs.Computing.{AllShow, ShowsValue, value_shown as shown_in, forced_by};
+ghost use Rattle.node_outcomes.specs.Row.{value_in, passes_in};
+
+use crate::last_call::Called;
+use crate::row::{Progress, main_point};
+use inc_value::{NodeId, Outcome, Value};
+use map_nodes::Cutoff;
+use point_map::PointMap;
+use std::alloc::{AllocError, Global};
+
+/// The value that a node shows, if it shows one. A dead node shows none.
+pub(crate) fn value_shown(rows: &PointMap<Progress>, node: NodeId) -> Option<&Value>
+    ensures { option_copied result ≡ value_in (at rows.now (main node)) }
+{
+    match &rows.get(main_point(node))?.outcome {
+        Some(Outcome::Val(value)) => Some(value),
+        _ => None,
+    }
+}
+
+/// The last call of a node's function, if there was one.
+pub(crate) fn last_call(rows: &PointMap<Progress>, node: NodeId) -> Option<Called<'_>>
+    ensures { result ≡ option_and_then (λ k. k.last) (at rows.now (main node)) }
+{
+    rows.get(main_point(node))?.last.get()
+}
+
+/// Whether a node of cutoff Never was settled in the round.
+fn passes(rows: &PointMap<Progress>, round: u64, node: NodeId) -> bool
+    ensures { result ≡ passes_in round (at rows.now (main node)) }
+{
+    match rows.get(main_point(node)) {
+        Some(row) => match row.cutoff {
+            Cutoff::Equal => false,
+            Cutoff::Never => row.settled == round,
+        },
+        None => false,
+    }
+}
+
+/// Whether one of the nodes has cutoff Never and was settled in the round.
+pub(crate) fn is_forced(rows: &PointMap<Progress>, round: u64, nodes: &[NodeId]) -> bool
+    ensures { result ≡ forced_by round rows.now nodes.now }
+{
+    for node in nodes {
+        if passes(rows, round, *node) {
+            return true;
+        }
+    }
+    false
+}
+
+/// Whether each of the nodes shows a value.
+pub(crate) fn show_values(rows: &PointMap<Progress>, nodes: &[NodeId]) -> bool
+    ensures { IsTrue result ↔ AllShow rows.now nodes.now }
+{
+    for node in nodes {
+        if value_shown(rows, *node).is_none() {
+            return false;
+        }
+    }
+    true
+}
+
+/// Whether the node shows this value.
+fn shows_value(rows: &PointMap<Progress>, node: NodeId, value: &Value) -> bool
+    ensures { IsTrue result ↔ ShowsValue rows.now node value.now }
+{
+    match value_shown(rows, node) {
+        Some(shown) => shown.same(value),
+        None => false,
+    }
+}
+
+/// Whether the nodes show these values, one for one.
+pub(crate) fn show(rows: &PointMap<Progress>, nodes: &[NodeId], values: &[Value]) -> bool
+    ensures { IsTrue result ↔ AllZip (ShowsValue rows.now) nodes.now values.now }
+{
+    if nodes.len() != values.len() {
+        return false;
+    }
+    for (node, value) in nodes.iter().zip(values) {
+        if !shows_value(rows, *node, value) {
+            return false;
+        }
+    }
+    true
+}
+
+/// A copy of the value that a node shows.
+pub(crate) fn value_of(
+    alloc: Global,
+    rows: &PointMap<Progress>,
+    node: NodeId,
+) -> Result<Value, AllocError>
+    requires { IsSome (shown_in rows.now node) }
+    ensures { IfOk result (λ v. ShowsValue rows.now node v) }
+{
+    value_shown(rows, node).unwrap().copy(alloc)
+}
+
+/// Copies of the values that the nodes show.
+pub(crate) fn values_shown(
+    alloc: Global,
+    rows: &PointMap<Progress>,
+    nodes: &[NodeId],
+) -> Result<Vec<Value>, AllocError>
+    ensures { IfOk result (λ values. values.items ≡ filter_map (shown_in rows.now) nodes.now) }
+{
+    let mut values = Vec::with_capacity(alloc, nodes.len())?;
+    for node in nodes {
+        if let Some(value) = value_shown(rows, *node) {
+            values.push(value.copy(alloc)?)?;
+        }
+    }
+    Ok(values)
+}
