@@ -1,6 +1,5 @@
 -- Laws of runs in progress.
-use Rattle.std.proofs.Common.{if◌then◌else◌, ◌≡◌, ◌≢◌, ◌⊎◌, inl, inr, ℕ, ◌+◌, ◌≤◌, Bool, true, false, ◌||◌, List, [], ◌∷◌, ◌++◌, length, take, Option, IfSome, refl, sym, ◌∙◌, ap, subst, append-nil, arith, ◌<◌, Result, Ok, Err}
-use Rattle.std.specs.Result.{IsErrAnd, IfErr}
+use Rattle.std.proofs.Common.{if◌then◌else◌, ◌≡◌, ◌≢◌, ◌⊎◌, inl, inr, ℕ, ◌+◌, ◌≤◌, Bool, true, false, ◌||◌, List, [], ◌∷◌, ◌++◌, length, take, Option, IfSome, refl, sym, ◌∙◌, ap, subst, append-nil, arith, ◌<◌}
 use Rattle.std.proofs.KnownBytes.{Appends-trans, Appends-nil}
 use Rattle.std.proofs.lemmas.Grind.{flat_map-append}
 use Rattle.std.proofs.lemmas.List.{map-append}
@@ -69,17 +68,17 @@ abbrev counted_turn : Turn → ℕ → ℕ → Counted
 counted_turn t called calls = record { turn = t; called = called; calls = calls }
 
 -- the reader took a line off the bytes ahead, within the limit
-pub record IsTaken (limit : ℕ) (point new : Point) (line part : List ℕ) : Type 0 where
-  pub bytes : Consumes (ahead point.reader point.left) (ahead new.reader new.left) part
-  pub count : new.reader.taken ≡ point.reader.taken + length part
-  pub within : new.reader.taken ≤ limit
-  pub few : length new.reader.held ≤ 4096
+pub record IsTaken (limit : ℕ) (old new : Reader) (before after : Option (List ℕ)) (line part : List ℕ) : Type 0 where
+  pub bytes : Consumes (ahead old before) (ahead new after) part
+  pub count : new.taken ≡ old.taken + length part
+  pub within : new.taken ≤ limit
+  pub few : length new.held ≤ 4096
   pub clear : HasNoNewline line
-  pub ends : EndsLine line part (ahead new.reader new.left)
+  pub ends : EndsLine line part (ahead new after)
 
 -- a line more of the bytes
 lines-more : (F : Meanings) (limit : ℕ) (before : Outside) (point new : Point) (counted : List Counted) (end : Moment) (line part : List ℕ)
-    → Course F limit before point counted end → IsTaken limit point new line part
+    → Course F limit before point counted end → IsTaken limit point.reader new.reader point.left new.left line part
     → IfSome before.left (λ bytes. ReadSoFar limit bytes new.reader new.left (lines_read (turns_of counted) ++ line ∷ []))
 lines-more F limit before point new counted end line part c is =
     ReadSoFar-more limit before.left point.left new.left point.reader new.reader line part (lines_read (turns_of counted)) c.read is.bytes is.count is.within is.few is.clear is.ends
@@ -87,7 +86,7 @@ lines-more F limit before point new counted end line part c is =
 -- what one line more leads to, but for what the sink is given
 Course-more : (F : Meanings) (limit : ℕ) (before : Outside) (point new : Point) (counted : List Counted) (end : Moment) (line part buffer appended : List ℕ) (how : Did)
     → Course F limit before point counted end → (t : Takes F end line new.kept buffer appended point.calls new.calls how) → point.calls ≤ new.calls
-    → IsTaken limit point new line part
+    → IsTaken limit point.reader new.reader point.left new.left line part
     → new.refused ≡ (point.refused || is_refusal_said how) → Course F limit before new (counted ++ counted_turn t.turn point.calls new.calls ∷ []) t.turn.after
 Course-more F limit before point new counted end line part buffer appended how c t later is said =
     let last = counted_turn t.turn point.calls new.calls in
@@ -113,14 +112,10 @@ pub refusal_told : (behind : Behind) (quiet : (why : Refusal) (called calls : �
 refusal_told behind quiet number called calls before after appended replies says round =
     sym (append-nil appended) ∙ ap (λ l. appended ++ l) (sym (ap (λ rs. behind rs called calls) says.1 ∙ quiet says.0 called calls))
 
--- a count that stayed did not fall
-pub unfallen : (called calls : ℕ) → calls ≡ called → called ≤ calls
-unfallen called calls same = omega (arith, same)
-
 -- one line more, and all that is written of it
 pub Progress-more : (F : Meanings) (behind : Behind) (limit : ℕ) (before : Outside) (point new : Point) (line part buffer appended whole : List ℕ) (how : Did)
     → Progress F behind limit before point → ((m : Moment) → Stands F point.kept m → Takes F m line new.kept buffer appended point.calls new.calls how) → point.calls ≤ new.calls
-    → IsTaken limit point new line part
+    → IsTaken limit point.reader new.reader point.left new.left line part
     → new.refused ≡ (point.refused || is_refusal_said how) → buffer ≡ []
     → ((replies : List Reply) → Says how replies → TellsRound point.kept.accepted new.kept.accepted replies → whole ≡ appended ++ behind replies point.calls new.calls)
     → Appends point.written new.written whole → Progress F behind limit before new
@@ -148,7 +143,7 @@ no-other F limit before point counted end c =
 -- one line more, of which the sink took a front of what is written
 pub Ran-write_fault : (F : Meanings) (behind : Behind) (limit : ℕ) (before : Outside) (point new : Point) (line part buffer appended whole : List ℕ) (how : Did)
     → Progress F behind limit before point → ((m : Moment) → Stands F point.kept m → Takes F m line new.kept buffer appended point.calls new.calls how) → point.calls ≤ new.calls
-    → IsTaken limit point new line part
+    → IsTaken limit point.reader new.reader point.left new.left line part
     → new.refused ≡ (point.refused || is_refusal_said how) → buffer ≡ []
     → ((replies : List Reply) → Says how replies → TellsRound point.kept.accepted new.kept.accepted replies → whole ≡ appended ++ behind replies point.calls new.calls)
     → ((n : ℕ) × (n < length whole) × Appends point.written new.written (take n whole))
@@ -192,7 +187,7 @@ stops_at_once F m line old new called calls kept same stands = record {
 -- no memory for a line
 pub Ran-no_memory : (F : Meanings) (behind : Behind) (limit : ℕ) (before : Outside) (point new : Point) (line part : List ℕ)
     → Progress F behind limit before point → ((m : Moment) → Stands F point.kept m → Stops F m line new.kept point.calls new.calls) → point.calls ≤ new.calls
-    → IsTaken limit point new line part → Ran F behind ending.Memory limit before (record { left = new.left; written = point.written; calls = new.calls })
+    → IsTaken limit point.reader new.reader point.left new.left line part → Ran F behind ending.Memory limit before (record { left = new.left; written = point.written; calls = new.calls })
 Ran-no_memory F behind limit before point new line part p stops later is =
     let s = stops p.end p.course.stands in
     record {
@@ -210,7 +205,7 @@ Ran-no_memory F behind limit before point new line part p stops later is =
 -- no memory for what stands behind a turn
 pub Ran-no_memory_behind : (F : Meanings) (behind : Behind) (limit : ℕ) (before : Outside) (point new : Point) (line part buffer appended : List ℕ) (how : Did)
     → Progress F behind limit before point → ((m : Moment) → Stands F point.kept m → Takes F m line new.kept buffer appended point.calls new.calls how) → point.calls ≤ new.calls
-    → IsTaken limit point new line part → buffer ≡ []
+    → IsTaken limit point.reader new.reader point.left new.left line part → buffer ≡ []
     → ((replies : List Reply) → Says how replies → TellsRound point.kept.accepted new.kept.accepted replies → behind replies point.calls new.calls ≢ [])
     → Ran F behind ending.Memory limit before (record { left = new.left; written = point.written; calls = new.calls })
 Ran-no_memory_behind F behind limit before point new line part buffer appended how p takes later is empty wanted =
@@ -296,11 +291,6 @@ Ran-limit F behind limit before point left reader part p bytes count within few 
   read = BreakAt-so_far limit before.left point.left left point.reader reader part (lines_read (turns_of p.counted) ++ []) (no-other F limit before point p.counted p.end p.course) bytes count within few is;
   written = p.written;
 }
-
--- what holds at the error that `?` makes
-pub IfErr-made : {T E : Type 0} (r : Result T E) (e : E) (Q : E → Type 0) → IsErrAnd r (λ x. x ≡ e) → Q e → IfErr r Q
-IfErr-made (Ok x) e Q h q = tt
-IfErr-made (Err x) e Q h q = subst Q (sym h) q
 
 -- ---- how a run begins
 

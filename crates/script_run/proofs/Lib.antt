@@ -1,3 +1,4 @@
 mod Counts
 mod Course
+mod Steps
 pub mod Turns

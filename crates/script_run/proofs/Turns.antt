@@ -77,7 +77,7 @@ stabilize_told F m after replies (settles notices free s settled unbroken is) = 
   round = record { rose = λ told. s.accepted; stayed = λ none. absurd (let told = ap (list_any tells_stable) is in cc) };
   alike = λ first more are plain. ap (list_any is_refusal) is ∙ notices_plain notices;
 }
-stabilize_told F m after replies (by_cycle targets n come cycle among met leads is) = refusal_told m after _ replies (ap (λ (x : Moment). x.present) leads) is
+stabilize_told F m after replies (by_cycle targets n cycle among met leads is) = refusal_told m after _ replies (ap (λ (x : Moment). x.present) leads) is
 stabilize_told F m after replies (by_height target i met deep printed leads is) = refusal_told m after _ replies (ap (λ (x : Moment). x.present) leads) is
 
 command_told : (m after : Moment) (c : Command) (replies : List Reply) → after.present ≡ effect m.present c → replies ≡ reply_to m.present c ∷ [] → AreTold m after replies

@@ -2,4 +2,5 @@ pub mod Counts
 pub mod Progress
 pub mod Running
 pub mod Saying
+pub mod Steps
 pub mod Telling

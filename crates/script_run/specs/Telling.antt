@@ -1,13 +1,17 @@
 -- What is written of a turn.
-use Rattle.std.specs.Prelude.{◌≡◌, ℕ, ◌+◌, Bool, true, false, List, ◌++◌}
+use Rattle.std.specs.Prelude.{◌≡◌, ℕ, ◌+◌, Bool, true, false, List, [], ◌∷◌, ◌++◌}
 use Rattle.std.specs.List.{flat_map, list_any}
 use Rattle.script_model.specs.Run.{bytes_of}
-use Rattle.script_model.specs.Step.{Reply, Stable}
+use Rattle.script_model.specs.Step.{Reply, Refusal, Refused, Stable}
 use Rattle.script_run.specs.Counts.{Counted}
 
 -- what is written behind the replies to a line, by how many calls the library had counted before it and after it
 abbrev pub Behind : Type 0
 Behind = List Reply → ℕ → ℕ → List ℕ
+
+-- nothing is written behind a refusal
+abbrev pub IsQuiet : Behind → Type 0
+IsQuiet behind = (why : Refusal) (called calls : ℕ) → behind (Refused why ∷ []) called calls ≡ []
 
 -- whether a reply is that to an accepted stabilize
 abbrev pub tells_stable : Reply → Bool

@@ -1,13 +1,13 @@
 //! Runs over the lines of a source.
-ghost use Rattle.std.specs.Prelude.{◌≡◌, ◌≢◌, ◌⊎◌, ◌^◌, ◌<◌, ◌≤◌, false, true, [], length, Ok, IfOk, IfErr, OnOk, IfSome, IsTrue, Err};
+ghost use Rattle.std.specs.Prelude.{◌≡◌, ◌≢◌, ◌⊎◌, ◌^◌, ◌<◌, ◌≤◌, false, [], length, IfSome, IsTrue};
 ghost use Rattle.inc_value.specs.declared.function.FnRef.{FnRef};
 ghost use Rattle.script_io.specs.Causes.{Rose};
 ghost use Rattle.script_io.specs.Endings.{IsStatus};
-ghost use Rattle.script_io.specs.declared.ending.Ending.TheVariants as ending;
 ghost use Rattle.script_model.specs.Formula.{meanings_of};
-ghost use Rattle.script_run.specs.Progress.{Progress};
-ghost use Rattle.script_run.specs.Running.{Outside, Ran, RanTo};
+ghost use Rattle.script_run.specs.Running.{RanTo};
 ghost use Rattle.script_run.specs.Saying.{is_refusal_said};
+ghost use Rattle.script_run.specs.Telling.{Behind, IsQuiet};
+ghost use Rattle.script_run.specs.Steps.{AnswersLine, EndsRun, IsReady, RunsLines, TakesLine, desk_of, place_of};
 
 use crate::report::Report;
 use node_arena::Library;
@@ -25,8 +25,61 @@ fn is_refused(did: Did) -> bool
     }
 }
 
-/// Takes the next line of the source, and writes what it prints and what the report tells of it. The
-/// answer is whether a line was refused so far, or how the run ends.
+/// Answers a line of a script, and writes what it prints and what the report tells of it. The answer is
+/// whether a line was refused so far, or how the run ends.
+fn answer_line<K: Sink, L: Library, R: Report<L>>(
+    session: &mut Session<L>,
+    report: &mut R,
+    text: &[u8],
+    out: &mut K,
+    buffer: &mut Vec<u8>,
+    refused: bool,
+) -> Result<bool, Ending>
+    requires lines { session.old.lines < 2 ^ 30 }
+    requires empty { buffer.old.items ≡ [] }
+    ensures { AnswersLine (λ l. meanings_of (L.named l) (L.value l)) L.known L.calls R.behind (λ line. line ≡ text.now) refused
+        (desk_of session.old (K.written out.old) (K.faults out.old) buffer.old.items)
+        (desk_of session.new (K.written out.new) (K.faults out.new) buffer.new.items) result }
+{
+    report.note(session);
+    let did = match session.line(text, buffer) {
+        Ok(did) => did,
+        Err(AllocError) => return Err(Ending::Memory),
+    };
+    match report.append(session, buffer) {
+        Ok(()) => {}
+        Err(AllocError) => return Err(Ending::Memory),
+    }
+    match deliver(out, buffer) {
+        Ok(()) => Ok(refused | is_refused(did)),
+        Err(Failed) => Err(Ending::WriteFault),
+    }
+}
+
+/// Refuses a line that is too long, and writes so, with nothing behind it. The answer is as `answer_line`'s.
+fn refuse_long<K: Sink, L: Library>(
+    session: &mut Session<L>,
+    out: &mut K,
+    buffer: &mut Vec<u8>,
+    refused: bool,
+) -> Result<bool, Ending>
+    requires lines { session.old.lines < 2 ^ 30 }
+    requires empty { buffer.old.items ≡ [] }
+    ensures { (behind : Behind) → IsQuiet behind
+        → AnswersLine (λ l. meanings_of (L.named l) (L.value l)) L.known L.calls behind (λ line. 4096 < length line) refused
+        (desk_of session.old (K.written out.old) (K.faults out.old) buffer.old.items)
+        (desk_of session.new (K.written out.new) (K.faults out.new) buffer.new.items) result }
+{
+    match session.too_long(buffer) {
+        Ok(()) => match deliver(out, buffer) {
+            Ok(()) => Ok(true),
+            Err(Failed) => Err(Ending::WriteFault),
+        },
+        Err(AllocError) => Err(Ending::Memory),
+    }
+}
+
+/// Takes the next line of the source, and answers it. The answer is as `answer_line`'s.
 fn take_line<S: Source, K: Sink, L: Library, R: Report<L>>(
     lines: &mut LineReader,
     session: &mut Session<L>,
@@ -37,57 +90,47 @@ fn take_line<S: Source, K: Sink, L: Library, R: Report<L>>(
     limit: u64,
     refused: bool,
 ) -> Result<bool, Ending>
-    requires open { lines.old.ended ≡ false }
-    requires within { lines.old.taken ≤ limit }
-    requires few { limit ≤ 2 ^ 30 }
-    requires lines { session.old.lines ≤ lines.old.taken }
-    requires empty { buffer.old.items ≡ [] }
-    ensures open { OnOk result (lines.new.ended ≡ false) }
-    ensures grows { OnOk result (lines.old.taken < lines.new.taken) }
-    ensures within { lines.new.taken ≤ limit }
-    ensures lines { OnOk result (session.new.lines ≤ lines.new.taken) }
-    ensures empty { OnOk result (buffer.new.items ≡ []) }
-    ensures functions { meanings_of (L.named session.new.library) (L.value session.new.library)
-        ≡ meanings_of (L.named session.old.library) (L.value session.old.library) }
-    ensures known { (g : FnRef) → IsTrue (L.known session.old.library g) → IsTrue (L.known session.new.library g) }
-    ensures calls_grow { L.calls session.old.library ≤ L.calls session.new.library }
-    ensures source_later { S.faults src.old ≤ S.faults src.new }
-    ensures source_fault { result ≡ Err ending.ReadFault → Rose (S.faults src.old) (S.faults src.new) }
-    ensures source_unfailed { result ≢ Err ending.ReadFault → S.faults src.new ≡ S.faults src.old }
-    ensures sink_later { K.faults out.old ≤ K.faults out.new }
-    ensures sink_fault { result ≡ Err ending.WriteFault → Rose (K.faults out.old) (K.faults out.new) }
-    ensures sink_unfailed { result ≢ Err ending.WriteFault → K.faults out.new ≡ K.faults out.old }
-    ensures goes_on { IfOk result (λ now_refused. (before : Outside)
-        → Progress (meanings_of (L.named session.old.library) (L.value session.old.library)) R.behind limit before
-        (record { reader = lines.old; left = S.left src.old; written = K.written out.old; kept = session.old.kept; calls = L.calls session.old.library; refused = refused })
-        → Progress (meanings_of (L.named session.old.library) (L.value session.old.library)) R.behind limit before
-        (record { reader = lines.new; left = S.left src.new; written = K.written out.new; kept = session.new.kept; calls = L.calls session.new.library; refused = now_refused })) }
-    ensures ends { IfErr result (λ ending. (before : Outside)
-        → Progress (meanings_of (L.named session.old.library) (L.value session.old.library)) R.behind limit before
-        (record { reader = lines.old; left = S.left src.old; written = K.written out.old; kept = session.old.kept; calls = L.calls session.old.library; refused = refused })
-        → Ran (meanings_of (L.named session.old.library) (L.value session.old.library)) R.behind ending limit before
-        (record { left = S.left src.new; written = K.written out.new; calls = L.calls session.new.library })) }
+    requires { IsReady limit (place_of lines.old (S.left src.old) (S.faults src.old)
+        (desk_of session.old (K.written out.old) (K.faults out.old) buffer.old.items)) }
+    ensures { TakesLine (λ l. meanings_of (L.named l) (L.value l)) L.known L.calls R.behind limit refused
+        (place_of lines.old (S.left src.old) (S.faults src.old)
+        (desk_of session.old (K.written out.old) (K.faults out.old) buffer.old.items))
+        (place_of lines.new (S.left src.new) (S.faults src.new)
+        (desk_of session.new (K.written out.new) (K.faults out.new) buffer.new.items)) result }
 {
     match lines.next(src, limit) {
-        Got::Line => {
-            report.note(session);
-            let did = session.line(lines.line(), buffer)?;
-            report.append(session, buffer)?;
-            match deliver(out, buffer) {
-                Ok(()) => Ok(refused | is_refused(did)),
-                Err(Failed) => Err(Ending::WriteFault),
-            }
-        }
-        Got::TooLong => {
-            session.too_long(buffer)?;
-            match deliver(out, buffer) {
-                Ok(()) => Ok(true),
-                Err(Failed) => Err(Ending::WriteFault),
-            }
-        }
+        Got::Line => answer_line(session, report, lines.line(), out, buffer, refused),
+        Got::TooLong => refuse_long(session, out, buffer, refused),
         Got::End => Err(Ending::at_end(refused)),
         Got::Limit => Err(Ending::Limit),
         Got::ReadFault => Err(Ending::ReadFault),
+    }
+}
+
+/// Takes line after line, until the run ends.
+fn take_lines<S: Source, K: Sink, L: Library, R: Report<L>>(
+    lines: &mut LineReader,
+    session: &mut Session<L>,
+    report: &mut R,
+    src: &mut S,
+    out: &mut K,
+    buffer: &mut Vec<u8>,
+    limit: u64,
+) -> Ending
+    requires { IsReady limit (place_of lines.old (S.left src.old) (S.faults src.old)
+        (desk_of session.old (K.written out.old) (K.faults out.old) buffer.old.items)) }
+    ensures { EndsRun (λ l. meanings_of (L.named l) (L.value l)) L.known L.calls R.behind limit false
+        (place_of lines.old (S.left src.old) (S.faults src.old)
+        (desk_of session.old (K.written out.old) (K.faults out.old) buffer.old.items))
+        (place_of lines.new (S.left src.new) (S.faults src.new)
+        (desk_of session.new (K.written out.new) (K.faults out.new) buffer.new.items)) result }
+{
+    let mut refused = false;
+    loop {
+        match take_line(lines, session, report, src, out, buffer, limit, refused) {
+            Ok(so_far) => refused = so_far,
+            Err(ending) => return ending,
+        }
     }
 }
 
@@ -101,18 +144,10 @@ fn run_lines<S: Source, K: Sink, L: Library, R: Report<L>>(
     limit: u64,
 ) -> (Ending, L)
     requires { limit ≤ 2 ^ 30 }
-    ensures ran { Ran (meanings_of (L.named lib) (L.value lib)) R.behind result.0 limit
+    ensures { RunsLines (λ l. meanings_of (L.named l) (L.value l)) L.known L.calls R.behind limit lib result.1
         (record { left = S.left src.old; written = K.written out.old; calls = L.calls lib })
-        (record { left = S.left src.new; written = K.written out.new; calls = L.calls result.1 }) }
-    ensures functions { meanings_of (L.named result.1) (L.value result.1) ≡ meanings_of (L.named lib) (L.value lib) }
-    ensures known { (g : FnRef) → IsTrue (L.known lib g) → IsTrue (L.known result.1 g) }
-    ensures calls_grow { L.calls lib ≤ L.calls result.1 }
-    ensures source_later { S.faults src.old ≤ S.faults src.new }
-    ensures source_fault { result.0 ≡ ending.ReadFault → Rose (S.faults src.old) (S.faults src.new) }
-    ensures source_unfailed { result.0 ≢ ending.ReadFault → S.faults src.new ≡ S.faults src.old }
-    ensures sink_later { K.faults out.old ≤ K.faults out.new }
-    ensures sink_fault { result.0 ≡ ending.WriteFault → Rose (K.faults out.old) (K.faults out.new) }
-    ensures sink_unfailed { result.0 ≢ ending.WriteFault → K.faults out.new ≡ K.faults out.old }
+        (record { left = S.left src.new; written = K.written out.new; calls = L.calls result.1 })
+        (S.faults src.old) (S.faults src.new) (K.faults out.old) (K.faults out.new) result.0 }
 {
     let mut lines = match LineReader::new(alloc) {
         Ok(lines) => lines,
@@ -120,25 +155,24 @@ fn run_lines<S: Source, K: Sink, L: Library, R: Report<L>>(
     };
     let mut session = match Session::new(alloc, lib) {
         Ok(session) => session,
-        Err((AllocError, lib)) => return (Ending::Memory, lib),
+        Err((AllocError, lib)) => {
+            drop(lines);
+            return (Ending::Memory, lib);
+        }
     };
     let mut buffer = Vec::new(alloc);
-    let mut refused = false;
-    loop {
-        match take_line(
-            &mut lines,
-            &mut session,
-            report,
-            src,
-            out,
-            &mut buffer,
-            limit,
-            refused,
-        ) {
-            Ok(so_far) => refused = so_far,
-            Err(ending) => return (ending, session.into_library()),
-        }
-    }
+    let ending = take_lines(
+        &mut lines,
+        &mut session,
+        report,
+        src,
+        out,
+        &mut buffer,
+        limit,
+    );
+    drop(lines);
+    drop(buffer);
+    (ending, session.into_library())
 }
 
 /// Runs the script of the source with the functions of the library, and writes what each line prints,

@@ -8,7 +8,7 @@ use Rattle.script_model.specs.Grammar as grammar
 use Rattle.script_model.specs.Grammar.{Line}
 use Rattle.script_model.specs.Request.{Request, TooLong, Asks, IsRequest}
 use Rattle.script_model.specs.Run as run
-use Rattle.script_model.specs.Step.{Moment, Refusal, LineTooLong, Because, Broken, Refuse, Refused, Follows, Answers, bars, holds, is_barred, number_of, order, printed, verdict_for, verdict_of}
+use Rattle.script_model.specs.Step.{Moment, Refusal, LineTooLong, Reply, Because, Broken, Refuse, Refused, Follows, Answers, bars, holds, is_barred, number_of, order, printed, verdict_for, verdict_of}
 use Rattle.script_model.proofs.Names.{command_same, against_same}
 use Rattle.script_model.proofs.Steps.{Never, only_stabilize}
 use Rattle.session.specs.Answered.{IsAnswered, state_order, verdict_on}
@@ -170,33 +170,21 @@ first_there F names s l are =
 
 -- ---- lines
 
-pub answered_followed : (F : Meanings) (k new : Kept) (m : Moment) (l : Line) (c : Command) (written appended : List ℕ) (called calls : ℕ) (how : Did)
-    → Stands F k m → k.broken ≡ None
+-- where a command leads that a line asks for, the line leads
+pub followed_line : (F : Meanings) (k : Kept) (m after : Moment) (replies : List Reply) (l : Line) (c : Command) → Stands F k m → k.broken ≡ None
     → first_that (is_against F k.names l) line_order ≡ None → command_of F k.names l ≡ Some c
-    → IsAnswered F m (Follows F m (verdict_on m c)) new written appended called calls how
-    → IsAnswered F m (Answers F m (Asks l)) new written appended called calls how
-answered_followed F k new m l c written appended called calls how st unbroken none is h =
+    → Follows F m (verdict_on m c) after replies → Answers F m (Asks l) after replies
+followed_line F k m after replies l c st unbroken none is leads =
     let none_there = first_there F k.names m.present l st.names ∙ none in
     let there = sym (command_there F k.names m.present l st.names) ∙ is in
-    let verdict = verdict_allowed F m l c (st.broken ∙ unbroken) none_there there in
-    record {
-      after = h.after;
-      replies = h.replies;
-      leads = subst (λ v. Follows F m v h.after h.replies) (sym verdict) h.leads;
-      work = h.work;
-      due = h.due;
-      stands = h.stands;
-      printed_are = h.printed_are;
-      within = h.within;
-      says = h.says;
-    }
+    subst (λ v. Follows F m v after replies) (sym (verdict_allowed F m l c (st.broken ∙ unbroken) none_there there)) leads
 
--- a refusal of the line that changes nothing
-refused_with : (F : Meanings) (k : Kept) (m : Moment) (r : Request) (why : Refusal) (written appended : List ℕ) (calls : ℕ) → Stands F k m
-    → Answers F m r m (Refused why ∷ [])
+-- a refusal that changes nothing
+pub refused_with : (F : Meanings) (k : Kept) (m : Moment) (Leads : Moment → List Reply → Type 0) (why : Refusal) (written appended : List ℕ) (calls : ℕ)
+    → Stands F k m → Leads m (Refused why ∷ [])
     → run.MayCall F m (Refused why ∷ []) 0 → appended ≡ written ++ printed m.present (Refused why)
-    → IsAnswered F m (Answers F m r) k written appended calls calls (did.Refused (number_of why))
-refused_with F k m r why written appended calls st answers due print = record {
+    → IsAnswered F m Leads k written appended calls calls (did.Refused (number_of why))
+refused_with F k m Leads why written appended calls st answers due print = record {
   after = m;
   replies = Refused why ∷ [];
   leads = answers;
@@ -216,7 +204,7 @@ answered_refused F k m l why n written appended calls st unbroken is number prin
     let there = first_there F k.names m.present l st.names ∙ is in
     let verdict = verdict_refused F m l why (st.broken ∙ unbroken) there in
     subst (λ j. IsAnswered F m (Answers F m (Asks l)) k written appended calls calls (did.Refused j)) number
-    (refused_with F k m (Asks l) (Because why) written appended calls st
+    (refused_with F k m (Answers F m (Asks l)) (Because why) written appended calls st
     (subst (λ v. Follows F m v m (Refused (Because why) ∷ [])) (sym verdict) (refl, refl)) refl
     (print ∙ ap (λ j. written ++ refused_line j) (sym number)))
 
@@ -225,13 +213,13 @@ pub answered_broken : (F : Meanings) (k : Kept) (m : Moment) (l : Line) (number 
     → appended ≡ written ++ broken_line number → IsAnswered F m (Answers F m (Asks l)) k written appended calls calls (did.Refused 22)
 answered_broken F k m l number written appended calls st broken print =
     let verdict = verdict_broken F m l number (st.broken ∙ broken) in
-    refused_with F k m (Asks l) (Broken number) written appended calls st
+    refused_with F k m (Answers F m (Asks l)) (Broken number) written appended calls st
     (subst (λ v. Follows F m v m (Refused (Broken number) ∷ [])) (sym verdict) (refl, refl)) refl print
 
 pub answered_too_long : (F : Meanings) (k : Kept) (m : Moment) (written appended : List ℕ) (calls : ℕ) → Stands F k m
     → appended ≡ written ++ refused_line 2
     → IsAnswered F m (Answers F m TooLong) k written appended calls calls (did.Refused 2)
-answered_too_long F k m written appended calls st print = refused_with F k m TooLong LineTooLong written appended calls st (refl, refl) refl print
+answered_too_long F k m written appended calls st print = refused_with F k m (Answers F m TooLong) LineTooLong written appended calls st (refl, refl) refl print
 
 -- what was answered is a turn of the model
 pub taken_of : (F : Meanings) (m : Moment) (line : List ℕ) (r : Request) (new : Kept) (written appended : List ℕ) (called calls : ℕ) (how : Did)
@@ -242,6 +230,21 @@ taken_of F m line r new written appended called calls how asks h = record {
   from = refl;
   over = refl;
   is_turn = record { asks = asks; answers = h.leads; due = h.due };
+  stands = h.stands;
+  printed = h.printed_are;
+  within = h.within;
+  says = h.says;
+}
+
+-- so where the answer tells what the bytes ask for
+pub taken_from : (F : Meanings) (m : Moment) (line : List ℕ) (new : Kept) (written appended : List ℕ) (called calls : ℕ) (how : Did)
+    → IsAnswered F m (λ after replies. (r : Request) × IsRequest line r × Answers F m r after replies) new written appended called calls how
+    → Takes F m line new written appended called calls how
+taken_from F m line new written appended called calls how h = record {
+  turn = record { before = m; line = line; request = h.leads.0; after = h.after; replies = h.replies; work = h.work };
+  from = refl;
+  over = refl;
+  is_turn = record { asks = h.leads.1; answers = h.leads.2; due = h.due };
   stands = h.stands;
   printed = h.printed_are;
   within = h.within;

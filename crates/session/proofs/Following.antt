@@ -157,7 +157,7 @@ asks_to_settle F m unbroken = rw unbroken refl
 count_of : (F : Meanings) (m after : Moment) (round : ℕ) (replies : List Reply) → Stabilizes F m after (Stable round ∷ replies)
     → after.present.accepted ≡ m.present.accepted + 1
 count_of F m after round replies (settles notices free settled same unbroken is) = settled.accepted
-count_of F m after round replies (by_cycle targets n come cycle among met is replied) = absurd (cc)
+count_of F m after round replies (by_cycle targets n cycle among met is replied) = absurd (cc)
 count_of F m after round replies (by_height target i met deep printed is replied) = absurd (cc)
 
 module _ (F : Meanings) (new : Kept) (m : Moment) (called calls : ℕ) (h : IsAccepted F m new called calls) where
@@ -208,7 +208,7 @@ name_there names s n are =
 broken_by_height : (F : Meanings) (m after : Moment) (target : ℕ) → Stabilizes F m after (Refused (Height target) ∷ [])
     → after ≡ record m { broken = Some 21 }
 broken_by_height F m after target (settles notices free settled same unbroken is) = absurd (cc)
-broken_by_height F m after target (by_cycle targets n come cycle among met is replied) = absurd (cc)
+broken_by_height F m after target (by_cycle targets n cycle among met is replied) = absurd (cc)
 broken_by_height F m after target (by_height other i met deep printed is replied) = is
 
 module _ (F : Meanings) (new : Kept) (m : Moment) (target called calls : ℕ) (h : IsTooDeep F m new target called calls) where

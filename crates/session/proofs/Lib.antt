@@ -1,5 +1,6 @@
 pub mod Answering
 mod Assigned
+mod Carried
 mod CarriageReturns
 mod Ended
 mod Failing

@@ -1,4 +1,5 @@
 pub mod Answered
+pub mod Carried
 pub mod RefusalView
 pub mod Replies
 pub mod RequestView

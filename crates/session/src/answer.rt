@@ -1,22 +1,18 @@
 //! What a line is answered with, and what it does.
-ghost use Rattle.std.specs.Prelude.{Bool, IsTrue, ◌≡◌, ◌<◌, ◌≤◌, ◌+◌, ◌-◌, ◌++◌, ◌^◌, ℕ, List, length, IfOk, OnOk, OnErr, IsErrOf};
-ghost use Rattle.inc_value.specs.declared.function.FnRef.{FnRef as AFunction};
+ghost use Rattle.std.specs.Prelude.{IsTrue, ◌≡◌, ◌<◌, ◌+◌, ◌-◌, ◌++◌, ◌^◌, None, Some, length, IfOk, OnOk, OnErr};
 ghost use Rattle.formula_lang.specs.CommandView.{body_view, command_view, constant_view};
 ghost use Rattle.formula_lang.specs.Fits.{AssignmentFits, DeclarationFits, FitsNames, ObserverFits};
 ghost use Rattle.formula_lang.specs.TreeView.{line_view};
 ghost use Rattle.script_model.specs.Check.{Assign, Declare, Observe, Show, Stabilize, Unobserve, is_among};
-ghost use Rattle.script_model.specs.Formula.{Meanings, meanings_of};
-ghost use Rattle.script_model.specs.Grammar as grammar;
-ghost use Rattle.script_model.specs.Request.{Asks, IsRequest, Request as ARequest};
-ghost use Rattle.script_model.specs.Step.{Answers, Follows, Moment, number_of};
+ghost use Rattle.script_model.specs.Formula.{meanings_of};
+ghost use Rattle.script_model.specs.Request.{IsRequest};
 ghost use Rattle.script_model.specs.Values.{type_of};
-ghost use Rattle.session.specs.Answered.{Extends, IsAnswered, verdict_on};
-ghost use Rattle.session.specs.RefusalView.{refusal_view};
+ghost use Rattle.session.specs.Answered.{Extends};
+ghost use Rattle.session.specs.Carried.{HasRoom, Performs, Refuses, TakesBytes, Treats};
 ghost use Rattle.session.specs.Replies.{broken_line, refused_line, too_deep_line, name_in};
+ghost use Rattle.session.specs.RequestView.{request_view};
+ghost use Rattle.session.specs.declared.answer.Did.TheVariants.{Refused};
 ghost use Rattle.script_graph.specs.Kept.{arena_of};
-ghost use Rattle.script_graph.specs.State.{Stands};
-ghost use Rattle.session.specs.Taken.{AsksStabilize, KeepsUnlessAccepted, Stops};
-ghost use Rattle.session.specs.declared.answer.Did.TheVariants.{Accepted, Refused};
 
 use crate::places::room_behind_body;
 use crate::refusal::Refusal;
@@ -31,7 +27,7 @@ use node_arena::Library;
 use std::alloc::{AllocError, Global};
 
 /// How a line was taken: it prints nothing, it was accepted, or it was refused with this number.
-#[derive(Clone, Copy, Debug, PartialEq, Eq)]
+#[derive(Clone, Copy, PartialEq, Eq)]
 pub enum Did {
     Blank,
     Accepted,
@@ -45,32 +41,38 @@ pub(crate) fn answer<L: Library>(
     text: &[u8],
     out: &mut Vec<u8>,
 ) -> Result<Did, AllocError>
-    requires count { script.old.kept.accepted + 1 < 2 ^ 64 }
-    requires ids { (arena_of script.old.kept).given + 2 ^ 20 < 2 ^ 64 - 1 }
-    requires observers { length script.old.kept.graph.observers < 2 ^ 32 - 1 }
-
-    ensures answered { let F = meanings_of (L.named script.old.library) (L.value script.old.library) in
-        IfOk result (λ how. (m : Moment) → Stands F script.old.kept m → (r : ARequest) × IsRequest text.now r
-        × IsAnswered F m (Answers F m r) script.new.kept out.old.items out.new.items (L.calls script.old.library) (L.calls script.new.library) how) }
-    ensures stopped { let F = meanings_of (L.named script.old.library) (L.value script.old.library) in
-        OnErr result ((m : Moment) → Stands F script.old.kept m → Stops F m text.now script.new.kept (L.calls script.old.library) (L.calls script.new.library)) }
-    ensures extended { OnErr result (Extends out.old.items out.new.items) }
-    ensures accepted { script.new.kept.accepted ≤ script.old.kept.accepted + 1 }
-    ensures given { (arena_of script.new.kept).given ≤ (arena_of script.old.kept).given + 2 ^ 20 }
-    ensures observers { length script.new.kept.graph.observers ≤ length script.old.kept.graph.observers + 1 }
-    ensures keeps_known { (f : AFunction) → IsTrue (L.known script.old.library f) → IsTrue (L.known script.new.library f) }
-    ensures calls_grow { L.calls script.old.library ≤ L.calls script.new.library }
-    ensures library { (AsksStabilize text.now → ⊥) → script.new.library ≡ script.old.library }
-    ensures kept { IfOk result (λ how. KeepsUnlessAccepted how script.old.kept script.new.kept) }
-    ensures broken { (script.old.kept.broken ≡ None → ⊥) → script.new ≡ script.old }
-    ensures functions { meanings_of (L.named script.new.library) (L.value script.new.library) ≡ meanings_of (L.named script.old.library) (L.value script.old.library) }
+    requires { HasRoom script.old.kept }
+    ensures { TakesBytes (λ l. meanings_of (L.named l) (L.value l)) L.known L.calls text.now script.old script.new
+        out.old.items out.new.items result }
 {
-    match read_request(alloc, text)? {
+    let request = match read_request(alloc, text) {
+        Ok(request) => request,
+        Err(fault) => return Err(fault),
+    };
+    let answered = answer_request(alloc, script, text, &request, out);
+    drop(request);
+    answered
+}
+
+/// Answers what the bytes of a line ask for.
+fn answer_request<L: Library>(
+    alloc: Global,
+    script: &mut Script<L>,
+    text: &[u8],
+    request: &Request,
+    out: &mut Vec<u8>,
+) -> Result<Did, AllocError>
+    requires room { HasRoom script.old.kept }
+    requires asks { IsRequest text.now (request_view request.now) }
+    ensures { TakesBytes (λ l. meanings_of (L.named l) (L.value l)) L.known L.calls text.now script.old script.new
+        out.old.items out.new.items result }
+{
+    match request {
         Request::TooLong => refuse(alloc, Refusal::LineTooLong.number(), out),
         Request::Blank => Ok(Did::Blank),
         Request::Malformed => refuse(alloc, Refusal::NoCommand.number(), out),
         Request::TooDeep => refuse(alloc, Refusal::LineTooDeep.number(), out),
-        Request::Asks(line) => carry_out(alloc, script, &line, out),
+        Request::Asks(line) => carry_out(alloc, script, line, out),
     }
 }
 
@@ -81,32 +83,19 @@ fn carry_out<L: Library>(
     line: &Line,
     out: &mut Vec<u8>,
 ) -> Result<Did, AllocError>
-    requires count { script.old.kept.accepted + 1 < 2 ^ 64 }
-    requires ids { (arena_of script.old.kept).given + 2 ^ 20 < 2 ^ 64 - 1 }
-    requires observers { length script.old.kept.graph.observers < 2 ^ 32 - 1 }
-
-    ensures answered { let F = meanings_of (L.named script.old.library) (L.value script.old.library) in
-        IfOk result (λ how. (m : Moment) → Stands F script.old.kept m
-        → IsAnswered F m (Answers F m (Asks (line_view line.now))) script.new.kept out.old.items out.new.items (L.calls script.old.library) (L.calls script.new.library) how) }
-    ensures stopped { let F = meanings_of (L.named script.old.library) (L.value script.old.library) in
-        OnErr result ((m : Moment) (bytes : List ℕ) → Stands F script.old.kept m → IsRequest bytes (Asks (line_view line.now))
-        → Stops F m bytes script.new.kept (L.calls script.old.library) (L.calls script.new.library)) }
-    ensures extended { OnErr result (Extends out.old.items out.new.items) }
-    ensures accepted { script.new.kept.accepted ≤ script.old.kept.accepted + 1 }
-    ensures given { (arena_of script.new.kept).given ≤ (arena_of script.old.kept).given + 2 ^ 20 }
-    ensures observers { length script.new.kept.graph.observers ≤ length script.old.kept.graph.observers + 1 }
-    ensures keeps_known { (f : AFunction) → IsTrue (L.known script.old.library f) → IsTrue (L.known script.new.library f) }
-    ensures calls_grow { L.calls script.old.library ≤ L.calls script.new.library }
-    ensures library { (line_view line.now ≡ grammar.Stabilize → ⊥) → script.new.library ≡ script.old.library }
-    ensures kept { IfOk result (λ how. KeepsUnlessAccepted how script.old.kept script.new.kept) }
-    ensures broken { (script.old.kept.broken ≡ None → ⊥) → script.new ≡ script.old }
-    ensures functions { meanings_of (L.named script.new.library) (L.value script.new.library) ≡ meanings_of (L.named script.old.library) (L.value script.old.library) }
+    requires { HasRoom script.old.kept }
+    ensures { Treats (λ l. meanings_of (L.named l) (L.value l)) L.known L.calls (line_view line.now) script.old script.new
+        out.old.items out.new.items result }
 {
     if let Some(number) = script.broken() {
         return refuse_broken(alloc, number, out);
     }
     match check(alloc, line, script.names(), script.library()) {
-        Ok(command) => perform(alloc, script, &command, out),
+        Ok(command) => {
+            let performed = perform(alloc, script, &command, out);
+            drop(command);
+            performed
+        }
         Err(CheckFault::Refusal(number)) => refuse(alloc, number, out),
         Err(CheckFault::Memory) => Err(AllocError),
     }
@@ -119,27 +108,11 @@ fn perform<L: Library>(
     command: &Command,
     out: &mut Vec<u8>,
 ) -> Result<Did, AllocError>
-    requires count { script.old.kept.accepted + 1 < 2 ^ 64 }
-    requires ids { (arena_of script.old.kept).given + 2 ^ 20 < 2 ^ 64 - 1 }
-    requires observers { length script.old.kept.graph.observers < 2 ^ 32 - 1 }
+    requires room { HasRoom script.old.kept }
     requires unbroken { script.old.kept.broken ≡ None }
     requires fits { FitsNames (L.known script.old.library) script.old.kept.names (command_view command.now) }
-
-    ensures followed { let F = meanings_of (L.named script.old.library) (L.value script.old.library) in
-        IfOk result (λ how. (m : Moment) → Stands F script.old.kept m
-        → IsAnswered F m (Follows F m (verdict_on m (command_view command.now))) script.new.kept out.old.items out.new.items (L.calls script.old.library) (L.calls script.new.library) how) }
-    ensures stopped { let F = meanings_of (L.named script.old.library) (L.value script.old.library) in
-        OnErr result ((m : Moment) (bytes : List ℕ) → Stands F script.old.kept m → (command_view command.now ≡ Stabilize → AsksStabilize bytes)
-        → Stops F m bytes script.new.kept (L.calls script.old.library) (L.calls script.new.library)) }
-    ensures extended { OnErr result (Extends out.old.items out.new.items) }
-    ensures accepted { script.new.kept.accepted ≤ script.old.kept.accepted + 1 }
-    ensures given { (arena_of script.new.kept).given ≤ (arena_of script.old.kept).given + 2 ^ 20 }
-    ensures observers { length script.new.kept.graph.observers ≤ length script.old.kept.graph.observers + 1 }
-    ensures keeps_known { (f : AFunction) → IsTrue (L.known script.old.library f) → IsTrue (L.known script.new.library f) }
-    ensures calls_grow { L.calls script.old.library ≤ L.calls script.new.library }
-    ensures library { (command_view command.now ≡ Stabilize → ⊥) → script.new.library ≡ script.old.library }
-    ensures kept { IfOk result (λ how. KeepsUnlessAccepted how script.old.kept script.new.kept) }
-    ensures functions { meanings_of (L.named script.new.library) (L.value script.new.library) ≡ meanings_of (L.named script.old.library) (L.value script.old.library) }
+    ensures { Performs (λ l. meanings_of (L.named l) (L.value l)) L.known L.calls (command_view command.now) script.old script.new
+        out.old.items out.new.items result }
 {
     match command {
         Command::Declare { name, ty, body } => {
@@ -167,25 +140,19 @@ fn declare<L: Library>(
     requires fits { DeclarationFits (L.known script.old.library) script.old.kept.names name.now ty (body_view body.now) }
     requires unbroken { script.old.kept.broken ≡ None }
     requires ids { (arena_of script.old.kept).given + 2 ^ 20 < 2 ^ 64 - 1 }
-
-    ensures followed { let F = meanings_of (L.named script.old.library) (L.value script.old.library) in
-        IfOk result (λ how. (m : Moment) (calls : ℕ) → Stands F script.old.kept m
-        → IsAnswered F m (Follows F m (verdict_on m (Declare name.now ty (body_view body.now)))) script.new.kept out.old.items out.new.items calls calls how) }
-    ensures unchanged { let F = meanings_of (L.named script.old.library) (L.value script.old.library) in
-        OnErr result ((m : Moment) → Stands F script.old.kept m → Stands F script.new.kept m) }
-    ensures library { script.new.library ≡ script.old.library }
-    ensures kept { IfOk result (λ how. KeepsUnlessAccepted how script.old.kept script.new.kept) }
-    ensures extended { OnErr result (Extends out.old.items out.new.items) }
-    ensures accepted { script.new.kept.accepted ≡ script.old.kept.accepted }
-    ensures given { (arena_of script.new.kept).given ≤ (arena_of script.old.kept).given + 2 ^ 20 }
-    ensures observers { length script.new.kept.graph.observers ≤ length script.old.kept.graph.observers + 1 }
+    ensures { Performs (λ l. meanings_of (L.named l) (L.value l)) L.known L.calls (Declare name.now ty (body_view body.now))
+        script.old script.new out.old.items out.new.items result }
 {
     let Some(room) = room_behind_body(body, script.room()) else {
         return refuse(alloc, Refusal::TooManyPlaces.number(), out);
     };
-    write_done(out)?;
-    script.declare(command, name, ty, body, room)?;
-    Ok(Did::Accepted)
+    match write_done(out) {
+        Ok(()) => match script.declare(command, name, ty, body, room) {
+            Ok(()) => Ok(Did::Accepted),
+            Err(fault) => Err(fault),
+        },
+        Err(fault) => Err(fault),
+    }
 }
 
 /// Gives a variable a value.
@@ -198,23 +165,19 @@ fn set<L: Library>(
 ) -> Result<Did, AllocError>
     requires unbroken { script.old.kept.broken ≡ None }
     requires fits { AssignmentFits script.old.kept.names target (type_of (constant_view value.now)) }
-
-    ensures followed { let F = meanings_of (L.named script.old.library) (L.value script.old.library) in
-        IfOk result (λ how. (m : Moment) (calls : ℕ) → Stands F script.old.kept m
-        → IsAnswered F m (Follows F m (verdict_on m (Assign target (constant_view value.now)))) script.new.kept out.old.items out.new.items calls calls how) }
-    ensures unchanged { let F = meanings_of (L.named script.old.library) (L.value script.old.library) in
-        OnErr result ((m : Moment) → Stands F script.old.kept m → Stands F script.new.kept m) }
-    ensures library { script.new.library ≡ script.old.library }
-    ensures kept { IfOk result (λ how. KeepsUnlessAccepted how script.old.kept script.new.kept) }
-    ensures extended { OnErr result (Extends out.old.items out.new.items) }
-    ensures accepted { script.new.kept.accepted ≡ script.old.kept.accepted }
-    ensures given { (arena_of script.new.kept).given ≤ (arena_of script.old.kept).given + 2 ^ 20 }
-    ensures observers { length script.new.kept.graph.observers ≤ length script.old.kept.graph.observers + 1 }
+    ensures { Performs (λ l. meanings_of (L.named l) (L.value l)) L.known L.calls (Assign target (constant_view value.now))
+        script.old script.new out.old.items out.new.items result }
 {
-    let value = value.value(alloc)?;
-    write_done(out)?;
-    script.set(target, value);
-    Ok(Did::Accepted)
+    match write_done(out) {
+        Ok(()) => match value.value(alloc) {
+            Ok(value) => {
+                script.set(target, value);
+                Ok(Did::Accepted)
+            }
+            Err(fault) => Err(fault),
+        },
+        Err(fault) => Err(fault),
+    }
 }
 
 /// Adds an observer.
@@ -227,20 +190,16 @@ fn observe<L: Library>(
     requires unbroken { script.old.kept.broken ≡ None }
     requires observers { length script.old.kept.graph.observers < 2 ^ 32 - 1 }
     requires fits { ObserverFits script.old.kept.names name.now target }
-
-    ensures followed { IfOk result (λ how. (F : Meanings) (m : Moment) (calls : ℕ) → Stands F script.old.kept m
-        → IsAnswered F m (Follows F m (verdict_on m (Observe name.now target))) script.new.kept out.old.items out.new.items calls calls how) }
-    ensures unchanged { OnErr result ((F : Meanings) (m : Moment) → Stands F script.old.kept m → Stands F script.new.kept m) }
-    ensures library { script.new.library ≡ script.old.library }
-    ensures kept { IfOk result (λ how. KeepsUnlessAccepted how script.old.kept script.new.kept) }
-    ensures extended { OnErr result (Extends out.old.items out.new.items) }
-    ensures accepted { script.new.kept.accepted ≡ script.old.kept.accepted }
-    ensures given { (arena_of script.new.kept).given ≤ (arena_of script.old.kept).given + 2 ^ 20 }
-    ensures observers { length script.new.kept.graph.observers ≤ length script.old.kept.graph.observers + 1 }
+    ensures { Performs (λ l. meanings_of (L.named l) (L.value l)) L.known L.calls (Observe name.now target) script.old script.new
+        out.old.items out.new.items result }
 {
-    write_done(out)?;
-    script.observe(name, target)?;
-    Ok(Did::Accepted)
+    match write_done(out) {
+        Ok(()) => match script.observe(name, target) {
+            Ok(()) => Ok(Did::Accepted),
+            Err(fault) => Err(fault),
+        },
+        Err(fault) => Err(fault),
+    }
 }
 
 /// Ends an observer.
@@ -251,20 +210,16 @@ fn unobserve<L: Library>(
 ) -> Result<Did, AllocError>
     requires unbroken { script.old.kept.broken ≡ None }
     requires in_use { IsTrue (is_among script.old.kept.names.observers name.now) }
-
-    ensures followed { IfOk result (λ how. (F : Meanings) (m : Moment) (calls : ℕ) → Stands F script.old.kept m
-        → IsAnswered F m (Follows F m (verdict_on m (Unobserve name.now))) script.new.kept out.old.items out.new.items calls calls how) }
-    ensures unchanged { OnErr result ((F : Meanings) (m : Moment) → Stands F script.old.kept m → Stands F script.new.kept m) }
-    ensures library { script.new.library ≡ script.old.library }
-    ensures kept { IfOk result (λ how. KeepsUnlessAccepted how script.old.kept script.new.kept) }
-    ensures extended { OnErr result (Extends out.old.items out.new.items) }
-    ensures accepted { script.new.kept.accepted ≡ script.old.kept.accepted }
-    ensures given { (arena_of script.new.kept).given ≤ (arena_of script.old.kept).given + 2 ^ 20 }
-    ensures observers { length script.new.kept.graph.observers ≤ length script.old.kept.graph.observers + 1 }
+    ensures { Performs (λ l. meanings_of (L.named l) (L.value l)) L.known L.calls (Unobserve name.now) script.old script.new
+        out.old.items out.new.items result }
 {
-    write_done(out)?;
-    script.unobserve(name);
-    Ok(Did::Accepted)
+    match write_done(out) {
+        Ok(()) => {
+            script.unobserve(name);
+            Ok(Did::Accepted)
+        }
+        Err(fault) => Err(fault),
+    }
 }
 
 /// Writes what an observer shows, once it shows something.
@@ -276,16 +231,14 @@ fn show<L: Library>(
 ) -> Result<Did, AllocError>
     requires unbroken { script.now.kept.broken ≡ None }
     requires in_use { IsTrue (is_among script.now.kept.names.observers name.now) }
-
-    ensures followed { IfOk result (λ how. (F : Meanings) (m : Moment) (calls : ℕ) → Stands F script.now.kept m
-        → IsAnswered F m (Follows F m (verdict_on m (Show name.now))) script.now.kept out.old.items out.new.items calls calls how) }
-    ensures extended { OnErr result (Extends out.old.items out.new.items) }
+    ensures { Performs (λ l. meanings_of (L.named l) (L.value l)) L.known L.calls (Show name.now) script.now script.now
+        out.old.items out.new.items result }
 {
     match script.shown(name) {
-        Some(outcome) => {
-            write_shown(alloc, name, outcome, out)?;
-            Ok(Did::Accepted)
-        }
+        Some(outcome) => match write_shown(alloc, name, outcome, out) {
+            Ok(()) => Ok(Did::Accepted),
+            Err(fault) => Err(fault),
+        },
         None => refuse(alloc, Refusal::NotStabilized.number(), out),
     }
 }
@@ -297,32 +250,18 @@ fn stabilize<L: Library>(
     script: &mut Script<L>,
     out: &mut Vec<u8>,
 ) -> Result<Did, AllocError>
-    requires count { script.old.kept.accepted + 1 < 2 ^ 64 }
-    requires ids { (arena_of script.old.kept).given + 2 ^ 20 < 2 ^ 64 - 1 }
-    requires observers { length script.old.kept.graph.observers < 2 ^ 32 - 1 }
+    requires room { HasRoom script.old.kept }
     requires unbroken { script.old.kept.broken ≡ None }
-
-    ensures followed { let F = meanings_of (L.named script.old.library) (L.value script.old.library) in
-        IfOk result (λ how. (m : Moment) → Stands F script.old.kept m
-        → IsAnswered F m (Follows F m (verdict_on m Stabilize)) script.new.kept out.old.items out.new.items (L.calls script.old.library) (L.calls script.new.library) how) }
-    ensures stopped { let F = meanings_of (L.named script.old.library) (L.value script.old.library) in
-        OnErr result ((m : Moment) (bytes : List ℕ) → Stands F script.old.kept m → AsksStabilize bytes
-        → Stops F m bytes script.new.kept (L.calls script.old.library) (L.calls script.new.library)) }
-    ensures extended { OnErr result (Extends out.old.items out.new.items) }
-    ensures accepted { script.new.kept.accepted ≤ script.old.kept.accepted + 1 }
-    ensures given { (arena_of script.new.kept).given ≤ (arena_of script.old.kept).given + 2 ^ 20 }
-    ensures observers { length script.new.kept.graph.observers ≤ length script.old.kept.graph.observers + 1 }
-    ensures keeps_known { (f : AFunction) → IsTrue (L.known script.old.library f) → IsTrue (L.known script.new.library f) }
-    ensures calls_grow { L.calls script.old.library ≤ L.calls script.new.library }
-    ensures kept { IfOk result (λ how. KeepsUnlessAccepted how script.old.kept script.new.kept) }
-    ensures functions { meanings_of (L.named script.new.library) (L.value script.new.library) ≡ meanings_of (L.named script.old.library) (L.value script.old.library) }
+    ensures { Performs (λ l. meanings_of (L.named l) (L.value l)) L.known L.calls Stabilize script.old script.new
+        out.old.items out.new.items result }
 {
-    match script.stabilize()? {
-        Stabilized::Accepted => {
-            write_stable(alloc, script.accepted(), out)?;
-            Ok(Did::Accepted)
-        }
-        Stabilized::TooDeep { target } => refuse_too_deep(alloc, script, target, out),
+    match script.stabilize() {
+        Ok(Stabilized::Accepted) => match write_stable(alloc, script.accepted(), out) {
+            Ok(()) => Ok(Did::Accepted),
+            Err(fault) => Err(fault),
+        },
+        Ok(Stabilized::TooDeep { target }) => refuse_too_deep(alloc, script, target, out),
+        Err(fault) => Err(fault),
     }
 }
 
@@ -337,8 +276,7 @@ fn refuse_too_deep<L: Library>(
     ensures written { OnOk result (out.new.items ≡ out.old.items ++ too_deep_line (name_in script.old.kept.names target)) }
     ensures unwritten { OnErr result (Extends out.old.items out.new.items) }
     ensures ok { OnOk result (script.new ≡ script.old) }
-    ensures broken { OnErr result (script.new.kept ≡ record script.old.kept { broken = Some 0 }) }
-    ensures library { script.new.library ≡ script.old.library }
+    ensures broken { OnErr result (script.new ≡ record script.old { kept = record script.old.kept { broken = Some 0 } }) }
 {
     let written = write_too_deep(alloc, name_at(script.names(), target), out);
     match written {
@@ -362,20 +300,20 @@ fn name_at(names: &Names, position: usize) -> &[u8]
 
 /// Refuses a line.
 fn refuse(alloc: Global, number: u8, out: &mut Vec<u8>) -> Result<Did, AllocError>
-    ensures how { IfOk result (λ how. how ≡ Refused number) }
-    ensures written { OnOk result (out.new.items ≡ out.old.items ++ refused_line number) }
-    ensures unwritten { OnErr result (out.new.items ≡ out.old.items) }
+    ensures { Refuses number (refused_line number) out.old.items out.new.items result }
 {
-    write_refused(alloc, number, out)?;
-    Ok(Did::Refused(number))
+    match write_refused(alloc, number, out) {
+        Ok(()) => Ok(Did::Refused(number)),
+        Err(fault) => Err(fault),
+    }
 }
 
 /// Refuses a line of a broken session, with the number of what broke it.
 fn refuse_broken(alloc: Global, number: u8, out: &mut Vec<u8>) -> Result<Did, AllocError>
-    ensures how { IfOk result (λ how. how ≡ Refused 22) }
-    ensures written { OnOk result (out.new.items ≡ out.old.items ++ broken_line number) }
-    ensures unwritten { OnErr result (out.new.items ≡ out.old.items) }
+    ensures { Refuses 22 (broken_line number) out.old.items out.new.items result }
 {
-    write_broken(alloc, number, out)?;
-    Ok(Did::Refused(Refusal::Broken { kept: number }.number()))
+    match write_broken(alloc, number, out) {
+        Ok(()) => Ok(Did::Refused(Refusal::Broken { kept: number }.number())),
+        Err(fault) => Err(fault),
+    }
 }

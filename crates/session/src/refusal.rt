@@ -5,7 +5,7 @@ ghost use Rattle.session.specs.RefusalView.{refusal_view};
 
 /// Why a line is refused before its command is looked at, or after its names, functions and types
 /// were found to fit.
-#[derive(Clone, Copy, Debug, PartialEq, Eq)]
+#[derive(Clone, Copy)]
 pub(crate) enum Refusal {
     NoCommand,
     LineTooLong,

@@ -11,7 +11,7 @@ use std::alloc::{AllocError, Global};
 const LINE_LIMIT: usize = 4_096;
 
 /// What a line asks for.
-#[derive(Debug, Drop)]
+#[derive(Drop)]
 pub(crate) enum Request {
     /// The line is too long.
     TooLong,

@@ -1,20 +1,12 @@
 //! A script in the making: its names, and the graph of its formulas.
-ghost use Rattle.std.specs.Prelude.{◌≡◌, ◌<◌, ◌≤◌, ◌+◌, ◌-◌, ◌^◌, false, [], ℕ, List, length, slice_get, None, Some, IfOk, IfErr, IfSome, IfNone, OnOk, OnErr, IsErr, IsTrue, Ok, option_copied};
-ghost use Rattle.formula_lang.specs.CommandView.{body_view, command_view};
-ghost use Rattle.formula_lang.specs.Fits.{AssignmentFits, DeclarationFits, ObserverFits};
-ghost use Rattle.inc_value.specs.Value.{type_of};
+ghost use Rattle.std.specs.Prelude.{◌≡◌, false, [], None, Some, IfOk, IfErr, OnErr, IsErr, Ok};
 ghost use Rattle.graph.specs.Standing.{IsUnbroken};
-ghost use Rattle.inc_value.specs.declared.function.FnRef.{FnRef};
 ghost use Rattle.inc_value.specs.declared.node.NodeId.{NodeId as ANode};
 ghost use Rattle.node_arena.specs.Arena.{live, row_at};
-ghost use Rattle.script_model.specs.Check.{Assign, Declare, Observe, Unobserve, is_among};
-ghost use Rattle.script_model.specs.Formula.{Meanings, meanings_of, places_of_body};
-ghost use Rattle.script_model.specs.Step.{Moment, first_moment, moved, shown_by};
-ghost use Rattle.script_model.specs.Values.{Value as AValue, to_engine};
+ghost use Rattle.script_model.specs.Formula.{Meanings};
+ghost use Rattle.script_model.specs.Step.{first_moment};
 ghost use Rattle.script_graph.specs.Kept.{arena_of};
 ghost use Rattle.stabilizer.specs.Round.{never_at};
-ghost use Rattle.script_graph.specs.Shown.{ShowsIt, ShowsNothing};
-ghost use Rattle.script_graph.specs.Stabilizing.{IsAccepted, IsTooDeep, IsCutShort};
 ghost use Rattle.script_graph.specs.State.{Stands};
 
 mod declaring;
@@ -167,8 +159,7 @@ impl<L: Library> Script<L> {
 
     /// Breaks the session, with a number.
     pub(crate) fn break_with(&mut self, number: u8)
-        ensures kept { self.new.kept ≡ record self.old.kept { broken = Some number } }
-        ensures library { self.new.library ≡ self.old.library }
+        ensures { self.new ≡ record self.old { kept = record self.old.kept { broken = Some number } } }
     {
         self.broken = Some(number);
     }

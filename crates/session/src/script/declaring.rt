@@ -1,5 +1,5 @@
 //! Declarations and assignments in a script.
-ghost use Rattle.std.specs.Prelude.{◌≡◌, ◌<◌, ◌≤◌, ◌+◌, ◌-◌, ◌^◌, ◌++◌, ◌∷◌, [], ℕ, List, length, slice_get, Some, None, IfOk, OnOk, OnErr, IfErr, IsTrue, IsSome, IsErr, Ok, false, option_map};
+ghost use Rattle.std.specs.Prelude.{◌≡◌, ◌<◌, ◌≤◌, ◌+◌, ◌-◌, ◌^◌, ◌++◌, ◌∷◌, [], ℕ, List, length, slice_get, Some, None, IfOk, OnOk, OnErr, IsSome, Ok, false, option_map};
 ghost use Rattle.formula_elab.specs.Laying.{laid_body};
 ghost use Rattle.formula_elab.specs.Opened.{AreInOrder, def_to_make, node_at, node_of};
 ghost use Rattle.formula_elab.specs.Plan.{IsMade};
@@ -22,6 +22,7 @@ ghost use Rattle.script_model.specs.Check.{Assign, Declare, Declared, kind_of_bo
 ghost use Rattle.script_model.specs.Formula.{meanings_of, places_of_body};
 ghost use Rattle.script_model.specs.Step.{Moment, moved};
 ghost use Rattle.script_model.specs.Values.{Value as AValue, to_engine};
+ghost use Rattle.session.specs.Carried.{IsBeside};
 
 use super::{Script, or_no_memory};
 use formula_elab::{Made, Make, Plan, ScriptFns, elaborate};
@@ -52,11 +53,7 @@ impl<L: Library> Script<L> {
             → Stands F self.new.kept (moved m (Declare name.now ty (body_view body.now)))) }
         ensures kept { let F = meanings_of (L.named self.old.library) (L.value self.old.library) in
             OnErr result ((m : Moment) → Stands F self.old.kept m → Stands F self.new.kept m) }
-        ensures library { self.new.library ≡ self.old.library }
-        ensures accepted { self.new.kept.accepted ≡ self.old.kept.accepted }
-        ensures given { (arena_of self.new.kept).given ≤ (arena_of self.old.kept).given + 2 ^ 20 }
-        ensures observers { self.new.kept.graph.observers ≡ self.old.kept.graph.observers }
-        ensures unbroken { self.new.kept.broken ≡ None }
+        ensures beside { IsBeside (2 ^ 20) 0 self.old self.new }
     {
         self.graph.keeps_sound();
         let mark = mark_of(&self.graph);
@@ -91,11 +88,7 @@ impl<L: Library> Script<L> {
         ensures set { let F = meanings_of (L.named self.old.library) (L.value self.old.library) in
             (m : Moment) (v : AValue) → to_engine v ≡ value → Stands F self.old.kept m
             → Stands F self.new.kept (moved m (Assign target v)) }
-        ensures library { self.new.library ≡ self.old.library }
-        ensures accepted { self.new.kept.accepted ≡ self.old.kept.accepted }
-        ensures given { (arena_of self.new.kept).given ≡ (arena_of self.old.kept).given }
-        ensures observers { self.new.kept.graph.observers ≡ self.old.kept.graph.observers }
-        ensures unbroken { self.new.kept.broken ≡ None }
+        ensures beside { IsBeside 0 0 self.old self.new }
     {
         self.graph.keeps_sound();
         set_node(&mut self.graph, self.nodes[target], value);
@@ -184,7 +177,9 @@ fn make_declared<L: Library>(
     match elaborate(alloc, command, nodes) {
         Ok(plan) => {
             let mut plan = plan;
-            make_all(graph, &mut plan)
+            let made = make_all(graph, &mut plan);
+            drop(plan);
+            made
         }
         Err(fault) => Err(fault),
     }

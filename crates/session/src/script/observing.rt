@@ -1,5 +1,5 @@
 //! Observers of a script.
-ghost use Rattle.std.specs.Prelude.{◌≡◌, ◌<◌, ◌≤◌, ◌+◌, ◌-◌, ◌^◌, ◌++◌, ◌∷◌, [], length, None, Some, IfSome, IfNone, IsSome, OnOk, OnErr, IsTrue};
+ghost use Rattle.std.specs.Prelude.{◌≡◌, ◌<◌, ◌+◌, ◌-◌, ◌^◌, ◌++◌, ◌∷◌, [], length, None, Some, IfSome, IfNone, IsSome, OnOk, OnErr, IsTrue};
 ghost use Rattle.formula_lang.specs.Fits.{ObserverFits};
 ghost use Rattle.graph.specs.Effects.{Ends, Observes};
 ghost use Rattle.graph.specs.Standing.{IsUnbroken, node_at};
@@ -11,6 +11,7 @@ ghost use Rattle.script_graph.specs.State.{Stands};
 ghost use Rattle.script_model.specs.Check.{Observe, Unobserve, is_among};
 ghost use Rattle.script_model.specs.Formula.{Meanings};
 ghost use Rattle.script_model.specs.Step.{Moment, moved};
+ghost use Rattle.session.specs.Carried.{IsBeside};
 
 use super::{Script, or_no_memory};
 use formula_elab::ScriptFns;
@@ -28,21 +29,19 @@ impl<L: Library> Script<L> {
         ensures observed { OnOk result ((F : Meanings) (m : Moment) → Stands F self.old.kept m
             → Stands F self.new.kept (moved m (Observe name.now target))) }
         ensures kept { OnErr result (self.new.kept ≡ self.old.kept) }
-        ensures library { self.new.library ≡ self.old.library }
-        ensures accepted { self.new.kept.accepted ≡ self.old.kept.accepted }
-        ensures given { (arena_of self.new.kept).given ≡ (arena_of self.old.kept).given }
-        ensures observers { length self.new.kept.graph.observers ≤ length self.old.kept.graph.observers + 1 }
-        ensures unbroken { self.new.kept.broken ≡ None }
+        ensures beside { IsBeside 0 1 self.old self.new }
     {
         self.graph.keeps_sound();
         let node = self.nodes[target];
-        self.names.observe(name)?;
-        match observe_node(&mut self.graph, &mut self.observers, node) {
-            Ok(()) => Ok(()),
-            Err(fault) => {
-                self.names.end(name);
-                Err(fault)
-            }
+        match self.names.observe(name) {
+            Ok(()) => match observe_node(&mut self.graph, &mut self.observers, node) {
+                Ok(()) => Ok(()),
+                Err(fault) => {
+                    self.names.end(name);
+                    Err(fault)
+                }
+            },
+            Err(fault) => Err(fault),
         }
     }
 
@@ -51,13 +50,9 @@ impl<L: Library> Script<L> {
         requires in_use { IsTrue (is_among self.old.kept.names.observers name.now) }
         requires unbroken { self.old.kept.broken ≡ None }
         ensures ended { (F : Meanings) (m : Moment) → Stands F self.old.kept m → Stands F self.new.kept (moved m (Unobserve name.now)) }
-        ensures library { self.new.library ≡ self.old.library }
-        ensures accepted { self.new.kept.accepted ≡ self.old.kept.accepted }
         ensures nodes { self.new.kept.nodes ≡ self.old.kept.nodes }
         ensures arena { arena_of self.new.kept ≡ arena_of self.old.kept }
-        ensures given { (arena_of self.new.kept).given ≡ (arena_of self.old.kept).given }
-        ensures observers { length self.new.kept.graph.observers ≡ length self.old.kept.graph.observers }
-        ensures unbroken { self.new.kept.broken ≡ None }
+        ensures beside { IsBeside 0 0 self.old self.new }
     {
         self.graph.keeps_sound();
         let Some(position) = self.names.observer(name) else {

@@ -1,14 +1,9 @@
 //! Stabilizes of a script.
-ghost use Rattle.std.specs.Prelude.{◌≡◌, ◌<◌, ◌≤◌, ◌+◌, ◌^◌, ℕ, length, None, Some, IfOk, OnErr, IfSome, IfNone, IsTrue};
-ghost use Rattle.inc_value.specs.declared.function.FnRef.{FnRef};
+ghost use Rattle.std.specs.Prelude.{◌≡◌, ◌<◌, ◌+◌, ◌^◌, length, None, IfSome, IfNone};
 ghost use Rattle.inc_value.specs.declared.node.Point.{Point};
 ghost use Rattle.script_model.specs.Formula.{meanings_of};
-ghost use Rattle.script_model.specs.Step.{Moment};
-ghost use Rattle.script_graph.specs.Kept.{arena_of};
-ghost use Rattle.script_graph.specs.Stabilizing.{IsAccepted, IsTooDeep, IsCutShort, ChainBegins, IsFirstNotOlder, AllOlder};
-ghost use Rattle.script_graph.specs.State.{Stands};
-ghost use Rattle.session.specs.declared.script.stabilizing.Stabilized.TheVariants.{Accepted, TooDeep};
-ghost use Rattle.stabilizer.specs.declared.refused.Refused.TheVariants.{Memory};
+ghost use Rattle.script_graph.specs.Stabilizing.{ChainBegins, IsFirstNotOlder, AllOlder};
+ghost use Rattle.session.specs.Carried.{EndsStabilize};
 
 use super::Script;
 use formula_elab::ScriptFns;
@@ -18,7 +13,7 @@ use node_arena::Library;
 use std::alloc::AllocError;
 
 /// How a stabilize ended.
-#[derive(Clone, Copy, Debug, PartialEq, Eq)]
+#[derive(Clone, Copy)]
 pub(crate) enum Stabilized {
     /// It was accepted.
     Accepted,
@@ -31,26 +26,7 @@ impl<L: Library> Script<L> {
     pub(crate) fn stabilize(&mut self) -> Result<Stabilized, AllocError>
         requires unbroken { self.old.kept.broken ≡ None }
         requires count { self.old.kept.accepted + 1 < 2 ^ 64 }
-        ensures accepted { let F = meanings_of (L.named self.old.library) (L.value self.old.library) in
-            IfOk result (λ how. how ≡ Accepted → (m : Moment) → Stands F self.old.kept m
-            → IsAccepted F m self.new.kept (L.calls self.old.library) (L.calls self.new.library)) }
-        ensures too_deep { let F = meanings_of (L.named self.old.library) (L.value self.old.library) in
-            IfOk result (λ how. (target : ℕ) → how ≡ TooDeep target → (m : Moment) → Stands F self.old.kept m
-            → IsTooDeep F m self.new.kept target (L.calls self.old.library) (L.calls self.new.library)) }
-        ensures target { IfOk result (λ how. (target : ℕ) → how ≡ TooDeep target → target < length self.new.kept.names.declared) }
-        ensures cut_short { let F = meanings_of (L.named self.old.library) (L.value self.old.library) in
-            OnErr result ((m : Moment) → Stands F self.old.kept m
-            → IsCutShort F m self.new.kept (L.calls self.old.library) (L.calls self.new.library)) }
-        ensures for_memory { let F = meanings_of (L.named self.old.library) (L.value self.old.library) in
-            OnErr result ((m : Moment) → Stands F self.old.kept m → self.new.kept.graph.refused ≡ Some Memory) }
-        ensures count { self.new.kept.accepted ≤ self.old.kept.accepted + 1 }
-        ensures names { self.new.kept.names ≡ self.old.kept.names }
-        ensures given { (arena_of self.new.kept).given ≡ (arena_of self.old.kept).given }
-        ensures observers { self.new.kept.graph.observers ≡ self.old.kept.graph.observers }
-        ensures known { (f : FnRef) → IsTrue (L.known self.old.library f) → IsTrue (L.known self.new.library f) }
-        ensures calls_grow { L.calls self.old.library ≤ L.calls self.new.library }
-        ensures functions { meanings_of (L.named self.new.library) (L.value self.new.library)
-            ≡ meanings_of (L.named self.old.library) (L.value self.old.library) }
+        ensures { EndsStabilize (λ l. meanings_of (L.named l) (L.value l)) L.known L.calls self.old self.new result }
     {
         self.graph.keeps_sound();
         match self.graph.stabilize() {

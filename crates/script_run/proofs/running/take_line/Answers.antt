@@ -1,122 +1,44 @@
-use Rattle.std.proofs.Common.{◌||◌, true, ap, refl}
+use Rattle.std.proofs.Common.{◌≡◌, refl, sym}
 use Rattle.script_io.specs.declared.ending.Ending.TheVariants as ending
-use Rattle.script_run.specs.Saying.{is_refusal_said}
-use Rattle.script_run.proofs.Course.{IfErr-made, Progress-more, Ran-at_end, Ran-write_fault, Ran-no_memory, Ran-no_memory_behind, Ran-read_fault, Ran-limit, or_true, refusal_told, stops_at_once, unfallen}
+use Rattle.script_run.proofs.Course.{Ran-at_end, Ran-limit, Ran-read_fault}
+use Rattle.script_run.proofs.Steps.{end_read, ends_read, ends_whole, faulted, limit_read, limit_unread, limit_whole, line_read, long_read, no_fault, read_whole, takes_line, takes_none}
 use Rattle.script_run.proofs.running.take_line.Goals as goal
 
-pub returns-in-Ok-clause-goes_on : goal.returns-in-Ok-clause-goes_on
-returns-in-Ok-clause-goes_on g c = λ before p.
+pub returns-in-Line : goal.returns-in-Line
+returns-in-Line g c =
     let next = c.in-Line.ensures in
     let t = next.takes.1 in
-    Progress-more _ _ _ before _ _ _ _ _ _ _ _ p (rw c.line.ensures at c.in_ok-did-in-Line.ensures.taken) c.in_ok-did-in-Line.ensures.calls_grow
+    takes_line _ _ _ _ _ _ _ _ (λ line. line ≡ c.line.result.now) c.next.new.self.line _ (sym c.line.ensures) c.requires
     (record { bytes = t.bytes; count = t.count; within = next.within; few = next.few; clear = t.meaning.clear; ends = t.meaning.ends })
-    (ap (λ b. c.args.refused || b) c.is_refused.ensures) c.requires.empty
-    (λ replies says round. c.in_ok-append-in-Line.ensures.told _ _ replies c.note.ensures round)
-    c.in-Ok.ensures.ok
+    (next.grows refl) next.ended (next.unfailed line_read) _ c.answer_line.ensures
 
-pub returns-in-Ok-deliver-clause-goes_on : goal.returns-in-Ok-deliver-clause-goes_on
-returns-in-Ok-deliver-clause-goes_on g c = λ before p.
+pub returns-in-TooLong : goal.returns-in-TooLong
+returns-in-TooLong g c =
     let next = c.in-TooLong.ensures in
     let t = next.takes.1 in
     let long = t.meaning in
-    Progress-more _ _ _ before _ _ long.long _ _ _ _ _ p (λ m stands. c.in_ok-too_long-in-TooLong.ensures.taken m long.long long.exceeds stands)
-    (unfallen _ _ (ap g.L.Library.calls c.too_long.ensures.library))
+    takes_line _ _ _ _ _ _ _ _ _ long.long _ long.exceeds c.requires
     (record { bytes = t.bytes; count = t.count; within = next.within; few = next.few; clear = long.clear; ends = long.ends })
-    (or_true c.args.refused) c.requires.empty (refusal_told g.R.Report.behind g.met.R.Report.quiet 2 _ _ _ _ _) c.in-Ok-deliver.ensures.ok
+    (next.grows_too_long refl) next.ended (next.unfailed long_read) _ (c.refuse_long.ensures g.R.Report.behind g.met.R.Report.quiet)
 
-pub returns-in_err-did-in-Line-clause-ends : goal.returns-in_err-did-in-Line-clause-ends
-returns-in_err-did-in-Line-clause-ends g c = IfErr-made c.from_residual.result ending.Memory _ c.from_residual.ensures.1 (λ before p.
-    let next = c.in-Line.ensures in
+pub returns-in-End : goal.returns-in-End
+returns-in-End g c =
+    let next = c.in-End.ensures in
     let t = next.takes.1 in
-    Ran-no_memory _ _ _ before _ (record {
-      reader = c.next.new.self;
-      left = g.S.Source.left c.next.new.src;
-      written = g.K.Sink.written c.args.out.now;
-      kept = c.line-in-Line.new.self.kept;
-      calls = g.L.Library.calls c.line-in-Line.new.self.library;
-      refused = c.args.refused;
-    }) _ _ p (rw c.line.ensures at c.in_err-did-in-Line.ensures.stopped) c.in_err-did-in-Line.ensures.calls_grow
-    (record { bytes = t.bytes; count = t.count; within = next.within; few = next.few; clear = t.meaning.clear; ends = t.meaning.ends }))
+    takes_none _ _ _ _ _ _ _ _ _ refl next.within (ends_whole c.args.refused _ c.at_end.ensures)
+    (no_fault _ _ (next.unfailed end_read) (ends_read c.args.refused _ c.at_end.ensures))
+    (λ before p. Ran-at_end _ _ _ before _ _ _ _ _ c.at_end.ensures p t.bytes t.meaning)
 
-pub returns-in_err-append-in-Line-clause-ends : goal.returns-in_err-append-in-Line-clause-ends
-returns-in_err-append-in-Line-clause-ends g c = IfErr-made c.from_residual-in_err-append-in-Line.result ending.Memory _ c.from_residual-in_err-append-in-Line.ensures.1 (λ before p.
-    let next = c.in-Line.ensures in
-    let t = next.takes.1 in
-    Ran-no_memory_behind _ _ _ before _ (record {
-      reader = c.next.new.self;
-      left = g.S.Source.left c.next.new.src;
-      written = g.K.Sink.written c.args.out.now;
-      kept = c.line-in-Line.new.self.kept;
-      calls = g.L.Library.calls c.line-in-Line.new.self.library;
-      refused = c.args.refused;
-    }) _ _ _ _ _ p (rw c.line.ensures at c.in_ok-did-in-Line.ensures.taken) c.in_ok-did-in-Line.ensures.calls_grow
-    (record { bytes = t.bytes; count = t.count; within = next.within; few = next.few; clear = t.meaning.clear; ends = t.meaning.ends })
-    c.requires.empty
-    (λ replies says round. c.in_err-append-in-Line.ensures.wanted _ _ replies c.note.ensures round))
-
-pub returns-in_err-too_long-in-TooLong-clause-ends : goal.returns-in_err-too_long-in-TooLong-clause-ends
-returns-in_err-too_long-in-TooLong-clause-ends g c = IfErr-made c.from_residual-in_err-too_long-in-TooLong.result ending.Memory _ c.from_residual-in_err-too_long-in-TooLong.ensures.1 (λ before p.
-    let next = c.in-TooLong.ensures in
-    let t = next.takes.1 in
-    let long = t.meaning in
-    let same = ap g.L.Library.calls c.too_long.ensures.library in
-    Ran-no_memory _ _ _ before _ (record {
-      reader = c.next.new.self;
-      left = g.S.Source.left c.next.new.src;
-      written = g.K.Sink.written c.args.out.now;
-      kept = c.too_long.new.self.kept;
-      calls = g.L.Library.calls c.too_long.new.self.library;
-      refused = c.args.refused;
-    }) long.long _ p (λ m stands. stops_at_once _ m _ _ _ _ _ c.too_long.ensures.kept same stands) (unfallen _ _ same)
-    (record { bytes = t.bytes; count = t.count; within = next.within; few = next.few; clear = long.clear; ends = long.ends }))
-
-pub returns-in-Err-clause-ends : goal.returns-in-Err-clause-ends
-returns-in-Err-clause-ends g c = λ before p.
-    let next = c.in-Line.ensures in
-    let t = next.takes.1 in
-    Ran-write_fault _ _ _ before _ (record {
-      reader = c.next.new.self;
-      left = g.S.Source.left c.next.new.src;
-      written = g.K.Sink.written c.deliver.new.out;
-      kept = c.line-in-Line.new.self.kept;
-      calls = g.L.Library.calls c.line-in-Line.new.self.library;
-      refused = c.args.refused || is_refusal_said c.in_ok-did-in-Line.did;
-    }) _ _ _ _ _ _ p (rw c.line.ensures at c.in_ok-did-in-Line.ensures.taken) c.in_ok-did-in-Line.ensures.calls_grow
-    (record { bytes = t.bytes; count = t.count; within = next.within; few = next.few; clear = t.meaning.clear; ends = t.meaning.ends })
-    refl c.requires.empty
-    (λ replies says round. c.in_ok-append-in-Line.ensures.told _ _ replies c.note.ensures round)
-    c.in-Err.ensures.prefix
-
-pub returns-in-Err-deliver-clause-ends : goal.returns-in-Err-deliver-clause-ends
-returns-in-Err-deliver-clause-ends g c = λ before p.
-    let next = c.in-TooLong.ensures in
-    let t = next.takes.1 in
-    let long = t.meaning in
-    Ran-write_fault _ _ _ before _ (record {
-      reader = c.next.new.self;
-      left = g.S.Source.left c.next.new.src;
-      written = g.K.Sink.written c.deliver-in-TooLong.new.out;
-      kept = c.too_long.new.self.kept;
-      calls = g.L.Library.calls c.too_long.new.self.library;
-      refused = c.args.refused || true;
-    }) long.long _ _ _ _ _ p (λ m stands. c.in_ok-too_long-in-TooLong.ensures.taken m long.long long.exceeds stands)
-    (unfallen _ _ (ap g.L.Library.calls c.too_long.ensures.library))
-    (record { bytes = t.bytes; count = t.count; within = next.within; few = next.few; clear = long.clear; ends = long.ends })
-    refl c.requires.empty (refusal_told g.R.Report.behind g.met.R.Report.quiet 2 _ _ _ _ _) c.in-Err-deliver.ensures.prefix
-
-pub returns-in-End-clause-ends : goal.returns-in-End-clause-ends
-returns-in-End-clause-ends g c = λ before p.
-    let t = c.in-End.ensures.takes.1 in
-    Ran-at_end _ _ _ before _ _ _ _ _ c.at_end.ensures p t.bytes t.meaning
-
-pub returns-in-Limit-clause-ends : goal.returns-in-Limit-clause-ends
-returns-in-Limit-clause-ends g c = λ before p.
+pub returns-in-Limit : goal.returns-in-Limit
+returns-in-Limit g c =
     let next = c.in-Limit.ensures in
     let t = next.takes.1 in
-    Ran-limit _ _ _ before _ _ _ _ p t.bytes t.count next.within next.few t.meaning
+    takes_none _ _ _ _ _ _ _ _ ending.Limit refl next.within limit_whole (no_fault _ _ (next.unfailed limit_read) limit_unread)
+    (λ before p. Ran-limit _ _ _ before _ _ _ _ p t.bytes t.count next.within next.few t.meaning)
 
-pub returns-in-ReadFault-clause-ends : goal.returns-in-ReadFault-clause-ends
-returns-in-ReadFault-clause-ends g c = λ before p.
+pub returns-in-ReadFault : goal.returns-in-ReadFault
+returns-in-ReadFault g c =
     let next = c.in-ReadFault.ensures in
     let t = next.takes.1 in
-    Ran-read_fault _ _ _ before _ _ _ _ p t.bytes t.count next.within next.few t.meaning
+    takes_none _ _ _ _ _ _ _ _ ending.ReadFault refl next.within read_whole (faulted _ _ next.later (next.fault refl) refl)
+    (λ before p. Ran-read_fault _ _ _ before _ _ _ _ p t.bytes t.count next.within next.few t.meaning)

@@ -1,9 +1,13 @@
-use Rattle.std.proofs.Common.{refl}
+use Rattle.std.proofs.Common.{refl, arith}
 use Rattle.script_model.specs.Check.{Unobserve}
+use Rattle.session.proofs.Carried.{carried_done, carried_nothing}
 use Rattle.session.proofs.Following.{followed_done}
 use Rattle.session.proofs.answer.unobserve.Goals as goal
 
-pub returns-clause-followed : goal.returns-clause-followed
-returns-clause-followed g c = λ F m calls st.
-    followed_done F c.unobserve.new.self.kept m (Unobserve c.args.name.now) calls c.args.out.now.items c.write_done.new.out.items refl refl
-    (c.unobserve.ensures.ended F m st) c.in_ok-write_done.ensures.ok
+pub returns-in-Ok : goal.returns-in-Ok
+returns-in-Ok g c = carried_done _ _ _ _ _ _ 0 0 (omega arith) (omega arith) _ _ _ _ c.unobserve.ensures.beside c.requires.unbroken (λ m st.
+    followed_done _ c.unobserve.new.self.kept m (Unobserve c.args.name.now) _ _ _ refl refl
+    (c.unobserve.ensures.ended _ m st) c.in-Ok.ensures.ok)
+
+pub returns-in-Err : goal.returns-in-Err
+returns-in-Err g c = carried_nothing _ _ _ _ _ _ _ _ _ _ c.in-Err.ensures.err

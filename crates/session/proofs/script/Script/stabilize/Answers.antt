@@ -1,4 +1,4 @@
-use Rattle.std.proofs.Common.{◌≡◌, Err, refl, ap, ◌∙◌}
+use Rattle.std.proofs.Common.{◌≡◌, Err, refl, ap, ◌∙◌, arith}
 use Rattle.graph.specs.declared.fault.Kept.TheVariants as cause
 use Rattle.graph.specs.declared.fault.StabilizeFault.{StabilizeFault}
 use Rattle.node_arena.specs.Arena.{Arena}
@@ -8,7 +8,7 @@ use Rattle.script_graph.proofs.Functions.{same_meanings}
 use Rattle.script_graph.proofs.TooDeep.{session_too_deep, session_not_all_older}
 use Rattle.script_model.specs.Formula.{meanings_of}
 use Rattle.script_model.specs.Values.{seen_value}
-use Rattle.stabilizer.specs.Meaning.{functions_of}
+use Rattle.node_outcomes.specs.Meaning.{functions_of}
 use Rattle.session.proofs.Observed.{not_broken}
 use Rattle.session.proofs.Stabilized.{accepted_sound, refused_sound, refused_for, memory_met, first_of, none_of}
 use Rattle.session.proofs.script.Script.stabilize.Goals as goal
@@ -19,20 +19,27 @@ pub invariant_of-self : goal.invariant_of-self
 invariant_of-self g c =
     accepted_sound _ _ c.self.invariant c.self.inside.graph c.stabilize.new.self refl c.in-Ok.ensures.brought _
 
-pub returns-in-Ok-clause-accepted : goal.returns-in-Ok-clause-accepted
-returns-in-Ok-clause-accepted g c =
+pub returns-in-Ok : goal.returns-in-Ok
+returns-in-Ok g c =
     let l = c.self.inside.graph.functions.library in
     let new = c.stabilize.new.self in
     let unbroken = rw (← c.self.view_is) at c.requires.unbroken in
-    rw (← c.self.view_is) (λ is m stands.
-    session_accepted (g.L.Library.named l) (g.L.Library.value l) (g.L.Library.known l) _ c.self.inside.graph new (g.L.Library.calls l)
-    (g.L.Library.calls new.functions.library) refl unbroken c.keeps_sound.ensures.sound c.in-Ok.ensures.brought c.in-Ok.ensures.calls m stands)
-
-pub returns-in-Ok-clause-functions : goal.returns-in-Ok-clause-functions
-returns-in-Ok-clause-functions g c =
-    let l = c.self.inside.graph.functions.library in
-    let new = c.stabilize.new.self.functions.library in
-    rw (← c.self.view_is) (same_meanings _ _ (g.L.Library.value l) (g.L.Library.value new) c.stabilize.ensures.names c.stabilize.ensures.values)
+    rw (← c.self.view_is) (record {
+      accepted = λ is m stands.
+          session_accepted (g.L.Library.named l) (g.L.Library.value l) (g.L.Library.known l) _ c.self.inside.graph new (g.L.Library.calls l)
+          (g.L.Library.calls new.functions.library) refl unbroken c.keeps_sound.ensures.sound c.in-Ok.ensures.brought c.in-Ok.ensures.calls m stands;
+      too_deep = λ target is. absurd (cc);
+      target = λ target is. absurd (cc);
+      cut_short = tt;
+      for_memory = tt;
+      count = omega arith;
+      names = refl;
+      given = ap (λ (a : Arena). a.given) c.in-Ok.ensures.brought.nodes;
+      observers = c.in-Ok.ensures.brought.observers;
+      known_still = c.stabilize.ensures.known;
+      calls_grow = c.stabilize.ensures.calls_grow;
+      functions = same_meanings _ _ (g.L.Library.value l) (g.L.Library.value new.functions.library) c.stabilize.ensures.names c.stabilize.ensures.values;
+    })
 
 -- ---- refused for depth
 
@@ -43,39 +50,37 @@ invariant_of-self-in-Some g c =
     let done = c.stabilize.ensures.refused cause.Height for in
     refused_sound _ _ c.self.invariant c.self.inside.graph c.stabilize.new.self refl cause.Height done _
 
-pub returns-in-Some-clause-too_deep : goal.returns-in-Some-clause-too_deep
-returns-in-Some-clause-too_deep g c =
+pub returns-in-Some : goal.returns-in-Some
+returns-in-Some g c =
     let h = c.in-Err-Refused-Height in
     let for = refused_for h.is h.field-0-is h.field-0-0-is in
     let done = c.stabilize.ensures.refused cause.Height for in
     let l = c.self.inside.graph.functions.library in
+    let new = c.stabilize.new.self in
     let unbroken = rw (← c.self.view_is) at c.requires.unbroken in
-    rw (← c.self.view_is) (λ target is m stands.
-    let same : c.in-Some.target ≡ target = cc in
-    session_too_deep (g.L.Library.named l) (g.L.Library.value l) (g.L.Library.known l) _ c.self.inside.graph c.stabilize.new.self refl unbroken
-    c.keeps_sound.ensures.sound c.self.invariant.older done target (g.L.Library.calls l) (g.L.Library.calls c.stabilize.new.self.functions.library)
-    (first_of c.stabilize.new.self.refused c.self.inside.nodes.items c.deref.result.now c.deref.ensures.value c.in-Some.target target same
-    c.in-Some.ensures.found) (c.stabilize.ensures.few cause.Height for) m stands)
-
-pub returns-in-Some-clause-given : goal.returns-in-Some-clause-given
-returns-in-Some-clause-given g c =
-    let h = c.in-Err-Refused-Height in
-    let for = refused_for h.is h.field-0-is h.field-0-0-is in
-    let done = c.stabilize.ensures.refused cause.Height for in
-    rw (← c.self.view_is) (ap (λ (a : Arena). a.given) done.nodes)
-
-pub returns-in-Some-clause-observers : goal.returns-in-Some-clause-observers
-returns-in-Some-clause-observers g c =
-    let h = c.in-Err-Refused-Height in
-    let for = refused_for h.is h.field-0-is h.field-0-0-is in
-    let done = c.stabilize.ensures.refused cause.Height for in
-    rw (← c.self.view_is) done.observers
-
-pub returns-in-Some-clause-functions : goal.returns-in-Some-clause-functions
-returns-in-Some-clause-functions g c =
-    let l = c.self.inside.graph.functions.library in
-    let new = c.stabilize.new.self.functions.library in
-    rw (← c.self.view_is) (same_meanings _ _ (g.L.Library.value l) (g.L.Library.value new) c.stabilize.ensures.names c.stabilize.ensures.values)
+    rw (← c.self.view_is) (record {
+      accepted = λ is. absurd (cc);
+      too_deep = λ target is m stands.
+          let same : c.in-Some.target ≡ target = cc in
+          session_too_deep (g.L.Library.named l) (g.L.Library.value l) (g.L.Library.known l) _ c.self.inside.graph new refl unbroken
+          c.keeps_sound.ensures.sound c.self.invariant.older done target (g.L.Library.calls l) (g.L.Library.calls new.functions.library)
+          (first_of new.refused c.self.inside.nodes.items c.deref.result.now c.deref.ensures.value c.in-Some.target target same
+          c.in-Some.ensures.found) (c.stabilize.ensures.few cause.Height for) m stands;
+      target = λ target is.
+          let same : c.in-Some.target ≡ target = cc in
+          let many = c.self.invariant.one_node_each in
+          let within = rw c.deref.ensures.value at c.in-Some.ensures.within in
+          omega (arith, same, many, within);
+      cut_short = tt;
+      for_memory = tt;
+      count = omega arith;
+      names = refl;
+      given = ap (λ (a : Arena). a.given) done.nodes;
+      observers = done.observers;
+      known_still = c.stabilize.ensures.known;
+      calls_grow = c.stabilize.ensures.calls_grow;
+      functions = same_meanings _ _ (g.L.Library.value l) (g.L.Library.value new.functions.library) c.stabilize.ensures.names c.stabilize.ensures.values;
+    })
 
 -- ---- refused for depth, with no owner
 
@@ -86,47 +91,33 @@ invariant_of-self-in-None g c =
     let done = c.stabilize.ensures.refused cause.Height for in
     refused_sound _ _ c.self.invariant c.self.inside.graph c.stabilize.new.self refl cause.Height done _
 
-pub returns-in-None-clause-cut_short : goal.returns-in-None-clause-cut_short
-returns-in-None-clause-cut_short g c =
+pub returns-in-None : goal.returns-in-None
+returns-in-None g c =
     let h = c.in-Err-Refused-Height in
     let for = refused_for h.is h.field-0-is h.field-0-0-is in
+    let done = c.stabilize.ensures.refused cause.Height for in
     let l = c.self.inside.graph.functions.library in
+    let new = c.stabilize.new.self in
     let unbroken = rw (← c.self.view_is) at c.requires.unbroken in
-    rw (← c.self.view_is) (λ m stands.
-    session_cut_short (meanings_of (g.L.Library.named l) (g.L.Library.value l)) _ c.self.inside.graph c.stabilize.new.self (g.L.Library.calls l)
-    (g.L.Library.calls c.stabilize.new.self.functions.library) refl unbroken (c.stabilize.ensures.few cause.Height for) m stands)
-
-pub returns-in-None-clause-for_memory : goal.returns-in-None-clause-for_memory
-returns-in-None-clause-for_memory g c =
-    let h = c.in-Err-Refused-Height in
-    let for = refused_for h.is h.field-0-is h.field-0-0-is in
-    let done = c.stabilize.ensures.refused cause.Height for in
-    let l = c.self.inside.graph.functions.library in
-    let unbroken = rw (← c.self.view_is) at c.requires.unbroken in
-    rw (← c.self.view_is) (λ m stands. absurd (
-    session_not_all_older (g.L.Library.named l) (g.L.Library.value l) (g.L.Library.known l) _ c.self.inside.graph c.stabilize.new.self refl unbroken
-    c.keeps_sound.ensures.sound c.self.invariant.older done
-    (none_of c.stabilize.new.self.refused c.self.inside.nodes.items c.deref.result.now c.deref.ensures.value c.in-None.ensures.none) m stands))
-
-pub returns-in-None-clause-given : goal.returns-in-None-clause-given
-returns-in-None-clause-given g c =
-    let h = c.in-Err-Refused-Height in
-    let for = refused_for h.is h.field-0-is h.field-0-0-is in
-    let done = c.stabilize.ensures.refused cause.Height for in
-    rw (← c.self.view_is) (ap (λ (a : Arena). a.given) done.nodes)
-
-pub returns-in-None-clause-observers : goal.returns-in-None-clause-observers
-returns-in-None-clause-observers g c =
-    let h = c.in-Err-Refused-Height in
-    let for = refused_for h.is h.field-0-is h.field-0-0-is in
-    let done = c.stabilize.ensures.refused cause.Height for in
-    rw (← c.self.view_is) done.observers
-
-pub returns-in-None-clause-functions : goal.returns-in-None-clause-functions
-returns-in-None-clause-functions g c =
-    let l = c.self.inside.graph.functions.library in
-    let new = c.stabilize.new.self.functions.library in
-    rw (← c.self.view_is) (same_meanings _ _ (g.L.Library.value l) (g.L.Library.value new) c.stabilize.ensures.names c.stabilize.ensures.values)
+    rw (← c.self.view_is) (record {
+      accepted = tt;
+      too_deep = tt;
+      target = tt;
+      cut_short = λ m stands.
+          session_cut_short (meanings_of (g.L.Library.named l) (g.L.Library.value l)) _ c.self.inside.graph new (g.L.Library.calls l)
+          (g.L.Library.calls new.functions.library) refl unbroken (c.stabilize.ensures.few cause.Height for) m stands;
+      for_memory = λ m stands. absurd (
+          session_not_all_older (g.L.Library.named l) (g.L.Library.value l) (g.L.Library.known l) _ c.self.inside.graph new refl unbroken
+          c.keeps_sound.ensures.sound c.self.invariant.older done
+          (none_of new.refused c.self.inside.nodes.items c.deref.result.now c.deref.ensures.value c.in-None.ensures.none) m stands);
+      count = omega arith;
+      names = refl;
+      given = ap (λ (a : Arena). a.given) done.nodes;
+      observers = done.observers;
+      known_still = c.stabilize.ensures.known;
+      calls_grow = c.stabilize.ensures.calls_grow;
+      functions = same_meanings _ _ (g.L.Library.value l) (g.L.Library.value new.functions.library) c.stabilize.ensures.names c.stabilize.ensures.values;
+    })
 
 -- ---- without memory
 
@@ -137,42 +128,30 @@ invariant_of-self-in-Err-Refused-Memory g c =
     let done = c.stabilize.ensures.refused cause.Memory for in
     refused_sound _ _ c.self.invariant c.self.inside.graph c.stabilize.new.self refl cause.Memory done _
 
-pub returns-in-Err-Refused-Memory-clause-cut_short : goal.returns-in-Err-Refused-Memory-clause-cut_short
-returns-in-Err-Refused-Memory-clause-cut_short g c =
+pub returns-in-Err-Refused-Memory : goal.returns-in-Err-Refused-Memory
+returns-in-Err-Refused-Memory g c =
     let h = c.in-Err-Refused-Memory in
     let for = refused_for h.is h.field-0-is h.field-0-0-is in
+    let done = c.stabilize.ensures.refused cause.Memory for in
     let l = c.self.inside.graph.functions.library in
+    let new = c.stabilize.new.self in
     let unbroken = rw (← c.self.view_is) at c.requires.unbroken in
-    rw (← c.self.view_is) (λ m stands.
-    session_cut_short (meanings_of (g.L.Library.named l) (g.L.Library.value l)) _ c.self.inside.graph c.stabilize.new.self (g.L.Library.calls l)
-    (g.L.Library.calls c.stabilize.new.self.functions.library) refl unbroken (c.stabilize.ensures.few cause.Memory for) m stands)
-
-pub returns-in-Err-Refused-Memory-clause-for_memory : goal.returns-in-Err-Refused-Memory-clause-for_memory
-returns-in-Err-Refused-Memory-clause-for_memory g c = λ m stands.
-    let h = c.in-Err-Refused-Memory in
-    let for = refused_for h.is h.field-0-is h.field-0-0-is in
-    let done = c.stabilize.ensures.refused cause.Memory for in
-    memory_met (functions_of (seen_value (g.L.Library.value c.self.inside.graph.functions.library))) c.self.inside.graph c.stabilize.new.self done
-
-pub returns-in-Err-Refused-Memory-clause-given : goal.returns-in-Err-Refused-Memory-clause-given
-returns-in-Err-Refused-Memory-clause-given g c =
-    let h = c.in-Err-Refused-Memory in
-    let for = refused_for h.is h.field-0-is h.field-0-0-is in
-    let done = c.stabilize.ensures.refused cause.Memory for in
-    rw (← c.self.view_is) (ap (λ (a : Arena). a.given) done.nodes)
-
-pub returns-in-Err-Refused-Memory-clause-observers : goal.returns-in-Err-Refused-Memory-clause-observers
-returns-in-Err-Refused-Memory-clause-observers g c =
-    let h = c.in-Err-Refused-Memory in
-    let for = refused_for h.is h.field-0-is h.field-0-0-is in
-    let done = c.stabilize.ensures.refused cause.Memory for in
-    rw (← c.self.view_is) done.observers
-
-pub returns-in-Err-Refused-Memory-clause-functions : goal.returns-in-Err-Refused-Memory-clause-functions
-returns-in-Err-Refused-Memory-clause-functions g c =
-    let l = c.self.inside.graph.functions.library in
-    let new = c.stabilize.new.self.functions.library in
-    rw (← c.self.view_is) (same_meanings _ _ (g.L.Library.value l) (g.L.Library.value new) c.stabilize.ensures.names c.stabilize.ensures.values)
+    rw (← c.self.view_is) (record {
+      accepted = tt;
+      too_deep = tt;
+      target = tt;
+      cut_short = λ m stands.
+          session_cut_short (meanings_of (g.L.Library.named l) (g.L.Library.value l)) _ c.self.inside.graph new (g.L.Library.calls l)
+          (g.L.Library.calls new.functions.library) refl unbroken (c.stabilize.ensures.few cause.Memory for) m stands;
+      for_memory = λ m stands. memory_met (functions_of (seen_value (g.L.Library.value l))) c.self.inside.graph new done;
+      count = omega arith;
+      names = refl;
+      given = ap (λ (a : Arena). a.given) done.nodes;
+      observers = done.observers;
+      known_still = c.stabilize.ensures.known;
+      calls_grow = c.stabilize.ensures.calls_grow;
+      functions = same_meanings _ _ (g.L.Library.value l) (g.L.Library.value new.functions.library) c.stabilize.ensures.names c.stabilize.ensures.values;
+    })
 
 -- ---- what never comes
 

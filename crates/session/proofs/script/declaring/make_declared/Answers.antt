@@ -11,8 +11,8 @@ elaborate-requires g c = record {
   names = rw c.requires.command (names_within _ c.args.names.now c.args.nodes.now c.requires.one_each (body_view c.args.body.now) c.args.ty c.requires.fits.body_fits);
 }
 
-pub make_all-requires : goal.make_all-requires
-make_all-requires g c =
+pub make_all-made-requires : goal.make_all-made-requires
+make_all-made-requires g c =
     let e = rw c.requires.command at c.in-Ok.ensures in
     record {
       unbroken = c.requires.unbroken;
