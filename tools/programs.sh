@@ -85,6 +85,7 @@ for program in incr incr_profile; do
     runs "$program" 2 "$room/$program.usage" examples/first.incr
     runs "$program" 2 "$room/$program.usage" examples/first.incr run run
     runs "$program" 2 "$room/$program.usage" examples/first.incr Run
+    runs "$program" 2 "$room/$program.usage" examples/first.incr gen 0 1
     runs "$program" 3 "$room/nothing" / run
     fills "$program" examples/first.incr run
     fills "$program" examples/first.incr

@@ -2,8 +2,33 @@
 
 use inc_value::{NodeId, Part, Point};
 use link_table::LinkTable;
-use std::alloc::AllocError;
-use std::test::Fail;
+use std::alloc::Global;
+
+/// The links that are put on, by the slots of reader and kid, in this order.
+const ON: &[(usize, usize)] = &[
+    (1, 9),
+    (2, 9),
+    (1, 9),
+    (3, 9),
+    (1, 8),
+    (4, 9),
+    (5, 5),
+    (3, 1),
+];
+
+/// The links that are taken off, where they are there.
+const OFF: &[(usize, usize)] = &[(2, 9), (1, 9), (5, 5), (7, 9)];
+
+/// How many kids and how many readers a point is left with.
+const LEFT: &[(usize, usize, usize)] = &[
+    (1, 2, 1),
+    (2, 0, 0),
+    (3, 2, 0),
+    (4, 1, 0),
+    (5, 0, 0),
+    (8, 0, 1),
+    (9, 0, 3),
+];
 
 fn point(slot: usize) -> Point {
     Point {
@@ -12,9 +37,9 @@ fn point(slot: usize) -> Point {
     }
 }
 
-/// Puts a link on, once more.
-fn put(table: &mut LinkTable, p: usize, q: usize) -> Result<(), AllocError> {
-    table.add(point(p), point(q))
+/// Puts a link on, once more, and tells whether there was memory.
+fn put(table: &mut LinkTable, p: usize, q: usize) -> bool {
+    table.add(point(p), point(q)).is_ok()
 }
 
 /// Takes a link off, if it is there.
@@ -25,69 +50,52 @@ fn take(table: &mut LinkTable, p: usize, q: usize) {
     }
 }
 
-/// How many kids a point has, and how many readers.
-fn counts(table: &LinkTable, p: usize) -> (usize, usize) {
-    (
-        table.kids(point(p)).count(),
-        table.readers(point(p)).count(),
-    )
+/// Puts links on, and tells whether there was memory.
+fn put_all(table: &mut LinkTable, links: &[(usize, usize)]) -> bool {
+    for (p, q) in links {
+        if !put(table, *p, *q) {
+            return false;
+        }
+    }
+    true
+}
+
+/// Takes links off, where they are there.
+fn take_all(table: &mut LinkTable, links: &[(usize, usize)]) {
+    for (p, q) in links {
+        take(table, *p, *q);
+    }
+}
+
+/// Whether each point has so many kids and readers.
+fn has_all(table: &LinkTable, wanted: &[(usize, usize, usize)]) -> bool {
+    for (p, kids, readers) in wanted {
+        let p = point(*p);
+        if table.kids(p).count() != *kids || table.readers(p).count() != *readers {
+            return false;
+        }
+    }
+    true
+}
+
+/// Whether links come and go.
+fn come_and_go(table: &mut LinkTable) -> bool {
+    if !put_all(table, ON) {
+        return false;
+    }
+    take_all(table, OFF);
+    has_all(table, LEFT)
+}
+
+/// The same of one of its own.
+fn links_on_and_off_well(alloc: Global) -> bool {
+    let mut table = LinkTable::new(alloc);
+    let well = come_and_go(&mut table);
+    drop(table);
+    well
 }
 
 #[test]
-fn links_on_and_off(rt: HostRuntime) -> Result<(), Fail> {
-    let mut table = LinkTable::new(rt.alloc());
-    for (p, q) in [
-        (1, 9),
-        (2, 9),
-        (1, 9),
-        (3, 9),
-        (1, 8),
-        (4, 9),
-        (5, 5),
-        (3, 1),
-    ] {
-        put(&mut table, p, q)?;
-    }
-    for (p, q) in [(2, 9), (1, 9), (5, 5), (7, 9)] {
-        take(&mut table, p, q);
-    }
-    for (p, want) in [
-        (1, (2, 1)),
-        (2, (0, 0)),
-        (3, (2, 0)),
-        (4, (1, 0)),
-        (5, (0, 0)),
-        (8, (0, 1)),
-        (9, (0, 3)),
-    ] {
-        assert_eq!(rt; (p, counts(&table, p)), (p, want));
-    }
-    for (p, q, want) in [(1, 9, true), (9, 1, false)] {
-        assert_eq!(rt; table.reads(point(p), point(q)), want);
-    }
-    Ok(())
-}
-
-/// Whether all kids of the one and all readers of the other have odd slots.
-fn are_odd(table: &LinkTable, p: usize, q: usize) -> bool {
-    table.kids(point(p)).all(|kid| kid.node.slot % 2 == 1)
-        && table
-            .readers(point(q))
-            .all(|reader| reader.node.slot % 2 == 1)
-}
-
-#[test]
-fn links_of_a_wide_point(rt: HostRuntime) -> Result<(), Fail> {
-    let mut table = LinkTable::new(rt.alloc());
-    for q in 1..40 {
-        put(&mut table, 0, q)?;
-        put(&mut table, q, 40)?;
-    }
-    for q in 1..20 {
-        take(&mut table, 0, 2 * q);
-        take(&mut table, 2 * q, 40);
-    }
-    assert_eq!(rt; counts(&table, 0), (20, 0));
-    assert!(rt; are_odd(&table, 0, 40));
-    Ok(())
+fn links_on_and_off(rt: HostRuntime) {
+    assert!(rt; links_on_and_off_well(rt.alloc()));
 }

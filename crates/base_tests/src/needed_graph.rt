@@ -3,14 +3,17 @@
 use height_order::LinkFault;
 use inc_value::{NodeId, Part, Point};
 use necessary_graph::NecessaryGraph;
-use std::alloc::{AllocError, Global};
-use std::test::Fail;
+use std::alloc::Global;
 
 /// What is done to a graph of points, which go by their slots.
 #[derive(Clone, Copy)]
 enum Act {
     /// Adds a point that isn't there.
     Add(usize),
+    /// Adds a point that isn't there at a height.
+    AddAt(usize, u32),
+    /// Adds so many points, all roots, of which those from 1 to 128 read each the one before.
+    Chain(usize),
     /// Drops a point that isn't needed.
     Drop(usize),
     Root(usize),
@@ -97,6 +100,60 @@ const ROOT_OFF: &[(Act, i64)] = &[
     (Act::Height(1), NONE),
 ];
 
+/// Of two links of the same points one is enough.
+const TWO_LINKS: &[(Act, i64)] = &[
+    (Act::Add(0), DONE),
+    (Act::Add(1), DONE),
+    (Act::Root(0), DONE),
+    (Act::Link(0, 1), DONE),
+    (Act::Link(0, 1), DONE),
+    (Act::Unlink(0), DONE),
+    (Act::State(1), 100),
+    (Act::Unlink(0), DONE),
+    (Act::State(1), 0),
+];
+
+/// A point that is lifted in the heap comes later.
+const LIFTED: &[(Act, i64)] = &[
+    (Act::Add(0), DONE),
+    (Act::Add(1), DONE),
+    (Act::Root(0), DONE),
+    (Act::Root(1), DONE),
+    (Act::Schedule(0), DONE),
+    (Act::Schedule(1), DONE),
+    (Act::Link(0, 1), DONE),
+    (Act::Pop, 1),
+    (Act::Pop, 0),
+    (Act::Pop, NONE),
+];
+
+/// A point that is added above what it reads isn't moved.
+const ADDED_ABOVE: &[(Act, i64)] = &[
+    (Act::Add(0), DONE),
+    (Act::AddAt(1, 7), DONE),
+    (Act::Root(1), DONE),
+    (Act::Link(1, 0), DONE),
+    (Act::Height(1), 7),
+];
+
+/// A chain of 129 points, from 128 down to 0, and one more on top of it.
+const LONG_CHAIN: &[(Act, i64)] = &[
+    (Act::Chain(130), DONE),
+    (Act::Height(128), 128),
+    (Act::Link(129, 128), 130_129_000),
+    (Act::Height(129), 0),
+];
+
+/// Point 129 stands at 128 from a link that went, and is levelled so that 130 may stand on it.
+const LEVELLED: &[(Act, i64)] = &[
+    (Act::Chain(131), DONE),
+    (Act::Link(129, 127), DONE),
+    (Act::Unlink(129), DONE),
+    (Act::Height(129), 128),
+    (Act::Link(130, 129), DONE),
+    (Act::Height(130), 1),
+];
+
 /// A link that would close a cycle is refused with the path, here from point 1 over 2 to 3.
 const CYCLE: &[(Act, i64)] = &[
     (Act::Add(1), DONE),
@@ -107,6 +164,18 @@ const CYCLE: &[(Act, i64)] = &[
     (Act::Link(2, 3), DONE),
     (Act::Link(3, 1), 123),
     (Act::State(3), 100),
+];
+
+const TABLES: &[&[(Act, i64)]] = &[
+    LOWEST_FIRST,
+    NO_LONGER_NEEDED,
+    ROOT_OFF,
+    TWO_LINKS,
+    LIFTED,
+    ADDED_ABOVE,
+    LONG_CHAIN,
+    LEVELLED,
+    CYCLE,
 ];
 
 fn point(slot: usize) -> Point {
@@ -121,6 +190,16 @@ fn slot_of(p: Point) -> i64 {
     i64::try_from(p.node.slot).unwrap_or(i64::MAX)
 }
 
+/// How many points a chain has, its first and its last, three digits each.
+fn ends(chain: &[Point]) -> i64 {
+    let (Some(first), Some(last)) = (chain.first(), chain.last()) else {
+        return NONE;
+    };
+    let count = i64::try_from(chain.len()).unwrap_or(i64::MAX);
+    let front = count.saturating_mul(1_000).saturating_add(slot_of(*first));
+    front.saturating_mul(1_000).saturating_add(slot_of(*last))
+}
+
 /// The points' slots, as the digits of a number.
 fn digits(points: &[Point]) -> i64 {
     let mut number: i64 = 0;
@@ -130,11 +209,11 @@ fn digits(points: &[Point]) -> i64 {
     number
 }
 
-fn add(graph: &mut NecessaryGraph, p: Point) -> i64 {
-    if graph.is_there(p) {
+fn add(graph: &mut NecessaryGraph, p: Point, height: u32) -> i64 {
+    if height > 128 || graph.is_there(p) {
         return NONE;
     }
-    match graph.add(p) {
+    match graph.add(p, height) {
         Ok(()) => DONE,
         Err(_) => NO_MEMORY,
     }
@@ -166,10 +245,11 @@ fn unroot(graph: &mut NecessaryGraph, p: Point) -> i64 {
     NONE
 }
 
-/// The points of a refused link as digits.
+/// The points of a refused path as digits, or the ends of a chain that is too long.
 fn refusal(fault: &LinkFault) -> i64 {
     match fault {
-        LinkFault::Path(points) | LinkFault::Over(points) => digits(points),
+        LinkFault::Path(path) => digits(path),
+        LinkFault::Over(chain) => ends(chain),
         LinkFault::Memory => NO_MEMORY,
     }
 }
@@ -182,6 +262,18 @@ fn link(graph: &mut NecessaryGraph, p: Point, q: Point) -> i64 {
         };
     }
     NONE
+}
+
+fn chain(graph: &mut NecessaryGraph, count: usize) -> i64 {
+    let mut worst = DONE;
+    for slot in 0..count {
+        worst = worst.min(add(graph, point(slot), 0));
+        worst = worst.min(root(graph, point(slot)));
+    }
+    for slot in 1..count.min(129) {
+        worst = worst.min(link(graph, point(slot), point(slot - 1)));
+    }
+    worst
 }
 
 fn unlink_first(graph: &mut NecessaryGraph, p: Point) -> i64 {
@@ -223,7 +315,9 @@ fn state(graph: &NecessaryGraph, p: Point) -> i64 {
 
 fn perform(graph: &mut NecessaryGraph, act: Act) -> i64 {
     match act {
-        Act::Add(p) => add(graph, point(p)),
+        Act::Add(p) => add(graph, point(p), 0),
+        Act::AddAt(p, height) => add(graph, point(p), height),
+        Act::Chain(count) => chain(graph, count),
         Act::Drop(p) => drop_point(graph, point(p)),
         Act::Root(p) => root(graph, point(p)),
         Act::Unroot(p) => unroot(graph, point(p)),
@@ -236,42 +330,39 @@ fn perform(graph: &mut NecessaryGraph, act: Act) -> i64 {
     }
 }
 
-/// The place of the first act that answers another number.
-fn misdone_on(graph: &mut NecessaryGraph, acts: &[(Act, i64)]) -> Option<usize> {
-    for (place, (act, wanted)) in acts.iter().enumerate() {
+/// Whether each act answers its number.
+fn does_all(graph: &mut NecessaryGraph, acts: &[(Act, i64)]) -> bool {
+    for (act, wanted) in acts {
         if perform(graph, *act) != *wanted {
-            return Some(place);
+            return false;
         }
     }
-    None
+    true
 }
 
-/// The place of the first act that answers another number, of those done to a new graph, which is let go in one place.
-fn misdone(alloc: Global, acts: &[(Act, i64)]) -> Result<Option<usize>, AllocError> {
-    let mut graph = NecessaryGraph::new(alloc)?;
-    Ok(misdone_on(&mut graph, acts))
+/// Whether the acts, done to a new graph, answer what is wanted.
+fn is_done(alloc: Global, acts: &[(Act, i64)]) -> bool {
+    match NecessaryGraph::new(alloc) {
+        Ok(mut graph) => {
+            let well = does_all(&mut graph, acts);
+            drop(graph);
+            well
+        }
+        Err(_) => false,
+    }
+}
+
+/// Whether that is so of each table.
+fn are_done(alloc: Global) -> bool {
+    for acts in TABLES {
+        if !is_done(alloc, acts) {
+            return false;
+        }
+    }
+    true
 }
 
 #[test]
-fn the_lowest_comes_first(rt: HostRuntime) -> Result<(), Fail> {
-    assert_eq!(rt; misdone(rt.alloc(), LOWEST_FIRST)?, None);
-    Ok(())
-}
-
-#[test]
-fn what_is_no_longer_needed_loses_all(rt: HostRuntime) -> Result<(), Fail> {
-    assert_eq!(rt; misdone(rt.alloc(), NO_LONGER_NEEDED)?, None);
-    Ok(())
-}
-
-#[test]
-fn a_root_off_leaves_nothing_needed(rt: HostRuntime) -> Result<(), Fail> {
-    assert_eq!(rt; misdone(rt.alloc(), ROOT_OFF)?, None);
-    Ok(())
-}
-
-#[test]
-fn a_cycle_is_refused(rt: HostRuntime) -> Result<(), Fail> {
-    assert_eq!(rt; misdone(rt.alloc(), CYCLE)?, None);
-    Ok(())
+fn needs_come_and_go(rt: HostRuntime) {
+    assert!(rt; are_done(rt.alloc()));
 }

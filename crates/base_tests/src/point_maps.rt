@@ -1,9 +1,8 @@
-//! What no clause says: points of one slot side by side, and each call once.
+//! Points of one slot side by side, in a map that grows.
 
 use inc_value::{NodeId, Part, Point};
 use point_map::PointMap;
-use std::alloc::AllocError;
-use std::test::Fail;
+use std::alloc::Global;
 
 fn point(slot: usize, gen_: u64, part: Part) -> Point {
     Point {
@@ -12,36 +11,15 @@ fn point(slot: usize, gen_: u64, part: Part) -> Point {
     }
 }
 
-/// Inserts a point, if it isn't there.
-fn put(map: &mut PointMap<u32>, p: Point, row: u32) -> Result<(), AllocError> {
-    map.reserve(1)?;
+/// Inserts a point, if it isn't there, and tells whether there was memory.
+fn put(map: &mut PointMap<u32>, p: Point, row: u32) -> bool {
+    if map.reserve(1).is_err() {
+        return false;
+    }
     if !map.holds(p) {
         map.insert(p, row);
     }
-    Ok(())
-}
-
-/// Takes a point off, if it is there.
-fn take(map: &mut PointMap<u32>, p: Point) -> Option<u32> {
-    if map.holds(p) {
-        return Some(map.remove(p));
-    }
-    None
-}
-
-/// Writes another row of a point, if it is there.
-fn write(map: &mut PointMap<u32>, p: Point, row: u32) {
-    if let Some(there) = map.get_mut(p) {
-        *there = row;
-    }
-}
-
-/// Puts another row in place of that of a point, if it is there.
-fn replace(map: &mut PointMap<u32>, p: Point, row: u32) -> Option<u32> {
-    if map.holds(p) {
-        return Some(map.replace(p, row));
-    }
-    None
+    true
 }
 
 /// The row of a point.
@@ -49,52 +27,50 @@ fn row(map: &PointMap<u32>, p: Point) -> Option<u32> {
     map.get(p).copied()
 }
 
-/// Whether the point stands at some place.
-fn is_walked(map: &PointMap<u32>, p: Point) -> bool {
-    (0..map.places()).any(|i| map.point_at(i) == Some(p))
-}
+/// Slots far apart by a power of two, and one beside.
+const FAR_APART: &[usize] = &[0, 1024, 2048, 3072, 4096, 5120, 1];
 
-#[test]
-fn points_of_one_slot(rt: HostRuntime) -> Result<(), Fail> {
-    let mut map = PointMap::new(rt.alloc());
-    map.reserve(4)?;
-    let points = [
-        point(1, 4, Part::Main),
-        point(1, 4, Part::Change),
-        point(1, 9, Part::Main),
-        point(2, 4, Part::Main),
-    ];
-    for (i, p) in points.into_iter().enumerate() {
-        put(&mut map, p, i as u32)?;
-    }
-    write(&mut map, points[1], 21);
-    assert_eq!(rt; take(&mut map, points[2]), Some(2));
-    assert_eq!(rt; replace(&mut map, points[3], 23), Some(3));
-    for (p, want) in points.into_iter().zip([Some(0), Some(21), None, Some(23)]) {
-        assert_eq!(rt; row(&map, p), want);
-        assert_eq!(rt; is_walked(&map, p), want.is_some());
-    }
-    Ok(())
-}
-
-// Slots far apart by a power of two, with room made for one at a time.
-#[test]
-fn grown_by_ones(rt: HostRuntime) -> Result<(), Fail> {
-    let mut map = PointMap::new(rt.alloc());
-    let slots = [0, 1024, 2048, 3072, 4096, 5120, 1];
+/// Puts three points of each slot in, and tells whether there was memory.
+fn put_points(map: &mut PointMap<u32>, slots: &[usize]) -> bool {
     for slot in slots {
-        put(&mut map, point(slot, 3, Part::Main), 5)?;
-        put(&mut map, point(slot, 8, Part::Main), 7)?;
-    }
-    for slot in slots {
-        for (gen_, part, want) in [
-            (3, Part::Main, Some(5)),
-            (8, Part::Main, Some(7)),
-            (3, Part::Change, None),
-        ] {
-            assert_eq!(rt; row(&map, point(slot, gen_, part)), want);
+        if !(put(map, point(*slot, 3, Part::Main), 5)
+            && put(map, point(*slot, 8, Part::Main), 7)
+            && put(map, point(*slot, 8, Part::Change), 9))
+        {
+            return false;
         }
     }
-    assert_eq!(rt; map.len(), 14);
-    Ok(())
+    true
+}
+
+/// Whether the three points of each slot are there, and no fourth.
+fn has_points(map: &PointMap<u32>, slots: &[usize]) -> bool {
+    for slot in slots {
+        if row(map, point(*slot, 3, Part::Main)) != Some(5)
+            || row(map, point(*slot, 8, Part::Main)) != Some(7)
+            || row(map, point(*slot, 8, Part::Change)) != Some(9)
+            || row(map, point(*slot, 3, Part::Change)).is_some()
+        {
+            return false;
+        }
+    }
+    true
+}
+
+/// Whether points come in with room made for one at a time.
+fn grows(map: &mut PointMap<u32>) -> bool {
+    put_points(map, FAR_APART) && has_points(map, FAR_APART) && map.len() == 21
+}
+
+/// The same of one of its own.
+fn points_are_told_apart_well(alloc: Global) -> bool {
+    let mut map = PointMap::new(alloc);
+    let well = grows(&mut map);
+    drop(map);
+    well
+}
+
+#[test]
+fn points_are_told_apart(rt: HostRuntime) {
+    assert!(rt; points_are_told_apart_well(rt.alloc()));
 }

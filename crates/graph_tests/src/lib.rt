@@ -3,6 +3,4 @@
 #![tactic(auto)]
 
 #[cfg(test)]
-mod never;
-#[cfg(test)]
 mod tests;

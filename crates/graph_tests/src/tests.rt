@@ -1,70 +1,23 @@
 //! Acts on a graph as tables, with the number that each answers.
-ghost use Rattle.std.specs.Prelude.{IsTrue};
-ghost use Rattle.node_arena.specs.Arithmetic.{is_function};
 
+use formula_elab::ScriptFns;
 use graph::{Cutoff, Graph, GraphFault, Kept, Refused, StabilizeFault};
-use inc_value::{FnId, FnKind, FnRef, NodeId, ObsId, Outcome, Sig, Ty, Value};
-use node_arena::Functions;
-use std::alloc::{AllocError, Global};
-use std::test::Fail;
+use inc_value::{NodeId, ObsId, Outcome, Value};
+use std::alloc::Global;
+use std_library::{Function, StdLib};
 
-/// `add` and `neg` of integers, wrapping at 64 bits.
-#[derive(Drop)]
-struct Arithmetic {
-    calls: u64,
-}
-
-impl Functions for Arithmetic {
-    ghost use Rattle.std.specs.Prelude.{None};
-    ghost use Rattle.node_arena.specs.Arithmetic.{is_function, value_of};
-    ghost use Rattle.node_arena.specs.ArithmeticLaws.{known_is_map, value_is_base, value_is_given, value_is_proper};
-
-    ghost named = { λ _ _. None };
-
-    ghost known = { λ _ f. is_function f };
-
-    ghost value = { λ _ f args. value_of f args };
-
-    ghost calls = { λ l. l.calls };
-
-    ghost wants = { λ _. 0 };
-
-    fn knows(&self, f: FnRef) -> bool {
-        let takes = f.sig.takes();
-        f.id.kind == FnKind::Map
-            && f.sig.gives() == Ty::Int
-            && matches!(
-                (f.id.number, takes),
-                (1, [Ty::Int, Ty::Int]) | (6, [Ty::Int])
-            )
-    }
-
-    fn apply(&mut self, _alloc: Global, f: FnRef, args: &[Value]) -> Result<Value, AllocError> {
-        self.calls = self.calls.saturating_add(1);
-        let number = match (f.id.number, args) {
-            (1, [Value::Int(a), Value::Int(b)]) => a.wrapping_add(*b),
-            (_, [Value::Int(a)]) => a.wrapping_neg(),
-            _ => unreachable!(),
-        };
-        Ok(Value::Int(number))
-    }
-
-    ghost known_maps = { λ _ f known kind. known_is_map f known };
-
-    ghost typed = { λ _ f args known kind proper fit. value_is_given f args known };
-
-    ghost proper = { λ _ f args known kind proper fit. value_is_proper f args proper };
-
-    ghost no_reference = { λ _ f args known kind. value_is_base f args };
-}
+/// A graph over the standard library.
+type Scripted = Graph<ScriptFns<StdLib>>;
 
 /// What is done to a graph. Nodes and observers go by the order in which they were made.
 #[derive(Clone, Copy)]
 enum Act {
     Constant(i64),
     Var(i64),
-    Neg(usize),
-    Sum(usize, usize),
+    /// Makes a variable with so many negations over it, and observes the last one.
+    Chain(usize),
+    /// Makes a map of as many of three nodes as its function takes.
+    Map(Function, usize, usize, usize),
     /// Makes the fold by sums from a number on over three nodes.
     Fold(i64, usize, usize, usize),
     /// Makes the fold from a number on over no nodes.
@@ -88,6 +41,8 @@ enum Act {
     Owner(usize),
     /// How often a node's function was called in the last accepted stabilize.
     Ran(usize),
+    /// Whether a node's function was the first that was called in it.
+    First(usize),
     /// How many functions were called since the graph was made.
     Calls,
     /// How many points a refused stabilize met.
@@ -97,9 +52,9 @@ enum Act {
 /// A diamond, whose nodes are run once each.
 const DIAMOND: &[(Act, i64)] = &[
     (Act::Var(2), 0),
-    (Act::Neg(0), 0),
-    (Act::Neg(0), 0),
-    (Act::Sum(1, 2), 0),
+    (Act::Map(Function::Neg, 0, 0, 0), 0),
+    (Act::Map(Function::Neg, 0, 0, 0), 0),
+    (Act::Map(Function::Add, 1, 2, 0), 0),
     (Act::Observe(3), 0),
     (Act::Show(0), -105),
     (Act::Stabilize, 3),
@@ -122,7 +77,7 @@ const DIAMOND: &[(Act, i64)] = &[
 /// What is not observed is not run.
 const UNOBSERVED: &[(Act, i64)] = &[
     (Act::Var(3), 0),
-    (Act::Neg(0), 0),
+    (Act::Map(Function::Neg, 0, 0, 0), 0),
     (Act::Observe(1), 0),
     (Act::Stabilize, 1),
     (Act::Unobserve(0), 0),
@@ -139,7 +94,7 @@ const UNOBSERVED: &[(Act, i64)] = &[
 /// What is taken back is dead.
 const TAKEN_BACK: &[(Act, i64)] = &[
     (Act::Var(2), 0),
-    (Act::Neg(0), 0),
+    (Act::Map(Function::Neg, 0, 0, 0), 0),
     (Act::TakeBack(1), 0),
     (Act::Live(0), 1),
     (Act::Live(1), 1),
@@ -203,8 +158,8 @@ const FOLD_OVER_DEAD: &[(Act, i64)] = &[
 const NEVER: &[(Act, i64)] = &[
     (Act::Var(3), 0),
     (Act::Var(5), 0),
-    (Act::Sum(0, 1), 0),
-    (Act::Neg(2), 0),
+    (Act::Map(Function::Add, 0, 1, 0), 0),
+    (Act::Map(Function::Neg, 2, 0, 0), 0),
     (Act::Observe(3), 0),
     (Act::Stabilize, 2),
     (Act::Never(2), 0),
@@ -230,7 +185,7 @@ const NEVER_OF_A_VARIABLE: &[(Act, i64)] = &[
     (Act::Var(1), 0),
     (Act::Var(2), 0),
     (Act::Fold(10, 0, 1, 0), 0),
-    (Act::Neg(2), 0),
+    (Act::Map(Function::Neg, 2, 0, 0), 0),
     (Act::Observe(3), 0),
     (Act::Never(1), 0),
     (Act::Stabilize, 2),
@@ -250,15 +205,35 @@ const DEAD_CUTOFF: &[(Act, i64)] = &[
     (Act::Var(1), 0),
     (Act::TakeBack(0), 0),
     (Act::Never(1), 0),
-    (Act::Neg(1), 0),
+    (Act::Map(Function::Neg, 1, 0, 0), 0),
     (Act::Observe(3), 0),
     (Act::Stabilize, 0),
     (Act::Show(0), -109),
     (Act::Calls, 0),
 ];
 
+/// A comparison that gives the same tells the choice behind it of that, with cutoff Never.
+const NEVER_UNDER_A_CHOICE: &[(Act, i64)] = &[
+    (Act::Var(3), 0),
+    (Act::Constant(0), 0),
+    (Act::Constant(1), 0),
+    (Act::Constant(2), 0),
+    (Act::Map(Function::Lt, 1, 0, 0), 0),
+    (Act::Map(Function::Pick, 4, 2, 3), 0),
+    (Act::Observe(5), 0),
+    (Act::Stabilize, 2),
+    (Act::Never(4), 0),
+    (Act::Set(0, 5), 0),
+    (Act::Stabilize, 2),
+    (Act::Calls, 4),
+    (Act::First(4), 1),
+    (Act::Ran(5), 1),
+    (Act::Show(0), 1),
+];
+
 /// What a chain of 128 negations over a variable answers, observed.
 const CHAIN_THAT_FITS: &[(Act, i64)] = &[
+    (Act::Chain(128), 0),
     (Act::StabilizeOrBack, 128),
     (Act::Show(0), 1),
     (Act::Observe(0), 0),
@@ -266,7 +241,7 @@ const CHAIN_THAT_FITS: &[(Act, i64)] = &[
     (Act::Set(0, 2), 0),
     (Act::Constant(1), 0),
     (Act::Var(1), 0),
-    (Act::Neg(0), 0),
+    (Act::Map(Function::Neg, 0, 0, 0), 0),
     (Act::TakeBack(0), 0),
     (Act::Live(0), 1),
     (Act::Stabilize, 0),
@@ -276,6 +251,7 @@ const CHAIN_THAT_FITS: &[(Act, i64)] = &[
 
 /// What a chain of 129 negations over a variable answers, observed.
 const CHAIN_THAT_BREAKS: &[(Act, i64)] = &[
+    (Act::Chain(129), 0),
     (Act::StabilizeOrBack, -112),
     (Act::Show(0), -101),
     (Act::Observe(0), -101),
@@ -283,7 +259,7 @@ const CHAIN_THAT_BREAKS: &[(Act, i64)] = &[
     (Act::Set(0, 2), -101),
     (Act::Constant(1), -101),
     (Act::Var(1), -101),
-    (Act::Neg(0), -101),
+    (Act::Map(Function::Neg, 0, 0, 0), -101),
     (Act::TakeBack(0), -101),
     (Act::Live(0), -101),
     (Act::Stabilize, -101),
@@ -291,31 +267,20 @@ const CHAIN_THAT_BREAKS: &[(Act, i64)] = &[
     (Act::Points, 130),
 ];
 
-/// The sum of two integers.
-fn sum() -> FnRef
-    ensures { IsTrue (is_function result) }
-{
-    FnRef {
-        id: FnId {
-            kind: FnKind::Map,
-            number: 1,
-        },
-        sig: Sig::new(&[Ty::Int, Ty::Int], Ty::Int),
-    }
-}
-
-/// The negation of an integer.
-fn negation() -> FnRef
-    ensures { IsTrue (is_function result) }
-{
-    FnRef {
-        id: FnId {
-            kind: FnKind::Map,
-            number: 6,
-        },
-        sig: Sig::new(&[Ty::Int], Ty::Int),
-    }
-}
+const TABLES: &[&[(Act, i64)]] = &[
+    DIAMOND,
+    UNOBSERVED,
+    TAKEN_BACK,
+    FOLD,
+    EMPTY_FOLD,
+    FOLD_OVER_DEAD,
+    NEVER,
+    NEVER_OF_A_VARIABLE,
+    NEVER_UNDER_A_CHOICE,
+    DEAD_CUTOFF,
+    CHAIN_THAT_FITS,
+    CHAIN_THAT_BREAKS,
+];
 
 /// A number for each fault.
 fn code(fault: GraphFault) -> i64 {
@@ -360,7 +325,7 @@ fn told(answer: Result<(), GraphFault>) -> i64 {
 }
 
 /// The number that is shown, or the fault's. Invalid has a number of its own.
-fn shown(graph: &Graph<Arithmetic>, observer: u32) -> i64 {
+fn shown(graph: &Scripted, observer: u32) -> i64 {
     match graph.value(ObsId(observer)) {
         Ok(Outcome::Val(Value::Int(number))) => *number,
         Ok(_) => -109,
@@ -378,7 +343,7 @@ fn refusal(fault: StabilizeFault) -> i64 {
 }
 
 /// How many functions were called, or why none was.
-fn stabilized(graph: &mut Graph<Arithmetic>) -> i64 {
+fn stabilized(graph: &mut Scripted) -> i64 {
     match graph.stabilize() {
         Ok(()) => graph.round().ran.len() as i64,
         Err(fault) => refusal(fault),
@@ -386,7 +351,7 @@ fn stabilized(graph: &mut Graph<Arithmetic>) -> i64 {
 }
 
 /// As `stabilized`. Where a stabilize is refused, `back_to` is refused too.
-fn stabilized_or_back(graph: &mut Graph<Arithmetic>) -> i64 {
+fn stabilized_or_back(graph: &mut Scripted) -> i64 {
     let mark = match graph.mark() {
         Ok(mark) => mark,
         Err(fault) => return code(fault),
@@ -401,14 +366,14 @@ fn stabilized_or_back(graph: &mut Graph<Arithmetic>) -> i64 {
 }
 
 /// Makes the negation of a node and the negation of that, and takes both back. Their ids are kept.
-fn taken_back(graph: &mut Graph<Arithmetic>, nodes: &mut Vec<NodeId>, kid: NodeId) -> i64 {
+fn taken_back(graph: &mut Scripted, nodes: &mut Vec<NodeId>, kid: NodeId) -> i64 {
     let mark = match graph.mark() {
         Ok(mark) => mark,
         Err(fault) => return code(fault),
     };
-    let first = made(nodes, graph.map(negation(), &[kid]));
+    let first = made(nodes, graph.map(Function::Neg.reference(), &[kid]));
     let made_now = nth(nodes, nodes.len().saturating_sub(1));
-    let second = made(nodes, graph.map(negation(), &[made_now]));
+    let second = made(nodes, graph.map(Function::Neg.reference(), &[made_now]));
     match graph.back_to(mark) {
         Ok(()) => first.min(second),
         Err(fault) => code(fault),
@@ -416,7 +381,7 @@ fn taken_back(graph: &mut Graph<Arithmetic>, nodes: &mut Vec<NodeId>, kid: NodeI
 }
 
 /// 1 where the node is live, else 0, or the fault's number.
-fn live(graph: &Graph<Arithmetic>, node: NodeId) -> i64 {
+fn live(graph: &Scripted, node: NodeId) -> i64 {
     match graph.is_live(node) {
         Ok(true) => 1,
         Ok(false) => 0,
@@ -425,7 +390,7 @@ fn live(graph: &Graph<Arithmetic>, node: NodeId) -> i64 {
 }
 
 /// 1 where the node is its own owner, else 0.
-fn owned(graph: &Graph<Arithmetic>, node: NodeId) -> i64 {
+fn owned(graph: &Scripted, node: NodeId) -> i64 {
     match graph.owner(node) {
         Some(owner) if owner == node => 1,
         _ => 0,
@@ -433,7 +398,7 @@ fn owned(graph: &Graph<Arithmetic>, node: NodeId) -> i64 {
 }
 
 /// How often a node's function was called in the last accepted stabilize.
-fn times_run(graph: &Graph<Arithmetic>, node: NodeId) -> i64 {
+fn times_run(graph: &Scripted, node: NodeId) -> i64 {
     let mut times: i64 = 0;
     for ran in graph.round().ran {
         if *ran == node {
@@ -443,16 +408,24 @@ fn times_run(graph: &Graph<Arithmetic>, node: NodeId) -> i64 {
     times
 }
 
+/// 1 where the node's function was the first that was called in the last accepted stabilize, else 0.
+fn ran_first(graph: &Scripted, node: NodeId) -> i64 {
+    match graph.round().ran.first() {
+        Some(first) if *first == node => 1,
+        _ => 0,
+    }
+}
+
 /// How many functions were called since the graph was made.
-fn called(graph: &Graph<Arithmetic>) -> i64 {
-    match i64::try_from(graph.functions().calls) {
+fn called(graph: &Scripted) -> i64 {
+    match i64::try_from(graph.functions().library().calls()) {
         Ok(calls) => calls,
         Err(_) => -114,
     }
 }
 
 /// How many points a refused stabilize met in a row; 0 of an unbroken graph.
-fn points(graph: &Graph<Arithmetic>) -> i64 {
+fn points(graph: &Scripted) -> i64 {
     match graph.broken() {
         Some(Refused::Height(points)) => points.len() as i64,
         Some(_) => -110,
@@ -460,30 +433,76 @@ fn points(graph: &Graph<Arithmetic>) -> i64 {
     }
 }
 
-fn observed(graph: &mut Graph<Arithmetic>, node: NodeId) -> i64 {
+fn observed(graph: &mut Scripted, node: NodeId) -> i64 {
     match graph.observe(node) {
         Ok(_) => 0,
         Err(fault) => code(fault),
     }
 }
 
-fn perform(graph: &mut Graph<Arithmetic>, nodes: &mut Vec<NodeId>, act: Act) -> i64 {
+fn var(graph: &mut Scripted, nodes: &mut Vec<NodeId>, value: i64) -> i64 {
+    made(nodes, graph.var(Value::Int(value)))
+}
+
+/// Makes a map of as many of the nodes as its function takes.
+fn map(graph: &mut Scripted, nodes: &mut Vec<NodeId>, function: Function, kids: &[NodeId]) -> i64 {
+    let f = function.reference();
+    let count = f.sig.takes().len().min(kids.len());
+    made(nodes, graph.map(f, &kids[..count]))
+}
+
+/// Makes the fold by sums from a number on over the nodes.
+fn fold(graph: &mut Scripted, nodes: &mut Vec<NodeId>, initial: i64, kids: &[NodeId]) -> i64 {
+    let add = Function::Add.reference();
+    made(nodes, graph.fold(add, Value::Int(initial), kids))
+}
+
+/// Makes a variable with so many negations over it, and observes the last one.
+fn chain(graph: &mut Scripted, nodes: &mut Vec<NodeId>, length: usize) -> i64 {
+    let mut worst = var(graph, nodes, 1);
+    for below in 0..length {
+        let kid = nth(nodes, below);
+        worst = worst.min(map(graph, nodes, Function::Neg, &[kid]));
+    }
+    worst.min(observed(graph, nth(nodes, length)))
+}
+
+/// Does an act that makes nodes.
+fn make(graph: &mut Scripted, nodes: &mut Vec<NodeId>, act: Act) -> i64 {
     match act {
         Act::Constant(value) => made(nodes, graph.constant(Value::Int(value))),
-        Act::Var(value) => made(nodes, graph.var(Value::Int(value))),
-        Act::Neg(kid) => {
-            let kid = nth(nodes, kid);
-            made(nodes, graph.map(negation(), &[kid]))
-        }
-        Act::Sum(left, right) => {
-            let kids = [nth(nodes, left), nth(nodes, right)];
-            made(nodes, graph.map(sum(), &kids))
+        Act::Var(value) => var(graph, nodes, value),
+        Act::Chain(length) => chain(graph, nodes, length),
+        Act::Map(function, first, second, third) => {
+            let kids = [nth(nodes, first), nth(nodes, second), nth(nodes, third)];
+            map(graph, nodes, function, &kids)
         }
         Act::Fold(initial, first, second, third) => {
             let kids = [nth(nodes, first), nth(nodes, second), nth(nodes, third)];
-            made(nodes, graph.fold(sum(), Value::Int(initial), &kids))
+            fold(graph, nodes, initial, &kids)
         }
-        Act::FoldNone(initial) => made(nodes, graph.fold(sum(), Value::Int(initial), &[])),
+        Act::FoldNone(initial) => fold(graph, nodes, initial, &[]),
+        Act::TakeBack(kid) => taken_back(graph, nodes, nth(nodes, kid)),
+        _ => -113,
+    }
+}
+
+/// Does an act that only looks.
+fn look(graph: &Scripted, nodes: &[NodeId], act: Act) -> i64 {
+    match act {
+        Act::Show(observer) => shown(graph, observer),
+        Act::Live(i) => live(graph, nth(nodes, i)),
+        Act::Owner(i) => owned(graph, nth(nodes, i)),
+        Act::Ran(i) => times_run(graph, nth(nodes, i)),
+        Act::First(i) => ran_first(graph, nth(nodes, i)),
+        Act::Calls => called(graph),
+        Act::Points => points(graph),
+        _ => -113,
+    }
+}
+
+fn perform(graph: &mut Scripted, nodes: &mut Vec<NodeId>, act: Act) -> i64 {
+    match act {
         Act::Set(i, value) => told(graph.set_var(nth(nodes, i), Value::Int(value))),
         Act::Equal(i) => told(graph.set_cutoff(nth(nodes, i), Cutoff::Equal)),
         Act::Never(i) => told(graph.set_cutoff(nth(nodes, i), Cutoff::Never)),
@@ -491,113 +510,50 @@ fn perform(graph: &mut Graph<Arithmetic>, nodes: &mut Vec<NodeId>, act: Act) -> 
         Act::Unobserve(observer) => told(graph.unobserve(ObsId(observer))),
         Act::Stabilize => stabilized(graph),
         Act::StabilizeOrBack => stabilized_or_back(graph),
-        Act::Show(observer) => shown(graph, observer),
-        Act::TakeBack(kid) => taken_back(graph, nodes, nth(nodes, kid)),
-        Act::Live(i) => live(graph, nth(nodes, i)),
-        Act::Owner(i) => owned(graph, nth(nodes, i)),
-        Act::Ran(i) => times_run(graph, nth(nodes, i)),
-        Act::Calls => called(graph),
-        Act::Points => points(graph),
+        Act::Show(_) | Act::Live(_) | Act::Owner(_) | Act::Ran(_) | Act::First(_) => {
+            look(graph, nodes, act)
+        }
+        Act::Calls | Act::Points => look(graph, nodes, act),
+        _ => make(graph, nodes, act),
     }
 }
 
-/// The place of the first act that answers another number.
-fn misdone_on(
-    graph: &mut Graph<Arithmetic>,
-    nodes: &mut Vec<NodeId>,
-    acts: &[(Act, i64)],
-) -> Option<usize> {
-    for (place, (act, wanted)) in acts.iter().enumerate() {
+/// Whether each act answers its number.
+fn does_all(graph: &mut Scripted, nodes: &mut Vec<NodeId>, acts: &[(Act, i64)]) -> bool {
+    for (act, wanted) in acts {
         if perform(graph, nodes, *act) != *wanted {
-            return Some(place);
+            return false;
         }
     }
-    None
+    true
 }
 
-/// The place of the first act that answers another number, of those done to a new graph. The graph is let
-/// go in one place, since each place where it may be costs a proof.
-fn misdone(alloc: Global, acts: &[(Act, i64)]) -> Result<Option<usize>, AllocError> {
-    let mut graph = match Graph::new(alloc, Arithmetic { calls: 0 }) {
-        Ok(graph) => graph,
-        Err((fault, _functions)) => return Err(fault),
-    };
-    let mut nodes = Vec::new(alloc);
-    Ok(misdone_on(&mut graph, &mut nodes, acts))
-}
-
-/// Acts that make a variable with so many negations over it and observe the last one, and what follows.
-fn chain(alloc: Global, length: usize, then: &[(Act, i64)]) -> Result<Vec<(Act, i64)>, AllocError> {
-    let mut acts = Vec::new(alloc);
-    acts.push((Act::Var(1), 0))?;
-    for below in 0..length {
-        acts.push((Act::Neg(below), 0))?;
+/// Whether the acts, done to a new graph, answer what is wanted. The graph is let go in one place, since each place where
+/// it may be costs a proof.
+fn is_done(alloc: Global, acts: &[(Act, i64)]) -> bool {
+    match Graph::new(alloc, ScriptFns::new(StdLib::new())) {
+        Ok(mut graph) => {
+            let mut nodes = Vec::new(alloc);
+            let well = does_all(&mut graph, &mut nodes, acts);
+            drop(nodes);
+            drop(graph);
+            well
+        }
+        Err(_) => false,
     }
-    acts.push((Act::Observe(length), 0))?;
-    acts.extend_from_slice(then)?;
-    Ok(acts)
+}
+
+/// Whether that is so of each table.
+fn are_done(alloc: Global) -> bool {
+    for acts in TABLES {
+        if !is_done(alloc, acts) {
+            return false;
+        }
+    }
+    true
 }
 
 #[test]
-fn a_diamond_is_run_once_a_node(rt: HostRuntime) -> Result<(), Fail> {
-    assert_eq!(rt; misdone(rt.alloc(), DIAMOND)?, None);
-    Ok(())
-}
-
-#[test]
-fn what_is_not_observed_is_not_run(rt: HostRuntime) -> Result<(), Fail> {
-    assert_eq!(rt; misdone(rt.alloc(), UNOBSERVED)?, None);
-    Ok(())
-}
-
-#[test]
-fn what_is_taken_back_is_dead(rt: HostRuntime) -> Result<(), Fail> {
-    assert_eq!(rt; misdone(rt.alloc(), TAKEN_BACK)?, None);
-    Ok(())
-}
-
-#[test]
-fn a_fold_is_called_once_a_child(rt: HostRuntime) -> Result<(), Fail> {
-    assert_eq!(rt; misdone(rt.alloc(), FOLD)?, None);
-    Ok(())
-}
-
-#[test]
-fn a_fold_without_children_calls_nothing(rt: HostRuntime) -> Result<(), Fail> {
-    assert_eq!(rt; misdone(rt.alloc(), EMPTY_FOLD)?, None);
-    Ok(())
-}
-
-#[test]
-fn a_fold_over_a_dead_node_is_invalid(rt: HostRuntime) -> Result<(), Fail> {
-    assert_eq!(rt; misdone(rt.alloc(), FOLD_OVER_DEAD)?, None);
-    Ok(())
-}
-
-#[test]
-fn a_cutoff_of_never_stops_nothing(rt: HostRuntime) -> Result<(), Fail> {
-    assert_eq!(rt; misdone(rt.alloc(), NEVER)?, None);
-    Ok(())
-}
-
-#[test]
-fn a_variable_of_cutoff_never_is_told_of_the_same_value(rt: HostRuntime) -> Result<(), Fail> {
-    assert_eq!(rt; misdone(rt.alloc(), NEVER_OF_A_VARIABLE)?, None);
-    Ok(())
-}
-
-#[test]
-fn a_dead_node_has_no_cutoff(rt: HostRuntime) -> Result<(), Fail> {
-    assert_eq!(rt; misdone(rt.alloc(), DEAD_CUTOFF)?, None);
-    Ok(())
-}
-
-#[test]
-fn a_chain_of_130_breaks_the_graph(rt: HostRuntime) -> Result<(), Fail> {
-    let alloc = rt.alloc();
-    let fits = chain(alloc, 128, CHAIN_THAT_FITS)?;
-    assert_eq!(rt; misdone(alloc, &fits)?, None);
-    let breaks = chain(alloc, 129, CHAIN_THAT_BREAKS)?;
-    assert_eq!(rt; misdone(alloc, &breaks)?, None);
-    Ok(())
+fn acts_answer_their_numbers(rt: HostRuntime) {
+    assert!(rt; are_done(rt.alloc()));
 }

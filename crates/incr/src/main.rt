@@ -4,8 +4,6 @@
 
 mod drive;
 mod plain;
-#[cfg(test)]
-mod tests;
 mod top;
 
 use script_io::{StdSink, StdSource, words};

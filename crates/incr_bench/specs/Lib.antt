@@ -1,3 +1,2 @@
 pub mod Chance
 pub mod Jobs
-pub mod Status

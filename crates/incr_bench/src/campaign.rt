@@ -1,26 +1,16 @@
 //! A graph by chance, compared with plain evaluation after each stabilize.
-ghost use Rattle.std.specs.Prelude.{◌≡◌, ◌+◌, ◌-◌, ◌^◌, min, IfOk, map};
-ghost use Rattle.plain_evaluation.specs.Plain.{at};
-
 use crate::clock::{begin, since};
-use crate::fault::Fault;
 use crate::generator::Generator;
 use crate::lists::append;
 use crate::live::Live;
-use plain_evaluation::{Definition, agree, at, evaluate};
-use std::alloc::{AllocError, Global};
+use bench_engine::Fault;
+use plain_evaluation::{Definition, Watch, counted, evaluate, meant};
+use std::alloc::Global;
 use std::time::Clock;
-
-/// An observer in use, with the node that it looks at.
-#[derive(Clone, Copy, Debug)]
-struct Watch {
-    node: usize,
-    observer: usize,
-}
 
 /// How long a campaign took in nanoseconds, how many functions were called, the last value, how many stabilizes were
 /// accepted, how often what an observer shows was compared, and after how many stabilizes one showed another value.
-#[derive(Clone, Copy, Debug)]
+#[derive(Clone, Copy)]
 pub struct Tally {
     pub running: u64,
     pub calls: u64,
@@ -68,17 +58,6 @@ fn small(generator: &mut Generator) -> i64 {
     generator.below(7) as i64 - 3
 }
 
-/// What the watched nodes are worth, in the order of the observers.
-fn meant(alloc: Global, values: &[i64], watched: &[Watch]) -> Result<Vec<i64>, AllocError>
-    ensures { IfOk result (λ all. all.items ≡ map (λ w. at values.now w.node) watched.now) }
-{
-    let mut all = Vec::new(alloc);
-    for watch in watched {
-        all.push(at(values, watch.node))?;
-    }
-    Ok(all)
-}
-
 /// What the observers show, in order.
 fn shown(alloc: Global, live: &Live, watched: &[Watch]) -> Result<Vec<i64>, Fault> {
     let mut all = Vec::new(alloc);
@@ -87,18 +66,6 @@ fn shown(alloc: Global, live: &Live, watched: &[Watch]) -> Result<Vec<i64>, Faul
         append(&mut all, number)?;
     }
     Ok(all)
-}
-
-/// How many comparisons disagreed, with this one. The count stays at its last value.
-fn counted(disagreements: u64, meant: &[i64], shown: &[i64]) -> u64
-    ensures alike { meant.now ≡ shown.now → result ≡ disagreements }
-    ensures other { (meant.now ≡ shown.now → ⊥) → result ≡ min (disagreements + 1) (2 ^ 64 - 1) }
-{
-    if agree(meant, shown) {
-        disagreements
-    } else {
-        disagreements.saturating_add(1)
-    }
 }
 
 impl Campaign {
@@ -117,9 +84,19 @@ impl Campaign {
             comparisons: 0,
             disagreements: 0,
         };
-        campaign.fill(live, size)?;
-        campaign.watch_some(live, size / 8 + 1)?;
-        Ok(campaign)
+        match campaign.fill_and_watch(live, size) {
+            Ok(()) => Ok(campaign),
+            Err(fault) => {
+                drop(campaign);
+                Err(fault)
+            }
+        }
+    }
+
+    /// Makes the nodes, and observes some of them.
+    fn fill_and_watch(&mut self, live: &mut Live, size: usize) -> Result<(), Fault> {
+        self.fill(live, size)?;
+        self.watch_some(live, size / 8 + 1)
     }
 
     /// Makes a node, beside its definition.
@@ -223,9 +200,14 @@ impl Campaign {
     fn compare(&mut self, live: &Live) -> Result<(), Fault> {
         let values = evaluate(self.alloc, &self.definitions)?;
         let meant = meant(self.alloc, &values, &self.watched)?;
+        self.compare_with(live, &meant)
+    }
+
+    /// Compares what is shown with what is meant.
+    fn compare_with(&mut self, live: &Live, meant: &[i64]) -> Result<(), Fault> {
         let shown = shown(self.alloc, live, &self.watched)?;
         self.comparisons = self.comparisons.saturating_add(meant.len() as u64);
-        self.disagreements = counted(self.disagreements, &meant, &shown);
+        self.disagreements = counted(self.disagreements, meant, &shown);
         Ok(())
     }
 

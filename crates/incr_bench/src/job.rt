@@ -6,7 +6,7 @@ use script_io::Word;
 use std::convert::AsStr;
 
 /// What is measured.
-#[derive(Clone, Copy, Debug, PartialEq, Eq)]
+#[derive(Clone, Copy)]
 pub enum Shape {
     /// One variable under a chain of negations, of which the last is observed.
     Chain,
@@ -37,7 +37,7 @@ pub enum Shape {
 }
 
 /// What the words ask for.
-#[derive(Clone, Copy, Debug)]
+#[derive(Clone, Copy)]
 pub struct Job {
     pub shape: Shape,
     pub size: usize,

@@ -1,9 +1,8 @@
 //! A graph with the nodes and observers that were made.
 ghost use Rattle.std.specs.Prelude.{◌≡◌, ◌≤◌, length};
 
-use crate::engine::Engine;
-use crate::fault::Fault;
 use crate::lists::append;
+use bench_engine::{Engine, Fault};
 use inc_value::{NodeId, ObsId};
 use plain_evaluation::Definition;
 use std::alloc::Global;

@@ -2,11 +2,8 @@
 //! tells how many functions were called and how long it took.
 #![tactic(auto)]
 
-mod adapter;
 mod campaign;
 mod clock;
-mod engine;
-mod fault;
 mod generator;
 mod job;
 mod lists;
@@ -16,9 +13,9 @@ mod perform;
 mod report;
 mod shapes;
 
-use crate::fault::Fault;
 use crate::job::asked;
 use crate::perform::perform;
+use bench_engine::Fault;
 use script_io::{StdSink, tell_usage, words};
 use std::alloc::AllocError;
 use std::process::ExitCode;

@@ -1,15 +1,15 @@
 //! Observers that are made and ended.
 
 use crate::clock::{begin, since};
-use crate::fault::Fault;
 use crate::generator::Generator;
 use crate::live::Live;
 use crate::shapes::{change, observe_all, star};
+use bench_engine::Fault;
 use std::alloc::{AllocError, Global};
 use std::time::Clock;
 
 /// What was measured, in nanoseconds, and how many functions were called at the first stabilize and after the end.
-#[derive(Clone, Copy, Debug)]
+#[derive(Clone, Copy)]
 pub struct Ends {
     pub building: u64,
     pub observing: u64,

@@ -1,15 +1,15 @@
 //! Runs that are timed.
 ghost use Rattle.incr_bench.specs.Jobs.{IsWithin};
-ghost use Rattle.incr_bench.specs.Status.{IsRunStatus};
+ghost use Rattle.bench_engine.specs.Status.{IsRunStatus};
 
 use crate::campaign::{Campaign, Tally};
 use crate::clock::{begin, since};
-use crate::fault::Fault;
 use crate::job::{Job, Shape};
 use crate::live::Live;
 use crate::needs::{Ends, build, measure};
 use crate::report::{tell_ends, tell_rounds, tell_tally};
 use crate::shapes::{Rounds, Steady};
+use bench_engine::Fault;
 use script_io::Sink;
 use std::alloc::Global;
 use std::time::Clock;

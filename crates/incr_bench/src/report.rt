@@ -1,9 +1,9 @@
 //! What a run tells.
 use crate::campaign::Tally;
-use crate::fault::Fault;
 use crate::job::Job;
 use crate::needs::Ends;
 use crate::shapes::Rounds;
+use bench_engine::Fault;
 use script_io::{Failed, Sink, write_whole};
 use std::alloc::Global;
 

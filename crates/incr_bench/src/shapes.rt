@@ -2,16 +2,16 @@
 ghost use Rattle.std.specs.Prelude.{◌≤◌, ◌<◌};
 
 use crate::clock::{begin, since};
-use crate::fault::Fault;
 use crate::job::Shape;
 use crate::live::Live;
+use bench_engine::Fault;
 use std::time::Clock;
 
 /// How many negations the chain has that changes beside nodes at rest.
 const IDLE_CHAIN: usize = 10;
 
 /// What was measured, in nanoseconds, how many functions were called in the rounds, and the last value.
-#[derive(Clone, Copy, Debug)]
+#[derive(Clone, Copy)]
 pub struct Rounds {
     pub building: u64,
     pub running: u64,

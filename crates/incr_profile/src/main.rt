@@ -5,8 +5,6 @@
 mod calls;
 mod counted;
 mod profile;
-#[cfg(test)]
-mod tests;
 mod top;
 
 use script_io::{StdSink, StdSource, words};

@@ -1,17 +1,14 @@
-//! A plan carried out, and the functions of a library called.
-ghost use Rattle.std.specs.Prelude.{◌≡◌, ◌<◌, ◌∷◌, [], false, IfOk, IfSome, IsTrue};
-ghost use Rattle.inc_value.specs.declared.function.FnKind.TheVariants.{Map};
+//! A plan carried out.
+ghost use Rattle.std.specs.Prelude.{◌≡◌, ◌<◌, false, IfOk, IfSome, IsTrue};
 ghost use Rattle.formula_lang.specs.CommandView.{command_view, formula_view};
 ghost use Rattle.formula_elab.specs.Names.{EveryName, EveryNameIn};
 
-use formula_elab::{Made, Make, Plan, ScriptFns, elaborate};
+use formula_elab::{Made, Make, Plan, elaborate};
 use formula_lang::{Command, Constant, Declaration, Formula, Name};
 use inc_terms::Def;
-use inc_value::{FnId, FnKind, FnRef, NodeId, Sig, Ty, Value};
-use node_arena::{Functions, Library};
+use inc_value::{FnRef, NodeId, Ty, Value};
 use std::alloc::{AllocError, Global};
-use std::test::Fail;
-use std_library::StdLib;
+use std_library::Function;
 
 /// The node of this number.
 fn node(number: u64) -> NodeId {
@@ -21,49 +18,59 @@ fn node(number: u64) -> NodeId {
     }
 }
 
-/// The map of this number, which takes as many integers.
-fn map(number: u64, takes: &[Ty]) -> Option<FnRef> {
-    match takes {
-        [Ty::Int] | [Ty::Int, Ty::Int] => Some(FnRef {
-            id: FnId {
-                kind: FnKind::Map,
-                number,
-            },
-            sig: Sig::new(takes, Ty::Int),
+/// The negation of 2.
+fn negation(alloc: Global) -> Option<Formula>
+    ensures { IfSome result (λ f. EveryName (λ n. n < 1) (formula_view f)) }
+{
+    match vec![in alloc; Formula::Literal(Constant::Int(2))] {
+        Ok(arguments) => Some(Formula::Apply {
+            function: Function::Neg.reference(),
+            arguments,
         }),
-        _ => None,
+        Err(_) => None,
     }
 }
 
-/// The negation of 2.
-fn negation(alloc: Global, neg: FnRef) -> Result<Formula, AllocError>
-    ensures { IfOk result (λ f. EveryName (λ n. n < 1) (formula_view f)) }
+/// The sum of the first declaration and a formula.
+fn sum(alloc: Global, formula: Formula) -> Option<Formula>
+    requires { EveryName (λ n. n < 1) (formula_view formula) }
+    ensures { IfSome result (λ f. EveryName (λ n. n < 1) (formula_view f)) }
 {
-    Ok(Formula::Apply {
-        function: neg,
-        arguments: vec![in alloc; Formula::Literal(Constant::Int(2))]?,
-    })
+    match vec![in alloc; Formula::Name(0), formula] {
+        Ok(arguments) => Some(Formula::Apply {
+            function: Function::Add.reference(),
+            arguments,
+        }),
+        Err(_) => None,
+    }
 }
 
-/// The sum of the first declaration and the negation of 2.
-fn sum(alloc: Global, add: FnRef, neg: FnRef) -> Result<Formula, AllocError>
-    ensures { IfOk result (λ f. EveryName (λ n. n < 1) (formula_view f)) }
+/// The fold of `add` from 5 over the first declaration, a formula, and the first declaration again.
+fn total(alloc: Global, formula: Formula) -> Option<Formula>
+    requires { EveryName (λ n. n < 1) (formula_view formula) }
+    ensures { IfSome result (λ f. EveryName (λ n. n < 1) (formula_view f)) }
 {
-    Ok(Formula::Apply {
-        function: add,
-        arguments: vec![in alloc; Formula::Name(0), negation(alloc, neg)?]?,
-    })
+    match vec![in alloc; Formula::Name(0), formula, Formula::Name(0)] {
+        Ok(elements) => Some(Formula::Fold {
+            function: Function::Add.reference(),
+            first: Constant::Int(5),
+            elements,
+        }),
+        Err(_) => None,
+    }
 }
 
-/// The fold of `add` from 5 over the first declaration, the negation of 2, and the first declaration again.
-fn total(alloc: Global, add: FnRef, neg: FnRef) -> Result<Formula, AllocError>
-    ensures { IfOk result (λ f. EveryName (λ n. n < 1) (formula_view f)) }
+/// The total over the sum over the negation of 2.
+fn formula(alloc: Global) -> Option<Formula>
+    ensures { IfSome result (λ f. EveryName (λ n. n < 1) (formula_view f)) }
 {
-    Ok(Formula::Fold {
-        function: add,
-        first: Constant::Int(5),
-        elements: vec![in alloc; Formula::Name(0), negation(alloc, neg)?, Formula::Name(0)]?,
-    })
+    match negation(alloc) {
+        Some(negation) => match sum(alloc, negation) {
+            Some(sum) => total(alloc, sum),
+            None => None,
+        },
+        None => None,
+    }
 }
 
 /// The declaration of the formula as `s`.
@@ -78,132 +85,110 @@ fn declared(alloc: Global, formula: Formula) -> Result<Command, AllocError>
     })
 }
 
-/// Whether the first to be made is the constant.
-fn begins_with(plan: &mut Plan, number: i64) -> Result<bool, AllocError>
+/// Whether the first to be made is the constant 2.
+fn begins_with_two(plan: &mut Plan) -> bool
     requires { plan.old.is_waiting ≡ false }
-    ensures { IfOk result (λ is. IsTrue is → IsTrue plan.new.is_waiting) }
+    ensures { IsTrue result → IsTrue plan.new.is_waiting }
 {
-    match plan.next(None)? {
-        Some(Make::Node(Def::Const(Value::Int(first)))) => Ok(first == number),
-        _ => Ok(false),
-    }
-}
-
-/// Whether it is the function of the nodes.
-fn is_map(def: &Def, f: FnRef, kids: &[NodeId]) -> bool {
-    match def {
-        Def::Map(map, nodes) => *map == f && nodes.as_slice() == kids,
-        _ => false,
-    }
-}
-
-/// Whether it is the fold of the nodes from the number.
-fn is_fold(def: &Def, f: FnRef, number: i64, kids: &[NodeId]) -> bool {
-    match def {
-        Def::Fold(fold, first, nodes) => {
-            *fold == f && first.same(&Value::Int(number)) && nodes.as_slice() == kids
+    match plan.next(None) {
+        Ok(Some(Make::Node(def))) => {
+            let is = matches!(def, Def::Const(Value::Int(2)));
+            drop(def);
+            is
         }
         _ => false,
     }
 }
 
-/// Whether the next to be made is the function of the nodes, where the node was made of the last.
+/// Whether it is the function of the nodes: a fold from a number, or a map where there is none.
+fn is_made_by(def: &Def, f: &FnRef, number: Option<i64>, kids: &[NodeId]) -> bool {
+    match def {
+        Def::Map(map, nodes) => map == f && number == None && nodes.as_slice() == kids,
+        Def::Fold(fold, Value::Int(first), nodes) => {
+            fold == f && number == Some(*first) && nodes.as_slice() == kids
+        }
+        _ => false,
+    }
+}
+
+/// Whether the next to be made is the function of the nodes, where the last was made as this node.
 fn goes_on_with(
     plan: &mut Plan,
     made: NodeId,
-    f: FnRef,
+    f: &FnRef,
+    number: Option<i64>,
     kids: &[NodeId],
-) -> Result<bool, AllocError>
+) -> bool
     requires { IsTrue plan.old.is_waiting }
-    ensures { IfOk result (λ is. IsTrue is → IsTrue plan.new.is_waiting) }
+    ensures { IsTrue result → IsTrue plan.new.is_waiting }
 {
-    match plan.next(Some(Made::Node(made)))? {
-        Some(Make::Node(def)) => Ok(is_map(&def, f, kids)),
-        None => Ok(false),
+    match plan.next(Some(Made::Node(made))) {
+        Ok(Some(Make::Node(def))) => {
+            let is = is_made_by(&def, f, number, kids);
+            drop(def);
+            is
+        }
+        _ => false,
     }
 }
 
-/// Whether the next to be made is the fold of the nodes from the number, where the node was made of the last.
-fn goes_on_folding(
-    plan: &mut Plan,
-    made: NodeId,
-    f: FnRef,
-    number: i64,
-    kids: &[NodeId],
-) -> Result<bool, AllocError>
+/// Whether nothing is left to be made, where the last was made as this node, and it is the root.
+fn ends_with(plan: &mut Plan, made: NodeId) -> bool
     requires { IsTrue plan.old.is_waiting }
-    ensures { IfOk result (λ is. IsTrue is → IsTrue plan.new.is_waiting) }
 {
-    match plan.next(Some(Made::Node(made)))? {
-        Some(Make::Node(def)) => Ok(is_fold(&def, f, number, kids)),
-        None => Ok(false),
+    match plan.next(Some(Made::Node(made))) {
+        Ok(None) => plan.root() == Some(made),
+        Ok(Some(make)) => {
+            drop(make);
+            false
+        }
+        Err(_) => false,
     }
 }
 
-/// Whether nothing is left to be made, where the node was made of the last, and it is the root.
-fn ends_with(plan: &mut Plan, made: NodeId) -> Result<bool, AllocError>
-    requires { IsTrue plan.old.is_waiting }
+/// Whether the plan makes arguments and elements before what is made of them.
+fn makes_total(plan: &mut Plan, add: &FnRef, neg: &FnRef) -> bool
+    requires { plan.old.is_waiting ≡ false }
 {
-    match plan.next(Some(Made::Node(made)))? {
-        None => Ok(plan.root() == Some(made)),
-        Some(_) => Ok(false),
+    begins_with_two(plan)
+        && goes_on_with(plan, node(20), neg, None, &[node(20)])
+        && goes_on_with(plan, node(21), add, None, &[node(7), node(21)])
+        && goes_on_with(plan, node(22), add, Some(5), &[node(7), node(22), node(7)])
+        && ends_with(plan, node(23))
+}
+
+/// The plan of the declaration of a formula over one node.
+fn planned(alloc: Global, formula: Formula) -> Option<Plan>
+    requires { EveryName (λ n. n < 1) (formula_view formula) }
+    ensures { IfSome result (λ plan. plan.is_waiting ≡ false) }
+{
+    match declared(alloc, formula) {
+        Ok(command) => {
+            let plan = elaborate(alloc, &command, &[node(7)]);
+            drop(command);
+            plan.ok()
+        }
+        Err(_) => None,
+    }
+}
+
+/// Whether the total is made so.
+fn plans_total(alloc: Global) -> bool {
+    let (add, neg) = (Function::Add.reference(), Function::Neg.reference());
+    match formula(alloc) {
+        Some(formula) => match planned(alloc, formula) {
+            Some(mut plan) => {
+                let well = makes_total(&mut plan, &add, &neg);
+                drop(plan);
+                well
+            }
+            None => false,
+        },
+        None => false,
     }
 }
 
 #[test]
-fn makes_arguments_first(rt: HostRuntime) -> Result<(), Fail> {
-    let alloc = rt.alloc();
-    let add = map(1, &[Ty::Int, Ty::Int]).ok_or("no add")?;
-    let neg = map(6, &[Ty::Int]).ok_or("no neg")?;
-    let command = declared(alloc, sum(alloc, add, neg)?)?;
-    let mut plan = elaborate(alloc, &command, &[node(7)])?;
-    assert!(rt; begins_with(&mut plan, 2)?);
-    assert!(rt; goes_on_with(&mut plan, node(20), neg, &[node(20)])?);
-    assert!(rt; goes_on_with(&mut plan, node(21), add, &[node(7), node(21)])?);
-    assert!(rt; ends_with(&mut plan, node(22))?);
-    Ok(())
-}
-
-#[test]
-fn makes_elements_first(rt: HostRuntime) -> Result<(), Fail> {
-    let alloc = rt.alloc();
-    let add = map(1, &[Ty::Int, Ty::Int]).ok_or("no add")?;
-    let neg = map(6, &[Ty::Int]).ok_or("no neg")?;
-    let command = declared(alloc, total(alloc, add, neg)?)?;
-    let mut plan = elaborate(alloc, &command, &[node(7)])?;
-    assert!(rt; begins_with(&mut plan, 2)?);
-    assert!(rt; goes_on_with(&mut plan, node(20), neg, &[node(20)])?);
-    assert!(rt; goes_on_folding(&mut plan, node(21), add, 5, &[node(7), node(21), node(7)])?);
-    assert!(rt; ends_with(&mut plan, node(22))?);
-    Ok(())
-}
-
-/// What the function gives for one integer, where it takes one.
-fn given<F: Functions>(
-    functions: &mut F,
-    alloc: Global,
-    f: FnRef,
-    a: i64,
-) -> Result<Option<Value>, AllocError>
-    requires known { IsTrue (F.known functions.old f) }
-    requires kind { f.id.kind ≡ Map }
-    ensures { IfOk result (λ given. IfSome given (λ v. v ≡ F.value functions.old f (Value.Int a ∷ []))) }
-{
-    let args = [Value::Int(a)];
-    match f.sig.takes() {
-        [Ty::Int] => Ok(Some(functions.apply(alloc, f, &args)?)),
-        _ => Ok(None),
-    }
-}
-
-#[test]
-fn calls_the_library(rt: HostRuntime) -> Result<(), Fail> {
-    let mut functions = ScriptFns::new(StdLib::new());
-    let neg = functions.library().find(b"neg").ok_or("no neg")?;
-    if functions.knows(neg) && neg.id.kind == FnKind::Map {
-        let given = given(&mut functions, rt.alloc(), neg, 3)?.ok_or("nothing")?;
-        assert!(rt; given.same(&Value::Int(-3)));
-    }
-    assert_eq!(rt; functions.into_library().calls(), 1);
-    Ok(())
+fn makes_arguments_and_elements_first(rt: HostRuntime) {
+    assert!(rt; plans_total(rt.alloc()));
 }

@@ -1,14 +1,21 @@
-//! Each byte alone and between others, lines that are longer than a session takes, each kind of token, folds and their faults, and names
-//! found again.
+//! Each byte alone and between others, lines that are longer than a session takes, each kind of token, folds and their
+//! faults.
 use formula_lang::{CheckFault, Kind, Names, ParseFault, check, parse};
 use inc_value::Ty;
 use std::alloc::{AllocError, Global};
-use std::test::Fail;
 use std_library::StdLib;
 
 const FORM: Option<ParseFault> = Some(ParseFault::Form);
 
 const LEVEL: Option<ParseFault> = Some(ParseFault::Level);
+
+const TAKEN: Option<CheckFault> = Some(CheckFault::Refusal(3));
+
+const UNKNOWN: Option<CheckFault> = Some(CheckFault::Refusal(4));
+
+const NO_FUNCTION: Option<CheckFault> = Some(CheckFault::Refusal(5));
+
+const UNFIT: Option<CheckFault> = Some(CheckFault::Refusal(6));
 
 /// Kinds of bytes.
 #[derive(Clone, Copy)]
@@ -64,7 +71,10 @@ const LONG_LINES: &[(&str, &str, usize, &str, &str, Option<ParseFault>)] = &[
     ("let y ", "g(fold f from 0 [", 33, "x", "])", LEVEL),
 ];
 
-/// What is nothing but tokens, and so has too many levels with 65 brackets behind it, and what isn't.
+/// Too many brackets to be open at once.
+const BRACKETS: &str = "((((((((((((((((((((((((((((((((((((((((((((((((((((((((((((((((((";
+
+/// What is nothing but tokens, and so has too many levels with 66 brackets behind it, and what isn't.
 const TOKENS: &[(&str, Option<ParseFault>)] = &[
     ("x _y a1", LEVEL),
     ("12 -12 007", LEVEL),
@@ -126,40 +136,33 @@ const FOLDS: &[(&str, Option<ParseFault>)] = &[
     ("Fold f from 0 [x]", FORM),
 ];
 
-/// Names in order, with their kinds and targets.
-const DECLARED: &[(&str, Kind, usize)] = &[
-    ("x", Kind::Var, 0),
-    ("y", Kind::Let, 1),
-    ("z", Kind::Let, 0),
-];
-
-/// Names with a formula each, and the number of the refusal, where `x`, `p` and `t` are declared.
-const CHECKED_FOLDS: &[(&str, &str, Option<u8>)] = &[
-    ("y", "fold add from 0 []", None),
-    ("y", "fold add from 0 [x]", None),
-    ("y", "fold add from 0 [x, 1, neg(x), x]", None),
-    ("y", "neg(fold add from 0 [fold add from 1 [x], x])", None),
-    ("y", "fold add from true []", Some(6)),
-    ("y", "fold add from \"0\" [x]", Some(6)),
-    ("y", "fold add from 0 [p]", Some(6)),
-    ("y", "fold add from 0 [t, x]", Some(6)),
-    ("y", "fold add from 0 [x, x, p]", Some(6)),
-    ("y", "fold add from 0 [x, true, x]", Some(6)),
-    ("y", "fold neg from 0 [x]", Some(6)),
-    ("y", "fold neg from 0 []", Some(6)),
-    ("y", "fold lt from 0 [x]", Some(6)),
-    ("y", "fold lt from true [x]", Some(6)),
-    ("y", "fold pick from 0 [x]", Some(6)),
-    ("y", "fold add from 0 [neg(p)]", Some(6)),
-    ("y", "lt(fold add from 0 [x], p)", Some(6)),
-    ("y", "fold foo from 0 [x]", Some(5)),
-    ("y", "fold foo from true [p]", Some(5)),
-    ("y", "fold add from true [foo(x)]", Some(5)),
-    ("y", "fold add from 0 [q]", Some(4)),
-    ("y", "fold foo from 0 [x, q]", Some(4)),
-    ("y", "fold add from true [y]", Some(4)),
-    ("x", "fold add from 0 [x]", Some(3)),
-    ("x", "fold foo from 0 [q]", Some(3)),
+/// Declarations where `x`, `p` and `t` are declared, with why each is refused.
+const CHECKED_FOLDS: &[(&str, Option<CheckFault>)] = &[
+    ("let y fold add from 0 []", None),
+    ("let y fold add from 0 [x]", None),
+    ("let y fold add from 0 [x, 1, neg(x), x]", None),
+    ("let y neg(fold add from 0 [fold add from 1 [x], x])", None),
+    ("let y fold add from true []", UNFIT),
+    ("let y fold add from \"0\" [x]", UNFIT),
+    ("let y fold add from 0 [p]", UNFIT),
+    ("let y fold add from 0 [t, x]", UNFIT),
+    ("let y fold add from 0 [x, x, p]", UNFIT),
+    ("let y fold add from 0 [x, true, x]", UNFIT),
+    ("let y fold neg from 0 [x]", UNFIT),
+    ("let y fold neg from 0 []", UNFIT),
+    ("let y fold lt from 0 [x]", UNFIT),
+    ("let y fold lt from true [x]", UNFIT),
+    ("let y fold pick from 0 [x]", UNFIT),
+    ("let y fold add from 0 [neg(p)]", UNFIT),
+    ("let y lt(fold add from 0 [x], p)", UNFIT),
+    ("let y fold foo from 0 [x]", NO_FUNCTION),
+    ("let y fold foo from true [p]", NO_FUNCTION),
+    ("let y fold add from true [foo(x)]", NO_FUNCTION),
+    ("let y fold add from 0 [q]", UNKNOWN),
+    ("let y fold foo from 0 [x, q]", UNKNOWN),
+    ("let y fold add from true [y]", UNKNOWN),
+    ("let x fold add from 0 [x]", TAKEN),
+    ("let x fold foo from 0 [q]", TAKEN),
 ];
 
 impl Kinds {
@@ -183,16 +186,17 @@ impl Kinds {
     }
 }
 
-/// `front`, `count` times `piece`, `middle`, and `count` times `end`.
-fn joined(
-    alloc: Global,
+/// Makes the line of `front`, `count` times `piece`, `middle`, and `count` times `end`.
+fn make(
+    line: &mut Vec<u8>,
     front: &str,
     piece: &[u8],
     count: usize,
     middle: &str,
     end: &str,
-) -> Result<Vec<u8>, AllocError> {
-    let mut line = front.as_bytes().to_vec(alloc)?;
+) -> Result<(), AllocError> {
+    line.clear();
+    line.extend_from_slice(front.as_bytes())?;
     for _ in 0..count {
         line.extend_from_slice(piece)?;
     }
@@ -200,181 +204,136 @@ fn joined(
     for _ in 0..count {
         line.extend_from_slice(end.as_bytes())?;
     }
-    Ok(line)
+    Ok(())
 }
 
-/// Why the line is no command; nothing of a command.
-fn fault(alloc: Global, line: &[u8]) -> Option<ParseFault> {
-    parse(alloc, line).err()
+/// Whether the line is no command for the reason wanted, or is one.
+fn is_told(alloc: Global, line: &[u8], wanted: Option<ParseFault>) -> bool {
+    parse(alloc, line).err() == wanted
 }
 
-/// The front before which the byte is taken where it should not be, or is not where it should.
-fn misread(alloc: Global, byte: u8) -> Result<Option<&'static str>, AllocError> {
+/// Whether the byte is taken exactly where it should be.
+fn tells_byte(alloc: Global, line: &mut Vec<u8>, byte: u8) -> bool {
     for (front, back, kinds) in BYTES {
-        let line = joined(alloc, front, &[byte], 1, back, "")?;
-        if fault(alloc, &line).is_none() != kinds.has(byte) {
-            return Ok(Some(front));
+        let wanted = if kinds.has(byte) {
+            None
+        } else {
+            Some(ParseFault::Form)
+        };
+        if make(line, front, &[byte], 1, back, "").is_err() || !is_told(alloc, line, wanted) {
+            return false;
         }
     }
-    Ok(None)
+    true
 }
 
-/// The piece of the long line that gives another fault.
-fn misread_long(alloc: Global) -> Result<Option<&'static str>, AllocError> {
-    for (front, piece, count, middle, end, wanted) in LONG_LINES {
-        let line = joined(alloc, front, piece.as_bytes(), *count, middle, end)?;
-        if fault(alloc, &line) != *wanted {
-            return Ok(Some(piece));
-        }
-    }
-    Ok(None)
-}
-
-/// The text that gives another fault between a front and so many pieces.
-fn misread_text(
-    alloc: Global,
-    rows: &[(&'static str, Option<ParseFault>)],
-    front: &str,
-    piece: &str,
-    count: usize,
-) -> Result<Option<&'static str>, AllocError> {
-    for (text, wanted) in rows {
-        let mut line = joined(alloc, front, text.as_bytes(), 1, "", "")?;
-        for _ in 0..count {
-            line.extend_from_slice(piece.as_bytes())?;
-        }
-        if fault(alloc, &line) != *wanted {
-            return Ok(Some(text));
-        }
-    }
-    Ok(None)
-}
-
-/// Declares a name, if it is not found and its target is there. The answer is whether that was so.
-fn declared(
-    names: &mut Names,
-    name: &str,
-    ty: Ty,
-    kind: Kind,
-    target: usize,
-) -> Result<bool, AllocError> {
-    if names.find(name.as_bytes()).is_some() || target > names.len() {
-        return Ok(false);
-    }
-    names.declare(name.as_bytes(), ty, kind, target)?;
-    Ok(true)
-}
-
-/// A variable of each plain type.
-fn variables(alloc: Global) -> Result<Names, AllocError> {
-    let mut names = Names::new(alloc)?;
-    declared(&mut names, "x", Ty::Int, Kind::Var, 0)?;
-    declared(&mut names, "p", Ty::Bool, Kind::Var, 1)?;
-    declared(&mut names, "t", Ty::Text, Kind::Var, 2)?;
-    Ok(names)
-}
-
-/// The number with which the declaration is refused, if it is.
-fn refusal(alloc: Global, names: &Names, line: &[u8]) -> Result<Option<u8>, AllocError> {
-    let Ok(parsed) = parse(alloc, line) else {
-        return Ok(Some(1));
-    };
-    match check(alloc, &parsed, names, &StdLib::new()) {
-        Ok(_) => Ok(None),
-        Err(CheckFault::Refusal(number)) => Ok(Some(number)),
-        Err(CheckFault::Memory) => Err(AllocError),
-    }
-}
-
-/// The fold that is refused with another number, or where it should not be.
-fn misjudged(alloc: Global, names: &Names) -> Result<Option<&'static str>, AllocError> {
-    for (name, formula, wanted) in CHECKED_FOLDS {
-        let mut line = joined(alloc, "let ", name.as_bytes(), 1, " ", "")?;
-        line.extend_from_slice(formula.as_bytes())?;
-        if refusal(alloc, names, &line)? != *wanted {
-            return Ok(Some(formula));
-        }
-    }
-    Ok(None)
-}
-
-#[test]
-fn tells_bytes(rt: HostRuntime) -> Result<(), Fail> {
+/// Whether each byte is.
+fn tells_bytes(alloc: Global, line: &mut Vec<u8>) -> bool {
     for byte in 0..=u8::MAX {
-        assert_eq!(rt; misread(rt.alloc(), byte)?, None, "{byte}");
-    }
-    Ok(())
-}
-
-#[test]
-fn tells_long_lines(rt: HostRuntime) -> Result<(), Fail> {
-    assert_eq!(rt; misread_long(rt.alloc())?, None);
-    Ok(())
-}
-
-#[test]
-fn tells_tokens(rt: HostRuntime) -> Result<(), Fail> {
-    assert_eq!(rt; misread_text(rt.alloc(), TOKENS, "", " (", 65)?, None);
-    Ok(())
-}
-
-#[test]
-fn tells_folds(rt: HostRuntime) -> Result<(), Fail> {
-    assert_eq!(rt; misread_text(rt.alloc(), FOLDS, "let y ", "", 0)?, None);
-    Ok(())
-}
-
-#[test]
-fn checks_folds(rt: HostRuntime) -> Result<(), Fail> {
-    let names = variables(rt.alloc())?;
-    assert_eq!(rt; misjudged(rt.alloc(), &names)?, None);
-    Ok(())
-}
-
-/// Whether the name is found at its place, with its kind and its target.
-fn is_found(names: &Names, place: usize, name: &str, kind: Kind, target: usize) -> bool {
-    let Some(found) = names.find(name.as_bytes()) else {
-        return false;
-    };
-    let declared = names.get(found);
-    found == place
-        && declared.name.bytes() == name.as_bytes()
-        && declared.kind == kind
-        && declared.target == target
-}
-
-/// The name that is not found as it was declared.
-fn lost(names: &Names) -> Option<&'static str> {
-    for (place, (name, kind, target)) in DECLARED.iter().enumerate() {
-        if !is_found(names, place, name, *kind, *target) {
-            return Some(name);
+        if !tells_byte(alloc, line, byte) {
+            return false;
         }
     }
-    None
+    true
 }
 
-#[test]
-fn finds_names(rt: HostRuntime) -> Result<(), Fail> {
-    let mut names = Names::new(rt.alloc())?;
-    for (name, kind, target) in DECLARED {
-        assert!(rt;
-            declared(&mut names, name, Ty::Int, *kind, *target)?,
-            "{name}"
-        );
+/// Whether the long lines have the faults of their rows.
+fn tells_long_lines(alloc: Global, line: &mut Vec<u8>) -> bool {
+    for (front, piece, count, middle, end, wanted) in LONG_LINES {
+        if make(line, front, piece.as_bytes(), *count, middle, end).is_err()
+            || !is_told(alloc, line, *wanted)
+        {
+            return false;
+        }
     }
-    assert_eq!(rt; lost(&names), None);
-    assert_eq!(rt; names.len(), 3);
-    assert!(rt; names.find(b"w").is_none());
-    Ok(())
+    true
+}
+
+/// Whether texts have the faults of their rows between a front and so many brackets.
+fn tells_texts(
+    alloc: Global,
+    line: &mut Vec<u8>,
+    front: &str,
+    rows: &[(&str, Option<ParseFault>)],
+    brackets: &str,
+) -> bool {
+    for (text, wanted) in rows {
+        if make(line, front, text.as_bytes(), 1, brackets, "").is_err()
+            || !is_told(alloc, line, *wanted)
+        {
+            return false;
+        }
+    }
+    true
+}
+
+/// Declares a variable, if its name is not found, and tells whether there was memory.
+fn declare(names: &mut Names, name: &str, ty: Ty) -> bool {
+    let target = names.len();
+    if names.find(name.as_bytes()).is_some() {
+        return false;
+    }
+    names
+        .declare(name.as_bytes(), ty, Kind::Var, target)
+        .is_ok()
+}
+
+/// Declares a variable of each plain type, and tells whether there was memory.
+fn declare_all(names: &mut Names) -> bool {
+    declare(names, "x", Ty::Int) && declare(names, "p", Ty::Bool) && declare(names, "t", Ty::Text)
+}
+
+/// Why the declaration is refused, if it is.
+fn refusal(alloc: Global, names: &Names, line: &[u8]) -> Option<CheckFault> {
+    match parse(alloc, line) {
+        Ok(parsed) => {
+            let fault = check(alloc, &parsed, names, &StdLib::new()).err();
+            drop(parsed);
+            fault
+        }
+        Err(_) => Some(CheckFault::Refusal(1)),
+    }
+}
+
+/// Whether folds are refused as their rows say.
+fn judges_folds(alloc: Global, names: &Names) -> bool {
+    for (declaration, wanted) in CHECKED_FOLDS {
+        if refusal(alloc, names, declaration.as_bytes()) != *wanted {
+            return false;
+        }
+    }
+    true
+}
+
+/// The same with names of its own.
+fn judges_well(alloc: Global) -> bool {
+    match Names::new(alloc) {
+        Ok(mut names) => {
+            let well = declare_all(&mut names) && judges_folds(alloc, &names);
+            drop(names);
+            well
+        }
+        Err(_) => false,
+    }
+}
+
+/// Whether lines that are made in the buffer have the faults of their rows.
+fn tells_all(alloc: Global, line: &mut Vec<u8>) -> bool {
+    tells_bytes(alloc, line)
+        && tells_long_lines(alloc, line)
+        && tells_texts(alloc, line, "", TOKENS, BRACKETS)
+        && tells_texts(alloc, line, "let y ", FOLDS, "")
+}
+
+/// The same with a buffer of its own.
+fn tells_well(alloc: Global) -> bool {
+    let mut line = Vec::new(alloc);
+    let well = tells_all(alloc, &mut line);
+    drop(line);
+    well
 }
 
 #[test]
-fn finds_observers(rt: HostRuntime) -> Result<(), Fail> {
-    let mut names = Names::new(rt.alloc())?;
-    assert!(rt; !names.is_in_use(b"x"));
-    names.observe(b"x")?;
-    assert!(rt; names.is_in_use(b"x"));
-    assert!(rt; names.observer(b"x") == Some(0));
-    assert!(rt; !names.is_in_use(b"y"));
-    Ok(())
+fn tells_lines(rt: HostRuntime) {
+    assert!(rt; tells_well(rt.alloc()) && judges_well(rt.alloc()));
 }

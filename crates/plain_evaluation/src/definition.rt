@@ -6,7 +6,7 @@ use std::alloc::{AllocError, Global};
 
 /// What a node is. Others are named by the place at which they stand in the order of making; a truth counts as 1,
 /// and its contrary as 0.
-#[derive(Clone, Copy, Debug)]
+#[derive(Clone, Copy)]
 pub enum Definition {
     /// A variable, with the value that it has.
     Var(i64),

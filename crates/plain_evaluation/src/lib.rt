@@ -4,5 +4,5 @@
 mod comparison;
 mod definition;
 
-pub use comparison::agree;
-pub use definition::{Definition, at, evaluate};
+pub use comparison::{Watch, counted, meant};
+pub use definition::{Definition, evaluate};

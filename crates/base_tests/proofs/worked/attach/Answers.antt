@@ -2,7 +2,7 @@ use Rattle.std.proofs.Common.{◌≢◌, sym, rules}
 use Rattle.link_table.specs.Walks.{kids_left}
 use Rattle.necessity.proofs.Reaching.{leads_to_itself}
 use Rattle.necessity.proofs.Starts.{none_left, none_read}
-use Rattle.base_tests.proofs.needs.attach.Goals as goal
+use Rattle.base_tests.proofs.worked.attach.Goals as goal
 
 pub attach-requires : goal.attach-requires
 attach-requires c = record {

@@ -5,8 +5,8 @@ use Rattle.graph.specs.declared.fault.GraphFault.{GraphFault}
 use Rattle.graph.specs.declared.fault.GraphFault.TheVariants as graph
 use Rattle.graph.specs.declared.fault.StabilizeFault.{StabilizeFault}
 use Rattle.graph.specs.declared.fault.StabilizeFault.TheVariants as stabilize
-use Rattle.incr_bench.specs.declared.fault.Fault.{Fault}
-use Rattle.incr_bench.specs.declared.fault.Fault.TheVariants.{Refused, Written, Memory}
+use Rattle.bench_engine.specs.declared.fault.Fault.{Fault}
+use Rattle.bench_engine.specs.declared.fault.Fault.TheVariants.{Refused, Written, Memory}
 
 -- the status that the program ends with
 abbrev pub status_of : Fault → ℕ

@@ -1,12 +1,12 @@
 //! Why a run stops before its end.
 ghost use Rattle.std.specs.Prelude.{◌≡◌};
-ghost use Rattle.incr_bench.specs.Status.{of_graph, of_stabilize};
+ghost use Rattle.bench_engine.specs.Status.{of_graph, of_stabilize};
 
 use graph::{GraphFault, Kept, StabilizeFault};
 use std::alloc::AllocError;
 
 /// Why a run stops before its end.
-#[derive(Clone, Copy, Debug, PartialEq, Eq)]
+#[derive(Clone, Copy)]
 pub enum Fault {
     /// The graph refused what was asked of it.
     Refused,
@@ -19,7 +19,7 @@ pub enum Fault {
 }
 
 impl Fault {
-    ghost use Rattle.incr_bench.specs.Status.{status_of};
+    ghost use Rattle.bench_engine.specs.Status.{status_of};
 
     /// The status that the program ends with.
     pub fn status(self) -> u8
@@ -56,7 +56,7 @@ pub fn of_stabilize(fault: StabilizeFault) -> Fault
 
 impl From<AllocError> for Fault {
     ghost use Rattle.std.specs.Prelude.{◌≡◌};
-    ghost use Rattle.incr_bench.specs.declared.fault.Fault.TheVariants.{Memory};
+    ghost use Rattle.bench_engine.specs.declared.fault.Fault.TheVariants.{Memory};
 
     ghost from_gives = { λ _ f. f ≡ Memory };
 
