@@ -116,7 +116,7 @@ def main():
         copy_crates(crates, room)
         # (the copy is the top of a repository)
         os.mkdir(f"{room}/.git")
-        print(f"incr: proving the {len(crates)} crates that the program stands on, which takes some minutes once", file=sys.stderr)
+        print(f"incr: proving the {len(crates)} crates that the program stands on, which takes some 20 minutes on 4 processors, once", file=sys.stderr)
         progress = Progress(crates, room)
         how = {"cwd": room, "stdin": subprocess.DEVNULL, "stdout": out, "stderr": subprocess.STDOUT, "start_new_session": True}
         # The kit's command refuses names under CI=true only; this call has none.
