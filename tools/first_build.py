@@ -59,7 +59,7 @@ class Progress:
 
     def __init__(self, crates, room):
         self.crates, self.room, self.began = crates, room, time.monotonic()
-        self.seen, self.begun, self.done, self.kept = set(), [], set(), set()
+        self.seen, self.begun, self.done, self.kept = {}, [], set(), set()
         self.is_terminal = sys.stderr.isatty()
 
     def look(self, log):
@@ -69,14 +69,14 @@ class Progress:
         self.kept = set(re.findall(r"^rt: (\w+) is kept\b", said, re.M))
         self.done = self.kept | set(re.findall(r"^rt: (\w+) proved$", said, re.M))
         found = {it for it in self.crates if os.path.isdir(f"{self.room}/crates/{it}/out")}
-        # (what is kept is taken in no time, so a crate that was seen before is being proved)
+        # (what is kept is taken within some seconds, so a crate that was seen for longer is being proved)
+        now = time.monotonic()
         for name in self.crates:
-            if name in found and name not in self.begun and (name in self.seen or name in self.done):
+            if name in found and name not in self.begun and (now - self.seen.setdefault(name, now) > 5 or name in self.done):
                 self.begun.append(name)
                 what = "kept" if name in self.kept else "proving"
                 if not self.is_terminal:
                     print(f"{what} {len(self.begun)} of {len(self.crates)}: {name}", file=sys.stderr, flush=True)
-        self.seen = found
         if self.is_terminal:
             running = [it for it in self.begun if it not in self.done]
             number = len(self.begun)
