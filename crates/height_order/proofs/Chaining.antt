@@ -1,11 +1,10 @@
 -- Chains, and heights along them.
-use Rattle.std.proofs.Common.{◌≡◌, ℕ, zero, suc, ◌+◌, ◌<◌, ◌≤◌, List, [], ◌∷◌, ◌++◌, length, refl, ap, sym, subst, arith}
-use Rattle.std.specs.Prelude.{slice_index_or}
+use Rattle.std.proofs.Common.{◌≡◌, ◌∙◌, ℕ, zero, suc, ◌+◌, ◌-◌, ◌<◌, ◌≤◌, List, [], ◌∷◌, ◌++◌, length, refl, ap, sym, subst, inl, inr, arith}
+use Rattle.std.specs.Prelude.{◌⊎◌, slice_index_or}
 use Rattle.inc_value.specs.declared.node.Point.{Point}
-use Rattle.point_map.specs.Rows.{Rows}
 use Rattle.link_table.specs.Links.{Links, Reads}
-use Rattle.height_order.specs.Chains.{Reading, IsChain, StartsAt, EndsAt, IsPath, Leads, HasChain, NoRepeats, IsLongest}
-use Rattle.height_order.specs.Levels.{level, Rises, AllLow, AllSupported, IsExact}
+use Rattle.height_order.specs.Chains.{Reading, ReadsWith, IsChain, StartsAt, EndsAt, IsPath, Leads, HasChain, NoRepeats, NoneLonger, IsLongest}
+use Rattle.height_order.specs.Levels.{Rises, AllLow}
 
 module _ (R : Reading) where
   -- a chain with one more point
@@ -73,34 +72,135 @@ module _ (R : Reading) where
     chain_once [] chain = tt
     chain_once (p ∷ rest) chain = ((λ c. let h = later_lower p rest c.0 p chain c.1 c.2 in omega (arith, h)), chain_once rest chain.1)
 
-    none_longer_by : (p : Point) (other : List Point) → IsChain R other → StartsAt other p → length other ≤ height p + 1
+    -- no chain goes over more links than its start is high
+    pub none_longer_by : (p : Point) → NoneLonger R p (height p)
     none_longer_by p [] chain starts = absurd starts
     none_longer_by p (x ∷ rest) chain starts = let h = chain_high x rest chain in let e = ap height starts in omega (arith, h, e)
 
-  -- a chain as long as a supported point is high
-  pub high_chain : (height : Point → ℕ) (k : ℕ) (p : Point) → AllSupported R height → k ≤ height p → (rest : List Point) × IsChain R (p ∷ rest) × (length rest ≡ k)
-  high_chain height zero p supported high = ([], (tt, tt), refl)
-  high_chain height (suc k) p supported high =
-      let s = supported p (omega (arith, high)) in
-      let near = s.near in
-      let c = high_chain height k s.kid supported (omega (arith, high, near)) in
-      (s.kid ∷ c.0, (s.reads, c.1), (let e = c.2 in omega (arith, e)))
+  -- a chain behind a point that reads its first
+  pub chain_before : (p k : Point) (list : List Point) → R p k → StartsAt list k → IsChain R list → IsChain R (p ∷ list)
+  chain_before p k [] reads starts chain = absurd starts
+  chain_before p k (x ∷ rest) reads starts chain = (subst (R p) (sym starts) reads, chain)
 
-  -- where heights rise and are supported, each is that of a longest chain
-  pub longest_by : (height : Point → ℕ) → Rises R height → AllSupported R height → (p : Point) → IsLongest R p (height p)
-  longest_by height rises supported p =
-      let c = high_chain height (height p) p supported (omega arith) in
+  -- no chain of what a point reads goes over more than one link less
+  pub shorter : (p k : Point) (n : ℕ) → NoneLonger R p n → R p k → NoneLonger R k (n - 1)
+  shorter p k n short reads list chain starts =
+      let h = short (p ∷ list) (chain_before p k list reads starts chain) refl in omega (arith, h)
+
+  -- a point that reads another has a chain over a link
+  pub some_link : (p k : Point) (n : ℕ) → NoneLonger R p n → R p k → 0 < n
+  some_link p k n short reads = let h = short (p ∷ k ∷ []) (reads, (tt, tt)) refl in omega (arith, h)
+
+  pub longest_under : (p : Point) (m n : ℕ) → IsLongest R p m → NoneLonger R p n → m ≤ n
+  longest_under p m n so short = let h = short so.list so.chain so.starts in let e = so.long in omega (arith, h, e)
+
+  -- the longest chain of what a point reads is shorter
+  pub longest_falls : (p k : Point) (m n : ℕ) → IsLongest R p m → IsLongest R k n → R p k → n < m
+  longest_falls p k m n so of_k reads =
+      let h = so.none_longer (p ∷ of_k.list) (chain_before p k of_k.list reads of_k.starts of_k.chain) refl in
+      let e = of_k.long in omega (arith, h, e)
+
+  -- all that p reads has longest chains over fewer than m links
+  abbrev pub AllShorter : Point → ℕ → Type 0
+  AllShorter p m = (k : Point) → R p k → (n : ℕ) × IsLongest R k n × (n < m)
+
+  -- a point that p reads has a longest chain over at most one link less than m
+  pub record IsNearest (p : Point) (m : ℕ) : Type 0 where
+    pub kid : Point
+    pub reads : R p kid
+    pub level : ℕ
+    pub longest : IsLongest R kid level
+    pub near : m ≤ level + 1
+
+  over_none_longer : (p : Point) (m : ℕ) → AllShorter p m → NoneLonger R p m
+  over_none_longer p m all [] chain starts = absurd starts
+  over_none_longer p m all (x ∷ []) chain starts = omega arith
+  over_none_longer p m all (x ∷ y ∷ rest) chain starts =
+      let w = all y (subst (λ z. R z y) starts chain.0) in
+      let h = w.1.none_longer (y ∷ rest) chain.1 refl in
+      let lt = w.2 in omega (arith, h, lt)
+
+  zero_or_more : (m : ℕ) → (m ≡ 0) ⊎ (0 < m)
+  zero_or_more m = grind arith
+
+  over_by : (p : Point) (m : ℕ) → AllShorter p m → (0 < m → IsNearest p m) → (m ≡ 0) ⊎ (0 < m) → IsLongest R p m
+  over_by p m all near (inl none) = record {
+    list = p ∷ [];
+    chain = (tt, tt);
+    starts = refl;
+    long = omega (arith, none);
+    none_longer = over_none_longer p m all;
+  }
+  over_by p m all near (inr some) =
+      let s = near some in
+      let w = all s.kid s.reads in
       record {
-        list = p ∷ c.0;
-        chain = c.1;
+        list = p ∷ s.longest.list;
+        chain = chain_before p s.kid s.longest.list s.reads s.longest.starts s.longest.chain;
         starts = refl;
-        long = (let e = c.2 in omega (arith, e));
-        none_longer = λ other chain starts. none_longer_by height rises p other chain starts;
+        long = (
+            let a = s.longest.long in
+            let b = s.near in
+            let c = w.2 in
+            let d = longest_under s.kid s.level w.0 s.longest w.1.none_longer in omega (arith, a, b, c, d)
+            );
+        none_longer = over_none_longer p m all;
       }
 
--- where levels rise and are supported, they are exact
-pub exact_by : (heights : Rows ℕ) (links : Links) → Rises (Reads links) (level heights) → AllSupported (Reads links) (level heights) → IsExact heights links
-exact_by heights links rises supported p there = longest_by (Reads links) (level heights) rises supported p
+  -- one link more than the longest chain of all that p reads
+  pub longest_over : (p : Point) (m : ℕ) → AllShorter p m → (0 < m → IsNearest p m) → IsLongest R p m
+  longest_over p m all near = over_by p m all near (zero_or_more m)
+
+  next_by : (p : Point) (n : ℕ) (list : List Point) → IsChain R list → StartsAt list p → length list ≡ n + 1 → 0 < n
+      → (k : Point) × R p k × ((m : ℕ) → IsLongest R k m → n ≤ m + 1)
+  next_by p n [] chain starts long some = absurd starts
+  next_by p n (x ∷ []) chain starts long some = absurd (omega (arith, long, some))
+  next_by p n (x ∷ y ∷ rest) chain starts long some = (
+    y,
+    subst (λ z. R z y) starts chain.0,
+    λ m so. let h = so.none_longer (y ∷ rest) chain.1 refl in omega (arith, h, long),
+  )
+
+  -- the next point of a longest chain
+  pub longest_next : (p : Point) (n : ℕ) → IsLongest R p n → 0 < n → (k : Point) × R p k × ((m : ℕ) → IsLongest R k m → n ≤ m + 1)
+  longest_next p n so some = next_by p n so.list so.chain so.starts so.long some
+
+  pub leads_self : (p : Point) → Leads R p p
+  leads_self p = (p ∷ [], record { chain = (tt, tt); starts = refl; ends = refl })
+
+  ends_before : (p : Point) (list : List Point) (x : Point) → EndsAt list x → EndsAt (p ∷ list) x
+  ends_before p [] x ends = absurd ends
+  ends_before p (a ∷ rest) x ends = ends
+
+  pub leads_before : (p k x : Point) → R p k → Leads R k x → Leads R p x
+  leads_before p k x reads leads = (
+    p ∷ leads.0,
+    record {
+      chain = chain_before p k leads.0 reads leads.1.starts leads.1.chain;
+      starts = refl;
+      ends = ends_before p leads.0 x leads.1.ends;
+    },
+  )
+
+  module _ (P : Point → Type 0) (closed : (a b : Point) → P a → R a b → P b) where
+    along_by : (list : List Point) (p x : Point) → IsChain R list → StartsAt list p → EndsAt list x → P p → P x
+    along_by [] p x chain starts ends here = absurd starts
+    along_by (a ∷ []) p x chain starts ends here = subst P (sym starts ∙ ends) here
+    along_by (a ∷ b ∷ rest) p x chain starts ends here = along_by (b ∷ rest) b x chain.1 refl ends (closed a b (subst P (sym starts) here) chain.0)
+
+    -- what holds of a point holds of all that it leads to
+    pub along : (p x : Point) → P p → Leads R p x → P x
+    along p x here leads = along_by leads.0 p x leads.1.chain leads.1.starts leads.1.ends here
+
+  -- the longest chain of what a point leads to is no longer
+  pub longest_along : (k x : Point) (n m : ℕ) → IsLongest R k n → IsLongest R x m → Leads R k x → m ≤ n
+  longest_along k x n m of_k of_x leads = along_longest leads.0 k leads.1.chain leads.1.starts leads.1.ends n of_k.none_longer
+    where
+      along_longest : (list : List Point) (y : Point) → IsChain R list → StartsAt list y → EndsAt list x → (l : ℕ) → NoneLonger R y l → m ≤ l
+      along_longest [] y chain starts ends l short = absurd starts
+      along_longest (a ∷ []) y chain starts ends l short = longest_under x m l of_x (subst (λ z. NoneLonger R z l) (sym starts ∙ ends) short)
+      along_longest (a ∷ b ∷ rest) y chain starts ends l short =
+          let h = along_longest (b ∷ rest) b chain.1 refl ends (l - 1) (shorter y b l short (subst (λ z. R z b) starts chain.0)) in omega (arith, h)
 
 -- a chain over some links is one over more
 pub chain_more : (R S : Reading) (list : List Point) → ((a b : Point) → R a b → S a b) → IsChain R list → IsChain S list
@@ -111,3 +211,19 @@ chain_more R S (x ∷ y ∷ rest) more chain = (more x y chain.0, chain_more R S
 pub leads_more : (R S : Reading) (p q : Point) → ((a b : Point) → R a b → S a b) → Leads R p q → Leads S p q
 leads_more R S p q more leads =
     (leads.0, record { chain = chain_more R S leads.0 more leads.1.chain; starts = leads.1.starts; ends = leads.1.ends })
+
+module _ (links : Links) (p q : Point) where
+  split_by : (a b x : Point) → ReadsWith links p q a b → Leads (Reads links) b x ⊎ Leads (Reads links) q x → Leads (Reads links) a x ⊎ Leads (Reads links) q x
+  split_by a b x reads (inr leads) = inr leads
+  split_by a b x (inl reads) (inl leads) = inl (leads_before (Reads links) a b x reads leads)
+  split_by a b x (inr new) (inl leads) = inr (subst (λ z. Leads (Reads links) z x) new.1 leads)
+
+  split : (list : List Point) (a x : Point) → IsChain (ReadsWith links p q) list → StartsAt list a → EndsAt list x → Leads (Reads links) a x ⊎ Leads (Reads links) q x
+  split [] a x chain starts ends = absurd starts
+  split (c ∷ []) a x chain starts ends = inl (subst (Leads (Reads links) a) (sym starts ∙ ends) (leads_self (Reads links) a))
+  split (c ∷ d ∷ rest) a x chain starts ends =
+      split_by a d x (subst (λ z. ReadsWith links p q z d) starts chain.0) (split (d ∷ rest) d x chain.1 refl ends)
+
+  -- what is led to over one link more is led to without it, from the same point or from that link's kid
+  pub leads_split : (a x : Point) → Leads (ReadsWith links p q) a x → Leads (Reads links) a x ⊎ Leads (Reads links) q x
+  leads_split a x leads = split leads.0 a x leads.1.chain leads.1.starts leads.1.ends

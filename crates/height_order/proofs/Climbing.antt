@@ -19,10 +19,9 @@ pub record IsCapped (n m : ℕ) : Type 0 where
   pub same : n ≤ 128 → m ≡ n
   pub cap : 128 < n → m ≡ 128
   pub low : m ≤ 128
-  pub under : m ≤ n
 
 pub capped : (n : ℕ) → IsCapped n (min n 128)
-capped n = record { same = λ h. omega (arith, h); cap = λ h. omega (arith, h); low = omega arith; under = omega arith }
+capped n = record { same = λ h. omega (arith, h); cap = λ h. omega (arith, h); low = omega arith }
 
 two_cases : (n : ℕ) → (n ≤ 128) ⊎ (128 < n)
 two_cases n = grind arith
@@ -35,7 +34,6 @@ module _ (heights : Rows ℕ) (links : Links) (p q : Point) (sound : IsSound hei
     there = λ y there. absurd (not_both (at lifts y) (none_at lifts y none) there);
     raised = λ y l e. absurd (not_both (at lifts y) (none_at lifts y none) (some_there (at lifts y) l e));
     asked = λ y l e. absurd (not_both (at lifts y) (none_at lifts y none) (some_there (at lifts y) l e));
-    near = λ y l e. absurd (not_both (at lifts y) (none_at lifts y none) (some_there (at lifts y) l e));
     queued = λ y h e. absurd (not_both (at queue y) (none_at queue y empty) (some_there (at queue y) h e));
     not_below = λ y there. absurd (not_both (at lifts y) (none_at lifts y none) there);
     unmet = none_at lifts q none;
@@ -81,16 +79,12 @@ module _ (heights : Rows ℕ) (links : Links) (p q : Point) (sound : IsSound hei
     is_raised y same = let e = ap (level heights) same in let s = sound.low q in
         record { more = omega (arith, e, height, low); above_kid = omega (arith, height); low = omega (arith, height, s) }
 
-    near_q : l.height ≤ lifted heights lifts l.kid + 1
-    near_q = let e = ap (lifted heights lifts) kid in let f = lifted_none heights lifts q unmet_q in omega (arith, e, f, height)
-
     -- the new link's reader is lifted
     pub climbing_first : IsClimbing heights links p q lifts queue (level heights p) p []
     climbing_first = record {
       there = λ y there. subst (Holds heights) (sym (is_p y there)) there_p;
       raised = λ y m e. subst (λ k. IsRaised heights q y k.height) (sym (is_l y m e)) (is_raised y (is_p y (some_there (at lifts y) m e)));
       asked = λ y m e. inl (is_p y (some_there (at lifts y) m e), ap (λ k. k.kid) (is_l y m e) ∙ kid);
-      near = λ y m e. subst (λ k. k.height ≤ lifted heights lifts k.kid + 1) (sym (is_l y m e)) near_q;
       queued = λ y h e. let w = first_queued y h e (point_cases y p) in
           (w.0, some_there (at lifts y) l (ap (at lifts) w.1 ∙ first.lifts.changed));
       not_below = λ y there. let e = ap (level heights) (is_p y there) in omega (arith, e);
@@ -138,7 +132,6 @@ module _ (heights : Rows ℕ) (links : Links) (p q : Point) (sound : IsSound hei
         there = so.there;
         raised = so.raised;
         asked = so.asked;
-        near = so.near;
         queued = λ y k e. so.queued y k (was_at y k e (point_cases y x));
         not_below = so.not_below;
         unmet = so.unmet;
@@ -166,7 +159,6 @@ module _ (heights : Rows ℕ) (links : Links) (p q : Point) (sound : IsSound hei
       there = so.there;
       raised = so.raised;
       asked = so.asked;
-      near = so.near;
       queued = so.queued;
       not_below = so.not_below;
       unmet = so.unmet;
@@ -200,10 +192,6 @@ module _ (heights : Rows ℕ) (links : Links) (p q : Point) (sound : IsSound hei
 
     grows : (y : Point) → lifted heights lifts y ≤ lifted heights lifts_new y
     grows y = grows_by y (point_cases y r)
-
-    -- x is done, so it isn't r
-    not_x : x ≢ r
-    not_x e = let f = ap (level heights) e in let u = rises_x in omega (arith, f, u)
 
     not_r_done : IsDone lifts queue r → ⊥
     not_r_done d = let a = so.done r d in let u = rises_x in omega (arith, a, u)
@@ -286,13 +274,6 @@ module _ (heights : Rows ℕ) (links : Links) (p q : Point) (sound : IsSound hei
         (inr (subst (λ z. Reads links z x) (sym same) reads, holds x done_x.lifted))
     asked_by y l e (inr differs) = asked_kept y l.kid (so.asked y l (was y l e differs))
 
-    near_r : goes.height ≤ lifted heights lifts_new x + 1
-    near_r = let s = other_now x not_x in let o = goes.one_above in let c = cap.under in omega (arith, s, o, c)
-
-    near_by : (y : Point) (l : Lift) → at lifts_new y ≡ Some l → (y ≡ r) ⊎ (y ≢ r) → l.height ≤ lifted heights lifts_new l.kid + 1
-    near_by y l e (inl same) = subst (λ k. k.height ≤ lifted heights lifts_new k.kid + 1) (sym (is_new y l e same)) near_r
-    near_by y l e (inr differs) = let n = so.near y l (was y l e differs) in let g = grows l.kid in omega (arith, n, g)
-
     queued_at : (h : ℕ) → at queue_new r ≡ Some h → (at lifts r ≡ None) ⊎ Holds lifts r → h ≡ level heights r
     queued_at h e (inl none) = let f : ◌≡◌ {A = Option ℕ} (Some h) (Some (level heights r)) = sym e ∙ (goes.lifts.first none).changed in cc
     queued_at h e (inr there) = (so.queued r h (sym (goes.lifts.again there r) ∙ e)).0
@@ -345,7 +326,6 @@ module _ (heights : Rows ℕ) (links : Links) (p q : Point) (sound : IsSound hei
       there = λ y there. there_by y (held y there);
       raised = λ y l e. raised_by y l e (point_cases y r);
       asked = λ y l e. asked_by y l e (point_cases y r);
-      near = λ y l e. near_by y l e (point_cases y r);
       queued = λ y h e. queued_by y h e (point_cases y r);
       not_below = λ y there. not_below_by y (held y there);
       unmet = changes.others q (λ e. other (sym e)) ∙ so.unmet;
@@ -384,7 +364,6 @@ module _ (heights : Rows ℕ) (links : Links) (p q : Point) (sound : IsSound hei
     there = so.there;
     raised = so.raised;
     asked = so.asked;
-    near = so.near;
     queued = so.queued;
     not_below = so.not_below;
     unmet = so.unmet;

@@ -8,7 +8,7 @@ use Rattle.link_table.specs.Links.{Links, Reads}
 use Rattle.height_order.specs.declared.lifts.Lift.{Lift}
 use Rattle.height_order.specs.Chains.{ReadsWith, IsChain, EndsAt, IsPath}
 use Rattle.height_order.specs.Levels.{level, IsSound}
-use Rattle.height_order.specs.Climbs.{lifted, IsClimbed, IsAsked, IsAboveSoon, IsClimbing}
+use Rattle.height_order.specs.Climbs.{lifted, IsClimbed, IsAboveSoon, IsClimbing}
 use Rattle.height_order.proofs.Points.{there_cases}
 use Rattle.height_order.proofs.Covering.{occurs_none}
 use Rattle.height_order.proofs.Lifting.{lifted_none, not_under}
@@ -68,18 +68,12 @@ module _ (heights : Rows ℕ) (links : Links) (p q : Point) (sound : IsSound hei
         let f = ap (lifted heights lifts) path.starts in
         let n = lifted_none heights lifts q so.unmet in omega (arith, h, f, n)
 
-    reads_with : (y k : Point) → IsAsked links p q lifts y k → ReadsWith links p q y k
-    reads_with y k (inl new) = inr new
-    reads_with y k (inr w) = inl w.0
-
     pub climbing_ends : IsClimbed heights links p q lifts
     climbing_ends = record {
-      made = record {
-        there = so.there;
-        raised = so.raised;
-        reads = λ y l e. reads_with y l.kid (so.asked y l e);
-        near = so.near;
-      };
+      there = so.there;
+      raised = so.raised;
+      asked = so.asked;
+      unmet = so.unmet;
       rises = rises_by;
       no_path = λ leads. no_path_by leads.0 leads.1;
     }

@@ -7,7 +7,7 @@ pub mod Lifting
 pub mod Climbing
 pub mod Ending
 pub mod Pending
-pub mod Queuing
 pub mod Moving
 pub mod Sounding
+pub mod Ranking
 pub mod Answering

@@ -1,29 +1,27 @@
 -- Lists of the points of a walk.
-use Rattle.std.proofs.Common.{◌≡◌, ◌≢◌, ◌∙◌, ℕ, ◌≤◌, List, ap, inl, inr, is_some}
+use Rattle.std.proofs.Common.{◌≡◌, ℕ, ◌≤◌, List, inl, inr}
 use Rattle.std.specs.Prelude.{◌⊎◌, None}
 use Rattle.inc_value.specs.declared.node.Point.{Point}
 use Rattle.point_map.specs.Rows.{Rows, at, Holds, IsWalk}
 use Rattle.height_order.specs.declared.lifts.Lift.{Lift}
-use Rattle.height_order.specs.Levels.{level, or_zero, KeepsPoints, IsMoved}
+use Rattle.height_order.specs.Levels.{level, levelled, IsMoved}
 use Rattle.height_order.specs.Climbs.{AreAll}
-use Rattle.height_order.proofs.Points.{there_cases, zero_where_none}
+use Rattle.height_order.proofs.Levelling.{IsOff, levelled_none}
+use Rattle.height_order.proofs.Points.{there_cases}
 use Rattle.height_order.proofs.Walking.{Gathers, gathers_whole, stands_there}
 
-every_by : (old new : Rows ℕ) (p : Point) {A : Type 0} → KeepsPoints old new → (Holds old p → A) → level new p ≢ level old p → (at old p ≡ None) ⊎ Holds old p → A
-every_by old new p kept next differs (inr there) = next there
-every_by old new p kept next differs (inl none) =
-    let a = ap or_zero none in
-    let b = zero_where_none (at new p) (kept p ∙ ap is_some none) in
-    absurd (differs (let e : level new p ≡ level old p = cc in e))
+every_by : (heights levels : Rows ℕ) (p : Point) {A : Type 0} → (Holds levels p → A) → IsOff heights levels p → (at levels p ≡ None) ⊎ Holds levels p → A
+every_by heights levels p next differs (inr there) = next there
+every_by heights levels p next differs (inl none) = absurd (differs (levelled_none heights levels p none))
 
--- the points whose height differs
-pub moved_whole : (old new : Rows ℕ) (list : List Point) (n i : ℕ) → IsWalk old n → n ≤ i → KeepsPoints old new
-    → Gathers old (λ p. level new p ≢ level old p) list i → IsMoved (level old) (level new) list
-moved_whole old new list n i walk end kept so = record {
+-- the points whose level isn't their height
+pub moved_whole : (heights levels : Rows ℕ) (list : List Point) (n i : ℕ) → IsWalk levels n → n ≤ i
+    → Gathers levels (IsOff heights levels) list i → IsMoved (level heights) (levelled heights levels) list
+moved_whole heights levels list n i walk end so = record {
   once = so.once;
   changed = so.chosen;
-  every = λ p differs. every_by old new p kept
-      (λ there. gathers_whole old (λ q. level new q ≢ level old q) list n i walk end so p there differs) differs (there_cases old p);
+  every = λ p differs. every_by heights levels p
+      (λ there. gathers_whole levels (IsOff heights levels) list n i walk end so p there differs) differs (there_cases levels p);
 }
 
 -- all points of the map

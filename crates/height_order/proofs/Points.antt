@@ -1,5 +1,5 @@
 -- Points that are the same or not, and what is there after a change.
-use Rattle.std.proofs.Common.{◌≡◌, ◌≢◌, ℕ, true, false, refl, ap, inl, inr, is_some}
+use Rattle.std.proofs.Common.{◌≡◌, ◌≢◌, ℕ, true, refl, ap, inl, inr, is_some}
 use Rattle.std.specs.Prelude.{◌⊎◌, Option, Some, None, IsSome}
 use denote.Enum.Bare.{sameb}
 use Rattle.inc_value.specs.contracts.node.Part.{the_type}
@@ -29,10 +29,6 @@ level_kept old new p kept = ap or_zero (kept p)
 -- a point that was there is there
 pub still_there : (old new : Rows ℕ) (p : Point) → KeepsPoints old new → Holds old p → Holds new p
 still_there old new p kept there = let e = kept p in let k : is_some (at new p) ≡ true = cc in k
-
-pub zero_where_none : (o : Option ℕ) → is_some o ≡ false → or_zero o ≡ 0
-zero_where_none None h = refl
-zero_where_none (Some x) h = absurd (let e = h in cc)
 
 module _ {R : Type 0} where
   pub none_or_there : (o : Option R) → (o ≡ None) ⊎ IsSome o

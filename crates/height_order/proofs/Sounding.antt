@@ -1,19 +1,17 @@
 -- What stands between two calls, kept by each.
-use Rattle.std.proofs.Common.{◌≡◌, ◌≢◌, ◌∙◌, ℕ, ◌<◌, ◌≤◌, List, [], ◌∷◌, ◌++◌, refl, ap, sym, subst, inl, inr, arith}
-use Rattle.std.specs.Prelude.{◌⊎◌, Some, None, Result, Ok, Err, OnOk, OnErr, IfErr, is_some, IsSome}
+use Rattle.std.proofs.Common.{◌≡◌, ◌≢◌, ◌∙◌, ℕ, zero, suc, ◌+◌, ◌<◌, ◌≤◌, List, [], ◌∷◌, ◌++◌, refl, ap, sym, subst, inl, inr, arith}
+use Rattle.std.specs.Prelude.{◌⊎◌, Some, None, Result, Ok, Err, OnOk, OnErr, IsSome}
 use Rattle.inc_value.specs.declared.node.Point.{Point}
 use Rattle.point_map.specs.Rows.{Rows, at, Holds, Changes, KeepsRows}
 use Rattle.point_map.proofs.Places.{point_cases}
-use Rattle.link_table.specs.Links.{Links, times, Reads, KeepsLinks, OneLinkMore}
+use Rattle.link_table.specs.Links.{Links, times, link, Reads, KeepsLinks, OneLinkMore}
 use Rattle.height_order.specs.declared.lifts.Lift.{Lift}
-use Rattle.height_order.specs.declared.heights.LinkFault.{LinkFault}
-use Rattle.height_order.specs.declared.heights.LinkFault.TheVariants.{Path, Over, Memory}
-use Rattle.height_order.specs.Chains.{ReadsWith, IsPath, Leads, HasChain, NoRepeats}
-use Rattle.height_order.specs.Levels.{level, or_zero, Rises, AllLow, Ends, IsSound, KeepsPoints, IsExact, IsMoved, Tells, IsLevelling}
-use Rattle.height_order.specs.Climbs.{lifted, IsClimbed, AreAll}
-use Rattle.height_order.specs.Faults.{IfPath}
+use Rattle.height_order.specs.Answers.{IsNear}
+use Rattle.height_order.specs.Chains.{ReadsWith, Leads, HasChain}
+use Rattle.height_order.specs.Levels.{level, or_zero, Rises, AllLow, Ends, IsSound, KeepsPoints, IsMoved, Tells}
+use Rattle.height_order.specs.Climbs.{lifted, IsAsked, AllAsked, IsClimbed, AreAll}
 use Rattle.height_order.proofs.Points.{level_there, level_other, level_kept, still_there, row_there, there_cases, some_there}
-use Rattle.height_order.proofs.Chaining.{path_falls, no_long_chain, chain_once, leads_more}
+use Rattle.height_order.proofs.Chaining.{path_falls, no_long_chain, leads_more, leads_self, leads_before}
 use Rattle.height_order.proofs.Lifting.{lifted_some, lifted_none}
 
 sound_kept : (old new : Rows ℕ) (links : Links) → ((p : Point) → level new p ≡ level old p) → ((p : Point) → Holds old p → Holds new p)
@@ -22,19 +20,6 @@ sound_kept old new links same there s = record {
   ends = λ p q r. let e = s.ends p q r in (there p e.0, there q e.1);
   rises = λ p q r. let h = s.rises p q r in let a = same p in let b = same q in omega (arith, h, a, b);
   low = λ p. let h = s.low p in let a = same p in omega (arith, h, a);
-}
-
--- the same points at the same heights
-pub sound_rows : (old new : Rows ℕ) (links : Links) → KeepsRows old new → IsSound old links → IsSound new links
-sound_rows old new links same s = sound_kept old new links (λ q. level_kept old new q same) (λ q there. subst IsSome (sym (same q)) there) s
-
--- levels of a queue that has all points by their heights
-pub levelled_rows : (old queue new : Rows ℕ) (links : Links) → KeepsRows old queue → IsLevelling queue new links → IsLevelling old new links
-levelled_rows old queue new links same by = record {
-  points = λ p. by.points p ∙ ap is_some (same p);
-  rises = by.rises;
-  supported = by.supported;
-  under = λ p. let u = by.under p in let e = level_kept old queue p same in omega (arith, u, e);
 }
 
 added_level : (old new : Rows ℕ) (p q : Point) → Changes old new p (Some 0) → at old p ≡ None → (q ≡ p) ⊎ (q ≢ p) → level new q ≡ level old q
@@ -140,6 +125,10 @@ module _ (fewer more : Links) (p q : Point) (one : OneLinkMore fewer more p q) w
   ends_by h a b ends hp hq (inl r) = ends a b r
   ends_by h a b ends hp hq (inr new) = (subst (Holds h) (sym new.0) hp, subst (Holds h) (sym new.1) hq)
 
+  -- the ends of all links are there where those of the new one are
+  pub ends_more : (h : Rows ℕ) → Ends h fewer → Holds h p → Holds h q → Ends h more
+  ends_more h ends hp hq a b r = ends_by h a b ends hp hq (reads_from a b r)
+
   -- one link more, along which new heights of the same points rise
   pub sound_more : (old new : Rows ℕ) → KeepsPoints old new → Ends old fewer → Holds old p → Holds old q → Rises (ReadsWith fewer p q) (level new)
       → AllLow (level new) → IsSound new more
@@ -181,13 +170,35 @@ pub sound_higher : (h : Rows ℕ) (links more : Links) (p q : Point) → OneLink
 sound_higher h links more p q one s hp hq up =
     sound_more links more p q one h h (λ x. refl) s.ends hp hq (λ a b r. rises_higher_by h links p q a b s up r) s.low
 
--- levelled heights stand between calls
-pub sound_levelled : (old new : Rows ℕ) (links : Links) → IsSound old links → IsLevelling old new links → IsSound new links
-sound_levelled old new links s by = record {
-  ends = λ p q r. let e = s.ends p q r in (still_there old new p by.points e.0, still_there old new q by.points e.1);
-  rises = by.rises;
-  low = λ p. let a = by.under p in let b = s.low p in omega (arith, a, b);
-}
+-- where a link is put on and taken off again, all are there as before
+pub on_and_off : (old mid new : Links) (p q : Point) → OneLinkMore old mid p q → OneLinkMore new mid p q → KeepsLinks old new
+on_and_off old mid new p q on off a b = by (point_cases a p) (point_cases b q)
+  where
+    others : link a b ≢ link p q → times new a b ≡ times old a b
+    others differs = let e = on.others a b differs in let f = off.others a b differs in omega (arith, e, f)
+
+    by : (a ≡ p) ⊎ (a ≢ p) → (b ≡ q) ⊎ (b ≢ q) → times new a b ≡ times old a b
+    by (inl e) (inl f) =
+        let x = on.raised in let y = off.raised in
+        let g : times new p q ≡ times old p q = omega (arith, x, y) in
+        subst (λ z. times new z b ≡ times old z b) (sym e) (subst (λ z. times new p z ≡ times old p z) (sym f) g)
+    by (inr differs) either = others (λ e. differs (ap (λ l. l.reader) e))
+    by (inl e) (inr differs) = others (λ e. differs (ap (λ l. l.kid) e))
+
+module _ (heights : Rows ℕ) (links : Links) (p q : Point) (lifts : Rows Lift) (sound : IsSound heights links) (asked : AllAsked links p q lifts) where
+  up_from : (k : ℕ) (x kid : Point) → ((y : Point) → level heights y < k → Holds lifts y → Leads (Reads links) y p) → level heights x < suc k
+      → IsAsked links p q lifts x kid → Leads (Reads links) x p
+  up_from k x kid next low (inl new) = subst (λ z. Leads (Reads links) z p) (sym new.0) (leads_self (Reads links) p)
+  up_from k x kid next low (inr w) =
+      leads_before (Reads links) x kid p w.0 (next kid (let u = sound.rises x kid w.0 in omega (arith, u, low)) w.1)
+
+  up_by : (k : ℕ) (x : Point) → level heights x < k → Holds lifts x → Leads (Reads links) x p
+  up_by zero x low there = absurd (omega (arith, low))
+  up_by (suc k) x low there = let r = row_there lifts x there in up_from k x r.0.kid (λ y l t. up_by k y l t) low (asked x r.0 r.1)
+
+  -- each lifted point leads to the new link's reader
+  pub leads_reader : (x : Point) → Holds lifts x → Leads (Reads links) x p
+  leads_reader x there = up_by (level heights x + 1) x (omega arith) there
 
 module _ (old new : Rows ℕ) (links : Links) (p q : Point) (lifts : Rows Lift) (sound : IsSound old links) (climbed : IsClimbed old links p q lifts)
     (fits : (x : Point) → Holds lifts x → lifted old lifts x ≤ 128) (written : (x : Point) → level new x ≡ lifted old lifts x) where
@@ -217,8 +228,16 @@ module _ (old new : Rows ℕ) (links : Links) (p q : Point) (lifts : Rows Lift) 
   lifted_differs x there same =
       let r = row_there lifts x there in
       let e = lifted_some old lifts x r.0 r.1 in
-      let m = (climbed.made.raised x r.0 r.1).more in
+      let m = (climbed.raised x r.0 r.1).more in
       let w = written x in omega (arith, same, e, m, w)
+
+  -- they lead to the new link's reader
+  pub lifted_near : (x : Point) → level new x ≢ level old x → IsNear links p q x
+  lifted_near x differs = record {
+    top = x;
+    above = inr (leads_reader old links p q lifts sound climbed.asked x (differs_by x (there_cases lifts x) differs));
+    leads = leads_self (Reads links) x;
+  }
 
   -- the lifted points are those whose height changed
   pub lifted_moved : (list : List Point) → AreAll lifts list → IsMoved (level old) (level new) list
@@ -243,42 +262,3 @@ tells_none old new list same = record {
     every = λ p differs. absurd (differs (same p));
   };
 }
-
-path_once_by : (f : LinkFault) (h : Rows ℕ) (links : Links) (p q : Point) → IsSound h links → IfPath (λ list. IsPath (Reads links) list q p) f → IfPath NoRepeats f
-path_once_by (Path list) h links p q s path = chain_once (Reads links) (level h) s.rises list.items path.chain
-path_once_by (Over list) h links p q s path = tt
-path_once_by Memory h links p q s path = tt
-
--- no point stands twice in a path that is told
-pub path_once : {A : Type 0} → (r : Result A LinkFault) (h : Rows ℕ) (links : Links) (p q : Point) → IsSound h links
-    → IfErr r (λ e. IfPath (λ list. IsPath (Reads links) list q p) e) → IfErr r (λ e. IfPath NoRepeats e)
-path_once (Ok x) h links p q s path = tt
-path_once (Err f) h links p q s path = path_once_by f h links p q s path
-
--- a link that was made closes no cycle
-pub ok_no_path : {A E : Type 0} → (r : Result A E) (h : Rows ℕ) (old new : Links) (p q : Point) → OnOk r (OneLinkMore old new p q) → IsSound h new
-    → OnOk r (Leads (Reads old) q p → ⊥)
-ok_no_path (Ok x) h old new p q one s = linked_no_path old new p q one h s
-ok_no_path (Err x) h old new p q one s = tt
-
--- and makes no chain too long
-pub ok_no_over : {A E : Type 0} → (r : Result A E) (h : Rows ℕ) (old new : Links) (p q : Point) → OnOk r (OneLinkMore old new p q) → IsSound h new
-    → OnOk r (HasChain (ReadsWith old p q) 130 → ⊥)
-ok_no_over (Ok x) h old new p q one s = linked_no_over old new p q one h s
-ok_no_over (Err x) h old new p q one s = tt
-
--- heights that were taken, or kept, stand between calls
-pub adopted_sound : {A E : Type 0} → (r : Result A E) (old levels new : Rows ℕ) (links : Links) → OnOk r (new ≡ levels) → OnErr r (new ≡ old)
-    → IsSound old links → IsSound levels links → IsSound new links
-adopted_sound (Ok x) old levels new links ok err s t = subst (λ m. IsSound m links) (sym ok) t
-adopted_sound (Err x) old levels new links ok err s t = subst (λ m. IsSound m links) (sym err) s
-
--- levelled heights that were taken are exact
-pub adopted_exact : {A E : Type 0} → (r : Result A E) (levels new : Rows ℕ) (links : Links) → OnOk r (new ≡ levels) → IsExact levels links → OnOk r (IsExact new links)
-adopted_exact (Ok x) levels new links ok exact = subst (λ m. IsExact m links) (sym ok) exact
-adopted_exact (Err x) levels new links ok exact = tt
-
--- what holds anyway holds on an error
-pub on_err : {A E : Type 0} {P : Type 0} → (r : Result A E) → P → OnErr r P
-on_err (Ok x) p = tt
-on_err (Err x) p = p

@@ -51,10 +51,14 @@ abbrev pub NoRepeats : List Point → Type 0
 NoRepeats [] = Unit {0}
 NoRepeats (p ∷ rest) = (Contains rest p → ⊥) × NoRepeats rest
 
+-- no chain from p goes over more than n links
+abbrev pub NoneLonger : Reading → Point → ℕ → Type 0
+NoneLonger R p n = (list : List Point) → IsChain R list → StartsAt list p → length list ≤ n + 1
+
 -- the longest chain from p goes over n links
 pub record IsLongest (R : Reading) (p : Point) (n : ℕ) : Type 0 where
   pub list : List Point
   pub chain : IsChain R list
   pub starts : StartsAt list p
   pub long : length list ≡ n + 1
-  pub none_longer : (other : List Point) → IsChain R other → StartsAt other p → length other ≤ n + 1
+  pub none_longer : NoneLonger R p n

@@ -5,7 +5,7 @@ use Rattle.point_map.specs.Rows.{Rows, at, Holds, Changes, KeepsRows}
 use Rattle.link_table.specs.Links.{Links, Reads, occurrences}
 use Rattle.height_order.specs.declared.lifts.Lift.{Lift}
 use Rattle.height_order.specs.Chains.{Reading, ReadsWith, NoRepeats, Leads}
-use Rattle.height_order.specs.Levels.{level}
+use Rattle.height_order.specs.Levels.{level, Rises}
 
 -- the height that a lift gives, or this one where there is none
 abbrev pub lifted_from : ℕ → Option Lift → ℕ
@@ -22,22 +22,9 @@ pub record IsRaised (heights : Rows ℕ) (q x : Point) (height : ℕ) : Type 0 w
   pub above_kid : level heights q < height
   pub low : height ≤ 129
 
--- each lifted point is there, is raised, and reads the point that asks for its height, which is at most one lower
-pub record AreLifts (heights : Rows ℕ) (links : Links) (p q : Point) (lifts : Rows Lift) : Type 0 where
-  pub there : (x : Point) → Holds lifts x → Holds heights x
-  pub raised : (x : Point) (l : Lift) → at lifts x ≡ Some l → IsRaised heights q x l.height
-  pub reads : (x : Point) (l : Lift) → at lifts x ≡ Some l → ReadsWith links p q x l.kid
-  pub near : (x : Point) (l : Lift) → at lifts x ≡ Some l → l.height ≤ lifted heights lifts l.kid + 1
-
 -- points that aren't above the greatest height stand higher than what they read
 abbrev pub RisesToTop : Reading → (Point → ℕ) → Type 0
 RisesToTop R height = (a b : Point) → R a b → height a ≤ 128 → height b < height a
-
--- heights rise along the links with the new one, but for points above the greatest height, and q doesn't lead to p
-pub record IsClimbed (heights : Rows ℕ) (links : Links) (p q : Point) (lifts : Rows Lift) : Type 0 where
-  pub made : AreLifts heights links p q lifts
-  pub rises : RisesToTop (ReadsWith links p q) (lifted heights lifts)
-  pub no_path : Leads (Reads links) q p → ⊥
 
 -- the point that asks for the height is the new kid, for p, or was lifted itself
 abbrev pub IsAsked : Links → Point → Point → Rows Lift → Point → Point → Type 0
@@ -46,6 +33,23 @@ IsAsked links p q lifts x kid = ((x ≡ p) × (kid ≡ q)) ⊎ (Reads links x ki
 -- this is so of each lifted point
 abbrev pub AllAsked : Links → Point → Point → Rows Lift → Type 0
 AllAsked links p q lifts = (x : Point) (l : Lift) → at lifts x ≡ Some l → IsAsked links p q lifts x l.kid
+
+-- lifted points are there, and are raised; q isn't one of them and doesn't lead to p. Lifted heights rise along the
+-- links with the new one, but for points above the greatest height.
+pub record IsClimbed (heights : Rows ℕ) (links : Links) (p q : Point) (lifts : Rows Lift) : Type 0 where
+  pub there : (x : Point) → Holds lifts x → Holds heights x
+  pub raised : (x : Point) (l : Lift) → at lifts x ≡ Some l → IsRaised heights q x l.height
+  pub asked : AllAsked links p q lifts
+  pub unmet : at lifts q ≡ None
+  pub rises : RisesToTop (ReadsWith links p q) (lifted heights lifts)
+  pub no_path : Leads (Reads links) q p → ⊥
+
+-- numbers of at most 257 that rise along all links; those of points that aren't lifted are their heights
+pub record IsRanked (R : Reading) (heights : Rows ℕ) (lifts : Rows Lift) : Type 0 where
+  pub rank : Point → ℕ
+  pub rises : Rises R rank
+  pub low : (x : Point) → rank x ≤ 257
+  pub same : (x : Point) → at lifts x ≡ None → rank x ≡ level heights x
 
 -- the point was lifted, and has left the queue
 pub record IsDone (lifts : Rows Lift) (queue : Rows ℕ) (y : Point) : Type 0 where
@@ -63,7 +67,6 @@ pub record IsClimbing (heights : Rows ℕ) (links : Links) (p q : Point) (lifts 
   pub there : (y : Point) → Holds lifts y → Holds heights y
   pub raised : (y : Point) (l : Lift) → at lifts y ≡ Some l → IsRaised heights q y l.height
   pub asked : AllAsked links p q lifts
-  pub near : (y : Point) (l : Lift) → at lifts y ≡ Some l → l.height ≤ lifted heights lifts l.kid + 1
   pub queued : (y : Point) (h : ℕ) → at queue y ≡ Some h → (h ≡ level heights y) × Holds lifts y
   pub not_below : (y : Point) → Holds lifts y → level heights p ≤ level heights y
   pub unmet : at lifts q ≡ None

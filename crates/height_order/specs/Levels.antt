@@ -1,9 +1,9 @@
 -- Heights of points, and how they stand to links.
-use Rattle.std.specs.Prelude.{◌≡◌, ◌≢◌, ℕ, ◌+◌, ◌<◌, ◌≤◌, List, ◌++◌, Option, None, Some, is_some, Contains}
+use Rattle.std.specs.Prelude.{◌≡◌, ◌≢◌, ◌⊎◌, ℕ, ◌<◌, ◌≤◌, List, ◌++◌, Option, None, Some, is_some, Contains}
 use Rattle.inc_value.specs.declared.node.Point.{Point}
 use Rattle.point_map.specs.Rows.{Rows, at, Holds}
 use Rattle.link_table.specs.Links.{Links, Reads}
-use Rattle.height_order.specs.Chains.{Reading, NoRepeats, IsLongest}
+use Rattle.height_order.specs.Chains.{Reading, Leads, NoRepeats, IsLongest}
 
 -- points with their heights, and the links between them
 pub record Web : Type 0 where
@@ -45,6 +45,14 @@ KeepsPoints old new = (p : Point) → is_some (at new p) ≡ is_some (at old p)
 abbrev pub IsExact : Rows ℕ → Links → Type 0
 IsExact heights links = (p : Point) → Holds heights p → IsLongest (Reads links) p (level heights p)
 
+-- p or q leads to x; each point leads to itself
+abbrev pub IsBelow : Links → Point → Point → Point → Type 0
+IsBelow links p q x = Leads (Reads links) p x ⊎ Leads (Reads links) q x
+
+-- each point that p or q leads to has the height of its longest chain
+abbrev pub IsExactBelow : Rows ℕ → Links → Point → Point → Type 0
+IsExactBelow heights links p q = (x : Point) → IsBelow links p q x → IsLongest (Reads links) x (level heights x)
+
 -- the list has each point whose height changed, once
 pub record IsMoved (old new : Point → ℕ) (list : List Point) : Type 0 where
   pub once : NoRepeats list
@@ -57,19 +65,21 @@ pub record Tells (old new : Point → ℕ) (before after : List Point) : Type 0 
   pub appended : after ≡ before ++ list
   pub moved : IsMoved old new list
 
--- some point that p reads is at most one lower than this height
-pub record IsSupported (R : Reading) (height : Point → ℕ) (p : Point) (h : ℕ) : Type 0 where
-  pub kid : Point
-  pub reads : R p kid
-  pub near : h ≤ height kid + 1
+-- some points' levels: each is the length of its point's longest chain, and what such a point reads has its own
+pub record AreLevels (links : Links) (levels : Rows ℕ) : Type 0 where
+  pub longest : (p : Point) (n : ℕ) → at levels p ≡ Some n → IsLongest (Reads links) p n
+  pub closed : (p q : Point) → Holds levels p → Reads links p q → Holds levels q
 
--- each point above 0 reads one that is at most one lower
-abbrev pub AllSupported : Reading → (Point → ℕ) → Type 0
-AllSupported R height = (p : Point) → 0 < height p → IsSupported R height p (height p)
+-- levels that were there stay, and p leads to each point that was added
+pub record AddsBelow (links : Links) (old new : Rows ℕ) (p : Point) : Type 0 where
+  pub kept : (x : Point) (n : ℕ) → at old x ≡ Some n → at new x ≡ Some n
+  pub below : (x : Point) → Holds new x → Holds old x ⊎ Leads (Reads links) p x
 
--- new heights of the same points, none above its old one, and each one above what it reads
-pub record IsLevelling (old new : Rows ℕ) (links : Links) : Type 0 where
-  pub points : KeepsPoints old new
-  pub rises : Rises (Reads links) (level new)
-  pub supported : AllSupported (Reads links) (level new)
-  pub under : (p : Point) → level new p ≤ level old p
+-- the height that a level gives, or this one where there is none
+abbrev pub level_or : ℕ → Option ℕ → ℕ
+level_or h None = h
+level_or h (Some n) = n
+
+-- the height of a point once it is levelled
+abbrev pub levelled : Rows ℕ → Rows ℕ → Point → ℕ
+levelled heights levels p = level_or (level heights p) (at levels p)

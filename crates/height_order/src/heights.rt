@@ -6,8 +6,8 @@ ghost use Rattle.link_table.specs.Links.{times, Reads, OneLinkMore};
 ghost use Rattle.height_order.specs.Levels.{level, Rises, KeepsPoints, IsExact, Tells};
 ghost use Rattle.height_order.specs.Answers.{IsLinkAnswer};
 
-use crate::levels::{add_at, level_of, levelled};
-use crate::linking::{adopt, make_link};
+use crate::levels::{add_at, level_of};
+use crate::linking::{adopt_all, make_link};
 use inc_value::Point;
 use link_table::{Link, LinkTable};
 use point_map::PointMap;
@@ -120,8 +120,11 @@ impl Heights {
 
     /// Makes `p` read `q` once more. Each point whose height changes is appended to `moved`, once,
     /// whatever is answered. `Path`: `q` leads to `p`. `Over`: with the link some chain would have
-    /// 130 points; heights are levelled before. A refusal leaves the links, and all but `Over` the
-    /// heights. Where `p` is higher than `q` already heights stay.
+    /// 130 points; `p`, `q` and all that they lead to are levelled before. A refusal leaves the links,
+    /// and all but `Over` the heights. Where `p` is higher than `q` already heights stay.
+    ///
+    /// Points that lead to `p` and stand too low are lifted. Where one of them would pass 128 they are
+    /// levelled, with all that they lead to. No other points but the readers of these are looked at.
     pub fn link(&mut self, p: Point, q: Point, moved: &mut Vec<Point>) -> Result<(), LinkFault>
         requires reader { Holds self.old.heights p }
         requires kid { Holds self.old.heights q }
@@ -149,9 +152,15 @@ impl Heights {
         ensures moved { Tells (level self.old.heights) (level self.new.heights) moved.old.items moved.new.items }
         ensures err { OnErr result (self.new ≡ self.old) }
     {
-        let mut levels = levelled(self.alloc, &self.links, &self.heights)?;
-        let adopted = adopt(self.alloc, &mut self.heights, &mut levels, moved);
+        let mut levels = PointMap::new(self.alloc);
+        let levelled = adopt_all(
+            self.alloc,
+            &mut self.heights,
+            &self.links,
+            &mut levels,
+            moved,
+        );
         drop(levels);
-        adopted
+        levelled
     }
 }

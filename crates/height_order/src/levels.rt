@@ -1,14 +1,14 @@
-//! Tables of heights, and the least heights that rise along all links.
-ghost use Rattle.std.specs.Prelude.{[], ◌≡◌, ◌≢◌, ◌+◌, ◌<◌, ◌≤◌, None, Some, IfOk, OnOk, OnErr};
+//! Tables of heights, and levels: the lengths of points' longest chains.
+ghost use Rattle.std.specs.Prelude.{ℕ, ◌≡◌, ◌≢◌, ◌⊎◌, ◌+◌, ◌<◌, ◌≤◌, None, Some, length, IfOk, IfSome, IfNone, OnOk, OnErr};
 ghost use Rattle.inc_value.specs.declared.node.Point.{Point};
-ghost use Rattle.point_map.specs.Rows.{at, Changes, KeepsRows};
+ghost use Rattle.point_map.specs.Rows.{at, Holds, Changes, KeepsRows};
 ghost use Rattle.link_table.specs.Links.{Reads};
-ghost use Rattle.height_order.specs.Levels.{level, KeepsPoints, IsMoved, IsSound, IsSupported, IsLevelling};
+ghost use Rattle.height_order.specs.Chains.{IsChain, Leads, NoneLonger};
+ghost use Rattle.height_order.specs.Levels.{level, levelled, KeepsPoints, IsMoved, AreLevels, AddsBelow};
 
 use inc_value::Point;
 use link_table::LinkTable;
 use point_map::PointMap;
-use recompute_heap::RecomputeHeap;
 use std::alloc::{AllocError, Global};
 
 /// The height of a point, 0 where it isn't there.
@@ -29,93 +29,137 @@ pub fn add_at(heights: &mut PointMap<u32>, p: Point, height: u32) -> Result<(), 
     Ok(())
 }
 
-/// The least heights that rise along the links: each point stands one above the highest that it reads.
-/// Points come by rising old height, so that all that a point reads comes before it.
-pub fn levelled(
-    alloc: Global,
+/// The level of a point, over at most so many links. It is kept, with those of all points that this one
+/// leads to; nothing else is looked at.
+pub fn level_below(
     links: &LinkTable,
-    heights: &PointMap<u32>,
-) -> Result<PointMap<u32>, AllocError>
-    requires sound { IsSound heights.now links.now }
-    ensures { IfOk result (λ m. IsLevelling heights.now m links.now) }
+    levels: &mut PointMap<u32>,
+    p: Point,
+    most: u32,
+) -> Result<u32, AllocError>
+    requires levels { AreLevels links.now levels.old }
+    requires short { NoneLonger (Reads links.now) p most }
+    ensures level { IfOk result (λ n. at levels.new p ≡ Some n) }
+    ensures levels { OnOk result (AreLevels links.now levels.new) }
+    ensures adds { OnOk result (AddsBelow links.now levels.old levels.new p) }
 {
-    let mut queue = queued(alloc, heights)?;
-    let mut levels = PointMap::new(alloc);
-    let done = level_queued(links, &mut queue, &mut levels);
-    drop(queue);
-    match done {
-        Ok(()) => Ok(levels),
-        Err(AllocError) => {
-            drop(levels);
-            Err(AllocError)
-        }
+    if let Some(level) = levels.get(p).copied() {
+        return Ok(level);
     }
+    let mut level = 0;
+    for kid in links.kids(p) {
+        level = level.max(level_below(links, levels, kid, most - 1)? + 1);
+    }
+    add_at(levels, p, level)?;
+    Ok(level)
 }
 
-/// Levels the points of a queue that has them all by their heights, each after what it reads.
-fn level_queued(
+/// Levels the points of a map and all that these lead to.
+pub fn level_each<R>(
     links: &LinkTable,
-    queue: &mut RecomputeHeap,
+    points: &PointMap<R>,
     levels: &mut PointMap<u32>,
+    most: u32,
 ) -> Result<(), AllocError>
-    requires sound { IsSound queue.old links.now }
-    requires none { levels.old.places ≡ [] }
-    ensures { OnOk result (IsLevelling queue.old levels.new links.now) }
+    requires levels { AreLevels links.now levels.old }
+    requires short { (p : Point) → NoneLonger (Reads links.now) p most }
+    ensures levels { OnOk result (AreLevels links.now levels.new) }
+    ensures each { OnOk result ((p : Point) → Holds points.now p → Holds levels.new p) }
+    ensures below { OnOk result ((x : Point) → Holds levels.new x
+        → Holds levels.old x ⊎ ((p : Point) × Holds points.now p × Leads (Reads links.now) p x)) }
 {
-    while let Some((p, _height)) = queue.pop_least() {
-        let height = height_over(links, levels, p);
-        add_at(levels, p, height)?;
+    for i in 0..points.places() {
+        let Some(p) = points.point_at(i) else {
+            continue;
+        };
+        level_below(links, levels, p, most)?;
     }
     Ok(())
 }
 
-/// All points by their heights.
-fn queued(alloc: Global, heights: &PointMap<u32>) -> Result<RecomputeHeap, AllocError>
-    requires low { (p : Point) → level heights.now p ≤ 128 }
-    ensures { IfOk result (λ queue. KeepsRows heights.now queue) }
-{
-    let mut queue = RecomputeHeap::new(alloc)?;
-    for i in 0..heights.places() {
-        let Some(p) = heights.point_at(i) else {
-            continue;
-        };
-        queue.reserve(1)?;
-        queue.insert(p, level_of(heights, p));
-    }
-    Ok(queue)
-}
-
-/// One above the highest that the point reads, and 0 where it reads none.
-fn height_over(links: &LinkTable, levels: &PointMap<u32>, p: Point) -> u32
-    requires low { (q : Point) → Reads links.now p q → level levels.now q ≤ 128 }
-    ensures above { (q : Point) → Reads links.now p q → level levels.now q < result }
-    ensures near { 0 < result → IsSupported (Reads links.now) (level levels.now) p result }
-{
-    let mut height = 0;
-    for kid in links.kids(p) {
-        height = height.max(level_of(levels, kid) + 1);
-    }
-    height
-}
-
-/// The points whose height differs, each once.
+/// The points whose level isn't their height, each once.
 pub fn changed(
     alloc: Global,
-    old: &PointMap<u32>,
-    new: &PointMap<u32>,
+    heights: &PointMap<u32>,
+    levels: &PointMap<u32>,
 ) -> Result<Vec<Point>, AllocError>
-    requires points { KeepsPoints old.now new.now }
-    ensures { IfOk result (λ list. IsMoved (level old.now) (level new.now) list.items) }
+    ensures { IfOk result (λ list. IsMoved (level heights.now) (levelled heights.now levels.now) list.items) }
 {
     let mut list = Vec::new(alloc);
-    for i in 0..old.places() {
-        let Some(p) = old.point_at(i) else {
+    for i in 0..levels.places() {
+        let Some(p) = levels.point_at(i) else {
             continue;
         };
-        if level_of(old, p) == level_of(new, p) {
+        if level_of(heights, p) == level_of(levels, p) {
             continue;
         }
         list.push(p)?;
     }
     Ok(list)
+}
+
+/// Gives each point that has a level this height.
+pub fn write_levels(heights: &mut PointMap<u32>, levels: &PointMap<u32>)
+    requires there { (p : Point) → Holds levels.now p → Holds heights.old p }
+    ensures points { KeepsPoints heights.old heights.new }
+    ensures written { (p : Point) → level heights.new p ≡ levelled heights.old levels.now p }
+{
+    for i in 0..levels.places() {
+        let Some(p) = levels.point_at(i) else {
+            continue;
+        };
+        let height = level_of(levels, p);
+        heights.replace(p, height);
+    }
+}
+
+/// A point whose level is above the greatest height, if there is one.
+pub fn too_long(levels: &PointMap<u32>) -> Option<Point>
+    ensures some { IfSome result (λ p. 128 < level levels.now p) }
+    ensures none { IfNone result ((p : Point) → level levels.now p ≤ 128) }
+{
+    for i in 0..levels.places() {
+        if let Some(p) = levels.point_at(i) {
+            if level_of(levels, p) > 128 {
+                return Some(p);
+            }
+        }
+    }
+    None
+}
+
+/// A chain of 130 points, from one whose level is above the greatest height.
+pub fn long_chain(
+    alloc: Global,
+    links: &LinkTable,
+    levels: &PointMap<u32>,
+    top: Point,
+) -> Result<Vec<Point>, AllocError>
+    requires levels { AreLevels links.now levels.now }
+    requires high { 128 < level levels.now top }
+    ensures chain { IfOk result (λ list. IsChain (Reads links.now) list.items) }
+    ensures length { IfOk result (λ list. length list.items ≡ 130) }
+{
+    let mut list = Vec::new(alloc);
+    let mut last = top;
+    list.push(last)?;
+    while list.len() < 130 {
+        last = kid_below(links, levels, last).unwrap();
+        list.push(last)?;
+    }
+    Ok(list)
+}
+
+/// A point that this one reads and whose level is at most one lower.
+fn kid_below(links: &LinkTable, levels: &PointMap<u32>, p: Point) -> Option<Point>
+    ensures kid { IfSome result (λ k. Reads links.now p k × (level levels.now p ≤ level levels.now k + 1)) }
+    ensures none { IfNone result ((k : Point) → Reads links.now p k → level levels.now k + 1 < level levels.now p) }
+{
+    let level = level_of(levels, p);
+    for kid in links.kids(p) {
+        if level.saturating_sub(1) <= level_of(levels, kid) {
+            return Some(kid);
+        }
+    }
+    None
 }

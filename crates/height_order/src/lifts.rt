@@ -1,15 +1,12 @@
 //! New heights of some points, over the old heights of all.
-ghost use Rattle.std.specs.Prelude.{ℕ, ◌≡◌, ◌+◌, ◌<◌, ◌≤◌, None, Some, length, IfOk, IfSome, IfNone};
+ghost use Rattle.std.specs.Prelude.{◌≡◌, ◌<◌, ◌≤◌, IfOk, IfSome, IfNone};
 ghost use Rattle.inc_value.specs.declared.node.Point.{Point};
-ghost use Rattle.point_map.specs.Rows.{at, Holds};
-ghost use Rattle.link_table.specs.Links.{Links, Reads};
-ghost use Rattle.height_order.specs.Chains.{ReadsWith, IsChain};
-ghost use Rattle.height_order.specs.Levels.{level, KeepsPoints, AllLow, AllSupported, IsSupported};
-ghost use Rattle.height_order.specs.Climbs.{lifted, AreAll, AreLifts};
+ghost use Rattle.point_map.specs.Rows.{Holds};
+ghost use Rattle.height_order.specs.Levels.{level, KeepsPoints};
+ghost use Rattle.height_order.specs.Climbs.{lifted, AreAll};
 
 use crate::levels::level_of;
 use inc_value::Point;
-use link_table::LinkTable;
 use point_map::PointMap;
 use std::alloc::{AllocError, Global};
 
@@ -69,56 +66,6 @@ pub fn too_high(heights: &PointMap<u32>, lifts: &PointMap<Lift>) -> Option<Point
             if lifted_level(heights, lifts, p) > 128 {
                 return Some(p);
             }
-        }
-    }
-    None
-}
-
-/// A chain of 130 points along the links with the new one, from a point that is above the greatest height.
-pub fn long_chain(
-    alloc: Global,
-    links: &LinkTable,
-    heights: &PointMap<u32>,
-    lifts: &PointMap<Lift>,
-    p: Point,
-    q: Point,
-    top: Point,
-) -> Result<Vec<Point>, AllocError>
-    requires lifts { AreLifts heights.now links.now p q lifts.now }
-    requires supported { AllSupported (Reads links.now) (level heights.now) }
-    requires high { 128 < lifted heights.now lifts.now top }
-    ensures chain { IfOk result (λ list. IsChain (ReadsWith links.now p q) list.items) }
-    ensures length { IfOk result (λ list. length list.items ≡ 130) }
-{
-    let mut list = Vec::new(alloc);
-    let mut last = top;
-    list.push(last)?;
-    while list.len() < 130 {
-        last = kid_below(links, heights, lifts, last).unwrap();
-        list.push(last)?;
-    }
-    Ok(list)
-}
-
-/// A point that this one reads and that is at most one lower: the one that asks for its height where it
-/// is lifted, and else one of its kids.
-fn kid_below(
-    links: &LinkTable,
-    heights: &PointMap<u32>,
-    lifts: &PointMap<Lift>,
-    x: Point,
-) -> Option<Point>
-    ensures lift { (l : Lift) → at lifts.now x ≡ Some l → result ≡ Some l.kid }
-    ensures kid { at lifts.now x ≡ None → IfSome result (λ k. Reads links.now x k × (level heights.now x ≤ level heights.now k + 1)) }
-    ensures none { IfNone result (IsSupported (Reads links.now) (level heights.now) x (level heights.now x) → ⊥) }
-{
-    if let Some(lift) = lifts.get(x) {
-        return Some(lift.kid);
-    }
-    let height = level_of(heights, x);
-    for kid in links.kids(x) {
-        if height.saturating_sub(1) <= level_of(heights, kid) {
-            return Some(kid);
         }
     }
     None

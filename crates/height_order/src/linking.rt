@@ -1,21 +1,22 @@
-//! A link more, over heights that are lifted for it or levelled before.
-ghost use Rattle.std.specs.Prelude.{[], ◌≡◌, ◌<◌, ◌≤◌, ◌++◌, OnOk, OnErr, length};
+//! A link more, over heights that are lifted or levelled for it.
+ghost use Rattle.std.specs.Prelude.{[], ◌≡◌, ◌<◌, ◌≤◌, ◌++◌, OnOk, OnErr};
 ghost use Rattle.inc_value.specs.declared.node.Point.{Point};
 ghost use Rattle.point_map.specs.Rows.{Holds};
-ghost use Rattle.link_table.specs.Links.{KeepsLinks, OneLinkMore};
-ghost use Rattle.height_order.specs.Levels.{level, IsSound, KeepsPoints, IsLevelling, Tells};
-ghost use Rattle.height_order.specs.Climbs.{lifted, IsClimbed};
-ghost use Rattle.height_order.specs.Answers.{IsLinkAnswer};
+ghost use Rattle.link_table.specs.Links.{Reads, KeepsLinks, OneLinkMore};
+ghost use Rattle.height_order.specs.Levels.{level, levelled, AllLow, Ends, IsSound, KeepsPoints, IsExact, Tells};
+ghost use Rattle.height_order.specs.Climbs.{lifted, IsClimbed, IsRanked};
+ghost use Rattle.height_order.specs.Answers.{IsLinkAnswer, IsFitted, AreEndsLevelled};
 
 use crate::climb::climb;
 use crate::heights::LinkFault;
-use crate::levels::{changed, level_of, levelled};
-use crate::lifts::{Lift, lifted_points, long_chain, too_high, write_lifts};
+use crate::levels::{
+    changed, level_below, level_each, level_of, long_chain, too_long, write_levels,
+};
+use crate::lifts::{Lift, lifted_points, too_high, write_lifts};
 use inc_value::Point;
 use link_table::{Link, LinkTable};
 use point_map::PointMap;
 use std::alloc::{AllocError, Global};
-use std::mem;
 
 /// Makes one link more. Where its reader is higher than its kid already, heights stay.
 pub fn make_link(
@@ -45,7 +46,8 @@ pub fn make_link(
     linked
 }
 
-/// Lifts points until the link fits, and levels all heights where these are lifted too high.
+/// Lifts points until the link fits. Where some are lifted too high they are levelled, with all that they
+/// lead to.
 fn link_climbing(
     alloc: Global,
     heights: &mut PointMap<u32>,
@@ -70,7 +72,7 @@ fn link_climbing(
         Err(AllocError) => return Err(LinkFault::Memory),
     }
     if too_high(heights, lifts).is_some() {
-        return link_levelled(alloc, heights, links, new, moved);
+        return link_levelled(alloc, heights, links, new, lifts, moved);
     }
     link_lifted(alloc, heights, links, new, lifts, moved)
 }
@@ -108,149 +110,169 @@ fn link_lifted(
     }
 }
 
-/// Levels all heights, and makes the link over these if it fits. Heights stay unless it is `Over`.
+/// Makes the link and levels the lifted points over it, with all that they lead to. Where this doesn't fit
+/// the link is taken off again, and what stands below its two ends is levelled without it.
 fn link_levelled(
     alloc: Global,
     heights: &mut PointMap<u32>,
     links: &mut LinkTable,
     new: Link,
-    moved: &mut Vec<Point>,
-) -> Result<(), LinkFault>
-    requires sound { IsSound heights.old links.old }
-    requires reader { Holds heights.old new.reader }
-    requires kid { Holds heights.old new.kid }
-    requires not_higher { level heights.old new.reader ≤ level heights.old new.kid }
-    ensures sound { IsSound heights.new links.new }
-    ensures answer { IsLinkAnswer (record { heights = heights.old; links = links.old })
-        (record { heights = heights.new; links = links.new })
-        new.reader new.kid moved.old.items moved.new.items result }
-{
-    let mut levels = match levelled(alloc, links, heights) {
-        Ok(levels) => levels,
-        Err(AllocError) => return Err(LinkFault::Memory),
-    };
-    let mut lifts = PointMap::new(alloc);
-    let linked = link_over(alloc, heights, links, new, &mut levels, &mut lifts, moved);
-    drop(lifts);
-    drop(levels);
-    linked
-}
-
-/// Makes the link over these levels if it fits.
-fn link_over(
-    alloc: Global,
-    heights: &mut PointMap<u32>,
-    links: &mut LinkTable,
-    new: Link,
-    levels: &mut PointMap<u32>,
-    lifts: &mut PointMap<Lift>,
-    moved: &mut Vec<Point>,
-) -> Result<(), LinkFault>
-    requires sound { IsSound heights.old links.old }
-    requires reader { Holds heights.old new.reader }
-    requires kid { Holds heights.old new.kid }
-    requires not_higher { level heights.old new.reader ≤ level heights.old new.kid }
-    requires levelling { IsLevelling heights.old levels.old links.old }
-    requires none { lifts.old.places ≡ [] }
-    ensures sound { IsSound heights.new links.new }
-    ensures answer { IsLinkAnswer (record { heights = heights.old; links = links.old })
-        (record { heights = heights.new; links = links.new })
-        new.reader new.kid moved.old.items moved.new.items result }
-{
-    match climb(alloc, links, levels, new, lifts) {
-        Ok(None) => {}
-        Ok(Some(path)) => return Err(LinkFault::Path(path)),
-        Err(AllocError) => return Err(LinkFault::Memory),
-    }
-    match too_high(levels, lifts) {
-        Some(top) => tell_over(alloc, heights, links, new, levels, lifts, top, moved),
-        None => link_at(alloc, heights, links, new, levels, lifts, moved),
-    }
-}
-
-/// Tells the chain that would be too long, and takes these levels for the heights.
-fn tell_over(
-    alloc: Global,
-    heights: &mut PointMap<u32>,
-    links: &LinkTable,
-    new: Link,
-    levels: &mut PointMap<u32>,
     lifts: &PointMap<Lift>,
-    top: Point,
     moved: &mut Vec<Point>,
 ) -> Result<(), LinkFault>
-    requires sound { IsSound heights.old links.now }
+    requires sound { IsSound heights.old links.old }
+    requires reader { Holds heights.old new.reader }
+    requires kid { Holds heights.old new.kid }
     requires not_higher { level heights.old new.reader ≤ level heights.old new.kid }
-    requires levelling { IsLevelling heights.old levels.old links.now }
-    requires climbed { IsClimbed levels.old links.now new.reader new.kid lifts.now }
-    requires high { 128 < lifted levels.old lifts.now top }
-    ensures sound { IsSound heights.new links.now }
-    ensures answer { IsLinkAnswer (record { heights = heights.old; links = links.now })
-        (record { heights = heights.new; links = links.now })
+    requires climbed { IsClimbed heights.old links.old new.reader new.kid lifts.now }
+    ensures sound { IsSound heights.new links.new }
+    ensures answer { IsLinkAnswer (record { heights = heights.old; links = links.old })
+        (record { heights = heights.new; links = links.new })
         new.reader new.kid moved.old.items moved.new.items result }
 {
-    let chain = match long_chain(alloc, links, levels, lifts, new.reader, new.kid, top) {
-        Ok(chain) => chain,
+    match links.add(new.reader, new.kid) {
+        Ok(()) => {}
         Err(AllocError) => return Err(LinkFault::Memory),
+    }
+    let chain = match fit(alloc, heights, links, lifts, moved) {
+        Ok(None) => return Ok(()),
+        Ok(Some(chain)) => chain,
+        Err(AllocError) => {
+            links.remove(new.reader, new.kid);
+            return Err(LinkFault::Memory);
+        }
     };
-    match adopt(alloc, heights, levels, moved) {
+    links.remove(new.reader, new.kid);
+    match level_ends(alloc, heights, links, new, moved) {
         Ok(()) => Err(LinkFault::Over(chain)),
         Err(AllocError) => Err(LinkFault::Memory),
     }
 }
 
-/// Makes the link where these levels, lifted, fit, and takes them for the heights.
-fn link_at(
+/// Levels points that are to be lifted, and all that they lead to, or tells a chain that is too long.
+fn fit(
     alloc: Global,
     heights: &mut PointMap<u32>,
-    links: &mut LinkTable,
-    new: Link,
-    levels: &mut PointMap<u32>,
+    links: &LinkTable,
     lifts: &PointMap<Lift>,
     moved: &mut Vec<Point>,
-) -> Result<(), LinkFault>
-    requires sound { IsSound heights.old links.old }
-    requires reader { Holds heights.old new.reader }
-    requires kid { Holds heights.old new.kid }
-    requires not_higher { level heights.old new.reader ≤ level heights.old new.kid }
-    requires levelling { IsLevelling heights.old levels.old links.old }
-    requires climbed { IsClimbed levels.old links.old new.reader new.kid lifts.now }
-    requires low { (x : Point) → Holds lifts.now x → lifted levels.old lifts.now x ≤ 128 }
-    ensures sound { IsSound heights.new links.new }
-    ensures answer { IsLinkAnswer (record { heights = heights.old; links = links.old })
-        (record { heights = heights.new; links = links.new })
-        new.reader new.kid moved.old.items moved.new.items result }
+) -> Result<Option<Vec<Point>>, AllocError>
+    requires ends { Ends heights.old links.now }
+    requires low { AllLow (level heights.old) }
+    requires ranked { IsRanked (Reads links.now) heights.old lifts.now }
+    requires there { (x : Point) → Holds lifts.now x → Holds heights.old x }
+    ensures { IsFitted heights.old heights.new links.now lifts.now moved.old.items moved.new.items result }
 {
-    write_lifts(levels, lifts);
-    let list = match changed(alloc, heights, levels) {
-        Ok(list) => list,
-        Err(AllocError) => return Err(LinkFault::Memory),
-    };
-    match add_told(links, new, &list, moved) {
-        Ok(()) => {
-            mem::swap(heights, levels);
-            Ok(())
-        }
-        Err(AllocError) => Err(LinkFault::Memory),
-    }
+    let mut levels = PointMap::new(alloc);
+    let fitted = fit_levels(alloc, heights, links, lifts, &mut levels, moved);
+    drop(levels);
+    fitted
 }
 
-/// Takes new heights of the same points, and tells which changed. Without memory nothing changes.
-pub fn adopt(
+/// Does so over a map for the levels.
+fn fit_levels(
     alloc: Global,
     heights: &mut PointMap<u32>,
+    links: &LinkTable,
+    lifts: &PointMap<Lift>,
+    levels: &mut PointMap<u32>,
+    moved: &mut Vec<Point>,
+) -> Result<Option<Vec<Point>>, AllocError>
+    requires ends { Ends heights.old links.now }
+    requires low { AllLow (level heights.old) }
+    requires ranked { IsRanked (Reads links.now) heights.old lifts.now }
+    requires there { (x : Point) → Holds lifts.now x → Holds heights.old x }
+    requires none { levels.old.places ≡ [] }
+    ensures { IsFitted heights.old heights.new links.now lifts.now moved.old.items moved.new.items result }
+{
+    level_each(links, lifts, levels, 257)?;
+    if let Some(top) = too_long(levels) {
+        let chain = long_chain(alloc, links, levels, top)?;
+        return Ok(Some(chain));
+    }
+    adopt(alloc, heights, levels, moved)?;
+    Ok(None)
+}
+
+/// Levels a link's two ends and all that they lead to, and tells which heights changed. Without memory
+/// nothing changes.
+fn level_ends(
+    alloc: Global,
+    heights: &mut PointMap<u32>,
+    links: &LinkTable,
+    new: Link,
+    moved: &mut Vec<Point>,
+) -> Result<(), AllocError>
+    requires sound { IsSound heights.old links.now }
+    requires reader { Holds heights.old new.reader }
+    requires kid { Holds heights.old new.kid }
+    ensures { AreEndsLevelled heights.old heights.new links.now new.reader new.kid
+        moved.old.items moved.new.items result }
+{
+    let mut levels = PointMap::new(alloc);
+    let levelled = adopt_ends(alloc, heights, links, new, &mut levels, moved);
+    drop(levels);
+    levelled
+}
+
+/// Does so over a map for the levels.
+fn adopt_ends(
+    alloc: Global,
+    heights: &mut PointMap<u32>,
+    links: &LinkTable,
+    new: Link,
     levels: &mut PointMap<u32>,
     moved: &mut Vec<Point>,
 ) -> Result<(), AllocError>
-    requires points { KeepsPoints heights.old levels.old }
-    ensures adopted { OnOk result (heights.new ≡ levels.old) }
+    requires sound { IsSound heights.old links.now }
+    requires reader { Holds heights.old new.reader }
+    requires kid { Holds heights.old new.kid }
+    requires none { levels.old.places ≡ [] }
+    ensures { AreEndsLevelled heights.old heights.new links.now new.reader new.kid
+        moved.old.items moved.new.items result }
+{
+    level_below(links, levels, new.reader, 128)?;
+    level_below(links, levels, new.kid, 128)?;
+    adopt(alloc, heights, levels, moved)
+}
+
+/// Levels all points, and tells which heights changed. Without memory nothing changes.
+pub fn adopt_all(
+    alloc: Global,
+    heights: &mut PointMap<u32>,
+    links: &LinkTable,
+    levels: &mut PointMap<u32>,
+    moved: &mut Vec<Point>,
+) -> Result<(), AllocError>
+    requires sound { IsSound heights.old links.now }
+    requires none { levels.old.places ≡ [] }
+    ensures sound { IsSound heights.new links.now }
+    ensures exact { OnOk result (IsExact heights.new links.now) }
+    ensures points { KeepsPoints heights.old heights.new }
+    ensures moved { Tells (level heights.old) (level heights.new) moved.old.items moved.new.items }
+    ensures err { OnErr result (heights.new ≡ heights.old) }
+{
+    level_each(links, heights, levels, 128)?;
+    adopt(alloc, heights, levels, moved)
+}
+
+/// Takes levels for the heights of their points, and tells which changed. Without memory nothing changes.
+fn adopt(
+    alloc: Global,
+    heights: &mut PointMap<u32>,
+    levels: &PointMap<u32>,
+    moved: &mut Vec<Point>,
+) -> Result<(), AllocError>
+    requires there { (p : Point) → Holds levels.now p → Holds heights.old p }
+    ensures adopted { OnOk result ((p : Point) → level heights.new p ≡ levelled heights.old levels.now p) }
     ensures err { OnErr result (heights.new ≡ heights.old) }
     ensures untold { OnErr result (moved.new.items ≡ moved.old.items) }
+    ensures points { KeepsPoints heights.old heights.new }
     ensures moved { Tells (level heights.old) (level heights.new) moved.old.items moved.new.items }
 {
     let list = changed(alloc, heights, levels)?;
     moved.extend_from_slice(&list)?;
-    mem::swap(heights, levels);
+    write_levels(heights, levels);
     Ok(())
 }
 

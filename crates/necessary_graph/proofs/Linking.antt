@@ -9,7 +9,7 @@ use Rattle.point_map.proofs.Places.{point_cases}
 use Rattle.link_table.specs.Links.{Links, Reads, KeepsLinks, OneLinkMore}
 use Rattle.necessity.specs.Need.{KeepsRoots, OneRootMore}
 use Rattle.height_order.specs.Chains.{Reading, ReadsWith, IsChain, IsPath, Leads, HasChain}
-use Rattle.height_order.specs.Levels.{level, or_zero, Rises, AllLow, IsExact, KeepsPoints}
+use Rattle.height_order.specs.Levels.{level, or_zero, Rises, AllLow, IsExactBelow, KeepsPoints}
 use Rattle.height_order.specs.Faults.{IfPath, IfOver, UnlessOver}
 use Rattle.height_order.specs.declared.heights.LinkFault.{LinkFault}
 use Rattle.height_order.specs.declared.heights.LinkFault.TheVariants.{Path, Over, Memory}
@@ -48,9 +48,13 @@ module _ (h n : Links) (same : KeepsLinks h n) where
   with_back p q a b (inl r) = inl (reads_back a b r)
   with_back p q a b (inr e) = inr e
 
-  pub exact_there : (heights : Rows ℕ) → IsExact heights h → IsExact heights n
-  exact_there heights exact p there =
-      let e = exact p there in record {
+  led_there : (p q x : Point) → Leads (Reads n) p x ⊎ Leads (Reads n) q x → Leads (Reads h) p x ⊎ Leads (Reads h) q x
+  led_there p q x (inl leads) = inl (leads_as (Reads n) (Reads h) reads_back p x leads)
+  led_there p q x (inr leads) = inr (leads_as (Reads n) (Reads h) reads_back q x leads)
+
+  pub exact_there : (heights : Rows ℕ) (p q : Point) → IsExactBelow heights h p q → IsExactBelow heights n p q
+  exact_there heights p q exact x leads =
+      let e = exact x (led_there p q x leads) in record {
         list = e.list;
         chain = chain_as (Reads h) (Reads n) reads_there e.list e.chain;
         starts = e.starts;

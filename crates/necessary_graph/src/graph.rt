@@ -7,7 +7,7 @@ ghost use Rattle.link_table.specs.Walks.{readers_left, kids_left};
 ghost use Rattle.recompute_heap.specs.Agree.{IsLeast, IsEmpty};
 ghost use Rattle.necessity.specs.Need.{root_times, KeepsRoots, OneRootMore, IsRoot};
 ghost use Rattle.height_order.specs.Chains.{ReadsWith, IsChain, IsPath, Leads, HasChain, NoRepeats};
-ghost use Rattle.height_order.specs.Levels.{level, KeepsPoints, IsExact};
+ghost use Rattle.height_order.specs.Levels.{level, KeepsPoints, IsExactBelow};
 ghost use Rattle.height_order.specs.Faults.{IfPath, IfOver};
 ghost use Rattle.necessary_graph.specs.Part.{web, Needed, IsInStep, AlsoNeeded};
 ghost use Rattle.necessary_graph.specs.Readers.{HasReaders};
@@ -132,9 +132,10 @@ impl NecessaryGraph {
         }
     }
 
-    /// Makes `p` read `q`, once more, and answers whether `q` wasn't needed before. Heights of all kinds may change,
-    /// and those in the heap follow. `Path`: `q` leads to `p`. `Over`: with the link some chain would have 130 points.
-    /// A refusal leaves links, roots and the points of the heap, and `Path` the heights too.
+    /// Makes `p` read `q`, once more, and answers whether `q` wasn't needed before. Heights may change of points that
+    /// lead to `p`, and of what these and `q` lead to; those in the heap follow. `Path`: `q` leads to `p`. `Over`: with
+    /// the link some chain would have 130 points. A refusal leaves links, roots and the points of the heap, and `Path`
+    /// the heights too.
     pub fn link(&mut self, p: Point, q: Point) -> Result<bool, LinkFault>
         requires needed { Needed self.old p }
         requires kid { Holds self.old.heights q }
@@ -152,7 +153,7 @@ impl NecessaryGraph {
         ensures over { IfErr result (λ e. IfOver (λ list. IsChain (ReadsWith self.old.links p q) list) e) }
         ensures over_length { IfErr result (λ e. IfOver (λ list. length list ≡ 130) e) }
         ensures over_no_path { IfErr result (λ e. IfOver (λ _. Leads (Reads self.old.links) q p → ⊥) e) }
-        ensures over_levelled { IfErr result (λ e. IfOver (λ _. IsExact self.new.heights self.new.links) e) }
+        ensures over_levelled { IfErr result (λ e. IfOver (λ _. IsExactBelow self.new.heights self.new.links p q) e) }
         ensures no_over { OnOk result (HasChain (ReadsWith self.old.links p q) 130 → ⊥) }
         ensures still { level self.old.heights q < level self.old.heights p → KeepsRows self.old.heights self.new.heights }
     {
@@ -257,6 +258,13 @@ impl NecessaryGraph {
         ensures low { result ≤ 128 }
     {
         self.heights.height(p)
+    }
+
+    /// Whether `p` reads `q`.
+    pub fn reads(&self, p: Point, q: Point) -> bool
+        ensures { IsTrue result ↔ Reads self.now.links p q }
+    {
+        self.needs.reads(p, q)
     }
 
     /// The points that read `q`, each once for each link.

@@ -161,6 +161,13 @@ impl Needs {
         need_of(&self.rows, p).is_above_zero()
     }
 
+    /// Whether p reads q.
+    pub fn reads(&self, p: Point, q: Point) -> bool
+        ensures { IsTrue result ↔ Reads self.now.links p q }
+    {
+        self.links.reads(p, q)
+    }
+
     /// The points that read q, each once for each link.
     pub fn readers(&self, q: Point) -> Readers<'_>
         ensures { AreReaders self.now.links q (readers_left result) }

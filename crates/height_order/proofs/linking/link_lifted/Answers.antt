@@ -1,6 +1,6 @@
 use Rattle.std.proofs.Common.{◌∙◌, ◌++◌, refl, ap, arith}
 use Rattle.height_order.specs.Levels.{level, Tells}
-use Rattle.height_order.proofs.Sounding.{sound_same, sound_lifted, lifted_moved}
+use Rattle.height_order.proofs.Sounding.{sound_same, sound_lifted, lifted_near, lifted_moved}
 use Rattle.height_order.proofs.Answering.{memory_told, made_told}
 use Rattle.height_order.proofs.linking.link_lifted.Goals as goal
 
@@ -23,7 +23,9 @@ returns-in-Ok-add_told-clause-answer c =
     made_told (record { heights = old; links = c.args.links.now }) c.args.new.reader c.args.new.kid c.args.moved.now.items
     (record { heights = c.write_lifts.new.heights; links = c.add_told.new.links }) c.add_told.new.moved.items tt
     c.in-Ok-add_told.ensures.linked (returns-in-Ok-add_told-clause-sound c)
-    (λ higher. absurd (let n = c.requires.not_higher in omega (arith, higher, n))) c.write_lifts.ensures.points moved
+    (λ higher. absurd (let n = c.requires.not_higher in omega (arith, higher, n)))
+    (lifted_near old c.write_lifts.new.heights c.args.links.now c.args.new.reader c.args.new.kid c.args.lifts.now
+    c.requires.sound c.requires.climbed c.requires.low c.write_lifts.ensures.written) c.write_lifts.ensures.points moved
 
 pub returns-clause-sound : goal.returns-clause-sound
 returns-clause-sound c =

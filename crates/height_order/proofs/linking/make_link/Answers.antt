@@ -15,7 +15,7 @@ returns-in-Ok-clause-answer c =
     let level_now = level c.args.heights.now in
     made_told (record { heights = c.args.heights.now; links = c.args.links.now }) c.args.new.reader c.args.new.kid c.args.moved.now.items
     (record { heights = c.args.heights.now; links = c.add.new.self }) c.args.moved.now.items tt
-    c.in-Ok.ensures.added (returns-in-Ok-clause-sound c) (λ _ x. refl) (λ x. refl)
+    c.in-Ok.ensures.added (returns-in-Ok-clause-sound c) (λ _ x. refl) (λ x differs. absurd (differs refl)) (λ x. refl)
     (tells_none level_now level_now c.args.moved.now.items (λ x. refl))
 
 pub returns-in-Err-clause-sound : goal.returns-in-Err-clause-sound

@@ -74,7 +74,7 @@ returns-in_err-linked-clause-over_levelled c =
     let same : KeepsLinks lk.new.self.links i.needs.links = λ a b. c.self.invariant.0 a b ∙ sym (c.in_err-linked.ensures.err a b) in
     let is : IsErrAnd c.from_residual.result (λ x. x ≡ c.in_err-linked.field-0.0) = c.from_residual.ensures.1 in
     exit_is c.from_residual.result c.in_err-linked.field-0.0 _ is
-    (if_over _ _ (λ list h. exact_there lk.new.self.links i.needs.links same lk.new.self.heights h)
+    (if_over _ _ (λ list h. exact_there lk.new.self.links i.needs.links same lk.new.self.heights c.args.p c.args.q h)
     c.in_err-linked.field-0.0 c.in_err-linked.ensures.over_levelled)
 
 pub attach-requires : goal.attach-requires

@@ -1,13 +1,14 @@
 use Rattle.std.proofs.Common.{◌<◌, ◌≤◌, ◌+◌, ◌-◌, length}
-use Rattle.height_order.specs.Chains.{ReadsWith, IsChain, EndsAt}
-use Rattle.height_order.specs.Climbs.{lifted}
-use Rattle.height_order.proofs.lifts.long_chain.Given as goal
+use Rattle.link_table.specs.Links.{Reads}
+use Rattle.height_order.specs.Chains.{IsChain, EndsAt}
+use Rattle.height_order.specs.Levels.{level}
+use Rattle.height_order.proofs.levels.long_chain.Given as goal
 
 abbrev pub invariant-loop-last : goal.invariant-loop-last
 invariant-loop-last l = record {
-  chain : IsChain (ReadsWith l.links l.fn.p l.fn.q) l.list.items;
+  chain : IsChain (Reads l.links) l.list.items;
   ends : EndsAt l.list.items l.last;
-  high : 129 < lifted l.heights l.lifts l.last + length l.list.items;
+  high : 129 < level l.levels l.last + length l.list.items;
   few : length l.list.items ≤ 130;
 }
 

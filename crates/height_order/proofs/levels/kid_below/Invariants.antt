@@ -3,9 +3,9 @@ use Rattle.link_table.specs.Links.{Reads}
 use Rattle.link_table.specs.Walks.{kids_left}
 use Rattle.height_order.specs.Levels.{level}
 use Rattle.height_order.proofs.Covering.{Covers}
-use Rattle.height_order.proofs.lifts.kid_below.Given as goal
+use Rattle.height_order.proofs.levels.kid_below.Given as goal
 
 abbrev pub invariant-loop-kid : goal.invariant-loop-kid
 invariant-loop-kid l = record {
-  covers : Covers (Reads l.links l.fn.x) (λ k. level l.heights k + 1 < level l.heights l.fn.x) (kids_left l.kid-iterator);
+  covers : Covers (Reads l.links l.fn.p) (λ k. level l.levels k + 1 < level l.levels l.fn.p) (kids_left l.kid-iterator);
 }
