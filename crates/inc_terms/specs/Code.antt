@@ -1,7 +1,7 @@
 -- What the code's nodes are.
 use Rattle.inc_terms.specs.declared.def.Def as declared
 use Rattle.inc_terms.specs.declared.def.Def.TheVariants as code
-use Rattle.inc_terms.specs.Graph.{Def, Const, Var, Map, Fold}
+use Rattle.inc_terms.specs.Graph.{Def, Const, Var, Map, Fold, If, Join}
 
 -- the definition that the code's one stands for
 abbrev pub def_of : declared.Def → Def
@@ -9,3 +9,5 @@ def_of (code.Const v) = Const v
 def_of (code.Var v) = Var v
 def_of (code.Map f kids) = Map f kids
 def_of (code.Fold f v kids) = Fold f v kids
+def_of (code.If t a b) = If t a b
+def_of (code.Join kid) = Join kid

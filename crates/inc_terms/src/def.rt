@@ -1,7 +1,10 @@
 //! What a node is.
 ghost use Rattle.std.specs.Prelude.{◌≡◌, ◌≤◌, length, IfOk, IsOk};
+ghost use Rattle.inc_value.specs.declared.node.NodeId.{NodeId};
+ghost use Rattle.inc_terms.specs.Depend.{subject_of, right_of};
+ghost use Rattle.inc_terms.specs.Graph.{Graph};
 
-use inc_value::{FnRef, NodeId, Value};
+use inc_value::{FnRef, NodeId, Outcome, Value};
 use smallvec::SmallVec;
 use std::alloc::{AllocError, Global};
 use std::marker::Model;
@@ -52,6 +55,14 @@ pub enum Def {
     /// The function of two values, from the value on over the nodes' values in order: called once
     /// for each node, on what it gave last and the node's value.
     Fold(FnRef, Value, Nodes),
+    /// The first node where the test is true, the second where it is false.
+    If {
+        test: NodeId,
+        yes: NodeId,
+        no: NodeId,
+    },
+    /// The node that the node's value names.
+    Join(NodeId),
 }
 
 impl Def {
@@ -64,8 +75,31 @@ impl Def {
         ensures { result.now ≡ kids (def_of self.now) }
     {
         match self {
-            Def::Const(_) | Def::Var(_) => &[],
+            Def::Const(_) | Def::Var(_) | Def::If { .. } | Def::Join(_) => &[],
             Def::Map(_, kids) | Def::Fold(_, _, kids) => kids.as_slice(),
+        }
+    }
+
+    /// The test or child of a node of two points, which its change reads. A node of one point has none.
+    pub fn subject(&self) -> Option<NodeId>
+        ensures { result ≡ subject_of (def_of self.now) }
+    {
+        match self {
+            Def::If { test, .. } => Some(*test),
+            Def::Join(kid) => Some(*kid),
+            Def::Const(_) | Def::Var(_) | Def::Map(_, _) | Def::Fold(_, _, _) => None,
+        }
+    }
+
+    /// The right side that the subject's outcome chooses, if it chooses one.
+    pub fn right_side(&self, given: &Outcome) -> Option<NodeId>
+        ensures { (G : Graph) (n : NodeId) → result ≡ right_of G n (def_of self.now) given.now }
+    {
+        match (self, given) {
+            (Def::If { yes, .. }, Outcome::Val(Value::Bool(true))) => Some(*yes),
+            (Def::If { no, .. }, Outcome::Val(Value::Bool(false))) => Some(*no),
+            (Def::Join(_), Outcome::Val(Value::Node(node, _))) => Some(*node),
+            _ => None,
         }
     }
 }

@@ -5,6 +5,7 @@ use Rattle.std.proofs.lemmas.List.Elements.{All-push, Contains-append_left, Cont
 use Rattle.std.proofs.lemmas.List.Sorted.{IsNonDecreasingBy-push}
 use Rattle.inc_value.specs.declared.node.NodeId.{NodeId}
 use Rattle.inc_value.specs.declared.ty.Ty.{Ty}
+use Rattle.inc_value.specs.declared.ty.Ty.TheVariants as ty
 use Rattle.inc_value.specs.declared.value.Value.{Value}
 use Rattle.inc_value.specs.declared.value.Value.TheVariants as value
 use Rattle.inc_value.specs.Choice.{Every}
@@ -90,6 +91,9 @@ module _ (a a' : Arena) (fits : (n : NodeId) (t : Ty) → Given a.given n → Fi
     gives = h.gives;
     initial = has_type_still v t given.1 h.initial;
   }
+  makes_still (graph.If test left right) t given h =
+      (fits test ty.Bool given.0 h.0, fits left t given.1 h.1, fits right t given.2 h.2)
+  makes_still (graph.Join kid) t given h = (h.0, h.1, fits kid (ty.Node h.0) given h.2)
   makes_still _ t given h = absurd h
 
 module _ (a a' : Arena) (later : (n : NodeId) → Given a.given n → (row_at a' n ≡ row_at a n) ⊎ (row_at a' n ≡ None)) where

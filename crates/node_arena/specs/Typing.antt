@@ -1,5 +1,5 @@
 -- The type that a definition makes of its children and values.
-use Rattle.std.specs.Prelude.{◌≡◌, ◌<◌, ◌-◌, ◌^◌, List, [], ◌∷◌, IfSome}
+use Rattle.std.specs.Prelude.{◌≡◌, ◌<◌, ◌-◌, ◌^◌, List, [], ◌∷◌, Option, None, Some, IfSome}
 use Rattle.std.specs.List.{AllZip}
 use Rattle.inc_value.specs.Choice.{Every}
 use Rattle.inc_value.specs.Value.{type_of}
@@ -12,7 +12,7 @@ use Rattle.inc_value.specs.declared.ty.Ty.{Ty}
 use Rattle.inc_value.specs.declared.ty.Ty.TheVariants as ty
 use Rattle.inc_value.specs.declared.value.Value.{Value}
 use Rattle.inc_value.specs.declared.value.Value.TheVariants.{Node}
-use Rattle.inc_terms.specs.Graph.{Row, Def, Const, Var, Map, Fold}
+use Rattle.inc_terms.specs.Graph.{Row, Def, Const, Var, Map, Fold, If, Join}
 use Rattle.node_arena.specs.Arena.{Arena, row_at, live, NamesGiven}
 
 -- the type that a base type is
@@ -57,12 +57,29 @@ pub record FoldMakes (a : Arena) (f : FnRef) (v : Value) (kids : List NodeId) (t
   pub gives : f.sig.gives ≡ t
   pub initial : HasType a v t
 
+-- the base type that a type is, if it is one
+abbrev pub base_of : Ty → Option Base
+base_of ty.Int = Some base.Int
+base_of ty.Bool = Some base.Bool
+base_of ty.Text = Some base.Text
+base_of (ty.Node b) = None
+
+-- a test of truth values, and two branches of the type
+abbrev pub IfMakes : Arena → NodeId → NodeId → NodeId → Ty → Type 0
+IfMakes a test left right t = Fits a test ty.Bool × Fits a left t × Fits a right t
+
+-- a child whose references lead to nodes of the type, which is a base type
+abbrev pub JoinMakes : Arena → NodeId → Ty → Type 0
+JoinMakes a kid t = (b : Base) × (base_of t ≡ Some b) × Fits a kid (ty.Node b)
+
 -- what the types of live children, of values and of the function make of the definition
 abbrev pub Makes : Arena → Def → Ty → Type 0
 Makes a (Const v) t = HasType a v t
 Makes a (Var v) t = HasType a v t
 Makes a (Map f kids) t = MapMakes a f kids t
 Makes a (Fold f v kids) t = FoldMakes a f v kids t
+Makes a (If test left right) t = IfMakes a test left right t
+Makes a (Join kid) t = JoinMakes a kid t
 Makes a def t = ⊥
 
 -- a node of this definition and type can be added, where there is memory

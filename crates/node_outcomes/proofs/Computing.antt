@@ -1,30 +1,34 @@
 -- What a node gives by what its children show.
 use Rattle.std.proofs.Common.{◌≡◌, ◌⊎◌, inl, inr, ℕ, suc, ◌<◌, ◌+◌, ◌++◌, Bool, true, false, List, [], ◌∷◌, length, take, get_or, Option, None, Some}
 use Rattle.std.proofs.Common.{refl, sym, ap, subst, ◌∙◌, IsTrue, IsSome, arith, append-nil}
-use Rattle.std.specs.Prelude.{is_some, IfSome, option_and_then, Result, Ok, Err}
+use Rattle.std.specs.Prelude.{is_some, IfSome, IfOk, option_and_then, Result, Ok, Err}
 use Rattle.std.specs.List.{AllZip, filter_map}
 use Rattle.std.proofs.lemmas.List.{take_more}
 use Rattle.std.proofs.lemmas.List.Elements.{filter_map-append}
 use Rattle.std.proofs.lemmas.Option.{none-some, same_Some}
-use Rattle.inc_value.specs.Choice.{Every}
+use Rattle.inc_value.specs.Choice.{Every, and_then}
+use Rattle.inc_value.specs.Ty.{IsBase}
 use Rattle.inc_value.specs.Value.{type_of, HaveTypes}
 use Rattle.inc_value.specs.declared.function.FnRef.{FnRef}
 use Rattle.inc_value.specs.declared.node.NodeId.{NodeId}
+use Rattle.inc_value.specs.declared.node.Part.TheVariants.{Change, Main}
 use Rattle.inc_value.specs.declared.outcome.Outcome.{Outcome}
 use Rattle.inc_value.specs.declared.outcome.Outcome.TheVariants.{Val, Invalid}
 use Rattle.inc_value.specs.declared.ty.Ty.{Ty}
 use Rattle.inc_value.specs.declared.value.Value.{Value}
+use Rattle.inc_value.specs.declared.value.Value.TheVariants as value
 use Rattle.inc_terms.specs.declared.def.Def as declared
 use Rattle.inc_terms.specs.declared.def.Def.TheVariants as form
 use Rattle.inc_terms.specs.Code.{def_of}
-use Rattle.inc_terms.specs.Depend.{main}
-use Rattle.inc_terms.specs.Evaluate.{Gathered, Unknown, SomeInvalid, Values, joined, given}
+use Rattle.inc_terms.specs.Depend.{main, change, subject_of, right_of}
+use Rattle.inc_terms.specs.Evaluate.{Gathered, Unknown, SomeInvalid, Values, joined, given, with_value}
 use Rattle.inc_terms.specs.Graph.{Graph, Row, Def, Const, Var, Map, Fold, kids}
 use Rattle.inc_terms.specs.Work.{cost_of}
-use Rattle.inc_terms.specs.Local.{own}
+use Rattle.inc_terms.specs.Local.{own, see_right}
 use Rattle.point_map.specs.Rows.{Rows, at, Holds}
-use Rattle.node_arena.specs.Arena.{Arena, row_at}
-use Rattle.node_arena.specs.Graph.{graph_of}
+use Rattle.node_arena.specs.Arena.{Arena, row_at, NamesGiven}
+use Rattle.node_arena.specs.Graph.{graph_of, AllCallFit, CallsFit}
+use Rattle.node_arena.specs.Meanings.{HaveMapSigs}
 use Rattle.node_arena.specs.Sound.{IsSound}
 use Rattle.node_arena.specs.Typing.{Fits, Makes, MapMakes, FoldMakes, FoldTakes}
 use Rattle.inc_terms.specs.Work.{taken_by}
@@ -32,11 +36,13 @@ use Rattle.stabilize_round.specs.Calling.{IsAnswer, cost_at, row_cost, or_none}
 use Rattle.stabilize_round.specs.Counts.{RoseBy, RoseAtMost}
 use Rattle.stabilize_round.specs.Moves.{calls_of}
 use Rattle.stabilize_round.specs.State.{Call}
-use Rattle.node_outcomes.specs.Computing.{seen, seen_of, seen_together, value_shown, ShowsValue, IsForcedBy, CallsSeen, Noted, KeepsTypes, KeepsFunctions}
+use Rattle.node_outcomes.specs.Computing.{seen, seen_of, seen_together, value_shown, ShowsValue, IsForcedBy, CallsSeen, Noted, KeepsTypes, KeepsFunctions, IsOfType, LooksAtSeen, has_part}
 use Rattle.node_outcomes.specs.Computing.{IsCalled, Calls, IsKnown, AllShow, LastWas, FoldFits, KeepsAllButCount, ComputesCall, CallComputes, Computes, NotComputed, Ends}
-use Rattle.node_outcomes.specs.Meaning.{functions_of}
-use Rattle.node_outcomes.specs.Row.{IsRewritten, with_last, value_of, value_in}
+use Rattle.node_outcomes.specs.Choosing.{no_graph, right_in}
+use Rattle.node_outcomes.specs.Meaning.{functions_of, lists_none}
+use Rattle.node_outcomes.specs.Row.{IsRewritten, with_last, value_of, value_in, outcome_in}
 use Rattle.node_outcomes.specs.declared.row.Progress.{Progress}
+use Rattle.node_outcomes.proofs.Pairs.{IsPair, ShowsRight, gives_own_right, right_shows}
 
 some_is : {A : Type 0} (x : Option A) → IsSome x → (a : A) × (x ≡ Some a)
 some_is None h = cc
@@ -65,7 +71,7 @@ shown_is_seen : (k : Option Progress) (v : Value) → value_in k ≡ Some v → 
 shown_is_seen None v e = cc
 shown_is_seen (Some k) v e = shown_outcome k.outcome v e
 
-seen_is_shown : (k : Option Progress) (v : Value) → seen_of k ≡ Some (Val v) → value_in k ≡ Some v
+pub seen_is_shown : (k : Option Progress) (v : Value) → seen_of k ≡ Some (Val v) → value_in k ≡ Some v
 seen_is_shown None v e = cc
 seen_is_shown (Some k) v e = outcome_shown k.outcome v e
 
@@ -321,14 +327,30 @@ shown_by rows n v e = go (at rows (main n)) refl e
     go None is h = cc
     go (Some k) is h = record { row = k; is_row = is; outcome = shown_outcome k.outcome v h }
 
+-- a main is there exactly where its node lives
+has_main : (x : Option Row) → has_part x Main ≡ is_some x
+has_main None = refl
+has_main (Some r) = refl
+
+-- a value of a base type names no node
+base_of_type : (arena : Arena) (v : Value) (t : Ty) → type_of v ≡ t → IsBase t → IsOfType arena v t
+base_of_type arena (value.Int z) t type base = record { type = record { type = type; reference = tt }; within = tt }
+base_of_type arena (value.Bool z) t type base = record { type = record { type = type; reference = tt }; within = tt }
+base_of_type arena (value.Text z) t type base = record { type = record { type = type; reference = tt }; within = tt }
+base_of_type arena (value.Node m b) t type base = absurd (subst IsBase (sym type) base)
+
 module _ (arena : Arena) (rows : Rows Progress) (kept : KeepsTypes arena rows) where
-  -- what a node shows has the type that it fits
-  shown_type : (n : NodeId) (t : Ty) (v : Value) → Fits arena n t → ShowsValue rows n v → type_of v ≡ t
-  shown_type n t v fits shows =
+  -- what a node shows is of the type that it fits
+  pub shown_of_type : (n : NodeId) (t : Ty) (v : Value) → Fits arena n t → ShowsValue rows n v → IsOfType arena v t
+  shown_of_type n t v fits shows =
       let b = shown_by rows n v shows in
-      let r = some_is (row_at arena n) (sym (kept.rows n) ∙ ap is_some b.is_row) in
-      kept.outcomes n r.0 b.row v r.1 b.is_row b.outcome
-      ∙ subst (λ (x : Option Row). IfSome x (λ (k : Row). k.ty ≡ t)) r.1 fits
+      let r = some_is (row_at arena n) (sym (has_main (row_at arena n)) ∙ sym (kept.rows (main n)) ∙ ap is_some b.is_row) in
+      subst (IsOfType arena v) (subst (λ (x : Option Row). IfSome x (λ (k : Row). k.ty ≡ t)) r.1 fits)
+      (kept.outcomes n r.0 b.row v r.1 b.is_row b.outcome)
+
+  -- so it has the type
+  shown_type : (n : NodeId) (t : Ty) (v : Value) → Fits arena n t → ShowsValue rows n v → type_of v ≡ t
+  shown_type n t v fits shows = (shown_of_type n t v fits shows).type.type
 
   -- so what children show has the types that their function takes
   types_fit : (nodes : List NodeId) (takes : List Ty) (values : List Value) → AllZip (Fits arena) nodes takes
@@ -370,7 +392,7 @@ holds_value d v w same (inr h) = inr (ap def_of h ∙ ap Var (sym same))
 module _ (value : FnRef → List Value → Value) (arena : Arena) (round : ℕ) (old : Noted) (n : NodeId) (row : Row) (kept : KeepsTypes arena old.rows)
     (sound : IsSound arena) (is_row : row_at arena n ≡ Some row) where
   there : Holds old.rows (main n)
-  there = kept.rows n ∙ ap is_some is_row
+  there = kept.rows (main n) ∙ has_main (row_at arena n) ∙ ap is_some is_row
 
   abbrev progress : Progress
   progress = (some_is (at old.rows (main n)) there).0
@@ -384,9 +406,11 @@ module _ (value : FnRef → List Value → Value) (arena : Arena) (round : ℕ) 
   abbrev gives_own : Def → Option Outcome
   gives_own d = own (functions_of value) (graph_of arena) (seen old.rows) n d
 
-  -- what holds a value gives it
-  pub holder_computes : (v : Value) → (row.def ≡ Const v) ⊎ (row.def ≡ Var v) → Computes value arena round old old n (Val v)
-  holder_computes v holds = record {
+  -- a node none of whose functions is called
+  uncalled_computes : (o : Outcome) → taken_by (graph_of arena) n row.def ≡ None
+      → (LooksAtSeen old.rows (graph_of arena) n row.def → gives_own row.def ≡ Some o) → ((v : Value) → o ≡ Val v → IsOfType arena v row.ty)
+      → Computes value arena round old old n o
+  uncalled_computes o none gives typed = record {
     last = progress.last;
     called = false;
     computed = record {
@@ -394,26 +418,84 @@ module _ (value : FnRef → List Value → Value) (arena : Arena) (round : ℕ) 
       is_row = is_row;
       kept = progress;
       is_kept = is_progress;
-      calls = (refl, λ nodes values takes e. absurd (none_taken nodes takes holds));
-      own = λ answers known. gives holds;
+      calls = (refl, λ nodes values takes e. absurd (none-some nodes (sym none ∙ takes)));
+      own = λ answers looks. gives looks;
     };
     row = unmoved old.rows n progress is_progress;
     ran = refl;
     count = no_rise old.calls;
-    typed = λ r w e is. let type = typed holds in let same = same_row r e in cc;
+    typed = λ r v e is. subst (λ (x : Row). IsOfType arena v x.ty) (same_row r e) (typed v is);
     answer_typed = λ r c e is. kept.calls n r progress c e is_progress is;
-  } where
-    none_taken : (nodes : List NodeId) → taken_by (graph_of arena) n row.def ≡ Some nodes → (row.def ≡ Const v) ⊎ (row.def ≡ Var v) → ⊥
-    none_taken nodes takes (inl h) = none-some nodes (sym (ap (taken_by (graph_of arena) n) h) ∙ takes)
-    none_taken nodes takes (inr h) = none-some nodes (sym (ap (taken_by (graph_of arena) n) h) ∙ takes)
+  }
 
-    gives : (row.def ≡ Const v) ⊎ (row.def ≡ Var v) → gives_own row.def ≡ Some (Val v)
-    gives (inl h) = ap gives_own h
-    gives (inr h) = ap gives_own h
+  -- what holds a value gives it
+  pub holder_computes : (v : Value) → (row.def ≡ Const v) ⊎ (row.def ≡ Var v) → Computes value arena round old old n (Val v)
+  holder_computes v holds = uncalled_computes (Val v) (none_taken holds) (λ looks. gives holds)
+      (λ w e. let value_is : v ≡ w = cc in subst (λ (x : Value). IsOfType arena x row.ty) value_is (typed holds))
+    where
+      none_taken : (row.def ≡ Const v) ⊎ (row.def ≡ Var v) → taken_by (graph_of arena) n row.def ≡ None
+      none_taken (inl h) = ap (taken_by (graph_of arena) n) h
+      none_taken (inr h) = ap (taken_by (graph_of arena) n) h
 
-    typed : (row.def ≡ Const v) ⊎ (row.def ≡ Var v) → type_of v ≡ row.ty
-    typed (inl h) = (subst (λ (d : Def). Makes arena d row.ty) h (sound.types n row is_row)).type
-    typed (inr h) = (subst (λ (d : Def). Makes arena d row.ty) h (sound.types n row is_row)).type
+      gives : (row.def ≡ Const v) ⊎ (row.def ≡ Var v) → gives_own row.def ≡ Some (Val v)
+      gives (inl h) = ap gives_own h
+      gives (inr h) = ap gives_own h
+
+      typed : (row.def ≡ Const v) ⊎ (row.def ≡ Var v) → IsOfType arena v row.ty
+      typed (inl h) = record {
+        type = subst (λ (d : Def). Makes arena d row.ty) h (sound.types n row is_row);
+        within = subst (NamesGiven arena.given) h (sound.names n row is_row);
+      }
+      typed (inr h) = record {
+        type = subst (λ (d : Def). Makes arena d row.ty) h (sound.types n row is_row);
+        within = subst (NamesGiven arena.given) h (sound.names n row is_row);
+      }
+
+  module _ (d : declared.Def) (is_def : row.def ≡ def_of d) (pair : IsPair (def_of d)) where
+    there_change : Holds old.rows (change n)
+    there_change =
+        kept.rows (change n) ∙ ap (λ (x : Option Row). has_part x Change) is_row ∙ ap (λ (x : Def). is_some (subject_of x)) is_def ∙ pair.subject
+
+    abbrev changed : Progress
+    changed = (some_is (at old.rows (change n)) there_change).0
+
+    is_changed : at old.rows (change n) ≡ Some changed
+    is_changed = (some_is (at old.rows (change n)) there_change).1
+
+    chooses : (o : Outcome) → ShowsRight old.rows (right_in old.rows n (def_of d)) o
+        → ShowsRight old.rows (and_then changed.outcome (λ (c : Outcome). right_of no_graph n (def_of d) c)) o
+    chooses o shows = subst (λ (x : Option Progress). ShowsRight old.rows (and_then (outcome_in x) (λ (c : Outcome). right_of no_graph n (def_of d) c)) o)
+        is_changed shows
+
+    gives_right : (o : Outcome) → ShowsRight old.rows (right_in old.rows n (def_of d)) o → LooksAtSeen old.rows (graph_of arena) n (def_of d)
+        → gives_own (def_of d) ≡ Some o
+    gives_right o shows looks =
+        let changes_outcome : outcome_in (at old.rows (change n)) ≡ changed.outcome = ap outcome_in is_changed in
+        pair.gives_right (functions_of value) (graph_of arena) (seen old.rows) n
+        ∙ ap (λ (x : Option Outcome). with_value x (λ (v : Value). see_right (seen old.rows) (right_of (graph_of arena) n (def_of d) (Val v))))
+        (ap seen_of is_changed)
+        ∙ gives_own_right old.rows (graph_of arena) n d o changed.outcome (subst IsSome changes_outcome (looks.choice pair.subject))
+        (λ m c e right. looks.right m c (changes_outcome ∙ e) right) (chooses o shows)
+
+    right_typed : (v : Value) → ShowsRight old.rows (right_in old.rows n (def_of d)) (Val v) → IsOfType arena v row.ty
+    right_typed v shows =
+        let right = right_shows old.rows (graph_of arena) n d v changed.outcome (chooses (Val v) shows) in
+        let its = kept.rights n right.node row changed right.given is_row is_changed right.is_given
+        (ap (λ (x : Def). right_of (graph_of arena) n x right.given) is_def ∙ right.is_right) in
+        shown_of_type arena old.rows kept right.node row.ty v its.1 (seen_is_shown (at old.rows (main right.node)) v right.shows)
+
+    -- a node of two points gives what the right side shows that its change chose
+    pub pair_computes : (o : Outcome) → ShowsRight old.rows (right_in old.rows n (def_of d)) o → Computes value arena round old old n o
+    pair_computes o shows = uncalled_computes o (ap (taken_by (graph_of arena) n) is_def ∙ pair.none_taken (graph_of arena) n)
+        (λ looks. subst (λ (x : Def). LooksAtSeen old.rows (graph_of arena) n x → gives_own x ≡ Some o) (sym is_def) (gives_right o shows) looks)
+        (λ v e. right_typed v (subst (λ (x : Outcome). ShowsRight old.rows (right_in old.rows n (def_of d)) x) e shows))
+
+    -- so it ends that copies what a right side shows
+    pub pair_ends : {E : Type 0} (m : NodeId) (result : Result Outcome E) → right_in old.rows n (def_of d) ≡ Some m
+        → IfOk result (λ (o : Outcome). (seen old.rows (main m) ≡ Some o) ⊎ ((seen old.rows (main m) ≡ None) × (o ≡ Invalid)))
+        → Ends value arena round old old n result
+    pair_ends m (Ok o) is shows = pair_computes o (subst (λ (x : Option NodeId). ShowsRight old.rows x o) (sym is) shows)
+    pair_ends m (Err e) is h = record { rows = λ p. refl; ran = refl; count = inl refl }
 
   module _ (f : FnRef) (nodes : List NodeId) (is_map : row.def ≡ Map f nodes) where
     map_makes : MapMakes arena f nodes row.ty
@@ -425,6 +507,12 @@ module _ (value : FnRef → List Value → Value) (arena : Arena) (round : ℕ) 
 
     pub map_gives : f.sig.gives ≡ row.ty
     map_gives = map_makes.gives
+
+    -- a known map gives a base type
+    pub map_base : (known : FnRef → Bool) → HaveMapSigs known → AllCallFit known lists_none arena → IsBase f.sig.gives
+    map_base known sigs fit =
+        let calls : CallsFit arena.given known lists_none (Map f nodes) = subst (CallsFit arena.given known lists_none) is_map (fit n row is_row) in
+        (sigs f calls.0.0.0 calls.0.0.1).2
 
   module _ (f : FnRef) (from : Value) (nodes : List NodeId) (is_fold : row.def ≡ Fold f from nodes) where
     fold_makes : FoldMakes arena f from nodes row.ty
@@ -438,13 +526,20 @@ module _ (value : FnRef → List Value → Value) (arena : Arena) (round : ℕ) 
     pub fold_gives : f.sig.gives ≡ row.ty
     fold_gives = fold_makes.gives
 
+    -- a known function that is folded gives a base type
+    pub fold_base : (known : FnRef → Bool) → HaveMapSigs known → AllCallFit known lists_none arena → IsBase f.sig.gives
+    fold_base known sigs fit =
+        let calls : CallsFit arena.given known lists_none (Fold f from nodes) =
+        subst (CallsFit arena.given known lists_none) is_fold (fit n row is_row) in
+        (sigs f calls.0.0.0 calls.0.0.1).2
+
   abbrev G : Graph
   G = graph_of arena
 
   module _ (answer : List Value → Value) (t : Ty) (def : Def) (nodes : List NodeId) (cost : ℕ) (is_def : row.def ≡ def) (takes : taken_by G n def ≡ Some nodes)
       (from_answer : (values : List Value) (w : Value) → IsAnswer (functions_of value) def values w → w ≡ answer values)
       (own_is : gives_own def ≡ given answer (seen_together old.rows nodes)) (kids_are : kids def ≡ nodes) (cost_is : or_none (cost_of G n def) ≡ cost)
-      (type : t ≡ row.ty) where
+      (type : t ≡ row.ty) (base : IsBase t) where
     cost_here : cost ≡ cost_at G n
     cost_here = sym cost_is ∙ sym (ap (λ (d : Def). or_none (cost_of G n d)) is_def) ∙ sym (ap (λ (x : Option Row). row_cost G n x) is_row)
 
@@ -459,21 +554,21 @@ module _ (value : FnRef → List Value → Value) (arena : Arena) (round : ℕ) 
         kept = m.kept;
         is_kept = m.is_kept;
         calls = subst (λ (d : Def). CallsSeen value G n round old.rows d m.kept.last m.last m.called) (sym is_def) (m.calls G);
-        own = λ answers known. subst (λ (d : Def). gives_own d ≡ Some o) (sym is_def)
+        own = λ answers looks. subst (λ (d : Def). gives_own d ≡ Some o) (sym is_def)
             (own_is ∙ m.gives (λ c is. from_answer c.arguments c.result (subst (λ (d : Def). IsAnswer (functions_of value) d c.arguments c.result) is_def
             (answers n row nodes m.kept c is_row (ap (taken_by G n) is_def ∙ takes) m.is_kept is)))
-            (subst (λ (ns : List NodeId). seen_together old.rows ns ≡ Unknown → ⊥) (ap kids is_def ∙ kids_are) known));
+            (subst (λ (ns : List NodeId). seen_together old.rows ns ≡ Unknown → ⊥) (ap kids is_def ∙ kids_are) looks.kids));
       };
       row = m.row;
       ran = m.ran;
       count = subst (λ (k : ℕ). RoseBy old.calls (calls_of m.called k) new.calls) cost_here m.count;
-      typed = λ r v e is. let w = m.shows v is in ap type_of (sym w.2) ∙ typed r w.0 e w.1;
+      typed = λ r v e is. let w = m.shows v is in subst (λ (x : Value). IsOfType arena x r.ty) w.2 (typed r w.0 e w.1);
       answer_typed = typed;
     } where
-      typed : (r : Row) (c : Call) → row_at arena n ≡ Some r → m.last ≡ Some c → type_of c.result ≡ r.ty
+      typed : (r : Row) (c : Call) → row_at arena n ≡ Some r → m.last ≡ Some c → IsOfType arena c.result r.ty
       typed r c e is = elim (m.answer_typed c is) [
         | inl was ↦ kept.calls n r m.kept c e m.is_kept was
-        | inr its ↦ its ∙ (type ∙ ap (λ (x : Row). x.ty) (same_row r e))
+        | inr its ↦ subst (IsOfType arena c.result) (type ∙ ap (λ (x : Row). x.ty) (same_row r e)) (base_of_type arena c.result t its base)
       ]
 
     -- it wasn't

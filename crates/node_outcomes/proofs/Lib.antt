@@ -1,3 +1,5 @@
 pub mod Folding
 pub mod Rewriting
+pub mod Pairs
 pub mod Computing
+pub mod Rights

@@ -5,18 +5,22 @@ use Rattle.inc_value.specs.Choice.{Among, Every}
 use Rattle.inc_value.specs.declared.ty.Ty.{Ty}
 use Rattle.inc_value.specs.declared.function.FnRef.{FnRef}
 use Rattle.inc_value.specs.declared.node.NodeId.{NodeId}
+use Rattle.inc_value.specs.declared.node.Part.{Part}
+use Rattle.inc_value.specs.declared.node.Part.TheVariants.{Main, Change}
 use Rattle.inc_value.specs.declared.node.Point.{Point}
 use Rattle.inc_value.specs.declared.outcome.Outcome.{Outcome}
 use Rattle.inc_value.specs.declared.outcome.Outcome.TheVariants.{Invalid}
 use Rattle.inc_value.specs.declared.value.Value.{Value}
-use Rattle.inc_terms.specs.Depend.{main}
+use Rattle.inc_terms.specs.Depend.{main, change, subject_of, right_of}
 use Rattle.inc_terms.specs.Evaluate.{Gathered, Unknown, Values, gathered, given}
 use Rattle.inc_terms.specs.Graph.{Graph, Row, Def, kids}
 use Rattle.inc_terms.specs.Local.{by_sight, own}
 use Rattle.inc_terms.specs.Term.{refs}
+use Rattle.inc_terms.specs.Within.{Given, ValueWithin}
 use Rattle.point_map.specs.Rows.{Rows, at}
 use Rattle.node_arena.specs.Arena.{Arena, row_at}
 use Rattle.node_arena.specs.Graph.{graph_of}
+use Rattle.node_arena.specs.Typing.{Fits, HasType}
 use Rattle.node_arena.specs.Meanings.{SameNames, KeepsKnown, SameValues}
 use Rattle.inc_terms.specs.Work.{taken_by}
 use Rattle.stabilize_round.specs.Calling.{IsAnswer, cost_at}
@@ -27,7 +31,7 @@ use Rattle.inc_value.specs.Value.{type_of}
 use Rattle.inc_value.specs.declared.outcome.Outcome.TheVariants.{Val}
 use Rattle.point_map.specs.Rows.{KeepsRows}
 use Rattle.node_outcomes.specs.Meaning.{functions_of}
-use Rattle.node_outcomes.specs.Row.{IsRewritten, with_call, with_last, value_in, passes_in}
+use Rattle.node_outcomes.specs.Row.{IsRewritten, with_call, with_last, value_in, passes_in, outcome_in}
 use Rattle.node_outcomes.specs.declared.row.Progress.{Progress}
 
 -- what is seen of a point by its row: Invalid without one
@@ -80,7 +84,13 @@ CallsSeen value G n round rows def last last' true =
     × (((c : Call) → last ≡ Some c → c.arguments ≡ values → ⊥) ⊎ IsForcedBy round rows nodes) × (last' ≡ Some (record { arguments = values; result = result }))
     × IsAnswer (functions_of value) def values result
 
--- a live node was computed: its outcome is its own function of what is seen, where something is seen of each child
+-- something is seen of all that a main's own function looks at: its children, or its own change and the right side that this chose
+pub record LooksAtSeen (rows : Rows Progress) (G : Graph) (n : NodeId) (def : Def) : Type 0 where
+  pub kids : seen_together rows (kids def) ≡ Unknown → ⊥
+  pub choice : IsSome (subject_of def) → IsSome (outcome_in (at rows (change n)))
+  pub right : (m : NodeId) (o : Outcome) → outcome_in (at rows (change n)) ≡ Some o → right_of G n def o ≡ Some m → IsSome (seen rows (main m))
+
+-- a live node was computed: its outcome is its own function of what is seen, where something is seen of all that it looks at
 pub record IsComputed (value : FnRef → List Value → Value) (arena : Arena) (round : ℕ) (rows : Rows Progress) (n : NodeId) (o : Outcome)
     (last' : Option Call) (called : Bool) : Type 0 where
   pub row : Row
@@ -88,7 +98,7 @@ pub record IsComputed (value : FnRef → List Value → Value) (arena : Arena) (
   pub kept : Progress
   pub is_kept : at rows (main n) ≡ Some kept
   pub calls : CallsSeen value (graph_of arena) n round rows row.def kept.last last' called
-  pub own : KeepsAnswers value arena rows → (seen_together rows (kids row.def) ≡ Unknown → ⊥)
+  pub own : KeepsAnswers value arena rows → LooksAtSeen rows (graph_of arena) n row.def
       → own (functions_of value) (graph_of arena) (seen rows) n row.def ≡ Some o
 
 -- a live node whose function is called on its children's values
@@ -107,13 +117,26 @@ pub record Noted : Type 0 where
 abbrev pub noted : Rows Progress → List NodeId → ℕ → Noted
 noted rows ran calls = record { rows = rows; ran = ran; calls = calls }
 
--- live mains are what has rows, and outcomes and results of calls have their nodes' types
+-- whether a node has the point: a live one has a main, and one of two points a change too
+abbrev pub has_part : Option Row → Part → Bool
+has_part None part = false
+has_part (Some r) Main = true
+has_part (Some r) Change = is_some (subject_of r.def)
+
+-- a value of the type that names given nodes alone
+pub record IsOfType (a : Arena) (v : Value) (t : Ty) : Type 0 where
+  pub type : HasType a v t
+  pub within : ValueWithin (Given a.given) v
+
+-- the points of live nodes are what has rows; outcomes and results of calls have their nodes' types, and so have right sides
 pub record KeepsTypes (arena : Arena) (kept : Rows Progress) : Type 0 where
-  pub rows : (n : NodeId) → is_some (at kept (main n)) ≡ is_some (row_at arena n)
+  pub rows : (p : Point) → is_some (at kept p) ≡ has_part (row_at arena p.node) p.part
   pub outcomes : (n : NodeId) (r : Row) (k : Progress) (v : Value) → row_at arena n ≡ Some r → at kept (main n) ≡ Some k
-      → k.outcome ≡ Some (Val v) → type_of v ≡ r.ty
+      → k.outcome ≡ Some (Val v) → IsOfType arena v r.ty
+  pub rights : (n m : NodeId) (r : Row) (k : Progress) (o : Outcome) → row_at arena n ≡ Some r → at kept (change n) ≡ Some k
+      → k.outcome ≡ Some o → right_of (graph_of arena) n r.def o ≡ Some m → Given arena.given m × Fits arena m r.ty
   pub calls : (n : NodeId) (r : Row) (k : Progress) (c : Call) → row_at arena n ≡ Some r → at kept (main n) ≡ Some k
-      → k.last ≡ Some c → type_of c.result ≡ r.ty
+      → k.last ≡ Some c → IsOfType arena c.result r.ty
 
 -- the nodes whose functions were called, with this one where its was
 abbrev pub ran_then : Bool → List NodeId → NodeId → List NodeId
@@ -128,8 +151,8 @@ pub record Computes (value : FnRef → List Value → Value) (arena : Arena) (ro
   pub row : IsRewritten old.rows new.rows (main n) (with_last last)
   pub ran : new.ran ≡ ran_then called old.ran n
   pub count : RoseBy old.calls (calls_of called (cost_at (graph_of arena) n)) new.calls
-  pub typed : (r : Row) (v : Value) → row_at arena n ≡ Some r → o ≡ Val v → type_of v ≡ r.ty
-  pub answer_typed : (r : Row) (c : Call) → row_at arena n ≡ Some r → last ≡ Some c → type_of c.result ≡ r.ty
+  pub typed : (r : Row) (v : Value) → row_at arena n ≡ Some r → o ≡ Val v → IsOfType arena v r.ty
+  pub answer_typed : (r : Row) (c : Call) → row_at arena n ≡ Some r → last ≡ Some c → IsOfType arena c.result r.ty
 
 -- calls of a node's function, some of those that it takes
 pub record HasCalledSome (arena : Arena) (n : NodeId) (before after : ℕ) : Type 0 where

@@ -41,6 +41,7 @@ pub record IsRewritten (old new : Rows Progress) (p : Point) (change : Progress 
 -- the machine's stage that a row's stage stands for
 abbrev pub stage_of : Stage → machine.Stage
 stage_of stage.Bare = machine.Bare
+stage_of stage.Static = machine.Static
 stage_of stage.Full = machine.Full
 
 -- whether a row was settled in the round
@@ -80,3 +81,13 @@ value_in (Some k) = value_of k.outcome
 abbrev pub stage_in : Option Progress → Option Stage
 stage_in None = None
 stage_in (Some k) = Some k.stage
+
+-- the outcome of a point that has a row
+abbrev pub outcome_in : Option Progress → Option Outcome
+outcome_in None = None
+outcome_in (Some k) = k.outcome
+
+-- all links
+abbrev pub is_full : Option Stage → Bool
+is_full (Some stage.Full) = true
+is_full s = false

@@ -2,14 +2,17 @@
 #![tactic(auto)]
 
 mod call;
+mod choosing;
 mod last_call;
 mod outcome;
 mod row;
 mod sight;
 
+pub use choosing::{ran_with, right_side};
 pub use last_call::{Called, LastCall};
 pub use outcome::compute;
 pub use row::{
-    Progress, Stage, change_point, is_bare, main_point, set_cutoff, set_outcome, set_stage,
-    unsettled, was_settled,
+    Progress, Stage, change_point, is_bare, is_full, is_static, main_point, set_cutoff,
+    set_outcome, set_stage, unsettled, was_settled,
 };
+pub use sight::shown;

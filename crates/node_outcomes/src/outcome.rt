@@ -13,8 +13,9 @@ ghost use Rattle.node_outcomes.specs.Computing.{FoldFits, ShowsValue, noted};
 ghost use Rattle.node_outcomes.specs.Meaning.{lists_none};
 
 use crate::call::{call_fold, call_map};
+use crate::choosing::right_side;
 use crate::row::Progress;
-use crate::sight::{is_forced, last_call, show, show_values};
+use crate::sight::{is_forced, last_call, show, show_values, shown};
 use inc_terms::Def;
 use inc_value::{FnKind, FnRef, NodeId, Outcome, Value};
 use node_arena::{Arena, Functions};
@@ -22,7 +23,8 @@ use point_map::PointMap;
 use std::alloc::{AllocError, Global};
 
 /// What a node gives. A map's or a fold's function is called unless it was last called on the same
-/// values of its children, none of which has cutoff Never and was settled in this round.
+/// values of its children, none of which has cutoff Never and was settled in this round. A node of two
+/// points gives what the right side shows that its change chose, and Invalid where it chose none.
 pub fn compute<F: Functions>(
     alloc: Global,
     arena: &Arena,
@@ -62,6 +64,10 @@ pub fn compute<F: Functions>(
             initial,
             kids.as_slice(),
         ),
+        Def::If { .. } | Def::Join(_) => match right_side(rows, node, &row.def) {
+            Some(target) => shown(alloc, rows, target),
+            None => Ok(Outcome::Invalid),
+        },
     }
 }
 

@@ -11,18 +11,21 @@ use map_nodes::{Cutoff, stops};
 use point_map::PointMap;
 use std::alloc::{AllocError, Global};
 
-/// Which links a needed point has. Scopes and nodes of two points will add stages between these: with its gate's link
-/// alone, until the gate ran, and with all but right sides, until the node's change did.
+/// Which links a needed point has. Scopes will add a stage between the first two: with its gate's link alone, until the
+/// gate ran.
 #[derive(Clone, Copy)]
 pub enum Stage {
     /// None yet.
     Bare,
+    /// All but that to its right side: a main of a node of two points, until the node's change ran.
+    Static,
     /// All.
     Full,
 }
 
 /// What is kept of a point of a live node: its links' stage, the round in which it was settled last, its outcome,
-/// the last call of its node's function, and, of a main, its node's cutoff. No round has the number 0.
+/// the last call of its node's function, and, of a main, its node's cutoff. The outcome of a change is that of its
+/// subject with which it ran last. No round has the number 0.
 #[derive(Drop)]
 pub struct Progress {
     pub stage: Stage,
@@ -82,7 +85,33 @@ pub fn is_bare(rows: &PointMap<Progress>, p: Point) -> bool
     match rows.get(p) {
         Some(row) => match row.stage {
             Stage::Bare => true,
-            Stage::Full => false,
+            Stage::Static | Stage::Full => false,
+        },
+        None => false,
+    }
+}
+
+/// Whether a main of a live node waits for its node's change, with all links but that to its right side.
+pub fn is_static(rows: &PointMap<Progress>, p: Point) -> bool
+    ensures { IsTrue result ↔ stage_in (at rows.now p) ≡ Some Stage.Static }
+{
+    match rows.get(p) {
+        Some(row) => match row.stage {
+            Stage::Static => true,
+            Stage::Bare | Stage::Full => false,
+        },
+        None => false,
+    }
+}
+
+/// Whether a point of a live node has all its links.
+pub fn is_full(rows: &PointMap<Progress>, p: Point) -> bool
+    ensures { IsTrue result ↔ stage_in (at rows.now p) ≡ Some Stage.Full }
+{
+    match rows.get(p) {
+        Some(row) => match row.stage {
+            Stage::Full => true,
+            Stage::Bare | Stage::Static => false,
         },
         None => false,
     }

@@ -1,9 +1,9 @@
 //! What is seen of nodes by their rows.
-ghost use Rattle.std.specs.Prelude.{◌≡◌, ◌↔◌, None, Some, IsTrue, IsSome, IfOk, option_copied, option_and_then};
+ghost use Rattle.std.specs.Prelude.{◌≡◌, ◌⊎◌, ◌↔◌, None, Some, IsTrue, IsSome, IfOk, option_copied, option_and_then};
 ghost use Rattle.std.specs.List.{AllZip, filter_map};
 ghost use Rattle.inc_terms.specs.Depend.{main};
 ghost use Rattle.point_map.specs.Rows.{at};
-ghost use Rattle.node_outcomes.specs.Computing.{AllShow, ShowsValue, value_shown as shown_in, forced_by};
+ghost use Rattle.node_outcomes.specs.Computing.{AllShow, ShowsValue, seen, value_shown as shown_in, forced_by};
 ghost use Rattle.node_outcomes.specs.Row.{value_in, passes_in};
 
 use crate::last_call::Called;
@@ -20,6 +20,20 @@ pub(crate) fn value_shown(rows: &PointMap<Progress>, node: NodeId) -> Option<&Va
     match &rows.get(main_point(node))?.outcome {
         Some(Outcome::Val(value)) => Some(value),
         _ => None,
+    }
+}
+
+/// What a node shows. A dead one shows Invalid, and so does one that was never brought up to date.
+pub fn shown(alloc: Global, rows: &PointMap<Progress>, node: NodeId) -> Result<Outcome, AllocError>
+    ensures { IfOk result (λ o. (seen rows.now (main node) ≡ Some o)
+        ⊎ ((seen rows.now (main node) ≡ None) × (o ≡ Outcome.Invalid))) }
+{
+    match rows.get(main_point(node)) {
+        Some(row) => match &row.outcome {
+            Some(outcome) => outcome.copy(alloc),
+            None => Ok(Outcome::Invalid),
+        },
+        None => Ok(Outcome::Invalid),
     }
 }
 

@@ -2,10 +2,9 @@
 ghost use Rattle.std.specs.Prelude.{Bool, List};
 ghost use Rattle.inc_value.specs.declared.function.FnRef.{FnRef};
 ghost use Rattle.inc_value.specs.declared.node.NodeId.{NodeId};
-ghost use Rattle.inc_terms.specs.Depend.{IsFlat};
 ghost use Rattle.inc_terms.specs.Rebuild.{Keeping, Names};
 ghost use Rattle.inc_terms.specs.Within.{Given, Fit};
-ghost use Rattle.node_arena.specs.Graph.{graph_of, AllCallFit, NoScopes};
+ghost use Rattle.node_arena.specs.Graph.{graph_of, AllCallFit};
 
 use super::Arena;
 use inc_terms::keeping_names;
@@ -22,9 +21,4 @@ impl Arena {
         self.is_sound();
         keeping_names();
     }
-
-    /// A law: where no node stands in a scope, a main depends on its children's mains alone.
-    pub fn is_flat(&self)
-        ensures { NoScopes self.now → IsFlat (graph_of self.now) }
-    {}
 }

@@ -6,7 +6,7 @@ ghost use Rattle.inc_terms.specs.Code.{def_of};
 ghost use Rattle.inc_terms.specs.Within.{Given};
 ghost use Rattle.inc_terms.specs.Within.{ValueWithin};
 ghost use Rattle.node_arena.specs.Arena.{NamesGiven};
-ghost use Rattle.node_arena.specs.Typing.{Makes, Fits, FoldMakes, FoldTakes, HasType, ReferenceFits, ty_of};
+ghost use Rattle.node_arena.specs.Typing.{Makes, Fits, FoldMakes, FoldTakes, JoinMakes, HasType, ReferenceFits, ty_of, base_of};
 
 use super::Arena;
 use inc_terms::Def;
@@ -50,6 +50,8 @@ pub(super) fn names_given(given: u64, def: &Def) -> bool
         Def::Fold(_, initial, kids) => {
             value_given(given, initial) && all_given(given, kids.as_slice())
         }
+        Def::If { test, yes, no } => all_given(given, &[*test, *yes, *no]),
+        Def::Join(kid) => kid.gen_ < given,
     }
 }
 
@@ -70,6 +72,28 @@ fn reference_fits(arena: &Arena, value: &Value) -> bool
     match value {
         Value::Node(node, base) => fits(arena, *node, type_of_base(*base)),
         _ => true,
+    }
+}
+
+/// The base type that a type is.
+fn base_of(ty: Ty) -> Option<Base>
+    ensures { result ≡ base_of ty }
+{
+    match ty {
+        Ty::Int => Some(Base::Int),
+        Ty::Bool => Some(Base::Bool),
+        Ty::Text => Some(Base::Text),
+        Ty::Node(_) => None,
+    }
+}
+
+/// Whether references of the node lead to nodes of the type; a dead node is of every type.
+fn leads_to(arena: &Arena, node: NodeId, ty: Ty) -> bool
+    ensures { IsTrue result ↔ JoinMakes arena.now node ty }
+{
+    match base_of(ty) {
+        Some(base) => fits(arena, node, Ty::Node(base)),
+        None => false,
     }
 }
 
@@ -134,5 +158,9 @@ pub(super) fn makes(arena: &Arena, def: &Def, ty: Ty) -> bool
                 && all_fit(arena, kids.as_slice(), f.sig.takes())
         }
         Def::Fold(f, initial, kids) => folds(arena, *f, initial, kids.as_slice(), ty),
+        Def::If { test, yes, no } => {
+            fits(arena, *test, Ty::Bool) && fits(arena, *yes, ty) && fits(arena, *no, ty)
+        }
+        Def::Join(kid) => leads_to(arena, *kid, ty),
     }
 }

@@ -1,0 +1,33 @@
+//! The right sides that changes chose.
+ghost use Rattle.std.specs.Prelude.{◌≡◌, ◌↔◌, Some, IsTrue};
+ghost use Rattle.inc_terms.specs.Code.{def_of};
+ghost use Rattle.inc_terms.specs.Depend.{change};
+ghost use Rattle.point_map.specs.Rows.{at};
+ghost use Rattle.node_outcomes.specs.Choosing.{right_in};
+ghost use Rattle.node_outcomes.specs.Row.{outcome_in};
+
+use crate::row::{Progress, change_point};
+use inc_terms::Def;
+use inc_value::{NodeId, Outcome};
+use point_map::PointMap;
+
+/// The right side of a node that is so defined: the one that its change's outcome chooses, if it ran and chose one.
+pub fn right_side(rows: &PointMap<Progress>, node: NodeId, def: &Def) -> Option<NodeId>
+    ensures { result ≡ right_in rows.now node (def_of def.now) }
+{
+    let row = rows.get(change_point(node))?;
+    def.right_side(row.outcome.as_ref()?)
+}
+
+/// Whether a node's change ran last with this outcome of its subject.
+pub fn ran_with(rows: &PointMap<Progress>, node: NodeId, given: &Outcome) -> bool
+    ensures { IsTrue result ↔ (outcome_in (at rows.now (change node)) ≡ Some given.now) }
+{
+    match rows.get(change_point(node)) {
+        Some(row) => match &row.outcome {
+            Some(before) => before.same(given),
+            None => false,
+        },
+        None => false,
+    }
+}
