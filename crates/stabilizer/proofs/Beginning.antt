@@ -4,6 +4,7 @@ use Rattle.std.specs.Prelude.{is_some, ◌↔◌}
 use Rattle.std.proofs.Math.Path.{fun_ext}
 use Rattle.inc_value.specs.declared.function.FnRef.{FnRef}
 use Rattle.inc_value.specs.declared.node.NodeId.{NodeId}
+use Rattle.inc_value.specs.declared.node.Part.TheVariants.{Main}
 use Rattle.inc_value.specs.declared.node.Point.{Point}
 use Rattle.inc_value.specs.declared.value.Value.{Value}
 use Rattle.inc_terms.specs.Depend.{main}
@@ -15,10 +16,12 @@ use Rattle.necessary_graph.specs.Part.{Needed}
 use Rattle.node_arena.specs.Arena.{Arena, row_at}
 use Rattle.node_arena.specs.Meanings.{SameValues}
 use Rattle.stabilize_round.proofs.Freezing.{other_rests}
-use Rattle.stabilizer.proofs.Between.{no_freeze}
+use Rattle.stabilizer.proofs.Agreeing.{no_freeze}
 use Rattle.stabilize_round.specs.Invariant.{Recalls}
 use Rattle.stabilize_round.specs.Machine.{Entry}
 use Rattle.stabilize_round.specs.State.{State, Start}
+use Rattle.node_outcomes.specs.Computing.{has_part}
+use Rattle.stabilizer.specs.Kept.{IsKept}
 use Rattle.stabilizer.specs.Round.{IsReady, last_of, last_call, never_at}
 use Rattle.node_outcomes.specs.Row.{never_in}
 use Rattle.stabilizer.specs.Stands.{Stands}
@@ -32,6 +35,14 @@ same_meaning v w same = fun_ext (λ f. fun_ext (λ xs. same f xs))
 pub there_as : {A B : Type 0} (x : Option A) (y : Option B) (b : B) → is_some x ≡ is_some y → y ≡ Some b → (a : A) × (x ≡ Some a)
 there_as None y b same e = absurd (let k = same ∙ ap is_some e in cc)
 there_as (Some a) y b same e = (a, refl)
+
+-- just live nodes have mains
+has_main : (x : Option Row) → has_part x Main ≡ is_some x
+has_main None = refl
+has_main (Some r) = refl
+
+pub main_there : (arena : Arena) (work : Work) → IsKept arena work → (n : NodeId) → is_some (at work.rows (main n)) ≡ is_some (row_at arena n)
+main_there arena work kept n = kept.rows (main n) ∙ has_main (row_at arena n)
 
 -- a round may begin here, and this is what it begins with
 pub record Begun (F : Functions) (arena : Arena) (work : Work) (count : ℕ) : Type 0 where
@@ -58,7 +69,7 @@ module _ (F : Functions) (arena : Arena) (work : Work) (ready : IsReady F arena 
   -- of a live node the state knew this last call
   last_known : (n : NodeId) (r : Row) → old.graph.row n ≡ Some r → last_call work n ≡ old.last n
   last_known n r row =
-      let there = there_as (at work.rows (main n)) (row_at arena n) r (ready.kept.rows n)
+      let there = there_as (at work.rows (main n)) (row_at arena n) r (main_there arena work ready.kept n)
       (sym (ap (λ G. G.row n) ready.stands.graph) ∙ row) in
       ap last_of there.1 ∙ sym (ready.stands.last n there.0 there.1)
 

@@ -1,14 +1,15 @@
 -- What the parts keep stays so while a point is taken from the heap, settled, or put back.
-use Rattle.std.proofs.Common.{◌≡◌, inl, inr, ℕ, ◌≤◌, Bool, true, Option, None, Some, refl, sym, ap, subst, ◌∙◌, arith}
+use Rattle.std.proofs.Common.{◌≡◌, ◌≢◌, inl, inr, ℕ, ◌≤◌, Bool, true, Option, None, Some, refl, sym, ap, subst, ◌∙◌, arith}
 use Rattle.std.specs.Prelude.{is_some}
-use Rattle.inc_value.specs.Value.{type_of}
+use Rattle.inc_value.specs.Choice.{Among}
 use Rattle.inc_value.specs.declared.node.NodeId.{NodeId}
 use Rattle.inc_value.specs.declared.node.Point.{Point}
 use Rattle.inc_value.specs.declared.outcome.Outcome.{Outcome}
 use Rattle.inc_value.specs.declared.outcome.Outcome.TheVariants.{Val}
 use Rattle.inc_value.specs.declared.value.Value.{Value}
-use Rattle.inc_terms.specs.Depend.{main}
+use Rattle.inc_terms.specs.Depend.{main, change, right_of}
 use Rattle.inc_terms.specs.Graph.{Row}
+use Rattle.inc_terms.specs.Within.{Given}
 use Rattle.point_map.specs.Rows.{Rows, at, Holds, Changes, KeepsRows}
 use Rattle.point_map.proofs.Places.{point_cases}
 use Rattle.link_table.specs.Links.{Links, Reads}
@@ -16,6 +17,9 @@ use Rattle.necessary_graph.specs.Part.{NecessaryPart, Needed, IsInStep}
 use Rattle.necessary_graph.proofs.Standing.{has_level, put_in_step, taken_in_step}
 use Rattle.height_order.specs.Levels.{level}
 use Rattle.node_arena.specs.Arena.{Arena, row_at}
+use Rattle.node_arena.specs.Graph.{graph_of}
+use Rattle.node_arena.specs.Typing.{Fits}
+use Rattle.node_outcomes.specs.Computing.{IsOfType}
 use Rattle.stabilize_round.specs.State.{Call}
 use Rattle.stabilizer.specs.Kept.{IsKept}
 use Rattle.stabilizer.specs.Settling.{IsSettled}
@@ -35,10 +39,13 @@ module _ (old new : NecessaryPart) (same : KeepsGraph old new) where
 module _ (arena : Arena) (old new : Work) (kept : IsKept arena old) (rows : (p : Point) → is_some (at new.rows p) ≡ is_some (at old.rows p))
     (same : KeepsGraph old.graph new.graph) (step : IsInStep new.graph) (heap : (p : Point) → Holds new.graph.heap p → Holds old.rows p)
     (outcomes : (n : NodeId) (r : Row) (k : Progress) (v : Value) → row_at arena n ≡ Some r → at new.rows (main n) ≡ Some k
-    → k.outcome ≡ Some (Val v) → type_of v ≡ r.ty)
+    → k.outcome ≡ Some (Val v) → IsOfType arena v r.ty)
+    (rights : (n m : NodeId) (r : Row) (k : Progress) (o : Outcome) → row_at arena n ≡ Some r → at new.rows (change n) ≡ Some k
+    → k.outcome ≡ Some o → right_of (graph_of arena) n r.def o ≡ Some m → Given arena.given m × Fits arena m r.ty)
     (calls : (n : NodeId) (r : Row) (k : Progress) (c : Call) → row_at arena n ≡ Some r → at new.rows (main n) ≡ Some k
-    → k.last ≡ Some c → type_of c.result ≡ r.ty)
-    (rounds : (p : Point) (k : Progress) → at new.rows p ≡ Some k → k.settled ≤ new.round) where
+    → k.last ≡ Some c → IsOfType arena c.result r.ty)
+    (rounds : (p : Point) (k : Progress) → at new.rows p ≡ Some k → k.settled ≤ new.round)
+    (pairs : (n : NodeId) → Among n old.pairs.items → Among n new.pairs.items) where
   before : (p : Point) → Holds new.rows p → Holds old.rows p
   before p h = sym (rows p) ∙ h
 
@@ -51,26 +58,29 @@ module _ (arena : Arena) (old new : Work) (kept : IsKept arena old) (rows : (p :
   pub kept_with : IsKept arena new
   kept_with = record {
     step = step;
-    rows = λ n. rows (main n) ∙ kept.rows n;
-    row_mains = λ p h. kept.row_mains p (before p h);
-    mains = λ p h. kept.mains p (there_before p h);
+    rows = λ p. rows p ∙ kept.rows p;
+    leaves = λ p h. elim (kept.leaves p (there_before p h)) [ inl r ↦ inl (now p r) | inr is ↦ inr is ];
     there = λ p h. subst (λ (m : Rows ℕ). Holds m p) (sym same.heights) (kept.there p (before p h));
     given = λ p h. kept.given p (there_before p h);
     links = λ p q r. now p (kept.links p q (subst (λ (l : Links). Reads l p q) same.links r));
     heap = λ p h. now p (heap p h);
     flat = kept.flat;
     outcomes = outcomes;
+    rights = rights;
     calls = calls;
     rounds = rounds;
+    pairs = λ n r live some. pairs n (kept.pairs n r live some);
   }
 
 -- all rows stay
 pub kept_same : (arena : Arena) (old new : Work) → IsKept arena old → KeepsRows old.rows new.rows → KeepsGraph old.graph new.graph → IsInStep new.graph
-    → ((p : Point) → Holds new.graph.heap p → Holds old.rows p) → new.round ≡ old.round → IsKept arena new
-kept_same arena old new kept rows same step heap round = kept_with arena old new kept (λ p. ap is_some (rows p)) same step heap
+    → ((p : Point) → Holds new.graph.heap p → Holds old.rows p) → new.round ≡ old.round → new.pairs ≡ old.pairs → IsKept arena new
+kept_same arena old new kept rows same step heap round pairs = kept_with arena old new kept (λ p. ap is_some (rows p)) same step heap
     (λ n r k v live is o. kept.outcomes n r k v live (sym (rows (main n)) ∙ is) o)
+    (λ n m r k o live is out right. kept.rights n m r k o live (sym (rows (change n)) ∙ is) out right)
     (λ n r k c live is l. kept.calls n r k c live (sym (rows (main n)) ∙ is) l)
     (λ p k is. subst (λ (m : ℕ). k.settled ≤ m) (sym round) (kept.rounds p k (sym (rows p) ∙ is)))
+    (λ n a. rw pairs a)
 
 -- ---- a point leaves the heap, and comes back
 
@@ -84,7 +94,7 @@ module _ (arena : Arena) (old : Work) (g : NecessaryPart) (rest : g ≡ record o
 
   heap_kept : IsKept arena old → IsInStep (record old.graph { heap = g.heap }) → ((p : Point) → Holds g.heap p → Holds old.rows p)
       → IsKept arena (record old { graph = g })
-  heap_kept kept step heap = kept_same arena old (record old { graph = g }) kept (λ p. refl) heap_graph (subst IsInStep (sym rest) step) heap refl
+  heap_kept kept step heap = kept_same arena old (record old { graph = g }) kept (λ p. refl) heap_graph (subst IsInStep (sym rest) step) heap refl refl
 
   pub taken_kept : (p : Point) → IsKept arena old → Changes old.graph.heap g.heap p None → IsKept arena (record old { graph = g })
   taken_kept p kept c = heap_kept kept (taken_in_step old.graph kept.step g.heap p c)
@@ -110,9 +120,9 @@ some_row : (a b : Progress) → ◌≡◌ {A = Option Progress} (Some a) (Some b
 some_row a b e = cc
 
 module _ (arena : Arena) (old new : Work) (n : NodeId) (o : Outcome) (last : Option Call) (called : Bool)
-    (kept : IsKept arena old) (w : IsSettled old new n o last called) (step : IsInStep new.graph)
-    (typed : (r : Row) (v : Value) → row_at arena n ≡ Some r → o ≡ Val v → type_of v ≡ r.ty)
-    (answer_typed : (r : Row) (c : Call) → row_at arena n ≡ Some r → last ≡ Some c → type_of c.result ≡ r.ty) where
+    (kept : IsKept arena old) (w : IsSettled old new n o last called) (step : IsInStep new.graph) (pairs : new.pairs ≡ old.pairs)
+    (typed : (r : Row) (v : Value) → row_at arena n ≡ Some r → o ≡ Val v → IsOfType arena v r.ty)
+    (answer_typed : (r : Row) (c : Call) → row_at arena n ≡ Some r → last ≡ Some c → IsOfType arena c.result r.ty) where
   abbrev fresh : Progress
   fresh = record { stage = w.row.stage; settled = old.round; outcome = Some o; last = last; cutoff = w.row.cutoff }
 
@@ -124,6 +134,9 @@ module _ (arena : Arena) (old new : Work) (n : NodeId) (o : Outcome) (last : Opt
     | inl e ↦ subst (λ (x : Point). is_some (at new.rows x) ≡ is_some (at old.rows x)) (sym e) (ap is_some w.now ∙ sym (ap is_some w.was))
     | inr ne ↦ ap is_some (w.others p ne)
   ]
+
+  change_other : (m : NodeId) → change m ≢ main n
+  change_other m e = absurd (let parts = ap (λ (x : Point). x.part) e in cc)
 
   heap_rows : (p : Point) → Holds new.graph.heap p → Holds old.rows p
   heap_rows p h = elim (point_cases p (main n)) [
@@ -144,6 +157,7 @@ module _ (arena : Arena) (old new : Work) (n : NodeId) (o : Outcome) (last : Opt
             typed r v (subst (λ (x : NodeId). row_at arena x ≡ Some r) same live) (cc)
         | inr ne ↦ kept.outcomes m r k v live (sym (w.others (main m) ne) ∙ is) out
       ])
+      (λ m i r k x live is out right. kept.rights m i r k x live (sym (w.others (change m) (change_other m)) ∙ is) out right)
       (λ m r k c live is l. elim (point_cases (main m) (main n)) [
         | inl e ↦
             let same : m ≡ n = ap (λ (x : Point). x.node) e in
@@ -159,3 +173,4 @@ module _ (arena : Arena) (old new : Work) (n : NodeId) (o : Outcome) (last : Opt
             let before = kept.rounds p k (sym (w.others p ne) ∙ is) in
             let r = w.round in omega arith
       ])
+      (λ m a. rw pairs a)

@@ -3,27 +3,26 @@ use Rattle.std.proofs.Common.{◌≡◌, inl, inr, ℕ, Option, None, Some, refl
 use Rattle.std.specs.Prelude.{option_map}
 use Rattle.std.proofs.lemmas.Option.{none-some}
 use Rattle.inc_value.specs.declared.node.NodeId.{NodeId}
+use Rattle.inc_value.specs.declared.node.Part.TheVariants.{Main}
 use Rattle.inc_value.specs.declared.node.Point.{Point}
 use Rattle.inc_terms.specs.Depend.{main}
+use Rattle.inc_terms.specs.Graph.{Def}
 use Rattle.inc_terms.specs.Term.{Functions}
 use Rattle.map_nodes.specs.declared.cutoff.Cutoff.{Cutoff}
-use Rattle.point_map.specs.Rows.{Rows, at, Changes, KeepsRows}
+use Rattle.point_map.specs.Rows.{Rows, at, KeepsRows}
 use Rattle.node_arena.specs.Arena.{Arena}
 use Rattle.stabilize_round.specs.Machine.{Entry}
 use Rattle.stabilize_round.specs.State.{State, Start}
 use Rattle.stabilize_round.proofs.Points.{same_or_other, node_or_other}
 use Rattle.stabilizer.specs.Kept.{IsKept}
+use Rattle.stabilizer.specs.Places.{ChangesNode, for_parts}
 use Rattle.stabilizer.specs.Round.{IsReady, never_at}
 use Rattle.node_outcomes.specs.Row.{IsRewritten, with_cutoff, settled_in, stage_of, never_in}
 use Rattle.stabilizer.specs.Stands.{Stands}
 use Rattle.node_outcomes.specs.declared.row.Progress.{Progress}
 use Rattle.stabilizer.specs.declared.work.Work.{Work}
 use Rattle.stabilizer.proofs.Keeping.{kept_rewritten}
-use Rattle.stabilizer.proofs.Adding.{unsettled}
-
--- a node without a row has no cutoff to set
-pub no_cutoff : (rows : Rows Progress) (p : Point) (c : Cutoff) → at rows p ≡ None → IsRewritten rows rows p (with_cutoff c)
-no_cutoff rows p c none = record { changed = rw none refl; others = λ q ne. refl; points = λ i. refl }
+use Rattle.stabilizer.proofs.Placing.{unsettled}
 
 -- but for its cutoff a row is what it was
 record WasCut (old : Rows Progress) (p : Point) (k : Progress) : Type 0 where
@@ -50,8 +49,8 @@ module _ (arena : Arena) (old : Work) (rows : Rows Progress) (id : NodeId) (c : 
   new = record old { rows = rows }
 
   pub cut_kept : IsKept arena new
-  cut_kept = kept_rewritten arena old new (main id) (with_cutoff c) kept w refl refl
-      (λ n k is fit. record { outcome = fit.outcome; call = fit.call; settled = fit.settled })
+  cut_kept = kept_rewritten arena old new (main id) (with_cutoff c) kept w refl refl refl
+      (λ k is fit. record { outcome = fit.outcome; right = fit.right; call = fit.call; settled = fit.settled })
 
   row_was : (p : Point) (k : Progress) → at rows p ≡ Some k → WasCut old.rows p k
   row_was p k e = elim (same_or_other (main id) p) [
@@ -154,12 +153,12 @@ module _ (arena : Arena) (old : Work) (rows : Rows Progress) (id : NodeId) (c : 
 -- ---- cutoffs stay
 
 pub rows_cutoffs : (old new : Work) → KeepsRows old.rows new.rows → (n : NodeId) → never_at new n ≡ never_at old n
-rows_cutoffs old new same n = ap never_in (same (main n))
+rows_cutoffs old work same n = ap never_in (same (main n))
 
 -- a new node's is Equal, as that of a node that isn't there
-pub added_cutoffs : (old new : Work) (id : NodeId) → at old.rows (main id) ≡ None → Changes old.rows new.rows (main id) (Some unsettled)
-    → (n : NodeId) → never_at new n ≡ never_at old n
-added_cutoffs old new id none rows n = elim (node_or_other id n) [
-  | inl e ↦ subst (λ (x : NodeId). never_at new x ≡ never_at old x) e (ap never_in rows.changed ∙ sym (ap never_in none))
-  | inr ne ↦ ap never_in (rows.others (main n) (λ h. ne (sym (ap (λ (x : Point). x.node) h))))
+pub added_cutoffs : (old new : Work) (id : NodeId) (def : Def) → at old.rows (main id) ≡ None
+    → ChangesNode old.rows new.rows id (for_parts def (λ part. unsettled)) → (n : NodeId) → never_at new n ≡ never_at old n
+added_cutoffs old new id def none rows n = elim (node_or_other id n) [
+  | inl e ↦ subst (λ (x : NodeId). never_at new x ≡ never_at old x) e (ap never_in (rows.now Main) ∙ sym (ap never_in none))
+  | inr ne ↦ ap never_in (rows.others (main n) (λ h. ne (sym h)))
 ]

@@ -1,15 +1,16 @@
 -- Without nodes a round may begin.
-use Rattle.std.proofs.Common.{◌≡◌, false, [], None, sym, ap, ◌∙◌, arith}
+use Rattle.std.proofs.Common.{◌≡◌, false, [], Option, None, sym, ap, ◌∙◌, arith}
 use Rattle.std.specs.Prelude.{is_some}
 use Rattle.std.proofs.lemmas.Option.{none-some}
 use Rattle.inc_value.specs.declared.node.NodeId.{NodeId}
 use Rattle.inc_value.specs.declared.node.Point.{Point}
-use Rattle.inc_terms.specs.Depend.{main}
+use Rattle.inc_terms.specs.Graph.{Row}
 use Rattle.inc_terms.specs.Term.{Functions}
 use Rattle.point_map.specs.Rows.{Rows, at, Holds}
 use Rattle.link_table.specs.Links.{times, Reads}
 use Rattle.necessary_graph.specs.Part.{IsInStep}
 use Rattle.node_arena.specs.Arena.{Arena, row_at}
+use Rattle.node_outcomes.specs.Computing.{has_part}
 use Rattle.stabilizer.specs.Between.{IsBetween}
 use Rattle.stabilizer.specs.Kept.{IsKept}
 use Rattle.stabilizer.specs.Round.{IsReady}
@@ -30,25 +31,26 @@ module _ (arena : Arena) (work : Work) (step : IsInStep work.graph) (nodes : (n 
   empty_kept : IsKept arena work
   empty_kept = record {
     step = step;
-    rows = λ n. ap is_some (rows (main n)) ∙ sym (ap is_some (nodes n));
-    row_mains = λ p h. holds_none work.rows p (rows p) h;
-    mains = λ p h. holds_none work.graph.heights p (points p) h;
+    rows = λ p. ap is_some (rows p) ∙ sym (ap (λ (x : Option Row). has_part x p.part) (nodes p.node));
+    leaves = λ p h. holds_none work.graph.heights p (points p) h;
     there = λ p h. holds_none work.rows p (rows p) h;
     given = λ p h. holds_none work.graph.heights p (points p) h;
     links = λ p q l. links_none p q l;
     heap = λ p h. holds_none work.graph.heap p (heap p) h;
     flat = λ n r e. absurd (none-some r (sym (nodes n) ∙ e));
     outcomes = λ n r k v e is shows. absurd (none-some r (sym (nodes n) ∙ e));
+    rights = λ n m r k o e is shows right. absurd (none-some r (sym (nodes n) ∙ e));
     calls = λ n r k c e is last. absurd (none-some r (sym (nodes n) ∙ e));
     rounds = λ p k e. absurd (none-some k (sym (rows p) ∙ e));
+    pairs = λ n r e some. absurd (none-some r (sym (nodes n) ∙ e));
   }
 
   empty_between : (F : Functions) → IsBetween F arena work
   empty_between F = record {
     kept = empty_kept;
     full = λ p k need e. absurd (none-some k (sym (rows p) ∙ e));
-    links = λ n r need e q. absurd (none-some r (sym (nodes n) ∙ e));
-    fresh = λ n r need e. absurd (none-some r (sym (nodes n) ∙ e));
+    links = λ p r need e q. absurd (none-some r (sym (nodes p.node) ∙ e));
+    fresh = λ p r need e. absurd (none-some r (sym (nodes p.node) ∙ e));
     answers = λ n r ns k c e def is last. absurd (none-some r (sym (nodes n) ∙ e));
     unsettled = λ p. ap (settled_in work.round) (rows p);
     numbered = omega (arith, round);

@@ -1,72 +1,60 @@
 -- A round ends: what is needed is up to date, and another round may begin.
-use Rattle.std.proofs.Common.{◌≡◌, ◌⊎◌, inl, inr, ℕ, zero, suc, ◌<◌, ◌≤◌, ◌+◌, ◌++◌, Bool, true, false}
-use Rattle.std.proofs.Common.{List, [], ◌∷◌, map, Option, None, Some, refl, sym, ap, subst, ◌∙◌, arith}
-use Rattle.std.specs.Prelude.{is_some, ◌↔◌, ◌==◌, reverse, slice_index_or, if◌then◌else◌}
+use Rattle.std.proofs.Common.{◌≡◌, ◌⊎◌, inl, inr, ℕ, suc, ◌<◌, ◌≤◌, ◌+◌, ◌++◌, true, false, List, [], ◌∷◌, map, Option, None, Some, refl, sym, ap, subst, ◌∙◌, arith}
+use Rattle.std.specs.Prelude.{is_some, ◌↔◌, ◌==◌, reverse}
 use Rattle.std.proofs.Math.Path.{fun_ext}
 use Rattle.std.proofs.lemmas.Grind.{common_steps}
 use Rattle.std.proofs.lemmas.List.{reverse-append}
 use Rattle.std.proofs.lemmas.List.Sums.{sum_by-cons, sum_by_push}
 use Rattle.std.specs.List.{sum_by}
-use Rattle.inc_value.specs.declared.function.FnRef.{FnRef}
 use Rattle.inc_value.specs.declared.node.NodeId.{NodeId}
-use Rattle.inc_value.specs.declared.node.Part.TheVariants.{Main}
+use Rattle.inc_value.specs.declared.node.Part.TheVariants.{Main, Change}
 use Rattle.inc_value.specs.declared.node.Point.{Point}
 use Rattle.inc_value.specs.declared.outcome.Outcome.{Outcome}
 use Rattle.inc_value.specs.declared.outcome.Outcome.TheVariants.{Val}
 use Rattle.inc_value.specs.declared.value.Value.{Value}
-use Rattle.inc_value.specs.Choice.{Among, NoRepeats, Reaches, here, and_then}
-use Rattle.inc_terms.specs.declared.def.Def as declared
-use Rattle.inc_terms.specs.declared.def.Def.TheVariants as form
-use Rattle.inc_terms.specs.Code.{def_of}
-use Rattle.inc_terms.specs.Depend.{Depends, main, none_died, fixed, fixed_reads}
+use Rattle.inc_value.specs.Choice.{Among, NoRepeats, Reaches}
+use Rattle.inc_terms.specs.Depend.{Depends, main, change, subject_of, none_died, fixed, fixed_reads}
 use Rattle.inc_terms.specs.Evaluate.{Of, Values, gathered, NodeGives, GiveAll}
-use Rattle.inc_terms.specs.Graph.{Graph, Row, Freeze}
-use Rattle.inc_terms.specs.Local.{shown, shown_of, by_sight, Sees}
+use Rattle.inc_terms.specs.Graph.{Graph, Row}
+use Rattle.inc_terms.specs.Local.{shown, shown_of, by_sight, Sees, Agrees}
 use Rattle.inc_terms.specs.Need.{IsRoot, Needed, Met, from_root, from_held}
 use Rattle.inc_terms.specs.Term as term
 use Rattle.inc_terms.specs.Term.{Functions, refs}
 use Rattle.inc_terms.proofs.Evaluation.{one_outcome}
 use Rattle.inc_terms.proofs.Local.{needed_more}
 use Rattle.inc_terms.proofs.Plan.{among_left, among_right, among_parts, among_map}
-use Rattle.point_map.specs.Rows.{Place, row_in, same_point, at}
-use Rattle.point_map.proofs.Places.{same_point_eq}
+use Rattle.point_map.specs.Rows.{at}
 use Rattle.link_table.specs.Links.{Reads}
 use Rattle.necessary_graph.specs.Part as part
-use Rattle.necessity.specs.Need.{Roots, root_times}
 use Rattle.recompute_heap.specs.Agree.{IsEmpty}
-use Rattle.node_arena.specs.Arena.{Arena, row_at, row_of}
-use Rattle.node_arena.specs.declared.arena.Entry as arena_entry
+use Rattle.node_arena.specs.Arena.{Arena, row_at}
 use Rattle.node_arena.specs.Graph.{graph_of}
-use Rattle.inc_terms.specs.Need.{IsRoot}
 use Rattle.stabilize_round.specs.Calling as reason
-use Rattle.stabilize_round.specs.Calling.{Reason}
+use Rattle.stabilize_round.specs.Calling.{Reason, cost_at, costs_of}
 use Rattle.stabilize_round.specs.Freezing.{fires_at}
-use Rattle.stabilize_round.proofs.Freezing.{other_rests, graph_rests}
-use Rattle.stabilizer.specs.Round.{WasForced}
-use Rattle.stabilize_round.specs.Closing.{closed, Close, next_start}
+use Rattle.stabilize_round.proofs.Freezing.{other_rests}
+use Rattle.stabilizer.specs.Round.{WasForced, IsReady, AreRooted, last_of, last_call, never_at, WasCalled, IsUpToDate}
 use Rattle.inc_terms.specs.Work.{taken_by}
-use Rattle.stabilize_round.specs.Calling.{cost_at, costs_of}
 use Rattle.stabilize_round.specs.Counts.{RoseBy}
 use Rattle.stabilize_round.proofs.Planned.{reads_taken}
 use Rattle.stabilize_round.specs.Ended.{RootsAre, Ended}
 use Rattle.stabilize_round.specs.Invariant as invariant
-use Rattle.stabilize_round.specs.Invariant.{Invariant, MetNow, HasCalled}
+use Rattle.stabilize_round.specs.Invariant.{Invariant, MetNow, Recalls, IsUnmarked}
 use Rattle.stabilize_round.specs.Machine.{Entry, Moves}
 use Rattle.stabilize_round.specs.Moves.{Quiet}
-use Rattle.stabilize_round.specs.State as machine
-use Rattle.stabilize_round.specs.State.{State, Start, Call, Linked, count, ghost_plan}
-use Rattle.stabilize_round.proofs.Low.{links_are}
-use Rattle.stabilize_round.proofs.Meanings.{round_keeps, round_is_right, round_again}
+use Rattle.stabilize_round.specs.State.{State, Start, Call, Full, count, planned, plan_at}
+use Rattle.stabilize_round.proofs.Low.{low_points}
+use Rattle.stabilize_round.proofs.Meanings.{round_keeps, round_is_right}
 use Rattle.stabilize_round.proofs.Parts.{bool_cases}
 use Rattle.stabilize_round.proofs.Points.{count_among, among_count}
-use Rattle.node_outcomes.specs.Computing.{seen, seen_of}
+use Rattle.node_outcomes.specs.Computing.{seen, seen_of, has_part}
 use Rattle.stabilizer.specs.Kept.{IsKept}
-use Rattle.stabilizer.specs.Round.{IsReady, AreRooted, last_of, last_call, never_at, WasCalled, IsUpToDate}
-use Rattle.node_outcomes.specs.Row.{settled_in, is_never, never_in}
+use Rattle.node_outcomes.specs.Row.{settled_in, is_never, never_in, outcome_in}
 use Rattle.stabilizer.specs.Stands.{Stands}
 use Rattle.node_outcomes.specs.declared.row.Progress.{Progress}
 use Rattle.stabilizer.specs.declared.work.Work.{Work}
-use Rattle.stabilizer.proofs.Beginning.{Begun}
+use Rattle.stabilizer.proofs.Agreeing.{no_freeze}
+use Rattle.stabilizer.proofs.Beginning.{Begun, main_there}
 use Rattle.stabilizer.proofs.Counting.{within}
 
 -- ---- states
@@ -92,43 +80,6 @@ no_heap : (arena : Arena) (work : Work) (calls : ℕ) (t : State) → Stands are
     → (p : Point) → t.heap p ≡ true → ⊥
 no_heap arena work calls t st empty p e = absurd (let a = st.heap p in let b = ap is_some (empty p) in cc)
 
-none_then : (n : ℕ) → (0 < n → ⊥) → n ≡ 0
-none_then zero h = refl
-none_then (suc n) h = absurd (h (omega arith))
-
-leaf_plan : (q : Point) (st : machine.Stage) → count q (ghost_plan None st) ≡ 0
-leaf_plan q machine.Bare = refl
-leaf_plan q machine.Gated = refl
-leaf_plan q machine.Static = refl
-leaf_plan q machine.Full = refl
-
--- where no node died nothing is let go when the round is closed
-module _ (F : Functions) (z : Start) (t : State) (inv : Invariant F z t) (quiet : Quiet t) (died : (n : NodeId) → t.died n ≡ None)
-    (observed : List NodeId) (are : RootsAre t observed) (still : (n : NodeId) → fires_at t n ≡ None) where
-  gone : (a b : Point) → t.needed a ≡ false → t.links a b ≡ 0
-  gone a b e = none_then (t.links a b) (λ l. let k = inv.web.from a b l in absurd (cc))
-
-  dead : (a b : Point) → t.graph.row a.node ≡ None → t.links a b ≡ 0
-  dead a b row = elim (bool_cases (t.needed a)) [
-    | inr e ↦ gone a b e
-    | inl need ↦ rw (row, died a.node) at (links_are F z t inv quiet a b need) ∙ leaf_plan b (t.stage a)
-  ]
-
-  pub closes : Close t observed t.root t.links t.needed
-  closes = record {
-    on = λ n r. are.on n (subst (λ (G : Graph). IsRoot G observed n) (graph_rests t still) r);
-    fewer = λ a. omega arith;
-    off = λ n v e. absurd (let x = still n in cc);
-    fired = λ n r v b row need e. absurd (let x = still n in cc);
-    live = λ a b r row need k. refl;
-    dead = dead;
-    gone = gone;
-    was = λ a need. need;
-    onto = inv.web.onto;
-    rooted = inv.web.rooted;
-    reached = inv.web.reached;
-  }
-
 -- ---- what rows show
 
 -- what is seen of a node is what is shown of it
@@ -138,6 +89,11 @@ seen_case None None o same is = refl
 seen_case None (Some r) o same is = absurd (cc)
 seen_case (Some k) None o same is = absurd (cc)
 seen_case (Some k) (Some r) o same is = sym (is k refl)
+
+-- a point with a row shows what the state shows
+shows : (x : Option Progress) (o : Option Outcome) → is_some x ≡ true → ((k : Progress) → x ≡ Some k → o ≡ k.outcome) → outcome_in x ≡ o
+shows None o there is = absurd (cc)
+shows (Some k) o there is = sym (is k refl)
 
 -- of a live node the state knows the last call
 last_case : (x : Option Progress) (y : Option Row) (r : Row) (c : Option Call) → is_some x ≡ is_some y → y ≡ Some r
@@ -169,116 +125,15 @@ gathered_by F G out (n ∷ ns) (v ∷ vs) gives sees =
     let rest = gathered_by F G out ns vs gives.1 (λ k a. sees k (inr a)) in
     rw (first, rest) refl
 
--- ---- today's forms
-
--- a row's definition is one of the code's
-pub code_def : (arena : Arena) (n : NodeId) (r : Row) → row_at arena n ≡ Some r → (d : declared.Def) × (r.def ≡ def_of d)
-code_def arena n r is = by_entry (slice_index_or arena.slots n.slot None) is
-  where
-    by_test : (entry : arena_entry.Entry) (b : Bool) → (if b then Some (row_of entry.row) else None) ≡ Some r → row_of entry.row ≡ r
-    by_test entry true e = cc
-    by_test entry false e = absurd (cc)
-
-    by_entry : (x : Option arena_entry.Entry) → and_then x (λ (e : arena_entry.Entry). if e.gen_ == n.gen_ then Some (row_of e.row) else None) ≡ Some r
-        → (d : declared.Def) × (r.def ≡ def_of d)
-    by_entry None e = absurd (cc)
-    by_entry (Some entry) e = (entry.row.def, sym (ap (λ (x : Row). x.def) (by_test entry (entry.gen_ == n.gen_) e)))
-
-no_freeze : (d : declared.Def) (kid : NodeId) (f : FnRef) → def_of d ≡ Freeze kid f → ⊥
-no_freeze (form.Const v) kid f e = absurd (cc)
-no_freeze (form.Var v) kid f e = absurd (cc)
-no_freeze (form.Map g ks) kid f e = absurd (cc)
-no_freeze (form.Fold g v ks) kid f e = absurd (cc)
-
--- so none of them is a freeze that keeps no value yet, and roots are what is observed
+-- no node is a freeze that keeps no value yet, so roots are what is observed
 pub root_observed : (arena : Arena) (observed : List NodeId) (n : NodeId) → IsRoot (graph_of arena) observed n → Among n observed
 root_observed arena observed n (inl a) = a
-root_observed arena observed n (inr u) =
-    let d = code_def arena n u.row u.is_row in absurd (no_freeze d.0 u.kid u.predicate (sym d.1 ∙ u.is_freeze))
+root_observed arena observed n (inr u) = absurd (no_freeze arena n u.row u.kid u.predicate u.is_row u.is_freeze)
 
 pub among_main : (p : Point) (ns : List NodeId) → Among p (map main ns) → (n : NodeId) × Among n ns × (p ≡ main n)
 among_main p [] a = absurd a
 among_main p (n ∷ ns) (inl e) = (n, inl refl, e)
 among_main p (n ∷ ns) (inr a) = let k = among_main p ns a in (k.0, inr k.1, k.2)
-
--- ---- roots
-
--- the roots are the mains of these nodes
-pub record AreObserved (work : Work) (observed : List NodeId) : Type 0 where
-  pub on : (n : NodeId) → Among n observed → 0 < root_times work.graph.roots (main n)
-  pub listed : (p : Point) → 0 < root_times work.graph.roots p → (n : NodeId) × Among n observed × (p ≡ main n)
-
-pub rooted_observed : (work : Work) (observed : List NodeId) → AreRooted work observed → AreObserved work observed
-rooted_observed work observed roots = record {
-  on = λ n a. subst (λ (k : ℕ). 0 < k) (sym (roots (main n))) (among_count (main n) (map main observed) (among_map main n observed a));
-  listed = λ p h. among_main p observed (count_among p (map main observed) (subst (λ (k : ℕ). 0 < k) (roots p) h));
-}
-
--- the list with this node first, unless the number is 0
-abbrev pub if_any : ℕ → NodeId → List NodeId → List NodeId
-if_any zero n ns = ns
-if_any (suc k) n ns = n ∷ ns
-
--- the nodes of places whose mains are roots
-abbrev pub root_nodes : Roots → List (Place ℕ) → List NodeId
-root_nodes roots [] = []
-root_nodes roots (None ∷ rest) = root_nodes roots rest
-root_nodes roots (Some e ∷ rest) = if_any (root_times roots (main e.0.node)) e.0.node (root_nodes roots rest)
-
-among_any : (k : ℕ) (m n : NodeId) (ns : List NodeId) → Among n (if_any k m ns) → ((n ≡ m) × (0 < k)) ⊎ Among n ns
-among_any zero m n ns a = inr a
-among_any (suc k) m n ns (inl e) = inl (e, omega arith)
-among_any (suc k) m n ns (inr a) = inr a
-
-any_first : (k : ℕ) (m : NodeId) (ns : List NodeId) → 0 < k → Among m (if_any k m ns)
-any_first zero m ns h = absurd (omega arith)
-any_first (suc k) m ns h = inl refl
-
-any_rest : (k : ℕ) (m n : NodeId) (ns : List NodeId) → Among n ns → Among n (if_any k m ns)
-any_rest zero m n ns a = a
-any_rest (suc k) m n ns a = inr a
-
-nodes_on : (roots : Roots) (places : List (Place ℕ)) (n : NodeId) → Among n (root_nodes roots places) → 0 < root_times roots (main n)
-nodes_on roots [] n a = absurd a
-nodes_on roots (None ∷ rest) n a = nodes_on roots rest n a
-nodes_on roots (Some e ∷ rest) n a = elim (among_any (root_times roots (main e.0.node)) e.0.node n (root_nodes roots rest) a) [
-  | inl h ↦ subst (λ (m : NodeId). 0 < root_times roots (main m)) (sym h.0) h.1
-  | inr b ↦ nodes_on roots rest n b
-]
-
-nodes_list : (roots : Roots) (places : List (Place ℕ)) (n : NodeId) (k : ℕ) → row_in places (main n) ≡ Some k → 0 < root_times roots (main n)
-    → Among n (root_nodes roots places)
-nodes_list roots [] n k row h = absurd (cc)
-nodes_list roots (None ∷ rest) n k row h = nodes_list roots rest n k row h
-nodes_list roots (Some e ∷ rest) n k row h = by_test (same_point e.0 (main n)) refl (λ r. nodes_list roots rest n k r h)
-  where
-    by_test : (b : Bool) → same_point e.0 (main n) ≡ b → (row_in rest (main n) ≡ Some k → Among n (root_nodes roots rest))
-        → Among n (if_any (root_times roots (main e.0.node)) e.0.node (root_nodes roots rest))
-    by_test true t later =
-        let is : e.0.node ≡ n = ap (λ (x : Point). x.node) (same_point_eq e.0 (main n) t) in
-        subst (λ (m : NodeId). Among m (if_any (root_times roots (main e.0.node)) e.0.node (root_nodes roots rest))) is
-        (any_first (root_times roots (main e.0.node)) e.0.node (root_nodes roots rest)
-        (subst (λ (m : NodeId). 0 < root_times roots (main m)) (sym is) h))
-    by_test false t later = any_rest (root_times roots (main e.0.node)) e.0.node n (root_nodes roots rest) (later (rw t at row))
-
--- some nodes are so
-pub all_observed : (arena : Arena) (work : Work) → IsKept arena work → AreObserved work (root_nodes work.graph.roots work.graph.roots.counts)
-all_observed arena work kept = record {
-  on = nodes_on work.graph.roots work.graph.roots.counts;
-  listed = λ p h. (p.node, listed p h (row_in work.graph.roots.counts p) refl, is_main p h);
-}
-  where
-    is_main : (p : Point) → 0 < root_times work.graph.roots p → p ≡ main p.node
-    is_main p h =
-        let part = kept.mains p (kept.step.there p (record { root = p; is_root = h; leads = here })) in
-        λ i. record { node = p.node; part = part i }
-
-    listed : (p : Point) → 0 < root_times work.graph.roots p → (x : Option ℕ) → row_in work.graph.roots.counts p ≡ x
-        → Among p.node (root_nodes work.graph.roots work.graph.roots.counts)
-    listed p h None e = absurd (let k = rw e at h in omega (arith, k))
-    listed p h (Some k) e = nodes_list work.graph.roots work.graph.roots.counts p.node k
-        (subst (λ (q : Point). row_in work.graph.roots.counts q ≡ Some k) (is_main p h) e)
-        (subst (λ (q : Point). 0 < root_times work.graph.roots q) (is_main p h) h)
 
 -- ---- a list from its end
 
@@ -318,12 +173,71 @@ once_reverse (m ∷ ms) once =
     let parts = last_apart (reverse ms) m (subst (λ (xs : List NodeId). NoRepeats xs) (reverse-append (m ∷ []) ms) once) in
     ((λ a. parts.1 (among_reverse m ms a)), once_reverse ms parts.0)
 
+-- ---- a round that ended is one that begins
+
+-- the state after it, where no node died and no freeze fires
+abbrev pub rested : State → State
+rested t = record t { taken = None; died = none_died; settled = λ (p : Point). false; strict = false; ran = [] }
+
+-- what the next round begins with
+abbrev pub start_after : Start → State → Start
+start_after z t = record z { held = t.needed; last = t.last; calls = t.calls; never = t.never; stale = t.stale }
+
+module _ (F : Functions) (z : Start) (t : State) (inv : Invariant F z t) (quiet : Quiet t) (empty : (p : Point) → t.heap p ≡ true → ⊥)
+    (died : (n : NodeId) → t.died n ≡ None) (still : (n : NodeId) → fires_at t n ≡ None) where
+  links_rest : (p q : Point) → t.needed p ≡ true → t.links p q + count q (t.owed p) ≡ count q (planned (rested t) p)
+  links_rest p q need = inv.rows.links p q need
+      ∙ ap (λ (d : NodeId → Option NodeId). count q (plan_at t.graph t.out d p (t.graph.row p.node) (t.stage p))) (fun_ext died)
+
+  full : (p : Point) (r : Row) → t.graph.row p.node ≡ Some r → t.needed p ≡ true → t.stage p ≡ Full
+  full p r row need = (low_points F z t inv quiet (suc (t.height p)) (λ q h. absurd (empty q h)) p (omega arith) need).full r row
+
+  fresh : (p : Point) (r : Row) → t.graph.row p.node ≡ Some r → t.needed p ≡ true
+      → Agrees F t.graph t.out p × Recalls t.graph (shown t.graph t.out) t.last p × IsUnmarked t.stale p
+  fresh p r row need = elim (inv.fresh p r row need) [
+    | inl h ↦ absurd (empty p h)
+    | inr (inl h) ↦
+        let d = inv.settled.done p h in (
+          d.agrees,
+          d.recalls,
+          λ part. inv.accounts.unmarked p.node
+              (subst (λ (y : Point). t.settled y ≡ true) (λ i. record { node = p.node; part = part i }) h),
+        )
+    | inr (inr h) ↦ (h.1, h.2, h.3)
+  ]
+
+  pub begins_again : Entry F (start_after z t) (rested t)
+  begins_again = record {
+    web = inv.web;
+    alive = inv.alive;
+    links = links_rest;
+    full = full;
+    bare = λ p need e. let a = inv.rows.bare p need e in let b = quiet p in cc;
+    scoped = inv.scoped;
+    rooted = inv.rooted;
+    built = inv.built;
+    fresh = λ p r row need. inr (fresh p r row need);
+    settled = λ p. refl;
+    owed = λ p h. inv.rows.owed p (quiet p);
+    todo = λ p need h. absurd (let x = quiet p in cc);
+    strict = refl;
+    ran = refl;
+    taken = refl;
+    died = λ n. refl;
+    held = λ p. refl;
+    last = λ n. refl;
+    calls = refl;
+    never = λ n. refl;
+    stale = λ n. refl;
+    answers = inv.accounts.answers;
+    unfired = still;
+  }
+
 -- ---- a round that ended
 
 module _ (F : Functions) (arena : Arena) (old mid : Work) (before after : ℕ) (first : IsKept arena old) (begun : Begun F arena old before)
     (kept : IsKept arena mid) (t : State) (run : Moves F begun.start begun.state t) (stands : Stands arena mid after None t)
-    (idle : mid.todo.items ≡ []) (empty : IsEmpty mid.graph.heap) (same_round : mid.round ≡ old.round) (observed : List NodeId)
-    (looks : AreObserved mid observed) where
+    (idle : mid.todo.items ≡ []) (empty : IsEmpty mid.graph.heap) where
   abbrev G : Graph
   G = graph_of arena
 
@@ -342,153 +256,43 @@ module _ (F : Functions) (arena : Arena) (old mid : Work) (before after : ℕ) (
   none : (p : Point) → last.heap p ≡ true → ⊥
   none = no_heap arena mid after t stands empty
 
-  are : RootsAre last observed
-  are = record {
-    on = λ n r. subst (λ (k : ℕ). 0 < k) (sym (stands.root (main n))) (looks.on n (root_observed arena observed n r));
-    listed = λ p h. let a = looks.listed p (subst (λ (k : ℕ). 0 < k) (stands.root p) h) in (a.0, inl a.1, a.2);
-  }
-
-  ended : Ended F begun.start last observed
-  ended = round_is_right F begun.start begun.state last observed begun.entry moves are quiet none
-
   still : (n : NodeId) → fires_at last n ≡ None
-  still n = other_rests last n (λ r kid f row is. let d = code_def arena n r row in no_freeze d.0 kid f (sym d.1 ∙ is))
+  still n = other_rests last n (λ r kid f row is. no_freeze arena n r kid f row is)
 
-  again : Entry F (next_start begun.start last last.needed) (closed last last.root last.links last.needed)
-  again = (round_again F begun.start begun.state last observed begun.entry moves are quiet none last.root last.links last.needed
-      (closes F begun.start last inv quiet (λ n. refl) observed are still)).0
-
-  abbrev IsWanted : Point → Type 0
-  IsWanted p = Needed F G none_died observed p
-
-  -- ---- what is needed
-
-  wanted : (p : Point) → part.Needed mid.graph p → IsWanted p
-  wanted p need = (ended.needs p).0 ((stands.needed p).1 need)
-
-  needed : (p : Point) → IsWanted p → part.Needed mid.graph p
-  needed p want = (stands.needed p).0 ((ended.needs p).1 want)
+  -- ---- outcomes and last calls
 
   seen_is : (n : NodeId) → seen mid.rows (main n) ≡ shown G t.out (main n)
-  seen_is n = seen_case (at mid.rows (main n)) (row_at arena n) (t.out (main n)) (kept.rows n) (λ k e. stands.out (main n) k e)
-
-  sees : (n : NodeId) → IsWanted (main n) → (o : Outcome) × (seen mid.rows (main n) ≡ Some o) × NodeGives F G n o
-  sees n want = let s = ended.sees n want in (s.0, seen_is n ∙ s.1, s.2)
-
-  links : (p q : Point) → part.Needed mid.graph p → Reads mid.graph.links p q ↔ Depends F G none_died p q
-  links p q need =
-      let l = ended.links p q ((stands.needed p).1 need) in
-      (λ r. l.0 (subst (λ (k : ℕ). 0 < k) (sym (stands.links p q)) r), λ d. subst (λ (k : ℕ). 0 < k) (stands.links p q) (l.1 d))
-
-  -- ---- last calls
+  seen_is n = seen_case (at mid.rows (main n)) (row_at arena n) (t.out (main n)) (main_there arena mid kept n) (λ k e. stands.out (main n) k e)
 
   last_is : (n : NodeId) (r : Row) → row_at arena n ≡ Some r → last_call mid n ≡ t.last n
-  last_is n r row = last_case (at mid.rows (main n)) (row_at arena n) r (t.last n) (kept.rows n) row (λ k e. stands.last n k e)
-
-  kid_wanted : (n : NodeId) (r : Row) (nodes : List NodeId) (k : NodeId) → part.Needed mid.graph (main n) → row_at arena n ≡ Some r
-      → taken_by G n r.def ≡ Some nodes → Among k nodes → IsWanted (main k)
-  kid_wanted n r nodes k need row def a =
-      let among : Among (main k) (fixed_reads G n r.def Main) =
-      reads_taken G n r.def nodes (main k) def (among_map main k nodes a) in
-      needed_more F G none_died observed (main n) (main k) (wanted (main n) need)
-      (fixed row (ended.exact (main n) ((stands.needed (main n)).1 need) r row).0 among)
-
-  recalls : (n : NodeId) (r : Row) (nodes : List NodeId) (values : List Value) → part.Needed mid.graph (main n) → row_at arena n ≡ Some r
-      → taken_by G n r.def ≡ Some nodes → GiveAll F G nodes values → (c : Call) × (last_call mid n ≡ Some c) × (c.arguments ≡ values)
-  recalls n r nodes values need row def gives =
-      let all = gathered_by F G t.out nodes values gives (λ k a. ended.sees k (kid_wanted n r nodes k need row def a)) in
-      let c = ended.recalls (main n) ((stands.needed (main n)).1 need) r nodes values row refl def all in
-      (c.0, last_is n r row ∙ c.1, c.2)
-
-  uncalled : (n : NodeId) → (Among n mid.ran.items → ⊥) → last_call mid n ≡ last_call old n
-  uncalled n not = by_row (row_at arena n) refl
-    where
-      by_row : (x : Option Row) → row_at arena n ≡ x → last_call mid n ≡ last_call old n
-      by_row None e = last_none (at mid.rows (main n)) (row_at arena n) (kept.rows n) e
-          ∙ sym (last_none (at old.rows (main n)) (row_at arena n) (first.rows n) e)
-      by_row (Some r) e = last_is n r e
-          ∙ (ended.kept n r e (λ a. not (reverse_among n mid.ran.items (subst (λ (ns : List NodeId). Among n ns) stands.ran a)))
-          ∙ begun.last n)
+  last_is n r row = last_case (at mid.rows (main n)) (row_at arena n) r (t.last n) (main_there arena mid kept n) row (λ k e. stands.last n k e)
 
   -- cutoffs stay
   cutoffs : (n : NodeId) → never_at mid n ≡ never_at old n
-  cutoffs n = never_case (at mid.rows (main n)) (at old.rows (main n)) (kept.rows n ∙ sym (first.rows n)) (λ k e.
+  cutoffs n = never_case (at mid.rows (main n)) (at old.rows (main n)) (main_there arena mid kept n ∙ sym (main_there arena old first n)) (λ k e.
       sym (stands.never n k e) ∙ (inv.accounts.cutoffs n ∙ begun.never n))
-
-  is_met : (p : Point) → MetNow F begun.start G none_died t.root p → Met F G none_died observed (λ (q : Point). part.Needed old.graph q) p
-  is_met p (invariant.from_root {r} root way) =
-      let l = are.listed r root in
-      from_root l.1 (subst (λ (y : Point). Reaches (Depends F G none_died) y p) l.2 way)
-  is_met p (invariant.from_held {h} held row stands way) = from_held ((begun.held h).0 held) row stands way
-
-  called : (n : NodeId) → Among n mid.ran.items → WasCalled F arena old mid observed n
-  called n a =
-      let c = ended.ran n (subst (λ (ns : List NodeId). Among n ns) (sym stands.ran) (among_reverse n mid.ran.items a)) in
-      record {
-        row = c.row;
-        nodes = c.kids;
-        values = c.values;
-        result = c.result;
-        is_row = c.is_row;
-        takes = c.takes;
-        answers = c.answers;
-        gives = c.gives;
-        reason = by_reason c.kids c.values c.reason;
-        is_last = last_is n c.row c.is_row ∙ c.is_last;
-        met = is_met (main n) c.met;
-      }
-    where
-      by_reason : (kids : List NodeId) (values : List Value) → Reason begun.start.last begun.start.never last.settled begun.start.stale n kids values
-          → ((c : Call) → last_call old n ≡ Some c → c.arguments ≡ values → ⊥) ⊎ WasForced old mid kids
-      by_reason kids values (reason.other differs) = inl (λ k e. differs k (begun.last n ∙ e))
-      by_reason kids values (reason.forced {kid} a never settled) = inr (
-        kid,
-        a,
-        sym (begun.never kid) ∙ never,
-        sym (ap (λ (r : ℕ). settled_in r (at mid.rows (main kid))) same_round) ∙ (sym (stands.settled (main kid)) ∙ settled),
-      )
-      by_reason kids values (reason.made_stale marked) = absurd (let x = begun.stale n in cc)
 
   -- the count of calls rose by what each costs
   pub counted : RoseBy before (costs_of G mid.ran.items) after
   counted = subst (λ (k : ℕ). RoseBy before k after) (ap (costs_of G) stands.ran ∙ sum_reverse (cost_at G) mid.ran.items)
       (subst (λ (k : ℕ). RoseBy k (costs_of G t.ran) after) begun.calls
-      (subst (λ (k : ℕ). RoseBy begun.start.calls (costs_of G t.ran) k) stands.calls ended.calls))
-
-  once : NoRepeats mid.ran.items
-  once = once_reverse mid.ran.items (subst (λ (ns : List NodeId). NoRepeats ns) stands.ran ended.once)
-
-  up_to_date : AreRooted mid observed → IsUpToDate F arena old mid observed mid.ran.items
-  up_to_date roots = record {
-    rooted = roots;
-    needs = λ p. (wanted p, needed p);
-    sees = sees;
-    acyclic = ended.acyclic;
-    shallow = ended.shallow;
-    links = links;
-    recalls = recalls;
-    kept = uncalled;
-    cutoffs = cutoffs;
-    once = once;
-    called = called;
-    work = λ beside observers stood are_on calls few. within F arena kept.flat old mid observed (root_observed arena observed) beside observers stood are_on
-        mid.ran.items once called calls few;
-  }
+      (subst (λ (k : ℕ). RoseBy begun.start.calls (costs_of G t.ran) k) stands.calls inv.accounts.count))
 
   -- ---- the next round
 
   later : (n m : ℕ) → n ≤ m → (n == m + 1) ≡ false
   later n m le = grind (arith, common_steps)
 
-  module _ (new : Work) (graph : new.graph ≡ mid.graph) (rows : new.rows ≡ mid.rows) (todo : new.todo ≡ mid.todo) (ran : new.ran.items ≡ [])
-      (strict : new.strict ≡ false) (round : new.round ≡ mid.round + 1) where
+  module _ (new : Work) (graph : new.graph ≡ mid.graph) (rows : new.rows ≡ mid.rows) (pairs : new.pairs ≡ mid.pairs) (todo : new.todo ≡ mid.todo)
+      (ran : new.ran.items ≡ []) (strict : new.strict ≡ false) (round : new.round ≡ mid.round + 1) where
     abbrev next : Work
     next = record mid { ran = new.ran; strict = new.strict; round = new.round }
 
-    is_next : next ≡ new
+    pub is_next : next ≡ new
     is_next =
         ap (λ g. record next { graph = g }) (sym graph) ∙ (ap (λ r. record next { graph = new.graph; rows = r }) (sym rows)
-        ∙ ap (λ x. record next { graph = new.graph; rows = new.rows; todo = x }) (sym todo))
+        ∙ (ap (λ ps. record next { graph = new.graph; rows = new.rows; pairs = ps }) (sym pairs)
+        ∙ ap (λ x. record next { graph = new.graph; rows = new.rows; pairs = new.pairs; todo = x }) (sym todo)))
 
     unsettled : (x : Option Progress) → ((k : Progress) → x ≡ Some k → k.settled ≤ mid.round) → settled_in (mid.round + 1) x ≡ false
     unsettled None low = refl
@@ -498,21 +302,22 @@ module _ (F : Functions) (arena : Arena) (old mid : Work) (before after : ℕ) (
     keeps = record {
       step = kept.step;
       rows = kept.rows;
-      row_mains = kept.row_mains;
-      mains = kept.mains;
+      leaves = kept.leaves;
       there = kept.there;
       given = kept.given;
       links = kept.links;
       heap = kept.heap;
       flat = kept.flat;
       outcomes = kept.outcomes;
+      rights = kept.rights;
       calls = kept.calls;
       rounds = λ p k e. let l = kept.rounds p k e in rw round (omega arith);
+      pairs = kept.pairs;
     }
 
-    stands_next : Stands arena next t.calls None (closed last last.root last.links last.needed)
+    stands_next : Stands arena next t.calls None (rested last)
     stands_next = record {
-      graph = graph_rests last still;
+      graph = refl;
       out = stands.out;
       last = stands.last;
       never = stands.never;
@@ -536,42 +341,170 @@ module _ (F : Functions) (arena : Arena) (old mid : Work) (before after : ℕ) (
     pub ready_again : IsReady F arena new
     ready_again = subst (λ (w : Work). IsReady F arena w) is_next (record {
       kept = keeps;
-      start = next_start begun.start last last.needed;
-      state = closed last last.root last.links last.needed;
+      start = start_after begun.start last;
+      state = rested last;
       stands = stands_next;
-      entry = again;
+      entry = begins_again F begun.start last inv quiet none (λ n. refl) still;
       todo = idle;
       ran = ran;
       numbered = rw round (omega arith);
     })
 
-    up_next : AreRooted mid observed → IsUpToDate F arena old next observed mid.ran.items
-    up_next roots = let up = up_to_date roots in record {
-      rooted = up.rooted;
-      needs = up.needs;
-      sees = up.sees;
-      acyclic = up.acyclic;
-      shallow = up.shallow;
-      links = up.links;
-      recalls = up.recalls;
-      kept = up.kept;
-      cutoffs = up.cutoffs;
-      once = up.once;
-      called = λ n a. let c = up.called n a in record {
-        row = c.row;
-        nodes = c.nodes;
-        values = c.values;
-        result = c.result;
-        is_row = c.is_row;
-        takes = c.takes;
-        answers = c.answers;
-        gives = c.gives;
-        reason = c.reason;
-        is_last = c.is_last;
-        met = c.met;
-      };
-      work = up.work;
+  -- ---- what is up to date
+
+  module _ (same_round : mid.round ≡ old.round) (observed : List NodeId) (rooted : AreRooted mid observed) where
+    are : RootsAre last observed
+    are = record {
+      on = λ n r. subst (λ (k : ℕ). 0 < k) (sym (stands.root (main n) ∙ rooted (main n)))
+          (among_count (main n) (map main observed) (among_map main n observed (root_observed arena observed n r)));
+      listed = λ p h.
+          let a = among_main p observed (count_among p (map main observed) (subst (λ (k : ℕ). 0 < k) (stands.root p ∙ rooted p) h)) in (a.0, inl a.1, a.2);
     }
 
-    pub right_again : AreRooted mid observed → IsUpToDate F arena old new observed mid.ran.items
-    right_again roots = subst (λ (w : Work). IsUpToDate F arena old w observed mid.ran.items) is_next (up_next roots)
+    ended : Ended F begun.start last observed
+    ended = round_is_right F begun.start begun.state last observed begun.entry moves are quiet none
+
+    abbrev IsWanted : Point → Type 0
+    IsWanted p = Needed F G none_died observed p
+
+    -- ---- what is needed
+
+    wanted : (p : Point) → part.Needed mid.graph p → IsWanted p
+    wanted p need = (ended.needs p).0 ((stands.needed p).1 need)
+
+    needed : (p : Point) → IsWanted p → part.Needed mid.graph p
+    needed p want = (stands.needed p).0 ((ended.needs p).1 want)
+
+    sees : (n : NodeId) → IsWanted (main n) → (o : Outcome) × (seen mid.rows (main n) ≡ Some o) × NodeGives F G n o
+    sees n want = let s = ended.sees n want in (s.0, seen_is n ∙ s.1, s.2)
+
+    links : (p q : Point) → part.Needed mid.graph p → Reads mid.graph.links p q ↔ Depends F G none_died p q
+    links p q need =
+        let l = ended.links p q ((stands.needed p).1 need) in
+        (λ r. l.0 (subst (λ (k : ℕ). 0 < k) (sym (stands.links p q)) r), λ d. subst (λ (k : ℕ). 0 < k) (stands.links p q) (l.1 d))
+
+    -- a change shows what its subject gives
+    chose : (n m : NodeId) (r : Row) → row_at arena n ≡ Some r → subject_of r.def ≡ Some m → IsWanted (change n)
+        → (o : Outcome) × (outcome_in (at mid.rows (change n)) ≡ Some o) × NodeGives F G m o
+    chose n m r row subject want =
+        let run = (ended.exact (change n) ((ended.needs (change n)).1 want) r row).1 m subject in
+        let there : is_some (at mid.rows (change n)) ≡ true =
+        kept.rows (change n) ∙ (ap (λ (x : Option Row). has_part x Change) row ∙ ap is_some subject) in
+        (run.0, shows (at mid.rows (change n)) (t.out (change n)) there (λ k e. stands.out (change n) k e) ∙ run.1, run.2)
+
+    -- ---- last calls
+
+    kid_wanted : (n : NodeId) (r : Row) (nodes : List NodeId) (k : NodeId) → part.Needed mid.graph (main n) → row_at arena n ≡ Some r
+        → taken_by G n r.def ≡ Some nodes → Among k nodes → IsWanted (main k)
+    kid_wanted n r nodes k need row def a =
+        let among : Among (main k) (fixed_reads G n r.def Main) =
+        reads_taken G n r.def nodes (main k) def (among_map main k nodes a) in
+        needed_more F G none_died observed (main n) (main k) (wanted (main n) need)
+        (fixed row (ended.exact (main n) ((stands.needed (main n)).1 need) r row).0 among)
+
+    recalls : (n : NodeId) (r : Row) (nodes : List NodeId) (values : List Value) → part.Needed mid.graph (main n) → row_at arena n ≡ Some r
+        → taken_by G n r.def ≡ Some nodes → GiveAll F G nodes values → (c : Call) × (last_call mid n ≡ Some c) × (c.arguments ≡ values)
+    recalls n r nodes values need row def gives =
+        let all = gathered_by F G t.out nodes values gives (λ k a. ended.sees k (kid_wanted n r nodes k need row def a)) in
+        let c = ended.recalls (main n) ((stands.needed (main n)).1 need) r nodes values row refl def all in
+        (c.0, last_is n r row ∙ c.1, c.2)
+
+    uncalled : (n : NodeId) → (Among n mid.ran.items → ⊥) → last_call mid n ≡ last_call old n
+    uncalled n not = by_row (row_at arena n) refl
+      where
+        by_row : (x : Option Row) → row_at arena n ≡ x → last_call mid n ≡ last_call old n
+        by_row None e = last_none (at mid.rows (main n)) (row_at arena n) (main_there arena mid kept n) e
+            ∙ sym (last_none (at old.rows (main n)) (row_at arena n) (main_there arena old first n) e)
+        by_row (Some r) e = last_is n r e
+            ∙ (ended.kept n r e (λ a. not (reverse_among n mid.ran.items (subst (λ (ns : List NodeId). Among n ns) stands.ran a)))
+            ∙ begun.last n)
+
+    is_met : (p : Point) → MetNow F begun.start G none_died t.root p → Met F G none_died observed (λ (q : Point). part.Needed old.graph q) p
+    is_met p (invariant.from_root {r} root way) =
+        let l = are.listed r root in
+        from_root l.1 (subst (λ (y : Point). Reaches (Depends F G none_died) y p) l.2 way)
+    is_met p (invariant.from_held {h} held row stands way) = from_held ((begun.held h).0 held) row stands way
+
+    called : (n : NodeId) → Among n mid.ran.items → WasCalled F arena old mid observed n
+    called n a =
+        let c = ended.ran n (subst (λ (ns : List NodeId). Among n ns) (sym stands.ran) (among_reverse n mid.ran.items a)) in
+        record {
+          row = c.row;
+          nodes = c.kids;
+          values = c.values;
+          result = c.result;
+          is_row = c.is_row;
+          takes = c.takes;
+          answers = c.answers;
+          gives = c.gives;
+          reason = by_reason c.kids c.values c.reason;
+          is_last = last_is n c.row c.is_row ∙ c.is_last;
+          met = is_met (main n) c.met;
+        }
+      where
+        by_reason : (kids : List NodeId) (values : List Value) → Reason begun.start.last begun.start.never last.settled begun.start.stale n kids values
+            → ((c : Call) → last_call old n ≡ Some c → c.arguments ≡ values → ⊥) ⊎ WasForced old mid kids
+        by_reason kids values (reason.other differs) = inl (λ k e. differs k (begun.last n ∙ e))
+        by_reason kids values (reason.forced {kid} a never settled) = inr (
+          kid,
+          a,
+          sym (begun.never kid) ∙ never,
+          sym (ap (λ (r : ℕ). settled_in r (at mid.rows (main kid))) same_round) ∙ (sym (stands.settled (main kid)) ∙ settled),
+        )
+        by_reason kids values (reason.made_stale marked) = absurd (let x = begun.stale n in cc)
+
+    once : NoRepeats mid.ran.items
+    once = once_reverse mid.ran.items (subst (λ (ns : List NodeId). NoRepeats ns) stands.ran ended.once)
+
+    up_to_date : IsUpToDate F arena old mid observed mid.ran.items
+    up_to_date = record {
+      rooted = rooted;
+      needs = λ p. (wanted p, needed p);
+      sees = sees;
+      chose = chose;
+      acyclic = ended.acyclic;
+      shallow = ended.shallow;
+      links = links;
+      recalls = recalls;
+      kept = uncalled;
+      cutoffs = cutoffs;
+      once = once;
+      called = called;
+      work = λ beside observers stood are_on calls few. within F arena kept.flat old mid observed (root_observed arena observed) beside observers stood are_on
+          mid.ran.items once called calls few;
+    }
+
+    module _ (new : Work) (graph : new.graph ≡ mid.graph) (rows : new.rows ≡ mid.rows) (pairs : new.pairs ≡ mid.pairs) (todo : new.todo ≡ mid.todo)
+        (ran : new.ran.items ≡ []) (strict : new.strict ≡ false) (round : new.round ≡ mid.round + 1) where
+      up_next : IsUpToDate F arena old (record mid { ran = new.ran; strict = new.strict; round = new.round }) observed mid.ran.items
+      up_next = let up = up_to_date in record {
+        rooted = up.rooted;
+        needs = up.needs;
+        sees = up.sees;
+        chose = up.chose;
+        acyclic = up.acyclic;
+        shallow = up.shallow;
+        links = up.links;
+        recalls = up.recalls;
+        kept = up.kept;
+        cutoffs = up.cutoffs;
+        once = up.once;
+        called = λ n a. let c = up.called n a in record {
+          row = c.row;
+          nodes = c.nodes;
+          values = c.values;
+          result = c.result;
+          is_row = c.is_row;
+          takes = c.takes;
+          answers = c.answers;
+          gives = c.gives;
+          reason = c.reason;
+          is_last = c.is_last;
+          met = c.met;
+        };
+        work = up.work;
+      }
+
+      pub right_again : IsUpToDate F arena old new observed mid.ran.items
+      right_again = subst (λ (w : Work). IsUpToDate F arena old w observed mid.ran.items)
+          (is_next new graph rows pairs todo ran strict round) up_next

@@ -105,6 +105,7 @@ woken old mid new rows q w e rest there more =
       pushed = λ _. more;
       leaf = λ none. absurd (let none' = ap is_some none in let k = sym none' ∙ there in cc);
       todo = λ p a. subst (Among p) (sym more) (among_before p q old.todo.items a);
+      pairs = ap (λ (k : Work). k.pairs) rest;
       round = record {
         ran = ap (λ (k : Work). k.ran.items) rest;
         strict = ap (λ (k : Work). k.strict) rest;

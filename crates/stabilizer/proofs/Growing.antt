@@ -9,7 +9,7 @@ use Rattle.necessity.proofs.Counts.{split}
 use Rattle.necessary_graph.specs.Part.{NecessaryPart, Needed, IsInStep}
 use Rattle.stabilize_round.proofs.Counts.{no_more, fewer_than}
 use Rattle.stabilizer.specs.Deciding.{is_needed}
-use Rattle.stabilizer.specs.Growing.{PushesOne, unneeded, Grows}
+use Rattle.stabilizer.specs.Growing.{unneeded, Grows}
 use Rattle.node_outcomes.specs.declared.row.Progress.{Progress}
 use Rattle.stabilizer.specs.declared.work.Work.{Work}
 use Rattle.stabilizer.proofs.Deciding.{decides_needed}
@@ -41,16 +41,6 @@ module _ (g h : NecessaryPart) (g_step : IsInStep g) (h_step : IsInStep h) (more
       (not_true (is_needed g q) (λ t. fresh ((decides_needed g g_step q).0 t))) (true_not (is_needed h q) ((decides_needed h h_step q).1 now)) among
 
 -- ---- the worklist
-
--- a point that is pushed was newly needed
-pub grows_by_one : (old new : Work) → IsInStep old.graph → IsInStep new.graph → ((p : Point) → Needed old.graph p → Needed new.graph p)
-    → PushesOne old new → Grows old new
-grows_by_one old new before after more (inl same) points covers =
-    let fewer = no_more_unneeded old.graph new.graph before after more points in omega (arith, same, fewer)
-grows_by_one old new before after more (inr pushed) points covers =
-    let fewer = fewer_unneeded old.graph new.graph before after more points pushed.point (covers pushed.point pushed.rowed) pushed.fresh pushed.needed in
-    let longer = pushed.longer in
-    omega (arith, longer, fewer)
 
 -- one after the other
 pub grows_then : (old mid new : Work) → ((p : Point) → is_some (at mid.rows p) ≡ is_some (at old.rows p)) → Grows old mid → Grows mid new → Grows old new

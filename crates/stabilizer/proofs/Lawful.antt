@@ -1,71 +1,67 @@
 -- What a refused round says is so.
-use Rattle.std.proofs.Common.{◌≡◌, ◌⊎◌, inl, inr, ℕ, ◌<◌, ◌++◌, true, List, [], ◌∷◌, length, map, Option, None, refl, sym, subst, ◌∙◌, arith}
+use Rattle.std.proofs.Common.{◌≡◌, inl, inr, ℕ, ◌<◌, ◌≤◌, ◌++◌, true, List, [], ◌∷◌, length, map, Option, refl, sym, subst, ◌∙◌, arith}
 use Rattle.inc_value.specs.declared.node.NodeId.{NodeId}
 use Rattle.inc_value.specs.declared.node.Point.{Point}
 use Rattle.inc_value.specs.Choice.{Among, Reaches}
 use Rattle.inc_value.specs.Walk.{IsWalk}
 use Rattle.inc_terms.specs.Depend.{Depends, main, none_died}
-use Rattle.inc_terms.specs.Graph.{Graph, kids}
+use Rattle.inc_terms.specs.Graph.{Graph}
 use Rattle.inc_terms.specs.Need.{Met, from_root, from_held}
 use Rattle.inc_terms.specs.Term.{Functions}
-use Rattle.inc_terms.proofs.Local.{reach_more}
 use Rattle.inc_terms.proofs.Plan.{among_left, among_right}
-use Rattle.link_table.specs.Links.{Reads}
 use Rattle.necessary_graph.specs.Part as part
-use Rattle.height_order.specs.Chains.{ReadsWith, IsChain, StartsAt}
+use Rattle.necessity.specs.Need.{KeepsRoots}
+use Rattle.height_order.specs.Chains.{ReadsWith, IsChain}
 use Rattle.node_arena.specs.Arena.{Arena}
-use Rattle.node_arena.specs.Graph.{graph_of, NoScopes}
+use Rattle.node_arena.specs.Graph.{graph_of}
 use Rattle.stabilize_round.specs.Invariant as invariant
 use Rattle.stabilize_round.specs.Invariant.{Invariant, MetNow}
-use Rattle.stabilize_round.specs.Machine.{Moves}
-use Rattle.stabilize_round.specs.State.{State, Linked}
+use Rattle.stabilize_round.specs.Machine.{Move, Moves}
+use Rattle.stabilize_round.specs.State.{State}
+use Rattle.stabilize_round.specs.StepLaws.{LinkedOr}
+use Rattle.stabilize_round.proofs.Confirmed.{listed_are_met}
 use Rattle.stabilize_round.proofs.Entry.{entry_holds}
-use Rattle.stabilize_round.proofs.Meanings.{round_keeps, strict_is_met}
+use Rattle.stabilize_round.proofs.Machine.{moves_keep}
+use Rattle.stabilize_round.proofs.Meanings.{round_keeps}
 use Rattle.stabilize_round.proofs.Points.{count_among}
-use Rattle.stabilizer.specs.Refusing.{IsRefusedLink, TellsWhy}
-use Rattle.stabilizer.specs.Round.{IsReady, AreRooted, OnlyRoots, IsLawful}
+use Rattle.stabilize_round.proofs.Steps.{joined}
+use Rattle.stabilizer.specs.Refusing.{RefusedBy, TellsWhy, no_memory, by_link}
+use Rattle.stabilizer.specs.Round.{IsReady, AreRooted, OnlyRoots, IsListed, IsLawful, SettleRefused}
 use Rattle.stabilizer.specs.Stands.{Hand, Stands}
-use Rattle.stabilizer.specs.Wiring.{WireRefused}
+use Rattle.stabilizer.specs.Wiring.{PutsRoots, RootRefused}
 use Rattle.stabilizer.specs.declared.refused.Refused.{Refused}
 use Rattle.stabilizer.specs.declared.refused.Refused.TheVariants.{Height, Cycle, Full, Memory}
 use Rattle.stabilizer.specs.declared.work.Work.{Work}
 use Rattle.stabilizer.proofs.Beginning.{Begun, begun}
-use Rattle.stabilizer.proofs.Ending.{as_graph, code_def, among_main}
-use Rattle.stabilizer.proofs.Flat.{depends_on_kid}
+use Rattle.stabilizer.proofs.Ending.{as_graph, among_main}
+use Rattle.stabilizer.proofs.Once.{once_as}
 
--- what is met meets what it depends on
-met_more : (F : Functions) (G : Graph) (died : NodeId → Option NodeId) (observed : List NodeId) (held : Point → Type 0) (p q : Point)
-    → Met F G died observed held p → Depends F G died p q → Met F G died observed held q
-met_more F G died observed held p q (from_root {n} root way) dep = from_root root (reach_more (Depends F G died) (main n) p q way dep)
-met_more F G died observed held p q (from_held {h} is row stands way) dep = from_held is row stands (reach_more (Depends F G died) h p q way dep)
-
-module _ (F : Functions) (arena : Arena) (old new : Work) (count : ℕ) (begun : Begun F arena old count) (flat : NoScopes arena) (left : Option Hand)
-    (t : State) (run : Moves F begun.start begun.state t) (stands : Stands arena new count left t) (nodes observed : List NodeId)
-    (only : OnlyRoots old.graph.roots new.graph.roots (map main nodes)) (roots : AreRooted old observed) (strict : new.strict ≡ true) where
+module _ (F : Functions) (arena : Arena) (old new : Work) (before between : ℕ) (begun : Begun F arena old before) (left : Option Hand) (t : State)
+    (run : Moves F begun.start begun.state t) (stands : Stands arena new between left t) (nodes observed : List NodeId)
+    (only : OnlyRoots old.graph.roots new.graph.roots (map main nodes)) (rooted : AreRooted old observed) where
   abbrev G : Graph
   G = graph_of arena
 
   abbrev last : State
   last = record t { graph = G; died = none_died }
 
+  is_last : t ≡ last
+  is_last = as_graph G t stands.graph stands.died
+
   moves : Moves F begun.start begun.state last
-  moves = subst (λ (x : State). Moves F begun.start begun.state x) (as_graph G t stands.graph stands.died) run
+  moves = subst (λ (x : State). Moves F begun.start begun.state x) is_last run
 
   inv : Invariant F begun.start last
   inv = round_keeps F begun.start begun.state last begun.entry moves
 
-  depends : (p q : Point) → Linked last p q → Depends F G none_died p q
-  depends = (strict_is_met F begun.start begun.state last begun.entry moves (stands.strict ∙ strict)).0
-
-  met_now : (p : Point) → last.needed p ≡ true → MetNow F begun.start G none_died last.root p
-  met_now = (strict_is_met F begun.start begun.state last begun.entry moves (stands.strict ∙ strict)).1
+  -- ---- who is met
 
   abbrev IsMet : Point → Type 0
   IsMet p = Met F G none_died (nodes ++ observed) (λ (q : Point). part.Needed old.graph q) p
 
   root_listed : (p : Point) → 0 < last.root p → (n : NodeId) × Among n (nodes ++ observed) × (p ≡ main n)
   root_listed p h = elim (only p (subst (λ (k : ℕ). 0 < k) (stands.root p) h)) [
-    | inl was ↦ (let a = among_main p observed (count_among p (map main observed) (subst (λ (k : ℕ). 0 < k) (roots p) was)) in
+    | inl was ↦ (let a = among_main p observed (count_among p (map main observed) (subst (λ (k : ℕ). 0 < k) (rooted p) was)) in
         (a.0, among_right a.0 nodes observed a.1, a.2))
     | inr now ↦ (let a = among_main p nodes now in (a.0, among_left a.0 nodes observed a.1, a.2))
   ]
@@ -76,86 +72,83 @@ module _ (F : Functions) (arena : Arena) (old new : Work) (count : ℕ) (begun :
       from_root (inl l.1) (subst (λ (y : Point). Reaches (Depends F G none_died) y p) l.2 way)
   met_as p (invariant.from_held {h} held row stands way) = from_held ((begun.held h).0 held) row stands way
 
-  met : (p : Point) → last.needed p ≡ true → IsMet p
-  met p need = met_as p (met_now p need)
+  -- ---- a refused link
 
-  module _ (e : Refused) (told : IsRefusedLink arena new e) where
-    own : Depends F G none_died told.reader told.kid
-    own =
-        let d = code_def arena told.reader.node told.row told.is_row in
-        subst (λ (p : Point). Depends F G none_died p told.kid) (sym told.is_main)
-        (depends_on_kid F G none_died told.reader.node told.row d.0 told.kid told.is_row d.1 (flat told.reader.node told.row told.is_row)
-        (subst (λ x. Among told.kid (map main (kids x))) d.1 told.is_kid))
+  module _ (p q : Point) (need : t.needed p ≡ true) (tried : Depends F t.graph t.died p q) (strict : new.strict ≡ true) where
+    depends : Depends F G none_died p q
+    depends = subst (λ (x : State). Depends F x.graph x.died p q) is_last tried
 
-    reader_met : IsMet told.reader
-    reader_met = met told.reader ((stands.needed told.reader).1 told.needed)
+    linked : (a b : Point) → ReadsWith new.graph.links p q a b → LinkedOr last p q a b
+    linked a b (inl r) = inl (subst (λ (k : ℕ). 0 < k) (sym (stands.links a b)) r)
+    linked a b (inr e) = inr (sym e.0, sym e.1)
 
-    kid_met : IsMet told.kid
-    kid_met = met_more F G none_died (nodes ++ observed) (λ (q : Point). part.Needed old.graph q) told.reader told.kid reader_met own
+    -- who reads by one of the links, or by the one that was tried, is needed
+    reader_needed : (a b : Point) → LinkedOr last p q a b → last.needed a ≡ true
+    reader_needed a b (inl l) = inv.web.from a b l
+    reader_needed a b (inr e) = subst (λ (x : Point). last.needed x ≡ true) e.0 need
 
-    linked : (a b : Point) → Reads new.graph.links a b → Linked last a b
-    linked a b r = subst (λ (k : ℕ). 0 < k) (sym (stands.links a b)) r
+    walk : (list : List Point) → IsChain (ReadsWith new.graph.links p q) list → IsWalk (LinkedOr last p q) list
+    walk [] chain = tt
+    walk (a ∷ []) chain = tt
+    walk (a ∷ b ∷ rest) chain = (linked a b chain.0, walk (b ∷ rest) chain.1)
 
-    with_depends : (a b : Point) → ReadsWith new.graph.links told.reader told.kid a b → Depends F G none_died a b
-    with_depends a b (inl r) = depends a b (linked a b r)
-    with_depends a b (inr e) = subst (λ (x : Point). Depends F G none_died x b) (sym e.0)
-        (subst (λ (y : Point). Depends F G none_died told.reader y) (sym e.1) own)
+    -- a chain over them of two points or more is a walk of what points depend on, and its first is met
+    listed : (list : List Point) → 2 ≤ length list → IsChain (ReadsWith new.graph.links p q) list → IsListed F arena old (nodes ++ observed) list
+    listed [] long chain = absurd (omega arith)
+    listed (a ∷ []) long chain = absurd (omega arith)
+    listed (a ∷ b ∷ rest) long chain =
+        let l = listed_are_met F begun.start begun.state last begun.entry moves (stands.strict ∙ strict) p q depends a (b ∷ rest)
+        (reader_needed a b (linked a b chain.0)) (walk (a ∷ b ∷ rest) chain) in
+        record { walk = l.0; met = λ x starts. subst IsMet starts (met_as a (l.1 a (inl refl))) }
 
-    with_met : (a b : Point) → ReadsWith new.graph.links told.reader told.kid a b → IsMet a
-    with_met a b (inl r) = met a (inv.web.from a b (linked a b r))
-    with_met a b (inr e) = subst IsMet (sym e.0) reader_met
-
-    walk : (list : List Point) → IsChain (ReadsWith new.graph.links told.reader told.kid) list → IsWalk (Depends F G none_died) list
-    walk [] h = tt
-    walk (a ∷ []) h = tt
-    walk (a ∷ b ∷ rest) h = (with_depends a b h.0, walk (b ∷ rest) h.1)
-
-    long_met : (list : List Point) → length list ≡ 130 → IsChain (ReadsWith new.graph.links told.reader told.kid) list → (p : Point) → StartsAt list p
-        → IsMet p
-    long_met [] long h p starts = absurd starts
-    long_met (a ∷ []) long h p starts = absurd (omega arith)
-    long_met (a ∷ b ∷ rest) long h p starts = subst IsMet starts (with_met a b h.0)
-
-    round_met : (list : List Point) → StartsAt list told.kid → IsChain (ReadsWith new.graph.links told.reader told.kid) list → (p : Point)
-        → StartsAt list p → IsMet p
-    round_met [] at_kid h p starts = absurd starts
-    round_met (a ∷ []) at_kid h p starts = subst IsMet (sym at_kid ∙ starts) kid_met
-    round_met (a ∷ b ∷ rest) at_kid h p starts = subst IsMet starts (with_met a b h.0)
-
-  lawful_link : (e : Refused) → IsRefusedLink arena new e → IsLawful F arena old (nodes ++ observed) e
-  lawful_link (Height points) told = (
-    record {
-      walk = walk (Height points) told points.items told.why.chain;
-      met = long_met (Height points) told points.items told.why.long told.why.chain;
-    },
-    told.why.long,
+  by_refused : (p q : Point) → t.needed p ≡ true → Depends F t.graph t.died p q → (e : Refused) → RefusedBy new p q e
+      → IsLawful F arena old (nodes ++ observed) e
+  by_refused p q need tried (Height points) why = (
+    listed p q need tried why.strict points.items (let l = why.long in omega arith) why.chain,
+    why.long,
+    once_as points.items why.once,
   )
-  lawful_link (Cycle points) told = (
+  by_refused p q need tried (Cycle points) why = (
+    listed p q need tried why.strict points.items why.long why.path.chain,
     record {
-      walk = walk (Cycle points) told points.items told.why.path.chain;
-      met = round_met (Cycle points) told points.items told.why.path.starts told.why.path.chain;
+      point = q;
+      starts = why.path.starts;
+      ends = why.path.ends;
+      front = why.front;
+      is_front = why.comes_back;
+      once = once_as why.front why.once;
+      long = why.long;
     },
-    record { point = told.kid; starts = told.why.path.starts; ends = told.why.path.ends; long = told.why.long },
   )
-  lawful_link Full told = told.why
-  lawful_link Memory told = tt
+  by_refused p q need tried Full why = why
+  by_refused p q need tried Memory why = tt
 
--- of any work, a link is only refused for good where refusals are final
-strict_of : (arena : Arena) (work : Work) (e : Refused) → IsRefusedLink arena work e → (work.strict ≡ true) ⊎ (e ≡ Memory)
-strict_of arena work (Height points) told = inl told.why.strict
-strict_of arena work (Cycle points) told = inl told.why.strict
-strict_of arena work Full told = absurd told.why
-strict_of arena work Memory told = inr refl
+-- what a refusal says where a round stops is so
+lawful : (F : Functions) (arena : Arena) (old new : Work) (before between : ℕ) (b : Begun F arena old before) (left : Option Hand) (t : State)
+    → Moves F b.start b.state t → Stands arena new between left t → (nodes observed : List NodeId)
+    → OnlyRoots old.graph.roots new.graph.roots (map main nodes) → AreRooted old observed → (e : Refused) → TellsWhy F t new left e
+    → IsLawful F arena old (nodes ++ observed) e
+lawful F arena old new before between b left t run stands nodes observed only rooted e no_memory = tt
+lawful F arena old new before between b left t run stands nodes observed only rooted e (by_link {p} {q} {rest} need tried confirmed why) =
+    by_refused F arena old new before between b left t run stands nodes observed only rooted p q need tried e why
 
-pub round_lawful : (F : Functions) (arena : Arena) (old new : Work) (count : ℕ) → IsReady F arena old → WireRefused arena old new None
-    → (nodes observed : List NodeId) → OnlyRoots old.graph.roots new.graph.roots (map main nodes) → AreRooted old observed
-    → (e : Refused) → TellsWhy arena new e → IsLawful F arena old (nodes ++ observed) e
-round_lawful F arena old new count ready refused nodes observed only roots e (inl memory) =
-    subst (λ (x : Refused). IsLawful F arena old (nodes ++ observed) x) (sym memory) tt
-round_lawful F arena old new count ready refused nodes observed only roots e (inr told) = elim (strict_of arena new e told) [
-  | inr memory ↦ subst (λ (x : Refused). IsLawful F arena old (nodes ++ observed) x) (sym memory) tt
-  | inl strict ↦
-      (let b = begun F arena old ready count in
-      let w = refused F b.start b.state count (entry_holds F b.start b.state b.entry) b.stands in
-      lawful_link F arena old new count b ready.kept.flat w.1 w.0 w.2 w.3 nodes observed only roots strict e told)
-]
+-- a root or its links were refused
+pub roots_lawful : (F : Functions) (arena : Arena) (old new : Work) (before : ℕ) → IsReady F arena old → (nodes observed : List NodeId)
+    → OnlyRoots old.graph.roots new.graph.roots (map main nodes) → AreRooted old observed → (e : Refused) → RootRefused arena old new e
+    → IsLawful F arena old (nodes ++ observed) e
+roots_lawful F arena old new before ready nodes observed only rooted e refused =
+    let b = begun F arena old ready before in
+    let k = refused F b.start b.state before (entry_holds F b.start b.state b.entry) b.stands in
+    lawful F arena old new before before b k.1 k.0 k.2 k.3 nodes observed only rooted e k.4
+
+-- a step was refused
+pub steps_lawful : (F : Functions) (arena : Arena) (old mid new : Work) (before after : ℕ) → IsReady F arena old → PutsRoots arena old mid
+    → (nodes observed : List NodeId) → OnlyRoots old.graph.roots mid.graph.roots (map main nodes) → KeepsRoots mid.graph.roots new.graph.roots
+    → AreRooted old observed → (e : Refused) → SettleRefused F arena mid new before after e → IsLawful F arena old (nodes ++ observed) e
+steps_lawful F arena old mid new before after ready put nodes observed only same rooted e refused =
+    let b = begun F arena old ready before in
+    let holds = entry_holds F b.start b.state b.entry in
+    let m = put F b.start b.state before holds b.stands in
+    let k = refused b.start m.0 (moves_keep F b.start b.state m.0 m.1 holds) m.2 in
+    lawful F arena old new before k.between b k.left k.state (joined (Move F b.start) b.state m.0 k.state m.1 k.moves) k.stands nodes observed
+    (λ p h. only p (subst (λ (n : ℕ). 0 < n) (same p) h)) rooted e k.told

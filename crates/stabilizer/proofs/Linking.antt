@@ -4,7 +4,7 @@ use Rattle.std.specs.Prelude.{is_some, option_map, reverse, ◌↔◌}
 use Rattle.std.proofs.lemmas.Option.{none-some}
 use Rattle.inc_value.specs.declared.node.NodeId.{NodeId}
 use Rattle.inc_value.specs.declared.node.Point.{Point}
-use Rattle.inc_value.specs.Choice.{here, step, Among}
+use Rattle.inc_value.specs.Choice.{here, step, Among, Reaches}
 use Rattle.inc_terms.specs.Term.{Functions}
 use Rattle.inc_terms.specs.Depend.{Depends, main}
 use Rattle.inc_terms.specs.Graph.{Row}
@@ -18,18 +18,19 @@ use Rattle.node_arena.specs.Arena.{Arena}
 use Rattle.stabilize_round.specs.State as machine
 use Rattle.stabilize_round.specs.State.{State, Start, at_point, count, plan_at, ghost_plan}
 use Rattle.stabilize_round.specs.Machine as move
-use Rattle.stabilize_round.specs.Machine.{Moves}
+use Rattle.stabilize_round.specs.Steps.{Wiring}
 use Rattle.stabilize_round.specs.Moves.{Enqueues}
 use Rattle.stabilize_round.specs.Wire.{linked, newly, IsIt, Link, IsConfirmed, raised, Raise, finished, Finish}
 use Rattle.stabilize_round.proofs.Parts.{bool_cases}
 use Rattle.stabilize_round.proofs.Points.{same_or_other, at_same, at_other}
 use Rattle.node_outcomes.specs.Row.{IsRewritten, with_stage, settled_in, stage_of, is_never}
 use Rattle.stabilizer.specs.Stands.{Stands, StandsWith, Hand, hand, owed_in, IsInHand}
-use Rattle.stabilizer.specs.Wiring.{IsReached, IsWoken}
+use Rattle.stabilizer.specs.Wiring.{IsReached, IsWoken, AreUnlinked}
 use Rattle.node_outcomes.specs.declared.row.Progress.{Progress}
 use Rattle.node_outcomes.specs.declared.row.Stage.{Stage}
 use Rattle.node_outcomes.specs.declared.row.Stage.TheVariants as code
 use Rattle.stabilizer.specs.declared.work.Work.{Work}
+use Rattle.stabilizer.proofs.Unlinked.{newly_unlinked, rested_unlinked}
 
 -- one link more is one link more in the state
 pub links_more : (links : Point → Point → ℕ) (old new : Links) (p q : Point) → ((a b : Point) → links a b ≡ times old a b) → OneLinkMore old new p q
@@ -168,10 +169,11 @@ module _ (F : Functions) (z : Start) (s : State) (arena : Arena) (old : Work) (g
   }
 
   -- what was needed before
-  pub linked_stands : Needed old.graph q → (t : State) × Moves F z s t × Stands arena (record old { graph = g }) calls (Some (hand p rest)) t
-  linked_stands there = (
+  pub linked_stands : Needed old.graph q → AreUnlinked (Some (hand p [])) s
+      → (t : State) × Reaches (Wiring F z) s t × Stands arena (record old { graph = g }) calls (Some (hand p rest)) t × AreUnlinked (Some (hand p [])) t
+  linked_stands there unlinked = (
     after,
-    step (move.link is_link ((st.needed q).1 there) refl) here,
+    step (move.link is_link ((st.needed q).1 there) refl, tt) here,
     linked_with (Needed g) (λ a. (
       λ t. (reached.needed a).1 (inl ((st.needed a).0 t)),
       λ n. elim ((reached.needed a).0 n) [
@@ -179,6 +181,7 @@ module _ (F : Functions) (z : Start) (s : State) (arena : Arena) (old : Work) (g
         | inr e ↦ (st.needed a).1 (subst (Needed old.graph) (sym e) there)
       ],
     )),
+    unlinked,
   )
 
 -- ---- what is newly needed
@@ -344,10 +347,15 @@ module _ (F : Functions) (z : Start) (s : State) (arena : Arena) (mid new : Work
         ])
 
   -- from the state in which the point is newly needed
-  pub woken_stands : (t : State) × Moves F z woken t × Stands arena new calls held t
-  woken_stands = elim (some_or_none (at mid.rows q)) [
-    | inl k ↦ (woken, here, woken_live (ap is_some k.1))
-    | inr dead ↦ (rested, step (move.raise (raises dead) refl) (step (move.finish (finishes dead) refl) here), rested_stands dead)
+  pub woken_stands : AreUnlinked held s → (t : State) × Reaches (Wiring F z) woken t × Stands arena new calls held t × AreUnlinked held t
+  woken_stands unlinked = elim (some_or_none (at mid.rows q)) [
+    | inl k ↦ (woken, here, woken_live (ap is_some k.1), newly_unlinked s q heap' held unlinked)
+    | inr dead ↦ (
+      rested,
+      step (move.raise (raises dead) refl, tt) (step (move.finish (finishes dead) refl, tt) here),
+      rested_stands dead,
+      rested_unlinked s q heap' held unlinked,
+    )
   ]
 
 -- ---- a link to what wasn't needed
@@ -377,11 +385,12 @@ module _ (F : Functions) (z : Start) (s : State) (arena : Arena) (old new : Work
   idle : owed_in (Some (hand p rest)) q ≡ []
   idle = at_other p rest (λ (y : Point). []) q other
 
-  pub linked_new_stands : (t : State) × Moves F z s t × Stands arena new calls (Some (hand p rest)) t
-  linked_new_stands =
+  pub linked_new_stands : AreUnlinked (Some (hand p [])) s
+      → (t : State) × Reaches (Wiring F z) s t × Stands arena new calls (Some (hand p rest)) t × AreUnlinked (Some (hand p [])) t
+  linked_new_stands unlinked =
       let e = enqueues F z linked_state arena mid new calls (Some (hand p rest)) q (Needed old.graph) with_old fresh now idle w same in
       let u = unneeded F z linked_state arena mid new calls (Some (hand p rest)) q (Needed old.graph) with_old fresh now idle w same in
-      let on = woken_stands F z linked_state arena mid new calls (Some (hand p rest)) q (Needed old.graph) with_old fresh now idle w same in
+      let on = woken_stands F z linked_state arena mid new calls (Some (hand p rest)) q (Needed old.graph) with_old fresh now idle w same unlinked in
       let k : Link F s p q rest (level g.heights) = is_link F z s arena old g calls p q rest st reached more roots need dep conf in
       let h : Enqueues s s.heap (λ a. is_some (at new.graph.heap a)) (IsIt s q) (IsIt s q) = record { kept = e.kept; new = e.new; told = e.told } in
-      (on.0, step (move.link_new k u h refl) on.1, on.2)
+      (on.0, step (move.link_new k u h refl, tt) on.1, on.2, on.3)

@@ -3,6 +3,8 @@ use Rattle.std.proofs.Common.{◌≡◌, ◌≢◌, ◌⊎◌, inl, inr, ℕ, tr
 use Rattle.std.specs.Prelude.{option_map}
 use Rattle.inc_value.specs.declared.function.FnRef.{FnRef}
 use Rattle.inc_value.specs.declared.node.NodeId.{NodeId}
+use Rattle.inc_value.specs.declared.node.Part.{Part}
+use Rattle.inc_value.specs.declared.node.Part.TheVariants.{Main}
 use Rattle.inc_value.specs.declared.node.Point.{Point}
 use Rattle.inc_value.specs.declared.outcome.Outcome.{Outcome}
 use Rattle.inc_value.specs.declared.value.Value.{Value}
@@ -27,9 +29,9 @@ use Rattle.stabilizer.proofs.Carrying.{kept_same, settled_kept}
 some_row : (a b : Progress) → ◌≡◌ {A = Option Progress} (Some a) (Some b) → a ≡ b
 some_row a b e = cc
 
--- a point with a row is its node's main
-pub is_main : (arena : Arena) (work : Work) → IsKept arena work → (p : Point) → Holds work.rows p → p ≡ main p.node
-is_main arena work kept p h = λ i. record { node = p.node; part = (kept.row_mains p h) i }
+-- a main is its node's
+pub is_main : (p : Point) → p.part ≡ Main → p ≡ main p.node
+is_main p e = ap (λ (x : Part). record { node = p.node; part = x }) e
 
 -- of what a stabilize works on all stays but rows and the list of nodes whose functions were called
 pub record KeepsRest (old new : Work) : Type 0 where
@@ -37,21 +39,13 @@ pub record KeepsRest (old new : Work) : Type 0 where
   pub todo : new.todo.items ≡ old.todo.items
   pub strict : new.strict ≡ old.strict
   pub round : new.round ≡ old.round
+  pub pairs : new.pairs ≡ old.pairs
 
-module _ (value : FnRef → List Value → Value) (arena : Arena) (old mid new : Work) (p : Point) (o : Outcome) (before after : ℕ)
-    (kept : IsKept arena old) (row : Holds old.rows p) (gone : at old.graph.heap p ≡ None)
-    (rest : KeepsRest old mid) (c : Computes value arena old.round (noted old.rows old.ran.items before) (noted mid.rows mid.ran.items after) p.node o)
+module _ (value : FnRef → List Value → Value) (arena : Arena) (old mid new : Work) (n : NodeId) (p : Point) (same : p ≡ main n) (o : Outcome) (before after : ℕ)
+    (kept : IsKept arena old) (taken : at old.graph.heap (main n) ≡ None)
+    (rest : KeepsRest old mid) (c : Computes value arena old.round (noted old.rows old.ran.items before) (noted mid.rows mid.ran.items after) n o)
     (rewritten : IsRewritten mid.rows new.rows p (with_outcome o mid.round)) (graph : KeepsGraph mid.graph new.graph)
     (tells : IsTold mid new p o) (round : KeepsRound mid new) (todo : new.todo ≡ mid.todo) where
-  abbrev n : NodeId
-  n = p.node
-
-  same : p ≡ main n
-  same = is_main arena old kept p row
-
-  taken : at old.graph.heap (main n) ≡ None
-  taken = subst (λ (x : Point). at old.graph.heap x ≡ None) same gone
-
   rows : IsRewritten mid.rows new.rows (main n) (with_outcome o mid.round)
   rows = subst (λ (x : Point). IsRewritten mid.rows new.rows x (with_outcome o mid.round)) same rewritten
 
@@ -143,22 +137,22 @@ module _ (value : FnRef → List Value → Value) (arena : Arena) (old mid new :
     count = c.count;
   }
 
-  pub main_kept : IsInStep new.graph → IsKept arena new
-  main_kept step = settled_kept arena old new n o c.last c.called kept is_settled step c.typed c.answer_typed
+  pub main_kept : IsInStep new.graph → new ≡ record mid { graph = new.graph; rows = new.rows } → IsKept arena new
+  main_kept step only = settled_kept arena old new n o c.last c.called kept is_settled step (ap (λ (w : Work). w.pairs) only ∙ rest.pairs) c.typed c.answer_typed
 
 -- ---- what stays where a main is left
 
 pub left_kept : (arena : Arena) (old new : Work) → IsKept arena old → KeepsRows old.rows new.rows → new.graph ≡ old.graph → new.round ≡ old.round
-    → IsKept arena new
-left_kept arena old new kept rows graph round = kept_same arena old new kept rows
+    → new.pairs ≡ old.pairs → IsKept arena new
+left_kept arena old new kept rows graph round pairs = kept_same arena old new kept rows
     (record {
       links = ap (λ (g : NecessaryPart). g.links) graph;
       roots = ap (λ (g : NecessaryPart). g.roots) graph;
       heights = ap (λ (g : NecessaryPart). g.heights) graph;
     })
     (subst IsInStep (sym graph) kept.step)
-    (λ p h. kept.heap p (subst (λ (g : NecessaryPart). Holds g.heap p) graph h)) round
+    (λ p h. kept.heap p (subst (λ (g : NecessaryPart). Holds g.heap p) graph h)) round pairs
 
 pub uncomputed_kept : (arena : Arena) (old mid : Work) (n : NodeId) (before after : ℕ) → IsKept arena old → KeepsRest old mid
     → NotComputed arena (noted old.rows old.ran.items before) (noted mid.rows mid.ran.items after) n → IsKept arena mid
-uncomputed_kept arena old mid n before after kept rest c = left_kept arena old mid kept c.rows rest.graph rest.round
+uncomputed_kept arena old mid n before after kept rest c = left_kept arena old mid kept c.rows rest.graph rest.round rest.pairs

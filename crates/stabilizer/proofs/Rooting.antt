@@ -15,12 +15,13 @@ use Rattle.stabilize_round.specs.State.{State, Start, at_point}
 use Rattle.stabilize_round.specs.Machine as move
 use Rattle.stabilize_round.specs.Machine.{Moves}
 use Rattle.stabilize_round.specs.Moves.{Enqueues}
-use Rattle.stabilize_round.specs.Wire.{rooted, IsIt}
+use Rattle.stabilize_round.specs.Wire.{rooted, newly, IsIt}
+use Rattle.stabilize_round.proofs.Steps.{wiring_moves}
 use Rattle.stabilize_round.proofs.Points.{same_or_other, at_same, at_other}
 use Rattle.stabilizer.specs.Stands.{Stands, StandsWith}
-use Rattle.stabilizer.specs.Wiring.{IsWoken}
+use Rattle.stabilizer.specs.Wiring.{IsWoken, AreUnlinked}
 use Rattle.stabilizer.specs.declared.work.Work.{Work}
-use Rattle.stabilizer.proofs.Linking.{enqueues, unneeded, woken_stands}
+use Rattle.stabilizer.proofs.Linking.{enqueues, woken_stands, unneeded}
 
 -- one root more is one root more in the state
 pub roots_more : (root : Point → ℕ) (old new : Roots) (p : Point) → ((a : Point) → root a ≡ root_times old a) → OneRootMore old new p
@@ -57,8 +58,9 @@ module _ (F : Functions) (z : Start) (s : State) (arena : Arena) (old : Work) (g
     given = st.given;
   }
 
-  pub rooted_stands : Needed old.graph p → (t : State) × Moves F z s t × Stands arena (record old { graph = g }) calls None t
-  rooted_stands there = (
+  pub rooted_stands : Needed old.graph p → AreUnlinked None s
+      → (t : State) × Moves F z s t × Stands arena (record old { graph = g }) calls None t × AreUnlinked None t
+  rooted_stands there unlinked = (
     rooted s p,
     step (move.root ((st.needed p).1 there) refl) here,
     rooted_with (Needed g) (λ a. (
@@ -68,6 +70,7 @@ module _ (F : Functions) (z : Start) (s : State) (arena : Arena) (old : Work) (g
         | inr e ↦ (st.needed a).1 (subst (Needed old.graph) (sym e) there)
       ],
     )),
+    unlinked,
   )
 
   module _ (new : Work) (given : Given arena.given p.node) (fresh : Needed old.graph p → ⊥) (w : IsWoken (record old { graph = g }) new p)
@@ -75,11 +78,11 @@ module _ (F : Functions) (z : Start) (s : State) (arena : Arena) (old : Work) (g
     now : (a : Point) → Needed new.graph a ↔ (Needed old.graph a ⊎ (a ≡ p))
     now a = (λ n. (also a).0 ((woken_needs a).0 n), λ h. (woken_needs a).1 ((also a).1 h))
 
-    pub rooted_new_stands : (t : State) × Moves F z s t × Stands arena new calls None t
-    rooted_new_stands =
+    pub rooted_new_stands : AreUnlinked None s → (t : State) × Moves F z s t × Stands arena new calls None t × AreUnlinked None t
+    rooted_new_stands unlinked =
         let base = rooted_with (Needed old.graph) st.needed in
         let e = enqueues F z (rooted s p) arena (record old { graph = g }) new calls None p (Needed old.graph) base fresh now refl w same in
         let u = unneeded F z (rooted s p) arena (record old { graph = g }) new calls None p (Needed old.graph) base fresh now refl w same in
-        let on = woken_stands F z (rooted s p) arena (record old { graph = g }) new calls None p (Needed old.graph) base fresh now refl w same in
+        let on = woken_stands F z (rooted s p) arena (record old { graph = g }) new calls None p (Needed old.graph) base fresh now refl w same unlinked in
         let h : Enqueues s s.heap (λ a. is_some (at new.graph.heap a)) (IsIt s p) (IsIt s p) = record { kept = e.kept; new = e.new; told = e.told } in
-        (on.0, step (move.root_new (rw st.given given) u h refl) on.1, on.2)
+        (on.0, step (move.root_new (rw st.given given) u h refl) (wiring_moves F z (newly (rooted s p) p (λ a. is_some (at new.graph.heap a))) on.0 on.1), on.2, on.3)

@@ -1,6 +1,5 @@
 -- Roots are put on one by one, and steps are made one by one.
-use Rattle.std.proofs.Common.{◌≡◌, ◌≢◌, ◌⊎◌, inl, inr, ℕ, ◌<◌, ◌+◌, ◌++◌, zero, suc, Bool, true, false, cond}
-use Rattle.std.proofs.Common.{List, [], ◌∷◌, length, map, take, drop, get_or, Option, None, Some, refl, sym, ap, subst, ◌∙◌, arith}
+use Rattle.std.proofs.Common.{◌≡◌, ◌≢◌, ◌⊎◌, inl, inr, ℕ, ◌<◌, ◌+◌, ◌++◌, zero, suc, Bool, true, false, List, [], ◌∷◌, length, map, take, drop, get_or, Option, None, Some, refl, sym, ap, subst, ◌∙◌, arith}
 use Rattle.std.specs.Prelude.{Result, Ok, Err, OnErr, IfErr, is_some}
 use Rattle.std.specs.Result.{IsErrAnd}
 use Rattle.std.proofs.lemmas.List.{take_more, map-append, take-append-drop}
@@ -13,37 +12,38 @@ use Rattle.inc_terms.specs.Depend.{main}
 use Rattle.inc_terms.specs.Graph.{Graph}
 use Rattle.inc_terms.specs.Term.{Functions}
 use Rattle.inc_terms.proofs.Plan.{among_left, among_map}
-use Rattle.point_map.specs.Rows.{Rows, Place, row_in, same_point, at}
+use Rattle.point_map.specs.Rows.{Place, row_in, same_point, at, Holds}
 use Rattle.point_map.proofs.Places.{same_point_eq}
 use Rattle.recompute_heap.specs.Agree.{IsEmpty}
-use Rattle.necessity.specs.Need.{Roots, root_times, OneRootMore}
+use Rattle.necessity.specs.Need.{Roots, root_times, KeepsRoots, OneRootMore}
 use Rattle.node_arena.specs.Arena.{Arena}
 use Rattle.node_arena.specs.Graph.{graph_of}
 use Rattle.node_arena.specs.Meanings.{SameValues}
 use Rattle.inc_terms.specs.Work.{taken_by}
 use Rattle.stabilize_round.specs.Calling.{cost_at, costs_of}
-use Rattle.stabilize_round.specs.Counts.{RoseBy, RoseAtMost, number_of}
+use Rattle.stabilize_round.specs.Counts.{RoseBy, RoseAtMost}
 use Rattle.node_outcomes.specs.Computing.{HasCalledSome}
 use Rattle.stabilize_round.specs.Invariant.{Invariant}
 use Rattle.stabilize_round.specs.Machine.{Move, Moves, Stops, as_it_is, unkept, called_more}
+use Rattle.stabilize_round.specs.Moves.{Quiet}
 use Rattle.stabilize_round.specs.State.{State, count}
 use Rattle.stabilize_round.proofs.Calls.{refused_calls}
-use Rattle.stabilize_round.proofs.Counts.{fewer_than}
 use Rattle.stabilize_round.proofs.Entry.{entry_holds}
 use Rattle.stabilize_round.proofs.Machine.{moves_keep}
 use Rattle.stabilize_round.proofs.Points.{same_or_other, one_same, one_other, count_append, count_among}
 use Rattle.stabilize_round.proofs.Steps.{joined, step_moves}
 use Rattle.stabilizer.specs.Kept.{IsKept}
 use Rattle.node_outcomes.specs.Meaning.{functions_of}
-use Rattle.stabilizer.specs.Round.{IsReady, AreRooted, IsUpToDate, HasCalledFew, IsInRound, RootsMore, OnlyRoots, Settles, SettleRefused}
-use Rattle.node_outcomes.specs.Row.{settled_in}
+use Rattle.stabilizer.specs.Round.{IsReady, AreRooted, IsUpToDate, HasCalledFew, IsInRound, RootsMore, OnlyRoots, Settles, Pauses, SettleRefused}
 use Rattle.stabilizer.specs.Stands.{Stands}
-use Rattle.stabilizer.specs.Stepping.{Steps, StepRefused, SettledOneMore, SettlesOne}
-use Rattle.stabilizer.specs.Wiring.{Wires, WireRefused}
+use Rattle.stabilizer.specs.Stepping.{Steps, StepRefused, StepStops, as_it_was, wiring, StepFalls, CoversAll, left_to_settle}
+use Rattle.stabilizer.specs.Wiring.{PutsRoots, RootRefused, KeepsPlaces}
+use Rattle.stabilizer.specs.Refusing.{TellsWhy, no_memory}
 use Rattle.node_outcomes.specs.declared.row.Progress.{Progress}
+use Rattle.stabilizer.specs.declared.refused.Refused.{Refused}
 use Rattle.stabilizer.specs.declared.work.Work.{Work}
-use Rattle.stabilizer.proofs.Beginning.{Begun, begun, same_meaning, there_as}
-use Rattle.stabilizer.proofs.Ending.{quiet_of, root_nodes, rooted_observed, all_observed, counted, ready_again, right_again}
+use Rattle.stabilizer.proofs.Beginning.{Begun, begun, same_meaning}
+use Rattle.stabilizer.proofs.Ending.{quiet_of, counted, ready_again, right_again}
 
 -- what holds anyhow holds on an error
 pub on_err : {A E P : Type 0} (r : Result A E) → P → OnErr r P
@@ -80,7 +80,7 @@ pub record ArePut (arena : Arena) (old now : Work) (nodes : List NodeId) : Type 
   pub kept : IsKept arena now
   pub quiet : now.todo.items ≡ []
   pub more : RootsMore old.graph.roots now.graph.roots (map main nodes)
-  pub wired : Wires arena old now None
+  pub wired : PutsRoots arena old now
   pub round : now.round ≡ old.round
 
 pub none_put : (arena : Arena) (old : Work) → IsKept arena old → old.todo.items ≡ [] → ArePut arena old old []
@@ -92,15 +92,15 @@ none_put arena old kept quiet = record {
   round = refl;
 }
 
-wires_join : (arena : Arena) (old mid new : Work) → Wires arena old mid None → Wires arena mid new None → Wires arena old new None
-wires_join arena old mid new first next F z s calls inv st =
+puts_join : (arena : Arena) (old mid new : Work) → PutsRoots arena old mid → PutsRoots arena mid new → PutsRoots arena old new
+puts_join arena old mid new first next F z s calls inv st =
     let m = first F z s calls inv st in
     let k = next F z m.0 calls (moves_keep F z s m.0 m.1 inv) m.2 in
     (k.0, joined (Move F z) s m.0 k.0 m.1 k.1, k.2)
 
 -- one more of them
 pub one_put : (arena : Arena) (old mid new : Work) (nodes : List NodeId) (i : ℕ) (d : NodeId) → i < length nodes → ArePut arena old mid (take i nodes)
-    → OneRootMore mid.graph.roots new.graph.roots (main (get_or nodes i d)) → Wires arena mid new None → new.todo.items ≡ [] → new.round ≡ mid.round
+    → OneRootMore mid.graph.roots new.graph.roots (main (get_or nodes i d)) → PutsRoots arena mid new → new.todo.items ≡ [] → new.round ≡ mid.round
     → IsKept arena new → ArePut arena old new (take (i + 1) nodes)
 one_put arena old mid new nodes i d within put more wired quiet round kept = record {
   kept = kept;
@@ -108,7 +108,7 @@ one_put arena old mid new nodes i d within put more wired quiet round kept = rec
   more = subst (λ (ps : List Point). RootsMore old.graph.roots new.graph.roots ps) (sym listed)
       (roots_join old.graph.roots mid.graph.roots new.graph.roots (map main (take i nodes)) (main (get_or nodes i d) ∷ []) put.more
       (roots_one mid.graph.roots new.graph.roots (main (get_or nodes i d)) more));
-  wired = wires_join arena old mid new put.wired wired;
+  wired = puts_join arena old mid new put.wired wired;
   round = round ∙ put.round;
 }
   where
@@ -137,11 +137,11 @@ roots_tried old mid new nodes i d within more others p is = elim (same_or_other 
 ]
 
 -- where one was refused
-pub put_refused : (arena : Arena) (old mid new : Work) → Wires arena old mid None → WireRefused arena mid new None → WireRefused arena old new None
-put_refused arena old mid new first next F z s calls inv st =
+pub put_refused : (arena : Arena) (old mid new : Work) (e : Refused) → PutsRoots arena old mid → RootRefused arena mid new e → RootRefused arena old new e
+put_refused arena old mid new e first next F z s calls inv st =
     let m = first F z s calls inv st in
     let k = next F z m.0 calls (moves_keep F z s m.0 m.1 inv) m.2 in
-    (k.0, k.1, joined (Move F z) s m.0 k.0 m.1 k.2, k.3)
+    (k.0, k.1, joined (Move F z) s m.0 k.0 m.1 k.2, k.3, k.4)
 
 -- ---- steps
 
@@ -155,24 +155,37 @@ settles_more F arena old mid new before between after first idle next z s inv st
     let k = next z m.0 (moves_keep F z s m.0 m.1 inv) (quiet_of arena mid between m.0 m.2 idle) m.2 in
     (k.0, joined (Move F z) s m.0 k.0 m.1 (step_moves F z m.0 k.0 k.1), k.2)
 
-pub settle_stops : (F : Functions) (arena : Arena) (old mid new : Work) (before between after : ℕ) → Settles F arena old mid before between
-    → mid.todo.items ≡ [] → StepRefused arena mid new between after → SettleRefused F arena old before after
-settle_stops F arena old mid new before between after first idle next z s inv st =
+pub settle_stops : (F : Functions) (arena : Arena) (old mid new : Work) (before between after : ℕ) (e : Refused) → Settles F arena old mid before between
+    → mid.todo.items ≡ [] → StepRefused F arena mid new between after e → SettleRefused F arena old new before after e
+settle_stops F arena old mid new before between after e first idle next z s inv st =
     let m = first z s inv st in
     let quiet = quiet_of arena mid between m.0 m.2 idle in
-    let k = next m.0 quiet m.2 in
-    record {
-      state = m.0;
-      moves = m.1;
-      graph = m.2.graph;
-      quiet = quiet;
-      calls = elim k.1 [
-        | inl e ↦ inl (e ∙ sym m.2.calls)
-        | inr c ↦ inr (c.0, c.1, subst (λ (x : ℕ). HasCalledSome arena c.0 x after) (sym m.2.calls) c.2)
+    by m.0 m.1 m.2.calls quiet (next z m.0 (moves_keep F z s m.0 m.1 inv) quiet m.2)
+  where
+    by : (u : State) → Moves F z s u → u.calls ≡ between → Quiet u → StepStops F z u arena new between after e → Pauses F z s arena new after e
+    by u run calls quiet (as_it_was stands count is) = record {
+      state = u;
+      left = None;
+      between = between;
+      moves = run;
+      stands = stands;
+      calls = elim count [
+        | inl same ↦ inl (same ∙ sym calls)
+        | inr c ↦ inr (quiet, c.0, c.1, subst (λ (x : ℕ). HasCalledSome arena c.0 x after) (sym calls) c.2)
       ];
+      told = subst (λ (x : Refused). TellsWhy F u new None x) (sym is) no_memory;
+    }
+    by u run calls quiet (wiring {t} {left} moves stands same told) = record {
+      state = t;
+      left = left;
+      between = between;
+      moves = joined (Move F z) s u t run moves;
+      stands = stands;
+      calls = inl (same ∙ sym stands.calls);
+      told = told;
     }
 
--- ---- how many points are left to settle
+-- ---- how much is left to settle
 
 -- the points that stand at some places
 abbrev pub points_at : List (Place Progress) → List Point
@@ -180,13 +193,9 @@ points_at [] = []
 points_at (None ∷ rest) = points_at rest
 points_at (Some e ∷ rest) = e.0 ∷ points_at rest
 
--- the point isn't settled
-abbrev pub is_unsettled : ℕ → Rows Progress → Point → Bool
-is_unsettled round rows p = cond (settled_in round (at rows p)) false true
-
--- how many of the points aren't settled
-abbrev pub unsettled_in : ℕ → Rows Progress → List Point → ℕ
-unsettled_in round rows points = number_of (is_unsettled round rows) points
+-- their nodes
+abbrev pub nodes_at : List (Place Progress) → List NodeId
+nodes_at places = map (λ (p : Point). p.node) (points_at places)
 
 -- a point that has a row stands there
 row_listed : (places : List (Place Progress)) (p : Point) (k : Progress) → row_in places p ≡ Some k → Among p (points_at places)
@@ -198,40 +207,31 @@ row_listed (Some x ∷ rest) p k e = by_test (same_point x.0 p) refl (row_listed
     by_test true t later = inl (sym (same_point_eq x.0 p t))
     by_test false t later = inr (later (rw t at e))
 
-is_less : (old new : Work) (more : SettledOneMore old new) (x : Point) → is_unsettled old.round new.rows x ≡ true → is_unsettled old.round old.rows x ≡ true
-is_less old new more x h = elim (same_or_other x more.point) [
-  | inl e ↦ subst (λ (y : Point). is_unsettled old.round old.rows y ≡ true) (sym e) (rw (more.unsettled) refl)
-  | inr ne ↦ subst (λ (r : Option Progress). cond (settled_in old.round r) false true ≡ true) (more.others x ne) h
-]
+node_listed : (p : Point) (ps : List Point) → Among p ps → Among p.node (map (λ (q : Point). q.node) ps)
+node_listed p [] a = absurd a
+node_listed p (q ∷ qs) (inl e) = inl (ap (λ (x : Point). x.node) e)
+node_listed p (q ∷ qs) (inr a) = inr (node_listed p qs a)
 
--- a step leaves fewer of the points that had rows
-pub fewer_left : (first old new : Work) (round : ℕ) → old.round ≡ round → ((p : Point) → is_some (at old.rows p) ≡ is_some (at first.rows p))
-    → SettledOneMore old new
-    → unsettled_in round new.rows (points_at first.rows.places) < unsettled_in round old.rows (points_at first.rows.places)
-fewer_left first old new round is there more =
-    let k = there_as (at first.rows more.point) (at old.rows more.point) more.row (sym (there more.point)) more.row_before in
-    subst (λ (r : ℕ). unsettled_in r new.rows (points_at first.rows.places) < unsettled_in r old.rows (points_at first.rows.places)) is
-    (fewer_than (is_unsettled old.round old.rows) (is_unsettled old.round new.rows) (is_less old new more) more.point (points_at first.rows.places)
-    (rw (more.unsettled) refl) (rw (more.settled) refl) (row_listed first.rows.places more.point k.0 k.1))
-
--- rows stay where they are
-there_still : (old new : Work) → SettledOneMore old new → (p : Point) → is_some (at new.rows p) ≡ is_some (at old.rows p)
-there_still old new more p = elim (same_or_other p more.point) [
-  | inl e ↦ subst (λ (x : Point). is_some (at new.rows x) ≡ is_some (at old.rows x)) (sym e)
-      (is_there (at new.rows more.point) more.settled ∙ sym (ap is_some more.row_before))
-  | inr ne ↦ ap is_some (more.others p ne)
-]
+-- rows are where they were at first, so the points and nodes of then are all
+covers : (first now : Work) → ((p : Point) → is_some (at now.rows p) ≡ is_some (at first.rows p))
+    → CoversAll now (points_at first.rows.places) (nodes_at first.rows.places)
+covers first now there = record { points_of = points_of; nodes_of = λ p h. node_listed p (points_at first.rows.places) (points_of p h) }
   where
-    is_there : (x : Option Progress) → settled_in old.round x ≡ true → is_some x ≡ true
-    is_there None e = absurd (cc)
-    is_there (Some k) e = refl
+    points_of : (p : Point) → Holds now.rows p → Among p (points_at first.rows.places)
+    points_of p h =
+        let k = there_now (at first.rows p) (sym (there p) ∙ h) in
+        row_listed first.rows.places p k.0 k.1
+      where
+        there_now : (x : Option Progress) → is_some x ≡ true → (k : Progress) × (x ≡ Some k)
+        there_now None e = absurd (cc)
+        there_now (Some k) e = (k, refl)
 
 -- the steps so far settled points
 pub record AreSettled (F : Functions) (arena : Arena) (old now : Work) (before between : ℕ) : Type 0 where
   pub kept : IsKept arena now
   pub quiet : now.todo.items ≡ []
   pub settled : Settles F arena old now before between
-  pub roots : now.graph.roots ≡ old.graph.roots
+  pub roots : KeepsRoots old.graph.roots now.graph.roots
   pub round : now.round ≡ old.round
   pub there : (p : Point) → is_some (at now.rows p) ≡ is_some (at old.rows p)
 
@@ -240,53 +240,47 @@ no_step F arena old before kept quiet = record {
   kept = kept;
   quiet = quiet;
   settled = none_settled F arena old before;
-  roots = refl;
+  roots = λ p. refl;
   round = refl;
   there = λ p. refl;
 }
 
--- one step more
-pub one_step : (F : Functions) (arena : Arena) (old mid new : Work) (before between after : ℕ) → AreSettled F arena old mid before between
-    → IsKept arena new → new.todo.items ≡ [] → Steps F arena mid new between after → new.graph.roots ≡ mid.graph.roots → new.round ≡ mid.round
-    → SettledOneMore mid new → AreSettled F arena old new before after
-one_step F arena old mid new before between after so kept quiet steps roots round more = record {
-  kept = kept;
-  quiet = quiet;
-  settled = settles_more F arena old mid new before between after so.settled so.quiet steps;
-  roots = roots ∙ so.roots;
-  round = round ∙ so.round;
-  there = λ p. there_still mid new more p ∙ so.there p;
-}
-
 -- a step of functions that mean the same, over the same arena
 module _ (v w : FnRef → List Value → Value) (same : SameValues v w) (arena a : Arena) (is : a ≡ arena) where
-  steps_as : (mid new : Work) (between after : ℕ) → Steps (functions_of w) a mid new between after → Steps (functions_of v) arena mid new between after
-  steps_as mid new between after steps =
-      subst (λ (x : Arena). Steps (functions_of v) x mid new between after) is
-      (subst (λ (u : FnRef → List Value → Value). Steps (functions_of u) a mid new between after) (same_meaning v w same) steps)
+  as_meant : (P : Functions → Arena → Type 0) → P (functions_of w) a → P (functions_of v) arena
+  as_meant P h =
+      subst (λ (x : Arena). P (functions_of v) x) is (subst (λ (u : FnRef → List Value → Value). P (functions_of u) a) (same_meaning v w same) h)
 
-  -- it settled one more point
-  pub one_more : (old mid new : Work) (before between : ℕ) → IsInRound (functions_of v) arena old before
-      → AreSettled (functions_of v) arena old mid before between → SettlesOne (functions_of w) a mid new between → SettledOneMore mid new
-  one_more old mid new before between round so settles =
-      let m = so.settled round.start round.state round.holds round.stands in
-      let one = subst (λ (x : Arena). SettlesOne (functions_of v) x mid new between) is
-      (subst (λ (u : FnRef → List Value → Value). SettlesOne (functions_of u) a mid new between) (same_meaning v w same) settles) in
-      one round.start m.0 (moves_keep (functions_of v) round.start round.state m.0 m.1 round.holds) m.2
+  -- one step more
+  pub next_step : (b : Arena) (old mid new : Work) (before between after : ℕ) → AreSettled (functions_of v) arena old mid before between → b ≡ a
+      → IsKept b new → new.todo.items ≡ [] → Steps (functions_of w) a mid new between after → KeepsPlaces mid new
+      → AreSettled (functions_of v) arena old new before after
+  next_step b old mid new before between after so e kept quiet steps places = record {
+    kept = subst (λ (x : Arena). IsKept x new) (e ∙ is) kept;
+    quiet = quiet;
+    settled = settles_more (functions_of v) arena old mid new before between after so.settled so.quiet
+        (as_meant (λ F x. Steps F x mid new between after) steps);
+    roots = λ p. places.roots p ∙ so.roots p;
+    round = places.round ∙ so.round;
+    there = λ p. places.rows p ∙ so.there p;
+  }
 
-  pub next_step : (b : Arena) (old mid new : Work) (before between after : ℕ) → IsInRound (functions_of v) arena old before
-      → AreSettled (functions_of v) arena old mid before between → b ≡ a
-      → IsKept b new → new.todo.items ≡ [] → Steps (functions_of w) a mid new between after → new.graph.roots ≡ mid.graph.roots → new.round ≡ mid.round
-      → SettlesOne (functions_of w) a mid new between → AreSettled (functions_of v) arena old new before after
-  next_step b old mid new before between after begins so e kept quiet steps roots round settles =
-      one_step (functions_of v) arena old mid new before between after so (subst (λ (x : Arena). IsKept x new) (e ∙ is) kept) quiet
-      (steps_as mid new between after steps) roots round (one_more old mid new before between begins so settles)
+  -- it leaves less
+  pub less_left : (old mid new : Work) (before between : ℕ) → IsInRound (functions_of v) arena old before
+      → AreSettled (functions_of v) arena old mid before between → StepFalls (functions_of w) a mid new between
+      → left_to_settle new (points_at old.rows.places) (nodes_at old.rows.places) < left_to_settle mid (points_at old.rows.places) (nodes_at old.rows.places)
+  less_left old mid new before between begins so falls =
+      let m = so.settled begins.start begins.state begins.holds begins.stands in
+      as_meant (λ F x. StepFalls F x mid new between) falls begins.start m.0
+      (moves_keep (functions_of v) begins.start begins.state m.0 m.1 begins.holds) (quiet_of arena mid between m.0 m.2 so.quiet) m.2
+      (points_at old.rows.places) (nodes_at old.rows.places) (covers old mid so.there)
 
-  pub step_stops : (old mid new : Work) (before between after : ℕ) → AreSettled (functions_of v) arena old mid before between
-      → StepRefused a mid new between after → SettleRefused (functions_of v) arena old before after
-  step_stops old mid new before between after so refused =
-      settle_stops (functions_of v) arena old mid new before between after so.settled so.quiet
-      (subst (λ (x : Arena). StepRefused x mid new between after) is refused)
+  -- one is refused
+  pub step_stops : (old mid new : Work) (before between after : ℕ) (e : Refused) → AreSettled (functions_of v) arena old mid before between
+      → StepRefused (functions_of w) a mid new between after e → SettleRefused (functions_of v) arena old new before after e
+  step_stops old mid new before between after e so refused =
+      settle_stops (functions_of v) arena old mid new before between after e so.settled so.quiet
+      (as_meant (λ F x. StepRefused F x mid new between after e) refused)
 
 -- ---- a whole round
 
@@ -295,7 +289,7 @@ pub exit_is : {A E : Type 0} (r : Result A E) (e : E) (P : E → Type 0) → IsE
 exit_is (Ok x) e P is h = absurd is
 exit_is (Err x) e P is h = rw is h
 
-module _ (F : Functions) (arena : Arena) (old rooted : Work) (before : ℕ) (ready : IsReady F arena old) (wired : Wires arena old rooted None) where
+module _ (F : Functions) (arena : Arena) (old rooted : Work) (before : ℕ) (ready : IsReady F arena old) (put : PutsRoots arena old rooted) where
   abbrev first : Begun F arena old before
   first = begun F arena old ready before
 
@@ -304,11 +298,11 @@ module _ (F : Functions) (arena : Arena) (old rooted : Work) (before : ℕ) (rea
 
   pub in_round : IsInRound F arena rooted before
   in_round =
-      let w = wired F first.start first.state before inv first.stands in
+      let w = put F first.start first.state before inv first.stands in
       record { start = first.start; state = w.0; holds = moves_keep F first.start first.state w.0 w.1 inv; stands = w.2 }
 
   -- a refused round made at most the calls that some nodes take
-  module _ (after : ℕ) (stopped : SettleRefused F arena rooted before after) where
+  module _ (stopped : Work) (after : ℕ) (e : Refused) (refused : SettleRefused F arena rooted stopped before after e) where
     few_of : (t u : State) → Moves F first.start first.state t → Stops F first.start t u → u.graph ≡ graph_of arena → u.calls ≡ after
         → HasCalledFew arena before after
     few_of t u moves stops graph calls =
@@ -329,41 +323,41 @@ module _ (F : Functions) (arena : Arena) (old rooted : Work) (before : ℕ) (rea
 
     pub few_called : HasCalledFew arena before after
     few_called =
-        let w = wired F first.start first.state before inv first.stands in
-        let k = stopped first.start w.0 (moves_keep F first.start first.state w.0 w.1 inv) w.2 in
+        let w = put F first.start first.state before inv first.stands in
+        let k = refused first.start w.0 (moves_keep F first.start first.state w.0 w.1 inv) w.2 in
         let run = joined (Move F first.start) first.state w.0 k.state w.1 k.moves in
+        let graph = k.stands.graph in
         elim k.calls [
-          | inl e ↦ few_of k.state k.state run (as_it_is refl) k.graph (sym e)
+          | inl e ↦ few_of k.state k.state run (as_it_is refl) graph (sym e)
           | inr c ↦ few_of k.state (called_more k.state after) run
-              (unkept k.quiet c.1 (subst (λ (G : Graph). G.row c.0 ≡ Some c.2.caller.row) (sym k.graph) c.2.caller.is_row)
-              (subst (λ (G : Graph). taken_by G c.0 c.2.caller.row.def ≡ Some c.2.caller.nodes) (sym k.graph) c.2.caller.takes)
-              (subst (λ (G : Graph). RoseAtMost k.state.calls (cost_at G c.0) after) (sym k.graph) c.2.count) refl) k.graph refl
+              (unkept c.0 c.2 (subst (λ (G : Graph). G.row c.1 ≡ Some c.3.caller.row) (sym graph) c.3.caller.is_row)
+              (subst (λ (G : Graph). taken_by G c.1 c.3.caller.row.def ≡ Some c.3.caller.nodes) (sym graph) c.3.caller.takes)
+              (subst (λ (G : Graph). RoseAtMost k.state.calls (cost_at G c.1) after) (sym graph) c.3.count) refl) graph refl
         ]
 
   -- a round that ended
   module _ (settled : Work) (after : ℕ) (steps : Settles F arena rooted settled before after) (kept : IsKept arena settled)
-      (idle : settled.todo.items ≡ []) (empty : IsEmpty settled.graph.heap) (same_round : settled.round ≡ old.round) where
+      (idle : settled.todo.items ≡ []) (empty : IsEmpty settled.graph.heap) where
     last : (t : State) × Moves F first.start first.state t × Stands arena settled after None t
     last =
-        let w = wired F first.start first.state before inv first.stands in
+        let w = put F first.start first.state before inv first.stands in
         let k = steps first.start w.0 (moves_keep F first.start first.state w.0 w.1 inv) w.2 in
         (k.0, joined (Move F first.start) first.state w.0 k.0 w.1 k.1, k.2)
 
     pub round_counts : RoseBy before (costs_of (graph_of arena) settled.ran.items) after
-    round_counts = counted F arena old settled before after ready.kept first kept last.0 last.1 last.2 idle empty same_round
-        (root_nodes settled.graph.roots settled.graph.roots.counts) (all_observed arena settled kept)
+    round_counts = counted F arena old settled before after ready.kept first kept last.0 last.1 last.2 idle empty
 
-    module _ (new : Work) (graph : new.graph ≡ settled.graph) (rows : new.rows ≡ settled.rows) (todo : new.todo ≡ settled.todo) (ran : new.ran.items ≡ [])
-        (strict : new.strict ≡ false) (round : new.round ≡ settled.round + 1) where
+    module _ (new : Work) (graph : new.graph ≡ settled.graph) (rows : new.rows ≡ settled.rows) (pairs : new.pairs ≡ settled.pairs)
+        (todo : new.todo ≡ settled.todo) (ran : new.ran.items ≡ []) (strict : new.strict ≡ false) (round : new.round ≡ settled.round + 1) where
       pub round_readies : IsReady F arena new
-      round_readies = ready_again F arena old settled before after ready.kept first kept last.0 last.1 last.2 idle empty same_round
-          (root_nodes settled.graph.roots settled.graph.roots.counts) (all_observed arena settled kept) new graph rows todo ran strict round
+      round_readies = ready_again F arena old settled before after ready.kept first kept last.0 last.1 last.2 idle empty new graph rows pairs todo ran
+          strict round
 
-      module _ (nodes observed : List NodeId) (roots : settled.graph.roots ≡ rooted.graph.roots)
+      module _ (same_round : settled.round ≡ old.round) (nodes observed : List NodeId) (roots : KeepsRoots rooted.graph.roots settled.graph.roots)
           (more : RootsMore old.graph.roots rooted.graph.roots (map main nodes)) (looks : AreRooted old observed) where
         all_rooted : AreRooted settled (nodes ++ observed)
         all_rooted p =
-            let a = ap (λ (r : Roots). root_times r p) roots in
+            let a = roots p in
             let b = more p in
             let d = looks p in
             let e = ap (count p) (map-append main nodes observed) in
@@ -372,4 +366,4 @@ module _ (F : Functions) (arena : Arena) (old rooted : Work) (before : ℕ) (rea
 
         pub round_rights : IsUpToDate F arena old new (nodes ++ observed) settled.ran.items
         round_rights = right_again F arena old settled before after ready.kept first kept last.0 last.1 last.2 idle empty same_round (nodes ++ observed)
-            (rooted_observed settled (nodes ++ observed) all_rooted) new graph rows todo ran strict round all_rooted
+            all_rooted new graph rows pairs todo ran strict round

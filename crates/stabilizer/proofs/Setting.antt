@@ -1,43 +1,55 @@
 -- A variable is set to another value.
-use Rattle.std.proofs.Common.{◌≡◌, ◌⊎◌, inl, inr, Some, refl, sym, ap, subst, ◌∙◌}
-use Rattle.std.specs.Prelude.{is_some}
+use Rattle.std.proofs.Common.{◌≡◌, ◌⊎◌, inl, inr, ◌≤◌, false, Option, Some, refl, sym, ap, subst, ◌∙◌, arith}
+use Rattle.std.specs.Prelude.{is_some, IsSome}
 use Rattle.std.proofs.lemmas.Option.{none-some}
 use Rattle.inc_value.specs.declared.node.NodeId.{NodeId}
+use Rattle.inc_value.specs.declared.node.Part.{Part}
+use Rattle.inc_value.specs.declared.node.Part.TheVariants.{Main, Change}
 use Rattle.inc_value.specs.declared.node.Point.{Point}
+use Rattle.inc_value.specs.declared.outcome.Outcome.{Outcome}
+use Rattle.inc_value.specs.declared.ty.Ty.{Ty}
 use Rattle.inc_value.specs.declared.value.Value.{Value}
 use Rattle.inc_terms.specs.declared.def.Def as declared
 use Rattle.inc_terms.specs.declared.def.Def.TheVariants as form
 use Rattle.inc_terms.specs.Code.{def_of}
-use Rattle.inc_terms.specs.Depend.{main}
-use Rattle.inc_terms.specs.Graph.{Row, Var, kids}
+use Rattle.inc_terms.specs.Depend.{main, change, subject_of, right_of}
+use Rattle.inc_terms.specs.Graph.{Row, Def, Var}
+use Rattle.inc_terms.specs.Within.{Given}
 use Rattle.point_map.specs.Rows.{Rows, at, Holds}
 use Rattle.point_map.proofs.Places.{point_cases}
 use Rattle.link_table.specs.Links.{Links, times, Reads}
 use Rattle.necessary_graph.specs.Part.{Needed, IsInStep}
 use Rattle.node_arena.specs.Arena.{Arena, row_at, IsSet, IsVariable, with_value}
 use Rattle.node_arena.specs.Graph.{graph_of}
+use Rattle.node_arena.specs.Typing.{Fits}
+use Rattle.node_outcomes.specs.Computing.{has_part, IsOfType}
 use Rattle.stabilize_round.proofs.Points.{node_or_other}
-use Rattle.stabilizer.specs.Between.{IsMarked, Stays}
+use Rattle.stabilizer.specs.Between.{Stays}
+use Rattle.stabilizer.specs.Wiring.{IsMarked, KeepsRound}
 use Rattle.stabilizer.specs.Kept.{IsKept}
 use Rattle.inc_terms.specs.Work.{taken_by}
-use Rattle.stabilizer.specs.Wiring.{KeepsRound}
 use Rattle.node_outcomes.specs.declared.row.Progress.{Progress}
 use Rattle.stabilizer.specs.declared.work.Work.{Work}
-use Rattle.stabilizer.proofs.Between.{code_row, same_some, need_same}
+use Rattle.stabilizer.proofs.Agreeing.{code_row}
+use Rattle.stabilizer.proofs.Between.{same_some, need_same, needed_row}
+use Rattle.stabilizer.proofs.Typing.{KeepsTypes, typed_still, right_still}
 
 -- a live node that can't be told not to be a variable is one
 by_form : (a : Arena) (id : NodeId) (row : Row) → row_at a id ≡ Some row → ((IsVariable a id → ⊥) → ⊥) → (d : declared.Def) → row.def ≡ def_of d
     → (w : Value) × (row.def ≡ Var w)
 by_form a id row there not (form.Var w) e = (w, e)
-by_form a id row there not (form.Const w) e = absurd (not (λ x. let same : x.row ≡ row = same_some (sym x.there ∙ there) in
-    let h = sym x.variable ∙ (ap (λ (y : Row). y.def) same ∙ e) in cc))
-by_form a id row there not (form.Fold f v ks) e = absurd (not (λ x. let same : x.row ≡ row = same_some (sym x.there ∙ there) in
-    let h = sym x.variable ∙ (ap (λ (y : Row). y.def) same ∙ e) in cc))
-by_form a id row there not (form.Map f ks) e = absurd (not (λ x. let same : x.row ≡ row = same_some (sym x.there ∙ there) in
+by_form a id row there not _ e = absurd (not (λ x. let same : x.row ≡ row = same_some (sym x.there ∙ there) in
     let h = sym x.variable ∙ (ap (λ (y : Row). y.def) same ∙ e) in cc))
 
 is_variable : (a : Arena) (id : NodeId) (row : Row) → row_at a id ≡ Some row → ((IsVariable a id → ⊥) → ⊥) → (w : Value) × (row.def ≡ Var w)
 is_variable a id row there not = let d = code_row a id row there in by_form a id row there not d.0 d.1
+
+-- a variable's row with another value
+record IsAnother (id n : NodeId) (v : Value) (was r : Row) : Type 0 where
+  pub is_id : n ≡ id
+  pub is_now : r ≡ with_value was v
+  pub value : Value
+  pub is_was : was.def ≡ Var value
 
 -- what the row of a node was: one of the same type, in the same scope; and the same one, but for the variable
 record Before (before : Arena) (id n : NodeId) (v : Value) (r : Row) : Type 0 where
@@ -45,30 +57,58 @@ record Before (before : Arena) (id n : NodeId) (v : Value) (r : Row) : Type 0 wh
   pub is_was : row_at before n ≡ Some was
   pub type : was.ty ≡ r.ty
   pub scope : was.scope ≡ r.scope
-  pub same : (was ≡ r) ⊎ ((n ≡ id) × (r.def ≡ Var v) × ((w : Value) × (was.def ≡ Var w)))
+  pub same : (was ≡ r) ⊎ IsAnother id n v was r
 
 module _ (before arena : Arena) (old work : Work) (id : NodeId) (v : Value) (kept : IsKept before old) (set : IsSet before arena id v)
     (not_other : (IsVariable before id → ⊥) → ⊥) (given : arena.given ≡ before.given) (rows : work.rows ≡ old.rows)
     (marked : IsMarked old.graph work.graph (main id)) (step : IsInStep work.graph) (round : KeepsRound old work)
-    (todo : work.todo.items ≡ old.todo.items) where
+    (todo : work.todo.items ≡ old.todo.items) (pairs : work.pairs ≡ old.pairs) where
   row_was : (n : NodeId) (r : Row) → row_at arena n ≡ Some r → Before before id n v r
   row_was n r e = elim (node_or_other n id) [
     | inl is ↦
-        let now : with_value set.row v ≡ r = same_some (sym set.changes.changed ∙ (ap (row_at arena) (sym is) ∙ e)) in record {
+        let now : with_value set.row v ≡ r = same_some (sym set.changes.changed ∙ (ap (row_at arena) (sym is) ∙ e)) in
+        let variable = is_variable before id set.row set.there not_other in record {
           was = set.row;
           is_was = ap (row_at before) is ∙ set.there;
           type = ap (λ (x : Row). x.ty) now;
           scope = ap (λ (x : Row). x.scope) now;
-          same = inr (is, sym (ap (λ (x : Row). x.def) now), is_variable before id set.row set.there not_other);
+          same = inr (record { is_id = is; is_now = sym now; value = variable.0; is_was = variable.1 });
         }
     | inr ne ↦ record { was = r; is_was = sym (set.changes.others n ne) ∙ e; type = refl; scope = refl; same = inl refl }
   ]
 
-  lives_as : (n : NodeId) → is_some (row_at arena n) ≡ is_some (row_at before n)
-  lives_as n = elim (node_or_other n id) [
-    | inl is ↦ subst (λ (x : NodeId). is_some (row_at arena x) ≡ is_some (row_at before x)) (sym is)
-        (ap is_some set.changes.changed ∙ sym (ap is_some set.there))
-    | inr ne ↦ ap is_some (set.changes.others n ne)
+  -- a variable has one point, whatever its value
+  var_part : (r : Row) (w : Value) (part : Part) → r.def ≡ Var w → has_part (Some (with_value r v)) part ≡ has_part (Some r) part
+  var_part r w Main e = refl
+  var_part r w Change e = sym (ap (λ (d : Def). is_some (subject_of d)) e)
+
+  parts_as : (n : NodeId) (part : Part) → has_part (row_at arena n) part ≡ has_part (row_at before n) part
+  parts_as n part = elim (node_or_other n id) [
+    | inl is ↦ subst (λ (x : NodeId). has_part (row_at arena x) part ≡ has_part (row_at before x) part) (sym is)
+        (let variable = is_variable before id set.row set.there not_other in
+        ap (λ (x : Option Row). has_part x part) set.changes.changed
+        ∙ (var_part set.row variable.0 part variable.1 ∙ sym (ap (λ (x : Option Row). has_part x part) set.there)))
+    | inr ne ↦ ap (λ (x : Option Row). has_part x part) (set.changes.others n ne)
+  ]
+
+  types : KeepsTypes before arena
+  types n r had e = let w = row_was n r e in (w.was, w.is_was, w.type)
+
+  more : before.given ≤ arena.given
+  more = omega (arith, given)
+
+  -- a right side that is chosen now was chosen before
+  right_was : (n m : NodeId) (r : Row) (o : Outcome) (w : Before before id n v r) → right_of (graph_of arena) n r.def o ≡ Some m
+      → right_of (graph_of before) n w.was.def o ≡ Some m
+  right_was n m r o w right = elim w.same [
+    | inl same ↦ ap (λ (x : Row). right_of (graph_of before) n x.def o) same ∙ right
+    | inr h ↦ absurd (none-some m (sym (ap (λ (x : Row). right_of (graph_of arena) n x.def o) h.is_now) ∙ right))
+  ]
+
+  subject_was : (n : NodeId) (r : Row) (w : Before before id n v r) → IsSome (subject_of r.def) → IsSome (subject_of w.was.def)
+  subject_was n r w some = elim w.same [
+    | inl same ↦ ap (λ (x : Row). is_some (subject_of x.def)) same ∙ some
+    | inr h ↦ absurd (let e = sym (ap (λ (x : Row). is_some (subject_of x.def)) h.is_now) ∙ some in cc)
   ]
 
   same_rows : (p : Point) → at work.rows p ≡ at old.rows p
@@ -80,24 +120,49 @@ module _ (before arena : Arena) (old work : Work) (id : NodeId) (v : Value) (kep
   pub set_kept : IsKept arena work
   set_kept = record {
     step = step;
-    rows = λ n. ap is_some (same_rows (main n)) ∙ (kept.rows n ∙ sym (lives_as n));
-    row_mains = λ p h. kept.row_mains p (ap is_some (sym (same_rows p)) ∙ h);
-    mains = λ p h. kept.mains p (ap is_some (sym (same_heights p)) ∙ h);
+    rows = λ p. ap is_some (same_rows p) ∙ (kept.rows p ∙ sym (parts_as p.node p.part));
+    leaves = λ p h. elim (kept.leaves p (ap is_some (sym (same_heights p)) ∙ h)) [ inl r ↦ inl (ap is_some (same_rows p) ∙ r) | inr is ↦ inr is ];
     there = λ p h. ap is_some (same_heights p) ∙ kept.there p (ap is_some (sym (same_rows p)) ∙ h);
     given = λ p h. rw given (kept.given p (ap is_some (sym (same_heights p)) ∙ h));
     links = λ p q l. ap is_some (same_rows p) ∙ kept.links p q (subst (λ (x : Links). Reads x p q) marked.graph.links l);
     heap = λ p h. ap is_some (same_rows p) ∙ elim (point_cases p (main id)) [
-      | inl is ↦ rw is (kept.rows id ∙ ap is_some set.there)
+      | inl is ↦ rw is (kept.rows (main id) ∙ ap (λ (x : Option Row). has_part x Main) set.there)
       | inr ne ↦ kept.heap p (sym (ap is_some (marked.others p ne)) ∙ h)
     ];
     flat = λ n r e. let w = row_was n r e in sym w.scope ∙ kept.flat n w.was w.is_was;
-    outcomes = λ n r k o e is shows. let w = row_was n r e in kept.outcomes n w.was k o w.is_was (sym (same_rows (main n)) ∙ is) shows ∙ w.type;
-    calls = λ n r k l e is last. let w = row_was n r e in kept.calls n w.was k l w.is_was (sym (same_rows (main n)) ∙ is) last ∙ w.type;
+    outcomes = λ n r k o e is shows. let w = row_was n r e in
+        subst (IsOfType arena o) w.type
+        (typed_still before arena more types o w.was.ty (kept.outcomes n w.was k o w.is_was (sym (same_rows (main n)) ∙ is) shows));
+    rights = λ n m r k o e is shows right. let w = row_was n r e in
+        subst (λ (t : Ty). Given arena.given m × Fits arena m t) w.type
+        (right_still before arena more types m w.was.ty
+        (kept.rights n m w.was k o w.is_was (sym (same_rows (change n)) ∙ is) shows (right_was n m r o w right)));
+    calls = λ n r k l e is last. let w = row_was n r e in
+        subst (IsOfType arena l.result) w.type
+        (typed_still before arena more types l.result w.was.ty (kept.calls n w.was k l w.is_was (sym (same_rows (main n)) ∙ is) last));
     rounds = λ p k e. rw round.round (kept.rounds p k (sym (same_rows p) ∙ e));
+    pairs = λ n r e some. let w = row_was n r e in rw pairs (kept.pairs n w.was w.is_was (subject_was n r w some));
   }
 
   need_before : (p : Point) → Needed work.graph p → Needed old.graph p
   need_before p n = need_same work.graph old.graph (sym marked.graph.links) (sym marked.graph.roots) p n
+
+  -- a needed point of the variable is its main, which was put into the heap
+  in_heap : (p : Point) (was : Row) {r : Row} (h : IsAnother id p.node v was r) → Needed work.graph p → row_at before p.node ≡ Some was
+      → Holds work.graph.heap p
+  in_heap p was h need there = by_part p.part refl
+    where
+      its : (part : Part) → p.part ≡ part → p ≡ record { node = id; part = part }
+      its part is = ap (λ (x : Part). record { node = p.node; part = x }) is ∙ ap (λ (x : NodeId). record { node = x; part = part }) h.is_id
+
+      by_part : (part : Part) → p.part ≡ part → Holds work.graph.heap p
+      by_part Main is = let e = its Main is in
+          subst (λ (x : Point). Holds work.graph.heap x) (sym e) (marked.told (need_before (main id) (subst (λ (x : Point). Needed work.graph x) e need)))
+      by_part Change is =
+          let k = needed_row before old kept p was (need_before p need) there in
+          let none : has_part (row_at before p.node) p.part ≡ false =
+          ap (has_part (row_at before p.node)) is ∙ (ap (λ (x : Option Row). has_part x Change) there ∙ ap (λ (d : Def). is_some (subject_of d)) h.is_was) in
+          absurd (let has = sym (kept.rows p) ∙ ap is_some k.1 in cc)
 
   pub set_stays : Stays before arena old work
   set_stays = record {
@@ -108,19 +173,13 @@ module _ (before arena : Arena) (old work : Work) (id : NodeId) (v : Value) (kep
       | inr ne ↦ ap is_some (marked.others p ne) ∙ h
     ];
     rows = λ p n. same_rows p;
-    nodes = λ n r need e. let w = row_was n r e in elim w.same [
+    nodes = λ p r need e. let w = row_was p.node r e in elim w.same [
       | inl same ↦ inl (w.is_was ∙ ap Some same)
-      | inr h ↦ inr (
-        subst (λ (x : NodeId). Holds work.graph.heap (main x)) (sym h.0)
-            (marked.told (need_before (main id) (subst (λ (x : NodeId). Needed work.graph (main x)) h.0 need))),
-        w.was,
-        w.is_was,
-        ap kids h.1 ∙ sym (ap kids h.2.1),
-      )
+      | inr h ↦ inr (in_heap p w.was h need w.is_was, w.was, v, h.value, w.is_was, h.is_was, h.is_now)
     ];
     calls = λ n r nodes k l e def is last. let w = row_was n r e in elim w.same [
       | inl same ↦ (w.is_was ∙ ap Some same, sym (same_rows (main n)) ∙ is)
-      | inr h ↦ absurd (none-some nodes (sym (ap (taken_by (graph_of arena) n) h.1) ∙ def))
+      | inr h ↦ absurd (none-some nodes (sym (ap (λ (x : Row). taken_by (graph_of arena) n x.def) h.is_now) ∙ def))
     ];
     unsettled = λ p k e. inl (sym (same_rows p) ∙ e);
     round = round;

@@ -1,6 +1,6 @@
 -- A step of the stabilizer is a step of the machine.
-use Rattle.std.proofs.Common.{◌≡◌, ◌≢◌, ◌⊎◌, inl, inr, ℕ, zero, suc, ◌<◌, ◌≤◌, Bool, true, List, Option, None, Some, refl, sym, ap, subst, ◌∙◌, arith}
-use Rattle.std.specs.Prelude.{is_some, reverse}
+use Rattle.std.proofs.Common.{◌≡◌, ◌≢◌, ◌⊎◌, inl, inr, ℕ, zero, suc, ◌<◌, ◌≤◌, Bool, true, false, List, Option, None, Some, refl, sym, ap, subst, ◌∙◌, arith}
+use Rattle.std.specs.Prelude.{is_some, reverse, not, ◌==◌}
 use Rattle.inc_value.specs.declared.function.FnRef.{FnRef}
 use Rattle.inc_value.specs.declared.node.NodeId.{NodeId}
 use Rattle.inc_value.specs.declared.node.Point.{Point}
@@ -21,24 +21,29 @@ use Rattle.inc_terms.specs.Graph.{Graph}
 use Rattle.node_arena.specs.Graph.{graph_of}
 use Rattle.node_outcomes.specs.Computing.{CallsSeen}
 use Rattle.stabilize_round.specs.Calling.{cost_at}
-use Rattle.stabilize_round.specs.Counts.{RoseBy}
+use Rattle.stabilize_round.specs.Counts.{RoseBy, number_of}
+use Rattle.stabilize_round.specs.Invariant.{Invariant}
 use Rattle.stabilize_round.specs.Moves.{IsLeast, StepMain, computed, calls_of}
 use Rattle.stabilize_round.specs.Machine.{step_main}
-use Rattle.stabilize_round.specs.State.{State, Call}
+use Rattle.stabilize_round.specs.State.{State, Start, Call}
 use Rattle.stabilize_round.specs.Steps.{Step, plainly}
+use Rattle.stabilize_round.proofs.Counts.{fewer_than}
 use Rattle.stabilize_round.proofs.Parts.{bool_cases}
 use Rattle.stabilizer.specs.Kept.{IsKept}
 use Rattle.node_outcomes.specs.Meaning.{functions_of}
 use Rattle.node_outcomes.specs.Row.{settled_in}
 use Rattle.stabilizer.specs.Settling.{IsSettled}
 use Rattle.stabilizer.specs.Stands.{Stands}
-use Rattle.stabilizer.specs.Stepping.{MainIsSettled, MainIsLeft, Steps, StepRefused, SettlesOne}
+use Rattle.stabilizer.specs.Stepping.{MainIsSettled, MainIsLeft, Steps, StepRefused, as_it_was, StepFalls, is_unsettled}
+use Rattle.stabilizer.specs.declared.refused.Refused.{Refused}
+use Rattle.stabilizer.specs.declared.refused.Refused.TheVariants.{Memory}
 use Rattle.stabilizer.specs.Wiring.{KeepsGraph}
+use Rattle.node_outcomes.specs.declared.row.Progress.{Progress}
 use Rattle.stabilizer.specs.declared.work.Work.{Work}
 use Rattle.stabilizer.proofs.Carrying.{needed_now, needed_before, heap_graph, back_kept}
+use Rattle.stabilizer.proofs.Left.{less_unsettled}
 use Rattle.stabilizer.proofs.Settling.{same_number, settled_stands, settled_enqueues}
-use Rattle.stabilizer.proofs.Mains.{is_main}
-use Rattle.stabilizer.proofs.Sight.{row_is, own_sees, keeps_answers, kids_known, calls_are}
+use Rattle.stabilizer.proofs.Sight.{row_is, own_sees, keeps_answers, looks, calls_are}
 
 zero_or_more : (n : ℕ) → (n ≡ 0) ⊎ (0 < n)
 zero_or_more zero = inl refl
@@ -84,20 +89,14 @@ module _ (s : State) (arena : Arena) (old : Work) (calls : ℕ) (kept : IsKept a
     least = λ q h. let l = above q (at old.graph.heap q) refl (sym (st.heap q) ∙ h) in let a = st.height p in let b = st.height q in omega arith;
   }
 
-module _ (value : FnRef → List Value → Value) (arena : Arena) (old new : Work) (g : NecessaryPart) (p : Point) (before after : ℕ)
-    (kept : IsKept arena old) (was : Holds old.graph.heap p) (low : IsLowest old.graph.heap (level old.graph.heights p))
+module _ (value : FnRef → List Value → Value) (arena : Arena) (old new : Work) (g : NecessaryPart) (p : Point) (n : NodeId) (same : p ≡ main n)
+    (before after : ℕ) (kept : IsKept arena old) (was : Holds old.graph.heap p) (low : IsLowest old.graph.heap (level old.graph.heights p))
     (rest : g ≡ record old.graph { heap = g.heap }) (c : Changes old.graph.heap g.heap p None)
-    (m : MainIsSettled value arena (record old { graph = g }) new p.node before after) where
-  abbrev n : NodeId
-  n = p.node
-
+    (m : MainIsSettled value arena (record old { graph = g }) new n before after) where
   abbrev F : Functions
   F = functions_of value
 
-  same : p ≡ main n
-  same = is_main arena old kept p (kept.heap p was)
-
-  w : IsSettled old new n m.outcome m.last m.called
+  pub w : IsSettled old new n m.outcome m.last m.called
   w = settled_before old new g p n m.outcome m.last m.called same (heap_graph arena old g rest) c m.settled
 
   pub steps : Steps F arena old new before after
@@ -124,7 +123,7 @@ module _ (value : FnRef → List Value → Value) (arena : Arena) (old new : Wor
         taken = least;
         own = own_sees s arena old before kept st F n m.computed.row m.computed.is_row
             ∙ m.computed.own (keeps_answers s arena old before kept st value z inv)
-            (kids_known s arena old before kept st F z inv quiet n least m.computed.row m.computed.is_row);
+            (looks s arena old before kept st F z inv quiet n least m.computed.row m.computed.is_row);
         calls = calls_are s arena old before kept st value n m.computed.row.def m.computed.kept m.last m.called m.computed.is_kept
             (subst (λ (G : Graph). CallsSeen value G n old.round old.rows m.computed.row.def m.computed.kept.last m.last m.called) (sym st.graph) m.computed.calls);
         count = subst (λ (H : Graph). RoseBy s.calls (calls_of m.called (cost_at H n)) after) (sym st.graph)
@@ -153,24 +152,42 @@ module _ (value : FnRef → List Value → Value) (arena : Arena) (old new : Wor
       }
 
   -- what is taken wasn't settled before
-  pub settles_one : SettlesOne F arena old new before
-  settles_one z s inv st = record {
-    point = main n;
-    row = w.row;
-    row_before = w.was;
-    unsettled = sym (st.settled (main n)) ∙ elim (bool_cases (s.settled (main n))) [
-      | inl e ↦ absurd (let twice = inv.settled.twice (main n) e (subst (λ (x : Point). s.heap x ≡ true) same (st.heap p ∙ was)) in cc)
-      | inr e ↦ e
-    ];
-    settled = ap (settled_in old.round) w.now ∙ same_number old.round;
-    others = w.others;
-  }
+  fewer : (z : Start) (s : State) → Invariant F z s → Stands arena old before None s → (points : List Point) → Among (main n) points
+      → number_of (is_unsettled new) points < number_of (is_unsettled old) points
+  fewer z s inv st points among = fewer_than (is_unsettled old) (is_unsettled new) still (main n) points was_so isnt_now among
+    where
+      unsettled : settled_in old.round (at old.rows (main n)) ≡ false
+      unsettled = sym (st.settled (main n)) ∙ elim (bool_cases (s.settled (main n))) [
+        | inl e ↦ absurd (let twice = inv.settled.twice (main n) e (subst (λ (x : Point). s.heap x ≡ true) same (st.heap p ∙ was)) in cc)
+        | inr e ↦ e
+      ]
+
+      settled : settled_in new.round (at new.rows (main n)) ≡ true
+      settled = ap (settled_in new.round) w.now ∙ (ap (λ (i : ℕ). old.round == i) w.round ∙ same_number old.round)
+
+      was_so : is_unsettled old (main n) ≡ true
+      was_so = rw unsettled refl
+
+      isnt_now : is_unsettled new (main n) ≡ false
+      isnt_now = rw settled refl
+
+      still : (a : Point) → is_unsettled new a ≡ true → is_unsettled old a ≡ true
+      still a h = elim (point_cases a (main n)) [
+        | inl e ↦ subst (λ (x : Point). is_unsettled old x ≡ true) (sym e) was_so
+        | inr ne ↦ subst (λ (i : ℕ). not (settled_in i (at old.rows a)) ≡ true) w.round
+            (subst (λ (x : Option Progress). not (settled_in new.round x) ≡ true) (w.others a ne) h)
+      ]
+
+  -- less is left
+  pub falls : StepFalls F arena old new before
+  falls z s inv quiet st points nodes covers = less_unsettled old new points nodes w.strict
+      (fewer z s inv st points (covers.points_of (main n) (ap is_some w.was)))
 
 -- ---- a step that is refused
 
-module _ (arena : Arena) (old mid : Work) (g g' : NecessaryPart) (p : Point) (before after : ℕ)
+module _ (arena : Arena) (old mid : Work) (g g' : NecessaryPart) (p : Point) (n : NodeId) (before after : ℕ)
     (kept : IsKept arena old) (was : Holds old.graph.heap p) (rest : g ≡ record old.graph { heap = g.heap }) (c : Changes old.graph.heap g.heap p None)
-    (left : MainIsLeft arena (record old { graph = g }) mid p.node before after)
+    (left : MainIsLeft arena (record old { graph = g }) mid n before after)
     (rest' : g' ≡ record mid.graph { heap = g'.heap }) (put : Changes mid.graph.heap g'.heap p (at mid.graph.heights p)) where
   abbrev back : Work
   back = record mid { graph = g' }
@@ -222,14 +239,14 @@ module _ (arena : Arena) (old mid : Work) (g g' : NecessaryPart) (p : Point) (be
     given = st.given;
   }
 
-  pub step_refused : IsLowest old.graph.heap (level old.graph.heights p) → StepRefused arena old back before after
-  step_refused low s quiet st = (
-    refused_stands s st,
-    elim left.count [
-      | inl e ↦ inl e
-      | inr k ↦ inr (p.node, subst (IsLeast s) (is_main arena old kept p (kept.heap p was)) (is_least s arena old before kept st p was low), k)
-    ],
-  )
+  pub step_refused : p ≡ main n → (F : Functions) (e : Refused) → e ≡ Memory → IsLowest old.graph.heap (level old.graph.heights p)
+      → StepRefused F arena old back before after e
+  step_refused same F e memory low z s inv quiet st = as_it_was (refused_stands s st)
+      (elim left.count [
+        | inl same_count ↦ inl same_count
+        | inr k ↦ inr (n, subst (IsLeast s) same (is_least s arena old before kept st p was low), k)
+      ])
+      memory
 
   need_then : (x : Option ℕ) → at old.graph.heap p ≡ x → is_some x ≡ true → Needed old.graph p
   need_then None e h = absurd (cc)

@@ -67,16 +67,17 @@ module _ (arena : Arena) (old : Work) (g : NecessaryPart) (id : NodeId) (kept : 
   unrooted_kept step = record {
     step = step;
     rows = kept.rows;
-    row_mains = kept.row_mains;
-    mains = λ p h. kept.mains p (ap is_some (sym (same_heights p)) ∙ h);
+    leaves = λ p h. kept.leaves p (ap is_some (sym (same_heights p)) ∙ h);
     there = λ p h. ap is_some (same_heights p) ∙ kept.there p h;
     given = λ p h. kept.given p (ap is_some (sym (same_heights p)) ∙ h);
     links = λ p q l. kept.links p q (let f = off.sweep.fewer p q in omega (arith, f, l));
     heap = λ p h. kept.heap p (was_in p h);
     flat = kept.flat;
     outcomes = kept.outcomes;
+    rights = kept.rights;
     calls = kept.calls;
     rounds = kept.rounds;
+    pairs = kept.pairs;
   }
 
   pub unrooted_stays : Stays arena arena old work

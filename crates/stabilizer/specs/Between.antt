@@ -1,51 +1,45 @@
 -- What stands between rounds, of the parts alone, and what calls made there leave.
-use Rattle.std.specs.Prelude.{◌≡◌, ◌≢◌, ◌⊎◌, ◌<◌, ℕ, true, false, List, [], map, Option, None, Some}
+use Rattle.std.specs.Prelude.{◌≡◌, ◌⊎◌, ◌<◌, ℕ, true, false, List, [], Option, Some}
 use Rattle.inc_value.specs.declared.node.NodeId.{NodeId}
 use Rattle.inc_value.specs.declared.node.Point.{Point}
 use Rattle.inc_value.specs.declared.outcome.Outcome.{Outcome}
 use Rattle.inc_value.specs.declared.value.Value.{Value}
 use Rattle.inc_terms.specs.Depend.{main}
-use Rattle.inc_terms.specs.Evaluate.{Values}
-use Rattle.inc_terms.specs.Graph.{Row, Def, kids}
-use Rattle.inc_terms.specs.Local.{own}
+use Rattle.inc_terms.specs.Graph.{Row, Var}
+use Rattle.inc_terms.specs.Local.{shown, Agrees}
+use Rattle.inc_terms.specs.Plan.{plan}
 use Rattle.inc_terms.specs.Term.{Functions}
-use Rattle.point_map.specs.Rows.{Rows, at, Holds, KeepsRows}
+use Rattle.point_map.specs.Rows.{at, Holds, KeepsRows}
 use Rattle.link_table.specs.Links.{times}
-use Rattle.necessary_graph.specs.Part.{NecessaryPart, Needed}
-use Rattle.node_arena.specs.Arena.{Arena, row_at}
+use Rattle.necessary_graph.specs.Part.{Needed}
+use Rattle.node_arena.specs.Arena.{Arena, row_at, with_value}
 use Rattle.node_arena.specs.Graph.{graph_of}
 use Rattle.inc_terms.specs.Work.{taken_by}
 use Rattle.stabilize_round.specs.State.{Call, count}
-use Rattle.node_outcomes.specs.Computing.{seen, seen_together, KeepsAnswers}
+use Rattle.stabilize_round.specs.Invariant.{Recalls}
+use Rattle.node_outcomes.specs.Computing.{KeepsAnswers}
 use Rattle.stabilizer.specs.Kept.{IsKept}
-use Rattle.stabilizer.specs.Round.{IsReady, last_of, never_at}
-use Rattle.node_outcomes.specs.Row.{settled_in}
-use Rattle.stabilizer.specs.Wiring.{KeepsRound, KeepsGraph}
+use Rattle.stabilizer.specs.Round.{IsReady, last_call, never_at}
+use Rattle.node_outcomes.specs.Row.{settled_in, outcome_in}
+use Rattle.stabilizer.specs.Wiring.{KeepsRound}
 use Rattle.node_outcomes.specs.declared.row.Progress.{Progress}
 use Rattle.node_outcomes.specs.declared.row.Stage.TheVariants.{Full}
 use Rattle.stabilizer.specs.declared.work.Work.{Work}
 
--- the outcome of a point that has a row
-abbrev pub outcome_in : Option Progress → Option Outcome
-outcome_in None = None
-outcome_in (Some k) = k.outcome
+-- outcomes by point
+abbrev pub out_of : Work → Point → Option Outcome
+out_of work p = outcome_in (at work.rows p)
 
--- a live node shows what its own function gives of what is seen, and where its children show values its function was last called on these
-pub record IsFresh (F : Functions) (arena : Arena) (rows : Rows Progress) (n : NodeId) (def : Def) : Type 0 where
-  pub outcome : Outcome
-  pub shows : outcome_in (at rows (main n)) ≡ Some outcome
-  pub gives : own F (graph_of arena) (seen rows) n def ≡ Some outcome
-  pub recalls : (nodes : List NodeId) (values : List Value) → taken_by (graph_of arena) n def ≡ Some nodes → seen_together rows nodes ≡ Values values
-      → (c : Call) × (last_of (at rows (main n)) ≡ Some c) × (c.arguments ≡ values)
-
--- a needed live point has all its links, and is in the heap or fresh; nothing was settled, called or found final since the last round
+-- a needed point of a live node has all its links, and is in the heap, or agrees with what it is linked to; nothing was settled, called or found final
+-- since the last round
 pub record IsBetween (F : Functions) (arena : Arena) (work : Work) : Type 0 where
   pub kept : IsKept arena work
   pub full : (p : Point) (k : Progress) → Needed work.graph p → at work.rows p ≡ Some k → k.stage ≡ Full
-  pub links : (n : NodeId) (r : Row) → Needed work.graph (main n) → row_at arena n ≡ Some r
-      → (q : Point) → times work.graph.links (main n) q ≡ count q (map main (kids r.def))
-  pub fresh : (n : NodeId) (r : Row) → Needed work.graph (main n) → row_at arena n ≡ Some r
-      → Holds work.graph.heap (main n) ⊎ IsFresh F arena work.rows n r.def
+  pub links : (p : Point) (r : Row) → Needed work.graph p → row_at arena p.node ≡ Some r
+      → (q : Point) → times work.graph.links p q ≡ count q (plan (graph_of arena) (out_of work) p r)
+  pub fresh : (p : Point) (r : Row) → Needed work.graph p → row_at arena p.node ≡ Some r
+      → Holds work.graph.heap p ⊎ (Agrees F (graph_of arena) (out_of work) p
+      × Recalls (graph_of arena) (shown (graph_of arena) (out_of work)) (last_call work) p)
   pub answers : KeepsAnswers F.value arena work.rows
   pub unsettled : (p : Point) → settled_in work.round (at work.rows p) ≡ false
   pub numbered : 0 < work.round
@@ -63,22 +57,15 @@ pub record KeepsWork (old new : Work) : Type 0 where
   pub todo : new.todo.items ≡ old.todo.items
   pub round : KeepsRound old new
 
--- a needed point is in the heap, and all else stays
-pub record IsMarked (old new : NecessaryPart) (p : Point) : Type 0 where
-  pub graph : KeepsGraph old new
-  pub others : (q : Point) → q ≢ p → at new.heap q ≡ at old.heap q
-  pub told : Needed old p → Holds new.heap p
-  pub only : Holds new.heap p → Holds old.heap p ⊎ Needed old p
-
--- between rounds this may change: less may be needed, and what is so keeps its links, its row and its place in the heap; its node stays, or has the same
--- children and is in the heap; what was called stays called; and no row is settled that wasn't
+-- between rounds this may change: less may be needed, and what is so keeps its links, its row and its place in the heap; its node stays, or is a variable with
+-- another value and in the heap; what was called stays called; and no row is settled that wasn't
 pub record Stays (before arena : Arena) (old work : Work) : Type 0 where
   pub needed : (p : Point) → Needed work.graph p → Needed old.graph p
   pub links : (p q : Point) → Needed work.graph p → times work.graph.links p q ≡ times old.graph.links p q
   pub heap : (p : Point) → Needed work.graph p → Holds old.graph.heap p → Holds work.graph.heap p
   pub rows : (p : Point) → Needed work.graph p → at work.rows p ≡ at old.rows p
-  pub nodes : (n : NodeId) (r : Row) → Needed work.graph (main n) → row_at arena n ≡ Some r → (row_at before n ≡ Some r)
-      ⊎ (Holds work.graph.heap (main n) × (was : Row) × (row_at before n ≡ Some was) × (kids r.def ≡ kids was.def))
+  pub nodes : (p : Point) (r : Row) → Needed work.graph p → row_at arena p.node ≡ Some r → (row_at before p.node ≡ Some r)
+      ⊎ (Holds work.graph.heap p × (was : Row) × (v w : Value) × (row_at before p.node ≡ Some was) × (was.def ≡ Var w) × (r ≡ with_value was v))
   pub calls : (n : NodeId) (r : Row) (nodes : List NodeId) (k : Progress) (c : Call) → row_at arena n ≡ Some r → taken_by (graph_of arena) n r.def ≡ Some nodes
       → at work.rows (main n) ≡ Some k → k.last ≡ Some c → (row_at before n ≡ Some r) × (at old.rows (main n) ≡ Some k)
   pub unsettled : (p : Point) (k : Progress) → at work.rows p ≡ Some k → (at old.rows p ≡ Some k) ⊎ (k.settled ≡ 0)
@@ -89,7 +76,7 @@ pub record Stays (before arena : Arena) (old work : Work) : Type 0 where
 pub record HasDropped (before arena : Arena) (old work : Work) (count : ℕ) : Type 0 where
   pub older : (n : NodeId) → n.gen_ < count → row_at arena n ≡ row_at before n
   pub given : arena.given ≡ before.given
-  pub rows : (n : NodeId) → n.gen_ < count → at work.rows (main n) ≡ at old.rows (main n)
+  pub rows : (p : Point) → p.node.gen_ < count → at work.rows p ≡ at old.rows p
   pub cutoffs : (n : NodeId) → n.gen_ < count → never_at work n ≡ never_at old n
   pub fewer_cutoffs : (n : NodeId) → never_at work n ≡ true → never_at old n ≡ true
   pub links : work.graph.links ≡ old.graph.links

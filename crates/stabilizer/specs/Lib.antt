@@ -1,8 +1,10 @@
 pub mod Stands
 pub mod Kept
+pub mod Places
 pub mod Deciding
-pub mod Wiring
 pub mod Refusing
+pub mod Wiring
+pub mod Turning
 pub mod Growing
 pub mod Settling
 pub mod Stepping

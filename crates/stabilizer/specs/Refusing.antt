@@ -1,27 +1,32 @@
 -- What a refused link says.
-use Rattle.std.specs.Prelude.{◌≡◌, ◌⊎◌, ◌≤◌, ◌++◌, Bool, List, [], ◌∷◌, map, Some, IsTrue, length}
-use Rattle.inc_value.specs.Choice.{Among}
+use Rattle.std.specs.Prelude.{◌≡◌, ◌≤◌, ◌++◌, true, List, [], ◌∷◌, Option, Some, IsTrue, length}
 use Rattle.inc_value.specs.declared.node.Point.{Point}
-use Rattle.inc_terms.specs.Depend.{main}
-use Rattle.inc_terms.specs.Graph.{Row, kids}
-use Rattle.height_order.specs.Chains.{ReadsWith, IsChain, IsPath}
+use Rattle.inc_terms.specs.Depend.{Depends}
+use Rattle.inc_terms.specs.Term.{Functions}
+use Rattle.link_table.specs.Links.{Reads}
+use Rattle.height_order.specs.Chains.{ReadsWith, IsChain, IsPath, NoRepeats}
 use Rattle.height_order.specs.declared.heights.LinkFault.{LinkFault}
 use Rattle.height_order.specs.declared.heights.LinkFault.TheVariants as fault
-use Rattle.necessary_graph.specs.Part.{Needed}
-use Rattle.node_arena.specs.Arena.{Arena, row_at}
+use Rattle.stabilize_round.specs.State.{State}
+use Rattle.stabilize_round.specs.Wire.{IsConfirmed}
+use Rattle.stabilizer.specs.Stands.{Hand, hand}
 use Rattle.stabilizer.specs.declared.refused.Refused.{Refused}
 use Rattle.stabilizer.specs.declared.refused.Refused.TheVariants.{Height, Cycle, Full, Memory}
 use Rattle.stabilizer.specs.declared.work.Work.{Work}
 
--- with the link from p to q the points are a chain that is too long, and refusals are final
+-- with the link from p to q the points are a chain that is too long, no two of them the same, and refusals are final
 pub record IsTooLong (work : Work) (p q : Point) (points : List Point) : Type 0 where
   pub chain : IsChain (ReadsWith work.graph.links p q) points
   pub long : length points ≡ 130
+  pub once : NoRepeats points
   pub strict : IsTrue work.strict
 
 -- with the link from p to q the points are a walk from q that ends at q, over one link at least, and refusals are final
 pub record IsCircle (work : Work) (p q : Point) (points : List Point) : Type 0 where
   pub path : IsPath (ReadsWith work.graph.links p q) points q q
+  pub front : List Point
+  pub comes_back : points ≡ front ++ q ∷ []
+  pub once : NoRepeats front
   pub long : 2 ≤ length points
   pub strict : IsTrue work.strict
 
@@ -36,11 +41,17 @@ IsCycleOf list q (Cycle points) = points.items ≡ list ++ q ∷ []
 IsCycleOf list q Memory = Unit {0}
 IsCycleOf list q e = ⊥
 
--- the refusal says what the fault of a link to q says, and is final where there was memory for the link
-abbrev pub IsWhy : Bool → Bool → Point → LinkFault → Refused → Type 0
-IsWhy before strict q fault.Memory e = (strict ≡ before) × (e ≡ Memory)
-IsWhy before strict q (fault.Over list) e = IsTrue strict × IsHeightOf list.items e
-IsWhy before strict q (fault.Path list) e = IsTrue strict × IsCycleOf list.items q e
+-- the refusal says what the fault of a link to q says
+abbrev pub IsWhy : Point → LinkFault → Refused → Type 0
+IsWhy q fault.Memory e = e ≡ Memory
+IsWhy q (fault.Over list) e = IsHeightOf list.items e
+IsWhy q (fault.Path list) e = IsCycleOf list.items q e
+
+-- what a fault of the link from p to q says
+abbrev pub TellsFault : Work → Point → Point → LinkFault → Type 0
+TellsFault work p q fault.Memory = Unit {0}
+TellsFault work p q (fault.Over list) = IsChain (ReadsWith work.graph.links p q) list.items × (length list.items ≡ 130) × NoRepeats list.items
+TellsFault work p q (fault.Path list) = IsPath (Reads work.graph.links) list.items q p × NoRepeats list.items
 
 -- what a refusal of the link from p to q says
 abbrev pub RefusedBy : Work → Point → Point → Refused → Type 0
@@ -49,17 +60,8 @@ RefusedBy work p q (Cycle points) = IsCircle work p q points.items
 RefusedBy work p q Full = ⊥
 RefusedBy work p q Memory = Unit {0}
 
--- a needed point's link to one of its children was refused, and this is what is said of it
-pub record IsRefusedLink (arena : Arena) (work : Work) (e : Refused) : Type 0 where
-  pub reader : Point
-  pub kid : Point
-  pub row : Row
-  pub is_row : row_at arena reader.node ≡ Some row
-  pub is_main : reader ≡ main reader.node
-  pub is_kid : Among kid (map main (kids row.def))
-  pub needed : Needed work.graph reader
-  pub why : RefusedBy work reader kid e
-
--- there was no memory, or a link was refused
-abbrev pub TellsWhy : Arena → Work → Refused → Type 0
-TellsWhy arena work e = (e ≡ Memory) ⊎ IsRefusedLink arena work e
+-- there was no memory, or the link was refused that the point in hand is owed first, which it depends on and may have now
+pub data TellsWhy (F : Functions) (s : State) (work : Work) : Option Hand → Refused → Type 0 where
+  no_memory : {held : Option Hand} → TellsWhy F s work held Memory
+  by_link : {p q : Point} {rest : List Point} {e : Refused} → s.needed p ≡ true → Depends F s.graph s.died p q → IsConfirmed s p q
+      → RefusedBy work p q e → TellsWhy F s work (Some (hand p (q ∷ rest))) e

@@ -1,14 +1,16 @@
 -- What stands between rounds, and what a round leaves.
-use Rattle.std.specs.Prelude.{◌≡◌, ◌⊎◌, ◌↔◌, ◌+◌, ◌<◌, ◌≤◌, ℕ, Bool, true, List, [], map, length, Option, None, Some}
+use Rattle.std.specs.Prelude.{◌≡◌, ◌⊎◌, ◌↔◌, ◌+◌, ◌<◌, ◌≤◌, ◌++◌, ℕ, Bool, true, List, [], ◌∷◌, map, length, Option, None, Some}
 use Rattle.inc_value.specs.declared.node.NodeId.{NodeId}
+use Rattle.inc_value.specs.declared.node.Part.TheVariants.{Main}
 use Rattle.inc_value.specs.declared.node.Point.{Point}
 use Rattle.inc_value.specs.declared.outcome.Outcome.{Outcome}
 use Rattle.inc_value.specs.declared.value.Value.{Value}
 use Rattle.inc_value.specs.Choice.{Among, NoRepeats}
 use Rattle.inc_value.specs.Walk.{IsWalk, IsDeep, IsOnCycle}
-use Rattle.inc_terms.specs.Depend.{Depends, main, none_died}
+use Rattle.inc_terms.specs.Depend.{Depends, main, change, subject_of, none_died}
 use Rattle.inc_terms.specs.Evaluate.{NodeGives, GiveAll}
 use Rattle.inc_terms.specs.Graph.{Row}
+use Rattle.inc_terms.specs.Plan.{targets}
 use Rattle.inc_terms.specs.Need.{Beside, Observed, nodes_of, Held, Needed, Met}
 use Rattle.inc_terms.specs.Term.{Functions}
 use Rattle.inc_terms.specs.Work.{WithinWork}
@@ -27,12 +29,13 @@ use Rattle.stabilize_round.specs.Machine.{Entry, Moves}
 use Rattle.stabilize_round.specs.Moves.{Quiet, IsLeast}
 use Rattle.stabilize_round.specs.State.{State, Start, Call, count}
 use Rattle.node_outcomes.specs.Computing.{seen, IsCallerAt, HasCalledSome}
-use Rattle.height_order.specs.Chains.{StartsAt, EndsAt}
+use Rattle.height_order.specs.Chains.{ReadsWith, StartsAt, EndsAt}
 use Rattle.stabilizer.specs.declared.refused.Refused.{Refused}
 use Rattle.stabilizer.specs.declared.refused.Refused.TheVariants.{Height, Cycle, Full, Memory}
 use Rattle.stabilizer.specs.Kept.{IsKept}
-use Rattle.node_outcomes.specs.Row.{never_in, settled_in}
-use Rattle.stabilizer.specs.Stands.{Stands}
+use Rattle.node_outcomes.specs.Row.{never_in, settled_in, outcome_in}
+use Rattle.stabilizer.specs.Refusing.{TellsWhy}
+use Rattle.stabilizer.specs.Stands.{Stands, Hand}
 use Rattle.node_outcomes.specs.declared.row.Progress.{Progress}
 use Rattle.stabilizer.specs.declared.work.Work.{Work}
 
@@ -94,6 +97,9 @@ pub record IsUpToDate (F : Functions) (arena : Arena) (old new : Work) (observed
   pub needs : (p : Point) → part.Needed new.graph p ↔ Needed F (graph_of arena) none_died observed p
   pub sees : (n : NodeId) → Needed F (graph_of arena) none_died observed (main n)
       → (o : Outcome) × (seen new.rows (main n) ≡ Some o) × NodeGives F (graph_of arena) n o
+  pub chose : (n m : NodeId) (r : Row) → row_at arena n ≡ Some r → subject_of r.def ≡ Some m
+      → Needed F (graph_of arena) none_died observed (change n)
+      → (o : Outcome) × (outcome_in (at new.rows (change n)) ≡ Some o) × NodeGives F (graph_of arena) m o
   pub acyclic : (p : Point) → Needed F (graph_of arena) none_died observed p → IsOnCycle (Depends F (graph_of arena) none_died) p → ⊥
   pub shallow : (p : Point) → Needed F (graph_of arena) none_died observed p → IsDeep (Depends F (graph_of arena) none_died) p → ⊥
   pub links : (p q : Point) → part.Needed new.graph p → Reads new.graph.links p q ↔ Depends F (graph_of arena) none_died p q
@@ -118,14 +124,42 @@ pub record ComesBack (points : List Point) : Type 0 where
   pub point : Point
   pub starts : StartsAt points point
   pub ends : EndsAt points point
+  pub front : List Point
+  pub is_front : points ≡ front ++ point ∷ []
+  pub once : NoRepeats front
   pub long : 2 ≤ length points
 
--- what a refusal says: a chain of 130 points, or a walk that comes back to where it began
+-- what a refusal says: a chain of 130 points, no two the same, or a walk that comes back to where it began and passes no other point twice
 abbrev pub IsLawful : Functions → Arena → Work → List NodeId → Refused → Type 0
-IsLawful F arena old observed (Height points) = IsListed F arena old observed points.items × (length points.items ≡ 130)
+IsLawful F arena old observed (Height points) =
+    IsListed F arena old observed points.items × (length points.items ≡ 130) × NoRepeats points.items
 IsLawful F arena old observed (Cycle points) = IsListed F arena old observed points.items × ComesBack points.items
 IsLawful F arena old observed Full = ⊥
 IsLawful F arena old observed Memory = Unit {0}
+
+-- each of the points but the last
+abbrev pub AllButLast : (Point → Type 0) → List Point → Type 0
+AllButLast P [] = Unit {0}
+AllButLast P (p ∷ []) = Unit {0}
+AllButLast P (p ∷ q ∷ rest) = P p × AllButLast P (q ∷ rest)
+
+-- in the parts that a refused round leaves, all points that are listed but the last are needed, and each is linked to the next, but for one link at most:
+-- the one that was refused. Where that is one to a right side, its node's change ran in this round
+pub record IsTried (arena : Arena) (work : Work) (points : List Point) : Type 0 where
+  pub reader : Point
+  pub kid : Point
+  pub linked : IsWalk (ReadsWith work.graph.links reader kid) points
+  pub needed : AllButLast (part.Needed work.graph) points
+  pub right : (r : Row) → row_at arena reader.node ≡ Some r → reader.part ≡ Main
+      → Among kid (targets (graph_of arena) reader.node r.def (outcome_in (at work.rows (change reader.node))))
+      → settled_in work.round (at work.rows (change reader.node)) ≡ true
+
+-- so it is of the points that a refusal lists
+abbrev pub LeavesTried : Arena → Work → Refused → Type 0
+LeavesTried arena work (Height points) = IsTried arena work points.items
+LeavesTried arena work (Cycle points) = IsTried arena work points.items
+LeavesTried arena work Full = ⊥
+LeavesTried arena work Memory = Unit {0}
 
 -- a round that was refused made at most the calls that it takes to compute each of some live maps and folds once
 pub record HasCalledFew (arena : Arena) (before after : ℕ) : Type 0 where
@@ -156,14 +190,17 @@ abbrev pub Settles : Functions → Arena → Work → Work → ℕ → ℕ → T
 Settles F arena old new before after =
     (z : Start) (s : State) → Invariant F z s → Stands arena old before None s → (t : State) × Moves F z s t × Stands arena new after None t
 
--- where steps stop: in a state that moves lead to, and some of the calls of a least point's function may have been made
-pub record Pauses (F : Functions) (z : Start) (s : State) (arena : Arena) (after : ℕ) : Type 0 where
+-- where steps stop: in a state that moves lead to; some of the calls of a least point's function may have been made
+pub record Pauses (F : Functions) (z : Start) (s : State) (arena : Arena) (new : Work) (after : ℕ) (e : Refused) : Type 0 where
   pub state : State
+  pub left : Option Hand
+  pub between : ℕ
   pub moves : Moves F z s state
-  pub graph : state.graph ≡ graph_of arena
-  pub quiet : Quiet state
-  pub calls : (after ≡ state.calls) ⊎ ((n : NodeId) × IsLeast state (main n) × HasCalledSome arena n state.calls after)
+  pub stands : Stands arena new between left state
+  pub calls : (after ≡ state.calls) ⊎ (Quiet state × (n : NodeId) × IsLeast state (main n) × HasCalledSome arena n state.calls after)
+  pub told : TellsWhy F state new left e
 
 -- from each state that the parts stood for, with the count of calls, steps stop so
-abbrev pub SettleRefused : Functions → Arena → Work → ℕ → ℕ → Type 0
-SettleRefused F arena old before after = (z : Start) (s : State) → Invariant F z s → Stands arena old before None s → Pauses F z s arena after
+abbrev pub SettleRefused : Functions → Arena → Work → Work → ℕ → ℕ → Refused → Type 0
+SettleRefused F arena old new before after e =
+    (z : Start) (s : State) → Invariant F z s → Stands arena old before None s → Pauses F z s arena new after e

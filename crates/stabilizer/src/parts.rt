@@ -2,27 +2,28 @@
 ghost use Rattle.std.specs.Prelude.{ℕ, ◌≡◌, ◌⊎◌, ◌↔◌, ◌+◌, ◌<◌, ◌≤◌, ◌++◌, true, false, [], ◌∷◌, List, None, Some};
 ghost use Rattle.std.specs.Prelude.{IfOk, IfErr, OnOk, OnErr, IsErrOf, option_copied};
 ghost use Rattle.inc_value.specs.declared.node.NodeId.{NodeId};
+ghost use Rattle.inc_value.specs.declared.node.Part.{Part};
+ghost use Rattle.inc_value.specs.declared.node.Point.{Point};
 ghost use Rattle.inc_terms.specs.Code.{def_of};
 ghost use Rattle.inc_terms.specs.Depend.{main};
 ghost use Rattle.inc_terms.specs.Term.{Functions};
 ghost use Rattle.inc_terms.specs.Within.{Given, ValueWithin};
-ghost use Rattle.point_map.specs.Rows as points;
 ghost use Rattle.point_map.specs.Rows.{at, Holds, KeepsRows};
 ghost use Rattle.necessity.specs.Need.{IsRoot, OneRootMore};
-ghost use Rattle.necessary_graph.specs.Part.{web, Needed, IsInStep};
+ghost use Rattle.necessary_graph.specs.Part.{web, Needed};
 ghost use Rattle.necessary_graph.specs.Sweep.{IsUnrooted};
 ghost use Rattle.node_arena.specs.Arena.{row_at, live, IsLive, Changes, NamesGiven, IsFull, IsVariable, IsSet};
 ghost use Rattle.node_arena.specs.Typing.{Makes, FitsNode};
-ghost use Rattle.stabilizer.specs.Between.{KeepsWork, IsMarked, outcome_in};
+ghost use Rattle.node_outcomes.specs.Row.{IsRewritten, outcome_in, with_cutoff};
+ghost use Rattle.stabilizer.specs.Between.{KeepsWork};
 ghost use Rattle.stabilizer.specs.Kept.{IsKept};
+ghost use Rattle.stabilizer.specs.Places.{ChangesNode, for_parts};
 ghost use Rattle.stabilizer.specs.Round.{IsReady, AreRooted, never_at};
-ghost use Rattle.node_outcomes.specs.Row.{IsRewritten, with_cutoff};
 
 use crate::work::Work;
 use inc_terms::Def;
-use inc_value::{NodeId, Outcome, Point, Ty, Value};
+use inc_value::{NodeId, Outcome, Ty, Value};
 use map_nodes::Cutoff;
-use necessary_graph::NecessaryGraph;
 use node_arena::{AddFault, Arena, Row, SetFault};
 use node_outcomes::{Stage, main_point, set_cutoff};
 use std::alloc::{AllocError, Global};
@@ -86,12 +87,13 @@ impl Parts {
             × IsFull self.old.arena) }
         ensures err { OnErr result (self.new.arena ≡ self.old.arena) }
         ensures err_work { OnErr result (KeepsWork self.old.work self.new.work) }
-        ensures row { IfOk result (λ id. points.Changes self.old.work.rows self.new.work.rows (main id)
-            (Some (record { stage = Stage.Bare; settled = 0; outcome = None; last = None; cutoff = Cutoff.Equal }))) }
-        ensures point { IfOk result (λ id. (h : ℕ) × points.Changes self.old.work.graph.heights
-            self.new.work.graph.heights (main id) (Some h)) }
-        ensures rows { (n : NodeId) → Given self.old.arena.given n
-            → at self.new.work.rows (main n) ≡ at self.old.work.rows (main n) }
+        ensures row { IfOk result (λ id. ChangesNode self.old.work.rows self.new.work.rows id
+            (for_parts (def_of def) (λ part.
+            record { stage = Stage.Bare; settled = 0; outcome = None; last = None; cutoff = Cutoff.Equal }))) }
+        ensures point { IfOk result (λ id. (h : Part → ℕ) × ChangesNode self.old.work.graph.heights
+            self.new.work.graph.heights id (for_parts (def_of def) h)) }
+        ensures rows { (p : Point) → Given self.old.arena.given p.node
+            → at self.new.work.rows p ≡ at self.old.work.rows p }
         ensures cutoffs { (n : NodeId) → never_at self.new.work n ≡ never_at self.old.work n }
         ensures equal { IfOk result (λ id. never_at self.new.work id ≡ false) }
         ensures links { self.new.work.graph.links ≡ self.old.work.graph.links }
@@ -107,8 +109,7 @@ impl Parts {
             return Err(fault);
         }
         let id = self.arena.next_id();
-        let height = height_over(&self.work.graph, def.kids());
-        let added = self.work.add(main_point(id), height);
+        let added = self.work.add_node(id, &def);
         self.work.graph.stands();
         match added {
             Ok(()) => {}
@@ -125,7 +126,8 @@ impl Parts {
         match self.arena.insert(id, row) {
             Ok(()) => Ok(id),
             Err(AllocError) => {
-                self.work.drop_point(main_point(id));
+                self.work.drop_node(id);
+                self.work.forget_since(self.arena.given());
                 Err(AddFault::Memory)
             }
         }
@@ -158,7 +160,7 @@ impl Parts {
             → IsReady F self.new.arena self.new.work }
     {
         self.arena.set_var(id, value)?;
-        mark(&mut self.work.graph, main_point(id));
+        self.work.schedule(main_point(id));
         Ok(())
     }
 
@@ -203,12 +205,11 @@ impl Parts {
     /// no memory.
     pub fn back_to(&mut self, count: u64)
         requires kept { IsKept self.old.arena self.old.work }
-        requires unneeded { (n : NodeId) → count ≤ n.gen_ → Needed self.old.work.graph (main n) → ⊥ }
+        requires unneeded { (p : Point) → count ≤ p.node.gen_ → Needed self.old.work.graph p → ⊥ }
         ensures older { (n : NodeId) → n.gen_ < count → row_at self.new.arena n ≡ row_at self.old.arena n }
         ensures dropped { (n : NodeId) → count ≤ n.gen_ → row_at self.new.arena n ≡ None }
         ensures given { self.new.arena.given ≡ self.old.arena.given }
-        ensures rows { (n : NodeId) → n.gen_ < count
-            → at self.new.work.rows (main n) ≡ at self.old.work.rows (main n) }
+        ensures rows { (p : Point) → p.node.gen_ < count → at self.new.work.rows p ≡ at self.old.work.rows p }
         ensures cutoffs { (n : NodeId) → n.gen_ < count → never_at self.new.work n ≡ never_at self.old.work n }
         ensures fewer_cutoffs { (n : NodeId) → never_at self.new.work n ≡ true → never_at self.old.work n ≡ true }
         ensures links { self.new.work.graph.links ≡ self.old.work.graph.links }
@@ -222,17 +223,18 @@ impl Parts {
         while let Some(id) = self.arena.first_since(count) {
             self.drop_node(id);
         }
+        self.work.forget_since(count);
     }
 
     /// Drops a node that isn't needed.
     fn drop_node(&mut self, id: NodeId)
         requires live { IsLive self.old.arena id }
         requires kept { IsKept self.old.arena self.old.work }
-        requires unneeded { Needed self.old.work.graph (main id) → ⊥ }
+        requires unneeded { (p : Point) → p.node ≡ id → Needed self.old.work.graph p → ⊥ }
         ensures dropped { Changes self.old.arena self.new.arena id None }
         ensures live { live self.new.arena + 1 ≡ live self.old.arena }
         ensures given { self.new.arena.given ≡ self.old.arena.given }
-        ensures row { points.Changes self.old.work.rows self.new.work.rows (main id) None }
+        ensures rows { ChangesNode self.old.work.rows self.new.work.rows id (λ part. None) }
         ensures links { self.new.work.graph.links ≡ self.old.work.graph.links }
         ensures roots { self.new.work.graph.roots ≡ self.old.work.graph.roots }
         ensures heap { self.new.work.graph.heap ≡ self.old.work.graph.heap }
@@ -242,7 +244,7 @@ impl Parts {
             → IsReady F self.new.arena self.new.work }
     {
         self.arena.drop_node(id);
-        self.work.drop_point(main_point(id));
+        self.work.drop_node(id);
         self.work.graph.stands();
     }
 
@@ -259,30 +261,4 @@ impl Parts {
     {
         &self.ran
     }
-}
-
-/// Puts a point that is needed into the heap.
-fn mark(graph: &mut NecessaryGraph, p: Point)
-    ensures marked { IsMarked graph.old graph.new p }
-    ensures step { IsInStep graph.new }
-{
-    if graph.is_needed(p) {
-        graph.insert(p);
-    }
-    graph.stands();
-}
-
-/// A height above those of the nodes that are there, where there is one. A point that is made at it needn't be lifted when
-/// it is linked.
-fn height_over(graph: &NecessaryGraph, kids: &[NodeId]) -> u32
-    ensures { result ≤ 128 }
-{
-    let mut height = 0;
-    for kid in kids {
-        let p = main_point(*kid);
-        if graph.is_there(p) {
-            height = height.max(graph.height(p) + 1);
-        }
-    }
-    height.min(128)
 }

@@ -2,28 +2,30 @@
 ghost use Rattle.std.specs.Prelude.{◌≡◌, ◌++◌, [], None, List, map, All};
 ghost use Rattle.std.specs.Prelude.{IfOk, OnOk, OnErr, IfErr, IsTrue, IsFalse};
 ghost use Rattle.inc_value.specs.declared.node.NodeId.{NodeId};
-ghost use Rattle.inc_terms.specs.Depend.{main};
+ghost use Rattle.inc_terms.specs.Depend.{main, change};
 ghost use Rattle.inc_terms.specs.Within.{Given};
 ghost use Rattle.point_map.specs.Rows.{at, Holds};
 ghost use Rattle.stabilize_round.specs.Calling.{costs_of};
 ghost use Rattle.stabilize_round.specs.Counts.{RoseBy};
+ghost use Rattle.necessity.specs.Need.{KeepsRoots};
+ghost use Rattle.necessary_graph.specs.Part.{IsInStep};
 ghost use Rattle.recompute_heap.specs.Agree.{IsEmpty};
+ghost use Rattle.necessary_graph.specs.Part.{Needed};
 ghost use Rattle.node_arena.specs.Graph.{graph_of, AllCallFit};
 ghost use Rattle.stabilizer.specs.Kept.{IsKept};
-ghost use Rattle.node_outcomes.specs.Computing.{KeepsFunctions};
 ghost use Rattle.node_outcomes.specs.Meaning.{functions_of, lists_none};
-ghost use Rattle.stabilizer.specs.Refusing.{TellsWhy};
-ghost use Rattle.stabilizer.specs.Round.{IsReady, AreRooted, IsUpToDate, IsLawful, HasCalledFew};
+ghost use Rattle.node_outcomes.specs.Computing.{KeepsFunctions};
+ghost use Rattle.stabilizer.specs.Round.{IsReady, AreRooted, IsUpToDate, IsLawful, LeavesTried, HasCalledFew};
 ghost use Rattle.stabilizer.specs.Round.{IsInRound, RootsMore, OnlyRoots, Settles, SettleRefused};
-ghost use Rattle.stabilizer.specs.Stepping.{MainIsSettled, MainIsLeft, Steps, StepRefused, SettlesOne};
-ghost use Rattle.stabilizer.specs.Wiring.{Wires, WireRefused};
+ghost use Rattle.stabilizer.specs.Stepping.{MainIsSettled, MainIsLeft, ChangeIsSettled, ChangeIsLeft, Steps, StepRefused, StepFalls};
+ghost use Rattle.stabilizer.specs.Wiring.{PutsRoots, RootRefused, KeepsPlaces};
 
 use crate::parts::Parts;
 use crate::refused::Refused;
 use crate::work::Work;
-use inc_value::{NodeId, Point};
+use inc_value::{NodeId, Part, Point};
 use node_arena::{Arena, Functions};
-use node_outcomes::{compute, main_point};
+use node_outcomes::{change_point, compute, main_point, shown};
 use std::alloc::AllocError;
 use std::mem;
 
@@ -41,15 +43,15 @@ impl Stabilizer {
         ensures empty { IfOk result (λ more. IsFalse more → IsEmpty parts.old.work.graph.heap) }
         ensures unchanged { IfOk result (λ more. IsFalse more → parts.new ≡ parts.old) }
         ensures uncalled { IfOk result (λ more. IsFalse more → F.calls functions.new ≡ F.calls functions.old) }
-        ensures refused { OnErr result (StepRefused parts.old.arena parts.old.work parts.new.work
-            (F.calls functions.old) (F.calls functions.new)) }
-        ensures memory { IfErr result (λ e. e ≡ Refused.Memory) }
+        ensures refused { IfErr result (StepRefused (functions_of (F.value functions.old)) parts.old.arena parts.old.work
+            parts.new.work (F.calls functions.old) (F.calls functions.new)) }
         ensures arena { parts.new.arena ≡ parts.old.arena }
         ensures kept { IsKept parts.new.arena parts.new.work }
-        ensures quiet { parts.new.work.todo.items ≡ [] }
-        ensures settled_one { IfOk result (λ more. IsTrue more → SettlesOne (functions_of (F.value functions.old))
+        ensures quiet { OnOk result (parts.new.work.todo.items ≡ []) }
+        ensures falls { IfOk result (λ more. IsTrue more → StepFalls (functions_of (F.value functions.old))
             parts.old.arena parts.old.work parts.new.work (F.calls functions.old)) }
-        ensures roots { parts.new.work.graph.roots ≡ parts.old.work.graph.roots }
+        ensures places { KeepsPlaces parts.old.work parts.new.work }
+        ensures roots { KeepsRoots parts.old.work.graph.roots parts.new.work.graph.roots }
         ensures round { parts.new.work.round ≡ parts.old.work.round }
         ensures ran { parts.new.ran ≡ parts.old.ran }
         ensures functions { KeepsFunctions (F.named functions.old) (F.named functions.new)
@@ -58,12 +60,18 @@ impl Stabilizer {
         let Some(p) = parts.work.graph.pop_least() else {
             return Ok(false);
         };
-        match step_main(parts, functions, p) {
-            Ok(()) => Ok(true),
-            Err(refused) => {
-                parts.work.graph.insert(p);
-                Err(refused)
+        match p.part {
+            Part::Change => {
+                step_change(parts, p.node)?;
+                Ok(true)
             }
+            Part::Main => match step_main(parts, functions, p.node) {
+                Ok(()) => Ok(true),
+                Err(refused) => {
+                    parts.work.graph.insert(p);
+                    Err(refused)
+                }
+            },
         }
     }
 
@@ -85,6 +93,7 @@ impl Stabilizer {
         ensures lawful { IfErr result (λ e. (observed : List NodeId) → AreRooted parts.old.work observed
             → IsLawful (functions_of (F.value functions.old)) parts.old.arena parts.old.work
             (roots.now ++ observed) e) }
+        ensures tried { IfErr result (LeavesTried parts.new.arena parts.new.work) }
         ensures few { OnErr result (HasCalledFew parts.old.arena (F.calls functions.old) (F.calls functions.new)) }
         ensures ran { OnErr result (parts.new.ran ≡ parts.old.ran) }
         ensures arena { parts.new.arena ≡ parts.old.arena }
@@ -109,9 +118,9 @@ fn put_roots(work: &mut Work, arena: &Arena, roots: &[NodeId]) -> Result<(), Ref
     requires given { All (Given arena.now.given) roots.now }
     ensures rooted { OnOk result (RootsMore work.old.graph.roots work.new.graph.roots (map main roots.now)) }
     ensures roots { OnlyRoots work.old.graph.roots work.new.graph.roots (map main roots.now) }
-    ensures wired { OnOk result (Wires arena.now work.old work.new None) }
-    ensures refused { OnErr result (WireRefused arena.now work.old work.new None) }
-    ensures told { IfErr result (TellsWhy arena.now work.new) }
+    ensures wired { OnOk result (PutsRoots arena.now work.old work.new) }
+    ensures refused { IfErr result (RootRefused arena.now work.old work.new) }
+    ensures step { OnErr result (IsInStep work.new.graph) }
     ensures quiet { OnOk result (work.new.todo.items ≡ []) }
     ensures round { work.new.round ≡ work.old.round }
     ensures kept { OnOk result (IsKept arena.now work.new) }
@@ -132,13 +141,12 @@ fn settle_all<F: Functions>(parts: &mut Parts, functions: &mut F) -> Result<(), 
     ensures settled { OnOk result (Settles (functions_of (F.value functions.old)) parts.old.arena
         parts.old.work parts.new.work (F.calls functions.old) (F.calls functions.new)) }
     ensures empty { OnOk result (IsEmpty parts.new.work.graph.heap) }
-    ensures refused { OnErr result (SettleRefused (functions_of (F.value functions.old)) parts.old.arena parts.old.work
-        (F.calls functions.old) (F.calls functions.new)) }
-    ensures memory { IfErr result (λ e. e ≡ Refused.Memory) }
+    ensures refused { IfErr result (SettleRefused (functions_of (F.value functions.old)) parts.old.arena parts.old.work
+        parts.new.work (F.calls functions.old) (F.calls functions.new)) }
     ensures arena { parts.new.arena ≡ parts.old.arena }
     ensures kept { IsKept parts.new.arena parts.new.work }
-    ensures quiet { parts.new.work.todo.items ≡ [] }
-    ensures roots { parts.new.work.graph.roots ≡ parts.old.work.graph.roots }
+    ensures quiet { OnOk result (parts.new.work.todo.items ≡ []) }
+    ensures roots { KeepsRoots parts.old.work.graph.roots parts.new.work.graph.roots }
     ensures round { parts.new.work.round ≡ parts.old.work.round }
     ensures ran { parts.new.ran ≡ parts.old.ran }
     ensures functions { KeepsFunctions (F.named functions.old) (F.named functions.new)
@@ -149,14 +157,18 @@ fn settle_all<F: Functions>(parts: &mut Parts, functions: &mut F) -> Result<(), 
 }
 
 /// Settles a main that was taken from the heap.
-fn step_main<F: Functions>(parts: &mut Parts, functions: &mut F, p: Point) -> Result<(), Refused>
+fn step_main<F: Functions>(
+    parts: &mut Parts,
+    functions: &mut F,
+    node: NodeId,
+) -> Result<(), Refused>
     requires kept { IsKept parts.old.arena parts.old.work }
-    requires row { Holds parts.old.work.rows p }
-    requires taken { at parts.old.work.graph.heap p ≡ None }
+    requires row { Holds parts.old.work.rows (main node) }
+    requires taken { at parts.old.work.graph.heap (main node) ≡ None }
     requires fit { AllCallFit (F.known functions.old) lists_none parts.old.arena }
     ensures settled { OnOk result (MainIsSettled (F.value functions.old) parts.old.arena parts.old.work parts.new.work
-        p.node (F.calls functions.old) (F.calls functions.new)) }
-    ensures refused { OnErr result (MainIsLeft parts.old.arena parts.old.work parts.new.work p.node
+        node (F.calls functions.old) (F.calls functions.new)) }
+    ensures refused { OnErr result (MainIsLeft parts.old.arena parts.old.work parts.new.work node
         (F.calls functions.old) (F.calls functions.new)) }
     ensures memory { IfErr result (λ e. e ≡ Refused.Memory) }
     ensures arena { parts.new.arena ≡ parts.old.arena }
@@ -172,13 +184,47 @@ fn step_main<F: Functions>(parts: &mut Parts, functions: &mut F, p: Point) -> Re
         &mut parts.work.ran,
         parts.work.round,
         functions,
-        p.node,
+        node,
     );
     match computed {
         Ok(outcome) => {
-            parts.work.settle(p, outcome);
+            parts.work.settle(main_point(node), outcome);
             Ok(())
         }
         Err(AllocError) => Err(Refused::Memory),
     }
+}
+
+/// Settles a change that was taken from the heap: with another outcome of its subject than before its main loses its
+/// right side. A main that waits for it gets the right side that it chooses now.
+fn step_change(parts: &mut Parts, node: NodeId) -> Result<(), Refused>
+    requires kept { IsKept parts.old.arena parts.old.work }
+    requires row { Holds parts.old.work.rows (change node) }
+    requires needed { Needed parts.old.work.graph (change node) }
+    requires taken { at parts.old.work.graph.heap (change node) ≡ None }
+    requires quiet { parts.old.work.todo.items ≡ [] }
+    ensures settled { OnOk result (ChangeIsSettled parts.old.arena parts.old.work parts.new.work node) }
+    ensures refused { IfErr result (ChangeIsLeft parts.old.arena parts.old.work parts.new.work node) }
+    ensures arena { parts.new.arena ≡ parts.old.arena }
+    ensures ran { parts.new.ran ≡ parts.old.ran }
+    ensures kept { IsKept parts.new.arena parts.new.work }
+    ensures quiet { OnOk result (parts.new.work.todo.items ≡ []) }
+    ensures places { KeepsPlaces parts.old.work parts.new.work }
+{
+    parts.arena.is_sound();
+    let Some(row) = parts.arena.get(node) else {
+        return Ok(());
+    };
+    let Some(subject) = row.def.subject() else {
+        return Ok(());
+    };
+    match shown(parts.alloc, &parts.work.rows, subject) {
+        Ok(given) => parts.work.turn(node, &row.def, given),
+        Err(AllocError) => {
+            parts.work.graph.insert(change_point(node));
+            return Err(Refused::Memory);
+        }
+    }
+    parts.work.attach_right(&parts.arena, node)?;
+    parts.work.wire(&parts.arena)
 }

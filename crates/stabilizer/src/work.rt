@@ -1,20 +1,35 @@
 //! What a stabilize works on beside the nodes: who is needed, how far each point has come, and what is to be done.
-ghost use Rattle.std.specs.Prelude.{◌≡◌, ◌≢◌, ◌↔◌, ◌<◌, ◌≤◌, [], None, Some, IsTrue, IsFalse};
+ghost use Rattle.std.specs.Prelude.{◌≡◌, ◌≢◌, ◌↔◌, ◌<◌, ◌≤◌, ◌++◌, ℕ, [], ◌∷◌, None, Some, IsSome, IsTrue, IsFalse};
 ghost use Rattle.std.specs.Prelude.{IfOk, OnOk, OnErr, vec_len, vec_capacity};
-ghost use Rattle.inc_value.specs.declared.node.Point.{Point};
+ghost use Rattle.inc_value.specs.Choice.{Among};
+ghost use Rattle.inc_value.specs.declared.node.NodeId.{NodeId as ANode};
+ghost use Rattle.inc_value.specs.declared.node.Part.{Part};
+ghost use Rattle.inc_value.specs.declared.node.Point.{Point, Point as APoint};
+ghost use Rattle.inc_terms.specs.Code.{def_of};
+ghost use Rattle.inc_terms.specs.Depend.{main, change, subject_of};
 ghost use Rattle.point_map.specs.Rows.{at, Holds, Changes, KeepsRows};
 ghost use Rattle.link_table.specs.Links.{times};
 ghost use Rattle.recompute_heap.specs.Agree.{IsEmpty};
 ghost use Rattle.necessity.specs.Need.{root_times};
 ghost use Rattle.necessary_graph.specs.Part.{Needed, IsInStep};
+ghost use Rattle.node_outcomes.specs.Choosing.{right_in};
 ghost use Rattle.node_outcomes.specs.Row.{IsRewritten, with_outcome};
+ghost use Rattle.stabilizer.specs.Kept.{IsKept};
+ghost use Rattle.stabilizer.specs.Places.{ChangesNode, for_parts, pairs_with};
+ghost use Rattle.stabilizer.specs.Turning.{IsAttached, IsWaiting, IsLoosened, HasTurned};
 ghost use Rattle.stabilizer.specs.Wiring.{KeepsGraph, KeepsRound, IsEnqueued, AreEnqueued, IsTold, IsWoken, Looks};
+ghost use Rattle.stabilizer.specs.Wiring.{IsMarked, IsSpared, TakesOff, TakesOne, IsConfirmedAt, KeepsPlaces};
 
 use crate::settled::Settled;
+use inc_terms::Def;
 use inc_value::{NodeId, Outcome, Point};
 use map_nodes::Cutoff;
 use necessary_graph::NecessaryGraph;
-use node_outcomes::{Progress, Stage, set_outcome, set_stage, unsettled, was_settled};
+use node_arena::Arena;
+use node_outcomes::{
+    Progress, Stage, change_point, is_full, is_static, main_point, ran_with, right_side,
+    set_outcome, set_stage, unsettled, was_settled,
+};
 use point_map::PointMap;
 use std::alloc::{AllocError, Global};
 
@@ -25,6 +40,8 @@ pub(crate) struct Work {
     pub graph: NecessaryGraph,
     /// A row for each point of a live node.
     pub rows: PointMap<Progress>,
+    /// The nodes of two points, all live ones among them.
+    pub pairs: Vec<NodeId>,
     /// Points that are newly needed and have no links yet.
     pub todo: Vec<Point>,
     /// The nodes whose functions were called in this round, in order.
@@ -45,12 +62,14 @@ impl Work {
         ensures heap { IfOk result (λ w. IsEmpty w.graph.heap) }
         ensures todo { IfOk result (λ w. w.todo.items ≡ []) }
         ensures ran { IfOk result (λ w. w.ran.items ≡ []) }
+        ensures pairs { IfOk result (λ w. w.pairs.items ≡ []) }
         ensures round { IfOk result (λ w. w.round ≡ 1) }
         ensures strict { IfOk result (λ w. IsFalse w.strict) }
     {
         Ok(Work {
             graph: NecessaryGraph::new(alloc)?,
             rows: PointMap::new(alloc),
+            pairs: Vec::new(alloc),
             todo: Vec::new(alloc),
             ran: Vec::new(alloc),
             strict: false,
@@ -81,6 +100,93 @@ impl Work {
         Ok(())
     }
 
+    /// Adds the points of a new node that is so defined: its main, and a change where it has a subject.
+    pub fn add_node(&mut self, node: NodeId, def: &Def) -> Result<(), AllocError>
+        requires no_main { (at self.old.graph.heights (main node) ≡ None) × (at self.old.rows (main node) ≡ None) }
+        requires no_change { (at self.old.graph.heights (change node) ≡ None) × (at self.old.rows (change node) ≡ None) }
+        ensures rows { OnOk result (ChangesNode self.old.rows self.new.rows node (for_parts (def_of def.now) (λ part.
+            record { stage = Stage.Bare; settled = 0; outcome = None; last = None; cutoff = Cutoff.Equal }))) }
+        ensures added { OnOk result ((h : Part → ℕ)
+            × ChangesNode self.old.graph.heights self.new.graph.heights node (for_parts (def_of def.now) h)) }
+        ensures pairs { OnOk result (self.new.pairs.items ≡ pairs_with (def_of def.now) self.old.pairs.items node) }
+        ensures err { OnErr result (KeepsRows self.old.rows self.new.rows) }
+        ensures err_heights { OnErr result (KeepsRows self.old.graph.heights self.new.graph.heights) }
+        ensures err_pairs { OnErr result (self.new.pairs.items ≡ self.old.pairs.items) }
+        ensures links { self.new.graph.links ≡ self.old.graph.links }
+        ensures roots { self.new.graph.roots ≡ self.old.graph.roots }
+        ensures heap { KeepsRows self.old.graph.heap self.new.graph.heap }
+        ensures todo { self.new.todo ≡ self.old.todo }
+        ensures round { KeepsRound self.old self.new }
+    {
+        match def.subject() {
+            Some(subject) => {
+                let height = height_over(&self.graph, &[subject]);
+                self.add_pair(node, height)
+            }
+            None => {
+                let height = height_over(&self.graph, def.kids());
+                self.add(main_point(node), height)
+            }
+        }
+    }
+
+    /// Adds both points of a new node of two points, the main over the change where there is a height for it.
+    fn add_pair(&mut self, node: NodeId, height: u32) -> Result<(), AllocError>
+        requires low { height ≤ 128 }
+        requires no_main { (at self.old.graph.heights (main node) ≡ None) × (at self.old.rows (main node) ≡ None) }
+        requires no_change { (at self.old.graph.heights (change node) ≡ None) × (at self.old.rows (change node) ≡ None) }
+        ensures rows { OnOk result (ChangesNode self.old.rows self.new.rows node (λ part. Some (
+            record { stage = Stage.Bare; settled = 0; outcome = None; last = None; cutoff = Cutoff.Equal }))) }
+        ensures added { OnOk result ((h : Part → ℕ)
+            × ChangesNode self.old.graph.heights self.new.graph.heights node (λ part. Some (h part))) }
+        ensures pairs { OnOk result (self.new.pairs.items ≡ self.old.pairs.items ++ node ∷ []) }
+        ensures err { OnErr result (KeepsRows self.old.rows self.new.rows) }
+        ensures err_heights { OnErr result (KeepsRows self.old.graph.heights self.new.graph.heights) }
+        ensures err_pairs { OnErr result (self.new.pairs.items ≡ self.old.pairs.items) }
+        ensures links { self.new.graph.links ≡ self.old.graph.links }
+        ensures roots { self.new.graph.roots ≡ self.old.graph.roots }
+        ensures heap { KeepsRows self.old.graph.heap self.new.graph.heap }
+        ensures todo { self.new.todo ≡ self.old.todo }
+        ensures round { KeepsRound self.old self.new }
+    {
+        self.graph.stands();
+        self.pairs.reserve(1)?;
+        self.add(change_point(node), height)?;
+        match self.add(main_point(node), (height + 1).min(128)) {
+            Ok(()) => {
+                self.pairs.push_reserved(node);
+                Ok(())
+            }
+            Err(fault) => {
+                self.drop_point(change_point(node));
+                Err(fault)
+            }
+        }
+    }
+
+    /// Drops the points of a node that died. None of them is needed.
+    pub fn drop_node(&mut self, node: NodeId)
+        requires main { Holds self.old.graph.heights (main node) × Holds self.old.rows (main node) }
+        requires change { Holds self.old.rows (change node) → Holds self.old.graph.heights (change node) }
+        requires unneeded { (p : APoint) → p.node ≡ node → Needed self.old.graph p → ⊥ }
+        requires no_change { at self.old.rows (change node) ≡ None → at self.old.graph.heights (change node) ≡ None }
+        ensures rows { ChangesNode self.old.rows self.new.rows node (λ part. None) }
+        ensures dropped { ChangesNode self.old.graph.heights self.new.graph.heights node (λ part. None) }
+        ensures links { self.new.graph.links ≡ self.old.graph.links }
+        ensures roots { self.new.graph.roots ≡ self.old.graph.roots }
+        ensures heap { self.new.graph.heap ≡ self.old.graph.heap }
+        ensures step { IsInStep self.new.graph }
+        ensures rest { self.new ≡ record self.old { graph = self.new.graph; rows = self.new.rows } }
+        ensures todo { self.new.todo ≡ self.old.todo }
+        ensures round { KeepsRound self.old self.new }
+    {
+        self.drop_point(main_point(node));
+        let own = change_point(node);
+        if self.rows.holds(own) {
+            self.drop_point(own);
+        }
+    }
+
     /// Drops a point of a node that died. It isn't needed.
     pub fn drop_point(&mut self, p: Point)
         requires there { Holds self.old.graph.heights p }
@@ -99,6 +205,14 @@ impl Work {
         self.graph.drop_point(p);
         self.graph.stands();
         drop(self.rows.remove(p));
+    }
+
+    /// Nodes of two points whose ids were given since the count are listed no more.
+    pub fn forget_since(&mut self, count: u64)
+        ensures kept { (n : ANode) → n.gen_ < count → Among n self.old.pairs.items → Among n self.new.pairs.items }
+        ensures rest { self.new ≡ record self.old { pairs = self.new.pairs } }
+    {
+        self.pairs.retain(|node| node.gen_ < count);
     }
 
     /// Puts a needed point into the heap, unless it was settled.
@@ -128,6 +242,107 @@ impl Work {
         let stopped = set_outcome(&mut self.rows, p, outcome, self.round);
         if !stopped {
             self.enqueue_readers(p);
+        }
+        self.graph.stands();
+    }
+
+    /// Settles a node's change on an outcome of its subject. Where it is another than before, a main with a right side
+    /// loses it, and is to be recomputed. This takes no memory.
+    pub fn turn(&mut self, node: NodeId, def: &Def, given: Outcome)
+        requires there { Holds self.old.rows (change node) }
+        ensures { HasTurned self.old self.new node (right_in self.old.rows node (def_of def.now)) given }
+    {
+        if !ran_with(&self.rows, node, &given) && self.is_attached(node) {
+            self.drop_right(node, def);
+        }
+        set_outcome(&mut self.rows, change_point(node), given, self.round);
+    }
+
+    /// Whether a node's main is needed and has all its links.
+    fn is_attached(&self, node: NodeId) -> bool
+        ensures { IsTrue result ↔ IsAttached self.now node }
+    {
+        let p = main_point(node);
+        self.graph.is_needed(p) && is_full(&self.rows, p)
+    }
+
+    /// Whether a node's main is needed and waits for the node's change.
+    pub fn is_waiting(&self, node: NodeId) -> bool
+        ensures { IsTrue result ↔ IsWaiting self.now node }
+    {
+        let p = main_point(node);
+        self.graph.is_needed(p) && is_static(&self.rows, p)
+    }
+
+    /// Takes a node's main's right side off, for which it waits again. The main is to be recomputed.
+    fn drop_right(&mut self, node: NodeId, def: &Def)
+        requires attached { IsAttached self.old node }
+        ensures loosened { IsLoosened self.old self.new node (right_in self.old.rows node (def_of def.now)) }
+        ensures step { IsInStep self.new.graph }
+    {
+        let p = main_point(node);
+        self.enqueue(p);
+        set_stage(&mut self.rows, p, Stage::Static);
+        if let Some(target) = right_side(&self.rows, node, def) {
+            let q = main_point(target);
+            if self.graph.reads(p, q) {
+                self.graph.unlink(p, q);
+            }
+        }
+        self.graph.stands();
+    }
+
+    /// Takes the right sides off that weren't confirmed by their node's change in this round, and puts these changes into
+    /// the heap. From now on refusals are final. This takes no memory.
+    pub fn take_off_unconfirmed(&mut self, arena: &Arena)
+        requires kept { IsKept arena.now self.old }
+        ensures taken { TakesOff arena.now self.old self.new }
+        ensures strict { IsTrue self.new.strict }
+        ensures kept { IsKept arena.now self.new }
+        ensures places { KeepsPlaces self.old self.new }
+        ensures todo { self.new.todo ≡ self.old.todo }
+        ensures spared { (p : APoint) → IsSpared arena.now self.old p → at self.new.rows p ≡ at self.old.rows p }
+    {
+        for i in 0..self.pairs.len() {
+            let node = self.pairs[i];
+            self.take_off(arena, node);
+        }
+        self.strict = true;
+    }
+
+    /// Takes a node's right side off, if its change didn't run in this round, and puts the change into the heap.
+    fn take_off(&mut self, arena: &Arena, node: NodeId)
+        requires kept { IsKept arena.now self.old }
+        ensures kept { IsKept arena.now self.new }
+        ensures places { KeepsPlaces self.old self.new }
+        ensures taken { TakesOne arena.now self.old self.new }
+        ensures less { (p : APoint) → Needed self.new.graph p → Needed self.old.graph p }
+        ensures confirmed { IsConfirmedAt arena.now self.new node }
+        ensures fewer { (n : ANode) → IsConfirmedAt arena.now self.old n → IsConfirmedAt arena.now self.new n }
+        ensures spared { (p : APoint) → IsSpared arena.now self.old p → at self.new.rows p ≡ at self.old.rows p }
+        ensures rest { self.new ≡ record self.old { graph = self.new.graph; rows = self.new.rows } }
+    {
+        let Some(row) = arena.get(node) else {
+            return;
+        };
+        let own = change_point(node);
+        if self.is_attached(node)
+            && !was_settled(&self.rows, own, self.round)
+            && right_side(&self.rows, node, &row.def).is_some()
+        {
+            self.schedule(own);
+            self.drop_right(node, &row.def);
+        }
+    }
+
+    /// Puts a needed point into the heap, also one that was settled.
+    pub fn schedule(&mut self, p: Point)
+        ensures scheduled { IsMarked self.old.graph self.new.graph p }
+        ensures step { IsInStep self.new.graph }
+        ensures rest { self.new ≡ record self.old { graph = self.new.graph } }
+    {
+        if self.graph.is_needed(p) {
+            self.graph.insert(p);
         }
         self.graph.stands();
     }
@@ -204,10 +419,26 @@ impl Work {
         ensures round { self.new.round ≡ next }
         ensures graph { self.new.graph ≡ self.old.graph }
         ensures rows { self.new.rows ≡ self.old.rows }
+        ensures pairs { self.new.pairs ≡ self.old.pairs }
         ensures todo { self.new.todo ≡ self.old.todo }
     {
         self.ran.clear();
         self.strict = false;
         self.round = next;
     }
+}
+
+/// A height above those of the nodes that are there, where there is one. A point that is made at it needn't be lifted when
+/// it is linked.
+fn height_over(graph: &NecessaryGraph, kids: &[NodeId]) -> u32
+    ensures { result ≤ 128 }
+{
+    let mut height = 0;
+    for kid in kids {
+        let p = main_point(*kid);
+        if graph.is_there(p) {
+            height = height.max(graph.height(p) + 1);
+        }
+    }
+    height.min(128)
 }

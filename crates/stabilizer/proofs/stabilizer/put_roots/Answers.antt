@@ -5,7 +5,8 @@ use Rattle.inc_value.specs.declared.node.Point.{Point}
 use Rattle.necessity.specs.Need.{OneRootMore, root_times}
 use Rattle.inc_terms.specs.Depend.{main}
 use Rattle.stabilizer.specs.Round.{RootsMore}
-use Rattle.stabilizer.proofs.Rounding.{on_err, none_put, one_put, put_refused, roots_tried, roots_only}
+use Rattle.stabilizer.specs.Wiring.{RootRefused}
+use Rattle.stabilizer.proofs.Rounding.{exit_is, none_put, one_put, put_refused, roots_tried, roots_only}
 use Rattle.stabilizer.proofs.stabilizer.put_roots.Goals as goal
 
 abbrev other : NodeId
@@ -23,8 +24,9 @@ loop-node-preserved c =
 
 pub returns-in_err-put_root-clause-refused : goal.returns-in_err-put_root-clause-refused
 returns-in_err-put_root-clause-refused c =
-    on_err c.from_residual.result
-    (put_refused c.args.arena.now c.args.work.now c.loop-node.work c.put_root.new.self c.loop-node.invariant.wired c.in_err-put_root.ensures.refused)
+    exit_is c.from_residual.result c.in_err-put_root.field-0.0 (RootRefused c.args.arena.now c.args.work.now c.put_root.new.self) c.from_residual.ensures.1
+    (put_refused c.args.arena.now c.args.work.now c.loop-node.work c.put_root.new.self c.in_err-put_root.field-0.0 c.loop-node.invariant.wired
+    c.in_err-put_root.ensures.refused)
 
 pub returns-in_err-put_root-clause-roots : goal.returns-in_err-put_root-clause-roots
 returns-in_err-put_root-clause-roots c =

@@ -1,7 +1,8 @@
 use Rattle.std.proofs.Common.{refl, ◌∙◌}
 use Rattle.node_outcomes.proofs.Computing.{functions_on}
 use Rattle.node_outcomes.specs.Meaning.{functions_of}
-use Rattle.stabilizer.proofs.Rounding.{on_err, no_step, one_more, next_step, step_stops, fewer_left}
+use Rattle.stabilizer.specs.Round.{SettleRefused}
+use Rattle.stabilizer.proofs.Rounding.{exit_is, no_step, next_step, less_left, step_stops}
 use Rattle.stabilizer.proofs.stabilizer.settle_all.Goals as goal
 
 pub loop-init : goal.loop-init
@@ -20,23 +21,27 @@ loop-preserved g c = record {
   so = next_step (g.F.Functions.value c.args.functions.now) (g.F.Functions.value c.loop.functions) c.loop.invariant.functions.values c.args.parts.now.arena
       c.loop.parts.arena c.loop.invariant.arena c.step.new.parts.arena c.args.parts.now.work c.loop.parts.work c.step.new.parts.work
       (g.F.Functions.calls c.args.functions.now) (g.F.Functions.calls c.loop.functions) (g.F.Functions.calls c.step.new.functions)
-      c.requires.in_round c.loop.invariant.so c.step.ensures.arena c.step.ensures.kept c.step.ensures.quiet
-      (c.in_ok-step.ensures.stepped c.if-branch.true) c.step.ensures.roots c.step.ensures.round (c.in_ok-step.ensures.settled_one c.if-branch.true);
+      c.loop.invariant.so c.step.ensures.arena c.step.ensures.kept c.in_ok-step.ensures.quiet
+      (c.in_ok-step.ensures.stepped c.if-branch.true) c.step.ensures.places;
   functions = functions_on c.loop.invariant.functions c.step.ensures.functions;
 }
 
 pub loop-smaller : goal.loop-smaller
-loop-smaller g c = fewer_left c.args.parts.now.work c.loop.parts.work c.step.new.parts.work c.args.parts.now.work.round c.loop.invariant.so.round
-    c.loop.invariant.so.there
-    (one_more (g.F.Functions.value c.args.functions.now) (g.F.Functions.value c.loop.functions) c.loop.invariant.functions.values c.args.parts.now.arena
+loop-smaller g c =
+    less_left (g.F.Functions.value c.args.functions.now) (g.F.Functions.value c.loop.functions) c.loop.invariant.functions.values c.args.parts.now.arena
     c.loop.parts.arena c.loop.invariant.arena c.args.parts.now.work c.loop.parts.work c.step.new.parts.work (g.F.Functions.calls c.args.functions.now)
-    (g.F.Functions.calls c.loop.functions) c.requires.in_round c.loop.invariant.so (c.in_ok-step.ensures.settled_one c.if-branch.true))
+    (g.F.Functions.calls c.loop.functions) c.requires.in_round c.loop.invariant.so (c.in_ok-step.ensures.falls c.if-branch.true)
 
 pub returns-in_err-step-clause-refused : goal.returns-in_err-step-clause-refused
-returns-in_err-step-clause-refused g c = on_err c.from_residual.result
+returns-in_err-step-clause-refused g c =
+    let e = c.in_err-step.field-0.0 in
+    let F = functions_of (g.F.Functions.value c.args.functions.now) in
+    exit_is c.from_residual.result e
+    (SettleRefused F c.args.parts.now.arena c.args.parts.now.work c.step.new.parts.work (g.F.Functions.calls c.args.functions.now)
+    (g.F.Functions.calls c.step.new.functions)) c.from_residual.ensures.1
     (step_stops (g.F.Functions.value c.args.functions.now) (g.F.Functions.value c.loop.functions) c.loop.invariant.functions.values c.args.parts.now.arena
     c.loop.parts.arena c.loop.invariant.arena c.args.parts.now.work c.loop.parts.work c.step.new.parts.work
-    (g.F.Functions.calls c.args.functions.now) (g.F.Functions.calls c.loop.functions) (g.F.Functions.calls c.step.new.functions) c.loop.invariant.so
+    (g.F.Functions.calls c.args.functions.now) (g.F.Functions.calls c.loop.functions) (g.F.Functions.calls c.step.new.functions) e c.loop.invariant.so
     c.in_err-step.ensures.refused)
 
 -- ---- what a last step leaves
@@ -47,11 +52,8 @@ returns-in_err-step-clause-arena g c = c.step.ensures.arena ∙ c.loop.invariant
 pub returns-in_err-step-clause-kept : goal.returns-in_err-step-clause-kept
 returns-in_err-step-clause-kept g c = c.step.ensures.kept
 
-pub returns-in_err-step-clause-quiet : goal.returns-in_err-step-clause-quiet
-returns-in_err-step-clause-quiet g c = c.step.ensures.quiet
-
 pub returns-in_err-step-clause-roots : goal.returns-in_err-step-clause-roots
-returns-in_err-step-clause-roots g c = c.step.ensures.roots ∙ c.loop.invariant.so.roots
+returns-in_err-step-clause-roots g c p = c.step.ensures.roots p ∙ c.loop.invariant.so.roots p
 
 pub returns-in_err-step-clause-round : goal.returns-in_err-step-clause-round
 returns-in_err-step-clause-round g c = c.step.ensures.round ∙ c.loop.invariant.so.round
@@ -82,10 +84,10 @@ pub returns-clause-kept : goal.returns-clause-kept
 returns-clause-kept g c = c.step.ensures.kept
 
 pub returns-clause-quiet : goal.returns-clause-quiet
-returns-clause-quiet g c = c.step.ensures.quiet
+returns-clause-quiet g c = c.in_ok-step.ensures.quiet
 
 pub returns-clause-roots : goal.returns-clause-roots
-returns-clause-roots g c = c.step.ensures.roots ∙ c.loop.invariant.so.roots
+returns-clause-roots g c p = c.step.ensures.roots p ∙ c.loop.invariant.so.roots p
 
 pub returns-clause-round : goal.returns-clause-round
 returns-clause-round g c = c.step.ensures.round ∙ c.loop.invariant.so.round

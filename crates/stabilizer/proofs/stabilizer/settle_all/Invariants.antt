@@ -1,7 +1,8 @@
 use Rattle.std.proofs.Common.{◌≡◌}
 use Rattle.node_outcomes.specs.Computing.{KeepsFunctions}
 use Rattle.node_outcomes.specs.Meaning.{functions_of}
-use Rattle.stabilizer.proofs.Rounding.{AreSettled, points_at, unsettled_in}
+use Rattle.stabilizer.specs.Stepping.{left_to_settle}
+use Rattle.stabilizer.proofs.Rounding.{AreSettled, points_at, nodes_at}
 use Rattle.stabilizer.proofs.stabilizer.settle_all.Given as goal
 
 abbrev pub invariant-loop : goal.invariant-loop
@@ -15,4 +16,4 @@ invariant-loop g l = record {
 }
 
 abbrev pub decreases-loop : goal.decreases-loop
-decreases-loop g l = unsettled_in l.fn.parts.work.round l.parts.work.rows (points_at l.fn.parts.work.rows.places)
+decreases-loop g l = left_to_settle l.parts.work (points_at l.fn.parts.work.rows.places) (nodes_at l.fn.parts.work.rows.places)

@@ -1,74 +1,67 @@
-use Rattle.std.proofs.Common.{None, Some, refl, sym, ap, subst}
-use Rattle.inc_value.specs.declared.node.Point.{Point}
-use Rattle.inc_terms.specs.Depend.{main}
-use Rattle.point_map.specs.Rows.{Changes}
+use Rattle.std.proofs.Common.{◌≡◌, refl, sym, subst}
+use Rattle.inc_value.specs.Choice.{Among}
+use Rattle.inc_value.specs.declared.node.NodeId.{NodeId}
+use Rattle.inc_terms.specs.Code.{def_of}
+use Rattle.inc_terms.specs.Depend.{main, subject_of}
+use Rattle.inc_terms.specs.Within.{Given}
+use Rattle.necessary_graph.specs.Part.{IsInStep}
 use Rattle.node_arena.specs.Arena.{Arena}
 use Rattle.stabilizer.specs.Between.{Stays, KeepsWork}
 use Rattle.stabilizer.specs.Kept.{IsKept}
-use Rattle.node_outcomes.specs.Row.{never_in}
+use Rattle.stabilizer.specs.Places.{for_parts}
+use Rattle.stabilizer.specs.Round.{IsReady}
 use Rattle.stabilizer.specs.declared.work.Work.{Work}
+use Rattle.stabilizer.proofs.Adding.{no_row, added_kept, added_stays, back_kept, back_stays, dropped_again}
 use Rattle.stabilizer.proofs.Between.{ready_stays, same_todo}
 use Rattle.stabilizer.proofs.Cutting.{rows_cutoffs, added_cutoffs}
-use Rattle.stabilizer.proofs.Adding.{no_row, unsettled, added_kept, added_stays, back_kept, back_stays, dropped_again}
+use Rattle.stabilizer.proofs.Placing.{unsettled, pair_stays}
 use Rattle.stabilizer.proofs.parts.Parts.add.Goals as goal
 
 -- ---- no memory for what is kept of it
 
+module _ (c : goal.After-drop-in-Err-added) where
+  same : KeepsWork c.args.self.now.work c.add_node-added.new.self
+  same = record {
+    rows = c.in-Err-added.ensures.err;
+    points = c.in-Err-added.ensures.err_heights;
+    links = c.in-Err-added.ensures.links;
+    roots = c.in-Err-added.ensures.roots;
+    heap = c.in-Err-added.ensures.heap;
+    todo = same_todo c.args.self.now.work c.add_node-added.new.self c.in-Err-added.ensures.todo;
+    round = c.in-Err-added.ensures.round;
+  }
+
+  kept_as_before : IsKept c.args.self.now.arena c.add_node-added.new.self
+  kept_as_before = back_kept c.args.self.now.arena c.args.self.now.work c.add_node-added.new.self c.requires.kept same c.stands.ensures
+      (λ n given among. subst (Among n) (sym c.in-Err-added.ensures.err_pairs) among)
+
 pub returns-in-Err-added-clause-kept : goal.returns-in-Err-added-clause-kept
-returns-in-Err-added-clause-kept c =
-    let same : KeepsWork c.args.self.now.work c.add-added.new.self = record {
-      rows = c.in-Err-added.ensures.err;
-      points = c.in-Err-added.ensures.err_heights;
-      links = c.in-Err-added.ensures.links;
-      roots = c.in-Err-added.ensures.roots;
-      heap = c.in-Err-added.ensures.heap;
-      todo = same_todo c.args.self.now.work c.add-added.new.self c.in-Err-added.ensures.todo;
-      round = c.in-Err-added.ensures.round;
-    } in
-    back_kept c.args.self.now.arena c.args.self.now.work c.add-added.new.self c.requires.kept same c.stands.ensures
+returns-in-Err-added-clause-kept c = kept_as_before c
 
 pub returns-in-Err-added-clause-ready : goal.returns-in-Err-added-clause-ready
-returns-in-Err-added-clause-ready c F ready =
-    let same : KeepsWork c.args.self.now.work c.add-added.new.self = record {
-      rows = c.in-Err-added.ensures.err;
-      points = c.in-Err-added.ensures.err_heights;
-      links = c.in-Err-added.ensures.links;
-      roots = c.in-Err-added.ensures.roots;
-      heap = c.in-Err-added.ensures.heap;
-      todo = same_todo c.args.self.now.work c.add-added.new.self c.in-Err-added.ensures.todo;
-      round = c.in-Err-added.ensures.round;
-    } in
-    ready_stays F _ _ _ _ ready
-    (back_kept c.args.self.now.arena c.args.self.now.work c.add-added.new.self c.requires.kept same c.stands.ensures)
-    (back_stays c.args.self.now.arena c.args.self.now.work c.add-added.new.self c.requires.kept same c.stands.ensures)
+returns-in-Err-added-clause-ready c F ready = ready_stays F _ _ _ _ ready (kept_as_before c)
+    (back_stays c.args.self.now.arena c.args.self.now.work c.add_node-added.new.self (same c))
 
-pub returns-in-Err-added-clause-cutoffs : goal.returns-in-Err-added-clause-cutoffs
-returns-in-Err-added-clause-cutoffs c = rows_cutoffs c.args.self.now.work c.add-added.new.self c.in-Err-added.ensures.err
-
--- ---- its point was added
+-- ---- its points were added
 
 module _ (c : goal.In-Ok-insert) where
   abbrev old : Work
   old = c.args.self.now.work
 
   abbrev work : Work
-  work = c.add-added.new.self
-
-  row : Changes old.rows work.rows (main c.next_id-id.result) (Some unsettled)
-  row = subst (λ (p : Point). Changes old.rows work.rows p (Some unsettled)) c.main_point.ensures c.in-Ok.ensures.row
-
-  point : Changes old.graph.heights work.graph.heights (main c.next_id-id.result) (Some c.height_over-height.result)
-  point = subst (λ (p : Point). Changes old.graph.heights work.graph.heights p (Some c.height_over-height.result)) c.main_point.ensures c.in-Ok.ensures.added
+  work = c.add_node-added.new.self
 
   kept : IsKept c.insert.new.self work
-  kept = added_kept c.args.self.now.arena c.insert.new.self old work c.next_id-id.result _ c.height_over-height.result c.requires.kept c.next_id-id.ensures.generation
-      c.in-Ok-insert.ensures.added refl c.in-Ok-insert.ensures.given row point c.in-Ok.ensures.links c.in-Ok.ensures.roots c.in-Ok.ensures.heap
-      c.stands.ensures c.in-Ok.ensures.round (same_todo old work c.in-Ok.ensures.todo)
+  kept = let a = c.in-Ok.ensures in
+      added_kept c.args.self.now.arena c.insert.new.self old work c.next_id-id.result _ a.added.0 c.requires.kept c.next_id-id.ensures.generation
+      c.in-Ok-insert.ensures.added refl c.in-Ok-insert.ensures.given a.rows a.added.1 a.pairs a.links a.roots a.heap c.stands.ensures a.round
+      (same_todo old work a.todo)
 
   stays : Stays c.args.self.now.arena c.insert.new.self old work
-  stays = added_stays c.args.self.now.arena c.insert.new.self old work c.next_id-id.result _ c.height_over-height.result c.requires.kept c.next_id-id.ensures.generation
-      c.in-Ok-insert.ensures.added refl c.in-Ok-insert.ensures.given row point c.in-Ok.ensures.links c.in-Ok.ensures.roots c.in-Ok.ensures.heap
-      c.stands.ensures c.in-Ok.ensures.round (same_todo old work c.in-Ok.ensures.todo)
+  stays = let a = c.in-Ok.ensures in
+      added_stays c.args.self.now.arena c.insert.new.self old work c.next_id-id.result _ a.added.0 c.requires.kept c.next_id-id.ensures.generation
+      c.in-Ok-insert.ensures.added refl c.in-Ok-insert.ensures.given a.rows a.added.1 a.pairs a.links a.roots a.heap c.stands.ensures a.round
+      (same_todo old work a.todo)
 
 pub returns-in-Ok-insert-clause-kept : goal.returns-in-Ok-insert-clause-kept
 returns-in-Ok-insert-clause-kept c = kept c
@@ -77,39 +70,66 @@ pub returns-in-Ok-insert-clause-ready : goal.returns-in-Ok-insert-clause-ready
 returns-in-Ok-insert-clause-ready c F ready = ready_stays F _ _ _ _ ready (kept c) (stays c)
 
 pub returns-in-Ok-insert-clause-cutoffs : goal.returns-in-Ok-insert-clause-cutoffs
-returns-in-Ok-insert-clause-cutoffs c = added_cutoffs (old c) (work c) c.next_id-id.result
-    (no_row c.args.self.now.arena (old c) c.next_id-id.result c.requires.kept c.next_id-id.ensures.generation) (row c)
+returns-in-Ok-insert-clause-cutoffs c = added_cutoffs (old c) (work c) c.next_id-id.result (def_of c.args.def)
+    (no_row c.args.self.now.arena (old c) c.next_id-id.result c.requires.kept c.next_id-id.ensures.generation (main c.next_id-id.result) refl)
+    c.in-Ok.ensures.rows
 
-pub returns-in-Ok-insert-clause-equal : goal.returns-in-Ok-insert-clause-equal
-returns-in-Ok-insert-clause-equal c = ap never_in (row c).changed
+-- ---- no memory for the node: its points are dropped again
 
--- ---- no memory for the node: its point is dropped again
+module _ (c : goal.After-forget_since) where
+  abbrev before : Work
+  before = c.args.self.now.work
 
-dropped : (c : goal.After-drop_point) → KeepsWork c.args.self.now.work c.drop_point.new.self
-dropped c =
-    let old = c.args.self.now.work in
-    let mid = c.add-added.new.self in
-    let work = c.drop_point.new.self in
-    let d = c.drop_point.ensures in
-    dropped_again c.args.self.now.arena old mid c.next_id-id.result c.height_over-height.result c.requires.kept c.next_id-id.ensures.generation
-    (subst (λ (p : Point). Changes old.rows mid.rows p (Some unsettled)) c.main_point.ensures c.in-Ok.ensures.row)
-    (subst (λ (p : Point). Changes old.graph.heights mid.graph.heights p (Some c.height_over-height.result)) c.main_point.ensures c.in-Ok.ensures.added)
-    c.in-Ok.ensures.links c.in-Ok.ensures.roots c.in-Ok.ensures.heap c.in-Ok.ensures.round (same_todo old mid c.in-Ok.ensures.todo) work
-    (subst (λ (p : Point). Changes mid.rows work.rows p None) c.main_point-in-Err-insert.ensures d.row)
-    (subst (λ (p : Point). Changes mid.graph.heights work.graph.heights p None) c.main_point-in-Err-insert.ensures d.dropped)
-    d.links d.roots d.heap d.round (same_todo mid work d.todo)
+  abbrev mid : Work
+  mid = c.add_node-added.new.self
+
+  abbrev after : Work
+  after = c.drop_node.new.self
+
+  abbrev last : Work
+  last = c.forget_since.new.self
+
+  dropped : KeepsWork before after
+  dropped = let a = c.in-Ok.ensures in let d = c.drop_node.ensures in
+      dropped_again c.args.self.now.arena before mid c.next_id-id.result (for_parts (def_of c.args.def) (λ part. unsettled))
+      (for_parts (def_of c.args.def) a.added.0) c.requires.kept c.next_id-id.ensures.generation a.rows a.added.1 a.links a.roots a.heap a.round
+      (same_todo before mid a.todo) after d.rows d.dropped d.links d.roots d.heap d.round (same_todo mid after d.todo)
+
+  forgotten : KeepsWork before last
+  forgotten = subst (KeepsWork before) (sym c.forget_since.ensures.rest) (record {
+    rows = dropped.rows;
+    points = dropped.points;
+    links = dropped.links;
+    roots = dropped.roots;
+    heap = dropped.heap;
+    todo = dropped.todo;
+    round = record { ran = dropped.round.ran; strict = dropped.round.strict; round = dropped.round.round };
+  })
+
+  arena_is : c.insert.new.self ≡ c.args.self.now.arena
+  arena_is = c.in-Err-insert.ensures.err
+
+  -- who was given before is listed still
+  pairs : (n : NodeId) → Given c.args.self.now.arena.given n → Among n before.pairs.items → Among n last.pairs.items
+  pairs n given among =
+      let older : Given c.given.result n = rw (c.given.ensures, arena_is) given in
+      let now : Among n mid.pairs.items = subst (Among n) (sym c.in-Ok.ensures.pairs)
+      (pair_stays (subject_of (def_of c.args.def)) before.pairs.items c.next_id-id.result n among) in
+      c.forget_since.ensures.kept n older (subst (λ (w : Work). Among n w.pairs.items) (sym c.drop_node.ensures.rest) now)
+
+  still_kept : IsKept c.args.self.now.arena last
+  still_kept = back_kept c.args.self.now.arena before last c.requires.kept forgotten
+      (subst (λ (w : Work). IsInStep w.graph) (sym c.forget_since.ensures.rest) c.drop_node.ensures.step) pairs
 
 pub returns-in-Err-insert-clause-err_work : goal.returns-in-Err-insert-clause-err_work
-returns-in-Err-insert-clause-err_work c = dropped c
+returns-in-Err-insert-clause-err_work c = forgotten c
 
 pub returns-in-Err-insert-clause-cutoffs : goal.returns-in-Err-insert-clause-cutoffs
-returns-in-Err-insert-clause-cutoffs c = rows_cutoffs c.args.self.now.work c.drop_point.new.self (dropped c).rows
+returns-in-Err-insert-clause-cutoffs c = rows_cutoffs (before c) (last c) (forgotten c).rows
 
 pub returns-in-Err-insert-clause-kept : goal.returns-in-Err-insert-clause-kept
-returns-in-Err-insert-clause-kept c = subst (λ (a : Arena). IsKept a c.drop_point.new.self) (sym c.in-Err-insert.ensures.err)
-    (back_kept c.args.self.now.arena c.args.self.now.work c.drop_point.new.self c.requires.kept (dropped c) c.drop_point.ensures.step)
+returns-in-Err-insert-clause-kept c = subst (λ (a : Arena). IsKept a (last c)) (sym (arena_is c)) (still_kept c)
 
 pub returns-in-Err-insert-clause-ready : goal.returns-in-Err-insert-clause-ready
-returns-in-Err-insert-clause-ready c F ready = rw c.in-Err-insert.ensures.err (ready_stays F _ _ _ _ ready
-    (back_kept c.args.self.now.arena c.args.self.now.work c.drop_point.new.self c.requires.kept (dropped c) c.drop_point.ensures.step)
-    (back_stays c.args.self.now.arena c.args.self.now.work c.drop_point.new.self c.requires.kept (dropped c) c.drop_point.ensures.step))
+returns-in-Err-insert-clause-ready c F ready = subst (λ (a : Arena). IsReady F a (last c)) (sym (arena_is c))
+    (ready_stays F _ _ _ _ ready (still_kept c) (back_stays c.args.self.now.arena (before c) (last c) (forgotten c)))

@@ -1,7 +1,4 @@
-use Rattle.std.proofs.Common.{None, subst}
-use Rattle.inc_value.specs.declared.node.Point.{Point}
-use Rattle.inc_terms.specs.Depend.{main}
-use Rattle.point_map.specs.Rows.{Changes}
+use Rattle.std.proofs.Common.{ap}
 use Rattle.stabilizer.specs.Between.{Stays}
 use Rattle.stabilizer.specs.Kept.{IsKept}
 use Rattle.stabilizer.specs.declared.work.Work.{Work}
@@ -14,23 +11,19 @@ module _ (c : goal.After-stands) where
   old = c.args.self.now.work
 
   abbrev work : Work
-  work = c.drop_point.new.self
-
-  row : Changes old.rows work.rows (main c.args.id) None
-  row = subst (λ (p : Point). Changes old.rows work.rows p None) c.main_point.ensures c.drop_point.ensures.row
-
-  point : Changes old.graph.heights work.graph.heights (main c.args.id) None
-  point = subst (λ (p : Point). Changes old.graph.heights work.graph.heights p None) c.main_point.ensures c.drop_point.ensures.dropped
+  work = c.drop_node-2.new.self
 
   kept : IsKept c.drop_node.new.self work
-  kept = dropped_kept c.args.self.now.arena c.drop_node.new.self old work c.args.id c.requires.kept c.requires.unneeded c.drop_node.ensures.dropped
-      c.drop_node.ensures.given row point c.drop_point.ensures.links c.drop_point.ensures.roots c.drop_point.ensures.heap c.stands.ensures
-      c.drop_point.ensures.round (same_todo old work c.drop_point.ensures.todo)
+  kept = let d = c.drop_node-2.ensures in
+      dropped_kept c.args.self.now.arena c.drop_node.new.self old work c.args.id c.requires.kept c.requires.unneeded c.drop_node.ensures.dropped
+      c.drop_node.ensures.given d.rows d.dropped d.links d.roots d.heap c.stands.ensures d.round (same_todo old work d.todo)
+      (ap (λ (w : Work). w.pairs) d.rest)
 
   stays : Stays c.args.self.now.arena c.drop_node.new.self old work
-  stays = dropped_stays c.args.self.now.arena c.drop_node.new.self old work c.args.id c.requires.kept c.requires.unneeded c.drop_node.ensures.dropped
-      c.drop_node.ensures.given row point c.drop_point.ensures.links c.drop_point.ensures.roots c.drop_point.ensures.heap c.stands.ensures
-      c.drop_point.ensures.round (same_todo old work c.drop_point.ensures.todo)
+  stays = let d = c.drop_node-2.ensures in
+      dropped_stays c.args.self.now.arena c.drop_node.new.self old work c.args.id c.requires.kept c.requires.unneeded c.drop_node.ensures.dropped
+      c.drop_node.ensures.given d.rows d.dropped d.links d.roots d.heap c.stands.ensures d.round (same_todo old work d.todo)
+      (ap (λ (w : Work). w.pairs) d.rest)
 
 pub returns-clause-kept : goal.returns-clause-kept
 returns-clause-kept c = kept c

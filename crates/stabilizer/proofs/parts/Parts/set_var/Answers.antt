@@ -1,22 +1,23 @@
-use Rattle.std.proofs.Common.{refl, subst}
+use Rattle.std.proofs.Common.{refl, sym, subst}
 use Rattle.inc_value.specs.declared.node.Point.{Point}
 use Rattle.inc_terms.specs.Depend.{main}
 use Rattle.inc_terms.specs.Within.{Given, ValueWithin}
 use Rattle.node_arena.specs.Arena.{IsVariable}
-use Rattle.stabilizer.specs.Between.{IsMarked, Stays}
+use Rattle.stabilizer.specs.Between.{Stays}
+use Rattle.stabilizer.specs.Wiring.{IsMarked, KeepsRound}
 use Rattle.stabilizer.specs.Kept.{IsKept}
-use Rattle.stabilizer.specs.Wiring.{KeepsRound}
+use Rattle.stabilizer.specs.Round.{IsReady}
 use Rattle.stabilizer.specs.declared.work.Work.{Work}
 use Rattle.stabilizer.proofs.Between.{ready_stays}
 use Rattle.stabilizer.proofs.Setting.{set_kept, set_stays}
 use Rattle.stabilizer.proofs.parts.Parts.set_var.Goals as goal
 
-module _ (c : goal.After-mark) where
+module _ (c : goal.After-schedule) where
   abbrev work : Work
-  work = record c.args.self.now.work { graph = c.mark.new.graph }
+  work = record c.args.self.now.work { graph = c.schedule.new.self.graph }
 
-  marked : IsMarked c.args.self.now.work.graph c.mark.new.graph (main c.args.id)
-  marked = subst (λ (p : Point). IsMarked c.args.self.now.work.graph c.mark.new.graph p) c.main_point.ensures c.mark.ensures.marked
+  marked : IsMarked c.args.self.now.work.graph c.schedule.new.self.graph (main c.args.id)
+  marked = subst (λ (p : Point). IsMarked c.args.self.now.work.graph c.schedule.new.self.graph p) c.main_point.ensures c.schedule.ensures.scheduled
 
   not_other : (IsVariable c.args.self.now.arena c.args.id → ⊥) → ⊥
   not_other isnt = absurd (
@@ -29,14 +30,15 @@ module _ (c : goal.After-mark) where
 
   kept : IsKept c.set_var.new.self work
   kept = set_kept c.args.self.now.arena c.set_var.new.self c.args.self.now.work work c.args.id c.args.value c.requires.kept c.in_ok-set_var.ensures.set
-      not_other c.in_ok-set_var.ensures.given refl marked c.mark.ensures.step round refl
+      not_other c.in_ok-set_var.ensures.given refl marked c.schedule.ensures.step round refl refl
 
   stays : Stays c.args.self.now.arena c.set_var.new.self c.args.self.now.work work
   stays = set_stays c.args.self.now.arena c.set_var.new.self c.args.self.now.work work c.args.id c.args.value c.requires.kept c.in_ok-set_var.ensures.set
-      not_other c.in_ok-set_var.ensures.given refl marked c.mark.ensures.step round refl
+      not_other c.in_ok-set_var.ensures.given refl marked c.schedule.ensures.step round refl refl
 
 pub returns-clause-kept : goal.returns-clause-kept
-returns-clause-kept c = kept c
+returns-clause-kept c = subst (λ (w : Work). IsKept c.set_var.new.self w) (sym c.schedule.ensures.rest) (kept c)
 
 pub returns-clause-ready : goal.returns-clause-ready
-returns-clause-ready c F ready = ready_stays F _ _ _ _ ready (kept c) (stays c)
+returns-clause-ready c F ready =
+    subst (λ (w : Work). IsReady F c.set_var.new.self w) (sym c.schedule.ensures.rest) (ready_stays F _ _ _ _ ready (kept c) (stays c))

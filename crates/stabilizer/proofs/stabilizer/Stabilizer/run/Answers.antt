@@ -8,9 +8,10 @@ use Rattle.stabilize_round.specs.Calling.{costs_of}
 use Rattle.stabilize_round.specs.Counts.{RoseBy}
 use Rattle.stabilizer.specs.Kept.{IsKept}
 use Rattle.node_outcomes.specs.Meaning.{functions_of}
-use Rattle.stabilizer.specs.Round.{IsReady, IsUpToDate, AreRooted, IsLawful}
+use Rattle.stabilizer.specs.Round.{IsReady, IsUpToDate, AreRooted, IsLawful, LeavesTried}
 use Rattle.stabilizer.proofs.Beginning.{same_meaning}
-use Rattle.stabilizer.proofs.Lawful.{round_lawful}
+use Rattle.stabilizer.proofs.Lawful.{roots_lawful, steps_lawful}
+use Rattle.stabilizer.proofs.Tried.{roots_tried, steps_tried}
 use Rattle.stabilizer.proofs.Rounding.{on_err, exit_is, in_round, few_called, round_counts, round_readies, round_rights}
 use Rattle.stabilizer.proofs.stabilizer.Stabilizer.run.Goals as goal
 
@@ -23,8 +24,42 @@ returns-in_err-put_roots-clause-lawful g c =
     let is : IsErrAnd c.from_residual.result (λ x. x ≡ e) = c.from_residual.ensures.1 in
     exit_is c.from_residual.result e
     (λ x. (observed : List NodeId) → AreRooted old observed → IsLawful F arena old (c.args.roots.now ++ observed) x) is
-    (λ observed looks. round_lawful F arena old c.put_roots.new.work (g.F.Functions.calls c.args.functions.now) c.requires.ready
-    c.in_err-put_roots.ensures.refused c.args.roots.now observed c.put_roots.ensures.roots looks e c.in_err-put_roots.ensures.told)
+    (λ observed looks. roots_lawful F arena old c.put_roots.new.work (g.F.Functions.calls c.args.functions.now) c.requires.ready
+    c.args.roots.now observed c.put_roots.ensures.roots looks e c.in_err-put_roots.ensures.refused)
+
+pub returns-in_err-settle_all-clause-lawful : goal.returns-in_err-settle_all-clause-lawful
+returns-in_err-settle_all-clause-lawful g c =
+    let F = functions_of (g.F.Functions.value c.args.functions.now) in
+    let arena = c.args.parts.now.arena in
+    let old = c.args.parts.now.work in
+    let e = c.in_err-settle_all.field-0.0 in
+    let is : IsErrAnd c.from_residual-in_err-settle_all.result (λ x. x ≡ e) = c.from_residual-in_err-settle_all.ensures.1 in
+    exit_is c.from_residual-in_err-settle_all.result e
+    (λ x. (observed : List NodeId) → AreRooted old observed → IsLawful F arena old (c.args.roots.now ++ observed) x) is
+    (λ observed looks. steps_lawful F arena old c.put_roots.new.work c.settle_all.new.parts.work (g.F.Functions.calls c.args.functions.now)
+    (g.F.Functions.calls c.settle_all.new.functions) c.requires.ready c.in_ok-put_roots.ensures.wired c.args.roots.now observed
+    c.put_roots.ensures.roots c.settle_all.ensures.roots looks e c.in_err-settle_all.ensures.refused)
+
+pub returns-in_err-put_roots-clause-tried : goal.returns-in_err-put_roots-clause-tried
+returns-in_err-put_roots-clause-tried g c =
+    let e = c.in_err-put_roots.field-0.0 in
+    let is : IsErrAnd c.from_residual.result (λ x. x ≡ e) = c.from_residual.ensures.1 in
+    exit_is c.from_residual.result e (λ x. LeavesTried c.args.parts.now.arena c.put_roots.new.work x) is
+    (roots_tried (functions_of (g.F.Functions.value c.args.functions.now)) c.args.parts.now.arena c.args.parts.now.work c.put_roots.new.work
+    (g.F.Functions.calls c.args.functions.now) c.requires.ready c.in_err-put_roots.ensures.step e c.in_err-put_roots.ensures.refused)
+
+pub returns-in_err-settle_all-clause-tried : goal.returns-in_err-settle_all-clause-tried
+returns-in_err-settle_all-clause-tried g c =
+    let F = functions_of (g.F.Functions.value c.args.functions.now) in
+    let arena = c.args.parts.now.arena in
+    let new = c.settle_all.new.parts.work in
+    let e = c.in_err-settle_all.field-0.0 in
+    let is : IsErrAnd c.from_residual-in_err-settle_all.result (λ x. x ≡ e) = c.from_residual-in_err-settle_all.ensures.1 in
+    exit_is c.from_residual-in_err-settle_all.result e (λ x. LeavesTried c.settle_all.new.parts.arena new x) is
+    (subst (λ (a : Arena). LeavesTried a new e) (sym c.settle_all.ensures.arena)
+    (steps_tried F arena c.args.parts.now.work c.put_roots.new.work new (g.F.Functions.calls c.args.functions.now)
+    (g.F.Functions.calls c.settle_all.new.functions) c.requires.ready c.in_ok-put_roots.ensures.wired c.settle_all.ensures.kept.step e
+    c.in_err-settle_all.ensures.refused))
 
 pub settle_all-requires-clause-in_round : goal.settle_all-requires-clause-in_round
 settle_all-requires-clause-in_round g c =
@@ -35,8 +70,8 @@ pub returns-in_err-settle_all-clause-few : goal.returns-in_err-settle_all-clause
 returns-in_err-settle_all-clause-few g c =
     on_err c.from_residual-in_err-settle_all.result
     (few_called (functions_of (g.F.Functions.value c.args.functions.now)) c.args.parts.now.arena c.args.parts.now.work c.put_roots.new.work
-    (g.F.Functions.calls c.args.functions.now) c.requires.ready c.in_ok-put_roots.ensures.wired
-    (g.F.Functions.calls c.settle_all.new.functions) c.in_err-settle_all.ensures.refused)
+    (g.F.Functions.calls c.args.functions.now) c.requires.ready c.in_ok-put_roots.ensures.wired c.settle_all.new.parts.work
+    (g.F.Functions.calls c.settle_all.new.functions) c.in_err-settle_all.field-0.0 c.in_err-settle_all.ensures.refused)
 
 pub returns-clause-calls : goal.returns-clause-calls
 returns-clause-calls g c =
@@ -46,8 +81,8 @@ returns-clause-calls g c =
     subst (λ v. RoseBy before (costs_of (graph_of c.args.parts.now.arena) v.items) after) (sym c.swap.ensures.x_after)
     (round_counts (functions_of (g.F.Functions.value c.args.functions.now)) c.args.parts.now.arena c.args.parts.now.work c.put_roots.new.work before
     c.requires.ready c.in_ok-put_roots.ensures.wired settled after c.in_ok-settle_all.ensures.settled
-    (subst (λ (a : Arena). IsKept a settled) c.settle_all.ensures.arena c.settle_all.ensures.kept) c.settle_all.ensures.quiet
-    c.in_ok-settle_all.ensures.empty (c.settle_all.ensures.round ∙ c.put_roots.ensures.round))
+    (subst (λ (a : Arena). IsKept a settled) c.settle_all.ensures.arena c.settle_all.ensures.kept) c.in_ok-settle_all.ensures.quiet
+    c.in_ok-settle_all.ensures.empty)
 
 next_is : (result : Option ℕ) (P : Type 0) (v next : ℕ) → SomeIff result P v → result ≡ Some next → next ≡ v
 next_is result P v next h e = (subst (λ (r : Option ℕ). SomeIff r P v) e h).1
@@ -66,9 +101,10 @@ returns-clause-right g c =
     λ observed looks.
     subst (λ v. IsUpToDate F arena old new (c.args.roots.now ++ observed) v.items) (sym c.swap.ensures.x_after)
     (round_rights F arena old c.put_roots.new.work (g.F.Functions.calls c.args.functions.now) c.requires.ready c.in_ok-put_roots.ensures.wired settled
-    (g.F.Functions.calls c.settle_all.new.functions) c.in_ok-settle_all.ensures.settled kept c.settle_all.ensures.quiet c.in_ok-settle_all.ensures.empty
-    (c.settle_all.ensures.round ∙ c.put_roots.ensures.round) new c.end_round.ensures.graph c.end_round.ensures.rows c.end_round.ensures.todo c.end_round.ensures.ran c.end_round.ensures.strict round
-    c.args.roots.now observed c.settle_all.ensures.roots c.in_ok-put_roots.ensures.rooted looks)
+    (g.F.Functions.calls c.settle_all.new.functions) c.in_ok-settle_all.ensures.settled kept c.in_ok-settle_all.ensures.quiet c.in_ok-settle_all.ensures.empty
+    new c.end_round.ensures.graph c.end_round.ensures.rows c.end_round.ensures.pairs c.end_round.ensures.todo c.end_round.ensures.ran
+    c.end_round.ensures.strict round (c.settle_all.ensures.round ∙ c.put_roots.ensures.round) c.args.roots.now observed c.settle_all.ensures.roots
+    c.in_ok-put_roots.ensures.rooted looks)
 
 pub returns-clause-ready : goal.returns-clause-ready
 returns-clause-ready g c =
@@ -85,5 +121,6 @@ returns-clause-ready g c =
     (subst (λ v. IsReady (functions_of v) arena new)
     (sym (same_meaning (g.F.Functions.value c.args.functions.now) (g.F.Functions.value c.settle_all.new.functions) c.settle_all.ensures.functions.values))
     (round_readies F arena old c.put_roots.new.work (g.F.Functions.calls c.args.functions.now) c.requires.ready c.in_ok-put_roots.ensures.wired settled
-    (g.F.Functions.calls c.settle_all.new.functions) c.in_ok-settle_all.ensures.settled kept c.settle_all.ensures.quiet c.in_ok-settle_all.ensures.empty
-    (c.settle_all.ensures.round ∙ c.put_roots.ensures.round) new c.end_round.ensures.graph c.end_round.ensures.rows c.end_round.ensures.todo c.end_round.ensures.ran c.end_round.ensures.strict round))
+    (g.F.Functions.calls c.settle_all.new.functions) c.in_ok-settle_all.ensures.settled kept c.in_ok-settle_all.ensures.quiet c.in_ok-settle_all.ensures.empty
+    new c.end_round.ensures.graph c.end_round.ensures.rows c.end_round.ensures.pairs c.end_round.ensures.todo c.end_round.ensures.ran
+    c.end_round.ensures.strict round))

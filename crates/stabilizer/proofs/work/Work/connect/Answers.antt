@@ -1,117 +1,80 @@
-use Rattle.stabilizer.specs.Wiring.{IsReached}
-use Rattle.stabilizer.proofs.Connecting.{same_need, on_err, left_room, left_refused, left_kept}
-use Rattle.stabilizer.proofs.Connecting.{left_keeps_need, IsLeft, left_link, left_links, turned_strict, told_why}
-use Rattle.stabilizer.proofs.Connecting.{connected, connected_need, connected_others, connected_pushes, connected_links, grown, grown_kept}
+use Rattle.std.proofs.Common.{◌≡◌, inr, sym, ap, ◌∙◌, Vec, Global, ◌⊎◌, inl, IsTrue}
+use Rattle.inc_value.specs.declared.node.Point.{Point}
+use Rattle.height_order.specs.declared.heights.LinkFault.TheVariants as fault
+use Rattle.stabilize_round.specs.Steps.{plainly}
+use Rattle.stabilizer.proofs.Growing.{grows_then}
+use Rattle.stabilizer.proofs.Telling.{told}
+use Rattle.stabilizer.proofs.Retrying.{refused_at_once, linked_again, lost_need, refused_again, levelled_spared, levelled_need, turned_grows, not_both}
 use Rattle.stabilizer.proofs.work.Work.connect.Goals as goal
-
-pub returns-in_err-opened-clause-refused : goal.returns-in_err-opened-clause-refused
-returns-in_err-opened-clause-refused c =
-    let m = c.make_room.ensures in
-    on_err c.from_residual.result (left_refused c.args.self.now c.make_room.new.self
-    (left_room c.args.self.now c.make_room.new.self m.looks c.in_err-opened.ensures.err m.step) c.args.p c.args.q)
-
-pub returns-in_err-opened-clause-keeps : goal.returns-in_err-opened-clause-keeps
-returns-in_err-opened-clause-keeps c arena k given is_main row =
-    let m = c.make_room.ensures in
-    left_kept c.args.self.now c.make_room.new.self
-    (left_room c.args.self.now c.make_room.new.self m.looks c.in_err-opened.ensures.err m.step) arena k
-
-pub close-requires-clause-unneeded : goal.close-requires-clause-unneeded
-close-requires-clause-unneeded c t n =
-    let m = c.make_room in
-    c.in_ok-opened.ensures.unneeded t ((m.ensures.looks.needed c.args.q).0
-    ((same_need m.new.self.graph c.link.new.self c.link.ensures.roots c.in-Err.ensures.err c.args.q).0 n))
+use Rattle.stabilizer.proofs.work.Work.connect.Goals.{then-self-via-then-self, then-self-via-else-self+then-matches, in-Memory, in_default}
 
 pub returns-in-Ok-clause-linked : goal.returns-in-Ok-clause-linked
-returns-in-Ok-clause-linked c =
-    let m = c.make_room in
-    let l = c.in-Ok.ensures in
-    let reached : IsReached m.new.self.graph c.link.new.self c.args.q = record { needed = l.needed; points = c.link.ensures.heap; step = c.stands.ensures } in
-    connected c.args.self.now m.new.self c.wake.new.self c.link.new.self c.args.p c.args.q c.in-Ok.newly m.ensures.looks reached l.linked c.link.ensures.roots
-    l.newly c.wake.ensures.woken c.wake.ensures.unchanged ((m.ensures.looks.needed c.args.p).1 c.requires.needed)
+returns-in-Ok-clause-linked c t F z s calls rest due = let a = c.in-Ok.ensures.linked F z s calls rest due in (a.0, plainly a.1, a.2, a.3)
 
-pub returns-in-Ok-clause-need : goal.returns-in-Ok-clause-need
-returns-in-Ok-clause-need c =
-    let m = c.make_room in
-    let l = c.in-Ok.ensures in
-    let reached : IsReached m.new.self.graph c.link.new.self c.args.q = record { needed = l.needed; points = c.link.ensures.heap; step = c.stands.ensures } in
-    connected_need c.args.self.now m.new.self c.wake.new.self c.link.new.self c.args.p c.args.q c.in-Ok.newly m.ensures.looks reached l.linked
-    c.link.ensures.roots
-    l.newly c.wake.ensures.woken c.wake.ensures.unchanged
+pub returns-then-not-is_needed-clause-row : goal.returns-then-not-is_needed-clause-row
+returns-then-not-is_needed-clause-row c =
+    let l = c.in-Err.ensures.levelled in
+    c.take_off_unconfirmed.ensures.spared c.args.p (levelled_spared c.args.arena.now c.args.self.now c.try_link.new.self l c.args.p c.requires.spared)
+    ∙ l.rows c.args.p
 
-pub returns-in-Ok-clause-others : goal.returns-in-Ok-clause-others
-returns-in-Ok-clause-others c =
-    let m = c.make_room in
-    let l = c.in-Ok.ensures in
-    let reached : IsReached m.new.self.graph c.link.new.self c.args.q = record { needed = l.needed; points = c.link.ensures.heap; step = c.stands.ensures } in
-    connected_others c.args.self.now m.new.self c.wake.new.self c.link.new.self c.args.p c.args.q c.in-Ok.newly m.ensures.looks reached l.linked
-    c.link.ensures.roots l.newly c.wake.ensures.woken c.wake.ensures.unchanged
+pub returns-then-not-is_needed-clause-gone : goal.returns-then-not-is_needed-clause-gone
+returns-then-not-is_needed-clause-gone c f = (
+  λ F z s calls rest due. lost_need F z s c.args.arena.now c.args.self.now c.try_link.new.self c.take_off_unconfirmed.new.self calls c.args.p c.args.q rest
+      due c.in-Err.ensures.levelled (sym c.try_link.ensures.strict ∙ c.if-self.false) (levelled_need c.args.self.now c.try_link.new.self c.in-Err.ensures.levelled c.args.p c.requires.needed)
+      (levelled_spared c.args.arena.now c.args.self.now c.try_link.new.self c.in-Err.ensures.levelled c.args.p c.requires.spared)
+      c.take_off_unconfirmed.ensures.taken c.stands.ensures (λ n. not_both c.is_needed.result c.if-not-is_needed.true (c.is_needed.ensures.1 n)),
+  c.take_off_unconfirmed.ensures.strict,
+  sym c.try_link.ensures.strict ∙ c.if-self.false,
+)
 
-pub returns-in-Ok-clause-pushed : goal.returns-in-Ok-clause-pushed
-returns-in-Ok-clause-pushed c =
-    let m = c.make_room in
-    let l = c.in-Ok.ensures in
-    let reached : IsReached m.new.self.graph c.link.new.self c.args.q = record { needed = l.needed; points = c.link.ensures.heap; step = c.stands.ensures } in
-    connected_pushes c.args.self.now m.new.self c.wake.new.self c.link.new.self c.args.p c.args.q c.in-Ok.newly m.ensures.looks reached l.linked
-    c.link.ensures.roots l.newly c.wake.ensures.woken c.wake.ensures.unchanged
+pub returns-then-not-is_needed-clause-pushed : goal.returns-then-not-is_needed-clause-pushed
+returns-then-not-is_needed-clause-pushed c =
+    turned_grows c.args.self.now c.try_link.new.self c.take_off_unconfirmed.new.self c.try_link.ensures.strict c.in-Err.ensures.levelled.todo
+    (sym c.try_link.ensures.strict ∙ c.if-self.false) c.take_off_unconfirmed.ensures.strict (ap (λ (v : Vec Point Global). v.items) c.take_off_unconfirmed.ensures.todo)
 
-pub returns-in-Ok-clause-keeps : goal.returns-in-Ok-clause-keeps
-returns-in-Ok-clause-keeps c arena k given is_main row =
-    let m = c.make_room in
-    let l = c.in-Ok.ensures in
-    let reached : IsReached m.new.self.graph c.link.new.self c.args.q = record { needed = l.needed; points = c.link.ensures.heap; step = c.stands.ensures } in
-    let links = connected_links c.args.self.now m.new.self c.wake.new.self c.link.new.self c.args.p c.args.q c.in-Ok.newly m.ensures.looks reached l.linked
-    c.link.ensures.roots l.newly c.wake.ensures.woken c.wake.ensures.unchanged row in
-    grown_kept c.args.self.now c.wake.new.self c.args.q
-    (grown c.args.self.now m.new.self c.wake.new.self c.link.new.self c.args.q c.in-Ok.newly m.ensures.looks m.ensures.others c.link.ensures.points
-    l.needed c.link.ensures.heap links c.wake.ensures.woken c.wake.ensures.unchanged c.wake.ensures.step) arena given is_main k
+pub returns-in-Ok-try_link-clause-linked : goal.returns-in-Ok-try_link-clause-linked
+returns-in-Ok-try_link-clause-linked c t F z s calls rest due =
+    linked_again F z s c.args.arena.now c.args.self.now c.try_link.new.self c.take_off_unconfirmed.new.self calls c.args.p c.args.q rest
+    due c.in-Err.ensures.levelled (sym c.try_link.ensures.strict ∙ c.if-self.false)
+    (levelled_need c.args.self.now c.try_link.new.self c.in-Err.ensures.levelled c.args.p c.requires.needed)
+    (levelled_spared c.args.arena.now c.args.self.now c.try_link.new.self c.in-Err.ensures.levelled c.args.p c.requires.spared)
+    c.take_off_unconfirmed.ensures.taken c.stands.ensures (c.is_needed.ensures.0 c.if-not-is_needed.false)
+    c.try_link-in-Err.new.self c.in-Ok-try_link.ensures.linked
 
-pub returns-in-Err-clause-refused : goal.returns-in-Err-clause-refused
-returns-in-Err-clause-refused c =
-    let m = c.make_room in
-    let l = c.link in
-    let d = c.close in
-    let left : IsLeft c.args.self.now c.refused.new.self = left_link c.args.self.now m.new.self d.new.self l.new.self c.args.q c.in_ok-opened.opened
-    m.ensures.looks c.in_ok-opened.ensures.there c.in_ok-opened.ensures.opened m.ensures.others c.in-Err.ensures.err l.ensures.roots l.ensures.points
-    l.ensures.heap d.ensures.closed d.ensures.kept d.ensures.links d.ensures.roots d.ensures.heap d.ensures.rest c.refused.new.self c.refused.ensures.rest
-    (turned_strict c.close.new.self.strict c.refused.new.self.strict c.args.q c.in-Err.fault c.refused.result c.refused.ensures.why)
-    c.stands-in-Err.ensures in
-    left_refused c.args.self.now c.refused.new.self left c.args.p c.args.q
+pub returns-in-Ok-try_link-clause-row : goal.returns-in-Ok-try_link-clause-row
+returns-in-Ok-try_link-clause-row c =
+    let l = c.in-Err.ensures.levelled in
+    c.try_link-in-Err.ensures.rows c.args.p (c.is_needed.ensures.0 c.if-not-is_needed.false)
+    ∙ (c.take_off_unconfirmed.ensures.spared c.args.p (levelled_spared c.args.arena.now c.args.self.now c.try_link.new.self l c.args.p c.requires.spared)
+    ∙ l.rows c.args.p)
 
-pub returns-in-Err-clause-need : goal.returns-in-Err-clause-need
-returns-in-Err-clause-need c =
-    let m = c.make_room in
-    let l = c.link in
-    let d = c.close in
-    let left : IsLeft c.args.self.now c.refused.new.self = left_link c.args.self.now m.new.self d.new.self l.new.self c.args.q c.in_ok-opened.opened
-    m.ensures.looks c.in_ok-opened.ensures.there c.in_ok-opened.ensures.opened m.ensures.others c.in-Err.ensures.err l.ensures.roots l.ensures.points
-    l.ensures.heap d.ensures.closed d.ensures.kept d.ensures.links d.ensures.roots d.ensures.heap d.ensures.rest c.refused.new.self c.refused.ensures.rest
-    (turned_strict c.close.new.self.strict c.refused.new.self.strict c.args.q c.in-Err.fault c.refused.result c.refused.ensures.why)
-    c.stands-in-Err.ensures in
-    left_keeps_need c.args.self.now c.refused.new.self left
+pub returns-in-Ok-try_link-clause-pushed : goal.returns-in-Ok-try_link-clause-pushed
+returns-in-Ok-try_link-clause-pushed c =
+    grows_then c.args.self.now c.take_off_unconfirmed.new.self c.try_link-in-Err.new.self
+    (λ p. c.take_off_unconfirmed.ensures.places.rows p ∙ c.try_link.ensures.places.rows p)
+    (turned_grows c.args.self.now c.try_link.new.self c.take_off_unconfirmed.new.self c.try_link.ensures.strict c.in-Err.ensures.levelled.todo
+    (sym c.try_link.ensures.strict ∙ c.if-self.false) c.take_off_unconfirmed.ensures.strict (ap (λ (v : Vec Point Global). v.items) c.take_off_unconfirmed.ensures.todo))
+    c.in-Ok-try_link.ensures.pushed
 
-pub returns-in-Err-clause-keeps : goal.returns-in-Err-clause-keeps
-returns-in-Err-clause-keeps c arena k given is_main row =
-    let m = c.make_room in
-    let l = c.link in
-    let d = c.close in
-    let left : IsLeft c.args.self.now c.refused.new.self = left_link c.args.self.now m.new.self d.new.self l.new.self c.args.q c.in_ok-opened.opened
-    m.ensures.looks c.in_ok-opened.ensures.there c.in_ok-opened.ensures.opened m.ensures.others c.in-Err.ensures.err l.ensures.roots l.ensures.points
-    l.ensures.heap d.ensures.closed d.ensures.kept d.ensures.links d.ensures.roots d.ensures.heap d.ensures.rest c.refused.new.self c.refused.ensures.rest
-    (turned_strict c.close.new.self.strict c.refused.new.self.strict c.args.q c.in-Err.fault c.refused.result c.refused.ensures.why)
-    c.stands-in-Err.ensures in
-    left_kept c.args.self.now c.refused.new.self left arena k
+pub returns-then-self-clause-refused : goal.returns-then-self-clause-refused
+returns-then-self-clause-refused c F z s calls rest due =
+    let final : IsTrue c.try_link.new.self.strict ⊎ (c.in-Err.fault ≡ fault.Memory) = elim c.then-self.branch [
+      | then-self-via-then-self w ↦ inl w.if-self.true
+      | then-self-via-else-self+then-matches w ↦ elim w.match-matches.branch [
+        | in-Memory m ↦ inr m.in-Memory.is
+        | in_default m ↦ absurd (let a = m.matches-is in let b = w.if-matches.true in cc)
+      ]
+    ] in
+    refused_at_once F z s c.args.arena.now c.args.self.now c.try_link.new.self calls c.args.p c.args.q rest due c.in-Err.ensures.levelled
+    c.requires.needed c.refusal.result (told c.try_link.new.self c.args.p c.args.q c.in-Err.fault c.refusal.result final c.in-Err.ensures.why c.refusal.ensures)
 
-pub returns-in-Err-clause-told : goal.returns-in-Err-clause-told
-returns-in-Err-clause-told c =
-    let m = c.make_room in
-    let l = c.link in
-    let d = c.close in
-    let links = left_links c.args.self.now m.new.self d.new.self l.new.self c.args.q c.in_ok-opened.opened m.ensures.looks c.in_ok-opened.ensures.there
-    c.in_ok-opened.ensures.opened m.ensures.others c.in-Err.ensures.err l.ensures.roots l.ensures.points l.ensures.heap d.ensures.closed d.ensures.kept
-    d.ensures.links d.ensures.roots d.ensures.heap d.ensures.rest c.refused.new.self c.refused.ensures.rest
-    (turned_strict c.close.new.self.strict c.refused.new.self.strict c.args.q c.in-Err.fault c.refused.result c.refused.ensures.why)
-    c.stands-in-Err.ensures in
-    told_why c.refused.new.self m.new.self.graph.links c.args.p c.args.q links c.close.new.self.strict c.in-Err.fault c.refused.result
-    c.refused.ensures.why c.in-Err.ensures.path
-    c.in-Err.ensures.over c.in-Err.ensures.over_length
+pub returns-clause-refused : goal.returns-clause-refused
+returns-clause-refused c F z s calls rest due =
+    refused_again F z s c.args.arena.now c.args.self.now c.try_link.new.self c.take_off_unconfirmed.new.self calls c.args.p c.args.q rest
+    due c.in-Err.ensures.levelled (sym c.try_link.ensures.strict ∙ c.if-self.false)
+    (levelled_need c.args.self.now c.try_link.new.self c.in-Err.ensures.levelled c.args.p c.requires.needed)
+    (levelled_spared c.args.arena.now c.args.self.now c.try_link.new.self c.in-Err.ensures.levelled c.args.p c.requires.spared)
+    c.take_off_unconfirmed.ensures.taken c.stands.ensures (c.is_needed.ensures.0 c.if-not-is_needed.false)
+    c.try_link-in-Err.new.self c.refusal-in-Err-try_link.result c.in-Err-try_link.ensures.levelled
+    (told c.try_link-in-Err.new.self c.args.p c.args.q c.in-Err-try_link.fault c.refusal-in-Err-try_link.result
+    (inl (c.try_link-in-Err.ensures.strict ∙ c.take_off_unconfirmed.ensures.strict)) c.in-Err-try_link.ensures.why c.refusal-in-Err-try_link.ensures)

@@ -1,6 +1,8 @@
-use Rattle.std.proofs.Common.{refl}
-use Rattle.stabilizer.proofs.Connecting.{on_err}
-use Rattle.stabilizer.proofs.Leaving.{popped_of, wiring_first, wiring_skip, wiring_one, wiring_refused, wiring_last, one_less}
+use Rattle.stabilizer.specs.Wiring.{WireRefused}
+use Rattle.stabilizer.specs.declared.work.Work.{Work}
+use Rattle.stabilizer.proofs.Raising.{if_refusal}
+use Rattle.stabilizer.proofs.Leaving.{popped_of, wiring_first, wiring_skip, wiring_one, wiring_refused, wiring_last, looks_empty, one_less}
+use Rattle.std.proofs.Common.{None, ◌∙◌, append-nil}
 use Rattle.stabilizer.proofs.work.Work.wire.Goals.{else-is_needed-via-then-is_needed+else-is_bare, else-is_needed-via-else-is_needed}
 use Rattle.stabilizer.proofs.work.Work.wire.Goals as goal
 
@@ -9,9 +11,11 @@ loop-p-init c = wiring_first c.args.arena.now c.args.self.now c.requires.kept
 
 pub returns-in_err-wire_one-clause-refused : goal.returns-in_err-wire_one-clause-refused
 returns-in_err-wire_one-clause-refused c =
-    on_err c.from_residual.result (wiring_refused c.args.arena.now c.args.self.now c.loop-p.self (record c.loop-p.self { todo = c.pop.new.self }) c.in-Some.p
-    c.loop-p.invariant (popped_of c.loop-p.self c.pop.new.self c.in-Some.p c.in-Some.ensures.items)
-    c.wire_one.new.self c.in_err-wire_one.ensures.refused)
+    let popped : Work = record c.loop-p.self { todo = c.pop.new.self } in
+    let e = c.in_err-wire_one.field-0.0 in
+    if_refusal (WireRefused c.args.arena.now c.args.self.now c.wire_one.new.self None) e c.from_residual.result c.from_residual.ensures.1
+    (wiring_refused c.args.arena.now c.args.self.now c.loop-p.self popped c.in-Some.p c.loop-p.invariant
+    (popped_of c.loop-p.self c.pop.new.self c.in-Some.p c.in-Some.ensures.items) c.wire_one.new.self e c.in_err-wire_one.ensures.refused)
 
 pub loop-p-smaller-then-is_bare : goal.loop-p-smaller-then-is_bare
 loop-p-smaller-then-is_bare c =
@@ -23,7 +27,7 @@ pub loop-p-preserved-then-is_bare : goal.loop-p-preserved-then-is_bare
 loop-p-preserved-then-is_bare c =
     wiring_one c.args.arena.now c.args.self.now c.loop-p.self (record c.loop-p.self { todo = c.pop.new.self }) c.in-Some.p
     c.loop-p.invariant (popped_of c.loop-p.self c.pop.new.self c.in-Some.p c.in-Some.ensures.items)
-    c.wire_one.new.self c.in_ok-wire_one.ensures.wired c.wire_one.ensures.need c.wire_one.ensures.kept
+    c.wire_one.new.self c.in_ok-wire_one.ensures.wired c.wire_one.ensures.places c.wire_one.ensures.kept
 
 pub loop-p-preserved : goal.loop-p-preserved
 loop-p-preserved c =
@@ -38,4 +42,4 @@ loop-p-preserved c =
 pub returns-clause-wired : goal.returns-clause-wired
 returns-clause-wired c =
     wiring_last c.args.arena.now c.args.self.now c.loop-p.self (record c.loop-p.self { todo = c.pop.new.self }) c.loop-p.invariant
-    refl refl (record { ran = refl; strict = refl; round = refl }) c.in_default.ensures.items
+    (looks_empty c.loop-p.self c.pop.new.self (c.in_default.ensures.items ∙ append-nil c.pop.new.self.items))

@@ -1,207 +1,125 @@
-use Rattle.std.proofs.Common.{◌≡◌, ◌+◌, ◌<◌, List, ◌∷◌, map, length, drop, get_or, refl, sym, ap, subst, ◌∙◌, arith}
+use Rattle.std.proofs.Common.{◌∷◌, List, Some, [], map, true, false, sym, subst, refl}
+use Rattle.std.specs.Prelude.{IsTrue, IsFalse, Bool}
+use Rattle.std.proofs.lemmas.Result.{on_ok_weaker, IfErr-weaker}
 use Rattle.inc_value.specs.declared.node.NodeId.{NodeId}
 use Rattle.inc_value.specs.declared.node.Point.{Point}
 use Rattle.inc_value.specs.Choice.{Among}
-use Rattle.inc_terms.specs.declared.def.Def.{Def}
-use Rattle.inc_terms.specs.Code.{def_of}
 use Rattle.inc_terms.specs.Depend.{main}
-use Rattle.inc_terms.specs.Graph.{kids}
-use Rattle.node_arena.specs.Arena.{Arena, NamesGiven, row_of}
-use Rattle.stabilizer.specs.Refusing.{TellsWhy}
+use Rattle.inc_terms.specs.Graph.{Row, kids}
+use Rattle.node_arena.specs.Arena.{row_of}
+use Rattle.stabilizer.specs.Stands.{hand}
+use Rattle.stabilizer.specs.Wiring.{Connects, LosesNeed, ConnectRefused, Wires, WireRefused}
 use Rattle.stabilizer.specs.declared.work.Work.{Work}
-use Rattle.stabilizer.proofs.Connecting.{on_err}
-use Rattle.stabilizer.proofs.Handing.{IsTop, IsHanded, IsTried, never_dead, top_of, names_of, kid_among, next_owed, no_gate}
-use Rattle.stabilizer.proofs.Handing.{handed_first, handed_all, handed_last}
-use Rattle.stabilizer.proofs.Handing.{refused_hands, need_then, tried_kept, tried_more, tried_told, if_refusal}
+use Rattle.stabilizer.proofs.Handing.{main_of, never_dead, never_alone, kid_is_given, full_kept, full_wires, full_refused, change_reads_subject, change_refused, change_gone, change_on}
+use Rattle.stabilizer.proofs.Handed.{main_reads}
+use Rattle.stabilizer.proofs.Raising.{if_refusal}
 use Rattle.stabilizer.proofs.work.Work.wire_one.Goals as goal
-use Rattle.stabilizer.proofs.work.Work.wire_one.Goals.{in-Some-gate+in_ok-connect+else-not-branch, in_default-gate}
 
--- the child at a place is the first that is owed, and one of the node's
-owed_at : (arena : Arena) (old mid : Work) (p q : Point) (ns : List NodeId) (i : _) (n : NodeId) → i < length ns → q ≡ main (get_or ns i n)
-    → IsHanded arena old mid p (map main (drop i ns)) → IsHanded arena old mid p (q ∷ map main (drop (i + 1) ns))
-owed_at arena old mid p q ns i n below is so =
-    subst (λ (x : Point). IsHanded arena old mid p (x ∷ map main (drop (i + 1) ns))) (sym is)
-    (subst (λ (xs : List Point). IsHanded arena old mid p xs) (next_owed ns i n below) so)
+by_answer : {P : Type 0} (b : Bool) → (IsTrue b → P) → (IsFalse b → P) → P
+by_answer true on off = on refl
+by_answer false on off = off refl
 
-among_at : (d : Def) (q : Point) (ns : List NodeId) (i : _) (n : NodeId) → i < length ns → q ≡ main (get_or ns i n) → ns ≡ kids (def_of d)
-    → Among q (map main (kids (def_of d)))
-among_at d q ns i n below is all =
-    subst (λ (xs : List NodeId). Among q (map main xs)) all (subst (λ (x : Point). Among x (map main ns)) (sym is) (kid_among ns i n below))
-
--- ---- a point with a row has a live node
+-- ---- a point with a row is one of a live node, and has what is linked to
 
 pub returns-in_default-clause-wired : goal.returns-in_default-clause-wired
 returns-in_default-clause-wired c =
     absurd (never_dead c.args.arena.now c.args.self.now c.args.p c.requires.kept c.requires.there (sym c.in_default.ensures))
 
-pub returns-in_default-clause-need : goal.returns-in_default-clause-need
-returns-in_default-clause-need c =
-    absurd (never_dead c.args.arena.now c.args.self.now c.args.p c.requires.kept c.requires.there (sym c.in_default.ensures))
+pub returns-in-Change-None-clause-wired : goal.returns-in-Change-None-clause-wired
+returns-in-Change-None-clause-wired c =
+    absurd (never_alone c.args.arena.now c.args.self.now c.args.p (row_of c.in-Some.row.now) c.requires.kept c.requires.there (sym c.in-Some.ensures)
+    c.in-Change-None.is-0 (sym c.in-Change-None.ensures))
 
-pub returns-in_default-clause-kept : goal.returns-in_default-clause-kept
-returns-in_default-clause-kept c =
-    absurd (never_dead c.args.arena.now c.args.self.now c.args.p c.requires.kept c.requires.there (sym c.in_default.ensures))
+-- ---- a main of one point
 
-pub returns-in_default-clause-pushed : goal.returns-in_default-clause-pushed
-returns-in_default-clause-pushed c =
-    absurd (never_dead c.args.arena.now c.args.self.now c.args.p c.requires.kept c.requires.there (sym c.in_default.ensures))
+pub connect_each-requires-clause-given : goal.connect_each-requires-clause-given
+connect_each-requires-clause-given c k among =
+    kid_is_given c.args.arena.now.given c.in-Some.row.now.def (c.is_sound.ensures.names c.args.p.node (row_of c.in-Some.row.now) (sym c.in-Some.ensures)) k
+    (subst (λ (xs : List NodeId). Among k xs) c.kids.ensures among)
 
-pub returns-in_default-clause-told : goal.returns-in_default-clause-told
-returns-in_default-clause-told c =
-    absurd (never_dead c.args.arena.now c.args.self.now c.args.p c.requires.kept c.requires.there (sym c.in_default.ensures))
+pub connect_each-requires-clause-kept : goal.connect_each-requires-clause-kept
+connect_each-requires-clause-kept c =
+    let r : Row = row_of c.in-Some.row.now in
+    let row = sym c.in-Some.ensures in
+    full_kept c.args.arena.now c.args.p r row (map main (kids r.def)) (main_reads c.args.arena.now c.args.p r row c.in-Main-None.is-0 (sym c.in-Main-None.ensures))
+    c.args.self.now c.requires.kept c.requires.needed c.requires.bare c.set_stage.new.rows c.set_stage.ensures
 
-pub loop-kid-init : goal.loop-kid-init
-loop-kid-init c =
-    let row = c.in-Some.row.now in
-    let top = top_of c.args.arena.now c.args.self.now c.args.p row c.requires.kept c.requires.there c.in-Some.ensures in
-    elim c.match-gate.branch [
-      | in-Some-gate+in_ok-connect+else-not-branch w ↦
-          absurd (no_gate w.in-Some-gate.gate row.scope (c.requires.kept.flat c.args.p.node (row_of row) (sym c.in-Some.ensures))
-          (sym w.in-Some-gate.is ∙ c.gate.ensures))
-      | in_default-gate w ↦ rw (w.self-is, c.kids-kid-items.ensures) (handed_first c.args.arena.now c.args.p row.def top c.args.self.now _
-          c.requires.kept c.requires.needed c.requires.bare c.set_stage.ensures refl (record { ran = refl; strict = refl; round = refl }) refl)
-    ]
+pub returns-in-Main-None-clause-wired : goal.returns-in-Main-None-clause-wired
+returns-in-Main-None-clause-wired c =
+    let r : Row = row_of c.in-Some.row.now in
+    let row = sym c.in-Some.ensures in
+    let old = c.args.self.now in
+    let mid : Work = record old { rows = c.set_stage.new.rows } in
+    on_ok_weaker c.connect_each.result
+    (λ w. full_wires c.args.arena.now c.args.p r row (map main (kids r.def))
+    (main_reads c.args.arena.now c.args.p r row c.in-Main-None.is-0 (sym c.in-Main-None.ensures)) old c.requires.kept c.requires.needed c.requires.bare
+    c.set_stage.new.rows c.set_stage.ensures c.connect_each.new.self
+    (subst (λ (xs : List NodeId). Wires c.args.arena.now mid c.connect_each.new.self (Some (hand c.args.p (map main xs)))) c.kids.ensures w))
+    c.connect_each.ensures.wired
 
--- ---- a link was refused
+pub returns-in-Main-None-clause-refused : goal.returns-in-Main-None-clause-refused
+returns-in-Main-None-clause-refused c =
+    let r : Row = row_of c.in-Some.row.now in
+    let row = sym c.in-Some.ensures in
+    let old = c.args.self.now in
+    let new = c.connect_each.new.self in
+    let mid : Work = record old { rows = c.set_stage.new.rows } in
+    IfErr-weaker c.connect_each.result (WireRefused c.args.arena.now mid new (Some (hand c.args.p (map main c.kids.result.now))))
+    (WireRefused c.args.arena.now old new (Some (hand c.args.p [])))
+    (λ e w. full_refused c.args.arena.now c.args.p r row (map main (kids r.def))
+    (main_reads c.args.arena.now c.args.p r row c.in-Main-None.is-0 (sym c.in-Main-None.ensures)) old c.requires.kept c.requires.needed c.requires.bare
+    c.set_stage.new.rows c.set_stage.ensures new e
+    (subst (λ (xs : List NodeId). WireRefused c.args.arena.now mid new (Some (hand c.args.p (map main xs))) e) c.kids.ensures w))
+    c.connect_each.ensures.refused
 
-top_at : (c : goal.After-from_residual-in_err-connect-2) → IsTop c.args.arena.now c.args.p c.in-Some.row.now.def
-top_at c = top_of c.args.arena.now c.args.self.now c.args.p c.in-Some.row.now c.requires.kept c.requires.there c.in-Some.ensures
+-- ---- a main of a node of two points
 
-names_at : (c : goal.After-from_residual-in_err-connect-2) → NamesGiven c.args.arena.now.given (def_of c.in-Some.row.now.def)
-names_at c = names_of c.args.arena.now c.args.p c.in-Some.row.now.def (top_at c) c.is_sound.ensures.names
+pub returns-in-Main-Some-clause-wired : goal.returns-in-Main-Some-clause-wired
+returns-in-Main-Some-clause-wired c =
+    on_ok_weaker c.wire_pair.result
+    (λ w. subst (λ (x : Point). Wires c.args.arena.now c.args.self.now c.wire_pair.new.self (Some (hand x []))) (main_of c.args.p c.in-Main-Some.is-0) w)
+    c.wire_pair.ensures.wired
 
-among : (c : goal.After-from_residual-in_err-connect-2) → Among c.main_point.result (map main (kids (def_of c.in-Some.row.now.def)))
-among c = among_at c.in-Some.row.now.def c.main_point.result _ _ _ c.loop-kid-test.true c.main_point.ensures c.kids-kid-items.ensures
+-- ---- a change
 
-so_far : (c : goal.After-from_residual-in_err-connect-2) → IsHanded c.args.arena.now c.args.self.now c.loop-kid.self c.args.p
-    (c.main_point.result ∷ map main (drop (c.loop-kid.kid-index + 1) c.kids-kid-items.result.now))
-so_far c = owed_at c.args.arena.now c.args.self.now c.loop-kid.self c.args.p c.main_point.result _ _ _ c.loop-kid-test.true c.main_point.ensures
-    c.loop-kid.invariant
+pub connect-requires-clause-kept : goal.connect-requires-clause-kept
+connect-requires-clause-kept c =
+    let r : Row = row_of c.in-Some.row.now in
+    let m = c.in-Change-Some.subject in
+    full_kept c.args.arena.now c.args.p r (sym c.in-Some.ensures) (main m ∷ []) (change_reads_subject c.args.p r m c.in-Change-Some.is-0 (sym c.in-Change-Some.ensures))
+    c.args.self.now c.requires.kept c.requires.needed c.requires.bare c.set_stage-in-Change-Some.new.rows c.set_stage-in-Change-Some.ensures
 
-tried : (c : goal.After-from_residual-in_err-connect-2) → IsTried c.loop-kid.self c.connect-in-loop-kid.new.self c.args.p c.main_point.result
-tried c = let e = c.connect-in-loop-kid.ensures in record { need = e.need; keeps = e.keeps; others = e.others }
-
-pub returns-in_err-connect-2-clause-refused : goal.returns-in_err-connect-2-clause-refused
-returns-in_err-connect-2-clause-refused c =
-    on_err c.from_residual-in_err-connect-2.result (refused_hands c.args.arena.now c.args.p c.in-Some.row.now.def (top_at c) c.args.self.now c.loop-kid.self
-    c.connect-in-loop-kid.new.self c.main_point.result _ c.requires.kept.flat (so_far c).hands c.in_err-connect-2.ensures.refused)
-
-pub returns-in_err-connect-2-clause-need : goal.returns-in_err-connect-2-clause-need
-returns-in_err-connect-2-clause-need c =
-    need_then c.args.self.now c.loop-kid.self c.connect-in-loop-kid.new.self c.loop-kid.invariant.need c.connect-in-loop-kid.ensures.need
-
-pub returns-in_err-connect-2-clause-kept : goal.returns-in_err-connect-2-clause-kept
-returns-in_err-connect-2-clause-kept c =
-    tried_kept c.args.arena.now c.args.p c.in-Some.row.now.def (top_at c) (names_at c) c.args.self.now c.loop-kid.self c.connect-in-loop-kid.new.self
-    c.requires.needed c.main_point.result _ (among c) (so_far c) (tried c)
-
-pub returns-in_err-connect-2-clause-told : goal.returns-in_err-connect-2-clause-told
-returns-in_err-connect-2-clause-told c =
-    let e = c.in_err-connect-2.field-0.0 in
-    if_refusal (TellsWhy c.args.arena.now c.connect-in-loop-kid.new.self) e c.from_residual-in_err-connect-2.result c.from_residual-in_err-connect-2.ensures.1
-    (tried_told c.args.arena.now c.args.p c.in-Some.row.now.def (top_at c) (names_at c) c.args.self.now c.loop-kid.self c.connect-in-loop-kid.new.self
-    c.requires.needed c.main_point.result _ (among c) (so_far c) (tried c) e c.in_err-connect-2.ensures.told)
-
--- ---- a link was put on
-
-pub loop-kid-preserved : goal.loop-kid-preserved
-loop-kid-preserved c =
+pub returns-in_err-_on-in-Change-Some-clause-refused : goal.returns-in_err-_on-in-Change-Some-clause-refused
+returns-in_err-_on-in-Change-Some-clause-refused c =
     let arena = c.args.arena.now in
-    let row = c.in-Some.row.now in
-    let q = c.main_point.result in
-    let e = c.connect-in-loop-kid.ensures in
-    let top = top_of arena c.args.self.now c.args.p row c.requires.kept c.requires.there c.in-Some.ensures in
-    tried_more arena c.args.p row.def top (names_of arena c.args.p row.def top c.is_sound.ensures.names)
-    c.args.self.now c.loop-kid.self c.connect-in-loop-kid.new.self c.requires.needed q _
-    (among_at row.def q _ _ _ c.loop-kid-test.true c.main_point.ensures c.kids-kid-items.ensures)
-    (owed_at arena c.args.self.now c.loop-kid.self c.args.p q _ _ _ c.loop-kid-test.true c.main_point.ensures c.loop-kid.invariant)
-    (record { need = e.need; keeps = e.keeps; others = e.others }) c.in_ok-connect-2.ensures.linked c.in_ok-connect-2.ensures.pushed
+    let p = c.args.p in
+    let r : Row = row_of c.in-Some.row.now in
+    let m = c.in-Change-Some.subject in
+    let old = c.args.self.now in
+    let rows = c.set_stage-in-Change-Some.new.rows in
+    let mid : Work = record old { rows = rows } in
+    let new = c.connect.new.self in
+    let e = c.in_err-_on-in-Change-Some.field-0.0 in
+    if_refusal (WireRefused arena old new (Some (hand p []))) e c.from_residual.result c.from_residual.ensures.1
+    (change_refused arena p r (sym c.in-Some.ensures) m c.in-Change-Some.is-0 (sym c.in-Change-Some.ensures) old c.requires.kept c.requires.needed c.requires.bare
+    rows c.set_stage-in-Change-Some.ensures new e
+    (subst (λ (x : Point). ConnectRefused arena mid new p x e) c.main_point.ensures c.in_err-_on-in-Change-Some.ensures.refused))
 
--- ---- all links are on
-
-pub loop-target-init : goal.loop-target-init
-loop-target-init c =
-    handed_all c.args.arena.now c.args.p c.args.self.now c.loop-kid.self _ _ c.loop-kid.invariant c.loop-kid-test.false
-
-pub loop-target-preserved : goal.loop-target-preserved
-loop-target-preserved c = absurd (let none = ap length c.targets-target-items.ensures.none in let below = c.loop-target-test.true in omega (arith, none, below))
-
-pub returns-clause-wired : goal.returns-clause-wired
-returns-clause-wired c =
-    let row = c.in-Some.row.now in
-    let top = top_of c.args.arena.now c.args.self.now c.args.p row c.requires.kept c.requires.there c.in-Some.ensures in
-    handed_last c.args.arena.now c.args.p row.def top c.args.self.now c.loop-target.self c.loop-target.invariant
-
--- ---- today's nodes have no gate, and no right sides
-
-pub returns-in_err-connect-clause-refused : goal.returns-in_err-connect-clause-refused
-returns-in_err-connect-clause-refused c =
-    let row = c.in-Some.row.now in
-    absurd (no_gate c.in-Some-gate.gate row.scope (c.requires.kept.flat c.args.p.node (row_of row) (sym c.in-Some.ensures))
-    (sym c.in-Some-gate.is ∙ c.gate.ensures))
-
-pub returns-in_err-connect-clause-need : goal.returns-in_err-connect-clause-need
-returns-in_err-connect-clause-need c =
-    let row = c.in-Some.row.now in
-    absurd (no_gate c.in-Some-gate.gate row.scope (c.requires.kept.flat c.args.p.node (row_of row) (sym c.in-Some.ensures))
-    (sym c.in-Some-gate.is ∙ c.gate.ensures))
-
-pub returns-in_err-connect-clause-kept : goal.returns-in_err-connect-clause-kept
-returns-in_err-connect-clause-kept c =
-    let row = c.in-Some.row.now in
-    absurd (no_gate c.in-Some-gate.gate row.scope (c.requires.kept.flat c.args.p.node (row_of row) (sym c.in-Some.ensures))
-    (sym c.in-Some-gate.is ∙ c.gate.ensures))
-
-pub returns-in_err-connect-clause-told : goal.returns-in_err-connect-clause-told
-returns-in_err-connect-clause-told c =
-    let row = c.in-Some.row.now in
-    absurd (no_gate c.in-Some-gate.gate row.scope (c.requires.kept.flat c.args.p.node (row_of row) (sym c.in-Some.ensures))
-    (sym c.in-Some-gate.is ∙ c.gate.ensures))
-
-pub returns-then-not-branch-clause-wired : goal.returns-then-not-branch-clause-wired
-returns-then-not-branch-clause-wired c =
-    let row = c.in-Some.row.now in
-    absurd (no_gate c.in-Some-gate.gate row.scope (c.requires.kept.flat c.args.p.node (row_of row) (sym c.in-Some.ensures))
-    (sym c.in-Some-gate.is ∙ c.gate.ensures))
-
-pub returns-then-not-branch-clause-need : goal.returns-then-not-branch-clause-need
-returns-then-not-branch-clause-need c =
-    let row = c.in-Some.row.now in
-    absurd (no_gate c.in-Some-gate.gate row.scope (c.requires.kept.flat c.args.p.node (row_of row) (sym c.in-Some.ensures))
-    (sym c.in-Some-gate.is ∙ c.gate.ensures))
-
-pub returns-then-not-branch-clause-kept : goal.returns-then-not-branch-clause-kept
-returns-then-not-branch-clause-kept c =
-    let row = c.in-Some.row.now in
-    absurd (no_gate c.in-Some-gate.gate row.scope (c.requires.kept.flat c.args.p.node (row_of row) (sym c.in-Some.ensures))
-    (sym c.in-Some-gate.is ∙ c.gate.ensures))
-
-pub returns-then-not-branch-clause-pushed : goal.returns-then-not-branch-clause-pushed
-returns-then-not-branch-clause-pushed c =
-    let row = c.in-Some.row.now in
-    absurd (no_gate c.in-Some-gate.gate row.scope (c.requires.kept.flat c.args.p.node (row_of row) (sym c.in-Some.ensures))
-    (sym c.in-Some-gate.is ∙ c.gate.ensures))
-
-pub returns-in_err-connect-3-clause-refused : goal.returns-in_err-connect-3-clause-refused
-returns-in_err-connect-3-clause-refused c = absurd (let none = ap length c.targets-target-items.ensures.none in let below = c.loop-target-test.true in omega (arith, none, below))
-
-pub returns-in_err-connect-3-clause-need : goal.returns-in_err-connect-3-clause-need
-returns-in_err-connect-3-clause-need c = absurd (let none = ap length c.targets-target-items.ensures.none in let below = c.loop-target-test.true in omega (arith, none, below))
-
-pub returns-in_err-connect-3-clause-kept : goal.returns-in_err-connect-3-clause-kept
-returns-in_err-connect-3-clause-kept c = absurd (let none = ap length c.targets-target-items.ensures.none in let below = c.loop-target-test.true in omega (arith, none, below))
-
-pub returns-in_err-connect-3-clause-told : goal.returns-in_err-connect-3-clause-told
-returns-in_err-connect-3-clause-told c = absurd (let none = ap length c.targets-target-items.ensures.none in let below = c.loop-target-test.true in omega (arith, none, below))
-
-pub returns-then-not-branch-3-clause-wired : goal.returns-then-not-branch-3-clause-wired
-returns-then-not-branch-3-clause-wired c = absurd (let none = ap length c.targets-target-items.ensures.none in let below = c.loop-target-test.true in omega (arith, none, below))
-
-pub returns-then-not-branch-3-clause-need : goal.returns-then-not-branch-3-clause-need
-returns-then-not-branch-3-clause-need c = absurd (let none = ap length c.targets-target-items.ensures.none in let below = c.loop-target-test.true in omega (arith, none, below))
-
-pub returns-then-not-branch-3-clause-kept : goal.returns-then-not-branch-3-clause-kept
-returns-then-not-branch-3-clause-kept c = absurd (let none = ap length c.targets-target-items.ensures.none in let below = c.loop-target-test.true in omega (arith, none, below))
-
-pub returns-then-not-branch-3-clause-pushed : goal.returns-then-not-branch-3-clause-pushed
-returns-then-not-branch-3-clause-pushed c = absurd (let none = ap length c.targets-target-items.ensures.none in let below = c.loop-target-test.true in omega (arith, none, below))
+pub returns-in_ok-_on-in-Change-Some-clause-wired : goal.returns-in_ok-_on-in-Change-Some-clause-wired
+returns-in_ok-_on-in-Change-Some-clause-wired c =
+    let arena = c.args.arena.now in
+    let p = c.args.p in
+    let r : Row = row_of c.in-Some.row.now in
+    let m = c.in-Change-Some.subject in
+    let old = c.args.self.now in
+    let rows = c.set_stage-in-Change-Some.new.rows in
+    let mid : Work = record old { rows = rows } in
+    let new = c.connect.new.self in
+    by_answer c.in_ok-_on-in-Change-Some._on
+    (λ t. change_on arena p r (sym c.in-Some.ensures) m c.in-Change-Some.is-0 (sym c.in-Change-Some.ensures) old c.requires.kept c.requires.needed c.requires.bare
+    rows c.set_stage-in-Change-Some.ensures new
+    (subst (λ (x : Point). Connects arena mid new p x) c.main_point.ensures (c.in_ok-_on-in-Change-Some.ensures.linked t))
+    c.in_ok-_on-in-Change-Some.ensures.row)
+    (λ f. change_gone arena p r (sym c.in-Some.ensures) m c.in-Change-Some.is-0 (sym c.in-Change-Some.ensures) old c.requires.kept c.requires.needed c.requires.bare
+    rows c.set_stage-in-Change-Some.ensures new
+    (subst (λ (x : Point). LosesNeed arena mid new p x) c.main_point.ensures (c.in_ok-_on-in-Change-Some.ensures.gone f).0))

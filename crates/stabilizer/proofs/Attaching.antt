@@ -1,0 +1,294 @@
+-- A main that waits is linked to its right side.
+use Rattle.std.proofs.Common.{◌≡◌, inl, inr, ℕ, true, List, [], ◌∷◌, map, Option, None, Some, refl, sym, ap, subst, ◌∙◌, arith}
+use Rattle.std.specs.Prelude.{is_some, IsSome, option_map}
+use Rattle.std.proofs.lemmas.Option.{none-some}
+use Rattle.inc_value.specs.declared.node.NodeId.{NodeId}
+use Rattle.inc_value.specs.declared.node.Part.TheVariants.{Change}
+use Rattle.inc_value.specs.declared.node.Point.{Point}
+use Rattle.inc_value.specs.declared.outcome.Outcome.{Outcome}
+use Rattle.inc_value.specs.Choice.{here, step, Among, Reaches, and_then}
+use Rattle.inc_terms.specs.declared.def.Def as declared
+use Rattle.inc_terms.specs.Code.{def_of}
+use Rattle.inc_terms.specs.Depend.{main, change, subject_of, right_of, at_most_one, kids_of}
+use Rattle.inc_terms.specs.Graph.{Graph, Row, Def}
+use Rattle.inc_terms.specs.Plan.{targets}
+use Rattle.inc_terms.specs.Term.{Functions}
+use Rattle.inc_terms.specs.Within.{Given}
+use Rattle.point_map.specs.Rows.{Rows, at, Holds}
+use Rattle.necessary_graph.specs.Part.{Needed}
+use Rattle.node_arena.specs.Arena.{Arena, row_at}
+use Rattle.node_arena.specs.Graph.{graph_of}
+use Rattle.stabilize_round.specs.Invariant.{Invariant}
+use Rattle.stabilize_round.specs.Machine as move
+use Rattle.stabilize_round.specs.State as machine
+use Rattle.stabilize_round.specs.State.{State, Start, at_point, count, planned, plan_at}
+use Rattle.stabilize_round.specs.Steps.{Wiring, plainly}
+use Rattle.stabilize_round.specs.Wire.{raised, Raise, Finish}
+use Rattle.stabilize_round.proofs.Confirmed.{right_confirmed}
+use Rattle.stabilize_round.proofs.Machine.{moves_keep}
+use Rattle.stabilize_round.proofs.Points.{same_or_other, at_same, at_other}
+use Rattle.node_outcomes.specs.Computing.{has_part}
+use Rattle.stabilizer.specs.Kept.{IsKept}
+use Rattle.node_outcomes.specs.Row.{IsRewritten, with_stage, settled_in, stage_in, stage_of, outcome_in}
+use Rattle.stabilizer.specs.Stands.{Stands, hand}
+use Rattle.node_outcomes.specs.Choosing.{right_in, no_graph}
+use Rattle.stabilizer.specs.Turning.{IsWaiting}
+use Rattle.stabilizer.specs.Wiring.{KeepsRound, IsDue, IsTurnedIn, Attaches, AttachRefused, Connects, LosesNeed, ConnectRefused, AreUnlinked}
+use Rattle.stabilizer.specs.declared.refused.Refused.{Refused}
+use Rattle.node_outcomes.specs.declared.row.Progress.{Progress}
+use Rattle.node_outcomes.specs.declared.row.Stage.{Stage}
+use Rattle.node_outcomes.specs.declared.row.Stage.TheVariants as code
+use Rattle.stabilizer.specs.declared.work.Work.{Work}
+use Rattle.stabilizer.proofs.Linking.{some_or_none}
+use Rattle.stabilizer.proofs.Raising.{nothing, wired_before, wired_after, staged_kept, staged_row, up_wiring, up_stands, leaves_hand, no_links, own_alone}
+use Rattle.stabilizer.proofs.Sight.{code_def}
+use Rattle.stabilizer.proofs.TakingOne.{right_any}
+use Rattle.stabilizer.proofs.Unlinked.{raised_unlinked}
+
+-- the right sides of a node, by what is told without its graph
+pub targets_now : (G : Graph) (n : NodeId) (d : declared.Def) (x : Option Outcome)
+    → targets G n (def_of d) x ≡ map main (at_most_one (and_then x (λ o. right_of no_graph n (def_of d) o)))
+targets_now G n d None = refl
+targets_now G n d (Some o) = ap (λ (y : Option NodeId). map main (at_most_one y)) (right_any G n d o)
+
+-- nothing is to be done
+pub stays_off : (arena : Arena) (work : Work) (n : NodeId) → (Needed work.graph (main n) → (k : Progress) → at work.rows (main n) ≡ Some k → k.stage ≡ code.Static → ⊥)
+    → Holds work.rows (main n) → Attaches arena work work n
+stays_off arena work n not rowed F z s calls t = (
+  s,
+  plainly here,
+  record {
+    graph = on.graph;
+    out = on.out;
+    last = on.last;
+    never = on.never;
+    stale = on.stale;
+    links = on.links;
+    root = on.root;
+    needed = on.needed;
+    height = on.height;
+    heap = on.heap;
+    settled = on.settled;
+    stage = on.stage;
+    owed = λ a. on.owed a ∙ elim (same_or_other (main n) a) [
+      | inl e ↦ subst (λ (x : Point). at_point (main n) [] nothing x ≡ []) e (at_same (main n) [] nothing)
+      | inr ne ↦ at_other (main n) [] nothing a ne
+    ];
+    todo = λ a h. elim (on.todo a h) [ inl k ↦ inl k | inr e ↦ absurd (waits_not a e h) ];
+    strict = on.strict;
+    died = on.died;
+    ran = on.ran;
+    calls = on.calls;
+    given = on.given;
+  },
+  λ a h need. elim (t.unlinked a h need) [
+    | inl b ↦ inl b
+    | inr k ↦ elim k [ inl g ↦ inr (inl g) | inr e ↦ absurd (waits_not a e h) ]
+  ],
+)
+  where
+    on : Stands arena work calls (Some (hand (main n) [])) s
+    on = t.stands
+
+    static_of : (x : Stage) → stage_of x ≡ machine.Static → x ≡ code.Static
+    static_of code.Bare e = absurd (cc)
+    static_of code.Static e = refl
+    static_of code.Full e = absurd (cc)
+
+    out : (x : Option Progress) → at work.rows (main n) ≡ x → is_some x ≡ true → Needed work.graph (main n) → s.stage (main n) ≡ machine.Static → ⊥
+    out None e some need stage = cc
+    out (Some k) e some need stage = not need k e (static_of k.stage (sym (on.stage (main n) k e) ∙ stage))
+
+    waits_not : (a : Point) → a ≡ main n → s.todo a ≡ true → ⊥
+    waits_not a e h =
+        let o = t.only (subst (λ (x : Point). s.todo x ≡ true) e h) in
+        out (at work.rows (main n)) refl rowed ((on.needed (main n)).0 o.0) o.1
+
+-- a needed main that waited for its node's change, which ran, has this stage now: all links
+pub record WasRaised (arena : Arena) (n : NodeId) (r : Row) (old : Work) (rows : Rows Progress) : Type 0 where
+  pub row : row_at arena n ≡ Some r
+  pub two : IsSome (subject_of r.def)
+  pub kept : IsKept arena old
+  pub own : settled_in old.round (at old.rows (change n)) ≡ true
+  pub waited : IsWaiting old n
+  pub rewritten : IsRewritten old.rows rows (main n) (with_stage code.Full)
+
+pub was_raised : (arena : Arena) (n : NodeId) (old : Work) (rows : Rows Progress) (p : Point) (r : Row) → p ≡ main n
+    → ((x : Row) × (row_at arena n ≡ Some x) × IsSome (subject_of x.def)) → ◌≡◌ {A = Option Row} (Some r) (row_at arena n) → IsKept arena old
+    → settled_in old.round (at old.rows (change n)) ≡ true → IsWaiting old n → IsRewritten old.rows rows p (with_stage code.Full)
+    → WasRaised arena n r old rows
+was_raised arena n old rows p r is given found kept own waited w = record {
+  row = sym found;
+  two = subst (λ (x : Row). IsSome (subject_of x.def)) (same given.0 (sym given.1 ∙ sym found)) given.2;
+  kept = kept;
+  own = own;
+  waited = waited;
+  rewritten = subst (λ (x : Point). IsRewritten old.rows rows x (with_stage code.Full)) is w;
+}
+  where
+    same : (x : Row) → ◌≡◌ {A = Option Row} (Some x) (Some r) → x ≡ r
+    same x e = cc
+
+module _ (arena : Arena) (n : NodeId) (r : Row) (old : Work) (rows : Rows Progress) (was : WasRaised arena n r old rows) where
+  row : row_at arena n ≡ Some r
+  row = was.row
+
+  kept : IsKept arena old
+  kept = was.kept
+
+  w : IsRewritten old.rows rows (main n) (with_stage code.Full)
+  w = was.rewritten
+
+  abbrev mid : Work
+  mid = record old { rows = rows }
+
+  same_round : KeepsRound old mid
+  same_round = record { ran = refl; strict = refl; round = refl }
+
+  pub full_kept : IsKept arena mid
+  full_kept = staged_kept old mid (main n) code.Full w refl same_round refl arena refl kept
+
+  abbrev right : Option NodeId
+  right = right_in old.rows n r.def
+
+  abbrev owed : List Point
+  owed = map main (at_most_one right)
+
+  -- it is told by the row of the change, which stays
+  pub right_is : right_in mid.rows n r.def ≡ right
+  right_is = ap (λ (x : Option Progress). and_then (outcome_in x) (λ o. right_of no_graph n r.def o))
+      (w.others (change n) (λ e. let x = ap (λ (y : Point). y.part) e in cc))
+
+  -- the target is given
+  pub right_given : (m : NodeId) → right ≡ Some m → Given arena.given m
+  right_given m e = by (at old.rows (change n)) refl
+    where
+      asked : (G : Graph) (o : Outcome) → right_of G n r.def o ≡ right_of no_graph n r.def o
+      asked G o = let d = code_def arena n r row in
+          subst (λ (x : Def). right_of G n x o ≡ right_of no_graph n x o) (sym d.1) (right_any G n d.0 o)
+
+      chosen : (k : Progress) → at old.rows (change n) ≡ Some k → (x : Option Outcome) → k.outcome ≡ x → and_then x (λ o. right_of no_graph n r.def o) ≡ Some m
+          → Given arena.given m
+      chosen k at_row None out h = absurd (none-some m h)
+      chosen k at_row (Some o) out h = (kept.rights n m r k o row at_row out (asked (graph_of arena) o ∙ h)).0
+
+      by : (x : Option Progress) → at old.rows (change n) ≡ x → Given arena.given m
+      by None eq = absurd (none-some m (ap (λ (x : Option Progress). and_then (outcome_in x) (λ o. right_of no_graph n r.def o)) (sym eq) ∙ e))
+      by (Some k) eq = chosen k eq k.outcome refl (ap (λ (x : Option Progress). and_then (outcome_in x) (λ o. right_of no_graph n r.def o)) (sym eq) ∙ e)
+
+  module _ (F : Functions) (z : Start) (s : State) (calls : ℕ) (t : IsTurnedIn F z s arena old calls n) where
+    abbrev on : Stands arena old calls (Some (hand (main n) [])) s
+    on = t.stands
+
+    row_is : s.graph.row n ≡ Some r
+    row_is = ap (λ (G : Graph). G.row n) on.graph ∙ row
+
+    is_static : s.stage (main n) ≡ machine.Static
+    is_static = let k = staged_row (at old.rows (main n)) code.Static was.waited.stage in on.stage (main n) k.0 k.1 ∙ ap stage_of k.2
+
+    is_needed : s.needed (main n) ≡ true
+    is_needed = (on.needed (main n)).1 was.waited.needed
+
+    out_is : s.out (change n) ≡ outcome_in (at old.rows (change n))
+    out_is = elim (some_or_none (at old.rows (change n))) [
+      | inl k ↦ on.out (change n) k.0 k.1 ∙ ap outcome_in (sym k.1)
+      | inr none ↦ absurd (let e = kept.rows (change n) ∙ (ap (λ (x : Option Row). has_part x Change) row ∙ was.two) in let f = ap is_some none in cc)
+    ]
+
+    pub targets_are_owed : targets s.graph n r.def (s.out (change n)) ≡ owed
+    targets_are_owed =
+        let d = code_def arena n r row in
+        ap (targets s.graph n r.def) out_is ∙ subst (λ (x : Def). targets s.graph n x (outcome_in (at old.rows (change n)))
+        ≡ map main (at_most_one (and_then (outcome_in (at old.rows (change n))) (λ o. right_of no_graph n x o)))) (sym d.1)
+        (targets_now s.graph n d.0 (outcome_in (at old.rows (change n))))
+
+    pub raise_is : Raise s (main n) machine.Full owed
+    raise_is = record {
+      todo = t.wakes is_needed is_static;
+      owed = on.owed (main n) ∙ at_same (main n) [] nothing;
+      plan = λ b.
+          let all : count b (plan_at s.graph s.out s.died (main n) (s.graph.row n) machine.Full) ≡ count b (change n ∷ owed) =
+          ap (λ (x : Option Row). count b (plan_at s.graph s.out s.died (main n) x machine.Full)) row_is
+          ∙ rw (no_links r.scope (kept.flat n r row), own_alone n (subject_of r.def) (kids_of s.graph n r.def) was.two, targets_are_owed) refl in
+          let before : count b (planned s (main n)) ≡ count b (change n ∷ []) =
+          ap (λ (x : machine.Stage). count b (plan_at s.graph s.out s.died (main n) (s.graph.row n) x)) is_static
+          ∙ (ap (λ (x : Option Row). count b (plan_at s.graph s.out s.died (main n) x machine.Static)) row_is
+          ∙ rw (no_links r.scope (kept.flat n r row), own_alone n (subject_of r.def) (kids_of s.graph n r.def) was.two) refl) in
+          omega (arith, all, before);
+      lower = λ e. let b = is_static in cc;
+      gates = λ stage r' b e scope. absurd (none-some b (sym (kept.flat n r' (sym (ap (λ (G : Graph). G.row n) on.graph) ∙ e)) ∙ scope));
+      rights = λ e m r' q row' among. t.taken;
+    }
+
+    abbrev full : State
+    full = raised s (main n) machine.Full owed
+
+    pub full_moves : Reaches (Wiring F z) s full
+    full_moves = up_wiring old mid (main n) code.Full w refl same_round refl F z s arena calls owed on raise_is
+
+    pub on_full : Stands arena mid calls (Some (hand (main n) owed)) full
+    on_full = up_stands old mid (main n) code.Full w refl same_round refl F z s arena calls owed on raise_is
+
+    full_inv : Invariant F z full
+    full_inv = moves_keep F z s full (step (move.raise raise_is refl) here) t.holds
+
+    full_unlinked : AreUnlinked (Some (hand (main n) [])) full
+    full_unlinked = raised_unlinked s (main n) machine.Full owed t.unlinked
+
+    pub right_due : (m : NodeId) → right ≡ Some m → IsDue F z full arena mid calls (main n) (main m) []
+    right_due m e = record {
+      holds = full_inv;
+      stands = subst (λ (x : Option NodeId). Stands arena mid calls (Some (hand (main n) (map main (at_most_one x)))) full) e on_full;
+      depends = right_confirmed F z full full_inv (main n) (main m) r row_is (λ b scope. absurd (none-some b (sym (kept.flat n r row) ∙ scope)))
+          (on.settled (change n) ∙ was.own)
+          (subst (λ (xs : List Point). Among (main m) xs) (sym (targets_are_owed ∙ ap (λ (x : Option NodeId). map main (at_most_one x)) e)) (inl refl));
+      confirmed = record {
+        gate = λ r' b e' scope. absurd (none-some b (sym (kept.flat n r' (sym (ap (λ (G : Graph). G.row n) on.graph) ∙ e')) ∙ scope));
+        right = λ r' e' m' among. t.taken;
+      };
+      unlinked = full_unlinked;
+    }
+
+  full_finishes : (F : Functions) (z : Start) (s : State) (work : Work) (calls : ℕ) → Stands arena work calls (Some (hand (main n) [])) s
+      → stage_in (at work.rows (main n)) ≡ Some code.Full → Finish s (main n)
+  full_finishes F z s work calls on f =
+      let k = staged_row (at work.rows (main n)) code.Full f in
+      let is_full : s.stage (main n) ≡ machine.Full = on.stage (main n) k.0 k.1 ∙ ap stage_of k.2 in
+      record {
+        owed = on.owed (main n) ∙ at_same (main n) [] nothing;
+        bare = λ x e. let y = is_full in cc;
+        gated = λ r' e x g. absurd (let y = is_full in cc);
+        static = λ r' e x g. absurd (let y = is_full in cc);
+      }
+
+  pub full_in : stage_in (at rows (main n)) ≡ Some code.Full
+  full_in = ap stage_in w.changed ∙ of (at old.rows (main n)) was.waited.stage
+    where
+      of : (x : Option Progress) → stage_in x ≡ Some code.Static → stage_in (option_map (with_stage code.Full) x) ≡ Some code.Full
+      of None e = absurd (none-some code.Static e)
+      of (Some k) e = refl
+
+  -- there is no right side
+  pub none_attached : right ≡ None → Attaches arena old mid n
+  none_attached none F z s calls t =
+      let on = subst (λ (x : Option NodeId). Stands arena mid calls (Some (hand (main n) (map main (at_most_one x)))) (full F z s calls t)) none
+      (on_full F z s calls t) in
+      let out = leaves_hand F z (full F z s calls t) arena mid calls (main n) on (full_unlinked F z s calls t) (full_finishes F z (full F z s calls t) mid calls on full_in) in
+      (out.0, wired_after F z s (full F z s calls t) out.0 (plainly (full_moves F z s calls t)) out.1, out.2, out.3)
+
+  module _ (m : NodeId) (is : right ≡ Some m) (new : Work) where
+    pub right_refused : (e : Refused) → ConnectRefused arena mid new (main n) (main m) e → AttachRefused arena old new n e
+    right_refused e refused F z s calls t =
+        let a = refused F z (full F z s calls t) calls [] (right_due F z s calls t m is) in
+        (a.0, Some (hand (main n) (main m ∷ [])), wired_before F z s (full F z s calls t) a.0 (full_moves F z s calls t) a.1, a.2, a.3)
+
+    pub right_gone : LosesNeed arena mid new (main n) (main m) → Attaches arena old new n
+    right_gone gone F z s calls t =
+        let a = gone F z (full F z s calls t) calls [] (right_due F z s calls t m is) in
+        (a.0, wired_before F z s (full F z s calls t) a.0 (full_moves F z s calls t) a.1, a.2, a.3)
+
+    pub right_on : Connects arena mid new (main n) (main m) → at new.rows (main n) ≡ at rows (main n) → Attaches arena old new n
+    right_on connects same F z s calls t =
+        let a = connects F z (full F z s calls t) calls [] (right_due F z s calls t m is) in
+        let out = leaves_hand F z a.0 arena new calls (main n) a.2 a.3 (full_finishes F z a.0 new calls a.2 (ap stage_in same ∙ full_in)) in
+        (out.0, wired_after F z s a.0 out.0 (wired_before F z s (full F z s calls t) a.0 (full_moves F z s calls t) a.1) out.1, out.2, out.3)

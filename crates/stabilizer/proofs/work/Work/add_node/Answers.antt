@@ -1,0 +1,16 @@
+use Rattle.std.proofs.Common.{Some, sym, subst, ◌∙◌}
+use Rattle.std.proofs.lemmas.Result.{on_ok_weaker}
+use Rattle.inc_value.specs.declared.node.Point.{Point}
+use Rattle.inc_terms.specs.Code.{def_of}
+use Rattle.point_map.specs.Rows.{Changes}
+use Rattle.stabilizer.proofs.Placing.{one_point}
+use Rattle.stabilizer.proofs.work.Work.add_node.Goals as goal
+
+pub returns-in-None-clause-added : goal.returns-in-None-clause-added
+returns-in-None-clause-added c = on_ok_weaker c.add.result (λ added. (
+  λ part. c.height_over-height-in-None.result,
+  one_point c.args.self.now.graph.heights c.add.new.self.graph.heights c.args.node (def_of c.args.def.now) c.height_over-height-in-None.result
+      (sym c.subject.ensures ∙ c.in-None.is)
+      (subst (λ (p : Point). Changes c.args.self.now.graph.heights c.add.new.self.graph.heights p (Some c.height_over-height-in-None.result)) c.main_point.ensures added)
+      c.requires.no_change.0,
+)) c.add.ensures.added
