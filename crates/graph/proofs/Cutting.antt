@@ -23,7 +23,8 @@ use Rattle.stabilizer.specs.declared.parts.Parts.{Parts}
 use Rattle.stabilizer.specs.declared.refused.Refused.{Refused}
 use Rattle.node_outcomes.specs.declared.row.Progress.{Progress}
 use Rattle.graph.specs.Effects.{SetsCutoff}
-use Rattle.graph.specs.Sound.{IsSound, ReadOlder}
+use Rattle.stabilizer.proofs.Beginning.{main_there}
+use Rattle.graph.specs.Sound.{IsSound}
 use Rattle.graph.specs.Standing.{Standing}
 use Rattle.graph.specs.declared.observer.Observer.{Observer}
 
@@ -60,7 +61,6 @@ module _ (old new : Parts) (id : NodeId) (c : Cutoff) (set : IsRewritten old.wor
       ready = ready can.ready;
       roots = λ p. ap (λ (x : Parts). root_times x.work.graph.roots p) rest ∙ can.roots p;
       fit = subst (λ (a : Arena). AllCallFit known lists_none a) (sym arena_as) can.fit;
-      older = subst ReadOlder (sym arena_as) can.older;
       given = λ n among. subst (λ (a : Arena). Given a.given n) (sym arena_as) (can.given n among);
       shown = λ n among. subst IsSome (sym (seen_as (main n))) (can.shown n among);
     };
@@ -73,6 +73,6 @@ module _ (old new : Parts) (id : NodeId) (c : Cutoff) (set : IsRewritten old.wor
     rest = ap (λ (p : Parts). record s { parts = p })
         (subst (λ (p : Parts). new ≡ record p { work = record p.work { rows = new.work.rows } }) (sym is) rest);
     dead = λ not. ap (λ (p : Parts). record s { parts = p })
-        (dead (no_row (at old.work.rows (main id)) (row_at old.arena id) (kept.rows id)
+        (dead (no_row (at old.work.rows (main id)) (row_at old.arena id) (main_there old.arena old.work kept id)
         (λ live. not (subst (λ (p : Parts). IsLive p.arena id) (sym is) live))) ∙ sym is);
   }

@@ -16,7 +16,7 @@ use Rattle.stabilizer.specs.Round.{IsReady}
 use Rattle.node_outcomes.specs.declared.row.Progress.{Progress}
 use Rattle.stabilizer.specs.declared.parts.Parts.{Parts}
 use Rattle.graph.specs.Standing.{in_use}
-use Rattle.graph.specs.Sound.{CanStabilize, ReadOlder}
+use Rattle.graph.specs.Sound.{CanStabilize}
 use Rattle.graph.specs.declared.observer.Observer.{Observer}
 
 module _ (known : FnRef → Bool) (value : FnRef → List Value → Value) (old new : Parts) (observers : List Observer) (rooted : ℕ)
@@ -24,14 +24,13 @@ module _ (known : FnRef → Bool) (value : FnRef → List Value → Value) (old 
   -- roots, what is shown of rooted nodes and ids that were given stay
   pub can_still : IsReady (functions_of value) new.arena new.work
       → ((p : Point) → root_times new.work.graph.roots p ≡ root_times old.work.graph.roots p)
-      → AllCallFit known lists_none new.arena → ReadOlder new.arena → (old.arena.given ≤ new.arena.given)
+      → AllCallFit known lists_none new.arena → (old.arena.given ≤ new.arena.given)
       → ((n : NodeId) → Among n (in_use (take rooted observers)) → at new.work.rows (main n) ≡ at old.work.rows (main n))
       → CanStabilize known value new observers rooted
-  can_still ready roots fit older given rows = record {
+  can_still ready roots fit given rows = record {
     ready = ready;
     roots = λ p. roots p ∙ can.roots p;
     fit = fit;
-    older = older;
     given = λ n among. let g = can.given n among in omega (arith, g, given);
     shown = λ n among. subst (λ (k : Option Progress). IsSome (seen_of k)) (sym (rows n among)) (can.shown n among);
   }

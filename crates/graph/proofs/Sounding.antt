@@ -25,7 +25,7 @@ use Rattle.stabilizer.specs.Round.{IsReady}
 use Rattle.stabilizer.specs.declared.parts.Parts.{Parts}
 use Rattle.stabilizer.specs.declared.refused.Refused.{Refused}
 use Rattle.graph.specs.Known.{CallsKnown}
-use Rattle.graph.specs.Sound.{IsSound, ReadOlder}
+use Rattle.graph.specs.Sound.{IsSound}
 use Rattle.inc_value.specs.declared.value.Value.TheVariants as value
 use Rattle.inc_value.specs.Choice.{Every, Among}
 use Rattle.inc_terms.specs.Within.{ValueWithin}
@@ -82,6 +82,8 @@ known_fits known a ty count (graph.Const v) k m = value_within v
 known_fits known a ty count (graph.Var v) k m = value_within v
 known_fits known a ty count (graph.Fold f v ns) k m = (((k, m.kind), λ n among. absurd among), value_within v, every_unit ns)
 known_fits known a ty count (graph.Map f ns) k m = (((k, m.kind), λ n among. absurd among), every_unit ns)
+known_fits known a ty count (graph.If t l r) k m = (tt, tt, tt)
+known_fits known a ty count (graph.Join kid) k m = tt
 known_fits known a ty count def k m = absurd m
 
 -- ---- a node is added, or not
@@ -116,39 +118,6 @@ answer_fits known old new def ty (Ok id) a calls sound fit = λ n r is. elim (no
 ]
 answer_fits known old new def ty (Err e) a calls sound fit = subst (λ (x : Arena). AllCallFit known lists_none x) (sym a.err) fit
 
-every_among : (P : NodeId → Type 0) (ns : List NodeId) (m : NodeId) → Every P ns → Among m ns → P m
-every_among P [] m all h = absurd h
-every_among P (n ∷ ns) m all (inl e) = subst P (sym e) all.0
-every_among P (n ∷ ns) m all (inr h) = every_among P ns m all.1 h
-
--- the children of a definition that names such nodes alone
-kids_within : (P : NodeId → Type 0) (Q : FnKind → FnRef → Type 0) (def : Def) (m : NodeId) → DefWithin P Q def → Among m (graph.kids def) → P m
-kids_within P Q (graph.Map f ns) m w h = every_among P ns m w.1 h
-kids_within P Q (graph.Fold f v ns) m w h = every_among P ns m w.2 h
-kids_within P Q (graph.Freeze n f) m w h = every_among P (n ∷ []) m (w.1, tt) h
-kids_within P Q (graph.Expert f v ns) m w h = every_among P ns m w.2 h
-kids_within P Q def m w h = absurd h
-
--- the children of a node that is added were given before it
-added_older : (old : Arena) (def : Def) (id : NodeId) → id.gen_ ≡ old.given
-    → ((¬ NamesGiven old.given def) → ◌≡◌ {A = Result NodeId AddFault} (Ok id) (Err add.Unknown))
-    → (m : NodeId) → Among m (graph.kids def) → m.gen_ < id.gen_
-added_older old def id fresh unknown m h = elim (below_or_not m.gen_ id.gen_) [
-  | inl below ↦ below
-  | inr past ↦ absurd (let e = unknown (λ names. let k = kids_within (Given old.given) (λ kind f. Unit {0}) def m names h in omega (arith, k, past, fresh)) in cc)
-]
-
-pub answer_older : (old new : Arena) (def : Def) (ty : Ty) (result : Result NodeId AddFault) → AddAnswers old new def ty result
-    → ReadOlder old → ReadOlder new
-answer_older old new def ty (Ok id) a older = λ n m r is h. elim (node_or_other id n) [
-  | inl e ↦
-      let row = same_row (sym a.added.changed ∙ (ap (row_at new) e ∙ is)) in
-      subst (λ (x : NodeId). m.gen_ < x.gen_) e
-      (added_older old def id a.fresh a.unknown m (subst (λ (x : Row). Among m (graph.kids x.def)) (sym row) h))
-  | inr ne ↦ older n m r (sym (a.added.others n (λ k. ne (sym k))) ∙ is) h
-]
-answer_older old new def ty (Err e) a older = subst ReadOlder (sym a.err) older
-
 -- ---- a variable is set, or not
 
 pub on_err : {T E : Type 0} (old new : Parts) (result : Result T E) → OnErr result (new ≡ old) → OnErr result (new.arena ≡ old.arena)
@@ -164,27 +133,18 @@ set_fits known old new id v (Ok u) set same fit = λ n r is. elim (node_or_other
   | inr ne ↦ calls_fit_as known known (itself known) old.given new.given r.def (fit n r (sym (set.changes.others n (λ k. ne (sym k))) ∙ is))
 ]
 
-pub set_older : (old new : Arena) (id : NodeId) (v : Value) (result : Result (Unit {0}) SetFault)
-    → OnOk result (IsSet old new id v) → OnErr result (new ≡ old) → ReadOlder old → ReadOlder new
-set_older old new id v (Err e) set same older = subst ReadOlder (sym same) older
-set_older old new id v (Ok u) set same older = λ n m r is h. elim (node_or_other id n) [
-  | inl e ↦ absurd (subst (λ (x : Row). Among m (graph.kids x.def)) (sym (same_row (sym set.changes.changed ∙ (ap (row_at new) e ∙ is)))) h)
-  | inr ne ↦ older n m r (sym (set.changes.others n (λ k. ne (sym k))) ∙ is) h
-]
-
 module _ (known : FnRef → Bool) (value : FnRef → List Value → Value) (old new : Parts) (observers : List Observer) (rooted : ℕ)
     (refused : Option Refused) (sound : IsSound known value old observers rooted refused) where
   -- all that a call between stabilizes leaves
   pub sound_still : (IsReady (functions_of value) old.arena old.work → IsReady (functions_of value) new.arena new.work)
       → ((p : Point) → root_times new.work.graph.roots p ≡ root_times old.work.graph.roots p)
-      → (AllCallFit known lists_none old.arena → AllCallFit known lists_none new.arena) → (ReadOlder old.arena → ReadOlder new.arena)
-      → (old.arena.given ≤ new.arena.given)
+      → (AllCallFit known lists_none old.arena → AllCallFit known lists_none new.arena) → (old.arena.given ≤ new.arena.given)
       → ((n : NodeId) → Given old.arena.given n → at new.work.rows (main n) ≡ at old.work.rows (main n))
       → IsSound known value new observers rooted refused
-  sound_still ready roots fit older given rows = record {
+  sound_still ready roots fit given rows = record {
     few = sound.few;
     earlier = sound.earlier;
     unbroken = λ whole. let can = sound.unbroken whole in
-        can_still known value old new observers rooted can (ready can.ready) roots (fit can.fit) (older can.older) given
+        can_still known value old new observers rooted can (ready can.ready) roots (fit can.fit) given
         (λ n among. rows n (can.given n (front_is_among observers rooted n among)));
   }

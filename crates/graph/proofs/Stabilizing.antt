@@ -8,7 +8,7 @@ use Rattle.inc_value.specs.declared.value.Value.{Value}
 use Rattle.inc_value.specs.declared.node.NodeId.{NodeId}
 use Rattle.inc_value.specs.declared.node.Point.{Point}
 use Rattle.inc_value.specs.Choice.{Among, here}
-use Rattle.inc_terms.specs.Depend.{main, none_died}
+use Rattle.inc_terms.specs.Depend.{main, change, none_died}
 use Rattle.inc_terms.specs.Graph.{Graph}
 use Rattle.inc_terms.specs.Need.{IsRoot, Needed, Met, from_root, from_held}
 use Rattle.inc_terms.specs.Term.{Functions}
@@ -25,7 +25,7 @@ use Rattle.stabilizer.specs.declared.parts.Parts.{Parts}
 use Rattle.stabilizer.specs.declared.refused.Refused.{Refused}
 use Rattle.stabilizer.specs.declared.refused.Refused.TheVariants.{Height, Cycle, Full, Memory}
 use Rattle.stabilizer.specs.declared.work.Work.{Work}
-use Rattle.graph.specs.Sound.{CanStabilize, ReadOlder}
+use Rattle.graph.specs.Sound.{CanStabilize}
 use Rattle.graph.specs.Standing.{in_use}
 use Rattle.graph.specs.declared.observer.Observer.{Observer}
 use Rattle.graph.proofs.Observing.{in_use_split, among_swapped, among_right, count_swapped}
@@ -69,6 +69,7 @@ module _ (F : Functions) (arena : Arena) (old : Work) (xs ys : List NodeId) (to 
       (λ n. (u.needs p).1 (needed_as F (graph_of arena) none_died ys xs back p n)),
     );
     sees = λ n need. u.sees n (needed_as F (graph_of arena) none_died ys xs back (main n) need);
+    chose = λ n m r row subject need. u.chose n m r row subject (needed_as F (graph_of arena) none_died ys xs back (change n) need);
     acyclic = λ p need. u.acyclic p (needed_as F (graph_of arena) none_died ys xs back p need);
     shallow = λ p need. u.shallow p (needed_as F (graph_of arena) none_died ys xs back p need);
     links = u.links;
@@ -87,7 +88,7 @@ module _ (F : Functions) (arena : Arena) (old : Work) (xs ys : List NodeId) (to 
   }
 
   pub lawful_as : (e : Refused) → IsLawful F arena old xs e → IsLawful F arena old ys e
-  lawful_as (Height points) l = (listed_as points.items l.0, l.1)
+  lawful_as (Height points) l = (listed_as points.items l.0, l.1, l.2)
   lawful_as (Cycle points) l = (listed_as points.items l.0, l.1)
   lawful_as Full l = l
   lawful_as Memory l = l
@@ -153,7 +154,6 @@ module _ (known known' : FnRef → Bool) (value value' : FnRef → List Value �
         ready = ready;
         roots = subst (λ (xs : List Observer). AreRooted new.work (in_use xs)) (sym whole) right.rooted;
         fit = rows_fit known known' old.arena new.arena keeps (λ n. ap (λ (a : Arena). row_at a n) arena) can.fit;
-        older = subst ReadOlder (sym arena) can.older;
         given = λ n among. subst (λ (a : Arena). Given a.given n) (sym arena) (can.given n among);
         shown = λ n among.
             let s = right.sees n (n, inl (subst (λ (xs : List Observer). Among n (in_use xs)) whole among), here) in

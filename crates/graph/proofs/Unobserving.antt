@@ -13,7 +13,7 @@ use Rattle.inc_terms.specs.Within.{Given}
 use Rattle.point_map.specs.Rows.{Rows, at}
 use Rattle.necessity.specs.Need.{Roots, root_times, OneRootMore}
 use Rattle.stabilize_round.proofs.Points.{among_count, same_or_other}
-use Rattle.stabilizer.specs.Between.{outcome_in}
+use Rattle.node_outcomes.specs.Row.{outcome_in}
 use Rattle.node_outcomes.specs.Computing.{seen_of}
 use Rattle.node_arena.specs.Arena.{Arena}
 use Rattle.node_arena.specs.Graph.{AllCallFit}
@@ -23,7 +23,7 @@ use Rattle.node_outcomes.specs.declared.row.Progress.{Progress}
 use Rattle.stabilizer.specs.declared.parts.Parts.{Parts}
 use Rattle.stabilizer.specs.declared.refused.Refused.{Refused}
 use Rattle.graph.specs.Standing.{in_use, looked_at}
-use Rattle.graph.specs.Sound.{IsSound, ReadOlder}
+use Rattle.graph.specs.Sound.{IsSound}
 use Rattle.graph.specs.declared.observer.Observer.{Observer}
 use Rattle.graph.proofs.Observing.{IsLeftOut, ended, left_out, left_is_among, front_set, front_stays, front_same, in_use_append, among_either}
 
@@ -44,7 +44,6 @@ module _ (known : FnRef → Bool) (value : FnRef → List Value → Value) (part
           ready = can.ready;
           roots = subst (λ (os : List Observer). AreRooted parts.work (in_use os)) (sym front) can.roots;
           fit = can.fit;
-          older = can.older;
           given = λ n among. elim (among_either n (in_use observers) (node ∷ []) (subst (Among n) (in_use_append observers (observing node ∷ [])) among)) [
             | inl k ↦ can.given n k
             | inr k ↦ elim k [ inl e ↦ subst (Given parts.arena.given) (sym e) given | inr none ↦ absurd none ]
@@ -92,7 +91,6 @@ module _ (known : FnRef → Bool) (value : FnRef → List Value → Value) (old 
           ready = can.ready;
           roots = subst (λ (os : List Observer). AreRooted old.work (in_use os)) (sym front) can.roots;
           fit = can.fit;
-          older = can.older;
           given = λ n among. can.given n (left_is_among node n (in_use observers) (in_use (slice_set observers place (ended node)))
               (left_out observers place node is) among);
           shown = λ n among. can.shown n (subst (λ (os : List Observer). Among n (in_use os)) front among);
@@ -113,7 +111,6 @@ module _ (known : FnRef → Bool) (value : FnRef → List Value → Value) (old 
           ready = ready can.ready;
           roots = subst (AreRooted new.work) (sym out.now) (roots out.front out.back (subst (AreRooted old.work) out.was can.roots));
           fit = subst (λ (a : Arena). AllCallFit known lists_none a) (sym arena) can.fit;
-          older = subst ReadOlder (sym arena) can.older;
           given = λ n among. subst (λ (a : Arena). Given a.given n) (sym arena)
               (can.given n (left_is_among node n (in_use observers) (in_use (slice_set observers place (ended node)))
               (left_out observers place node is) among));

@@ -1,13 +1,11 @@
 -- What every graph keeps.
-use Rattle.std.specs.Prelude.{◌≡◌, ◌<◌, ◌≤◌, ◌-◌, ◌^◌, ℕ, Bool, List, take, length, Option, None, Some, IsSome}
+use Rattle.std.specs.Prelude.{◌≡◌, ◌≤◌, ◌-◌, ◌^◌, ℕ, Bool, List, take, length, Option, None, IsSome}
 use Rattle.inc_value.specs.declared.function.FnRef.{FnRef}
 use Rattle.inc_value.specs.declared.node.NodeId.{NodeId}
 use Rattle.inc_value.specs.declared.value.Value.{Value}
 use Rattle.inc_value.specs.Choice.{Among}
 use Rattle.inc_terms.specs.Depend.{main}
-use Rattle.inc_terms.specs.Graph.{Row, kids}
 use Rattle.inc_terms.specs.Within.{Given}
-use Rattle.node_arena.specs.Arena.{Arena, row_at}
 use Rattle.node_arena.specs.Graph.{AllCallFit}
 use Rattle.node_outcomes.specs.Computing.{seen}
 use Rattle.node_outcomes.specs.Meaning.{functions_of, lists_none}
@@ -17,18 +15,13 @@ use Rattle.stabilizer.specs.declared.refused.Refused.{Refused}
 use Rattle.graph.specs.Standing.{in_use}
 use Rattle.graph.specs.declared.observer.Observer.{Observer}
 
--- each node reads nodes alone whose ids were given before its own
-abbrev pub ReadOlder : Arena → Type 0
-ReadOlder a = (n m : NodeId) (r : Row) → row_at a n ≡ Some r → Among m (kids r.def) → m.gen_ < n.gen_
-
 -- an unbroken graph: a round may begin, by the values of its functions; need begins at the observers that were there at the last one; all functions
--- of its nodes are known; nodes read older ones; observers look at given nodes; and those that were there at the last round show an outcome
+-- of its nodes are known; observers look at given nodes; and those that were there at the last round show an outcome
 pub record CanStabilize (known : FnRef → Bool) (value : FnRef → List Value → Value) (parts : Parts) (observers : List Observer) (rooted : ℕ)
     : Type 0 where
   pub ready : IsReady (functions_of value) parts.arena parts.work
   pub roots : AreRooted parts.work (in_use (take rooted observers))
   pub fit : AllCallFit known lists_none parts.arena
-  pub older : ReadOlder parts.arena
   pub given : (n : NodeId) → Among n (in_use observers) → Given parts.arena.given n
   pub shown : (n : NodeId) → Among n (in_use (take rooted observers)) → IsSome (seen parts.work.rows (main n))
 

@@ -2,9 +2,11 @@
 use Rattle.std.specs.Prelude.{◌≡◌, ℕ, cond, List, [], ◌∷◌, take, Option, None, Some, slice_get}
 use Rattle.inc_value.specs.declared.node.NodeId.{NodeId}
 use Rattle.inc_value.specs.declared.node.ObsId.{ObsId}
+use Rattle.inc_value.specs.declared.node.Point.{Point}
 use Rattle.inc_value.specs.declared.outcome.Outcome.{Outcome}
 use Rattle.inc_terms.specs.Depend.{main}
 use Rattle.inc_terms.specs.Graph.{Graph}
+use Rattle.necessary_graph.specs.Part.{Needed}
 use Rattle.node_arena.specs.Graph.{graph_of}
 use Rattle.node_outcomes.specs.Computing.{seen}
 use Rattle.stabilizer.specs.declared.parts.Parts.{Parts}
@@ -52,6 +54,10 @@ module _ {F : Type 0} where
   -- the nodes of the observers in use that were there when a stabilize was accepted last
   abbrev pub rooted_nodes : Standing F → List NodeId
   rooted_nodes s = in_use (take s.rooted s.observers)
+
+  -- the point is brought up to date by a stabilize: an observer that was there at the last accepted one leads to it
+  abbrev pub IsNeeded : Standing F → Point → Type 0
+  IsNeeded s p = Needed s.parts.work.graph p
 
   -- what is shown of a node: the outcome that it had when it was brought up to date last, Invalid of a dead one
   abbrev pub shown_of : Standing F → NodeId → Option Outcome

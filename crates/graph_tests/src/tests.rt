@@ -2,7 +2,7 @@
 
 use formula_elab::ScriptFns;
 use graph::{Cutoff, Graph, GraphFault, Kept, Refused, StabilizeFault};
-use inc_value::{NodeId, ObsId, Outcome, Value};
+use inc_value::{Base, NodeId, ObsId, Outcome, Ty, Value};
 use std::alloc::Global;
 use std_library::{Function, StdLib};
 
@@ -14,8 +14,20 @@ type Scripted = Graph<ScriptFns<StdLib>>;
 enum Act {
     Constant(i64),
     Var(i64),
+    /// Makes a variable that holds a truth.
+    Truth(bool),
+    /// Makes a variable that refers to a node of numbers.
+    Refer(usize),
+    /// Makes a node that reads its second node where the first is true, else the third.
+    If(usize, usize, usize),
+    /// The same, of nodes that refer to others.
+    IfRefer(usize, usize, usize),
+    /// Makes a node that reads the node of numbers to which a node refers.
+    Join(usize),
     /// Makes a variable with so many negations over it, and observes the last one.
     Chain(usize),
+    /// Makes so many negations over a node, each over the one before.
+    Negations(usize, usize),
     /// Makes a map of as many of three nodes as its function takes.
     Map(Function, usize, usize, usize),
     /// Makes the fold by sums from a number on over three nodes.
@@ -23,6 +35,9 @@ enum Act {
     /// Makes the fold from a number on over no nodes.
     FoldNone(i64),
     Set(usize, i64),
+    SetTruth(usize, bool),
+    /// Has a variable refer to another node.
+    SetTarget(usize, usize),
     /// Sets a node's cutoff to Equal.
     Equal(usize),
     /// Sets a node's cutoff to Never.
@@ -72,6 +87,169 @@ const DIAMOND: &[(Act, i64)] = &[
     (Act::Set(0, 3), 0),
     (Act::Stabilize, 0),
     (Act::Calls, 6),
+];
+
+/// The chosen branch alone is needed.
+const CHOICE: &[(Act, i64)] = &[
+    (Act::Truth(true), 0),
+    (Act::Var(1), 0),
+    (Act::Var(2), 0),
+    (Act::Map(Function::Neg, 1, 0, 0), 0),
+    (Act::Map(Function::Neg, 2, 0, 0), 0),
+    (Act::If(0, 3, 4), 0),
+    (Act::Observe(5), 0),
+    (Act::Stabilize, 1),
+    (Act::Show(0), -1),
+    (Act::SetTruth(0, false), 0),
+    (Act::Stabilize, 1),
+    (Act::Show(0), -2),
+    (Act::Set(1, 5), 0),
+    (Act::Stabilize, 0),
+    (Act::Show(0), -2),
+    (Act::SetTruth(0, true), 0),
+    (Act::Stabilize, 1),
+    (Act::Show(0), -5),
+];
+
+/// The same, with its nodes made in another order.
+const CHOICE_TURNED: &[(Act, i64)] = &[
+    (Act::Var(2), 0),
+    (Act::Map(Function::Neg, 0, 0, 0), 0),
+    (Act::Var(1), 0),
+    (Act::Truth(true), 0),
+    (Act::Map(Function::Neg, 2, 0, 0), 0),
+    (Act::If(3, 4, 1), 0),
+    (Act::Observe(5), 0),
+    (Act::Stabilize, 1),
+    (Act::Show(0), -1),
+    (Act::SetTruth(3, false), 0),
+    (Act::Stabilize, 1),
+    (Act::Show(0), -2),
+    (Act::Set(2, 5), 0),
+    (Act::Stabilize, 0),
+    (Act::Show(0), -2),
+];
+
+/// A variable that refers to a node is observed, and takes no reference to a node of another type.
+const REFERENCE: &[(Act, i64)] = &[
+    (Act::Var(1), 0),
+    (Act::Refer(0), 0),
+    (Act::Truth(true), 0),
+    (Act::Observe(1), 0),
+    (Act::Stabilize, 0),
+    (Act::Show(0), -109),
+    (Act::SetTarget(1, 2), -104),
+    (Act::SetTarget(1, 1), -104),
+    (Act::Refer(2), -104),
+    (Act::Join(0), -104),
+    (Act::If(0, 0, 0), -104),
+    (Act::If(2, 0, 1), -104),
+];
+
+/// A join on a variable that refers to the join.
+const CIRCLE: &[(Act, i64)] = &[
+    (Act::Var(1), 0),
+    (Act::Refer(0), 0),
+    (Act::Join(1), 0),
+    (Act::SetTarget(1, 2), 0),
+    (Act::Observe(2), 0),
+    (Act::Stabilize, -120),
+    (Act::Stabilize, -121),
+    (Act::Observe(2), -121),
+    (Act::Live(2), -121),
+    (Act::Points, 2),
+];
+
+/// A circle that stands only until the changes have run.
+const PASSING_CIRCLE: &[(Act, i64)] = &[
+    (Act::Truth(true), 0),
+    (Act::Var(1), 0),
+    (Act::Refer(1), 0),
+    (Act::Refer(1), 0),
+    (Act::Join(2), 0),
+    (Act::If(0, 4, 1), 0),
+    (Act::Join(3), 0),
+    (Act::If(0, 1, 6), 0),
+    (Act::SetTarget(2, 7), 0),
+    (Act::SetTarget(3, 5), 0),
+    (Act::Observe(5), 0),
+    (Act::Observe(7), 0),
+    (Act::Stabilize, 0),
+    (Act::Show(0), 1),
+    (Act::SetTruth(0, false), 0),
+    (Act::Stabilize, 0),
+    (Act::Show(0), 1),
+    (Act::Show(1), 1),
+    (Act::Set(1, 9), 0),
+    (Act::Stabilize, 0),
+    (Act::Show(0), 9),
+    (Act::Show(1), 9),
+];
+
+/// The same, with its nodes made and observed in another order.
+const PASSING_CIRCLE_TURNED: &[(Act, i64)] = &[
+    (Act::Var(1), 0),
+    (Act::Refer(0), 0),
+    (Act::Join(1), 0),
+    (Act::Refer(0), 0),
+    (Act::Join(3), 0),
+    (Act::Truth(true), 0),
+    (Act::If(5, 0, 2), 0),
+    (Act::If(5, 4, 0), 0),
+    (Act::SetTarget(1, 7), 0),
+    (Act::SetTarget(3, 6), 0),
+    (Act::Observe(6), 0),
+    (Act::Observe(7), 0),
+    (Act::Stabilize, 0),
+    (Act::Show(0), 1),
+    (Act::SetTruth(5, false), 0),
+    (Act::Stabilize, 0),
+    (Act::Show(0), 1),
+    (Act::Show(1), 1),
+];
+
+/// A join is told to refer to its own reader while the choice over it, whose test takes longer, is turned away from it.
+const LATE_CIRCLE: &[(Act, i64)] = &[
+    (Act::Truth(true), 0),
+    (Act::Truth(true), 0),
+    (Act::Var(1), 0),
+    (Act::Refer(2), 0),
+    (Act::Map(Function::Not, 1, 0, 0), 0),
+    (Act::Map(Function::Not, 4, 0, 0), 0),
+    (Act::IfRefer(5, 3, 3), 0),
+    (Act::Join(6), 0),
+    (Act::If(0, 7, 2), 0),
+    (Act::Observe(8), 0),
+    (Act::Stabilize, 2),
+    (Act::SetTruth(0, false), 0),
+    (Act::SetTarget(3, 7), 0),
+    (Act::Stabilize, 0),
+    (Act::Show(0), 1),
+];
+
+/// Two long chains, of which each fits over the other only while that one stands low.
+const CHAINS_THAT_CHANGE_PLACES: &[(Act, i64)] = &[
+    (Act::Var(1), 0),
+    (Act::Refer(0), 0),
+    (Act::Refer(0), 0),
+    (Act::Join(1), 0),
+    (Act::Negations(3, 60), 0),
+    (Act::Join(2), 0),
+    (Act::Negations(64, 60), 0),
+    (Act::Observe(63), 0),
+    (Act::Observe(124), 0),
+    (Act::SetTarget(2, 63), 0),
+    (Act::Stabilize, 120),
+    (Act::Show(0), 1),
+    (Act::Show(1), 1),
+    (Act::SetTarget(2, 0), 0),
+    (Act::SetTarget(1, 124), 0),
+    (Act::Stabilize, 0),
+    (Act::SetTarget(1, 0), 0),
+    (Act::SetTarget(2, 63), 0),
+    (Act::Set(0, 5), 0),
+    (Act::Stabilize, 120),
+    (Act::Show(1), 5),
 ];
 
 /// What is not observed is not run.
@@ -269,6 +447,14 @@ const CHAIN_THAT_BREAKS: &[(Act, i64)] = &[
 
 const TABLES: &[&[(Act, i64)]] = &[
     DIAMOND,
+    CHOICE,
+    CHOICE_TURNED,
+    REFERENCE,
+    CIRCLE,
+    PASSING_CIRCLE,
+    PASSING_CIRCLE_TURNED,
+    LATE_CIRCLE,
+    CHAINS_THAT_CHANGE_PLACES,
     UNOBSERVED,
     TAKEN_BACK,
     FOLD,
@@ -286,6 +472,7 @@ const TABLES: &[&[(Act, i64)]] = &[
 fn code(fault: GraphFault) -> i64 {
     match fault {
         GraphFault::Broken(Kept::Height) => -101,
+        GraphFault::Broken(Kept::Cycle) => -121,
         GraphFault::Broken(_) => -100,
         GraphFault::Unknown => -102,
         GraphFault::NotVar => -103,
@@ -338,6 +525,8 @@ fn refusal(fault: StabilizeFault) -> i64 {
     match fault {
         StabilizeFault::Refused(Kept::Height) => -112,
         StabilizeFault::Broken(Kept::Height) => -101,
+        StabilizeFault::Refused(Kept::Cycle) => -120,
+        StabilizeFault::Broken(Kept::Cycle) => -121,
         _ => -100,
     }
 }
@@ -427,7 +616,7 @@ fn called(graph: &Scripted) -> i64 {
 /// How many points a refused stabilize met in a row; 0 of an unbroken graph.
 fn points(graph: &Scripted) -> i64 {
     match graph.broken() {
-        Some(Refused::Height(points)) => points.len() as i64,
+        Some(Refused::Height(points) | Refused::Cycle(points)) => points.len() as i64,
         Some(_) => -110,
         None => 0,
     }
@@ -457,6 +646,23 @@ fn fold(graph: &mut Scripted, nodes: &mut Vec<NodeId>, initial: i64, kids: &[Nod
     made(nodes, graph.fold(add, Value::Int(initial), kids))
 }
 
+/// Makes a node that reads its second node where the first is true, else the third.
+fn choice(graph: &mut Scripted, nodes: &mut Vec<NodeId>, ty: Ty, kids: [NodeId; 3]) -> i64 {
+    let [test, yes, no] = kids;
+    made(nodes, graph.if_(ty, test, yes, no))
+}
+
+/// Makes so many negations over a node, each over the one before.
+fn negations(graph: &mut Scripted, nodes: &mut Vec<NodeId>, kid: usize, length: usize) -> i64 {
+    let mut worst = 0;
+    let mut below = nth(nodes, kid);
+    for _ in 0..length {
+        worst = worst.min(map(graph, nodes, Function::Neg, &[below]));
+        below = nth(nodes, nodes.len().saturating_sub(1));
+    }
+    worst
+}
+
 /// Makes a variable with so many negations over it, and observes the last one.
 fn chain(graph: &mut Scripted, nodes: &mut Vec<NodeId>, length: usize) -> i64 {
     let mut worst = var(graph, nodes, 1);
@@ -473,6 +679,18 @@ fn make(graph: &mut Scripted, nodes: &mut Vec<NodeId>, act: Act) -> i64 {
         Act::Constant(value) => made(nodes, graph.constant(Value::Int(value))),
         Act::Var(value) => var(graph, nodes, value),
         Act::Chain(length) => chain(graph, nodes, length),
+        Act::Truth(holds) => made(nodes, graph.var(Value::Bool(holds))),
+        Act::Refer(target) => made(nodes, graph.var(Value::Node(nth(nodes, target), Base::Int))),
+        Act::If(test, yes, no) => {
+            let kids = [nth(nodes, test), nth(nodes, yes), nth(nodes, no)];
+            choice(graph, nodes, Ty::Int, kids)
+        }
+        Act::IfRefer(test, yes, no) => {
+            let kids = [nth(nodes, test), nth(nodes, yes), nth(nodes, no)];
+            choice(graph, nodes, Ty::Node(Base::Int), kids)
+        }
+        Act::Join(kid) => made(nodes, graph.join(Ty::Int, nth(nodes, kid))),
+        Act::Negations(kid, length) => negations(graph, nodes, kid, length),
         Act::Map(function, first, second, third) => {
             let kids = [nth(nodes, first), nth(nodes, second), nth(nodes, third)];
             map(graph, nodes, function, &kids)
@@ -504,6 +722,10 @@ fn look(graph: &Scripted, nodes: &[NodeId], act: Act) -> i64 {
 fn perform(graph: &mut Scripted, nodes: &mut Vec<NodeId>, act: Act) -> i64 {
     match act {
         Act::Set(i, value) => told(graph.set_var(nth(nodes, i), Value::Int(value))),
+        Act::SetTruth(i, holds) => told(graph.set_var(nth(nodes, i), Value::Bool(holds))),
+        Act::SetTarget(i, target) => {
+            told(graph.set_var(nth(nodes, i), Value::Node(nth(nodes, target), Base::Int)))
+        }
         Act::Equal(i) => told(graph.set_cutoff(nth(nodes, i), Cutoff::Equal)),
         Act::Never(i) => told(graph.set_cutoff(nth(nodes, i), Cutoff::Never)),
         Act::Observe(i) => observed(graph, nth(nodes, i)),

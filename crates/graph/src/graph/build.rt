@@ -2,14 +2,15 @@
 ghost use Rattle.std.specs.Prelude.{◌≡◌, ◌⊎◌, ◌↔◌, ◌<◌, IfOk, IfErr, OnOk, OnErr, IsOk, IsErrOf, IsTrue};
 ghost use Rattle.inc_value.specs.Value.{type_of};
 ghost use Rattle.inc_value.specs.declared.node.NodeId.{NodeId};
+ghost use Rattle.inc_value.specs.declared.node.Point.{Point};
 ghost use Rattle.inc_value.specs.Choice.{Among};
 ghost use Rattle.inc_terms.specs.Code.{def_of};
-ghost use Rattle.inc_terms.specs.Graph.{Const, Var, Map, Fold};
+ghost use Rattle.inc_terms.specs.Graph.{Const, Var, Map, Fold, If, Join};
 ghost use Rattle.graph.specs.Known.{CallsKnown};
 ghost use Rattle.inc_terms.specs.Within.{Given, ValueWithin};
 ghost use Rattle.node_arena.specs.Arena.{IsLive, IsVariable};
 ghost use Rattle.node_arena.specs.Typing.{FitsNode};
-ghost use Rattle.graph.specs.Standing.{IsUnbroken, IsBroken, in_use, rooted_nodes};
+ghost use Rattle.graph.specs.Standing.{IsUnbroken, IsBroken, IsNeeded, in_use, rooted_nodes};
 ghost use Rattle.graph.specs.Effects.{top, NamesUnknown, IsMistyped, HasNoRoom, KeepsAll, IsAddFault, IsSetFault, IsCutoffFault, Adds, Sets, SetsCutoff, TakesBack};
 ghost use Rattle.graph.specs.declared.fault.Kept.{Kept as ACause};
 
@@ -125,6 +126,43 @@ impl<F: Functions> Graph<F> {
         }
     }
 
+    /// A node that reads a test, and the first of two nodes where the test gives true, the second where it gives false,
+    /// whose outcome it shows. Both are of its type. Where the test is Invalid it shows Invalid, and reads neither.
+    pub fn if_(
+        &mut self,
+        ty: Ty,
+        test: NodeId,
+        yes: NodeId,
+        no: NodeId,
+    ) -> Result<NodeId, GraphFault>
+        ensures broken { (cause : ACause) → IsErrOf result (GraphFault.Broken cause) ↔ IsBroken self.old cause }
+        ensures added { IfOk result (λ id. Adds self.old self.new id (top (If test yes no) ty)) }
+        ensures unknown { IsErrOf result GraphFault.Unknown ↔ (IsUnbroken self.old × NamesUnknown self.old (If test yes no)) }
+        ensures wrong_type { IsErrOf result GraphFault.WrongType
+            ↔ (IsUnbroken self.old × IsMistyped self.old (If test yes no) ty) }
+        ensures full { IsErrOf result GraphFault.Full ↔ (IsUnbroken self.old × HasNoRoom self.old (If test yes no) ty) }
+        ensures adding { IfErr result IsAddFault }
+        ensures err { OnErr result (KeepsAll self.old self.new) }
+        ensures nodes { OnErr result (self.new.parts.arena ≡ self.old.parts.arena) }
+    {
+        self.add(Def::If { test, yes, no }, ty)
+    }
+
+    /// A node that reads a node whose values are references, and the node that its value names, whose outcome it shows:
+    /// one of its type. Where the child is Invalid it shows Invalid, and reads no other.
+    pub fn join(&mut self, ty: Ty, kid: NodeId) -> Result<NodeId, GraphFault>
+        ensures broken { (cause : ACause) → IsErrOf result (GraphFault.Broken cause) ↔ IsBroken self.old cause }
+        ensures added { IfOk result (λ id. Adds self.old self.new id (top (Join kid) ty)) }
+        ensures unknown { IsErrOf result GraphFault.Unknown ↔ (IsUnbroken self.old × NamesUnknown self.old (Join kid)) }
+        ensures wrong_type { IsErrOf result GraphFault.WrongType ↔ (IsUnbroken self.old × IsMistyped self.old (Join kid) ty) }
+        ensures full { IsErrOf result GraphFault.Full ↔ (IsUnbroken self.old × HasNoRoom self.old (Join kid) ty) }
+        ensures adding { IfErr result IsAddFault }
+        ensures err { OnErr result (KeepsAll self.old self.new) }
+        ensures nodes { OnErr result (self.new.parts.arena ≡ self.old.parts.arena) }
+    {
+        self.add(Def::Join(kid), ty)
+    }
+
     /// Adds a node.
     fn add(&mut self, def: Def, ty: Ty) -> Result<NodeId, GraphFault>
         requires known { CallsKnown (F.known self.old.functions) (def_of def) }
@@ -215,6 +253,7 @@ impl<F: Functions> Graph<F> {
         ensures mark { IfOk result (λ mark. mark.given ≡ self.now.parts.arena.given) }
         ensures observed { IfOk result (λ mark. (n : NodeId) → Among n (in_use self.now.observers) → n.gen_ < mark.given) }
         ensures rooted { IfOk result (λ mark. (n : NodeId) → Among n (rooted_nodes self.now) → n.gen_ < mark.given) }
+        ensures needed { IfOk result (λ mark. (p : Point) → IsNeeded self.now p → p.node.gen_ < mark.given) }
         ensures unbroken { IsOk result ↔ IsUnbroken self.now }
     {
         self.check()?;
@@ -223,10 +262,10 @@ impl<F: Functions> Graph<F> {
         })
     }
 
-    /// Drops the nodes that were added since the mark. No observer that was there when a stabilize was accepted last
-    /// looks at one of them; `mark` says so of those that were there then. This takes no memory.
+    /// Drops the nodes that were added since the mark. None of them is needed: `mark` says so of what is needed then, and
+    /// only a stabilize makes more be needed. This takes no memory.
     pub fn back_to(&mut self, mark: Mark) -> Result<(), GraphFault>
-        requires unobserved { (n : NodeId) → Among n (rooted_nodes self.old) → n.gen_ < mark.given }
+        requires unneeded { IsUnbroken self.old → (p : Point) → IsNeeded self.old p → p.node.gen_ < mark.given }
         ensures broken { (cause : ACause) → IsErrOf result (GraphFault.Broken cause) ↔ IsBroken self.old cause }
         ensures taken { OnOk result (TakesBack self.old self.new mark.given) }
         ensures unbroken { IsOk result ↔ IsUnbroken self.old }

@@ -7,7 +7,7 @@ ghost use Rattle.stabilize_round.specs.Calling.{costs_of};
 ghost use Rattle.stabilize_round.specs.Counts.{RoseBy};
 ghost use Rattle.node_outcomes.specs.Computing.{KeepsFunctions};
 ghost use Rattle.node_outcomes.specs.Meaning.{functions_of};
-ghost use Rattle.stabilizer.specs.Round.{IsUpToDate, IsLawful, HasCalledFew};
+ghost use Rattle.stabilizer.specs.Round.{IsUpToDate, IsLawful, LeavesTried, HasCalledFew};
 ghost use Rattle.graph.specs.Sound.{CanStabilize};
 ghost use Rattle.graph.specs.Standing.{IsBroken, in_use};
 ghost use Rattle.graph.specs.Stabilizes.{Stabilizes, IsRefusedFor};
@@ -96,6 +96,7 @@ fn run<F: Functions>(
         (length observers.now)) }
     ensures lawful { IfErr result (λ e. IsLawful (functions_of (F.value functions.old)) parts.old.arena parts.old.work
         (in_use observers.now) e) }
+    ensures tried { IfErr result (LeavesTried parts.new.arena parts.new.work) }
     ensures few { OnErr result (HasCalledFew parts.old.arena (F.calls functions.old) (F.calls functions.new)) }
     ensures ran { OnErr result (parts.new.ran ≡ parts.old.ran) }
     ensures arena { parts.new.arena ≡ parts.old.arena }

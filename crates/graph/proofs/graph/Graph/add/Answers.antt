@@ -3,8 +3,9 @@ use Rattle.node_arena.specs.declared.arena.AddFault.TheVariants as add
 use Rattle.graph.specs.declared.fault.GraphFault.TheVariants as fault
 use Rattle.graph.proofs.Faulting.{AddPasses, add_passed, add_wrong_type}
 use Rattle.inc_terms.specs.Code.{def_of}
+use Rattle.inc_terms.specs.Depend.{main}
 use Rattle.necessity.specs.Need.{Roots, root_times}
-use Rattle.graph.proofs.Sounding.{AddAnswers, sound_still, answer_fits, answer_older, answer_given}
+use Rattle.graph.proofs.Sounding.{AddAnswers, sound_still, answer_fits, answer_given}
 use Rattle.graph.proofs.graph.Graph.add.Goals as goal
 use Rattle.graph.proofs.graph.Graph.add.Goals.{in-Ok-added, in-Err-added}
 
@@ -19,8 +20,7 @@ invariant_of-self g c = (
       sound_still _ _ c.self.inside.parts c.add-added.new.self c.self.inside.observers.items c.self.inside.rooted c.self.inside.refused c.self.invariant.1
       (a.ready _) (λ p. ap (λ (r : Roots). root_times r p) a.roots)
       (answer_fits _ _ _ (def_of c.args.def) c.args.ty c.add-added.result answers known sound)
-      (answer_older _ _ (def_of c.args.def) c.args.ty c.add-added.result answers)
-      (answer_given _ _ (def_of c.args.def) c.args.ty c.add-added.result answers) a.rows),
+      (answer_given _ _ (def_of c.args.def) c.args.ty c.add-added.result answers) (λ n given. a.rows (main n) given)),
 )
 
 pub returns-clause-wrong_type : goal.returns-clause-wrong_type

@@ -1,22 +1,19 @@
 use Rattle.std.proofs.Common.{arith}
 use Rattle.inc_terms.specs.Depend.{main}
-use Rattle.stabilizer.proofs.Between.{ready_is_between}
-use Rattle.graph.proofs.TakingBack.{needed_older, sound_back}
+use Rattle.graph.proofs.TakingBack.{sound_back}
 use Rattle.graph.proofs.graph.Graph.back_to.Goals as goal
 
 pub back_to-requires-clause-unneeded : goal.back_to-requires-clause-unneeded
-back_to-requires-clause-unneeded g c n since need =
+back_to-requires-clause-unneeded g c p since need =
     let whole = rw (← c.self.view_is) at c.in_ok-check.ensures.unbroken in
-    let young = rw (← c.self.view_is) at c.requires.unobserved in
-    let can = c.self.invariant.1.unbroken whole in
-    let low = needed_older _ c.self.inside.parts.arena c.self.inside.parts.work (ready_is_between _ _ _ can.ready) _ can.roots c.args.mark.given
-    can.older young (main n) need in omega (arith, low, since)
+    let low = (rw (← c.self.view_is) at c.requires.unneeded) whole p need in omega (arith, low, since)
 
 pub invariant_of-self : goal.invariant_of-self
 invariant_of-self g c = (
   c.self.invariant.0,
-  (let young = rw (← c.self.view_is) at c.requires.unobserved in
+  (let whole = rw (← c.self.view_is) at c.in_ok-check.ensures.unbroken in
+      let low = (rw (← c.self.view_is) at c.requires.unneeded) whole in
       let b = c.back_to.ensures in
       sound_back _ _ c.self.inside.parts c.back_to.new.self c.self.inside.observers.items c.self.inside.rooted c.self.inside.refused c.self.invariant.1
-      c.args.mark.given b.older b.dropped (b.ready _) b.roots b.given b.rows young),
+      c.args.mark.given b.older b.dropped (b.ready _) b.roots b.given (λ n older. b.rows (main n) older) low),
 )

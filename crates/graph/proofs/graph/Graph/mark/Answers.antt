@@ -13,3 +13,9 @@ returns-clause-rooted g c n among =
     let can = c.self.invariant.1.unbroken whole in
     let front = front_is_among c.self.inside.observers.items c.self.inside.rooted n (rw (← c.self.view_is) at among) in
     rw (c.given.ensures, c.arena.ensures) (can.given n front)
+
+pub returns-clause-needed : goal.returns-clause-needed
+returns-clause-needed g c p need =
+    let whole = rw (← c.self.view_is) at c.in_ok-check.ensures.unbroken in
+    let kept = (c.self.invariant.1.unbroken whole).ready.kept in
+    rw (c.given.ensures, c.arena.ensures) (kept.given p (kept.step.there p (rw (← c.self.view_is) at need)))

@@ -15,7 +15,6 @@ invariant_of-result g c = (
           ready = c.in-Ok.ensures.ready _;
           roots = c.in-Ok.ensures.roots;
           fit = λ n r is. absurd (none-some r (sym (c.in-Ok.ensures.empty n) ∙ is));
-          older = λ n m r is. absurd (none-some r (sym (c.in-Ok.ensures.empty n) ∙ is));
           given = λ n among. absurd among;
           shown = λ n among. absurd among;
         };

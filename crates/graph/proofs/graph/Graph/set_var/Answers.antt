@@ -6,7 +6,7 @@ use Rattle.inc_terms.specs.Depend.{main}
 use Rattle.node_outcomes.specs.declared.row.Progress.{Progress}
 use Rattle.graph.specs.declared.fault.GraphFault.TheVariants as fault
 use Rattle.graph.proofs.Faulting.{Passes, passed, set_unknown, set_not_var, set_wrong_type}
-use Rattle.graph.proofs.Sounding.{sound_still, set_fits, set_older, on_err}
+use Rattle.graph.proofs.Sounding.{sound_still, set_fits, on_err}
 use Rattle.graph.proofs.graph.Graph.set_var.Goals as goal
 use Rattle.graph.proofs.graph.Graph.set_var.Goals.{in-Ok-set_var, in-Err-set_var}
 
@@ -38,6 +38,5 @@ invariant_of-self g c = (
       sound_still _ _ c.self.inside.parts c.set_var.new.self c.self.inside.observers.items c.self.inside.rooted c.self.inside.refused c.self.invariant.1
       (a.ready _) (λ p. ap (λ (r : Roots). root_times r p) a.roots)
       (set_fits _ _ _ c.args.node c.args.value c.set_var.result a.set (on_err c.self.inside.parts c.set_var.new.self c.set_var.result a.err))
-      (set_older _ _ c.args.node c.args.value c.set_var.result a.set (on_err c.self.inside.parts c.set_var.new.self c.set_var.result a.err))
       (omega (arith, a.given)) (λ n given. ap (λ (m : Rows Progress). at m (main n)) a.rows)),
 )
