@@ -1,56 +1,58 @@
 -- A stabilize that was accepted is one of the script.
-use Rattle.std.proofs.Common.{◌≡◌, inl, inr, ℕ, ◌+◌, suc, Bool, true, List, [], ◌∷◌, map, length, Option, None, Some, refl, ap, sym, subst, ◌∙◌, slice_get}
-use Rattle.inc_value.specs.Choice.{Among, and_then}
+use Rattle.std.proofs.Common.{◌≡◌, inl, ℕ, ◌+◌, suc, Bool, List, [], ◌∷◌, map, Option, None, Some, refl, ap, sym, subst, ◌∙◌, arith, slice_get}
+use Rattle.inc_value.specs.Choice.{and_then}
 use Rattle.inc_value.specs.declared.function.FnRef.{FnRef}
 use Rattle.inc_value.specs.declared.node.NodeId.{NodeId}
 use Rattle.inc_value.specs.declared.node.ObsId.{ObsId}
+use Rattle.inc_value.specs.declared.node.Point.{Point}
 use Rattle.inc_value.specs.declared.value.Value.{Value as GraphValue}
-use Rattle.inc_terms.specs.Depend.{IsFlat, main}
+use Rattle.inc_terms.specs.Depend.{Depends, none_died}
 use Rattle.inc_terms.specs.Evaluate.{NodeGives}
+use Rattle.inc_terms.specs.Local.{Exact}
+use Rattle.inc_terms.specs.Need.{Needed as GraphNeeded}
 use Rattle.inc_terms.specs.Term.{Functions}
-use Rattle.inc_terms.proofs.Flat.{flat_stands, reads_flat}
+use Rattle.inc_terms.specs.Within.{Given}
 use Rattle.graph.specs.Sound.{IsSound, CanStabilize}
 use Rattle.graph.specs.Stabilizes.{Stabilizes as GraphStabilizes}
 use Rattle.graph.specs.Standing.{Standing, in_use, node_at}
 use Rattle.graph.specs.declared.observer.Observer.{Observer as Looking}
-use Rattle.node_arena.specs.Arena.{Arena}
-use Rattle.node_arena.specs.Graph.{graph_of}
+use Rattle.node_arena.specs.Arena.{Arena, row_at}
+use Rattle.node_arena.specs.Graph.{graph_of, NoScopes}
+use Rattle.node_arena.specs.Sound as arena
 use Rattle.stabilize_round.specs.Calling.{costs_of}
 use Rattle.stabilize_round.specs.Counts.{RoseBy}
 use Rattle.node_outcomes.specs.Computing.{seen}
 use Rattle.node_outcomes.specs.Meaning.{functions_of}
-use Rattle.stabilizer.specs.Round.{WasCalled, last_call, never_at}
-use Rattle.stabilizer.proofs.Between.{code_row}
+use Rattle.stabilizer.specs.Round.{AreRooted}
 use Rattle.script_model.specs.Blocked.{InTheWay, on_cycle, too_deep}
 use Rattle.script_model.specs.Check.{is_among}
-use Rattle.script_model.specs.Depth.{TooDeep}
 use Rattle.script_model.specs.Formula.{State, Entry, Body, Formula, Observer, Meanings, meanings_of, Literal, Name, Apply, Fold, Variable, Computed}
-use Rattle.script_model.specs.Need.{Item, Visit, IsVisit, Needed, from_root, WithinWork}
+use Rattle.script_model.specs.Need.{Item, Visit, IsVisit, Needed, WithinWork}
 use Rattle.script_model.specs.Settle.{Becomes, BecomeAll, Builds, ShowAll}
 use Rattle.script_model.specs.Step.{Moment, NothingNeededIsBlocked, settles}
 use Rattle.script_model.specs.Values.{Outcome, seen_value}
 use Rattle.script_graph.specs.Kept.{Kept, arena_of, node_in, without_functions}
 use Rattle.script_graph.specs.Plain.{IsPlain, IsPlainBody, IsEarlierTarget, AllPlain}
-use Rattle.script_graph.specs.Represents.{graph_functions, beside, there_in, AreNames, Represents, Watches, WasRun, Settled}
+use Rattle.script_graph.specs.Represents.{graph_functions, besides, beside, there_in, AreNames, Represents, Watches}
+use Rattle.script_graph.specs.Settled.{side_of, observed_by, WasRun, Settled}
 use Rattle.script_graph.specs.Stabilizing.{IsAccepted}
-use Rattle.script_graph.specs.State.{Holds, Stands}
+use Rattle.script_graph.specs.State.{Holds, MatchesMoment, Stands}
 use Rattle.script_graph.proofs.Beside.{represented_fits, grabs_bind}
-use Rattle.script_graph.proofs.Deep.{deep_in_graph}
 use Rattle.script_graph.proofs.Functions.{functions_are}
-use Rattle.script_graph.proofs.Holding.{ready_is_flat}
-use Rattle.script_graph.proofs.Plain.{name_gives_base, plain_is_todays}
-use Rattle.script_model.proofs.Today.{today_has_no_cycle}
-use Rattle.script_graph.proofs.Recalling.{needed_is_right, visit_is_recalled}
-use Rattle.script_graph.proofs.Running.{taken_ran, all_ran, costs_within}
-use Rattle.script_graph.proofs.Same.{besides, observed_so, represents_so}
-use Rattle.script_graph.proofs.Showing.{ShowsThen, AllShow, all_show, made_then, shows_then, names_then, watches_then}
+use Rattle.script_graph.proofs.Held.{held_needed}
 use Rattle.script_graph.proofs.Looking.{observed_of_root}
-use Rattle.script_graph.proofs.Watching.{observed_are, watched_roots_have, can_is_ready, meeting_is_covered}
-use Rattle.transfer.specs.Both.{Both, graph_value}
-use Rattle.transfer.specs.Items.{node_of}
-use Rattle.transfer.specs.Work.{Ran}
-use Rattle.transfer.proofs.Meanings.{names_agree, needed_has_nodes, ran_is_within_work}
-use Rattle.transfer.proofs.Reaching.{needed_closed}
+use Rattle.script_graph.proofs.Owner.{mains_alone}
+use Rattle.script_graph.proofs.Plain.{name_gives_base}
+use Rattle.script_graph.proofs.Recalling.{needed_is_right, visit_is_recalled}
+use Rattle.script_graph.proofs.Remembering.{observed_root, stood, observed_among, due_is_covered}
+use Rattle.script_graph.proofs.Same.{observed_so, represents_so}
+use Rattle.script_graph.proofs.Showing.{ShowsThen, AllShow, all_show, made_then, shows_then, names_then, watches_then}
+use Rattle.script_graph.proofs.Watching.{observed_are, watched_roots_are, watched_roots_have}
+use Rattle.transfer.specs.Both.{Both}
+use Rattle.transfer.specs.Items.{node_of, GrabsBind, RootsHave}
+use Rattle.transfer.specs.Shows.{Fits}
+use Rattle.transfer.proofs.Deep.{needed_is_shallow, needed_is_on_no_cycle}
+use Rattle.transfer.proofs.Meanings.{names_agree}
 
 -- ---- declarations
 
@@ -80,25 +82,19 @@ entries_become F before s after plain = all_become F before s after 0 s.entries
     (λ j e at m. plain_becomes F before s after m e.body (IsEarlierTarget s j)
     (plain j e.body (ap (λ (x : Option Entry). and_then x (λ (y : Entry). Some y.body)) at)))
 
--- ---- what stands in the way
-
--- where nothing needed is too deep, nothing needed stands in the way
-pub nothing_in_the_way : (F : Meanings) (m : Moment) → AllPlain m.present → ((i : Item) → Needed F m.present i → TooDeep F m.present i → ⊥) → NothingNeededIsBlocked F m
-nothing_in_the_way F m plain shallow i need blocked = by_cause i need blocked
-  where
-    by_cause : (j : Item) → Needed F m.present j → InTheWay F m.present j → ⊥
-    by_cause j n (on_cycle {n = k} cycle) = today_has_no_cycle F m.present (plain_is_todays m.present plain) k cycle
-    by_cause j n (too_deep deep) = shallow j n deep
-
 -- ---- the stabilize
 
 module _ (named : List ℕ → Option FnRef) (value : FnRef → List GraphValue → GraphValue) (known : FnRef → Bool) (m : Moment) (k : Kept)
     (g : Standing (Unit {0})) (called calls : ℕ) (stands : Stands (meanings_of named value) k m) (unbroken : m.broken ≡ None)
+    (sound_arena : arena.IsSound (arena_of k))
     (sound : IsSound known (seen_value value) k.graph.parts k.graph.observers k.graph.rooted k.graph.refused)
     (done : GraphStabilizes (graph_functions (meanings_of named value)) k.graph g)
     (rose : RoseBy called (costs_of (graph_of (arena_of k)) g.parts.ran.items) calls) where
   abbrev F : Meanings
   F = meanings_of named value
+
+  abbrev M : Functions
+  M = graph_functions F
 
   abbrev s : State
   s = m.present
@@ -106,8 +102,8 @@ module _ (named : List ℕ → Option FnRef) (value : FnRef → List GraphValue 
   abbrev before : State
   before = m.settled
 
-  abbrev arena : Arena
-  arena = arena_of k
+  abbrev nodes_now : Arena
+  nodes_now = arena_of k
 
   abbrev observed : List NodeId
   observed = in_use k.graph.observers
@@ -122,50 +118,44 @@ module _ (named : List ℕ → Option FnRef) (value : FnRef → List GraphValue 
   new = record k { accepted = k.accepted + 1; graph = g }
 
   holds : Holds F k m
-  holds = stands.holds unbroken
+  holds = stands.matches.holds unbroken
 
   can : CanStabilize known (seen_value value) k.graph.parts k.graph.observers k.graph.rooted
   can = sound.unbroken done.was
 
-  flat : IsFlat (graph_of arena)
-  flat = ready_is_flat (graph_functions F) arena k.graph.parts.work (can_is_ready named value known k can)
+  no_scopes : NoScopes nodes_now
+  no_scopes = can.ready.kept.flat
 
-  -- ---- what is too deep
+  fits : Fits x
+  fits = represented_fits named value s k holds.represents
 
-  shallow : (i : Item) → Needed F s i → TooDeep F s i → ⊥
-  shallow i need deep =
-      let fits = represented_fits named value s k holds.represents in
-      let grabs = grabs_bind s holds.represents.plain in
-      let n = needed_has_nodes x fits grabs observed (watched_roots_have F s k holds.represents.plain holds.watches) (seen g.parts.work.rows)
-      (needed_is_right (graph_functions F) arena flat k.graph.parts.work g.parts.work observed ran done.right) i need in
-      done.right.shallow (main n.0) n.2 (deep_in_graph x fits holds.represents.plain
-      (λ p q reads. reads_flat (graph_functions F) (graph_of arena) flat p q reads) i n.0
-      (λ owner path e. (needed_closed x grabs).there owner path (subst (Needed F s) e need)) n.1 deep)
+  grabs : GrabsBind s
+  grabs = grabs_bind s holds.represents.plain
+
+  have : RootsHave x observed
+  have = watched_roots_have F s k holds.represents.plain holds.watches
+
+  -- ---- what is needed
+
+  exact : (p : Point) → GraphNeeded M (graph_of nodes_now) none_died observed p → Exact M (graph_of nodes_now) (seen g.parts.work.rows) p
+  exact = needed_is_right M nodes_now no_scopes k.graph.parts.work g.parts.work observed ran
+      (mains_alone x fits holds.represents.plain grabs observed (watched_roots_are F s k holds.represents.plain holds.watches)) done.right
+
+  -- nothing that is needed is on a cycle or too deep
+  free : NothingNeededIsBlocked F m
+  free i need blocked = by_cause i need blocked
+    where
+      by_cause : (j : Item) → Needed F s j → InTheWay F s j → ⊥
+      by_cause j n (on_cycle {n = t} cycle) = needed_is_on_no_cycle x fits grabs observed have (seen g.parts.work.rows) exact t n cycle
+      by_cause j n (too_deep deep) =
+          needed_is_shallow x fits stands.valid.1 observed have (seen g.parts.work.rows) exact (λ p is long. done.right.shallow p is long) j n deep
 
   -- ---- calls
 
-  fresh : (n : NodeId) (c : WasCalled (graph_functions F) arena k.graph.parts.work g.parts.work observed n) (v : Visit) → IsVisit F before v
-      → Needed F before v.item → node_of x v.item ≡ Some n → c.values ≡ map (graph_value (node_in k.nodes)) v.values → ⊥
-  fresh n c v is need at same =
-      let w = holds.settled.ran v is need in
-      let node : w.node ≡ n = (let e = w.is_node in cc) in
-      elim c.reason [
-        | inl differs ↦
-            differs w.call (subst (λ (q : NodeId). last_call k.graph.parts.work q ≡ Some w.call) node w.is_last) (w.values_are ∙ sym same)
-        | inr forced ↦ holds.settled.equal forced.0 forced.2
-      ]
-
-  ran_each : (n : NodeId) → Among n ran → Ran x before n
-  ran_each n among =
-      let c = done.right.called n among in
-      let i = meeting_is_covered named value known s k holds.represents holds.watches can (main n) c.met in
-      taken_ran x before n c.row c.nodes c.values c.is_row (flat_stands (graph_functions F) (graph_of arena) flat n c.row c.is_row) c.takes
-      c.gives (i.0, from_root i.1, i.2) (fresh n c)
-
-  due : WithinWork F before s (costs_of (graph_of arena) ran)
-  due = ran_is_within_work x (represented_fits named value s k holds.represents) before (grabs_bind before holds.settled.plain)
-      (grabs_bind s holds.represents.plain) holds.settled.formulas ran (all_ran x before ran ran_each) (costs_of (graph_of arena) ran) done.right.once
-      (costs_within x before (code_row arena) ran (all_ran x before ran ran_each))
+  due : WithinWork F before s (costs_of (graph_of nodes_now) ran)
+  due = due_is_covered named value known m k stands unbroken sound_arena can (costs_of (graph_of nodes_now) ran)
+      (done.right.work (side_of k.graph) (observed_by k.graph) (stood named value known m k stands unbroken sound_arena can)
+      (observed_among named value known m k stands unbroken sound_arena can) (costs_of (graph_of nodes_now) ran) (omega arith))
 
   -- ---- observers
 
@@ -175,7 +165,7 @@ module _ (named : List ℕ → Option FnRef) (value : FnRef → List GraphValue 
       let looks : node_at g.observers o ≡ Some (node_in k.nodes y.target) =
       subst (λ (os : List Looking). node_at os o ≡ Some (node_in k.nodes y.target)) (sym done.observers) w.looks in
       let q = done.shows o (node_in k.nodes y.target) looks in
-      let gives : NodeGives (graph_functions F) (graph_of arena) (node_in k.nodes y.target) q.0 =
+      let gives : NodeGives (graph_functions F) (graph_of nodes_now) (node_in k.nodes y.target) q.0 =
       subst (λ (a : Arena). NodeGives (graph_functions F) (graph_of a) (node_in k.nodes y.target) q.0) done.nodes q.2 in
       let p = names_agree x (represented_fits named value s k holds.represents) y.target q.0 gives in (
         p.0,
@@ -199,32 +189,52 @@ module _ (named : List ℕ → Option FnRef) (value : FnRef → List GraphValue 
   watched : Watches then new
   watched = watches_then F s k g holds.watches shown (s.accepted + 1) (k.accepted + 1) done.observers done.rooted
 
-  -- ---- last calls
+  -- ---- the pair that it leaves
 
   -- the graph as it was, for the state afterwards
   abbrev still : Kept
   still = record k { accepted = k.accepted + 1 }
 
-  recalled : (v : Visit) → IsVisit F then v → Needed F then v.item → WasRun (beside F then new) new v
+  recalled : (v : Visit) → IsVisit F then v → Needed F then v.item → WasRun (besides F then k.nodes (arena_of new)) new v
   recalled v is need =
       let in_old = represents_so F s (there_in (made_then F s k g holds.watches.made shown)) (s.accepted + 1) k still refl refl refl holds.represents in
       let are = sym (ap in_use done.observers) ∙ observed_are then new watched in
-      let r = visit_is_recalled F then k.nodes arena (represented_fits named value then still in_old) (grabs_bind then represented.plain) flat
+      let r = visit_is_recalled F then k.nodes nodes_now (represented_fits named value then still in_old) (grabs_bind then represented.plain)
       k.graph.parts.work g.parts.work observed ran
-      (λ t among. inl (observed_of_root then represented.plain (node_in k.nodes) observed are t among)) done.right v is need in
+      (λ t among. inl (observed_of_root then represented.plain (node_in k.nodes) observed are t among)) exact done.right v is need in
       record {
         node = r.node;
         is_node = subst (λ (a : Arena). node_of (besides F then k.nodes a) v.item ≡ Some r.node) (sym done.nodes) r.is_node;
+        given = subst (λ (a : Arena). Given a.given r.node) (sym done.nodes) (sound_arena.given r.node (rw r.is_row refl));
         call = r.call;
         is_last = r.is_last;
         values_are = r.values_are;
       }
 
-  equal : (n : NodeId) → never_at g.parts.work n ≡ true → ⊥
-  equal n never = holds.settled.equal n (sym (done.right.cutoffs n) ∙ never)
+  rooted : AreRooted g.parts.work (in_use g.observers)
+  rooted = subst (λ (os : List Looking). AreRooted g.parts.work (in_use os)) (sym done.observers) done.right.rooted
 
   settled : Settled F then then new
-  settled = record { formulas = λ owner path f e. e; plain = represented.plain; ran = recalled; equal = equal }
+  settled = record {
+    nodes = k.nodes;
+    arena = arena_of new;
+    plain = represented.plain;
+    one_node_each = represented.one_node_each;
+    fits = represented_fits named value then new represented;
+    scopes = λ n r b row scope.
+        absurd (let none = no_scopes n r (subst (λ (a : Arena). row_at a n ≡ Some r) done.nodes row) in cc);
+    still = record {
+      formulas = λ owner path f e. e;
+      targets = λ n e is. (e, is, refl);
+      names = λ n e is. refl;
+      rows = λ n r u is def. is;
+    };
+    links = λ p q held link.
+        subst (λ (a : Arena). Depends M (graph_of a) none_died p q) (sym done.nodes) ((done.right.links p q (held_needed g rooted p held)).0 link);
+    ran = recalled;
+    watched = λ z among is. observed_root then z among;
+    equal = λ n never. holds.settled.equal n (sym (done.right.cutoffs n) ∙ never);
+  }
 
   -- ---- the moment after it
 
@@ -233,34 +243,34 @@ module _ (named : List ℕ → Option FnRef) (value : FnRef → List GraphValue 
 
   names : AreNames new.names then
   names = record {
-    declared = stands.names.declared;
-    now = stands.names.now;
-    in_use = λ name. stands.names.in_use name ∙ ap (λ (ns : List (List ℕ)). is_among ns name)
+    declared = stands.matches.names.declared;
+    now = stands.matches.names.now;
+    in_use = λ name. stands.matches.names.in_use name ∙ ap (λ (ns : List (List ℕ)). is_among ns name)
         (ap (map (λ (o : Observer). o.name)) holds.watches.in_order ∙ sym (names_then F s k g holds.watches.made shown));
   }
 
-  stands_then : Stands F new after
-  stands_then = record {
+  matches_then : MatchesMoment F new after
+  matches_then = record {
     names = names;
-    accepted = ap (λ (n : ℕ). n + 1) stands.accepted;
-    broken = sym unbroken ∙ stands.broken;
+    accepted = ap (λ (n : ℕ). n + 1) stands.matches.accepted;
+    broken = sym unbroken ∙ stands.matches.broken;
     holds = λ e. record { represents = represented; watches = watched; settled = settled };
   }
 
-  -- what is kept stands for the moment after it
+  -- what is kept matches the moment after it
   pub accepted_stands : IsAccepted F m new called calls
   accepted_stands = record {
     after = after;
-    stabilizes = settles [] (nothing_in_the_way F m holds.represents.plain shallow) (record {
+    stabilizes = settles [] free (record {
       observers = subst (λ (xs : List Observer). ShowAll F s xs then.observers []) (sym holds.watches.in_order) (shows_then F s k g holds.watches.made shown);
       entries = entries_become F before s then holds.represents.plain;
       now = refl;
       accepted = refl;
     }) refl refl refl;
-    work = costs_of (graph_of arena) ran;
+    work = costs_of (graph_of nodes_now) ran;
     due = due;
     within = rose.most;
-    stands = stands_then;
+    matches = matches_then;
   }
 
 -- ---- over a graph with its functions
@@ -282,11 +292,13 @@ module _ {A : Type 0} where
   -- a stabilize of a session's graph that was accepted is one of its script
   pub session_accepted : (named : List ℕ → Option FnRef) (value : FnRef → List GraphValue → GraphValue) (known : FnRef → Bool) (k : Kept)
       (old new : Standing A) (called calls : ℕ) → k.graph ≡ without_functions old → k.broken ≡ None
-      → IsSound known (seen_value value) old.parts old.observers old.rooted old.refused → GraphStabilizes (functions_of (seen_value value)) old new
+      → arena.IsSound old.parts.arena → IsSound known (seen_value value) old.parts old.observers old.rooted old.refused
+      → GraphStabilizes (functions_of (seen_value value)) old new
       → RoseBy called (costs_of (graph_of old.parts.arena) new.parts.ran.items) calls → (m : Moment) → Stands (meanings_of named value) k m
       → IsAccepted (meanings_of named value) m (record k { accepted = k.accepted + 1; graph = without_functions new }) called calls
-  session_accepted named value known k old new called calls same unbroken sound done rose m stands =
-      accepted_stands named value known m k (without_functions new) called calls stands (stands.broken ∙ unbroken)
+  session_accepted named value known k old new called calls same unbroken sound_arena sound done rose m stands =
+      accepted_stands named value known m k (without_functions new) called calls stands (stands.matches.broken ∙ unbroken)
+      (subst (λ (h : Standing (Unit {0})). arena.IsSound h.parts.arena) (sym same) sound_arena)
       (subst (λ (h : Standing (Unit {0})). IsSound known (seen_value value) h.parts h.observers h.rooted h.refused) (sym same) sound)
       (subst (λ (h : Standing (Unit {0})). GraphStabilizes (graph_functions (meanings_of named value)) h (without_functions new)) (sym same)
       (subst (λ (M : Functions). GraphStabilizes M (without_functions old) (without_functions new)) (sym (functions_are named value))

@@ -1,14 +1,23 @@
 -- What is kept before the first line.
-use Rattle.std.proofs.Common.{◌≡◌, false, [], None, refl, sym, ◌∙◌, arith}
+use Rattle.std.proofs.Common.{◌≡◌, ℕ, false, List, [], length, Option, None, Some, refl, ap, sym, ◌∙◌, arith}
 use Rattle.std.proofs.lemmas.Option.{none-some}
 use Rattle.graph.specs.Standing.{Standing, IsUnbroken}
+use Rattle.inc_value.specs.declared.function.FnRef.{FnRef}
 use Rattle.inc_value.specs.declared.node.NodeId.{NodeId}
+use Rattle.inc_value.specs.declared.value.Value.{Value as GraphValue}
+use Rattle.inc_terms.specs.Need.{Holder, Observing, Freezing}
 use Rattle.node_arena.specs.Arena.{row_at, live}
 use Rattle.stabilizer.specs.Round.{never_at}
-use Rattle.script_model.specs.Formula.{Meanings}
+use Rattle.script_model.specs.Formula.{Meanings, meanings_of, start}
 use Rattle.script_model.specs.Step.{first_moment}
+use Rattle.script_model.specs.Valid.{KeepToTypes}
+use Rattle.script_model.proofs.Validity.{start_is_valid}
 use Rattle.script_graph.specs.Kept.{Kept, IsSound}
+use Rattle.script_graph.specs.Represents.{Represents}
+use Rattle.script_graph.specs.Settled.{root_of, Settled}
 use Rattle.script_graph.specs.State.{Stands}
+use Rattle.script_graph.proofs.Beside.{represented_fits}
+use Rattle.script_graph.proofs.Held.{looked_within, rooted_looks}
 
 -- what is kept over a graph without nodes and observers
 abbrev pub first_kept : Standing (Unit {0}) → Kept
@@ -27,7 +36,6 @@ module _ (g : Standing (Unit {0})) (nodes : (n : NodeId) → row_at g.parts.aren
   first_sound none unbroken = record {
     one_node_each = refl;
     has_nodes = λ n d is. absurd (cc);
-    older = λ n m r is kid. absurd (none-some r (sym (nodes n) ∙ is));
     few = omega (arith, none);
     one_observer_each = refl;
     looking = λ o among. absurd among;
@@ -35,36 +43,68 @@ module _ (g : Standing (Unit {0})) (nodes : (n : NodeId) → row_at g.parts.aren
     unbroken = λ e. unbroken;
   }
 
-  pub first_stands : ((n : NodeId) → never_at g.parts.work n ≡ false) → (F : Meanings) → Stands F (first_kept g) first_moment
-  first_stands cutoffs F = record {
-    names = record { declared = refl; now = refl; in_use = λ name. refl };
-    accepted = refl;
-    broken = refl;
-    holds = λ whole. record {
-      represents = record {
-        room = refl;
-        clock = refl;
-        one_node_each = refl;
-        plain = λ n body is. absurd (cc);
-        declares = λ n. (nodes _, refl);
-        targets = λ n e is. absurd (cc);
-        aged = λ n b is. absurd (cc);
-        calls = record { callers = []; few = omega arith; all = λ c is. absurd (none-some is.row (sym (nodes c.node) ∙ is.is_row)) };
-      };
-      watches = record {
-        made = [];
-        one_each = sym (rw observers refl);
-        in_order = refl;
-        ended = λ o is. absurd (cc);
-        observing = λ o x is. absurd (cc);
-        named = λ i o name is at. absurd (cc);
-        apart = λ o p x y at also same. absurd (cc);
-      };
-      settled = record {
+  module _ (named : List ℕ → Option FnRef) (value : FnRef → List GraphValue → GraphValue) where
+    abbrev F : Meanings
+    F = meanings_of named value
+
+    first_represents : Represents F start (first_kept g)
+    first_represents = record {
+      room = refl;
+      clock = refl;
+      one_node_each = refl;
+      plain = λ n body is. absurd (cc);
+      declares = λ n. (nodes _, refl);
+      targets = λ n e is. absurd (cc);
+      aged = λ n b is. absurd (cc);
+      calls = record { callers = []; few = omega arith; all = λ c is. absurd (none-some is.row (sym (nodes c.node) ∙ is.is_row)) };
+    }
+
+    no_root : (holder : Holder) (n : NodeId) → root_of g holder ≡ Some n → ⊥
+    no_root (Observing o) n root =
+        let low = looked_within g.observers o.0 n (rooted_looks g o n root).1 in
+        let none = ap length observers in omega (arith, low, none)
+    no_root (Freezing f) n root = cc
+
+    first_settled : ((n : NodeId) → never_at g.parts.work n ≡ false) → Settled F start start (first_kept g)
+    first_settled cutoffs = record {
+      nodes = [];
+      arena = g.parts.arena;
+      plain = λ n body is. absurd (cc);
+      one_node_each = refl;
+      fits = represented_fits named value start (first_kept g) first_represents;
+      scopes = λ n r b is scope. absurd (none-some r (sym (nodes n) ∙ is));
+      still = record {
         formulas = λ owner path f is. is;
-        plain = λ n body is. absurd (cc);
-        ran = λ v visit need. absurd need.1;
-        equal = λ n never. let equal = cutoffs n in cc;
+        targets = λ n e is. (e, is, refl);
+        names = λ n e is. refl;
+        rows = λ n r u is def. is;
       };
-    };
-  }
+      links = λ p q held link. absurd (no_root held.holder held.node held.is_root);
+      ran = λ v visit need. absurd need.1;
+      watched = λ x among is. absurd among;
+      equal = λ n never. let equal = cutoffs n in cc;
+    }
+
+    pub first_stands : ((n : NodeId) → never_at g.parts.work n ≡ false) → KeepToTypes F → Stands F (first_kept g) first_moment
+    first_stands cutoffs keep = record {
+      keep = keep;
+      valid = start_is_valid F;
+      matches = record {
+        names = record { declared = refl; now = refl; in_use = λ name. refl };
+        accepted = refl;
+        broken = refl;
+        holds = λ whole. record {
+          represents = first_represents;
+          watches = record {
+            made = [];
+            one_each = sym (rw observers refl);
+            in_order = refl;
+            ended = λ o is. absurd (cc);
+            observing = λ o x is. absurd (cc);
+            named = λ i o name is at. absurd (cc);
+            apart = λ o p x y at also same. absurd (cc);
+          };
+          settled = first_settled cutoffs;
+        };
+      };
+    }

@@ -29,9 +29,9 @@ use Rattle.script_model.specs.Step.{Moment, declared_in, moved}
 use Rattle.script_model.specs.Values.{Value, to_engine}
 use Rattle.script_graph.specs.Growing.{Extends, IsMaking, PartFits, AllOpenFit}
 use Rattle.script_graph.specs.Kept as kept
-use Rattle.script_graph.specs.Kept.{Kept, arena_of, node_in, HasNode, AreOlder, IsSound, without_functions}
+use Rattle.script_graph.specs.Kept.{Kept, arena_of, node_in, HasNode, IsSound, without_functions}
 use Rattle.script_graph.specs.Represents.{beside}
-use Rattle.script_graph.specs.State.{Stands}
+use Rattle.script_graph.specs.State.{MatchesMoment}
 use Rattle.script_graph.proofs.Counting.{live_within}
 use Rattle.script_graph.proofs.Declaring.{declaring_stands, with_declared}
 use Rattle.script_graph.proofs.Extending.{extends_without, stands_on, taken_back_extends}
@@ -96,14 +96,13 @@ module _ {F : Type 0} (first now : Standing F) (names : Names) (nodes : List Nod
   abbrev returned : Kept
   returned = record { names = names; nodes = nodes; observers = observers; room = room; accepted = accepted; broken = broken; graph = without_functions now }
 
-  module _ (h : IsSound before) (sound : arena.IsSound first.parts.arena) (sound' : arena.IsSound now.parts.arena)
-      (older : AreOlder now.parts.arena) where
+  module _ (h : IsSound before) (sound : arena.IsSound first.parts.arena) (sound' : arena.IsSound now.parts.arena) where
     pub returned_sound : Extends first now → live now.parts.arena ≤ live first.parts.arena → IsSound returned
     returned_sound more few =
-        sound_on before h sound (without_functions now) (extends_without first now more) older (let room = h.few in omega (arith, few, room))
+        sound_on before h sound (without_functions now) (extends_without first now more) (let room = h.few in omega (arith, few, room))
 
     pub returned_stands : Extends first now → HasNewCalls first.parts.arena now.parts.arena 0 → (named : List ℕ → Option FnRef) (value : FnRef → List GraphValue → GraphValue) (m : Moment)
-        → Stands (meanings_of named value) before m → Stands (meanings_of named value) returned m
+        → MatchesMoment (meanings_of named value) before m → MatchesMoment (meanings_of named value) returned m
     returned_stands more fewer named value m =
         stands_on named value before (without_functions now) sound sound' (extends_without first now more) fewer m
 
@@ -146,7 +145,7 @@ module _ {F : Type 0} (first now : Standing F) (names : Names) (nodes : List Nod
         few = let room = h.few in omega (arith, making.few, room, room_is, whole, size)
 
         pub declared_stands : (named : List ℕ → Option FnRef) (value : FnRef → List GraphValue → GraphValue) (m : Moment) → broken ≡ None
-            → Stands (meanings_of named value) before m → Stands (meanings_of named value) after (moved m (Declare name ty body))
+            → MatchesMoment (meanings_of named value) before m → MatchesMoment (meanings_of named value) after (moved m (Declare name ty body))
         declared_stands named value m unbroken =
             declaring_stands named value known before (without_functions now) sound sound' more m name ty body root less fits room_is
             (made_new_calls first now makes made (calls_of_body body) making whole (calls_laid_body (node_at nodes) body))
@@ -156,7 +155,7 @@ module _ {F : Type 0} (first now : Standing F) (names : Names) (nodes : List Nod
 
         pub declared_sound : IsSound after
         declared_sound =
-            sound_declared before h sound (without_functions now) more older name ty body root less typed.0 typed.1 typed.2
+            sound_declared before h sound (without_functions now) more name ty body root less typed.0 typed.1 typed.2
             (variable_of known names now.parts.arena (node_at nodes) made body ty fits.body_fits (λ v is. variable_here v body is making whole))
             (target_node known names nodes made body ty fits.body_fits node_same node_new) few
           where
@@ -170,8 +169,7 @@ module _ {F : Type 0} (first now : Standing F) (names : Names) (nodes : List Nod
 
   -- ---- after an assignment
 
-  module _ (h : IsSound before) (sound : arena.IsSound first.parts.arena) (sound' : arena.IsSound now.parts.arena)
-      (older : AreOlder now.parts.arena) (target : ℕ) (w : GraphValue) (sets : Sets first now (node_in nodes target) w) where
+  module _ (h : IsSound before) (sound : arena.IsSound first.parts.arena) (sound' : arena.IsSound now.parts.arena) (target : ℕ) (w : GraphValue) (sets : Sets first now (node_in nodes target) w) where
     sets_without : Sets (without_functions first) (without_functions now) (node_in nodes target) w
     sets_without = record {
       beside = record {
@@ -192,11 +190,11 @@ module _ {F : Type 0} (first now : Standing F) (names : Names) (nodes : List Nod
     }
 
     pub set_sound : IsSound returned
-    set_sound = sound_set before h sound (without_functions now) (node_in nodes target) w sets_without older
+    set_sound = sound_set before h sound (without_functions now) (node_in nodes target) w sets_without
 
     pub set_stands : AssignmentFits names target (engine.type_of w) → (named : List ℕ → Option FnRef) (value : FnRef → List GraphValue → GraphValue)
-        (m : Moment) (v : Value) → to_engine v ≡ w → Stands (meanings_of named value) before m
-        → Stands (meanings_of named value) returned (moved m (Assign target v))
+        (m : Moment) (v : Value) → to_engine v ≡ w → MatchesMoment (meanings_of named value) before m
+        → MatchesMoment (meanings_of named value) returned (moved m (Assign target v))
     set_stands fits named value m v is = setting_stands named value before (without_functions now) sound sound' m target w v is sets_without fits
 
 -- ---- nodes that were taken back

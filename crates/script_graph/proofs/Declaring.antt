@@ -24,13 +24,13 @@ use Rattle.script_model.specs.Values.{Value, type_of}
 use Rattle.script_graph.specs.Growing.{Extends}
 use Rattle.script_graph.specs.Kept.{Kept, arena_of, node_in, no_node}
 use Rattle.script_graph.specs.Plain.{IsPlain, ArePlain, IsPlainBody, IsEarlierTarget, AllPlain}
-use Rattle.script_graph.specs.Represents.{AreNames, beside, IsWithin, OwnNodesOf, Represents}
-use Rattle.script_graph.specs.State.{Holds, Stands}
-use Rattle.script_graph.proofs.Carrying.{watches_on, settled_on}
-use Rattle.script_graph.proofs.Extending.{live_stays, declares_still, body_within, body_there, node_given, formula_body, never_given, body_past, node_past}
+use Rattle.script_graph.specs.Represents.{AreNames, beside, IsWithin, IsPartWithin, OwnNodesOf, Represents}
+use Rattle.script_graph.specs.State.{Holds, MatchesMoment}
+use Rattle.script_graph.proofs.Carrying.{watches_on, leaves_beside, settled_on}
+use Rattle.script_graph.proofs.Extending.{live_stays, declares_still, body_within, body_there, node_given, never_given, body_past, node_past}
 use Rattle.script_graph.proofs.Callers.{HasNewCalls, few_calls_on}
 use Rattle.script_graph.proofs.Owning.{own_nodes_of_on}
-use Rattle.transfer.specs.Items.{node_at, FormulasStay}
+use Rattle.transfer.specs.Items.{FormulasStay}
 use Rattle.transfer.specs.Keeping.{RowsStay}
 use Rattle.transfer.specs.Shows.{Declares, IsOwn}
 use Rattle.transfer.proofs.Places.{then_some}
@@ -189,7 +189,8 @@ module _ (named : List ℕ → Option FnRef) (value : FnRef → List GraphValue 
     (name : List ℕ) (ty : Ty) (body : Body) (root : NodeId) (room : ℕ) (fits : DeclarationFits known k.names name ty body)
     (room_is : room + places_of_body body ≡ k.room)
     (fewer : HasNewCalls (arena_of k) g.parts.arena (calls_of_body body))
-    (owned : OwnNodesOf (graph_of g.parts.arena) (λ (n : NodeId). ((arena_of k).given ≤ n.gen_) × (n.gen_ ≤ root.gen_)) root body) where
+    (owned : OwnNodesOf (graph_of g.parts.arena) (λ (n : NodeId). ((arena_of k).given ≤ n.gen_) × (n.gen_ ≤ root.gen_))
+    (λ (n : NodeId). ((arena_of k).given ≤ n.gen_) × (n.gen_ < root.gen_)) root body) where
   abbrev F : Meanings
   F = meanings_of named value
 
@@ -285,16 +286,33 @@ module _ (named : List ℕ → Option FnRef) (value : FnRef → List GraphValue 
           (let b = body_there F s k held j less in let low = node_given F s k held sound j b.0 b.1 in omega (arith, low, h.0));
     }
 
-    aged_each : (n : ℕ) (b : Body) → body_at s' n ≡ Some b → OwnNodesOf (graph_of g.parts.arena) (IsWithin new.nodes n) (node_in new.nodes n) b
+    part_old : (n : ℕ) → n < length s.entries → (q : NodeId) → IsPartWithin k.nodes n q → IsPartWithin new.nodes n q
+    part_old n low q h = record {
+      within = within_old n low q h.within;
+      earlier = subst (λ (r : NodeId). q.gen_ < r.gen_) (sym (node_old n low)) h.earlier;
+    }
+
+    part_new : (q : NodeId) → ((arena_of k).given ≤ q.gen_) × (q.gen_ < root.gen_) → IsPartWithin new.nodes (length s.entries) q
+    part_new q h = record {
+      within = within_new q (h.0, let low = h.1 in omega (arith, low));
+      earlier = subst (λ (r : NodeId). q.gen_ < r.gen_) (sym node_new) h.1;
+    }
+
+    -- what is so of the nodes of a declaration
+    abbrev AgedAt : ℕ → NodeId → Body → Type 0
+    AgedAt n q b = OwnNodesOf (graph_of g.parts.arena) (IsWithin new.nodes n) (IsPartWithin new.nodes n) q b
+
+    aged_each : (n : ℕ) (b : Body) → body_at s' n ≡ Some b → AgedAt n (node_in new.nodes n) b
     aged_each n b is = elim (body_of s name ty body n b is) [
-      | inl h ↦ subst (λ (q : NodeId). OwnNodesOf (graph_of g.parts.arena) (IsWithin new.nodes n) q b) (sym (node_old n h.0))
-          (own_nodes_of_on (graph_of (arena_of k)) (graph_of g.parts.arena) (IsWithin k.nodes n) (IsWithin new.nodes n) (within_old n h.0)
-          stays (node_in k.nodes n) b (held.aged n b h.1))
-      | inr h ↦ subst (λ (j : ℕ). OwnNodesOf (graph_of g.parts.arena) (IsWithin new.nodes j) (node_in new.nodes j) b) (sym h.0)
-          (subst (λ (q : NodeId). OwnNodesOf (graph_of g.parts.arena) (IsWithin new.nodes (length s.entries)) q b) (sym node_new)
-          (subst (λ (c : Body). OwnNodesOf (graph_of g.parts.arena) (IsWithin new.nodes (length s.entries)) root c) (sym h.1)
+      | inl h ↦ subst (λ (q : NodeId). AgedAt n q b) (sym (node_old n h.0))
+          (own_nodes_of_on (graph_of (arena_of k)) (graph_of g.parts.arena) (IsWithin k.nodes n) (IsWithin new.nodes n) (IsPartWithin k.nodes n)
+          (IsPartWithin new.nodes n) (within_old n h.0) (part_old n h.0) stays (node_in k.nodes n) b (held.aged n b h.1))
+      | inr h ↦ subst (λ (j : ℕ). AgedAt j (node_in new.nodes j) b) (sym h.0)
+          (subst (λ (q : NodeId). AgedAt (length s.entries) q b) (sym node_new)
+          (subst (λ (c : Body). AgedAt (length s.entries) root c) (sym h.1)
           (own_nodes_of_on (graph_of g.parts.arena) (graph_of g.parts.arena) (λ (q : NodeId). ((arena_of k).given ≤ q.gen_) × (q.gen_ ≤ root.gen_))
-          (IsWithin new.nodes (length s.entries)) within_new (λ q r u row def. row) root body owned)))
+          (IsWithin new.nodes (length s.entries)) (λ (q : NodeId). ((arena_of k).given ≤ q.gen_) × (q.gen_ < root.gen_))
+          (IsPartWithin new.nodes (length s.entries)) within_new part_new (λ q r u row def. row) root body owned)))
     ]
 
     targets_each : (n : ℕ) (e : Entry) → entry_at s' n ≡ Some e → e.target ≡ target_of_body n e.body
@@ -325,27 +343,17 @@ module _ (named : List ℕ → Option FnRef) (value : FnRef → List GraphValue 
     watches = watches_on s s' k new more.beside refl refl refl (λ n b is. node_old names h.represents shows n (body_within F s k h.represents n b is))
         (node_given F s k h.represents sound)
         (λ n b is. (b, body_old s name ty body n (body_within F s k h.represents n b is) ∙ is)) h.watches;
-    settled = settled_on named value m.settled s s' k new h.represents more.beside (declared_formulas s name ty body) stays
-        (λ owner path f is n at. whole owner n (formula_body s owner path f is) at)
-        (λ owner path f is. let b = formula_body s owner path f is in node_given F s k h.represents sound owner b.0 b.1) h.settled;
+    settled = settled_on F m.settled s s' k new (leaves_beside k new more.beside more.given) (record {
+      formulas = declared_formulas s name ty body;
+      targets = λ n e is. (e, entry_old s name ty body n (slice_get_within s.entries n e is) ∙ is, refl);
+      names = λ n e is. node_old names h.represents shows n (slice_get_within s.entries n e is);
+      rows = stays;
+    }) (λ x among is. among) h.settled;
   }
-    where
-      by_body : (owner : ℕ) (n : NodeId) (b : Body) → body_at s owner ≡ Some b → body_at s' owner ≡ Some b → node_in new.nodes owner ≡ node_in k.nodes owner
-          → IsPlainBody (IsEarlierTarget s owner) b → node_at (beside F s k) owner [] ≡ Some n → node_at (beside F s' new) owner [] ≡ Some n
-      by_body owner n (Variable v) is then node fine at = absurd (let e = rw is at at in cc)
-      by_body owner n (Computed f kept) is then node fine at =
-          let e : Some (node_in k.nodes owner) ≡ Some n = rw is at at in rw then (ap (λ (q : NodeId). Some q) node ∙ e)
-      by_body owner n b is then node fine at = absurd fine
 
-      whole : (owner : ℕ) (n : NodeId) → (b : Body) × (body_at s owner ≡ Some b)
-          → node_at (beside F s k) owner [] ≡ Some n → node_at (beside F s' new) owner [] ≡ Some n
-      whole owner n (b, is) at =
-          let low = body_within F s k h.represents owner b is in
-          by_body owner n b is (body_old s name ty body owner low ∙ is) (node_old names h.represents shows owner low) (h.represents.plain owner b is) at
-
-  -- the script with the declaration is stood for, where the new node shows it
-  pub declaring_stands : Declares (beside F s' new) root (Some body) → k.broken ≡ None → Stands F k m
-      → Stands F new (moved m (Declare name ty body))
+  -- the script with the declaration is matched, where the new node shows it
+  pub declaring_stands : Declares (beside F s' new) root (Some body) → k.broken ≡ None → MatchesMoment F k m
+      → MatchesMoment F new (moved m (Declare name ty body))
   declaring_stands shows whole h = record {
     names = names_on h.names;
     accepted = h.accepted;

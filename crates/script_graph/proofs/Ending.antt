@@ -1,5 +1,5 @@
 -- An observer that is ended.
-use Rattle.std.proofs.Common.{◌≡◌, ◌⊎◌, inl, inr, ℕ, zero, suc, ◌+◌, ◌-◌, ◌<◌, ◌≤◌, Bool, true, false, not, ◌||◌, List, [], ◌∷◌, map, filter, length, take, Option, None, Some, IsSome, refl, ap, sym, subst, ◌∙◌, arith, slice_get, slice_set, slice_index_or, swap_remove}
+use Rattle.std.proofs.Common.{◌≡◌, ◌⊎◌, inl, inr, ℕ, zero, suc, ◌+◌, ◌-◌, ◌<◌, ◌≤◌, Bool, true, false, cond, not, ◌||◌, List, [], ◌∷◌, map, filter, length, take, Option, None, Some, IsSome, refl, ap, sym, subst, ◌∙◌, arith, slice_get, slice_set, slice_index_or, swap_remove}
 use Rattle.std.proofs.lemmas.Slice.Eq.{bytes_eq-Decides}
 use Rattle.std.specs.Str.{bytes_eq}
 use Rattle.graph.specs.Effects.{Ends}
@@ -7,18 +7,18 @@ use Rattle.graph.specs.Standing.{Standing, node_at, looked_at}
 use Rattle.inc_value.specs.Choice.{Among, NoRepeats}
 use Rattle.inc_value.specs.declared.node.NodeId.{NodeId}
 use Rattle.inc_value.specs.declared.node.ObsId.{ObsId}
-use Rattle.node_arena.specs.Arena.{Arena, live}
-use Rattle.node_arena.specs.Graph.{graph_of}
+use Rattle.node_arena.specs.Arena.{Arena, row_at, live}
 use Rattle.script_model.specs.Check.{Unobserve, is_among, names_of}
 use Rattle.script_model.specs.Formula.{State, Observer, Meanings}
-use Rattle.script_model.specs.Need.{Visit}
 use Rattle.script_model.specs.Step.{Moment, moved}
-use Rattle.script_graph.specs.Kept.{Kept, AreOlder, HasNode, IsSound, arena_of, node_in}
-use Rattle.script_graph.specs.Represents.{beside, there_in, IsShown, Settled, Watches, WasRun}
-use Rattle.script_graph.specs.State.{Holds, Stands}
-use Rattle.script_graph.proofs.Observing.{get_some, node_same, there_is_among}
+use Rattle.script_graph.specs.Kept.{Kept, HasNode, IsSound, arena_of, node_in}
+use Rattle.script_graph.specs.Represents.{there_in, IsShown, Watches}
+use Rattle.script_graph.specs.Settled.{rooted_at, StillDeclares}
+use Rattle.script_graph.specs.State.{Holds, MatchesMoment}
+use Rattle.script_graph.proofs.Carrying.{LeavesBeside, settled_on}
+use Rattle.script_graph.proofs.Held.{rooted_looks, looks_rooted}
+use Rattle.script_graph.proofs.Observing.{get_some, there_is_among}
 use Rattle.script_graph.proofs.Same.{represents_so}
-use Rattle.transfer.specs.Items.{node_of}
 
 -- ---- lists with one element written, and cut
 
@@ -90,6 +90,15 @@ once_apart (y ∷ xs) once = (
   λ among. let at = place_of xs y among in let e = once 0 (suc at.0) y refl at.1 in absurd (omega (arith, e)),
   once_apart xs (λ i j x at also. let e = once (suc i) (suc j) x at also in omega (arith, e)),
 )
+
+among_filter : {A : Type 0} (x : A) (p : A → Bool) (xs : List A) → Among x (filter p xs) → Among x xs
+among_filter x p [] among = among
+among_filter {A} x p (y ∷ ys) among = go (p y) (among_filter x p ys) among
+  where
+    go : (b : Bool) → (Among x (filter p ys) → Among x ys) → Among x (cond b (y ∷ filter p ys) (filter p ys)) → Among x (y ∷ ys)
+    go true later (inl e) = inl e
+    go true later (inr rest) = inr (later rest)
+    go false later rest = inr (later rest)
 
 -- ---- the last in the place of one
 
@@ -298,7 +307,6 @@ module _ (k : Kept) (name d : List ℕ) (i : ℕ) (o : ObsId) (g : Standing (Uni
   ending_sound = record {
     one_node_each = sound.one_node_each;
     has_nodes = λ n e at. subst (λ (a : Arena). HasNode a k.nodes n e) (sym ends.arena) (sound.has_nodes n e at);
-    older = subst AreOlder (sym ends.arena) sound.older;
     few = subst (λ (a : Arena). live a + k.room ≤ 1048575) (sym ends.arena) sound.few;
     one_observer_each = swap_length k.observers i o ∙ ap (λ (n : ℕ). n - 1) sound.one_observer_each ∙ sym (swap_length k.names.observers i d);
     looking = looking_left;
@@ -308,7 +316,7 @@ module _ (k : Kept) (name d : List ℕ) (i : ℕ) (o : ObsId) (g : Standing (Uni
     unbroken = λ e. ends.refused ∙ sound.unbroken e;
   }
 
-  module _ (F : Meanings) (m : Moment) (stands : Stands F k m) (unbroken : m.broken ≡ None) where
+  module _ (F : Meanings) (m : Moment) (stands : MatchesMoment F k m) (unbroken : m.broken ≡ None) where
     abbrev s : State
     s = m.present
 
@@ -405,28 +413,31 @@ module _ (k : Kept) (name d : List ℕ) (i : ℕ) (o : ObsId) (g : Standing (Uni
             place_among new.names.observers j.0 q (swap_source k.names.observers (length k.observers) i j.0 d (sym each) j.1
             ∙ ap (slice_get k.names.observers) j.2 ∙ h.1)
 
-    settled_still : Settled F m.settled then new
-    settled_still = record {
-      formulas = held.settled.formulas;
-      plain = held.settled.plain;
-      ran = λ v visit need. was (held.settled.ran v visit need);
-      equal = λ n never. held.settled.equal n (sym (ends.cutoffs n) ∙ never);
+    leaves : LeavesBeside k new
+    leaves = record {
+      rooted = λ p n at. rooted_still p n (rooted_looks g p n at) (same_or p.0 o.0);
+      fewer = ends.fewer;
+      given = let same = ap (λ (a : Arena). a.given) ends.arena in omega (arith, same);
+      last = λ n given. ends.last n;
+      cutoffs = λ n never. sym (ends.cutoffs n) ∙ never;
     }
       where
-        was : {v : Visit} → WasRun (beside F s k) k v → WasRun (beside F then new) new v
-        was {v} h = record {
-          node = h.node;
-          is_node = node_same F s (filter (is_other name) s.observers) new v.item ∙ moved_node (arena_of new) ends.arena;
-          call = h.call;
-          is_last = ends.last h.node ∙ h.is_last;
-          values_are = h.values_are;
-        }
-          where
-            moved_node : (a : Arena) → a ≡ arena_of k → node_of (record (beside F s k) { graph = graph_of a }) v.item ≡ Some h.node
-            moved_node a same = rw same h.is_node
+        rooted_still : (p : ObsId) (n : NodeId) → (p.0 < g.rooted) × (node_at g.observers p ≡ Some n) → (p.0 ≡ o.0) ⊎ (p.0 ≡ o.0 → ⊥)
+            → rooted_at k.graph p ≡ Some n
+        rooted_still p n is (inl e) = absurd (let none = sym (looks_ended p e) ∙ is.1 in cc)
+        rooted_still p n is (inr ne) =
+            looks_rooted k.graph p n (subst (λ (r : ℕ). p.0 < r) ends.rooted is.0) (sym (looks_old p ne) ∙ is.1)
 
-    -- and it stands for the moment without the observer
-    pub ending_stands : Stands F new (moved m (Unobserve name))
+    still : StillDeclares s k.nodes (arena_of k) then new
+    still = record {
+      formulas = λ owner path f is. is;
+      targets = λ n e is. (e, is, refl);
+      names = λ n e is. refl;
+      rows = λ n r u is def. ap (λ (a : Arena). row_at a n) ends.arena ∙ is;
+    }
+
+    -- and it matches the moment without the observer
+    pub ending_stands : MatchesMoment F new (moved m (Unobserve name))
     ending_stands = record {
       names = record { declared = stands.names.declared; now = stands.names.now; in_use = names_left };
       accepted = stands.accepted;
@@ -434,6 +445,6 @@ module _ (k : Kept) (name d : List ℕ) (i : ℕ) (o : ObsId) (g : Standing (Uni
       holds = λ e. record {
         represents = represents_so F s (filter (is_other name) s.observers) s.accepted k new refl refl ends.arena held.represents;
         watches = watching;
-        settled = settled_still;
+        settled = settled_on F m.settled s then k new leaves still (λ x among is. among_filter x (is_other name) s.observers among) held.settled;
       };
     }

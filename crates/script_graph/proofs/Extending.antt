@@ -15,23 +15,20 @@ use Rattle.graph.specs.Standing.{Standing}
 use Rattle.node_arena.specs.Arena.{Arena, row_at}
 use Rattle.node_arena.specs.Graph.{graph_of}
 use Rattle.node_arena.specs.Sound as arena
-use Rattle.script_model.specs.Formula.{State, Body, Entry, Formula, Formulas, Meanings, meanings_of, body_at, formula_of_body, Literal, Name, Apply, Fold, End, More, Variable, Computed}
-use Rattle.script_model.specs.Need.{Edge, part_of, formula_at}
+use Rattle.script_model.specs.Formula.{State, Body, Entry, Formula, Formulas, Meanings, meanings_of, body_at, Literal, Name, Apply, Fold, End, More, Variable, Computed}
 use Rattle.script_model.specs.Step.{Moment}
 use Rattle.script_model.specs.Values.{Value}
 use Rattle.script_graph.specs.Growing.{Extends}
 use Rattle.script_graph.specs.Kept.{Kept, arena_of, node_in, no_node, without_functions}
 use Rattle.script_graph.specs.Plain.{IsPlain, ArePlain, IsPlainBody, IsEarlierTarget}
-use Rattle.script_graph.specs.Represents.{beside, IsWithin, Represents}
-use Rattle.script_graph.specs.State.{Holds, Stands}
-use Rattle.script_graph.proofs.Carrying.{base_value, watches_on, settled_on}
+use Rattle.script_graph.specs.Represents.{beside, IsWithin, IsPartWithin, Represents}
+use Rattle.script_graph.specs.State.{Holds, MatchesMoment}
+use Rattle.script_graph.proofs.Carrying.{base_value, watches_on, leaves_beside, settled_on}
 use Rattle.script_graph.proofs.Callers.{HasNewCalls, few_calls_on}
 use Rattle.script_graph.proofs.Owning.{own_nodes_of_on}
 use Rattle.transfer.specs.Both.{Both, graph_value}
-use Rattle.transfer.specs.Items.{node_at}
 use Rattle.transfer.specs.Keeping.{RowsStay}
 use Rattle.transfer.specs.Shows.{Built, Opens, Shows, ShowsAll, IsTop, Declares, IsOwn}
-use Rattle.transfer.proofs.Places.{then_some}
 use Rattle.transfer.proofs.Typed.{body_entry}
 
 -- ---- extending
@@ -231,11 +228,6 @@ module _ (F : Meanings) (s : State) (k : Kept) (held : Represents F s k) where
   pub node_given : arena.IsSound (arena_of k) → (n : ℕ) (b : Body) → body_at s n ≡ Some b → Given (arena_of k).given (node_in k.nodes n)
   node_given sound n b is = let r = node_live n b is in sound.given (node_in k.nodes n) (rw r.1 refl)
 
--- a formula's declaration
-pub formula_body : (s : State) (owner : ℕ) (path : List Edge) (f : Formula) → formula_at s owner path ≡ Some f → (b : Body) × (body_at s owner ≡ Some b)
-formula_body s owner path f is =
-    let b = then_some (body_at s owner) (λ b. and_then (formula_of_body b) (λ g. part_of g path)) f is in (b.0, b.1)
-
 -- an id that is never given is of no node
 pub never_given : (a : Arena) → arena.IsSound a → row_at a no_node ≡ None
 never_given a sound = go (row_at a no_node) refl
@@ -290,8 +282,8 @@ module _ (named : List ℕ → Option FnRef) (value : FnRef → List GraphValue 
       plain = held.plain;
       declares = λ n. declares_each n (body_at m.present n) refl;
       targets = held.targets;
-      aged = λ n b is. own_nodes_of_on (graph_of (arena_of k)) (graph_of g.parts.arena) (IsWithin k.nodes n) (IsWithin k.nodes n) (λ q h. h)
-          stays (node_in k.nodes n) b (held.aged n b is);
+      aged = λ n b is. own_nodes_of_on (graph_of (arena_of k)) (graph_of g.parts.arena) (IsWithin k.nodes n) (IsWithin k.nodes n)
+          (IsPartWithin k.nodes n) (IsPartWithin k.nodes n) (λ q h. h) (λ q h. h) stays (node_in k.nodes n) b (held.aged n b is);
       calls = few_calls_on m.present m.present (arena_of k) g.parts.arena 0 fewer (omega arith) held.calls;
     }
 
@@ -300,21 +292,14 @@ module _ (named : List ℕ → Option FnRef) (value : FnRef → List GraphValue 
     represents = represents_on h.represents;
     watches = watches_on m.present m.present k new more.beside refl refl refl (λ n b is. refl)
         (node_given F m.present k h.represents sound) (λ n b is. (b, is)) h.watches;
-    settled = settled_on named value m.settled m.present m.present k new h.represents more.beside (λ owner path f is. is) stays
-        (λ owner path f is n at. whole owner n (formula_body m.present owner path f is) h.represents at)
-        (λ owner path f is. let b = formula_body m.present owner path f is in node_given F m.present k h.represents sound owner b.0 b.1) h.settled;
+    settled = settled_on F m.settled m.present m.present k new (leaves_beside k new more.beside more.given) (record {
+      formulas = λ owner path f is. is;
+      targets = λ n e is. (e, is, refl);
+      names = λ n e is. refl;
+      rows = stays;
+    }) (λ x among is. among) h.settled;
   }
-    where
-      by_body : (owner : ℕ) (n : NodeId) (b : Body) → body_at m.present owner ≡ Some b → IsPlainBody (IsEarlierTarget m.present owner) b
-          → node_at (beside F m.present k) owner [] ≡ Some n → node_at (beside F m.present new) owner [] ≡ Some n
-      by_body owner n (Variable v) is fine at = absurd (let e = rw is at at in cc)
-      by_body owner n (Computed f kept) is fine at = let e = rw is at at in rw is e
-      by_body owner n b is fine at = absurd fine
 
-      whole : (owner : ℕ) (n : NodeId) → (b : Body) × (body_at m.present owner ≡ Some b) → Represents F m.present k
-          → node_at (beside F m.present k) owner [] ≡ Some n → node_at (beside F m.present new) owner [] ≡ Some n
-      whole owner n (b, is) held at = by_body owner n b is (held.plain owner b is) at
-
-  -- what was stood for is so still
-  pub stands_on : Stands F k m → Stands F new m
+  -- what was matched is so still
+  pub stands_on : MatchesMoment F k m → MatchesMoment F new m
   stands_on h = record { names = h.names; accepted = h.accepted; broken = h.broken; holds = λ whole. holds_on (h.holds whole) }

@@ -1,5 +1,5 @@
 -- What is laid out for a body that fits: each of it fits, and where all of it was made the root is the node of what is declared.
-use Rattle.std.proofs.Common.{◌≡◌, ℕ, zero, suc, ◌+◌, ◌<◌, ◌≤◌, Bool, List, [], ◌∷◌, ◌++◌, map, length, Some, refl, ap, sym, subst, ◌∙◌, arith, slice_get}
+use Rattle.std.proofs.Common.{◌≡◌, ℕ, zero, suc, ◌+◌, ◌-◌, ◌<◌, ◌≤◌, Bool, List, [], ◌∷◌, ◌++◌, map, length, Some, refl, ap, sym, subst, ◌∙◌, arith, slice_get}
 use Rattle.std.specs.List.{AllZip}
 use Rattle.std.proofs.lemmas.List.{length-append}
 use Rattle.std.proofs.lemmas.Option.{slice_get_within}
@@ -29,7 +29,7 @@ use Rattle.script_model.specs.Check.{Names}
 use Rattle.script_model.specs.Formula.{Formula, Formulas, Body, Literal, Name, Apply, Fold, End, More, Variable, Computed}
 use Rattle.script_model.specs.Values.{Value, Int, Bool as Truth, Text, Reference, type_of, to_engine}
 use Rattle.script_graph.specs.Growing.{IsMaking, PartFits, OpenFits, AllOpenFit}
-use Rattle.script_graph.specs.Represents.{OwnNodes, OwnNodesOfAll, OwnNodesOf}
+use Rattle.script_graph.specs.Represents.{OwnNodes, OwnNodesOfAll, WholeNodes, OwnNodesOf}
 use Rattle.script_graph.proofs.Making.{part_row}
 use Rattle.script_graph.proofs.Owning.{own_nodes_of_on}
 use Rattle.transfer.specs.Both.{Both}
@@ -182,71 +182,113 @@ module _ (known : FnRef → Bool) (names : Names) (P : ℕ → Type 0) (named : 
 
 -- ---- its nodes
 
--- the node was made
-abbrev IsMade : List Open → List NodeId → NodeId → Type 0
-IsMade all made n = (i : ℕ) × (i < length all) × (n ≡ node_at made i)
+-- the node was made, as one of the first so many
+abbrev IsMade : List NodeId → ℕ → NodeId → Type 0
+IsMade made bound n = (i : ℕ) × (i < bound) × (n ≡ node_at made i)
 
 module _ (known : FnRef → Bool) (G : Graph) (all : List Open) (made : List NodeId) (stands : StandsIn G all made) (whole : length made ≡ length all)
     (nodes : ℕ → NodeId) (names : Names) where
-  one_made : (i : ℕ) (x : Open) → slice_get all i ≡ Some x → IsMade all made (node_at made i)
-  one_made i x at = (i, slice_get_within all i x at, refl)
+  top_at : (i : ℕ) (x : Open) → slice_get all i ≡ Some x → i < length made
+  top_at i x at = let low = slice_get_within all i x at in omega (arith, low, whole)
 
+  -- the nodes of a formula and its parts were made before the bound that its places stand below
   mutual
-    formula_owns : (start : ℕ) (f : Formula) (ty : Ty) → FormulaFits known names f ty → SitsAt all start (laid nodes start f).makes
-        → OwnNodes G (IsMade all made) (node_of made (laid nodes start f).root) f
-    formula_owns start (Literal v) ty fits sits = one_made start (Const (to_engine v)) sits.0
-    formula_owns start (Name n) ty fits sits = tt
-    formula_owns start (Apply f arguments) ty fits sits =
+    formula_owns : (start bound : ℕ) (f : Formula) (ty : Ty) → FormulaFits known names f ty → SitsAt all start (laid nodes start f).makes
+        → start + length (laid nodes start f).makes ≤ bound → OwnNodes G (IsMade made bound) (node_of made (laid nodes start f).root) f
+    formula_owns start bound (Literal v) ty fits sits low = (start, omega (arith, low), refl)
+    formula_owns start bound (Name n) ty fits sits low = tt
+    formula_owns start bound (Apply f arguments) ty fits sits low =
         let each = laid_each nodes start arguments in
         let parts = sits_split all start each.makes (Map f each.roots ∷ []) sits in
         let last = start + length each.makes in
-        let top = stands.top last (Map f each.roots) parts.1.0 (omega (arith, slice_get_within all last (Map f each.roots) parts.1.0, whole)) in (
-          one_made last (Map f each.roots) parts.1.0,
+        let size = length-append each.makes (Map f each.roots ∷ []) in
+        let top = stands.top last (Map f each.roots) parts.1.0 (top_at last (Map f each.roots) parts.1.0) in (
+          (last, omega (arith, low, size), refl),
           top.0,
           map (node_of made) each.roots,
           top.1,
           top.3,
-          arguments_own start arguments f.sig.takes fits.1 parts.0,
+          arguments_own start bound arguments f.sig.takes fits.1 parts.0 (omega (arith, low, size)),
         )
-    formula_owns start (Fold f first elements) ty fits sits =
+    formula_owns start bound (Fold f first elements) ty fits sits low =
         let each = laid_each nodes start elements in
         let made_fold = OpenFold f (to_engine first) each.roots in
         let parts = sits_split all start each.makes (made_fold ∷ []) sits in
         let last = start + length each.makes in
-        let top = stands.top last made_fold parts.1.0 (omega (arith, slice_get_within all last made_fold parts.1.0, whole)) in (
-          one_made last made_fold parts.1.0,
+        let size = length-append each.makes (made_fold ∷ []) in
+        let top = stands.top last made_fold parts.1.0 (top_at last made_fold parts.1.0) in (
+          (last, omega (arith, low, size), refl),
           top.0,
           map (node_of made) each.roots,
           top.1,
           top.3,
-          elements_own start elements fits.0 fits.5 parts.0,
+          elements_own start bound elements fits.0 fits.5 parts.0 (omega (arith, low, size)),
         )
-    formula_owns start f ty fits sits = absurd fits
+    formula_owns start bound f ty fits sits low = absurd fits
 
-    arguments_own : (start : ℕ) (fs : Formulas) (tys : List Ty) → ArgumentsFit known names fs tys → SitsAt all start (laid_each nodes start fs).makes
-        → OwnNodesOfAll G (IsMade all made) (map (node_of made) (laid_each nodes start fs).roots) fs
-    arguments_own start End [] fits sits = tt
-    arguments_own start End (ty ∷ tys) fits sits = absurd fits
-    arguments_own start (More f rest) [] fits sits = absurd fits
-    arguments_own start (More f rest) (ty ∷ tys) fits sits =
+    arguments_own : (start bound : ℕ) (fs : Formulas) (tys : List Ty) → ArgumentsFit known names fs tys
+        → SitsAt all start (laid_each nodes start fs).makes → start + length (laid_each nodes start fs).makes ≤ bound
+        → OwnNodesOfAll G (IsMade made bound) (map (node_of made) (laid_each nodes start fs).roots) fs
+    arguments_own start bound End [] fits sits low = tt
+    arguments_own start bound End (ty ∷ tys) fits sits low = absurd fits
+    arguments_own start bound (More f rest) [] fits sits low = absurd fits
+    arguments_own start bound (More f rest) (ty ∷ tys) fits sits low =
         let here = laid nodes start f in
         let next = start + length here.makes in
         let parts = sits_split all start here.makes (laid_each nodes next rest).makes sits in
-        (formula_owns start f ty fits.0 parts.0, arguments_own next rest tys fits.1 parts.1)
+        let size = length-append here.makes (laid_each nodes next rest).makes in
+        (formula_owns start bound f ty fits.0 parts.0 (omega (arith, low, size)), arguments_own next bound rest tys fits.1 parts.1 (omega (arith, low, size)))
 
-    elements_own : (start : ℕ) (fs : Formulas) (ty : Ty) → ElementsFit known names fs ty → SitsAt all start (laid_each nodes start fs).makes
-        → OwnNodesOfAll G (IsMade all made) (map (node_of made) (laid_each nodes start fs).roots) fs
-    elements_own start End ty fits sits = tt
-    elements_own start (More f rest) ty fits sits =
+    elements_own : (start bound : ℕ) (fs : Formulas) (ty : Ty) → ElementsFit known names fs ty → SitsAt all start (laid_each nodes start fs).makes
+        → start + length (laid_each nodes start fs).makes ≤ bound
+        → OwnNodesOfAll G (IsMade made bound) (map (node_of made) (laid_each nodes start fs).roots) fs
+    elements_own start bound End ty fits sits low = tt
+    elements_own start bound (More f rest) ty fits sits low =
         let here = laid nodes start f in
         let next = start + length here.makes in
         let parts = sits_split all start here.makes (laid_each nodes next rest).makes sits in
-        (formula_owns start f ty fits.0 parts.0, elements_own next rest ty fits.1 parts.1)
+        let size = length-append here.makes (laid_each nodes next rest).makes in
+        (formula_owns start bound f ty fits.0 parts.0 (omega (arith, low, size)), elements_own next bound rest ty fits.1 parts.1 (omega (arith, low, size)))
+
+  -- the root is the last, and its parts were made before it
+  whole_owns : (f : Formula) (ty : Ty) → FormulaFits known names f ty → SitsAt all 0 (laid nodes 0 f).makes
+      → WholeNodes G (IsMade made (length (laid nodes 0 f).makes)) (IsMade made (length (laid nodes 0 f).makes - 1)) (node_of made (laid nodes 0 f).root) f
+  whole_owns (Literal v) ty fits sits = (0, omega arith, refl)
+  whole_owns (Name n) ty fits sits = tt
+  whole_owns (Apply f arguments) ty fits sits =
+      let each = laid_each nodes 0 arguments in
+      let parts = sits_split all 0 each.makes (Map f each.roots ∷ []) sits in
+      let last = 0 + length each.makes in
+      let size = length-append each.makes (Map f each.roots ∷ []) in
+      let top = stands.top last (Map f each.roots) parts.1.0 (top_at last (Map f each.roots) parts.1.0) in (
+        (last, omega (arith, size), refl),
+        top.0,
+        map (node_of made) each.roots,
+        top.1,
+        top.3,
+        arguments_own 0 (length (laid nodes 0 (Apply f arguments)).makes - 1) arguments f.sig.takes fits.1 parts.0 (omega (arith, size)),
+      )
+  whole_owns (Fold f first elements) ty fits sits =
+      let each = laid_each nodes 0 elements in
+      let made_fold = OpenFold f (to_engine first) each.roots in
+      let parts = sits_split all 0 each.makes (made_fold ∷ []) sits in
+      let last = 0 + length each.makes in
+      let size = length-append each.makes (made_fold ∷ []) in
+      let top = stands.top last made_fold parts.1.0 (top_at last made_fold parts.1.0) in (
+        (last, omega (arith, size), refl),
+        top.0,
+        map (node_of made) each.roots,
+        top.1,
+        top.3,
+        elements_own 0 (length (laid nodes 0 (Fold f first elements)).makes - 1) elements fits.0 fits.5 parts.0 (omega (arith, size)),
+      )
+  whole_owns f ty fits sits = absurd fits
 
   body_owns : (body : Body) (ty : Ty) → BodyFits known names body ty → SitsAt all 0 (laid_body nodes 0 body).makes
-      → OwnNodesOf G (IsMade all made) (node_of made (laid_body nodes 0 body).root) body
-  body_owns (Variable v) ty fits sits = one_made 0 (Var (to_engine v)) sits.0
-  body_owns (Computed f kept) ty fits sits = formula_owns 0 f ty fits.0 sits
+      → OwnNodesOf G (IsMade made (length (laid_body nodes 0 body).makes)) (IsMade made (length (laid_body nodes 0 body).makes - 1))
+      (node_of made (laid_body nodes 0 body).root) body
+  body_owns (Variable v) ty fits sits = (0, omega arith, refl)
+  body_owns (Computed f kept) ty fits sits = whole_owns f ty fits.0 sits
   body_owns body ty fits sits = absurd fits
 
 -- the nodes of a body were made from the first on, and none after the root
@@ -258,25 +300,45 @@ module _ (known : FnRef → Bool) (names : Names) {F : Type 0} (first now : Stan
   abbrev root_for : Body → NodeId
   root_for body = node_of made (laid_body nodes 0 body).root
 
+  -- it was given since, and no later than the root
+  abbrev pub IsSince : NodeId → NodeId → Type 0
+  IsSince root n = (first.parts.arena.given ≤ n.gen_) × (n.gen_ ≤ root.gen_)
+
+  -- or before the root
+  abbrev pub IsPartSince : NodeId → NodeId → Type 0
+  IsPartSince root n = (first.parts.arena.given ≤ n.gen_) × (n.gen_ < root.gen_)
+
+  made_id : (body : Body) → IsMaking first now (makes_for body) made → length made ≡ length (makes_for body) → (i : ℕ) (n : NodeId)
+      → i < length (makes_for body) → n ≡ node_at made i → n.gen_ ≡ first.parts.arena.given + i
+  made_id body h whole i n low is = ap (λ (m : NodeId). m.gen_) is ∙ h.ids i (omega (arith, low, whole))
+
   between : (body : Body) → IsMaking first now (makes_for body) made → length made ≡ length (makes_for body) → (r : ℕ) → r < length (makes_for body)
-      → length (makes_for body) ≤ r + 1 → root_for body ≡ node_at made r
-      → (n : NodeId) → IsMade (makes_for body) made n → (first.parts.arena.given ≤ n.gen_) × (n.gen_ ≤ (root_for body).gen_)
+      → length (makes_for body) ≤ r + 1 → root_for body ≡ node_at made r → (n : NodeId) → IsMade made (length (makes_for body)) n
+      → IsSince (root_for body) n
   between body h whole r low high root n (i, less, is) =
-      let id = ap (λ (m : NodeId). m.gen_) is ∙ h.ids i (omega (arith, less, whole)) in
-      let last = ap (λ (m : NodeId). m.gen_) root ∙ h.ids r (omega (arith, low, whole)) in
+      let id = made_id body h whole i n less is in
+      let last = made_id body h whole r (root_for body) low root in
       (omega (arith, id), omega (arith, id, last, less, high))
+
+  before_root : (body : Body) → IsMaking first now (makes_for body) made → length made ≡ length (makes_for body) → (r : ℕ) → r < length (makes_for body)
+      → length (makes_for body) ≤ r + 1 → root_for body ≡ node_at made r → (n : NodeId) → IsMade made (length (makes_for body) - 1) n
+      → IsPartSince (root_for body) n
+  before_root body h whole r low high root n (i, less, is) =
+      let id = made_id body h whole i n (omega (arith, less)) is in
+      let last = made_id body h whole r (root_for body) low root in
+      (omega (arith, id), omega (arith, id, last, less, high, low))
 
   own_between : (body : Body) (ty : Ty) → BodyFits known names body ty → IsMaking first now (makes_for body) made → length made ≡ length (makes_for body)
       → (r : ℕ) → r < length (makes_for body) → length (makes_for body) ≤ r + 1 → root_for body ≡ node_at made r
-      → OwnNodesOf (graph_of now.parts.arena) (λ (n : NodeId). (first.parts.arena.given ≤ n.gen_) × (n.gen_ ≤ (root_for body).gen_)) (root_for body) body
+      → OwnNodesOf (graph_of now.parts.arena) (IsSince (root_for body)) (IsPartSince (root_for body)) (root_for body) body
   own_between body ty fits h whole r low high root =
-      own_nodes_of_on (graph_of now.parts.arena) (graph_of now.parts.arena) (IsMade (makes_for body) made)
-      (λ (n : NodeId). (first.parts.arena.given ≤ n.gen_) × (n.gen_ ≤ (root_for body).gen_)) (between body h whole r low high root)
-      (λ n r u row def. row) (root_for body) body
+      own_nodes_of_on (graph_of now.parts.arena) (graph_of now.parts.arena) (IsMade made (length (makes_for body))) (IsSince (root_for body))
+      (IsMade made (length (makes_for body) - 1)) (IsPartSince (root_for body)) (between body h whole r low high root)
+      (before_root body h whole r low high root) (λ n r u row def. row) (root_for body) body
       (body_owns known (graph_of now.parts.arena) (makes_for body) made h.stands whole nodes names body ty fits (sits_itself (makes_for body)))
 
   pub made_owned : (body : Body) (ty : Ty) → BodyFits known names body ty → IsMaking first now (makes_for body) made → length made ≡ length (makes_for body)
-      → OwnNodesOf (graph_of now.parts.arena) (λ (n : NodeId). (first.parts.arena.given ≤ n.gen_) × (n.gen_ ≤ (root_for body).gen_)) (root_for body) body
+      → OwnNodesOf (graph_of now.parts.arena) (IsSince (root_for body)) (IsPartSince (root_for body)) (root_for body) body
   made_owned (Variable v) ty fits h whole = own_between (Variable v) ty fits h whole 0 (omega arith) (omega arith) refl
   made_owned (Computed (Literal v) kept) ty fits h whole = own_between (Computed (Literal v) kept) ty fits h whole 0 (omega arith) (omega arith) refl
   made_owned (Computed (Name n) kept) ty fits h whole = tt

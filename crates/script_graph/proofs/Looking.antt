@@ -68,7 +68,7 @@ among_image f b [] among = absurd among
 among_image f b (x ∷ xs) (inl e) = (x, inl refl, e)
 among_image f b (x ∷ xs) (inr among) = let r = among_image f b xs among in (r.0, inr r.1, r.2)
 
-same_name : (a b : ℕ) → Named a ≡ Named b → a ≡ b
+pub same_name : (a b : ℕ) → Named a ≡ Named b → a ≡ b
 same_name a b e = cc
 
 module _ (s : State) (plain : AllPlain s) (nodes : ℕ → NodeId) (observed : List NodeId)

@@ -123,16 +123,19 @@ module _ {F : Type 0} (first now : Standing F) (makes : List Open) (made : List 
     named = value_given (Given now.parts.arena.given) v fits;
     makes = record { type = refl; reference = reference_fits now.parts.arena v fits };
     calls = tt;
+    one_point = refl;
   }
   open_welcome known (Var v) fits early = record {
     named = value_given (Given now.parts.arena.given) v fits;
     makes = record { type = refl; reference = reference_fits now.parts.arena v fits };
     calls = tt;
+    one_point = refl;
   }
   open_welcome known (Map f parts) fits early = record {
     named = (tt, parts_given parts f.sig.takes fits.2 early);
     makes = record { kind = fits.1; children = parts_fit parts f.sig.takes fits.2 early; gives = refl };
     calls = fits.0;
+    one_point = refl;
   }
   open_welcome known (Fold f v parts) fits early = record {
     named = (tt, value_given (Given now.parts.arena.given) v fits.base, each_given parts fits.element fits.parts_fit early);
@@ -144,6 +147,7 @@ module _ {F : Type 0} (first now : Standing F) (makes : List Open) (made : List 
       initial = record { type = fits.initial; reference = reference_fits now.parts.arena v fits.base };
     };
     calls = fits.is_known;
+    one_point = refl;
   }
 
   -- the graph takes what is to be made next

@@ -1,29 +1,34 @@
 -- An observer that is made, and what one shows.
-use Rattle.std.proofs.Common.{◌≡◌, ◌⊎◌, inl, inr, ℕ, zero, suc, ◌+◌, ◌<◌, ◌≤◌, Bool, true, false, cond, ◌||◌, List, [], ◌∷◌, ◌++◌, map, length, Option, None, Some, refl, ap, sym, subst, ◌∙◌, arith, slice_get}
+use Rattle.std.proofs.Common.{◌≡◌, ◌⊎◌, inl, inr, ℕ, zero, suc, ◌+◌, ◌<◌, ◌≤◌, Bool, true, false, cond, ◌||◌, List, [], ◌∷◌, ◌++◌, map, length, Option, None, Some, IsSome, refl, ap, sym, subst, ◌∙◌, arith, slice_get}
 use Rattle.std.proofs.lemmas.Slice.Eq.{bytes_eq-Decides}
 use Rattle.std.specs.List.{list_any}
 use Rattle.std.specs.Prelude.{IsFalse}
 use Rattle.std.specs.Str.{bytes_eq}
 use Rattle.graph.specs.Effects.{Observes}
 use Rattle.graph.specs.Standing.{Standing, node_at, looked_at, shown_of}
+use Rattle.inc_value.specs.Choice.{Among}
 use Rattle.inc_value.specs.declared.node.NodeId.{NodeId}
 use Rattle.inc_value.specs.declared.node.ObsId.{ObsId}
 use Rattle.inc_terms.specs.Depend.{main}
+use Rattle.link_table.specs.Links.{times}
+use Rattle.node_arena.specs.Arena.{row_at}
 use Rattle.inc_value.specs.declared.outcome.Outcome as engine
 use Rattle.script_model.specs.Check.{Observe, declared_of, is_among, names_of}
 use Rattle.script_model.specs.Formula.{State, Entry, Body, Observer, Meanings, body_at}
-use Rattle.script_model.specs.Need.{Item, Named, Place, Edge, Argument, Test, Then, Else, Child, Left, Inside, Visit}
 use Rattle.script_model.specs.Step.{Moment, moved, find_observer, new_observer, shown_by}
 use Rattle.script_model.specs.Values.{Int, Bool as Truth, Text, Reference, Outcome, Val, Invalid}
 use Rattle.node_outcomes.specs.Computing.{seen}
+use Rattle.stabilizer.specs.Round.{last_call, never_at}
 use Rattle.stabilizer.specs.declared.parts.Parts.{Parts}
-use Rattle.script_graph.specs.Kept.{Kept, node_in}
-use Rattle.script_graph.specs.Represents.{beside, there_in, AreNames, IsBaseOutcome, IsObserver, IsShown, Settled, Watches, WasRun}
+use Rattle.script_graph.specs.Kept.{Kept, arena_of, node_in}
+use Rattle.script_graph.specs.Represents.{there_in, AreNames, IsBaseOutcome, IsObserver, IsShown, Watches}
+use Rattle.script_graph.specs.Settled.{StillDeclares}
 use Rattle.script_graph.specs.Shown.{ShowsIt, engine_outcome}
-use Rattle.script_graph.specs.State.{Holds, Stands}
+use Rattle.script_graph.specs.State.{Holds, MatchesMoment}
+use Rattle.script_graph.proofs.Carrying.{LeavesBeside, settled_on}
+use Rattle.script_graph.proofs.Held.{rooted_looks, looks_rooted}
 use Rattle.script_graph.proofs.Same.{represents_so}
 use Rattle.transfer.specs.Both.{graph_outcome}
-use Rattle.transfer.specs.Items.{node_at as place_node, node_of}
 
 -- ---- lists with one more
 
@@ -56,6 +61,12 @@ there_push : {A : Type 0} (xs : List (Option A)) (x : A) → there_in (xs ++ Som
 there_push [] x = refl
 there_push (None ∷ xs) x = there_push xs x
 there_push (Some y ∷ xs) x = ap (λ (l : List _). y ∷ l) (there_push xs x)
+
+among_last : {A : Type 0} (x y : A) (xs : List A) → Among x (xs ++ y ∷ []) → Among x xs ⊎ (x ≡ y)
+among_last x y [] (inl e) = inr e
+among_last x y [] (inr none) = absurd none
+among_last x y (z ∷ xs) (inl e) = inl (inl e)
+among_last x y (z ∷ xs) (inr among) = elim (among_last x y xs among) [ inl old ↦ inl (inr old) | inr e ↦ inr e ]
 
 length_push : {A : Type 0} (xs : List A) (y : A) → length (xs ++ y ∷ []) ≡ length xs + 1
 length_push [] y = refl
@@ -114,49 +125,6 @@ there_is_found (Some y ∷ made) (suc j) x e alone =
     go true is rest = let k = alone 0 y refl (sym ((bytes_eq-Decides x.name y.name).0 is)) in absurd (omega (arith, k))
     go false is rest = rest
 
--- ---- the nodes of items, whatever the observers
-
-module _ (F : Meanings) (s : State) (observers : List Observer) (k : Kept) where
-  abbrev other : State
-  other = record s { observers = observers }
-
-  place_same : (owner : ℕ) (path : List Edge) → place_node (beside F other k) owner path ≡ place_node (beside F s k) owner path
-  place_same owner [] = refl
-  place_same owner (Argument j ∷ path) = rw (place_same owner path) refl
-  place_same owner (Test ∷ path) = rw (place_same owner path) refl
-  place_same owner (Then ∷ path) = rw (place_same owner path) refl
-  place_same owner (Else ∷ path) = rw (place_same owner path) refl
-  place_same owner (Child ∷ path) = rw (place_same owner path) refl
-  place_same owner (Left ∷ path) = rw (place_same owner path) refl
-  place_same owner (Inside v ∷ path) = rw (place_same owner path) refl
-
-  pub node_same : (i : Item) → node_of (beside F other k) i ≡ node_of (beside F s k) i
-  node_same (Named n) = refl
-  node_same (Place owner path) = place_same owner path
-
--- the calls of the last accepted stabilize stay, whatever the observers and their names
-pub settled_so : (F : Meanings) (before s : State) (os : List Observer) (k new : Kept) → new.nodes ≡ k.nodes → new.graph.parts ≡ k.graph.parts
-    → Settled F before s k → Settled F before (record s { observers = os }) new
-settled_so F before s os k new nodes parts held = record {
-  formulas = held.formulas;
-  plain = held.plain;
-  ran = λ v visit need. was (held.ran v visit need);
-  equal = λ n never. held.equal n (rw parts at never);
-}
-  where
-    was : {v : Visit} → WasRun (beside F s k) k v → WasRun (beside F (record s { observers = os }) new) new v
-    was {v} h = record {
-      node = h.node;
-      is_node = node_same F s os new v.item ∙ moved_node (new.nodes) (new.graph.parts) nodes parts;
-      call = h.call;
-      is_last = rw parts h.is_last;
-      values_are = rw nodes h.values_are;
-    }
-      where
-        moved_node : (ns : List NodeId) (ps : _) → ns ≡ k.nodes → ps ≡ k.graph.parts
-            → node_of (beside F s (record new { nodes = ns; graph = record new.graph { parts = ps } })) v.item ≡ Some h.node
-        moved_node ns ps same_nodes same_parts = rw (same_nodes, same_parts) h.is_node
-
 -- ---- making one
 
 body_there : (s : State) (es : List Entry) (n : ℕ) → n < length es → (e : Entry) × (slice_get es n ≡ Some e)
@@ -172,7 +140,7 @@ with_observer k name o g = record k {
   graph = g;
 }
 
-module _ (F : Meanings) (k : Kept) (m : Moment) (name : List ℕ) (target : ℕ) (o : ObsId) (g : Standing (Unit {0})) (stands : Stands F k m)
+module _ (F : Meanings) (k : Kept) (m : Moment) (name : List ℕ) (target : ℕ) (o : ObsId) (g : Standing (Unit {0})) (stands : MatchesMoment F k m)
     (unbroken : m.broken ≡ None) (fresh_name : IsFalse (is_among k.names.observers name)) (earlier : target < length k.names.declared) (named_each : length k.observers ≡ length k.names.observers)
     (rooted : k.graph.rooted ≤ length k.graph.observers) (observes : Observes k.graph g o (node_in k.nodes target)) where
   abbrev new : Kept
@@ -302,8 +270,34 @@ module _ (F : Meanings) (k : Kept) (m : Moment) (name : List ℕ) (target : ℕ)
         ∙ sym (ap (list_any (bytes_eq q)) (map_push (λ (z : Observer). z.name) s.observers x) ∙ any_push q (map (λ (z : Observer). z.name) s.observers) name);
   }
 
-  -- what is kept with a new observer stands for the moment with one
-  pub observing_stands : Stands F new (moved m (Observe name target))
+  leaves : LeavesBeside k new
+  leaves = record {
+    rooted = λ p n at.
+        let is = rooted_looks g p n at in
+        let low : p.0 < k.graph.rooted = subst (λ (r : ℕ). p.0 < r) rooted_same is.0 in
+        looks_rooted k.graph p n low (sym (looks_old p (let r = rooted in omega (arith, low, r))) ∙ is.1);
+    fewer = λ p q. let same = ap (λ (ps : Parts). times ps.work.graph.links p q) parts_same in omega (arith, same);
+    given = let same = ap (λ (ps : Parts). ps.arena.given) parts_same in omega (arith, same);
+    last = λ n given. ap (λ (ps : Parts). last_call ps.work n) parts_same;
+    cutoffs = λ n never. sym (ap (λ (ps : Parts). never_at ps.work n) parts_same) ∙ never;
+  }
+
+  still : StillDeclares s k.nodes (arena_of k) then new
+  still = record {
+    formulas = λ owner path f is. is;
+    targets = λ n e is. (e, is, refl);
+    names = λ n e is. refl;
+    rows = λ n r u is def. ap (λ (ps : Parts). row_at ps.arena n) parts_same ∙ is;
+  }
+
+  shown_was : (y : Observer) → Among y then.observers → IsSome y.shown → Among y s.observers
+  shown_was y among is = elim (among_last y x s.observers among) [
+    | inl old ↦ old
+    | inr e ↦ absurd (let none = subst (λ (z : Observer). IsSome z.shown) e is in cc)
+  ]
+
+  -- what is kept with a new observer matches the moment with one
+  pub observing_stands : MatchesMoment F new (moved m (Observe name target))
   observing_stands = record {
     names = names;
     accepted = stands.accepted;
@@ -311,7 +305,7 @@ module _ (F : Meanings) (k : Kept) (m : Moment) (name : List ℕ) (target : ℕ)
     holds = λ e. record {
       represents = represents_so F s (s.observers ++ x ∷ []) s.accepted k new refl refl (ap (λ p. p.arena) parts_same) held.represents;
       watches = watching;
-      settled = settled_so F m.settled s (s.observers ++ x ∷ []) k new refl parts_same held.settled;
+      settled = settled_on F m.settled s then k new leaves still shown_was held.settled;
     };
   }
 
@@ -324,7 +318,7 @@ graph_is_engine nodes (Val (Text bytes)) base = refl
 graph_is_engine nodes (Val (Reference t b)) base = absurd base
 graph_is_engine nodes Invalid base = refl
 
-module _ (F : Meanings) (k : Kept) (m : Moment) (stands : Stands F k m) (unbroken : m.broken ≡ None) (i : ℕ) (o : ObsId) (name : List ℕ)
+module _ (F : Meanings) (k : Kept) (m : Moment) (stands : MatchesMoment F k m) (unbroken : m.broken ≡ None) (i : ℕ) (o : ObsId) (name : List ℕ)
     (at_id : slice_get k.observers i ≡ Some o) (at_name : slice_get k.names.observers i ≡ Some name) where
   seen_by : Watches m.present k
   seen_by = (stands.holds unbroken).watches

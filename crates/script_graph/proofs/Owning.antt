@@ -1,21 +1,20 @@
 -- The nodes of what is declared, and those of items.
-use Rattle.std.proofs.Common.{◌≡◌, ℕ, zero, suc, List, [], ◌∷◌, Option, None, Some, refl, ap, sym, subst, ◌∙◌, slice_get}
+use Rattle.std.proofs.Common.{◌≡◌, ◌<◌, ℕ, zero, suc, List, [], ◌∷◌, Option, None, Some, refl, ap, sym, subst, ◌∙◌, slice_get}
 use Rattle.inc_value.specs.Choice.{and_then}
-use Rattle.inc_value.specs.declared.function.FnRef.{FnRef}
 use Rattle.inc_value.specs.declared.node.NodeId.{NodeId}
 use Rattle.inc_terms.specs.Graph as graph
 use Rattle.inc_terms.specs.Graph.{Graph, Row, Def, Built as BuiltFor}
 use Rattle.node_arena.specs.Graph.{graph_of}
 use Rattle.script_model.specs.Formula as script
 use Rattle.script_model.specs.Formula.{State, Body, Formula, Formulas, Meanings, body_at, formula_of_body, Literal, Name, Bound, Apply, Fold, If, Join, Bind, At, Steps, Now, End, More, Variable, Computed, Freeze, After, Every, Expert, Grab}
-use Rattle.script_model.specs.Need.{Edge, Argument, Test, Then, Else, Child, Left, Inside, Item, Named, Place, argument_at, part_at, part_of}
+use Rattle.script_model.specs.Need.{Edge, Argument, Test, Then, Else, Child, Left, Inside, Item, Named, Place, argument_at, part_at, part_of, formula_at}
 use Rattle.script_model.specs.Values.{to_engine}
 use Rattle.script_graph.specs.Kept.{Kept, arena_of, node_in}
-use Rattle.script_graph.specs.Represents.{OwnNodes, OwnNodesOfAll, OwnNodesOf, IsOwnFormula, IsVariableBody, Computes, owner_of, IsWithin, beside, Represents}
+use Rattle.script_graph.specs.Represents.{OwnNodes, OwnNodesOfAll, WholeNodes, OwnNodesOf, IsPartWithin, IsOwnFormula, IsVariableBody, Computes, owner_of, IsWithin, beside, Represents}
 use Rattle.transfer.specs.Both.{Both}
 use Rattle.transfer.specs.Items.{part_node, root_at, node_at, node_of}
 use Rattle.transfer.specs.Keeping.{RowsStay}
-use Rattle.transfer.specs.Shows.{plain}
+use Rattle.transfer.specs.Shows.{plain, IsOwn}
 use Rattle.transfer.proofs.Places.{then_some, map_parts, fold_parts}
 
 -- ---- in another graph
@@ -32,19 +31,66 @@ module _ (G G' : Graph) (P Q : NodeId → Type 0) (more : (n : NodeId) → P n �
         (more n own.0, own.1, own.2, kept n own.1 _ own.3 (ap plain own.4), own.4, own_nodes_of_all_on own.2 elements own.5)
     own_nodes_on n f own = absurd own
 
-    own_nodes_of_all_on : (ns : List NodeId) (fs : Formulas) → OwnNodesOfAll G P ns fs → OwnNodesOfAll G' Q ns fs
+    pub own_nodes_of_all_on : (ns : List NodeId) (fs : Formulas) → OwnNodesOfAll G P ns fs → OwnNodesOfAll G' Q ns fs
     own_nodes_of_all_on [] End own = tt
     own_nodes_of_all_on [] (More f rest) own = absurd own
     own_nodes_of_all_on (n ∷ ns) End own = absurd own
     own_nodes_of_all_on (n ∷ ns) (More f rest) own = (own_nodes_on n f own.0, own_nodes_of_all_on ns rest own.1)
 
+module _ (G G' : Graph) (P P' Q Q' : NodeId → Type 0) (more : (n : NodeId) → P n → P' n) (parts : (n : NodeId) → Q n → Q' n)
+    (kept : RowsStay G G') where
+  whole_nodes_on : (n : NodeId) (f : Formula) → WholeNodes G P Q n f → WholeNodes G' P' Q' n f
+  whole_nodes_on n (Literal v) own = more n own
+  whole_nodes_on n (Name k) own = tt
+  whole_nodes_on n (Apply f arguments) own = (
+    more n own.0,
+    own.1,
+    own.2,
+    kept n own.1 _ own.3 (ap plain own.4),
+    own.4,
+    own_nodes_of_all_on G G' Q Q' parts kept own.2 arguments own.5,
+  )
+  whole_nodes_on n (Fold f first elements) own = (
+    more n own.0,
+    own.1,
+    own.2,
+    kept n own.1 _ own.3 (ap plain own.4),
+    own.4,
+    own_nodes_of_all_on G G' Q Q' parts kept own.2 elements own.5,
+  )
+  whole_nodes_on n f own = absurd own
+
   -- where nodes that call functions stay, and what they have implies more, what is declared has more
-  pub own_nodes_of_on : (n : NodeId) (b : Body) → OwnNodesOf G P n b → OwnNodesOf G' Q n b
+  pub own_nodes_of_on : (n : NodeId) (b : Body) → OwnNodesOf G P Q n b → OwnNodesOf G' P' Q' n b
   own_nodes_of_on n (Variable v) own = more n own
-  own_nodes_of_on n (Computed f kept) own = own_nodes_on n f own
+  own_nodes_of_on n (Computed f kept) own = whole_nodes_on n f own
   own_nodes_of_on n b own = absurd own
 
 -- ---- by items
+
+-- the nodes of a formula's parts have the property, but for those of bare names
+abbrev PartNodes : Graph → (NodeId → Type 0) → NodeId → Formula → Type 0
+PartNodes G P n (Apply f arguments) =
+    (r : Row) × (kids : List NodeId) × (G.row n ≡ Some r) × (r.def ≡ graph.Map f kids) × OwnNodesOfAll G P kids arguments
+PartNodes G P n (Fold f first elements) =
+    (r : Row) × (kids : List NodeId) × (G.row n ≡ Some r) × (r.def ≡ graph.Fold f (to_engine first) kids) × OwnNodesOfAll G P kids elements
+PartNodes G P n (Literal v) = Unit {0}
+PartNodes G P n (Name k) = Unit {0}
+PartNodes G P n f = ⊥
+
+own_parts : (G : Graph) (P : NodeId → Type 0) (n : NodeId) (f : Formula) → OwnNodes G P n f → PartNodes G P n f
+own_parts G P n (Literal v) own = tt
+own_parts G P n (Name k) own = tt
+own_parts G P n (Apply f arguments) own = (own.1, own.2, own.3, own.4, own.5)
+own_parts G P n (Fold f first elements) own = (own.1, own.2, own.3, own.4, own.5)
+own_parts G P n f own = absurd own
+
+whole_parts : (G : Graph) (P Q : NodeId → Type 0) (n : NodeId) (f : Formula) → WholeNodes G P Q n f → PartNodes G Q n f
+whole_parts G P Q n (Literal v) own = tt
+whole_parts G P Q n (Name k) own = tt
+whole_parts G P Q n (Apply f arguments) own = (own.1, own.2, own.3, own.4, own.5)
+whole_parts G P Q n (Fold f first elements) own = (own.1, own.2, own.3, own.4, own.5)
+whole_parts G P Q n f own = absurd own
 
 argument_own : (G : Graph) (P : NodeId → Type 0) (ns : List NodeId) (fs : Formulas) → OwnNodesOfAll G P ns fs → (k : ℕ) (m : NodeId) (g : Formula)
     → slice_get ns k ≡ Some m → argument_at fs k ≡ Some g → OwnNodes G P m g
@@ -77,34 +123,38 @@ module _ (x : Both) (P : NodeId → Type 0) (owner : ℕ) where
   same_row n q r first second = let e : Some q ≡ Some r = sym first ∙ second in cc
 
   part_own : (edge : Edge) (path : List Edge) (h g : Formula) (n : NodeId) → part_at h edge ≡ Some g
-      → ((m : NodeId) → node_at x owner path ≡ Some m → OwnNodes x.graph P m h) → node_at x owner (edge ∷ path) ≡ Some n → OwnNodes x.graph P n g
+      → ((m : NodeId) → node_at x owner path ≡ Some m → PartNodes x.graph P m h) → node_at x owner (edge ∷ path) ≡ Some n → OwnNodes x.graph P n g
   part_own (Argument j) path (Apply f arguments) g n part above at =
       let m = then_some (node_at x owner path) (λ m. and_then (x.graph.row m) (λ (r : Row). part_node r.def (Argument j))) n at in
       let r = then_some (x.graph.row m.0) (λ (r : Row). part_node r.def (Argument j)) n m.2 in
       let own = above m.0 m.1 in
-      let row = same_row m.0 own.1 r.0 own.3 r.1 in
-      let def : r.0.def ≡ graph.Map f own.2 = sym (ap (λ (q : Row). q.def) row) ∙ own.4 in
-      argument_own x.graph P own.2 arguments own.5 j n g (sym (map_parts r.0.def f own.2 def j) ∙ r.2) part
+      let row = same_row m.0 own.0 r.0 own.2 r.1 in
+      let def : r.0.def ≡ graph.Map f own.1 = sym (ap (λ (q : Row). q.def) row) ∙ own.3 in
+      argument_own x.graph P own.1 arguments own.4 j n g (sym (map_parts r.0.def f own.1 def j) ∙ r.2) part
   part_own edge path (Apply f arguments) g n part above at = absurd (cc)
   part_own (Argument j) path (Fold f first elements) g n part above at =
       let m = then_some (node_at x owner path) (λ m. and_then (x.graph.row m) (λ (r : Row). part_node r.def (Argument j))) n at in
       let r = then_some (x.graph.row m.0) (λ (r : Row). part_node r.def (Argument j)) n m.2 in
       let own = above m.0 m.1 in
-      let row = same_row m.0 own.1 r.0 own.3 r.1 in
-      let def : r.0.def ≡ graph.Fold f (to_engine first) own.2 = sym (ap (λ (q : Row). q.def) row) ∙ own.4 in
-      argument_own x.graph P own.2 elements own.5 j n g (sym (fold_parts r.0.def f (to_engine first) own.2 def j) ∙ r.2) part
+      let row = same_row m.0 own.0 r.0 own.2 r.1 in
+      let def : r.0.def ≡ graph.Fold f (to_engine first) own.1 = sym (ap (λ (q : Row). q.def) row) ∙ own.3 in
+      argument_own x.graph P own.1 elements own.4 j n g (sym (fold_parts r.0.def f (to_engine first) own.1 def j) ∙ r.2) part
   part_own edge path (Fold f first elements) g n part above at = absurd (cc)
   part_own edge path (Literal v) g n part above at = absurd (cc)
   part_own edge path (Name k) g n part above at = absurd (cc)
   part_own edge path h g n part above at = let m = node_above edge path n at in absurd (above m.0 m.1)
 
-  module _ (f : Formula) (root : (m : NodeId) → node_at x owner [] ≡ Some m → OwnNodes x.graph P m f) where
-    -- the node of a part has the property
-    pub part_of_own : (path : List Edge) (g : Formula) (n : NodeId) → part_of f path ≡ Some g → node_at x owner path ≡ Some n → OwnNodes x.graph P n g
-    part_of_own [] g n part at = let same : f ≡ g = cc in subst (λ (h : Formula). OwnNodes x.graph P n h) same (root n at)
-    part_of_own (edge ∷ path) g n part at =
-        let h = then_some (part_of f path) (λ h. part_at h edge) g part in
-        part_own edge path h.0 g n h.2 (λ m is. part_of_own path h.0 m h.1 is) at
+module _ (x : Both) (P Q : NodeId → Type 0) (owner : ℕ) (f : Formula)
+    (root : (m : NodeId) → node_at x owner [] ≡ Some m → WholeNodes x.graph P Q m f) where
+  -- the node of a part has the parts' property
+  part_of_whole : (edge : Edge) (path : List Edge) (g : Formula) (n : NodeId) → part_of f (edge ∷ path) ≡ Some g → node_at x owner (edge ∷ path) ≡ Some n
+      → OwnNodes x.graph Q n g
+  part_of_whole edge [] g n part at =
+      part_own x Q owner edge [] f g n part (λ m is. whole_parts x.graph P Q m f (root m is)) at
+  part_of_whole edge (outer ∷ path) g n part at =
+      let h = then_some (part_of f (outer ∷ path)) (λ h. part_at h edge) g part in
+      part_own x Q owner edge (outer ∷ path) h.0 g n h.2
+      (λ m is. own_parts x.graph Q m h.0 (part_of_whole outer path h.0 m h.1 is)) at
 
 own_has : (G : Graph) (P : NodeId → Type 0) (n : NodeId) (f : Formula) → IsOwnFormula (Some f) → OwnNodes G P n f → P n
 own_has G P n (Literal v) is own = own
@@ -113,21 +163,53 @@ own_has G P n (Apply f arguments) is own = own.0
 own_has G P n (Fold f first elements) is own = own.0
 own_has G P n f is own = absurd own
 
+whole_has : (G : Graph) (P Q : NodeId → Type 0) (n : NodeId) (f : Formula) → IsOwnFormula (Some f) → WholeNodes G P Q n f → P n
+whole_has G P Q n (Literal v) is own = own
+whole_has G P Q n (Name k) is own = absurd is
+whole_has G P Q n (Apply f arguments) is own = own.0
+whole_has G P Q n (Fold f first elements) is own = own.0
+whole_has G P Q n f is own = absurd own
+
+-- the node of a declaration that is no other name is one of its own
+pub own_node : (G : Graph) (P Q : NodeId → Type 0) (n : NodeId) (b : Body) → IsOwn (Some b) → OwnNodesOf G P Q n b → P n
+own_node G P Q n (Variable v) is own = own
+own_node G P Q n (Computed f kept) is own = by_formula f kept is own
+  where
+    by_formula : (f : Formula) (kept : script.Kept) → IsOwn (Some (Computed f kept)) → WholeNodes G P Q n f → P n
+    by_formula (Name t) kept is own = absurd is
+    by_formula f kept is own = whole_has G P Q n f (own_form f kept is) own
+      where
+        own_form : (f : Formula) (kept : script.Kept) → IsOwn (Some (Computed f kept)) → IsOwnFormula (Some f)
+        own_form (Name t) kept is = absurd is
+        own_form f kept is = tt
+own_node G P Q n b is own = absurd own
+
 module _ (F : Meanings) (s : State) (k : Kept) (held : Represents F s k) where
+  abbrev G : Graph
+  G = graph_of (arena_of k)
+
   whole_own : (owner : ℕ) (f : Formula) (kept : script.Kept) → body_at s owner ≡ Some (Computed f kept) → (m : NodeId)
-      → node_at (beside F s k) owner [] ≡ Some m → OwnNodes (graph_of (arena_of k)) (IsWithin k.nodes owner) m f
+      → node_at (beside F s k) owner [] ≡ Some m → WholeNodes G (IsWithin k.nodes owner) (IsPartWithin k.nodes owner) m f
   whole_own owner f kept is m at =
       let own = held.aged owner (Computed f kept) is in
       let node : Some (node_in k.nodes owner) ≡ Some m = rw is at at in
       let same : node_in k.nodes owner ≡ m = cc in
-      subst (λ (n : NodeId). OwnNodes (graph_of (arena_of k)) (IsWithin k.nodes owner) n f) same own
+      subst (λ (n : NodeId). WholeNodes G (IsWithin k.nodes owner) (IsPartWithin k.nodes owner) n f) same own
+
+  part_in : (owner : ℕ) (edge : Edge) (path : List Edge) (n : NodeId) (f g : Formula) (kept : script.Kept) → body_at s owner ≡ Some (Computed f kept)
+      → part_of f (edge ∷ path) ≡ Some g → IsOwnFormula (Some g) → node_at (beside F s k) owner (edge ∷ path) ≡ Some n → IsPartWithin k.nodes owner n
+  part_in owner edge path n f g kept is part own at =
+      own_has G (IsPartWithin k.nodes owner) n g own
+      (part_of_whole (beside F s k) (IsWithin k.nodes owner) (IsPartWithin k.nodes owner) owner f (whole_own owner f kept is) edge path g n part at)
 
   by_part : (owner : ℕ) (path : List Edge) (n : NodeId) (f : Formula) (kept : script.Kept) → body_at s owner ≡ Some (Computed f kept)
       → (p : Option Formula) → part_of f path ≡ p → IsOwnFormula p → node_at (beside F s k) owner path ≡ Some n → IsWithin k.nodes owner n
   by_part owner path n f kept is None part own at = absurd own
-  by_part owner path n f kept is (Some g) part own at =
-      own_has (graph_of (arena_of k)) (IsWithin k.nodes owner) n g own
-      (part_of_own (beside F s k) (IsWithin k.nodes owner) owner f (whole_own owner f kept is) path g n part at)
+  by_part owner [] n f kept is (Some g) part own at =
+      let same : f ≡ g = cc in
+      whole_has G (IsWithin k.nodes owner) (IsPartWithin k.nodes owner) n f (subst (λ (h : Formula). IsOwnFormula (Some h)) (sym same) own)
+      (whole_own owner f kept is n at)
+  by_part owner (edge ∷ path) n f kept is (Some g) part own at = (part_in owner edge path n f g kept is part own at).within
 
   by_body : (owner : ℕ) (path : List Edge) (n : NodeId) (b : Option Body) → body_at s owner ≡ b
       → IsOwnFormula (and_then b (λ c. and_then (formula_of_body c) (λ f. part_of f path)))
@@ -147,3 +229,15 @@ module _ (F : Meanings) (s : State) (k : Kept) (held : Represents F s k) where
   aged_item (Named m) n own at =
       let same : node_in k.nodes m ≡ n = cc in subst (IsWithin k.nodes m) same (by_name m (body_at s m) refl own)
   aged_item (Place owner path) n own at = by_body owner path n (body_at s owner) refl own at
+
+  -- that of a part which is no bare name was given before that of the declaration
+  pub aged_part : (owner : ℕ) (edge : Edge) (path : List Edge) (g : Formula) (n : NodeId) → formula_at s owner (edge ∷ path) ≡ Some g
+      → IsOwnFormula (Some g) → node_at (beside F s k) owner (edge ∷ path) ≡ Some n → n.gen_ < (node_in k.nodes owner).gen_
+  aged_part owner edge path g n is own at = go (body_at s owner) refl is
+    where
+      go : (b : Option Body) → body_at s owner ≡ b → and_then b (λ c. and_then (formula_of_body c) (λ f. part_of f (edge ∷ path))) ≡ Some g
+          → n.gen_ < (node_in k.nodes owner).gen_
+      go None body is = absurd (cc)
+      go (Some (Computed f kept)) body is = (part_in owner edge path n f g kept body is own at).earlier
+      go (Some (Variable v)) body is = absurd (cc)
+      go (Some b) body is = absurd (held.aged owner b body)

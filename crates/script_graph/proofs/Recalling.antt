@@ -1,23 +1,19 @@
 -- After an accepted stabilize each needed visit was the last call of its node.
-use Rattle.std.proofs.Common.{◌≡◌, ℕ, List, map, Option, Some, ap, subst, ◌∙◌}
+use Rattle.std.proofs.Common.{◌≡◌, ℕ, List, [], ◌∷◌, map, Option, None, Some, refl, ap, ◌∙◌}
 use Rattle.inc_value.specs.declared.node.NodeId.{NodeId}
 use Rattle.inc_value.specs.declared.node.Part.{Part}
 use Rattle.inc_value.specs.declared.node.Part.TheVariants.{Change, Main}
 use Rattle.inc_value.specs.declared.node.Point.{Point}
 use Rattle.inc_value.specs.declared.value.Value.{Value as GraphValue}
-use Rattle.inc_terms.specs.declared.def.Def as declared
-use Rattle.inc_terms.specs.declared.def.Def.TheVariants as form
-use Rattle.inc_terms.specs.Code.{def_of}
-use Rattle.inc_terms.specs.Depend.{IsFlat, kids_of, main, none_died}
-use Rattle.inc_terms.specs.Evaluate.{GiveAll}
-use Rattle.inc_terms.specs.Graph.{Graph, Row, Def}
+use Rattle.inc_terms.specs.Depend.{kids_of, main, none_died, unfrozen}
+use Rattle.inc_terms.specs.Evaluate.{answer, GiveAll, Stands}
+use Rattle.inc_terms.specs.Graph.{Graph, Row, Def, Map, Fold, Freeze, Expert}
 use Rattle.inc_terms.specs.Local.{PartExact, Exact, shown_of}
 use Rattle.inc_terms.specs.Need.{Needed as GraphNeeded}
 use Rattle.inc_terms.specs.Term.{Functions}
-use Rattle.inc_terms.specs.Work.{cost_of}
-use Rattle.inc_terms.proofs.Flat.{flat_stands}
+use Rattle.inc_terms.specs.Work.{cost_of, predicate_cost, predicate_kids}
 use Rattle.node_arena.specs.Arena.{Arena, row_at}
-use Rattle.node_arena.specs.Graph.{graph_of}
+use Rattle.node_arena.specs.Graph.{graph_of, NoScopes}
 use Rattle.script_model.specs.Formula.{State, Meanings}
 use Rattle.script_model.specs.Need.{Visit, IsVisit, Needed}
 use Rattle.inc_terms.specs.Work.{taken_by}
@@ -25,10 +21,8 @@ use Rattle.stabilize_round.specs.State.{Call}
 use Rattle.node_outcomes.specs.Computing.{seen}
 use Rattle.stabilizer.specs.Round.{IsUpToDate, last_call}
 use Rattle.stabilizer.specs.declared.work.Work.{Work}
-use Rattle.stabilizer.proofs.Between.{code_row}
 use Rattle.script_graph.specs.Kept.{node_in}
-use Rattle.script_graph.specs.Represents.{graph_functions}
-use Rattle.script_graph.proofs.Same.{besides}
+use Rattle.script_graph.specs.Represents.{graph_functions, besides}
 use Rattle.transfer.specs.Both.{Both, graph_value}
 use Rattle.transfer.specs.Items.{node_of, GrabsBind, RootsHave}
 use Rattle.transfer.specs.Shows.{Fits}
@@ -36,52 +30,64 @@ use Rattle.transfer.proofs.Recalling.{visits_have_nodes}
 
 -- ---- what is needed is right
 
-module _ (M : Functions) (arena : Arena) (flat : IsFlat (graph_of arena)) (old new : Work) (observed ran : List NodeId)
+-- where all that is needed are mains of nodes outside scopes
+module _ (M : Functions) (arena : Arena) (no_scopes : NoScopes arena) (old new : Work) (observed ran : List NodeId)
+    (mains : (n : NodeId) → GraphNeeded M (graph_of arena) none_died observed (record { node = n; part = Change }) → ⊥)
     (right : IsUpToDate M arena old new observed ran) where
   part_right : (n : NodeId) (part : Part) → GraphNeeded M (graph_of arena) none_died observed (record { node = n; part = part }) → (r : Row)
       → row_at arena n ≡ Some r → PartExact M (graph_of arena) (seen new.rows) n r.def part
   part_right n Main need r row = let s = right.sees n need in (s.0, ap (λ (x : Option Row). shown_of x (seen new.rows (main n))) row ∙ s.1, s.2)
-  part_right n Change need r row = λ sub e. absurd (let none = flat.one_point n r row in cc)
+  part_right n Change need r row = absurd (mains n need)
+
+  stands : (S : Option NodeId) → S ≡ None → Stands M (graph_of arena) S
+  unfolding answer
+  stands S none = (1, rw none refl)
 
   pub needed_is_right : (p : Point) → GraphNeeded M (graph_of arena) none_died observed p → Exact M (graph_of arena) (seen new.rows) p
-  needed_is_right p need r row = (flat_stands M (graph_of arena) flat p.node r row, part_right p.node p.part need r row)
+  needed_is_right p need r row = (stands r.scope (no_scopes p.node r row), part_right p.node p.part need r row)
 
--- ---- what calls is a map or a fold
+-- ---- what calls
 
--- a map or a fold whose children give the values
+-- a node that calls a function, whose children give the values
 record IsCalledOn (M : Functions) (G : Graph) (n : NodeId) (def : Def) (values : List GraphValue) : Type 0 where
   kids : List NodeId
   takes : taken_by G n def ≡ Some kids
   give : GiveAll M G kids values
 
-called_on : (M : Functions) (G : Graph) (n : NodeId) (values : List GraphValue) (cost : ℕ) (d : declared.Def) (def : Def) → def ≡ def_of d
-    → GiveAll M G (kids_of G n def) values → cost_of G n def ≡ Some cost → IsCalledOn M G n def values
-called_on M G n values cost (form.Const v) def e give is = absurd (let none = ap (cost_of G n) e in cc)
-called_on M G n values cost (form.Var v) def e give is = absurd (let none = ap (cost_of G n) e in cc)
-called_on M G n values cost (form.Map f kids) def e give is =
-    record { kids = kids; takes = ap (taken_by G n) e; give = subst (λ (x : Def). GiveAll M G (kids_of G n x) values) e give }
-called_on M G n values cost (form.Fold f v kids) def e give is =
-    record { kids = kids; takes = ap (taken_by G n) e; give = subst (λ (x : Def). GiveAll M G (kids_of G n x) values) e give }
+called_on : (M : Functions) (G : Graph) (n : NodeId) (values : List GraphValue) (cost : ℕ) (def : Def) → GiveAll M G (kids_of G n def) values
+    → cost_of G n def ≡ Some cost → IsCalledOn M G n def values
+called_on M G n values cost (Map f kids) give is = record { kids = kids; takes = refl; give = give }
+called_on M G n values cost (Fold f v kids) give is = record { kids = kids; takes = refl; give = give }
+called_on M G n values cost (Expert f v kids) give is = record { kids = G.lists n; takes = refl; give = give }
+called_on M G n values cost (Freeze kid f) give is = by_frozen (G.frozen n) refl give is
+  where
+    by_frozen : (v : Option GraphValue) → G.frozen n ≡ v → GiveAll M G (unfrozen kid v) values → predicate_cost v ≡ Some cost
+        → IsCalledOn M G n (Freeze kid f) values
+    by_frozen None frozen give is = record { kids = kid ∷ []; takes = ap (predicate_kids kid) frozen; give = give }
+    by_frozen (Some w) frozen give is = absurd (cc)
+called_on M G n values cost def give is = absurd (cc)
 
 -- ---- the last calls
 
 -- the visit's node was last called with the visit's values
-pub record IsRecalled (x : Both) (work : Work) (v : Visit) : Type 0 where
+pub record IsRecalled (x : Both) (arena : Arena) (work : Work) (v : Visit) : Type 0 where
   pub node : NodeId
   pub is_node : node_of x v.item ≡ Some node
+  pub row : Row
+  pub is_row : row_at arena node ≡ Some row
   pub call : Call
   pub is_last : last_call work node ≡ Some call
   pub values_are : call.arguments ≡ map (graph_value x.nodes) v.values
 
 module _ (F : Meanings) (s : State) (nodes : List NodeId) (arena : Arena) (fits : Fits (besides F s nodes arena)) (grabs : GrabsBind s)
-    (flat : IsFlat (graph_of arena)) (old new : Work) (observed ran : List NodeId) (have : RootsHave (besides F s nodes arena) observed)
+    (old new : Work) (observed ran : List NodeId) (have : RootsHave (besides F s nodes arena) observed)
+    (exact : (p : Point) → GraphNeeded (graph_functions F) (graph_of arena) none_died observed p
+    → Exact (graph_functions F) (graph_of arena) (seen new.rows) p)
     (right : IsUpToDate (graph_functions F) arena old new observed ran) where
-  pub visit_is_recalled : (v : Visit) → IsVisit F s v → Needed F s v.item → IsRecalled (besides F s nodes arena) new v
+  pub visit_is_recalled : (v : Visit) → IsVisit F s v → Needed F s v.item → IsRecalled (besides F s nodes arena) arena new v
   visit_is_recalled v is need =
-      let h = visits_have_nodes (besides F s nodes arena) fits grabs observed have (seen new.rows)
-      (needed_is_right (graph_functions F) arena flat old new observed ran right) v is need in
-      let d = code_row arena h.0 h.3.row h.3.is_row in
-      let m = called_on (graph_functions F) (graph_of arena) h.0 (map (graph_value (node_in nodes)) v.values) v.cost d.0 h.3.row.def d.1 h.3.values h.3.cost in
+      let h = visits_have_nodes (besides F s nodes arena) fits grabs observed have (seen new.rows) exact v is need in
+      let m = called_on (graph_functions F) (graph_of arena) h.0 (map (graph_value (node_in nodes)) v.values) v.cost h.3.row.def h.3.values h.3.cost in
       let c = right.recalls h.0 h.3.row m.kids (map (graph_value (node_in nodes)) v.values) ((right.needs (main h.0)).1 h.2) h.3.is_row m.takes
       m.give in
-      record { node = h.0; is_node = h.1; call = c.0; is_last = c.1; values_are = c.2 }
+      record { node = h.0; is_node = h.1; row = h.3.row; is_row = h.3.is_row; call = c.0; is_last = c.1; values_are = c.2 }

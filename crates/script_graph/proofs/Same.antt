@@ -1,7 +1,6 @@
 -- A state with other observers is represented by what has the same nodes.
 use Rattle.std.proofs.Common.{◌≡◌, ℕ, ◌+◌, List, [], length, Option, None, Some, refl, ap, sym, subst, ◌∙◌}
 use Rattle.inc_value.specs.declared.node.NodeId.{NodeId}
-use Rattle.inc_terms.specs.Depend.{none_died}
 use Rattle.inc_terms.specs.Term as term
 use Rattle.inc_terms.specs.Term.{Term, Terms}
 use Rattle.node_arena.specs.Arena.{Arena}
@@ -9,20 +8,9 @@ use Rattle.node_arena.specs.Graph.{graph_of}
 use Rattle.script_model.specs.Formula.{State, Body, Formula, Formulas, Observer, Meanings, body_at, places_of, Literal, Name, Apply, Fold, End, More, Variable, Computed}
 use Rattle.script_graph.specs.Kept.{Kept, arena_of, node_in}
 use Rattle.script_graph.specs.Plain.{IsPlain, ArePlain, IsPlainBody, IsEarlierTarget}
-use Rattle.script_graph.specs.Represents.{graph_functions, IsCaller, Represents, IsWithin, OwnNodesOf}
+use Rattle.script_graph.specs.Represents.{besides, IsCaller, Represents, IsWithin, IsPartWithin, OwnNodesOf}
 use Rattle.transfer.specs.Both.{Both}
 use Rattle.transfer.specs.Shows.{Mode, Built, Binding, Shows, ShowsAll, Declares}
-
--- a state beside the nodes of an arena
-abbrev pub besides : Meanings → State → List NodeId → Arena → Both
-besides F s nodes a = record {
-  meanings = F;
-  state = s;
-  functions = graph_functions F;
-  graph = graph_of a;
-  nodes = node_in nodes;
-  died = none_died;
-}
 
 -- the state with other observers and another count of accepted stabilizes
 abbrev pub observed_so : State → List Observer → ℕ → State
@@ -70,8 +58,8 @@ represents_so F s observers accepted k new room nodes arena held = record {
       (declares_so F s observers accepted k.nodes (arena_of k) (IsEarlierTarget s n) (node_in k.nodes n) (body_at s n) (held.plain n) (held.declares n)));
   targets = held.targets;
   aged = λ n b is.
-      subst (λ (ns : List NodeId). OwnNodesOf (graph_of (arena_of new)) (IsWithin ns n) (node_in ns n) b) (sym nodes)
-      (subst (λ (a : Arena). OwnNodesOf (graph_of a) (IsWithin k.nodes n) (node_in k.nodes n) b) (sym arena) (held.aged n b is));
+      subst (λ (ns : List NodeId). OwnNodesOf (graph_of (arena_of new)) (IsWithin ns n) (IsPartWithin ns n) (node_in ns n) b) (sym nodes)
+      (subst (λ (a : Arena). OwnNodesOf (graph_of a) (IsWithin k.nodes n) (IsPartWithin k.nodes n) (node_in k.nodes n) b) (sym arena) (held.aged n b is));
   calls = record {
     callers = held.calls.callers;
     few = held.calls.few;

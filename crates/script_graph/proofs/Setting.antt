@@ -27,15 +27,15 @@ use Rattle.script_model.specs.Step.{Moment, changed_at, with_body, moved}
 use Rattle.script_model.specs.Values.{Value, Int, Bool as Truth, Text, Reference, type_of, to_engine}
 use Rattle.script_graph.specs.Kept.{Kept, arena_of, node_in, no_node}
 use Rattle.script_graph.specs.Plain.{IsPlainBody, IsEarlierTarget, AllPlain}
-use Rattle.script_graph.specs.Represents.{AreNames, beside, IsWithin, OwnNodesOf, Represents}
-use Rattle.script_graph.specs.State.{Holds, Stands}
-use Rattle.script_graph.proofs.Carrying.{watches_on, settled_on}
+use Rattle.script_graph.specs.Represents.{AreNames, beside, IsWithin, IsPartWithin, OwnNodesOf, Represents}
+use Rattle.script_graph.specs.State.{Holds, MatchesMoment}
+use Rattle.script_graph.proofs.Carrying.{watches_on, leaves_beside, settled_on}
 use Rattle.script_graph.proofs.Declaring.{plain_body_more}
-use Rattle.script_graph.proofs.Extending.{declares_still, node_given, formula_body, never_given, body_past, node_past}
+use Rattle.script_graph.proofs.Extending.{declares_still, node_given, never_given, body_past, node_past}
 use Rattle.script_graph.proofs.Callers.{HasNewCalls, few_calls_on, caller_in}
 use Rattle.script_graph.proofs.Owning.{own_nodes_of_on}
 use Rattle.transfer.specs.Both.{graph_value}
-use Rattle.transfer.specs.Items.{node_at, FormulasStay}
+use Rattle.transfer.specs.Items.{FormulasStay}
 use Rattle.transfer.specs.Keeping.{RowsStay}
 use Rattle.transfer.specs.Shows.{Declares, IsOwn, IsTop, plain}
 
@@ -255,14 +255,15 @@ module _ (named : List ℕ → Option FnRef) (value : FnRef → List GraphValue 
         | inr other ↦ plain_body_more (IsEarlierTarget s n) (IsEarlierTarget s' n) (early_on n) b (held.plain n b (sym (others n other) ∙ is))
       ]
 
-      aged_each : (n : ℕ) (b : Body) → body_at s' n ≡ Some b → OwnNodesOf (graph_of g.parts.arena) (IsWithin k.nodes n) (node_in k.nodes n) b
+      aged_each : (n : ℕ) (b : Body) → body_at s' n ≡ Some b
+          → OwnNodesOf (graph_of g.parts.arena) (IsWithin k.nodes n) (IsPartWithin k.nodes n) (node_in k.nodes n) b
       aged_each n b is = elim (cases_eq n target) [
         | inl same ↦
             let body : Variable v ≡ b = let e : Some (Variable v) ≡ Some b = sym now ∙ (ap (body_at s') (sym same) ∙ is) in cc in
-            subst (λ (c : Body). OwnNodesOf (graph_of g.parts.arena) (IsWithin k.nodes n) (node_in k.nodes n) c) body
+            subst (λ (c : Body). OwnNodesOf (graph_of g.parts.arena) (IsWithin k.nodes n) (IsPartWithin k.nodes n) (node_in k.nodes n) c) body
             (held.aged n (Variable u) (ap (body_at s) same ∙ was))
-        | inr other ↦ own_nodes_of_on (graph_of (arena_of k)) (graph_of g.parts.arena) (IsWithin k.nodes n) (IsWithin k.nodes n) (λ q h. h) stays
-            (node_in k.nodes n) b (held.aged n b (sym (others n other) ∙ is))
+        | inr other ↦ own_nodes_of_on (graph_of (arena_of k)) (graph_of g.parts.arena) (IsWithin k.nodes n) (IsWithin k.nodes n)
+            (IsPartWithin k.nodes n) (IsPartWithin k.nodes n) (λ q h. h) (λ q h. h) stays (node_in k.nodes n) b (held.aged n b (sym (others n other) ∙ is))
       ]
 
       targets_each : (n : ℕ) (d : Entry) → entry_at s' n ≡ Some d → d.target ≡ target_of_body n d.body
@@ -302,24 +303,27 @@ module _ (named : List ℕ → Option FnRef) (value : FnRef → List GraphValue 
             held.calls;
       }
 
-      by_body : (owner : ℕ) (n : NodeId) (b : Body) → body_at s owner ≡ Some b → body_at s' owner ≡ Some b → IsPlainBody (IsEarlierTarget s owner) b
-          → node_at (beside F s k) owner [] ≡ Some n → node_at (beside F s' new) owner [] ≡ Some n
-      by_body owner n (Variable q) is then fine at = absurd (let e = rw is at at in cc)
-      by_body owner n (Computed f kept) is then fine at = let e = rw is at at in rw then e
-      by_body owner n b is then fine at = absurd fine
-
-      whole : (owner : ℕ) (path : List Edge) (f : Formula) → formula_at s owner path ≡ Some f → (n : NodeId)
-          → node_at (beside F s k) owner [] ≡ Some n → node_at (beside F s' new) owner [] ≡ Some n
-      whole owner path f is n at =
-          let b = formula_body s owner path f is in
-          by_body owner n b.0 b.1 (others owner (other_owner owner path f is) ∙ b.1) (held.plain owner b.0 b.1) at
+    targets_on : (n : ℕ) (d : Entry) → entry_at s n ≡ Some d → (c : Entry) × (entry_at s' n ≡ Some c) × (c.target ≡ d.target)
+    targets_on n d is = elim (cases_eq n target) [
+      | inl same ↦
+          let first : e ≡ d = (let h : Some e ≡ Some d = sym there ∙ (ap (entry_at s) (sym same) ∙ is) in cc) in (
+            record e { body = Variable v },
+            ap (entry_at s') same ∙ with_same (λ body. Variable v) s.entries target e there,
+            ap (λ (x : Entry). x.target) first,
+          )
+      | inr other ↦ (d, with_other (λ body. Variable v) s.entries target n other ∙ is, refl)
+    ]
 
     holds_after : Holds F k m → Holds F new (moved m (Assign target v))
     holds_after h = record {
       represents = set_represents h.represents;
       watches = watches_on s s' k new sets.beside refl refl refl (λ n b is. refl) (node_given F s k h.represents sound) body_stays h.watches;
-      settled = settled_on named value m.settled s s' k new h.represents sets.beside formulas_on (stays h.represents) (whole h.represents)
-          (λ owner path f is. let b = formula_body s owner path f is in node_given F s k h.represents sound owner b.0 b.1) h.settled;
+      settled = settled_on F m.settled s s' k new (leaves_beside k new sets.beside (let same = sets.given in omega (arith, same))) (record {
+        formulas = formulas_on;
+        targets = targets_on;
+        names = λ n d is. refl;
+        rows = stays h.represents;
+      }) (λ x among is. among) h.settled;
     }
 
     names_on : AreNames k.names s → AreNames k.names s'
@@ -330,8 +334,8 @@ module _ (named : List ℕ → Option FnRef) (value : FnRef → List GraphValue 
       in_use = h.in_use;
     }
 
-  -- the script with the variable set is stood for
-  pub setting_stands : Stands F k m → Stands F new (moved m (Assign target v))
+  -- the script with the variable set is matched
+  pub setting_stands : MatchesMoment F k m → MatchesMoment F new (moved m (Assign target v))
   setting_stands h =
       let d = variable_entry k.names s h.names.declared target (engine.type_of w) fits in
       record {

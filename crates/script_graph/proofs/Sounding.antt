@@ -17,7 +17,7 @@ use Rattle.node_arena.specs.Sound as arena
 use Rattle.script_model.specs.Check.{Declared, Variable as VariableKind, kind_of_body, target_of_body}
 use Rattle.script_model.specs.Formula.{Body}
 use Rattle.script_graph.specs.Growing.{Extends}
-use Rattle.script_graph.specs.Kept.{Kept, arena_of, node_in, no_node, HasNode, AreOlder, IsSound}
+use Rattle.script_graph.specs.Kept.{Kept, arena_of, node_in, no_node, HasNode, IsSound}
 use Rattle.script_graph.proofs.Counting.{live_within}
 use Rattle.script_graph.proofs.Declaring.{with_declared}
 use Rattle.script_graph.proofs.Extending.{live_stays, never_given, node_past}
@@ -41,7 +41,7 @@ module _ (k : Kept) (h : IsSound k) (sound : arena.IsSound (arena_of k)) where
           let past : node_in k.nodes n ≡ no_node = sym node.target ∙ node_past k.nodes d.target high in
           absurd (none-some node.row (sym (ap (row_at (arena_of k)) past ∙ never_given (arena_of k) sound) ∙ node.is_row))
 
-  module _ (g : Standing (Unit {0})) (more : Extends k.graph g) (older : AreOlder g.parts.arena) where
+  module _ (g : Standing (Unit {0})) (more : Extends k.graph g) where
     looks_on : (o : _) → IsSome (standing.node_at k.graph.observers o) → IsSome (standing.node_at g.observers o)
     looks_on o is = subst (λ (os : List Looking). IsSome (standing.node_at os o)) (sym more.beside.observers) is
 
@@ -62,7 +62,6 @@ module _ (k : Kept) (h : IsSound k) (sound : arena.IsSound (arena_of k)) where
     sound_on few = record {
       one_node_each = h.one_node_each;
       has_nodes = λ n d is. node_on n d (h.has_nodes n d is);
-      older = older;
       few = few;
       one_observer_each = h.one_observer_each;
       looking = λ o among. looks_on o (h.looking o among);
@@ -125,7 +124,6 @@ module _ (k : Kept) (h : IsSound k) (sound : arena.IsSound (arena_of k)) where
             let nodes = length-append k.nodes (root ∷ []) in
             let names = length-append k.names.declared (last ∷ []) in omega (arith, h.one_node_each, nodes, names);
         has_nodes = has_each;
-        older = older;
         few = few;
         one_observer_each = h.one_observer_each;
         looking = λ o among. looks_on o (h.looking o among);
@@ -134,7 +132,7 @@ module _ (k : Kept) (h : IsSound k) (sound : arena.IsSound (arena_of k)) where
       }
 
   -- where a variable was set
-  module _ (g : Standing (Unit {0})) (n : NodeId) (w : GraphValue) (sets : Sets k.graph g n w) (older : AreOlder g.parts.arena) where
+  module _ (g : Standing (Unit {0})) (n : NodeId) (w : GraphValue) (sets : Sets k.graph g n w) where
     node_or : (p q : NodeId) → (p ≡ q) ⊎ (p ≡ q → ⊥)
     node_or p q = elim (cases_eq p.slot q.slot) [
       | inl slot ↦ elim (cases_eq p.gen_ q.gen_) [ inl gen ↦ inl (both p q slot gen) | inr other ↦ inr (λ e. other (ap (λ (m : NodeId). m.gen_) e)) ]
@@ -187,7 +185,6 @@ module _ (k : Kept) (h : IsSound k) (sound : arena.IsSound (arena_of k)) where
     sound_set = record {
       one_node_each = h.one_node_each;
       has_nodes = λ i d is. has_set i d (h.has_nodes i d is);
-      older = older;
       few = let count = live_within (arena_of k) g.parts.arena row_back in omega (arith, count, h.few);
       one_observer_each = h.one_observer_each;
       looking = λ o among. subst (λ (os : List Looking). IsSome (standing.node_at os o)) (sym sets.beside.observers) (h.looking o among);

@@ -1,5 +1,5 @@
 -- A stabilize that was refused for depth is one of the script.
-use Rattle.std.proofs.Common.{◌≡◌, ◌⊎◌, inl, inr, ℕ, ◌<◌, Bool, List, [], ◌∷◌, length, Option, None, Some, refl, ap, sym, subst, ◌∙◌, arith}
+use Rattle.std.proofs.Common.{◌≡◌, ◌⊎◌, inl, inr, ℕ, ◌<◌, Bool, true, List, [], ◌∷◌, length, Option, None, Some, refl, ap, sym, subst, ◌∙◌, arith}
 use Rattle.std.proofs.lemmas.Option.{slice_get_within}
 use Rattle.graph.specs.Sound.{IsSound, CanStabilize}
 use Rattle.graph.specs.Stabilizes.{IsRefusedFor}
@@ -8,43 +8,41 @@ use Rattle.graph.specs.Fault.{kept_of}
 use Rattle.graph.specs.declared.fault.Kept.{Kept as Cause}
 use Rattle.graph.specs.declared.fault.Kept.TheVariants as fault
 use Rattle.height_order.specs.Chains.{StartsAt}
-use Rattle.inc_value.specs.Choice.{and_then}
-use Rattle.inc_value.specs.Walk.{IsWalk as IsGraphWalk}
+use Rattle.inc_value.specs.Choice.{NoRepeats, and_then}
 use Rattle.inc_value.specs.declared.function.FnRef.{FnRef}
 use Rattle.inc_value.specs.declared.node.NodeId.{NodeId}
 use Rattle.inc_value.specs.declared.node.Point.{Point}
 use Rattle.inc_value.specs.declared.value.Value.{Value as GraphValue}
-use Rattle.inc_terms.specs.Depend.{Depends, none_died, IsFlat}
 use Rattle.inc_terms.specs.Term.{Functions}
-use Rattle.inc_terms.proofs.Flat.{flat_reads}
 use Rattle.node_arena.specs.Arena.{Arena}
-use Rattle.node_arena.specs.Graph.{graph_of}
+use Rattle.node_arena.specs.Sound as arena
 use Rattle.script_model.specs.Blocked.{Holds as HoldsName, own}
-use Rattle.script_model.specs.Formula.{State, Entry, Body, Formula, Meanings, meanings_of, body_at, entry_at, formula_of_body}
-use Rattle.script_model.specs.Need.{Item, Named, Place, formula_at, part_of, from_root}
+use Rattle.script_model.specs.Formula.{State, Entry, Body, Formula, Meanings, meanings_of, body_at, entry_at, formula_of_body, Grab}
+use Rattle.script_model.specs.Need.{Item, Named, Place, formula_at, part_of}
 use Rattle.script_model.specs.Step.{Moment, by_height}
 use Rattle.script_model.specs.Values.{seen_value}
-use Rattle.script_graph.specs.Kept.{Kept, AreOlder, arena_of, without_functions}
+use Rattle.script_graph.specs.Kept.{Kept, arena_of, without_functions}
 use Rattle.script_graph.specs.Represents.{graph_functions, beside, Computes, IsVariableBody, IsOwnFormula, owner_of, IsWithin}
 use Rattle.script_graph.specs.Stabilizing.{IsTooDeep, ChainBegins, IsFirstNotOlder, AllOlder}
 use Rattle.script_graph.specs.State.{Holds, Stands}
 use Rattle.script_graph.proofs.Beside.{represented_fits, grabs_bind}
 use Rattle.script_graph.proofs.Calling.{few_calls}
-use Rattle.script_graph.proofs.CuttingShort.{broken_stands}
+use Rattle.script_graph.proofs.CuttingShort.{broken_matches}
 use Rattle.script_graph.proofs.Functions.{functions_are}
-use Rattle.script_graph.proofs.Holding.{ready_is_flat}
+use Rattle.script_graph.proofs.Owner.{IsTooDeepAt, deep_owner, told_node}
 use Rattle.script_graph.proofs.Owning.{aged_item}
-use Rattle.script_graph.proofs.Walking.{IsTooDeepAt, deep_in_script, covers_main}
-use Rattle.script_graph.proofs.Watching.{can_is_ready, meeting_is_covered}
+use Rattle.script_graph.proofs.Remembering.{meeting_is_covered}
 use Rattle.node_outcomes.specs.Meaning.{functions_of}
 use Rattle.stabilizer.specs.Round.{HasCalledFew, IsListed, IsLawful}
 use Rattle.stabilizer.specs.declared.refused.Refused.{Refused}
 use Rattle.stabilizer.specs.declared.refused.Refused.TheVariants as refused
 use Rattle.stabilizer.specs.declared.work.Work.{Work}
 use Rattle.transfer.specs.Both.{Both}
-use Rattle.transfer.specs.Items.{GrabsBind}
+use Rattle.transfer.specs.Items.{GrabsBind, GrabsStay}
 use Rattle.transfer.specs.Shows.{Fits}
+use Rattle.transfer.proofs.Chains.{deep_has_item}
 use Rattle.transfer.proofs.Places.{then_some}
+use Rattle.transfer.proofs.Typed.{valid_grabs}
 
 -- ---- owners
 
@@ -85,16 +83,16 @@ holds_owner target (Place owner path) e = e
 -- ---- the stabilize
 
 module _ (named : List ℕ → Option FnRef) (value : FnRef → List GraphValue → GraphValue) (known : FnRef → Bool) (m : Moment) (k : Kept)
-    (stands : Stands (meanings_of named value) k m) (unbroken : m.broken ≡ None)
-    (can : CanStabilize known (seen_value value) k.graph.parts k.graph.observers k.graph.rooted) (older : AreOlder (arena_of k)) where
+    (stands : Stands (meanings_of named value) k m) (unbroken : m.broken ≡ None) (sound_arena : arena.IsSound (arena_of k))
+    (can : CanStabilize known (seen_value value) k.graph.parts k.graph.observers k.graph.rooted) where
   abbrev F : Meanings
   F = meanings_of named value
 
   abbrev s : State
   s = m.present
 
-  abbrev arena : Arena
-  arena = arena_of k
+  abbrev before : State
+  before = m.settled
 
   abbrev observed : List NodeId
   observed = in_use k.graph.observers
@@ -103,7 +101,7 @@ module _ (named : List ℕ → Option FnRef) (value : FnRef → List GraphValue 
   x = beside F s k
 
   holds : Holds F k m
-  holds = stands.holds unbroken
+  holds = stands.matches.holds unbroken
 
   fits : Fits x
   fits = represented_fits named value s k holds.represents
@@ -111,32 +109,36 @@ module _ (named : List ℕ → Option FnRef) (value : FnRef → List GraphValue 
   grabs : GrabsBind s
   grabs = grabs_bind s holds.represents.plain
 
-  flat : IsFlat (graph_of arena)
-  flat = ready_is_flat (graph_functions F) arena k.graph.parts.work (can_is_ready named value known k can)
+  grabs_before : GrabsBind before
+  grabs_before = valid_grabs F before stands.valid.0
 
-  listed_is_deep : (points : List Point) → IsListed (graph_functions F) arena k.graph.parts.work observed points → length points ≡ 130
-      → (p : Point) → StartsAt points p → IsTooDeepAt x p.node
-  listed_is_deep [] listed long p starts = absurd starts
-  listed_is_deep (q ∷ rest) listed long p starts =
-      let i = meeting_is_covered named value known s k holds.represents holds.watches can q (listed.met q refl) in
-      let c = covers_main x fits holds.represents.plain grabs (flat_reads (graph_functions F) (graph_of arena) flat) older i.0 q i.1 i.2 in
-      let node : c.0 ≡ p.node = ap (λ (y : Point). y.node) (sym c.2 ∙ starts) in
-      subst (IsTooDeepAt x) node
-      (deep_in_script x fits holds.represents.plain grabs (flat_reads (graph_functions F) (graph_of arena) flat) older i.0 c.0 i.1 c.1
-      (rest, omega (arith, long), subst (λ (y : Point). IsGraphWalk (Depends (graph_functions F) (graph_of arena) none_died) (y ∷ rest)) c.2 listed.walk))
+  -- no grab lived then
+  grabs_stay : GrabsStay before s
+  grabs_stay n b v is = absurd (holds.settled.plain n (Grab b v true) is)
+
+  listed_is_deep : (points : List Point) → IsListed (graph_functions F) (arena_of k) k.graph.parts.work observed points → length points ≡ 130
+      → NoRepeats points → (p : Point) → StartsAt points p → IsTooDeepAt x before p.node
+  listed_is_deep [] listed long once p starts = absurd starts
+  listed_is_deep (q ∷ rest) listed long once p starts =
+      let covered = meeting_is_covered named value known m k stands unbroken sound_arena can q (listed.met q refl) in
+      let i = deep_has_item x fits stands.keep stands.valid.1 before grabs_before holds.settled.still.formulas grabs_stay q rest covered
+      (omega (arith, long)) listed.walk once in
+      let at = told_node x can.ready.kept.flat holds.represents.plain q i.0 i.2 in
+      subst (IsTooDeepAt x before) (ap (λ (y : Point). y.node) starts)
+      (deep_owner x fits holds.represents.plain before grabs_before grabs holds.settled.still.formulas i.0 q.node i.1 at i.3)
 
   -- where the chain begins an item is too deep
-  begins_deep : (met : Option Refused) (r : Refused) → met ≡ Some r → IsLawful (graph_functions F) arena k.graph.parts.work observed r
-      → (p : Point) → ChainBegins met p → IsTooDeepAt x p.node
+  begins_deep : (met : Option Refused) (r : Refused) → met ≡ Some r → IsLawful (graph_functions F) (arena_of k) k.graph.parts.work observed r
+      → (p : Point) → ChainBegins met p → IsTooDeepAt x before p.node
   begins_deep None r e lawful p begins = absurd begins
   begins_deep (Some (refused.Height points)) (refused.Height others) e lawful p begins =
       let same : points ≡ others = cc in
-      listed_is_deep others.items lawful.0 lawful.1 p (subst (λ (v : _). StartsAt v.items p) same begins)
+      listed_is_deep others.items lawful.0 lawful.1 lawful.2 p (subst (λ (v : _). StartsAt v.items p) same begins)
   begins_deep (Some (refused.Height points)) r e lawful p begins = absurd (cc)
   begins_deep (Some r) r' e lawful p begins = absurd begins
 
   module _ (g : Standing (Unit {0})) (done : IsRefusedFor (graph_functions F) k.graph g fault.Height) (p : Point) (begins : ChainBegins g.refused p) where
-    deep : IsTooDeepAt x p.node
+    deep : IsTooDeepAt x before p.node
     deep = begins_deep g.refused done.met done.broken done.lawful p begins
 
     within : IsWithin k.nodes (owner_of deep.item) p.node
@@ -152,15 +154,15 @@ module _ (named : List ℕ → Option FnRef) (value : FnRef → List GraphValue 
         omega (arith, early, late)
 
     -- the model may refuse the stabilize for the first of these declarations
-    pub too_deep_stands : (target called calls : ℕ) → IsFirstNotOlder k.nodes p.node target → HasCalledFew arena called calls
+    pub too_deep_stands : (target called calls : ℕ) → IsFirstNotOlder k.nodes p.node target → HasCalledFew (arena_of k) called calls
         → IsTooDeep F m (record k { broken = Some 21; graph = g }) target called calls
     too_deep_stands target called calls first few =
         record {
           after = record m { broken = Some 21 };
-          stabilizes = by_height target deep.item (from_root deep.need) deep.deep
+          stabilizes = by_height target deep.item deep.met deep.deep
               (own (holds_owner target deep.item (first_is_owner k.nodes p.node target (owner_of deep.item) first within))) refl refl;
-          within = few_calls s arena called calls holds.represents.calls few;
-          stands = broken_stands F m k g 21 stands;
+          within = few_calls s (arena_of k) called calls holds.represents.calls few;
+          matches = broken_matches F m k g 21 stands.matches;
         }
 
 -- ---- over a graph with its functions
@@ -170,13 +172,13 @@ long_begins : (points : List Point) → length points ≡ 130 → (p : Point) ×
 long_begins [] long = absurd (cc)
 long_begins (p ∷ rest) long = (p, refl)
 
-chain_begins : (M : Functions) (arena : Arena) (work : Work) (observed : List NodeId) (refused : Option Refused) (met : Refused) → refused ≡ Some met
-    → kept_of met ≡ fault.Height → IsLawful M arena work observed met → (p : Point) × ChainBegins refused p
-chain_begins M arena work observed None met e cause lawful = absurd (cc)
-chain_begins M arena work observed (Some (refused.Height points)) (refused.Height others) e cause lawful =
+chain_begins : (M : Functions) (a : Arena) (work : Work) (observed : List NodeId) (refused : Option Refused) (met : Refused) → refused ≡ Some met
+    → kept_of met ≡ fault.Height → IsLawful M a work observed met → (p : Point) × ChainBegins refused p
+chain_begins M a work observed None met e cause lawful = absurd (cc)
+chain_begins M a work observed (Some (refused.Height points)) (refused.Height others) e cause lawful =
     let same : points ≡ others = cc in
     long_begins points.items (subst (λ (v : _). length v.items ≡ 130) (sym same) lawful.1)
-chain_begins M arena work observed (Some met) r e cause lawful = absurd (cc)
+chain_begins M a work observed (Some met) r e cause lawful = absurd (cc)
 
 module _ {A : Type 0} where
   -- what is so of a graph is so of what is kept of it
@@ -192,17 +194,18 @@ module _ {A : Type 0} where
     broken = done.broken;
     is_cause = done.is_cause;
     lawful = done.lawful;
+    tried = done.tried;
   }
 
   module _ (named : List ℕ → Option FnRef) (value : FnRef → List GraphValue → GraphValue) (known : FnRef → Bool) (k : Kept) (old new : Standing A)
       (same : k.graph ≡ without_functions old) (unbroken : k.broken ≡ None)
-      (sound : IsSound known (seen_value value) old.parts old.observers old.rooted old.refused) (older : AreOlder old.parts.arena)
+      (sound_arena : arena.IsSound old.parts.arena) (sound : IsSound known (seen_value value) old.parts old.observers old.rooted old.refused)
       (done : IsRefusedFor (functions_of (seen_value value)) old new fault.Height) where
     kept_can : CanStabilize known (seen_value value) k.graph.parts k.graph.observers k.graph.rooted
     kept_can = subst (λ (h : Standing (Unit {0})). CanStabilize known (seen_value value) h.parts h.observers h.rooted) (sym same) (sound.unbroken done.was)
 
-    kept_older : AreOlder (arena_of k)
-    kept_older = subst (λ (h : Standing (Unit {0})). AreOlder h.parts.arena) (sym same) older
+    kept_sound : arena.IsSound (arena_of k)
+    kept_sound = subst (λ (h : Standing (Unit {0})). arena.IsSound h.parts.arena) (sym same) sound_arena
 
     kept_done : IsRefusedFor (graph_functions (meanings_of named value)) k.graph (without_functions new) fault.Height
     kept_done =
@@ -217,14 +220,14 @@ module _ {A : Type 0} where
     -- some declaration's node isn't older than the first of the chain
     pub session_not_all_older : ((p : Point) → ChainBegins new.refused p → AllOlder k.nodes p.node) → (m : Moment)
         → Stands (meanings_of named value) k m → ⊥
-    session_not_all_older all m stands = not_all_older named value known m k stands (stands.broken ∙ unbroken) kept_can kept_older (without_functions new)
-        kept_done begins.0 begins.1 (all begins.0 begins.1)
+    session_not_all_older all m stands = not_all_older named value known m k stands (stands.matches.broken ∙ unbroken) kept_sound kept_can
+        (without_functions new) kept_done begins.0 begins.1 (all begins.0 begins.1)
 
     -- a stabilize of a session's graph that was refused for depth is one of its script
     pub session_too_deep : (target called calls : ℕ) → ((p : Point) → ChainBegins new.refused p → IsFirstNotOlder k.nodes p.node target)
         → HasCalledFew old.parts.arena called calls → (m : Moment) → Stands (meanings_of named value) k m
         → IsTooDeep (meanings_of named value) m (record k { broken = Some 21; graph = without_functions new }) target called calls
     session_too_deep target called calls first few m stands =
-        too_deep_stands named value known m k stands (stands.broken ∙ unbroken) kept_can kept_older (without_functions new) kept_done begins.0 begins.1
+        too_deep_stands named value known m k stands (stands.matches.broken ∙ unbroken) kept_sound kept_can (without_functions new) kept_done begins.0 begins.1
         target called calls (first begins.0 begins.1)
         (subst (λ (h : Standing (Unit {0})). HasCalledFew h.parts.arena called calls) (sym same) few)

@@ -1,5 +1,5 @@
 -- A graph to which nodes were added, and the nodes that are made for a plan.
-use Rattle.std.specs.Prelude.{◌≡◌, ◌⊎◌, ◌+◌, ◌<◌, ◌≤◌, ℕ, Bool, List, [], ◌∷◌, length, Some, IsTrue, slice_get}
+use Rattle.std.specs.Prelude.{◌≡◌, ◌⊎◌, ◌+◌, ◌<◌, ◌≤◌, ℕ, Bool, List, [], ◌∷◌, length, None, Some, IsTrue, slice_get}
 use Rattle.std.specs.List.{AllZip}
 use Rattle.inc_value.specs.Choice.{Among, Every}
 use Rattle.inc_value.specs.Ty.{IsBase}
@@ -10,6 +10,7 @@ use Rattle.inc_value.specs.declared.node.NodeId.{NodeId}
 use Rattle.inc_value.specs.declared.ty.Ty.{Ty}
 use Rattle.inc_value.specs.declared.ty.Ty.TheVariants as ty
 use Rattle.inc_value.specs.declared.value.Value.{Value}
+use Rattle.inc_terms.specs.Depend.{subject_of}
 use Rattle.inc_terms.specs.Graph as graph
 use Rattle.inc_terms.specs.Graph.{Row, Def}
 use Rattle.inc_terms.specs.Within.{Given}
@@ -67,11 +68,12 @@ OpenFits known a makes (open_def.Fold f v parts) = FoldFits known a makes f v pa
 abbrev pub AllOpenFit : (FnRef → Bool) → Arena → List Open → Type 0
 AllOpenFit known a makes = (i : ℕ) (x : Open) → slice_get makes i ≡ Some x → OpenFits known a makes x
 
--- a definition that a graph takes: it names given nodes, makes its type, and calls known functions
+-- a definition that a graph takes: it names given nodes, makes its type, and calls known functions; and it is of one point, as all of today's scripts are
 pub record IsWelcome (known : FnRef → Bool) (a : Arena) (d : Def) : Type 0 where
   pub named : NamesGiven a.given d
   pub makes : Makes a d (def_ty d)
   pub calls : CallsKnown known d
+  pub one_point : subject_of d ≡ None
 
 module _ {F : Type 0} where
   -- nodes were added: what was given before is as it was

@@ -1,9 +1,9 @@
 -- What a session keeps of a script.
-use Rattle.std.specs.Prelude.{◌≡◌, ◌+◌, ◌<◌, ◌≤◌, ℕ, List, length, Option, None, Some, IsSome, slice_get, slice_index_or}
+use Rattle.std.specs.Prelude.{◌≡◌, ◌+◌, ◌≤◌, ℕ, List, length, Option, None, Some, IsSome, slice_get, slice_index_or}
 use Rattle.inc_value.specs.Choice.{Among, NoRepeats}
 use Rattle.inc_value.specs.declared.node.NodeId.{NodeId}
 use Rattle.inc_value.specs.declared.node.ObsId.{ObsId}
-use Rattle.inc_terms.specs.Graph.{Row, kids}
+use Rattle.inc_terms.specs.Graph.{Row}
 use Rattle.graph.specs.Standing.{Standing, node_at, IsUnbroken}
 use Rattle.node_arena.specs.Arena.{Arena, row_at, live, IsVariable}
 use Rattle.script_model.specs.Check.{Names, Declared, Variable}
@@ -48,15 +48,10 @@ pub record HasNode (a : Arena) (nodes : List NodeId) (n : ℕ) (d : Declared) : 
   pub target : node_in nodes d.target ≡ node_in nodes n
   pub variable : d.kind ≡ Variable → IsVariable a (node_in nodes n)
 
--- children were given before their readers
-abbrev pub AreOlder : Arena → Type 0
-AreOlder a = (n m : NodeId) (r : Row) → row_at a n ≡ Some r → Among m (kids r.def) → m.gen_ < n.gen_
-
 -- what is kept fits together
 pub record IsSound (k : Kept) : Type 0 where
   pub one_node_each : length k.nodes ≡ length k.names.declared
   pub has_nodes : (n : ℕ) (d : Declared) → slice_get k.names.declared n ≡ Some d → HasNode (arena_of k) k.nodes n d
-  pub older : AreOlder (arena_of k)
   pub few : live (arena_of k) + k.room ≤ 1048575
   pub one_observer_each : length k.observers ≡ length k.names.observers
   pub looking : (o : ObsId) → Among o k.observers → IsSome (node_at k.graph.observers o)

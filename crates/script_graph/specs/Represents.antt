@@ -1,5 +1,5 @@
 -- What a graph has to do with the state of a script.
-use Rattle.std.specs.Prelude.{◌≡◌, ◌+◌, ◌<◌, ◌≤◌, ℕ, true, List, [], ◌∷◌, map, length, Option, None, Some, slice_get}
+use Rattle.std.specs.Prelude.{◌≡◌, ◌+◌, ◌<◌, ◌≤◌, ℕ, List, [], ◌∷◌, map, length, Option, None, Some, slice_get}
 use Rattle.std.specs.List.{sum_by}
 use Rattle.inc_value.specs.Choice.{Among}
 use Rattle.inc_value.specs.declared.node.NodeId.{NodeId}
@@ -14,33 +14,34 @@ use Rattle.node_arena.specs.Arena.{Arena, row_at}
 use Rattle.node_arena.specs.Graph.{graph_of}
 use Rattle.script_model.specs.Check.{Names, names_of, is_among, target_of_body}
 use Rattle.script_model.specs.Formula.{Body, Formula, Formulas, Entry, State, Observer, Meanings, body_at, entry_at, places_of, Literal, Name, Apply, Fold, End, More, Variable, Computed, Unwatched}
-use Rattle.script_model.specs.Need.{Item, Named, Place, Visit, IsVisit, Needed, formula_at}
+use Rattle.script_model.specs.Need.{Item, Named, Place, formula_at}
 use Rattle.script_model.specs.Run.{most_calls}
 use Rattle.script_model.specs.Values.{Outcome, Val, Invalid, type_of, to_engine, from_engine}
 use Rattle.inc_value.specs.Ty.{IsBase}
 use Rattle.script_graph.specs.Kept.{Kept, arena_of, node_in}
 use Rattle.script_graph.specs.Plain.{AllPlain}
-use Rattle.stabilize_round.specs.State.{Call}
 use Rattle.node_outcomes.specs.Meaning.{functions_of}
-use Rattle.stabilizer.specs.Round.{last_call, never_at}
-use Rattle.transfer.specs.Both.{Both, graph_value, graph_outcome}
-use Rattle.transfer.specs.Items.{node_of, FormulasStay}
+use Rattle.transfer.specs.Both.{Both, graph_outcome}
 use Rattle.transfer.specs.Shows.{Declares}
 
 -- what a graph's functions give, by those of the script
 abbrev pub graph_functions : Meanings → Functions
 graph_functions F = functions_of (λ f values. to_engine (F.value f (map from_engine values)))
 
--- a state of a script beside the graph that is kept
-abbrev pub beside : Meanings → State → Kept → Both
-beside F s k = record {
+-- a state of a script beside the nodes of an arena, with the node of each declaration
+abbrev pub besides : Meanings → State → List NodeId → Arena → Both
+besides F s nodes a = record {
   meanings = F;
   state = s;
   functions = graph_functions F;
-  graph = graph_of (arena_of k);
-  nodes = node_in k.nodes;
+  graph = graph_of a;
+  nodes = node_in nodes;
   died = none_died;
 }
+
+-- a state of a script beside the graph that is kept
+abbrev pub beside : Meanings → State → Kept → Both
+beside F s k = besides F s k.nodes (arena_of k)
 
 -- ---- declarations
 
@@ -81,16 +82,31 @@ abbrev mutual
   OwnNodesOfAll G P (n ∷ ns) End = ⊥
   OwnNodesOfAll G P (n ∷ ns) (More f rest) = OwnNodes G P n f × OwnNodesOfAll G P ns rest
 
+-- the formula's node has the one property, and those of its parts the other, but for those of bare names
+abbrev pub WholeNodes : Graph → (NodeId → Type 0) → (NodeId → Type 0) → NodeId → Formula → Type 0
+WholeNodes G P Q n (Literal v) = P n
+WholeNodes G P Q n (Name k) = Unit {0}
+WholeNodes G P Q n (Apply f arguments) =
+    P n × (r : Row) × (kids : List NodeId) × (G.row n ≡ Some r) × (r.def ≡ graph.Map f kids) × OwnNodesOfAll G Q kids arguments
+WholeNodes G P Q n (Fold f first elements) =
+    P n × (r : Row) × (kids : List NodeId) × (G.row n ≡ Some r) × (r.def ≡ graph.Fold f (to_engine first) kids) × OwnNodesOfAll G Q kids elements
+WholeNodes G P Q n f = ⊥
+
 -- so have those of what is declared
-abbrev pub OwnNodesOf : Graph → (NodeId → Type 0) → NodeId → Body → Type 0
-OwnNodesOf G P n (Variable v) = P n
-OwnNodesOf G P n (Computed f kept) = OwnNodes G P n f
-OwnNodesOf G P n body = ⊥
+abbrev pub OwnNodesOf : Graph → (NodeId → Type 0) → (NodeId → Type 0) → NodeId → Body → Type 0
+OwnNodesOf G P Q n (Variable v) = P n
+OwnNodesOf G P Q n (Computed f kept) = WholeNodes G P Q n f
+OwnNodesOf G P Q n body = ⊥
 
 -- a node was given no later than that of the declaration, and later than those of earlier declarations
 pub record IsWithin (nodes : List NodeId) (owner : ℕ) (n : NodeId) : Type 0 where
   pub not_later : n.gen_ ≤ (node_in nodes owner).gen_
   pub later : (m : ℕ) → m < owner → (node_in nodes m).gen_ < n.gen_
+
+-- so was the node of a part, and earlier than that of the declaration
+pub record IsPartWithin (nodes : List NodeId) (owner : ℕ) (n : NodeId) : Type 0 where
+  pub within : IsWithin nodes owner n
+  pub earlier : n.gen_ < (node_in nodes owner).gen_
 
 -- a node, and how many calls of its function one visit makes
 pub record Caller : Type 0 where
@@ -109,7 +125,8 @@ pub record HasFewCalls (s : State) (a : Arena) : Type 0 where
   pub few : sum_by (λ (c : Caller). c.cost) callers ≤ most_calls s
   pub all : (c : Caller) → IsCaller a c → Among c callers
 
--- the graph holds the declarations: each has its node, which shows what is declared, and the nodes of each were given after those of earlier ones
+-- the graph holds the declarations: each has its node, which shows what is declared, and the nodes of each were given after those of earlier ones,
+-- those of its parts before its own
 pub record Represents (F : Meanings) (s : State) (k : Kept) : Type 0 where
   pub room : k.room + places_of s ≡ 1048575
   pub clock : s.now ≡ 0
@@ -117,7 +134,8 @@ pub record Represents (F : Meanings) (s : State) (k : Kept) : Type 0 where
   pub plain : AllPlain s
   pub declares : (n : ℕ) → Declares (beside F s k) (node_in k.nodes n) (body_at s n)
   pub targets : (n : ℕ) (e : Entry) → entry_at s n ≡ Some e → e.target ≡ target_of_body n e.body
-  pub aged : (n : ℕ) (b : Body) → body_at s n ≡ Some b → OwnNodesOf (graph_of (arena_of k)) (IsWithin k.nodes n) (node_in k.nodes n) b
+  pub aged : (n : ℕ) (b : Body) → body_at s n ≡ Some b
+      → OwnNodesOf (graph_of (arena_of k)) (IsWithin k.nodes n) (IsPartWithin k.nodes n) (node_in k.nodes n) b
   pub calls : HasFewCalls s (arena_of k)
 
 -- ---- observers
@@ -164,21 +182,3 @@ pub record AreNames (names : Names) (s : State) : Type 0 where
   pub declared : names.declared ≡ (names_of s).declared
   pub now : names.now ≡ s.now
   pub in_use : (name : List ℕ) → is_among names.observers name ≡ is_among (names_of s).observers name
-
--- ---- the last accepted stabilize
-
--- the function of the visit's node was last called with the visit's values
-pub record WasRun (x : Both) (k : Kept) (v : Visit) : Type 0 where
-  pub node : NodeId
-  pub is_node : node_of x v.item ≡ Some node
-  pub call : Call
-  pub is_last : last_call k.graph.parts.work node ≡ Some call
-  pub values_are : call.arguments ≡ map (graph_value x.nodes) v.values
-
--- the declarations that were there then have their formulas, and each call that was needed then was the last one of its node; no node has cutoff
--- Never
-pub record Settled (F : Meanings) (before s : State) (k : Kept) : Type 0 where
-  pub formulas : FormulasStay before s
-  pub plain : AllPlain before
-  pub ran : (v : Visit) → IsVisit F before v → Needed F before v.item → WasRun (beside F s k) k v
-  pub equal : (n : NodeId) → never_at k.graph.parts.work n ≡ true → ⊥

@@ -1,44 +1,74 @@
 -- How a stabilize of a script ends.
-use Rattle.std.specs.Prelude.{◌<◌, ◌≤◌, ◌+◌, ℕ, List, [], ◌∷◌, length, Option, Some}
+use Rattle.std.specs.Prelude.{◌≡◌, ◌⊎◌, ◌<◌, ◌≤◌, ◌+◌, ℕ, List, [], ◌∷◌, length, Option, Some, slice_get}
 use Rattle.height_order.specs.Chains.{StartsAt}
 use Rattle.inc_value.specs.declared.node.NodeId.{NodeId}
 use Rattle.inc_value.specs.declared.node.Point.{Point}
+use Rattle.inc_terms.specs.Depend.{main}
+use Rattle.script_model.specs.Check.{Declared}
 use Rattle.script_model.specs.Formula.{Meanings}
 use Rattle.script_model.specs.Need.{WithinWork}
 use Rattle.script_model.specs.Run.{most_calls}
 use Rattle.script_model.specs.Step as step
 use Rattle.script_model.specs.Step.{Moment, Stable, Stabilizes}
 use Rattle.script_graph.specs.Kept.{Kept, node_in}
-use Rattle.script_graph.specs.State.{Stands}
+use Rattle.script_graph.specs.State.{MatchesMoment}
 use Rattle.stabilizer.specs.declared.refused.Refused.{Refused}
-use Rattle.stabilizer.specs.declared.refused.Refused.TheVariants.{Height}
+use Rattle.stabilizer.specs.declared.refused.Refused.TheVariants.{Cycle, Height}
 
--- it was accepted: the model accepts it, no more functions were called than are due, and the moment after it is stood for
+-- it was accepted: the model accepts it, no more functions were called than are due, and the moment after it is matched
 pub record IsAccepted (F : Meanings) (m : Moment) (new : Kept) (called calls : ℕ) : Type 0 where
   pub after : Moment
   pub stabilizes : Stabilizes F m after (Stable (m.present.accepted + 1) ∷ [])
   pub work : ℕ
   pub due : WithinWork F m.settled m.present work
   pub within : calls ≤ called + work
-  pub stands : Stands F new after
+  pub matches : MatchesMoment F new after
 
 -- it was refused for what is too deep: the model may refuse it so, functions were called no more than by one visit of each place, and the broken moment is
--- stood for
+-- matched
 pub record IsTooDeep (F : Meanings) (m : Moment) (new : Kept) (target called calls : ℕ) : Type 0 where
   pub after : Moment
   pub stabilizes : Stabilizes F m after (step.Refused (step.Height target) ∷ [])
   pub within : calls ≤ called + most_calls m.present
-  pub stands : Stands F new after
+  pub matches : MatchesMoment F new after
 
--- it found no memory: the broken moment is stood for, and functions were called no more than by one visit of each place
+-- it was refused for a cycle: the model may refuse it so, functions were called no more than by one visit of each place, and the broken moment is matched
+pub record IsCircular (F : Meanings) (m : Moment) (new : Kept) (targets : List ℕ) (called calls : ℕ) : Type 0 where
+  pub after : Moment
+  pub stabilizes : Stabilizes F m after (step.Refused (step.Cycle targets) ∷ [])
+  pub within : calls ≤ called + most_calls m.present
+  pub matches : MatchesMoment F new after
+
+-- it found no memory: the broken moment is matched, and functions were called no more than by one visit of each place
 pub record IsCutShort (F : Meanings) (m : Moment) (new : Kept) (called calls : ℕ) : Type 0 where
-  pub stands : Stands F new (record m { broken = Some 0 })
+  pub matches : MatchesMoment F new (record m { broken = Some 0 })
   pub within : calls ≤ called + most_calls m.present
 
 -- the chain of points that was too long begins at this point
 abbrev pub ChainBegins : Option Refused → Point → Type 0
 ChainBegins (Some (Height points)) p = StartsAt points.items p
 ChainBegins met p = ⊥
+
+-- the point is the main of the node of this declaration, which is its own target
+abbrev pub IsMainOf : Kept → Point → ℕ → Type 0
+IsMainOf k p n = (d : Declared) × (slice_get k.names.declared n ≡ Some d) × (d.target ≡ n) × (p ≡ main (node_in k.nodes n))
+
+-- the declarations whose mains stand in the list, in its order
+abbrev pub MainsIn : Kept → List Point → List ℕ → Type 0
+MainsIn k [] targets = targets ≡ []
+MainsIn k (p ∷ points) targets =
+    (((n : ℕ) → IsMainOf k p n → ⊥) × MainsIn k points targets)
+    ⊎ ((n : ℕ) × (more : List ℕ) × (targets ≡ n ∷ more) × IsMainOf k p n × MainsIn k points more)
+
+-- the points without the first
+abbrev pub behind_first : List Point → List Point
+behind_first [] = []
+behind_first (p ∷ points) = points
+
+-- the cycle of points that was met passes the mains of these declarations, each once
+abbrev pub CyclePasses : Kept → Option Refused → List ℕ → Type 0
+CyclePasses k (Some (Cycle points)) targets = MainsIn k (behind_first points.items) targets
+CyclePasses k met targets = ⊥
 
 -- the declaration's node was given no earlier than the node, and those of earlier declarations were given earlier
 pub record IsFirstNotOlder (nodes : List NodeId) (n : NodeId) (target : ℕ) : Type 0 where

@@ -1,9 +1,12 @@
 -- Which moments of a script a session stands for.
 use Rattle.std.specs.Prelude.{◌≡◌, None}
 use Rattle.script_model.specs.Formula.{Meanings}
+use Rattle.script_model.specs.Laws.{ValidMoment}
 use Rattle.script_model.specs.Step.{Moment}
+use Rattle.script_model.specs.Valid.{KeepToTypes}
 use Rattle.script_graph.specs.Kept.{Kept}
-use Rattle.script_graph.specs.Represents.{AreNames, Represents, Settled, Watches}
+use Rattle.script_graph.specs.Represents.{AreNames, Represents, Watches}
+use Rattle.script_graph.specs.Settled.{Settled}
 
 -- the graph holds the present state and, of the state as the last accepted stabilize left it, the calls
 pub record Holds (F : Meanings) (k : Kept) (m : Moment) : Type 0 where
@@ -11,10 +14,16 @@ pub record Holds (F : Meanings) (k : Kept) (m : Moment) : Type 0 where
   pub watches : Watches m.present k
   pub settled : Settled F m.settled m.present k
 
--- what is kept stands for a moment of a script: names, count and what broke it are those of the moment; and unless it is broken the graph holds the
+-- what is kept matches a moment of a script: names, count and what broke it are those of the moment; and unless it is broken the graph holds the
 -- moment's states
-pub record Stands (F : Meanings) (k : Kept) (m : Moment) : Type 0 where
+pub record MatchesMoment (F : Meanings) (k : Kept) (m : Moment) : Type 0 where
   pub names : AreNames k.names m.present
   pub accepted : m.present.accepted ≡ k.accepted
   pub broken : m.broken ≡ k.broken
   pub holds : m.broken ≡ None → Holds F k m
+
+-- what is kept stands for a moment: it matches it, the moment's states are valid, and functions keep to their types
+pub record Stands (F : Meanings) (k : Kept) (m : Moment) : Type 0 where
+  pub keep : KeepToTypes F
+  pub valid : ValidMoment F m
+  pub matches : MatchesMoment F k m

@@ -60,8 +60,8 @@ refusal-said F t (did.Refused n) is h = ap (list_any is_refusal) h.1
 takes_round : (F : Meanings) (m : Moment) (line : List ℕ) (old new : Kept) (buffer appended : List ℕ) (called calls : ℕ) (how : Did) → Stands F old m
     → (t : Takes F m line new buffer appended called calls how) → TellsRound old.accepted new.accepted t.turn.replies
 takes_round F m line old new buffer appended called calls how stands t =
-    subst (λ n. TellsRound n new.accepted t.turn.replies) (ap (λ (x : Moment). x.present.accepted) t.from ∙ stands.accepted)
-    (subst (λ n. TellsRound t.turn.before.present.accepted n t.turn.replies) t.stands.accepted (turn_tells F t.turn t.is_turn))
+    subst (λ n. TellsRound n new.accepted t.turn.replies) (ap (λ (x : Moment). x.present.accepted) t.from ∙ stands.matches.accepted)
+    (subst (λ n. TellsRound t.turn.before.present.accepted n t.turn.replies) t.stands.matches.accepted (turn_tells F t.turn t.is_turn))
 
 -- a turn that a line led to, with its counts
 abbrev counted_turn : Turn → ℕ → ℕ → Counted

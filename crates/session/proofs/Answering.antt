@@ -16,6 +16,9 @@ use Rattle.script_graph.specs.Kept.{Kept}
 use Rattle.session.specs.Replies.{broken_line, refused_line}
 use Rattle.script_graph.specs.Represents.{AreNames}
 use Rattle.script_graph.specs.State.{Stands}
+use Rattle.script_model.specs.Laws.{ValidMoment}
+use Rattle.script_model.specs.Valid.{KeepToTypes}
+use Rattle.script_model.proofs.Validity.{steps_keep_validity}
 use Rattle.session.specs.Taken.{Takes}
 use Rattle.session.specs.declared.answer.Did.{Did}
 use Rattle.session.specs.declared.answer.Did.TheVariants as did
@@ -175,9 +178,9 @@ pub followed_line : (F : Meanings) (k : Kept) (m after : Moment) (replies : List
     → first_that (is_against F k.names l) line_order ≡ None → command_of F k.names l ≡ Some c
     → Follows F m (verdict_on m c) after replies → Answers F m (Asks l) after replies
 followed_line F k m after replies l c st unbroken none is leads =
-    let none_there = first_there F k.names m.present l st.names ∙ none in
-    let there = sym (command_there F k.names m.present l st.names) ∙ is in
-    subst (λ v. Follows F m v after replies) (sym (verdict_allowed F m l c (st.broken ∙ unbroken) none_there there)) leads
+    let none_there = first_there F k.names m.present l st.matches.names ∙ none in
+    let there = sym (command_there F k.names m.present l st.matches.names) ∙ is in
+    subst (λ v. Follows F m v after replies) (sym (verdict_allowed F m l c (st.matches.broken ∙ unbroken) none_there there)) leads
 
 -- a refusal that changes nothing
 pub refused_with : (F : Meanings) (k : Kept) (m : Moment) (Leads : Moment → List Reply → Type 0) (why : Refusal) (written appended : List ℕ) (calls : ℕ)
@@ -190,7 +193,7 @@ refused_with F k m Leads why written appended calls st answers due print = recor
   leads = answers;
   work = 0;
   due = due;
-  stands = st;
+  matches = st.matches;
   printed_are = appended_one m.present written appended (Refused why) print;
   within = omega arith;
   says = (why, refl, refl);
@@ -201,8 +204,8 @@ pub answered_refused : (F : Meanings) (k : Kept) (m : Moment) (l : Line) (why : 
     → first_that (is_against F k.names l) line_order ≡ Some why → reason_number why ≡ n → appended ≡ written ++ refused_line n
     → IsAnswered F m (Answers F m (Asks l)) k written appended calls calls (did.Refused n)
 answered_refused F k m l why n written appended calls st unbroken is number print =
-    let there = first_there F k.names m.present l st.names ∙ is in
-    let verdict = verdict_refused F m l why (st.broken ∙ unbroken) there in
+    let there = first_there F k.names m.present l st.matches.names ∙ is in
+    let verdict = verdict_refused F m l why (st.matches.broken ∙ unbroken) there in
     subst (λ j. IsAnswered F m (Answers F m (Asks l)) k written appended calls calls (did.Refused j)) number
     (refused_with F k m (Answers F m (Asks l)) (Because why) written appended calls st
     (subst (λ v. Follows F m v m (Refused (Because why) ∷ [])) (sym verdict) (refl, refl)) refl
@@ -212,7 +215,7 @@ pub answered_broken : (F : Meanings) (k : Kept) (m : Moment) (l : Line) (number 
     → k.broken ≡ Some number
     → appended ≡ written ++ broken_line number → IsAnswered F m (Answers F m (Asks l)) k written appended calls calls (did.Refused 22)
 answered_broken F k m l number written appended calls st broken print =
-    let verdict = verdict_broken F m l number (st.broken ∙ broken) in
+    let verdict = verdict_broken F m l number (st.matches.broken ∙ broken) in
     refused_with F k m (Answers F m (Asks l)) (Broken number) written appended calls st
     (subst (λ v. Follows F m v m (Refused (Broken number) ∷ [])) (sym verdict) (refl, refl)) refl print
 
@@ -223,14 +226,14 @@ answered_too_long F k m written appended calls st print = refused_with F k m (An
 
 -- what was answered is a turn of the model
 pub taken_of : (F : Meanings) (m : Moment) (line : List ℕ) (r : Request) (new : Kept) (written appended : List ℕ) (called calls : ℕ) (how : Did)
-    → IsRequest line r
+    → KeepToTypes F → ValidMoment F m → IsRequest line r
     → IsAnswered F m (Answers F m r) new written appended called calls how → Takes F m line new written appended called calls how
-taken_of F m line r new written appended called calls how asks h = record {
+taken_of F m line r new written appended called calls how keep valid asks h = record {
   turn = record { before = m; line = line; request = r; after = h.after; replies = h.replies; work = h.work };
   from = refl;
   over = refl;
   is_turn = record { asks = asks; answers = h.leads; due = h.due };
-  stands = h.stands;
+  stands = record { keep = keep; valid = steps_keep_validity F m h.after line h.replies keep valid (r, asks, h.leads); matches = h.matches };
   printed = h.printed_are;
   within = h.within;
   says = h.says;
@@ -238,14 +241,15 @@ taken_of F m line r new written appended called calls how asks h = record {
 
 -- so where the answer tells what the bytes ask for
 pub taken_from : (F : Meanings) (m : Moment) (line : List ℕ) (new : Kept) (written appended : List ℕ) (called calls : ℕ) (how : Did)
+    → KeepToTypes F → ValidMoment F m
     → IsAnswered F m (λ after replies. (r : Request) × IsRequest line r × Answers F m r after replies) new written appended called calls how
     → Takes F m line new written appended called calls how
-taken_from F m line new written appended called calls how h = record {
+taken_from F m line new written appended called calls how keep valid h = record {
   turn = record { before = m; line = line; request = h.leads.0; after = h.after; replies = h.replies; work = h.work };
   from = refl;
   over = refl;
   is_turn = record { asks = h.leads.1; answers = h.leads.2; due = h.due };
-  stands = h.stands;
+  stands = record { keep = keep; valid = steps_keep_validity F m h.after line h.replies keep valid h.leads; matches = h.matches };
   printed = h.printed_are;
   within = h.within;
   says = h.says;

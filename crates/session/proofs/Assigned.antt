@@ -1,13 +1,11 @@
--- The node that is set, and need where nodes were added.
+-- The node that is set.
 use Rattle.std.proofs.Common.{◌≡◌, ℕ, refl, sym, subst}
 use Rattle.formula_lang.specs.Fits.{AssignmentFits}
 use Rattle.inc_value.specs.Value.{type_of}
 use Rattle.inc_value.specs.declared.node.NodeId.{NodeId}
 use Rattle.inc_value.specs.declared.value.Value.{Value}
-use Rattle.graph.specs.Standing.{Standing, rooted_nodes}
 use Rattle.node_arena.specs.Sound.{IsSound as IsSoundArena}
 use Rattle.std.specs.Prelude.{slice_index_or}
-use Rattle.script_graph.specs.Growing.{Extends}
 use Rattle.script_graph.specs.Kept.{Kept, IsSound, arena_of}
 use Rattle.script_graph.proofs.Declared.{TakesValue, assigned_takes}
 use Rattle.session.proofs.Observed.{target_node}
@@ -18,7 +16,3 @@ pub node_takes : (k : Kept) → IsSound k → IsSoundArena (arena_of k) → (tar
 node_takes k sound arena target w fits node is =
     subst (λ (n : NodeId). TakesValue (arena_of k) n w) (sym (target_node k sound target fits.name.earlier node is))
     (assigned_takes (arena_of k) k.names k.nodes arena sound.has_nodes target w fits)
-
--- the observers at which need begins look at the same nodes, where nodes were added
-pub rooted_still : {F : Type 0} (old new : Standing F) → Extends old new → rooted_nodes new ≡ rooted_nodes old
-rooted_still old new more = rw (more.beside.observers, more.beside.rooted) refl

@@ -1,9 +1,9 @@
 -- What a line, or a part of one, does, from what the calls do that it makes.
-use Rattle.std.proofs.Common.{◌≡◌, ℕ, ◌+◌, ◌≤◌, ◌^◌, Bool, List, [], ◌∷◌, ◌++◌, Option, None, Some, Result, Ok, Err, refl, sym, ◌∙◌, ap, subst, append-nil, arith, IsTrue}
+use Rattle.std.proofs.Common.{◌≡◌, ℕ, ◌≤◌, ◌^◌, Bool, List, [], ◌∷◌, ◌++◌, None, Some, Result, Ok, Err, refl, sym, ◌∙◌, ap, subst, append-nil, arith, IsTrue}
 use Rattle.std.specs.Result.{IfOk, OnErr, OnOk}
 use Rattle.inc_value.specs.declared.function.FnRef.{FnRef}
-use Rattle.script_graph.specs.Kept.{Kept, Script}
-use Rattle.script_graph.specs.State.{Stands}
+use Rattle.script_graph.specs.Kept.{Script}
+use Rattle.script_graph.specs.State.{MatchesMoment, Stands}
 use Rattle.script_model.specs.Check.{Command}
 use Rattle.script_model.specs.Check as check
 use Rattle.script_model.specs.Formula.{Meanings}
@@ -14,7 +14,7 @@ use Rattle.script_model.specs.Step as model
 use Rattle.script_model.specs.Step.{Answers, Follows, Moment, Reply, Refused, Because, LineTooLong, NoCommand, LineTooDeep, number_of, printed}
 use Rattle.session.specs.Answered.{Extends, IsAnswered, verdict_on}
 use Rattle.session.specs.Carried.{CarriesOut, IsBeside, Performs, Refuses, EndsStabilize, TakesBytes, Treats}
-use Rattle.session.specs.Replies.{done_line, refused_line, stable_line, too_deep_line, name_in}
+use Rattle.session.specs.Replies.{refused_line, stable_line, too_deep_line, name_in}
 use Rattle.session.specs.Taken.{AsksStabilize, KeepsUnlessAccepted, Stops}
 use Rattle.session.specs.declared.answer.Did.{Did}
 use Rattle.session.specs.declared.answer.Did.TheVariants as did
@@ -39,9 +39,9 @@ module _ {L E : Type 0} (meanings : L → Meanings) (known : L → FnRef → Boo
     by_beside : IsBeside ids observers old new → ((old.kept.broken ≡ None → ⊥) → new ≡ old) → (result : Result Did E)
         → IfOk result (λ how. (m : Moment) → Stands (meanings old.library) old.kept m
         → IsAnswered (meanings old.library) m (Leads (meanings old.library) m) new.kept written appended (calls old.library) (calls old.library) how)
-        → OnErr result ((m : Moment) → Stands (meanings old.library) old.kept m → Stands (meanings old.library) new.kept m)
+        → OnErr result ((m : Moment) → MatchesMoment (meanings old.library) old.kept m → MatchesMoment (meanings old.library) new.kept m)
         → OnErr result (Extends written appended) → IfOk result (λ how. KeepsUnlessAccepted how old.kept new.kept) → Carries result
-    by_beside beside broken (Ok how) answered stands extended kept =
+    by_beside beside broken (Ok how) answered matches extended kept =
         let same : calls new.library ≡ calls old.library = ap calls beside.library in
         let accepted = beside.accepted in
         let given = beside.given in
@@ -61,7 +61,7 @@ module _ {L E : Type 0} (meanings : L → Meanings) (known : L → FnRef → Boo
           broken = broken;
           functions = ap meanings beside.library;
         }
-    by_beside beside broken (Err e) answered stands extended kept =
+    by_beside beside broken (Err e) answered matches extended kept =
         let same : calls new.library ≡ calls old.library = ap calls beside.library in
         let accepted = beside.accepted in
         let given = beside.given in
@@ -69,7 +69,8 @@ module _ {L E : Type 0} (meanings : L → Meanings) (known : L → FnRef → Boo
         record {
           answered = tt;
           stopped = λ m line st is. subst (λ n. Stops (meanings old.library) m line new.kept (calls old.library) n) (sym same)
-              (stops_standing (meanings old.library) new.kept m line (calls old.library) (stands m st));
+              (stops_standing (meanings old.library) new.kept m line (calls old.library)
+              (record { keep = st.keep; valid = st.valid; matches = matches m st.matches }));
           extended = extended;
           accepted = omega (arith, accepted);
           given = omega (arith, given, few);
@@ -90,8 +91,9 @@ module _ {L E : Type 0} (meanings : L → Meanings) (known : L → FnRef → Boo
 
     -- a command for which no memory was found
     pub carried_unmade : (e : E) → IsBeside ids observers old new → old.kept.broken ≡ None
-        → ((m : Moment) → Stands (meanings old.library) old.kept m → Stands (meanings old.library) new.kept m) → Extends written appended → Carries (Err e)
-    carried_unmade e beside unbroken stands extended = by_beside beside (λ broken. absurd (broken unbroken)) (Err e) tt stands extended tt
+        → ((m : Moment) → MatchesMoment (meanings old.library) old.kept m → MatchesMoment (meanings old.library) new.kept m) → Extends written appended
+        → Carries (Err e)
+    carried_unmade e beside unbroken matches extended = by_beside beside (λ broken. absurd (broken unbroken)) (Err e) tt matches extended tt
 
   -- ---- where nothing changed
 
@@ -130,7 +132,7 @@ module _ {L E : Type 0} (meanings : L → Meanings) (known : L → FnRef → Boo
       leads = leads m a.after a.replies st a.leads;
       work = a.work;
       due = a.due;
-      stands = a.stands;
+      matches = a.matches;
       printed_are = a.printed_are;
       within = a.within;
       says = a.says;
@@ -241,7 +243,7 @@ module _ {L E : Type 0} (meanings : L → Meanings) (known : L → FnRef → Boo
         leads = (Blank, asks, (refl, refl));
         work = 0;
         due = refl;
-        stands = st;
+        matches = st.matches;
         printed_are = sym (append-nil written);
         within = omega arith;
         says = refl;
@@ -277,8 +279,8 @@ module _ {L E : Type 0} (meanings : L → Meanings) (known : L → FnRef → Boo
     performed_unwritten e is same =
         let s = subst (EndsStabilize meanings known calls old there) is done in
         carried_stabilize old there written appended how done unbroken (Err e) tt
-        (λ m line st asks. stops_accepted (meanings old.library) there.kept m (calls old.library) (calls there.library) (s.accepted refl m st) line asks
-        (st.broken ∙ unbroken))
+        (λ m line st asks. stops_accepted (meanings old.library) there.kept m (calls old.library) (calls there.library) (s.accepted refl m st) line
+        st.keep st.valid asks (st.matches.broken ∙ unbroken))
         (nothing_more written appended same) tt
 
     -- it was cut short
@@ -287,8 +289,8 @@ module _ {L E : Type 0} (meanings : L → Meanings) (known : L → FnRef → Boo
     performed_cut_short e e' is same =
         let s = subst (EndsStabilize meanings known calls old there) is done in
         carried_stabilize old there written appended how done unbroken (Err e) tt
-        (λ m line st asks. stops_cut_short (meanings old.library) there.kept m line (calls old.library) (calls there.library) (s.cut_short m st) asks
-        (st.broken ∙ unbroken))
+        (λ m line st asks. stops_cut_short (meanings old.library) there.kept m line (calls old.library) (calls there.library) (s.cut_short m st)
+        st.keep st.valid asks (st.matches.broken ∙ unbroken))
         (nothing_more written appended same) tt
 
     -- it was refused for the depth of a declaration, or there was no memory to say so, and the session is broken for want of it
@@ -313,7 +315,7 @@ module _ {L E : Type 0} (meanings : L → Meanings) (known : L → FnRef → Boo
           answered = tt;
           stopped = λ m line st asks.
               stops_too_deep (meanings old.library) there.kept m target (calls old.library) (calls there.library) (s.too_deep target refl m st) line
-              (asks refl) (st.broken ∙ unbroken);
+              st.keep st.valid (asks refl) (st.matches.broken ∙ unbroken);
           extended = extended;
           accepted = done.count;
           given = omega (arith, given);

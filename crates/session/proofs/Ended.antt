@@ -17,7 +17,7 @@ use Rattle.script_model.specs.Check.{Names, Unobserve}
 use Rattle.script_model.specs.Formula.{Meanings}
 use Rattle.script_model.specs.Step.{Moment, moved}
 use Rattle.script_graph.specs.Kept.{Kept, IsSound, without_functions}
-use Rattle.script_graph.specs.State.{Stands}
+use Rattle.script_graph.specs.State.{MatchesMoment}
 use Rattle.script_graph.proofs.Ending.{ending_sound, ending_stands}
 use Rattle.session.proofs.Observed.{among_at, by_position}
 
@@ -100,9 +100,9 @@ module _ {F : Type 0} (k : Kept) (old new : Standing F) (graph_is : k.graph ≡ 
         rw (names_now, os_are)
         (ending_sound k name place.0 i o (without_functions new) sound (at_id k sound i within o index) at_name ends_now)
 
-    -- and it stands for the moment without the observer
-    pub ended_stands : k.broken ≡ None → (G : Meanings) (m : Moment) → Stands G k m
-        → Stands G (record k { names = names; observers = os; graph = without_functions new }) (moved m (Unobserve name))
+    -- and it matches the moment without the observer
+    pub ended_stands : k.broken ≡ None → (G : Meanings) (m : Moment) → MatchesMoment G k m
+        → MatchesMoment G (record k { names = names; observers = os; graph = without_functions new }) (moved m (Unobserve name))
     ended_stands unbroken G m stands =
         rw (names_now, os_are)
         (ending_stands k name place.0 i o (without_functions new) sound (at_id k sound i within o index) at_name ends_now G m stands (stands.broken ∙ unbroken))

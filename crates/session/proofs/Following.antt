@@ -12,16 +12,19 @@ use Rattle.script_model.specs.Check as check
 use Rattle.script_model.specs.Check.{Command, Declare, Declared, Names, Show, Stabilize, NotStabilized, TooManyPlaces, declared_of, names_of}
 use Rattle.script_model.specs.Formula.{Body, Entry, Meanings, State, places_of, places_of_body}
 use Rattle.script_model.specs.Grammar as grammar
+use Rattle.script_model.specs.Laws.{ValidMoment}
 use Rattle.script_model.specs.Run as run
 use Rattle.script_model.specs.Run.{Halts, most_calls}
 use Rattle.script_model.specs.Step.{Moment, Reply, name_of, moved, reply_to, Done, Stable, Shown, Refused, Height, Because, Settle, Act, Refuse, printed, Follows, Stabilizes, settles, by_cycle, by_height, verdict_of}
 use Rattle.script_model.specs.Values.{Outcome, Val, Invalid, Int, Text, Reference, printed_outcome}
+use Rattle.script_model.specs.Valid.{KeepToTypes}
 use Rattle.script_model.specs.Values as values
+use Rattle.script_model.proofs.Validity.{halts_keep_validity}
 use Rattle.script_graph.specs.Kept.{Kept}
 use Rattle.script_graph.specs.Represents.{AreNames, IsBaseOutcome}
 use Rattle.script_graph.specs.Shown.{ShowsIt, ShowsNothing, engine_outcome}
 use Rattle.script_graph.specs.Stabilizing.{IsAccepted, IsTooDeep, IsCutShort}
-use Rattle.script_graph.specs.State.{Stands}
+use Rattle.script_graph.specs.State.{MatchesMoment, Stands}
 use Rattle.session.specs.Answered.{Extends, IsAnswered, verdict_on}
 use Rattle.session.specs.Replies.{line_of, done_line, shown_line, refused_line, stable_line, too_deep_line, name_in}
 use Rattle.session.specs.Taken.{AsksStabilize, Stops}
@@ -44,13 +47,13 @@ pub stops_standing : (F : Meanings) (new : Kept) (m : Moment) (line : List ℕ) 
 stops_standing F new m line calls st = record { after = m; due = 0; halts = run.unchanged refl refl; stands = st; within = omega arith }
 
 -- a stabilize that breaks the session
-stops_broken : (F : Meanings) (new : Kept) (m : Moment) (line : List ℕ) (called calls : ℕ) → AsksStabilize line → m.broken ≡ None
-    → Stands F new (record m { broken = Some 0 }) → calls ≤ called + most_calls m.present → Stops F m line new called calls
-stops_broken F new m line called calls asks unbroken st bound = record {
+stops_broken : (F : Meanings) (new : Kept) (m : Moment) (line : List ℕ) (called calls : ℕ) → KeepToTypes F → ValidMoment F m → AsksStabilize line
+    → m.broken ≡ None → MatchesMoment F new (record m { broken = Some 0 }) → calls ≤ called + most_calls m.present → Stops F m line new called calls
+stops_broken F new m line called calls keep valid asks unbroken matches bound = record {
   after = record m { broken = Some 0 };
   due = most_calls m.present;
   halts = run.broken asks unbroken refl (omega arith);
-  stands = st;
+  stands = record { keep = keep; valid = valid; matches = matches };
   within = bound;
 }
 
@@ -58,15 +61,15 @@ stops_broken F new m line called calls asks unbroken st bound = record {
 
 -- a command against which nothing stands, and that is answered so
 pub followed_done : (F : Meanings) (new : Kept) (m : Moment) (command : Command) (calls : ℕ) (written appended : List ℕ)
-    → verdict_on m command ≡ Act command → reply_to m.present command ≡ Done → Stands F new (moved m command) → appended ≡ written ++ done_line
+    → verdict_on m command ≡ Act command → reply_to m.present command ≡ Done → MatchesMoment F new (moved m command) → appended ≡ written ++ done_line
     → IsAnswered F m (Follows F m (verdict_on m command)) new written appended calls calls did.Accepted
-followed_done F new m command calls written appended acts reply st print = record {
+followed_done F new m command calls written appended acts reply matches print = record {
   after = moved m command;
   replies = Done ∷ [];
   leads = subst (λ v. Follows F m v (moved m command) (Done ∷ [])) (sym acts) (refl, ap (λ r. r ∷ []) (sym reply));
   work = 0;
   due = refl;
-  stands = st;
+  matches = matches;
   printed_are = appended_one (moved m command).present written appended Done print;
   within = omega arith;
   says = (Done, [], refl, refl);
@@ -82,7 +85,7 @@ refused_because F k m command why calls written appended refuses st print = reco
   leads = subst (λ v. Follows F m v m (Refused (Because why) ∷ [])) (sym refuses) (refl, refl);
   work = 0;
   due = refl;
-  stands = st;
+  matches = st.matches;
   printed_are = appended_one m.present written appended (Refused (Because why)) print;
   within = omega arith;
   says = (Because why, refl, refl);
@@ -92,10 +95,10 @@ refused_because F k m command why calls written appended refuses st print = reco
 
 module _ (F : Meanings) (k : Kept) (m : Moment) (st : Stands F k m) (unbroken : k.broken ≡ None) (name : List ℕ) (ty : Ty) (body : Body) where
   room_is : k.room + places_of m.present ≡ 1048575
-  room_is = (st.holds (st.broken ∙ unbroken)).represents.room
+  room_is = (st.matches.holds (st.matches.broken ∙ unbroken)).represents.room
 
   pub followed_declare : (new : Kept) (calls : ℕ) (written appended : List ℕ) → places_of_body body ≤ k.room
-      → Stands F new (moved m (Declare name ty body)) → appended ≡ written ++ done_line
+      → MatchesMoment F new (moved m (Declare name ty body)) → appended ≡ written ++ done_line
       → IsAnswered F m (Follows F m (verdict_on m (Declare name ty body))) new written appended calls calls did.Accepted
   followed_declare new calls written appended enough now print =
       let few : ltb 1048575 (places_of m.present + places_of_body body) ≡ false =
@@ -135,7 +138,7 @@ followed_show F k m name o calls written appended st h print =
       leads = subst (λ v. Follows F m v m (reply ∷ [])) (sym acts) (refl, rw h.is_shown refl);
       work = 0;
       due = refl;
-      stands = st;
+      matches = st.matches;
       printed_are = appended_one m.present written appended reply (print ∙ ap (λ l. written ++ l) (shown_same m.present name o h));
       within = omega arith;
       says = (reply, [], refl, refl);
@@ -165,7 +168,7 @@ module _ (F : Meanings) (new : Kept) (m : Moment) (called calls : ℕ) (h : IsAc
   reply = Stable (m.present.accepted + 1)
 
   count_is : new.accepted ≡ m.present.accepted + 1
-  count_is = sym h.stands.accepted ∙ count_of F m h.after (m.present.accepted + 1) [] h.stabilizes
+  count_is = sym h.matches.accepted ∙ count_of F m h.after (m.present.accepted + 1) [] h.stabilizes
 
   pub followed_stabilize : (written appended : List ℕ) → appended ≡ written ++ stable_line new.accepted
       → IsAnswered F m (Follows F m (verdict_on m Stabilize)) new written appended called calls did.Accepted
@@ -175,22 +178,24 @@ module _ (F : Meanings) (new : Kept) (m : Moment) (called calls : ℕ) (h : IsAc
     leads = h.stabilizes;
     work = h.work;
     due = h.due;
-    stands = h.stands;
+    matches = h.matches;
     printed_are = appended_one h.after.present written appended reply (print ∙ ap (λ n. written ++ stable_line n) count_is);
     within = h.within;
     says = (reply, [], refl, refl);
   }
 
   -- where its line finds no memory
-  pub stops_accepted : (line : List ℕ) → AsksStabilize line → m.broken ≡ None → Stops F m line new called calls
-  stops_accepted line asks unbroken = record {
-    after = h.after;
-    due = h.work;
-    halts = run.accepted (m.present.accepted + 1) [] asks
-        (subst (λ v. Follows F m v h.after (reply ∷ [])) (sym (asks_to_settle F m unbroken)) h.stabilizes) h.due;
-    stands = h.stands;
-    within = h.within;
-  }
+  pub stops_accepted : (line : List ℕ) → KeepToTypes F → ValidMoment F m → AsksStabilize line → m.broken ≡ None → Stops F m line new called calls
+  stops_accepted line keep valid asks unbroken =
+      let halts : Halts F m line h.after h.work = run.accepted (m.present.accepted + 1) [] asks
+      (subst (λ v. Follows F m v h.after (reply ∷ [])) (sym (asks_to_settle F m unbroken)) h.stabilizes) h.due in
+      record {
+        after = h.after;
+        due = h.work;
+        halts = halts;
+        stands = record { keep = keep; valid = halts_keep_validity F m h.after line h.work keep valid halts; matches = h.matches };
+        within = h.within;
+      }
 
 -- the name at a position is that of the entry there
 name_of_entry : (es : List Entry) (n : ℕ) → ◌≡◌ {A = List ℕ} (elim (slice_get (map declared_of es) n) [ None ↦ [] | Some d ↦ d.name ])
@@ -218,36 +223,38 @@ module _ (F : Meanings) (new : Kept) (m : Moment) (target called calls : ℕ) (h
   pub refused_too_deep : (written appended : List ℕ) → appended ≡ written ++ too_deep_line (name_in new.names target)
       → IsAnswered F m (Follows F m (verdict_on m Stabilize)) new written appended called calls (did.Refused 21)
   refused_too_deep written appended print =
-      let same : name_in new.names target ≡ name_of h.after.present target = name_there new.names h.after.present target h.stands.names in
+      let same : name_in new.names target ≡ name_of h.after.present target = name_there new.names h.after.present target h.matches.names in
       record {
         after = h.after;
         replies = height ∷ [];
         leads = h.stabilizes;
         work = most_calls m.present;
         due = omega arith;
-        stands = h.stands;
+        matches = h.matches;
         printed_are = appended_one h.after.present written appended height (print ∙ ap (λ n. written ++ too_deep_line n) same);
         within = h.within;
         says = (Height target, refl, refl);
       }
 
   -- where its line finds no memory, the session is broken for want of it
-  pub stops_too_deep : (line : List ℕ) → AsksStabilize line → m.broken ≡ None → Stops F m line (record new { broken = Some 0 }) called calls
-  stops_too_deep line asks unbroken =
+  pub stops_too_deep : (line : List ℕ) → KeepToTypes F → ValidMoment F m → AsksStabilize line → m.broken ≡ None
+      → Stops F m line (record new { broken = Some 0 }) called calls
+  stops_too_deep line keep valid asks unbroken =
       let is = broken_by_height F m h.after target h.stabilizes in
-      let there : Stands F (record new { broken = Some 0 }) (record h.after { broken = Some 0 }) = record {
-        names = h.stands.names;
-        accepted = h.stands.accepted;
+      let there : MatchesMoment F (record new { broken = Some 0 }) (record h.after { broken = Some 0 }) = record {
+        names = h.matches.names;
+        accepted = h.matches.accepted;
         broken = refl;
         holds = λ none. absurd (cc);
       } in
-      stops_broken F (record new { broken = Some 0 }) m line called calls asks unbroken
-      (subst (λ (x : Moment). Stands F (record new { broken = Some 0 }) (record x { broken = Some 0 })) is there) h.within
+      stops_broken F (record new { broken = Some 0 }) m line called calls keep valid asks unbroken
+      (subst (λ (x : Moment). MatchesMoment F (record new { broken = Some 0 }) (record x { broken = Some 0 })) is there) h.within
 
 -- where the stabilize itself finds none
 pub stops_cut_short : (F : Meanings) (new : Kept) (m : Moment) (line : List ℕ) (called calls : ℕ) → IsCutShort F m new called calls
-    → AsksStabilize line → m.broken ≡ None → Stops F m line new called calls
-stops_cut_short F new m line called calls h asks unbroken = stops_broken F new m line called calls asks unbroken h.stands h.within
+    → KeepToTypes F → ValidMoment F m → AsksStabilize line → m.broken ≡ None → Stops F m line new called calls
+stops_cut_short F new m line called calls h keep valid asks unbroken =
+    stops_broken F new m line called calls keep valid asks unbroken h.matches h.within
 
 -- the engine's value of a constant is of its type
 pub type_held : (v : values.Value) → held.type_of (values.to_engine v) ≡ values.type_of v

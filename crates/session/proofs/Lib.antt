@@ -6,5 +6,6 @@ mod Ended
 mod Failing
 mod Following
 mod InTurn
+mod Keeping
 mod Observed
 mod Stabilized

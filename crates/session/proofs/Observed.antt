@@ -24,9 +24,9 @@ use Rattle.node_arena.specs.Sound.{IsSound as IsSoundArena}
 use Rattle.script_model.specs.Check.{Names, Declared, Observe, is_among}
 use Rattle.script_model.specs.Formula.{Meanings}
 use Rattle.script_model.specs.Step.{Moment, moved}
-use Rattle.script_graph.specs.Kept.{Kept, AreOlder, HasNode, IsSound, arena_of, no_node, node_in, without_functions}
+use Rattle.script_graph.specs.Kept.{Kept, HasNode, IsSound, arena_of, no_node, node_in, without_functions}
 use Rattle.script_graph.specs.Shown.{ShowsIt, ShowsNothing}
-use Rattle.script_graph.specs.State.{Stands}
+use Rattle.script_graph.specs.State.{MatchesMoment}
 use Rattle.script_graph.proofs.Observing.{get_end, get_within, observing_stands, shows_it, shows_nothing, with_observer}
 
 -- ---- a name that is put in use and taken out again
@@ -215,7 +215,6 @@ module _ (k : Kept) (name : List ℕ) (target : ℕ) (o : ObsId) (g : Standing (
   sound_observed = record {
     one_node_each = sound.one_node_each;
     has_nodes = λ n d at. subst (λ (a : Arena). HasNode a k.nodes n d) (sym arena_same) (sound.has_nodes n d at);
-    older = subst AreOlder (sym arena_same) sound.older;
     few = subst (λ (a : Arena). live a + k.room ≤ 1048575) (sym arena_same) sound.few;
     one_observer_each = length_more k.observers o ∙ ap (λ (n : ℕ). n + 1) sound.one_observer_each ∙ sym (length_more k.names.observers name);
     looking = λ p among. looks p (among_push k.observers o p among);
@@ -233,9 +232,9 @@ module _ (k : Kept) (name : List ℕ) (target : ℕ) (o : ObsId) (g : Standing (
     pub observed_sound : IsSound (record k { names = names; observers = os; graph = g })
     observed_sound = rw (names_are, os_are) sound_observed
 
-    -- and it stands for the moment with an observer more
+    -- and it matches the moment with an observer more
     pub observed_stands : k.broken ≡ None → ObserverFits k.names name target → k.graph.rooted ≤ length k.graph.observers
-        → (F : Meanings) (m : Moment) → Stands F k m → Stands F (record k { names = names; observers = os; graph = g }) (moved m (Observe name target))
+        → (F : Meanings) (m : Moment) → MatchesMoment F k m → MatchesMoment F (record k { names = names; observers = os; graph = g }) (moved m (Observe name target))
     observed_stands unbroken fits rooted F m stands =
         rw (names_are, os_are) (observing_stands F k m name target o g stands (stands.broken ∙ unbroken) fits.fresh fits.earlier sound.one_observer_each
         rooted observes)
@@ -305,7 +304,7 @@ module _ (k : Kept) (sound : IsSound k) (unbroken : k.broken ≡ None) (name : L
   pub told_shows : {T : Type 0} (r : Result T GraphFault) (x : T) (out : engine.Outcome) → r ≡ Ok x
       → ((n : NodeId) × (node_at k.graph.observers o ≡ Some n) × (shown_of k.graph n ≡ Some out))
       → (IsErrOf r fault.NotStabilized ↔ (IsUnbroken k.graph × IsSome (node_at k.graph.observers o) × (k.graph.rooted ≤ o.0)))
-      → (F : Meanings) (m : Moment) → Stands F k m → ShowsIt m.present name out
+      → (F : Meanings) (m : Moment) → MatchesMoment F k m → ShowsIt m.present name out
   told_shows r x out is told not_stabilized F m stands =
       shows_it F k m stands (stands.broken ∙ unbroken) i o name at_id at_name told.0 out told.1 told.2 earlier
     where
@@ -321,7 +320,7 @@ module _ (k : Kept) (sound : IsSound k) (unbroken : k.broken ≡ None) (name : L
       → ((cause : Cause) → IsErrOf r (fault.Broken cause) ↔ IsBroken k.graph cause)
       → (IsErrOf r fault.Unknown ↔ (IsUnbroken k.graph × (node_at k.graph.observers o ≡ None)))
       → (IsErrOf r fault.NotStabilized ↔ (IsUnbroken k.graph × IsSome (node_at k.graph.observers o) × (k.graph.rooted ≤ o.0)))
-      → (F : Meanings) (m : Moment) → Stands F k m → ShowsNothing m.present name
+      → (F : Meanings) (m : Moment) → MatchesMoment F k m → ShowsNothing m.present name
   untold_shows r e is telling broken unknown not_stabilized F m stands =
       shows_nothing F k m stands (stands.broken ∙ unbroken) i o name at_id at_name
       (only_later k.graph (sound.unbroken unbroken) r e o is telling broken unknown not_stabilized looks)

@@ -12,7 +12,7 @@ use Rattle.inc_terms.specs.Term.{Functions}
 use Rattle.inc_value.specs.declared.node.NodeId.{NodeId}
 use Rattle.inc_value.specs.declared.node.Point.{Point}
 use Rattle.node_arena.specs.Arena.{Arena, live}
-use Rattle.script_graph.specs.Kept.{Kept, AreOlder, HasNode, IsSound, arena_of, without_functions}
+use Rattle.script_graph.specs.Kept.{Kept, HasNode, IsSound, arena_of, without_functions}
 use Rattle.script_graph.specs.Stabilizing.{ChainBegins, IsFirstNotOlder, AllOlder}
 use Rattle.stabilizer.specs.declared.refused.Refused.{Refused}
 use Rattle.stabilizer.specs.declared.refused.Refused.TheVariants as refused
@@ -25,7 +25,6 @@ same_sound : (k : Kept) → IsSound k → (g : Standing (Unit {0})) → g.parts.
 same_sound k sound g nodes observers accepted broken unbroken = record {
   one_node_each = sound.one_node_each;
   has_nodes = λ n d at. subst (λ (a : Arena). HasNode a k.nodes n d) (sym nodes) (sound.has_nodes n d at);
-  older = subst AreOlder (sym nodes) sound.older;
   few = subst (λ (a : Arena). live a + k.room ≤ 1048575) (sym nodes) sound.few;
   one_observer_each = sound.one_observer_each;
   looking = λ o among. subst (λ (os : List Looking). IsSome (node_at os o)) (sym observers) (sound.looking o among);

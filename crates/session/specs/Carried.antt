@@ -44,7 +44,7 @@ module _ {L E : Type 0} (meanings : L → Meanings) (known : L → FnRef → Boo
   -- a line that is of some form, and asks for a stabilize or not, leads from one moment to another and to replies
   pub record CarriesOut (Leads : Meanings → Moment → Moment → List Reply → Type 0) (IsOfForm : List ℕ → Type 0) (AsksIt : Type 0)
       (old new : Script L) (written appended : List ℕ) (result : Result Did E) : Type 0 where
-    -- from each moment that was stood for it leads on, the new moment is stood for, and the replies were appended
+    -- from each moment that was stood for it leads on, the new moment is matched, and the replies were appended
     pub answered : IfOk result (λ how. (m : Moment) → Stands (meanings old.library) old.kept m
         → IsAnswered (meanings old.library) m (Leads (meanings old.library) m) new.kept written appended (calls old.library) (calls new.library) how)
     -- without memory a moment is stood for at which such a line may leave things

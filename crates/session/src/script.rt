@@ -3,7 +3,7 @@ ghost use Rattle.std.specs.Prelude.{◌≡◌, false, [], None, Some, IfOk, IfEr
 ghost use Rattle.graph.specs.Standing.{IsUnbroken};
 ghost use Rattle.inc_value.specs.declared.node.NodeId.{NodeId as ANode};
 ghost use Rattle.node_arena.specs.Arena.{live, row_at};
-ghost use Rattle.script_model.specs.Formula.{Meanings};
+ghost use Rattle.script_model.specs.Formula.{meanings_of};
 ghost use Rattle.script_model.specs.Step.{first_moment};
 ghost use Rattle.script_graph.specs.Kept.{arena_of};
 ghost use Rattle.stabilizer.specs.Round.{never_at};
@@ -73,7 +73,7 @@ impl<L: Library> Script<L> {
     /// A script before its first line. It owns the library, which comes back where there is no memory.
     pub(crate) fn new(alloc: Global, library: L) -> Result<Script<L>, (AllocError, L)>
         ensures library { IfOk result (λ s. s.library ≡ library) }
-        ensures first { IfOk result (λ s. (F : Meanings) → Stands F s.kept first_moment) }
+        ensures first { IfOk result (λ s. Stands (meanings_of (L.named library) (L.value library)) s.kept first_moment) }
         ensures accepted { IfOk result (λ s. s.kept.accepted ≡ 0) }
         ensures given { IfOk result (λ s. (arena_of s.kept).given ≡ 0) }
         ensures observers { IfOk result (λ s. s.kept.graph.observers ≡ []) }
@@ -94,7 +94,7 @@ impl<L: Library> Script<L> {
         requires observers { graph.observers ≡ [] }
         requires unbroken { IsUnbroken graph }
         ensures library { IfOk result (λ s. s.library ≡ graph.functions.library) }
-        ensures first { IfOk result (λ s. (F : Meanings) → Stands F s.kept first_moment) }
+        ensures first { let l = graph.functions.library in IfOk result (λ s. Stands (meanings_of (L.named l) (L.value l)) s.kept first_moment) }
         ensures accepted { IfOk result (λ s. s.kept.accepted ≡ 0) }
         ensures given { IfOk result (λ s. (arena_of s.kept).given ≡ 0) }
         ensures observers { IfOk result (λ s. s.kept.graph.observers ≡ []) }

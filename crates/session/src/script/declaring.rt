@@ -7,17 +7,17 @@ ghost use Rattle.formula_lang.specs.CommandView.{body_view, command_view};
 ghost use Rattle.formula_lang.specs.Fits.{AssignmentFits, DeclarationFits};
 ghost use Rattle.formula_lang.specs.NamesView.{kind_view};
 ghost use Rattle.graph.specs.Effects.{top, Adds, KeepsAll, Sets, TakesBack};
-ghost use Rattle.graph.specs.Standing.{IsUnbroken, rooted_nodes};
+ghost use Rattle.graph.specs.Standing.{IsNeeded, IsUnbroken};
 ghost use Rattle.inc_terms.specs.Code.{def_of};
-ghost use Rattle.inc_value.specs.Choice.{Among};
 ghost use Rattle.inc_value.specs.Value.{type_of};
 ghost use Rattle.inc_value.specs.declared.node.NodeId.{NodeId};
+ghost use Rattle.inc_value.specs.declared.node.Point.{Point};
 ghost use Rattle.inc_terms.specs.Within.{Given, ValueWithin};
 ghost use Rattle.node_arena.specs.Arena.{live, IsVariable};
 ghost use Rattle.node_arena.specs.Typing.{FitsNode};
 ghost use Rattle.script_graph.specs.Growing.{def_ty, AllOpenFit, Extends, IsMaking, IsWelcome};
 ghost use Rattle.script_graph.specs.Kept.{arena_of, HasNode};
-ghost use Rattle.script_graph.specs.State.{Stands};
+ghost use Rattle.script_graph.specs.State.{MatchesMoment};
 ghost use Rattle.script_model.specs.Check.{Assign, Declare, Declared, kind_of_body, target_of_body};
 ghost use Rattle.script_model.specs.Formula.{meanings_of, places_of_body};
 ghost use Rattle.script_model.specs.Step.{Moment, moved};
@@ -49,10 +49,10 @@ impl<L: Library> Script<L> {
         requires unbroken { self.old.kept.broken ≡ None }
         requires ids { (arena_of self.old.kept).given + 2 ^ 20 < 2 ^ 64 - 1 }
         ensures declared { let F = meanings_of (L.named self.old.library) (L.value self.old.library) in
-            OnOk result ((m : Moment) → Stands F self.old.kept m
-            → Stands F self.new.kept (moved m (Declare name.now ty (body_view body.now)))) }
+            OnOk result ((m : Moment) → MatchesMoment F self.old.kept m
+            → MatchesMoment F self.new.kept (moved m (Declare name.now ty (body_view body.now)))) }
         ensures kept { let F = meanings_of (L.named self.old.library) (L.value self.old.library) in
-            OnErr result ((m : Moment) → Stands F self.old.kept m → Stands F self.new.kept m) }
+            OnErr result ((m : Moment) → MatchesMoment F self.old.kept m → MatchesMoment F self.new.kept m) }
         ensures beside { IsBeside (2 ^ 20) 0 self.old self.new }
     {
         self.graph.keeps_sound();
@@ -86,8 +86,8 @@ impl<L: Library> Script<L> {
         requires fits { AssignmentFits self.old.kept.names target (type_of value) }
         requires unbroken { self.old.kept.broken ≡ None }
         ensures set { let F = meanings_of (L.named self.old.library) (L.value self.old.library) in
-            (m : Moment) (v : AValue) → to_engine v ≡ value → Stands F self.old.kept m
-            → Stands F self.new.kept (moved m (Assign target v)) }
+            (m : Moment) (v : AValue) → to_engine v ≡ value → MatchesMoment F self.old.kept m
+            → MatchesMoment F self.new.kept (moved m (Assign target v)) }
         ensures beside { IsBeside 0 0 self.old self.new }
     {
         self.graph.keeps_sound();
@@ -262,6 +262,7 @@ fn add<L: Library>(graph: &mut Graph<ScriptFns<L>>, def: Def) -> Result<NodeId, 
         Def::Fold(function, initial, kids) => {
             or_no_memory(graph.fold(function, initial, kids.as_slice()))
         }
+        Def::If { .. } | Def::Join(_) => unreachable!(),
     }
 }
 
@@ -281,7 +282,7 @@ fn kind_of(body: &Declaration) -> Kind
 fn mark_of<L: Library>(graph: &Graph<ScriptFns<L>>) -> Mark
     requires unbroken { IsUnbroken graph.now }
     ensures mark { result.given ≡ graph.now.parts.arena.given }
-    ensures rooted { (n : NodeId) → Among n (rooted_nodes graph.now) → n.gen_ < result.given }
+    ensures needed { (p : Point) → IsNeeded graph.now p → p.node.gen_ < result.given }
 {
     match graph.mark() {
         Ok(mark) => mark,
@@ -292,7 +293,7 @@ fn mark_of<L: Library>(graph: &Graph<ScriptFns<L>>) -> Mark
 /// Drops the nodes that were made since the mark.
 fn take_back<L: Library>(graph: &mut Graph<ScriptFns<L>>, mark: Mark)
     requires unbroken { IsUnbroken graph.old }
-    requires unobserved { (n : NodeId) → Among n (rooted_nodes graph.old) → n.gen_ < mark.given }
+    requires unneeded { (p : Point) → IsNeeded graph.old p → p.node.gen_ < mark.given }
     ensures { TakesBack graph.old graph.new mark.given }
 {
     match graph.back_to(mark) {

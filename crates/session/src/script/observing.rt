@@ -7,7 +7,7 @@ ghost use Rattle.inc_terms.specs.Within.{Given};
 ghost use Rattle.inc_value.specs.declared.node.ObsId.{ObsId as AnObserver};
 ghost use Rattle.script_graph.specs.Kept.{arena_of};
 ghost use Rattle.script_graph.specs.Shown.{ShowsIt, ShowsNothing};
-ghost use Rattle.script_graph.specs.State.{Stands};
+ghost use Rattle.script_graph.specs.State.{MatchesMoment};
 ghost use Rattle.script_model.specs.Check.{Observe, Unobserve, is_among};
 ghost use Rattle.script_model.specs.Formula.{Meanings};
 ghost use Rattle.script_model.specs.Step.{Moment, moved};
@@ -26,8 +26,8 @@ impl<L: Library> Script<L> {
         requires fits { ObserverFits self.old.kept.names name.now target }
         requires unbroken { self.old.kept.broken ≡ None }
         requires few { length self.old.kept.graph.observers < 2 ^ 32 - 1 }
-        ensures observed { OnOk result ((F : Meanings) (m : Moment) → Stands F self.old.kept m
-            → Stands F self.new.kept (moved m (Observe name.now target))) }
+        ensures observed { OnOk result ((F : Meanings) (m : Moment) → MatchesMoment F self.old.kept m
+            → MatchesMoment F self.new.kept (moved m (Observe name.now target))) }
         ensures kept { OnErr result (self.new.kept ≡ self.old.kept) }
         ensures beside { IsBeside 0 1 self.old self.new }
     {
@@ -49,7 +49,7 @@ impl<L: Library> Script<L> {
     pub(crate) fn unobserve(&mut self, name: &[u8])
         requires in_use { IsTrue (is_among self.old.kept.names.observers name.now) }
         requires unbroken { self.old.kept.broken ≡ None }
-        ensures ended { (F : Meanings) (m : Moment) → Stands F self.old.kept m → Stands F self.new.kept (moved m (Unobserve name.now)) }
+        ensures ended { (F : Meanings) (m : Moment) → MatchesMoment F self.old.kept m → MatchesMoment F self.new.kept (moved m (Unobserve name.now)) }
         ensures nodes { self.new.kept.nodes ≡ self.old.kept.nodes }
         ensures arena { arena_of self.new.kept ≡ arena_of self.old.kept }
         ensures beside { IsBeside 0 0 self.old self.new }
@@ -67,8 +67,8 @@ impl<L: Library> Script<L> {
     pub(crate) fn shown(&self, name: &[u8]) -> Option<&Outcome>
         requires in_use { IsTrue (is_among self.now.kept.names.observers name.now) }
         requires unbroken { self.now.kept.broken ≡ None }
-        ensures some { IfSome result (λ outcome. (F : Meanings) (m : Moment) → Stands F self.now.kept m → ShowsIt m.present name.now outcome.now) }
-        ensures none { IfNone result ((F : Meanings) (m : Moment) → Stands F self.now.kept m → ShowsNothing m.present name.now) }
+        ensures some { IfSome result (λ outcome. (F : Meanings) (m : Moment) → MatchesMoment F self.now.kept m → ShowsIt m.present name.now outcome.now) }
+        ensures none { IfNone result ((F : Meanings) (m : Moment) → MatchesMoment F self.now.kept m → ShowsNothing m.present name.now) }
     {
         let Some(position) = self.names.observer(name) else {
             unreachable!()

@@ -51,8 +51,12 @@ impl<L: Library> Script<L> {
                 self.broken = Some(0);
                 Err(AllocError)
             }
-            // An unbroken graph whose nodes read older ones meets none of these.
-            Err(StabilizeFault::Refused(Kept::Cycle)) => unreachable!(),
+            // No name of a script leads back to itself, so that this never comes.
+            Err(StabilizeFault::Refused(Kept::Cycle)) => {
+                self.broken = Some(0);
+                Err(AllocError)
+            }
+            // An unbroken graph meets none of these.
             Err(StabilizeFault::Refused(Kept::Full)) => unreachable!(),
             Err(StabilizeFault::Broken(_)) => unreachable!(),
         }

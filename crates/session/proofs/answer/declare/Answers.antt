@@ -1,7 +1,7 @@
 use Rattle.std.proofs.Common.{◌≡◌, ◌<◌, ◌+◌, ◌^◌, Option, None, Some, ℕ, subst, arith}
 use Rattle.std.specs.Prelude.{MatchOption}
 use Rattle.formula_lang.specs.CommandView.{body_view}
-use Rattle.script_model.specs.Formula.{meanings_of, places_of_body}
+use Rattle.script_model.specs.Formula.{places_of_body}
 use Rattle.session.proofs.Carried.{carried_done, carried_nothing, carried_refused, carried_unmade}
 use Rattle.session.proofs.Failing.{none_of}
 use Rattle.session.proofs.Following.{followed_declare, refused_declare}
@@ -38,7 +38,7 @@ returns-in-Ok-declare g c =
     carried_done _ _ _ _ _ _ (2 ^ 20) 0 (omega arith) (omega arith) _ _ _ _ c.declare.ensures.beside c.requires.unbroken (λ m st.
     followed_declare _ c.args.script.now.kept m st c.requires.unbroken c.args.name.now c.args.ty (body_view c.args.body.now)
     c.declare.new.self.kept _ _ _ (omega (arith, enough, c.room.ensures))
-    (c.in-Ok-declare.ensures.declared m st) c.in-Ok.ensures.ok)
+    (c.in-Ok-declare.ensures.declared m st.matches) c.in-Ok.ensures.ok)
 
 pub returns-in-Err-declare : goal.returns-in-Err-declare
 returns-in-Err-declare g c = carried_unmade _ _ _ _ _ _ (2 ^ 20) 0 (omega arith) (omega arith) _ _ _ _ _ c.declare.ensures.beside c.requires.unbroken

@@ -17,7 +17,7 @@ returns-in-Ok-value g c =
     let v = constant_view c.args.value.now in
     carried_done _ _ _ _ _ _ 0 0 (omega arith) (omega arith) _ _ _ _ c.set.ensures.beside c.requires.unbroken (λ m st.
     followed_done _ c.set.new.self.kept m (Assign c.args.target v) _ _ _ refl refl
-    (c.set.ensures.set m v (sym c.in-Ok-value.ensures) st) c.in-Ok.ensures.ok)
+    (c.set.ensures.set m v (sym c.in-Ok-value.ensures) st.matches) c.in-Ok.ensures.ok)
 
 pub returns-in-Err-value : goal.returns-in-Err-value
 returns-in-Err-value g c = carried_unmade _ _ _ _ _ _ 0 0 (omega arith) (omega arith) _ _ _ _ _ (beside_itself _) c.requires.unbroken

@@ -7,7 +7,7 @@ use Rattle.session.proofs.answer.unobserve.Goals as goal
 pub returns-in-Ok : goal.returns-in-Ok
 returns-in-Ok g c = carried_done _ _ _ _ _ _ 0 0 (omega arith) (omega arith) _ _ _ _ c.unobserve.ensures.beside c.requires.unbroken (λ m st.
     followed_done _ c.unobserve.new.self.kept m (Unobserve c.args.name.now) _ _ _ refl refl
-    (c.unobserve.ensures.ended _ m st) c.in-Ok.ensures.ok)
+    (c.unobserve.ensures.ended _ m st.matches) c.in-Ok.ensures.ok)
 
 pub returns-in-Err : goal.returns-in-Err
 returns-in-Err g c = carried_nothing _ _ _ _ _ _ _ _ _ _ c.in-Err.ensures.err

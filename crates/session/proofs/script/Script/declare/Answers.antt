@@ -1,12 +1,11 @@
 -- With the nodes made for it a declaration is stood for; without memory they are taken back, and what is kept stands for what it stood for.
-use Rattle.std.proofs.Common.{◌∙◌}
 use Rattle.formula_lang.specs.CommandView.{body_view}
 use Rattle.script_graph.proofs.Declared.{back_extends, back_few, back_calls, declared_sound, declared_stands, returned_sound, returned_stands}
-use Rattle.session.proofs.Assigned.{rooted_still}
+use Rattle.graph.proofs.TakingBack.{below_still}
 use Rattle.session.proofs.script.Script.declare.Goals as goal
 
-pub take_back-requires-clause-unobserved : goal.take_back-requires-clause-unobserved
-take_back-requires-clause-unobserved g c = rw (rooted_still _ _ c.in-Err.ensures.kept) c.mark_of-mark.ensures.rooted
+pub take_back-requires-clause-unneeded : goal.take_back-requires-clause-unneeded
+take_back-requires-clause-unneeded g c = below_still _ _ c.in-Err.ensures.kept.beside _ c.mark_of-mark.ensures.needed
 
 pub invariant_of-self : goal.invariant_of-self
 invariant_of-self g c =
@@ -14,9 +13,8 @@ invariant_of-self g c =
     let new = c.add_declared-declared.new.graph in
     let r = rw (← c.self.view_is) at c.requires in
     let made = c.in-Ok.ensures.made in
-    let older = (c.keeps_sound-in-Ok.ensures.sound.unbroken (made.1.extends.beside.refused ∙ c.self.invariant.unbroken r.unbroken)).older in
     rw (c.in-Ok.ensures.names, made.3) (declared_sound s.graph new s.names s.nodes.items s.observers.items s.room s.accepted s.broken
-    c.self.invariant c.keeps_sound.ensures.arena c.keeps_sound-in-Ok.ensures.arena older _ c.args.name.now c.args.ty (body_view c.args.body.now) r.fits
+    c.self.invariant c.keeps_sound.ensures.arena c.keeps_sound-in-Ok.ensures.arena _ c.args.name.now c.args.ty (body_view c.args.body.now) r.fits
     made.0 c.args.room r.room made.1 made.2)
 
 pub invariant_of-self-in-Err : goal.invariant_of-self-in-Err
@@ -24,14 +22,12 @@ invariant_of-self-in-Err g c =
     let s = c.self.inside in
     let full = c.add_declared-declared.new.graph in
     let now = c.take_back.new.graph in
-    let unbroken = rw (← c.self.view_is) at c.requires.unbroken in
     let kept = c.in-Err.ensures.kept in
     let count = c.mark_of-mark.result.given in
     let since = c.mark_of-mark.ensures.mark in
     let more = back_extends s.graph full now count kept c.take_back.ensures since in
-    let older = (c.keeps_sound-in-Err.ensures.sound.unbroken (more.beside.refused ∙ c.self.invariant.unbroken unbroken)).older in
     rw (c.in-Err.ensures.names_kept, c.in-Err.ensures.nodes_kept) (returned_sound s.graph now s.names s.nodes.items s.observers.items s.room
-    s.accepted s.broken c.self.invariant c.keeps_sound.ensures.arena c.keeps_sound-in-Err.ensures.arena older more
+    s.accepted s.broken c.self.invariant c.keeps_sound.ensures.arena c.keeps_sound-in-Err.ensures.arena more
     (back_few s.graph full now count kept c.take_back.ensures since))
 
 pub returns-in-Ok-clause-declared : goal.returns-in-Ok-clause-declared
@@ -40,9 +36,8 @@ returns-in-Ok-clause-declared g c =
     let new = c.add_declared-declared.new.graph in
     let r = rw (← c.self.view_is) at c.requires in
     let made = c.in-Ok.ensures.made in
-    let older = (c.keeps_sound-in-Ok.ensures.sound.unbroken (made.1.extends.beside.refused ∙ c.self.invariant.unbroken r.unbroken)).older in
     rw (← c.self.view_is, c.in-Ok.ensures.names, made.3) (λ m. declared_stands s.graph new s.names s.nodes.items s.observers.items s.room s.accepted
-    s.broken c.self.invariant c.keeps_sound.ensures.arena c.keeps_sound-in-Ok.ensures.arena older (g.L.Library.known s.graph.functions.library)
+    s.broken c.self.invariant c.keeps_sound.ensures.arena c.keeps_sound-in-Ok.ensures.arena (g.L.Library.known s.graph.functions.library)
     c.args.name.now c.args.ty (body_view c.args.body.now) r.fits made.0 c.args.room r.room made.1 made.2
     (g.L.Library.named s.graph.functions.library) (g.L.Library.value s.graph.functions.library) m r.unbroken)
 
@@ -51,13 +46,11 @@ returns-in-Err-clause-kept g c =
     let s = c.self.inside in
     let full = c.add_declared-declared.new.graph in
     let now = c.take_back.new.graph in
-    let unbroken = rw (← c.self.view_is) at c.requires.unbroken in
     let kept = c.in-Err.ensures.kept in
     let count = c.mark_of-mark.result.given in
     let since = c.mark_of-mark.ensures.mark in
     let more = back_extends s.graph full now count kept c.take_back.ensures since in
-    let older = (c.keeps_sound-in-Err.ensures.sound.unbroken (more.beside.refused ∙ c.self.invariant.unbroken unbroken)).older in
     rw (← c.self.view_is, c.in-Err.ensures.names_kept, c.in-Err.ensures.nodes_kept) (returned_stands s.graph now s.names s.nodes.items
-    s.observers.items s.room s.accepted s.broken c.self.invariant c.keeps_sound.ensures.arena c.keeps_sound-in-Err.ensures.arena older more
+    s.observers.items s.room s.accepted s.broken c.self.invariant c.keeps_sound.ensures.arena c.keeps_sound-in-Err.ensures.arena more
     (back_calls s.graph full now count kept c.take_back.ensures since) (g.L.Library.named s.graph.functions.library)
     (g.L.Library.value s.graph.functions.library))

@@ -1,5 +1,5 @@
 -- The node of what is assigned is a variable that takes the value; then what is kept fits together and stands for the moment after the assignment.
-use Rattle.std.proofs.Common.{◌∙◌, subst}
+use Rattle.std.proofs.Common.{subst}
 use Rattle.inc_value.specs.declared.node.NodeId.{NodeId}
 use Rattle.graph.specs.Effects.{Sets}
 use Rattle.script_graph.proofs.Declared.{set_sound, set_stands}
@@ -26,20 +26,16 @@ pub invariant_of-self : goal.invariant_of-self
 invariant_of-self g c =
     let s = c.self.inside in
     let fits = rw (← c.self.view_is) at c.requires.fits in
-    let unbroken = rw (← c.self.view_is) at c.requires.unbroken in
     let node = target_node _ c.self.invariant c.args.target fits.name.earlier c.index.result.now c.index.ensures in
     let sets = subst (λ (n : NodeId). Sets s.graph c.set_node.new.graph n c.args.value) node c.set_node.ensures in
-    let older = (c.keeps_sound-2.ensures.sound.unbroken (sets.beside.refused ∙ c.self.invariant.unbroken unbroken)).older in
     set_sound s.graph c.set_node.new.graph s.names s.nodes.items s.observers.items s.room s.accepted s.broken c.self.invariant
-    c.keeps_sound.ensures.arena c.keeps_sound-2.ensures.arena older c.args.target c.args.value sets
+    c.keeps_sound.ensures.arena c.keeps_sound-2.ensures.arena c.args.target c.args.value sets
 
 pub returns-clause-set : goal.returns-clause-set
 returns-clause-set g c =
     let s = c.self.inside in
     let fits = rw (← c.self.view_is) at c.requires.fits in
-    let unbroken = rw (← c.self.view_is) at c.requires.unbroken in
     let node = target_node _ c.self.invariant c.args.target fits.name.earlier c.index.result.now c.index.ensures in
     let sets = subst (λ (n : NodeId). Sets s.graph c.set_node.new.graph n c.args.value) node c.set_node.ensures in
-    let older = (c.keeps_sound-2.ensures.sound.unbroken (sets.beside.refused ∙ c.self.invariant.unbroken unbroken)).older in
     rw (← c.self.view_is) (set_stands s.graph c.set_node.new.graph s.names s.nodes.items s.observers.items s.room s.accepted s.broken c.self.invariant
-    c.keeps_sound.ensures.arena c.keeps_sound-2.ensures.arena older c.args.target c.args.value sets fits (g.L.Library.named s.graph.functions.library) (g.L.Library.value s.graph.functions.library))
+    c.keeps_sound.ensures.arena c.keeps_sound-2.ensures.arena c.args.target c.args.value sets fits (g.L.Library.named s.graph.functions.library) (g.L.Library.value s.graph.functions.library))

@@ -3,7 +3,8 @@ use Rattle.graph.specs.declared.fault.Kept.TheVariants as cause
 use Rattle.graph.specs.declared.fault.StabilizeFault.{StabilizeFault}
 use Rattle.node_arena.specs.Arena.{Arena}
 use Rattle.script_graph.proofs.Accepting.{session_accepted}
-use Rattle.script_graph.proofs.CuttingShort.{session_cut_short, never_for_cycle, never_for_full}
+use Rattle.script_graph.proofs.Circling.{session_no_cycle}
+use Rattle.script_graph.proofs.CuttingShort.{session_cut_short, never_for_full}
 use Rattle.script_graph.proofs.Functions.{same_meanings}
 use Rattle.script_graph.proofs.TooDeep.{session_too_deep, session_not_all_older}
 use Rattle.script_model.specs.Formula.{meanings_of}
@@ -27,7 +28,7 @@ returns-in-Ok g c =
     rw (← c.self.view_is) (record {
       accepted = λ is m stands.
           session_accepted (g.L.Library.named l) (g.L.Library.value l) (g.L.Library.known l) _ c.self.inside.graph new (g.L.Library.calls l)
-          (g.L.Library.calls new.functions.library) refl unbroken c.keeps_sound.ensures.sound c.in-Ok.ensures.brought c.in-Ok.ensures.calls m stands;
+          (g.L.Library.calls new.functions.library) refl unbroken c.keeps_sound.ensures.arena c.keeps_sound.ensures.sound c.in-Ok.ensures.brought c.in-Ok.ensures.calls m stands;
       too_deep = λ target is. absurd (cc);
       target = λ target is. absurd (cc);
       cut_short = tt;
@@ -63,7 +64,7 @@ returns-in-Some g c =
       too_deep = λ target is m stands.
           let same : c.in-Some.target ≡ target = cc in
           session_too_deep (g.L.Library.named l) (g.L.Library.value l) (g.L.Library.known l) _ c.self.inside.graph new refl unbroken
-          c.keeps_sound.ensures.sound c.self.invariant.older done target (g.L.Library.calls l) (g.L.Library.calls new.functions.library)
+          c.keeps_sound.ensures.arena c.keeps_sound.ensures.sound done target (g.L.Library.calls l) (g.L.Library.calls new.functions.library)
           (first_of new.refused c.self.inside.nodes.items c.deref.result.now c.deref.ensures.value c.in-Some.target target same
           c.in-Some.ensures.found) (c.stabilize.ensures.few cause.Height for) m stands;
       target = λ target is.
@@ -105,10 +106,10 @@ returns-in-None g c =
       target = tt;
       cut_short = λ m stands.
           session_cut_short (meanings_of (g.L.Library.named l) (g.L.Library.value l)) _ c.self.inside.graph new (g.L.Library.calls l)
-          (g.L.Library.calls new.functions.library) refl unbroken (c.stabilize.ensures.few cause.Height for) m stands;
+          (g.L.Library.calls new.functions.library) refl unbroken (c.stabilize.ensures.few cause.Height for) m stands.matches;
       for_memory = λ m stands. absurd (
           session_not_all_older (g.L.Library.named l) (g.L.Library.value l) (g.L.Library.known l) _ c.self.inside.graph new refl unbroken
-          c.keeps_sound.ensures.sound c.self.invariant.older done
+          c.keeps_sound.ensures.arena c.keeps_sound.ensures.sound done
           (none_of new.refused c.self.inside.nodes.items c.deref.result.now c.deref.ensures.value c.in-None.ensures.none) m stands);
       count = omega arith;
       names = refl;
@@ -142,8 +143,44 @@ returns-in-Err-Refused-Memory g c =
       target = tt;
       cut_short = λ m stands.
           session_cut_short (meanings_of (g.L.Library.named l) (g.L.Library.value l)) _ c.self.inside.graph new (g.L.Library.calls l)
-          (g.L.Library.calls new.functions.library) refl unbroken (c.stabilize.ensures.few cause.Memory for) m stands;
+          (g.L.Library.calls new.functions.library) refl unbroken (c.stabilize.ensures.few cause.Memory for) m stands.matches;
       for_memory = λ m stands. memory_met (functions_of (seen_value (g.L.Library.value l))) c.self.inside.graph new done;
+      count = omega arith;
+      names = refl;
+      given = ap (λ (a : Arena). a.given) done.nodes;
+      observers = done.observers;
+      known_still = c.stabilize.ensures.known;
+      calls_grow = c.stabilize.ensures.calls_grow;
+      functions = same_meanings _ _ (g.L.Library.value l) (g.L.Library.value new.functions.library) c.stabilize.ensures.names c.stabilize.ensures.values;
+    })
+
+-- ---- refused for a cycle, which never comes
+
+pub invariant_of-self-in-Err-Refused-Cycle : goal.invariant_of-self-in-Err-Refused-Cycle
+invariant_of-self-in-Err-Refused-Cycle g c =
+    let h = c.in-Err-Refused-Cycle in
+    let for = refused_for h.is h.field-0-is h.field-0-0-is in
+    let done = c.stabilize.ensures.refused cause.Cycle for in
+    refused_sound _ _ c.self.invariant c.self.inside.graph c.stabilize.new.self refl cause.Cycle done _
+
+pub returns-in-Err-Refused-Cycle : goal.returns-in-Err-Refused-Cycle
+returns-in-Err-Refused-Cycle g c =
+    let h = c.in-Err-Refused-Cycle in
+    let for = refused_for h.is h.field-0-is h.field-0-0-is in
+    let done = c.stabilize.ensures.refused cause.Cycle for in
+    let l = c.self.inside.graph.functions.library in
+    let new = c.stabilize.new.self in
+    let unbroken = rw (← c.self.view_is) at c.requires.unbroken in
+    rw (← c.self.view_is) (record {
+      accepted = tt;
+      too_deep = tt;
+      target = tt;
+      cut_short = λ m stands.
+          session_cut_short (meanings_of (g.L.Library.named l) (g.L.Library.value l)) _ c.self.inside.graph new (g.L.Library.calls l)
+          (g.L.Library.calls new.functions.library) refl unbroken (c.stabilize.ensures.few cause.Cycle for) m stands.matches;
+      for_memory = λ m stands. absurd (
+          session_no_cycle (g.L.Library.named l) (g.L.Library.value l) (g.L.Library.known l) _ c.self.inside.graph new refl unbroken
+          c.keeps_sound.ensures.arena c.keeps_sound.ensures.sound done m stands);
       count = omega arith;
       names = refl;
       given = ap (λ (a : Arena). a.given) done.nodes;
@@ -157,21 +194,11 @@ returns-in-Err-Refused-Memory g c =
 
 pub unreachable-requires : goal.unreachable-requires
 unreachable-requires g c =
-    let h = c.in-Err-Refused-Cycle in
-    let for = refused_for h.is h.field-0-is h.field-0-0-is in
-    let done = c.stabilize.ensures.refused cause.Cycle for in
-    let l = c.self.inside.graph.functions.library in
-    never_for_cycle (g.L.Library.known l) (seen_value (g.L.Library.value l)) c.self.inside.graph c.stabilize.new.self c.keeps_sound.ensures.sound
-    c.self.invariant.older done
-
-pub unreachable-requires-in-Err-Refused-Full : goal.unreachable-requires-in-Err-Refused-Full
-unreachable-requires-in-Err-Refused-Full g c =
     let h = c.in-Err-Refused-Full in
     let for = refused_for h.is h.field-0-is h.field-0-0-is in
     let done = c.stabilize.ensures.refused cause.Full for in
     let l = c.self.inside.graph.functions.library in
-    never_for_full (g.L.Library.known l) (seen_value (g.L.Library.value l)) c.self.inside.graph c.stabilize.new.self c.keeps_sound.ensures.sound
-    c.self.invariant.older done
+    never_for_full (seen_value (g.L.Library.value l)) c.self.inside.graph c.stabilize.new.self done
 
 pub unreachable-requires-in-Err-Broken : goal.unreachable-requires-in-Err-Broken
 unreachable-requires-in-Err-Broken g c =

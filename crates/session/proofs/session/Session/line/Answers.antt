@@ -29,7 +29,7 @@ returns-clause-taken g c =
           → Takes (meanings_of (g.L.Library.named l) (g.L.Library.value l)) m c.args.text.now now.kept c.args.out.now.items v.items
           (g.L.Library.calls l) (g.L.Library.calls now.library) how) (sym w.out-is)
           (λ m st. taken_from (meanings_of (g.L.Library.named l) (g.L.Library.value l)) m c.args.text.now now.kept c.args.out.now.items
-          c.answer-taken.new.out.items (g.L.Library.calls l) (g.L.Library.calls now.library) how (answered m st))))
+          c.answer-taken.new.out.items (g.L.Library.calls l) (g.L.Library.calls now.library) how st.keep st.valid (answered m st))))
     ]
 
 pub returns-clause-stopped : goal.returns-clause-stopped

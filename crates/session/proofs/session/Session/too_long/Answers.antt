@@ -24,6 +24,6 @@ returns-clause-taken g c =
     (g.L.Library.calls s.library) (g.L.Library.calls l) (did.Refused 2))
     c.self.view_is
     (λ m line long st. taken_of F m line TooLong k out c.write_refused.new.out.items (g.L.Library.calls l) (g.L.Library.calls l)
-    (did.Refused 2) long
+    (did.Refused 2) st.keep st.valid long
     (answered_too_long F k m out c.write_refused.new.out.items (g.L.Library.calls l) st
     (written ∙ ap (λ n. out ++ refused_line n) c.number.ensures))))

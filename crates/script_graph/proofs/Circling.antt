@@ -1,0 +1,309 @@
+-- A stabilize that was refused for a cycle is one of the script, and a plain script has none.
+use Rattle.std.proofs.Common.{◌≡◌, ◌⊎◌, inl, inr, ℕ, zero, suc, ◌<◌, Bool, true, List, [], ◌∷◌, ◌++◌, length, Option, None, Some, option_map, refl, ap, sym, subst, ◌∙◌, arith, slice_get}
+use Rattle.std.proofs.lemmas.Option.{slice_get_within, slice_get-map}
+use Rattle.graph.specs.Sound.{IsSound, CanStabilize}
+use Rattle.graph.specs.Stabilizes.{IsRefusedFor}
+use Rattle.graph.specs.Standing.{Standing, in_use}
+use Rattle.graph.specs.Fault.{kept_of}
+use Rattle.graph.specs.declared.fault.Kept.TheVariants as fault
+use Rattle.height_order.specs.Chains as chains
+use Rattle.inc_value.specs.Choice.{Every, Reaches, here, step, and_then}
+use Rattle.inc_value.specs.declared.function.FnRef.{FnRef}
+use Rattle.inc_value.specs.declared.node.NodeId.{NodeId}
+use Rattle.inc_value.specs.declared.node.Point.{Point}
+use Rattle.inc_value.specs.declared.value.Value.{Value as GraphValue}
+use Rattle.inc_terms.specs.Depend.{main}
+use Rattle.inc_terms.specs.Term.{Functions}
+use Rattle.node_arena.specs.Graph.{graph_of}
+use Rattle.node_arena.specs.Sound as arena
+use Rattle.node_outcomes.specs.Meaning.{functions_of}
+use Rattle.script_model.specs.Blocked.{NameReads, EachReads, LastIs, IsCycle, OnCycle}
+use Rattle.script_model.specs.Check.{Declared, declared_of, target_of_body}
+use Rattle.script_model.specs.Formula as script
+use Rattle.script_model.specs.Formula.{State, Entry, Body, Formula, Meanings, meanings_of, body_at, formula_of_body, Literal, Name, Apply, Fold as FoldOf, Variable, Computed, Grab}
+use Rattle.script_model.specs.Need.{Edge, Inside, Named, Place, Met, formula_at}
+use Rattle.script_model.specs.Step.{Moment, by_cycle}
+use Rattle.script_model.specs.Values.{Value, seen_value}
+use Rattle.script_model.proofs.Today.{today_has_no_cycle}
+use Rattle.script_graph.specs.Kept.{Kept, arena_of, node_in, without_functions}
+use Rattle.script_graph.specs.Plain.{IsPlainBody, IsEarlierTarget, AllPlain}
+use Rattle.script_graph.specs.Represents.{graph_functions, beside, AreNames, IsOwnFormula, IsWithin, IsPartWithin, Represents}
+use Rattle.script_graph.specs.Stabilizing.{IsCircular, IsMainOf, MainsIn, CyclePasses, behind_first}
+use Rattle.script_graph.specs.State.{Holds, Stands}
+use Rattle.script_graph.proofs.ComingBack.{once_behind}
+use Rattle.script_graph.proofs.Beside.{represented_fits}
+use Rattle.script_graph.proofs.Calling.{few_calls}
+use Rattle.script_graph.proofs.CuttingShort.{broken_matches}
+use Rattle.script_graph.proofs.Declaring.{named_entry}
+use Rattle.script_graph.proofs.Functions.{functions_are}
+use Rattle.script_graph.proofs.Owning.{aged_item, aged_part, own_node}
+use Rattle.script_graph.proofs.Plain.{plain_is_todays}
+use Rattle.script_graph.proofs.Remembering.{meeting_is_covered, nodes_apart, own_body, same_owner}
+use Rattle.stabilize_round.proofs.Points.{same_or_other}
+use Rattle.stabilizer.specs.Round.{HasCalledFew, IsListed, IsLawful, ComesBack}
+use Rattle.stabilizer.specs.declared.refused.Refused.{Refused}
+use Rattle.stabilizer.specs.declared.refused.Refused.TheVariants as refused
+use Rattle.transfer.specs.Both.{Both}
+use Rattle.transfer.specs.Cycles.{DeclaredOwn, IsForm, PartsApart, IsOwnRoot, IsPassed, Passes, EndsAt}
+use Rattle.transfer.specs.Items.{node_at}
+use Rattle.transfer.specs.Shows.{IsOwn}
+use Rattle.transfer.proofs.Commands.{own_target}
+use Rattle.transfer.proofs.Cycles.{cycles_are_named}
+use Rattle.transfer.proofs.Typed.{body_entry, valid_grabs}
+
+-- ---- parts of a formula have other nodes than declarations
+
+form_own : (f : Formula) → IsForm f → IsOwnFormula (Some f)
+form_own (Name t) form = absurd form
+form_own f form = tt
+
+module _ (F : Meanings) (s : State) (k : Kept) (held : Represents F s k) where
+  abbrev x : Both
+  x = beside F s k
+
+  place_within : (owner : ℕ) (path : List Edge) (f : Formula) (n : NodeId) → formula_at s owner path ≡ Some f → IsForm f → node_at x owner path ≡ Some n
+      → IsWithin k.nodes owner n
+  place_within owner path f n is form at = aged_item F s k held (Place owner path) n (subst IsOwnFormula (sym is) (form_own f form)) at
+
+  whole_body : (owner : ℕ) (f : Formula) (b : Body) → formula_at s owner [] ≡ Some f → body_at s owner ≡ Some b → IsPlainBody (IsEarlierTarget s owner) b
+      → (g : Formula) × (kept : _) × (b ≡ Computed g kept)
+  whole_body owner f (Computed g kept) is at fine = (g, kept, refl)
+  whole_body owner f (Variable v) is at fine = absurd (let e = rw at at is in cc)
+  whole_body owner f b is at fine = absurd fine
+
+  parts_apart : PartsApart x
+  parts_apart owner path f n t b is form at body own node =
+      let place = place_within owner path f n is form at in
+      let named : IsWithin k.nodes t n =
+      subst (IsWithin k.nodes t) node
+      (own_node (graph_of (arena_of k)) (IsWithin k.nodes t) (IsPartWithin k.nodes t) (node_in k.nodes t) b own (held.aged t b body)) in
+      let same = same_owner k.nodes owner t n place named in
+      by_path path is at same
+    where
+      by_path : (path : List Edge) → formula_at s owner path ≡ Some f → node_at x owner path ≡ Some n → owner ≡ t
+          → ((owner ≡ t) × (path ≡ []) × (g : Formula) × (kept : script.Kept) × (b ≡ Computed g kept))
+          ⊎ ((v : Value) × (b ≡ Grab owner v true) × (path ≡ Inside v ∷ []))
+      by_path [] is at same =
+          let here : body_at s owner ≡ Some b = ap (body_at s) same ∙ body in
+          let whole = whole_body owner f b is here (held.plain owner b here) in
+          inl (same, refl, whole.0, whole.1, whole.2)
+      by_path (edge ∷ path) is at same =
+          let low = aged_part F s k held owner edge path f n is (form_own f form) at in
+          let gens : (node_in k.nodes owner).gen_ ≡ n.gen_ = ap (λ (j : ℕ). (node_in k.nodes j).gen_) same ∙ ap (λ (q : NodeId). q.gen_) node in
+          absurd (omega (arith, low, gens))
+
+-- ---- the names that a walk passes
+
+module _ (x : Both) (plain : AllPlain x.state) where
+  no_root : (p : Point) (n : ℕ) → IsOwnRoot x p n → ⊥
+  no_root p n (b, v, is_live, body, at) = plain n (Grab b v is_live) body
+
+  own_or : (n : ℕ) → DeclaredOwn x n ⊎ (DeclaredOwn x n → ⊥)
+  own_or n = go (body_at x.state n) refl
+    where
+      same_body : (b c : Body) → body_at x.state n ≡ Some b → body_at x.state n ≡ Some c → b ≡ c
+      same_body b c first second = let e : Some b ≡ Some c = sym first ∙ second in cc
+
+      by_body : (b : Body) → IsOwn (Some b) ⊎ (IsOwn (Some b) → ⊥)
+      by_body (Computed (Name t) kept) = inr (λ own. own)
+      by_body (Computed f kept) = inl tt
+      by_body b = inl tt
+
+      go : (b : Option Body) → body_at x.state n ≡ b → DeclaredOwn x n ⊎ (DeclaredOwn x n → ⊥)
+      go None is = inr (λ d. let at = d.1 in cc)
+      go (Some b) is = elim (by_body b) [
+        | inl own ↦ inl (b, is, own)
+        | inr other ↦ inr (λ d. other (subst (λ (c : Body). IsOwn (Some c)) (same_body d.0 b d.1 is) d.2))
+      ]
+
+  passed_or : (p q : Point) (n : ℕ) → IsPassed x p q n ⊎ (IsPassed x p q n → ⊥)
+  passed_or p q n = elim (own_or n) [
+    | inl own ↦ elim (same_or_other q (main (x.nodes n))) [
+      | inl same ↦ inl (own, same, no_root p n)
+      | inr other ↦ inr (λ passed. other passed.1)
+    ]
+    | inr none ↦ inr (λ passed. none passed.0)
+  ]
+
+  -- one of the first so many names is passed, or none of them
+  passed_below : (p q : Point) (count : ℕ) → ((n : ℕ) × IsPassed x p q n) ⊎ ((n : ℕ) → n < count → IsPassed x p q n → ⊥)
+  passed_below p q zero = inr (λ n low passed. omega (arith, low))
+  passed_below p q (suc count) = elim (passed_or p q count) [
+    | inl passed ↦ inl (count, passed)
+    | inr other ↦ elim (passed_below p q count) [
+      | inl below ↦ inl below
+      | inr none ↦ inr (λ n low passed. elim (last_or n count low) [
+        | inl less ↦ none n less passed
+        | inr same ↦ other (subst (IsPassed x p q) same passed)
+      ])
+    ]
+  ]
+    where
+      last_or : (n count : ℕ) → n < suc count → (n < count) ⊎ (n ≡ count)
+      last_or n count low = grind (arith, low)
+
+  passed_any : (p q : Point) → ((n : ℕ) × IsPassed x p q n) ⊎ ((n : ℕ) → IsPassed x p q n → ⊥)
+  passed_any p q = elim (passed_below p q (length x.state.entries)) [
+    | inl passed ↦ inl passed
+    | inr none ↦ inr (λ n passed.
+        let e = body_entry x.state n passed.0.0 passed.0.1 in none n (slice_get_within x.state.entries n e.0 e.1) passed)
+  ]
+
+  -- a walk passes some names
+  pub passes_some : (p : Point) (points : List Point) → (names : List ℕ) × Passes x p points names
+  passes_some p [] = ([], refl)
+  passes_some p (q ∷ rest) =
+      let more = passes_some q rest in
+      elim (passed_any p q) [
+        | inl passed ↦ (passed.0 ∷ more.0, inr (passed.0, more.0, refl, passed.1, more.1))
+        | inr none ↦ (more.0, inl (none, more.1))
+      ]
+
+-- ---- the declarations whose mains are listed
+
+module _ (F : Meanings) (s : State) (k : Kept) (held : Represents F s k) (names : AreNames k.names s) where
+  main_passed : (p q : Point) (n : ℕ) → IsMainOf k q n → IsPassed (beside F s k) p q n
+  main_passed p q n (d, at, own, is) =
+      let e = named_entry k.names s names.declared n d at in
+      let target : target_of_body n e.0.body ≡ n = sym (held.targets n e.0 e.1) ∙ (ap (λ (c : Declared). c.target) e.2 ∙ own) in
+      let body : body_at s n ≡ Some e.0.body = ap (λ (o : Option Entry). and_then o (λ (x : Entry). Some x.body)) e.1 in
+      ((e.0.body, body, own_body s held.plain n e.0.body body target), is, no_root (beside F s k) held.plain p n)
+
+  passed_main : (p q : Point) (n : ℕ) → IsPassed (beside F s k) p q n → IsMainOf k q n
+  passed_main p q n ((b, body, own), is, root) =
+      let e = body_entry s n b body in
+      let target : e.0.target ≡ n = held.targets n e.0 e.1 ∙ (ap (target_of_body n) e.2 ∙ own_target n b own) in
+      let declared : slice_get k.names.declared n ≡ Some (declared_of e.0) =
+      ap (λ (ds : List Declared). slice_get ds n) names.declared
+      ∙ (slice_get-map declared_of s.entries n ∙ ap (λ (o : Option Entry). option_map declared_of o) e.1) in
+      (declared_of e.0, declared, target, is)
+
+  -- they are the names that are passed
+  mains_passed : (p : Point) (points : List Point) (targets : List ℕ) → MainsIn k points targets → Passes (beside F s k) p points targets
+  mains_passed p [] targets mains = mains
+  mains_passed p (q ∷ points) targets (inl (none, mains)) =
+      inl (λ n passed. none n (passed_main p q n passed), mains_passed q points targets mains)
+  mains_passed p (q ∷ points) targets (inr (n, more, same, is, mains)) =
+      inr (n, more, same, main_passed p q n is, mains_passed q points more mains)
+
+-- ---- cycles
+
+ends_as : (points : List Point) (p : Point) → chains.EndsAt points p → EndsAt p points
+ends_as [] p e = e
+ends_as (q ∷ []) p e = e
+ends_as (q ∷ r ∷ rest) p e = ends_as (r ∷ rest) p e
+
+reach_last : (F : Meanings) (s : State) (n a : ℕ) (names : List ℕ) → EachReads F s a names → LastIs n (a ∷ names) → Reaches (NameReads F s) a n
+reach_last F s n a [] reads last = subst (Reaches (NameReads F s) a) last here
+reach_last F s n a (b ∷ names) reads last = step reads.0 (reach_last F s n b names reads.1 last)
+
+first_on_cycle : (F : Meanings) (s : State) (n : ℕ) (names : List ℕ) → IsCycle F s (n ∷ names) → OnCycle F s n
+first_on_cycle F s n [] cycle = absurd cycle.1
+first_on_cycle F s n (a ∷ names) cycle = (a, cycle.0.0, reach_last F s n a names cycle.0.1 cycle.1)
+
+-- ---- the stabilize
+
+module _ (named : List ℕ → Option FnRef) (value : FnRef → List GraphValue → GraphValue) (known : FnRef → Bool) (m : Moment) (k : Kept)
+    (stands : Stands (meanings_of named value) k m) (unbroken : m.broken ≡ None) (sound_arena : arena.IsSound (arena_of k))
+    (can : CanStabilize known (seen_value value) k.graph.parts k.graph.observers k.graph.rooted) where
+  abbrev F : Meanings
+  F = meanings_of named value
+
+  abbrev s : State
+  s = m.present
+
+  holds : Holds F k m
+  holds = stands.matches.holds unbroken
+
+  -- the names that a listed cycle passes are a cycle of met names, with the first of them once more at its end
+  pub passed_cycle : (p q : Point) (rest : List Point) (names : List ℕ)
+      → IsListed (graph_functions F) (arena_of k) k.graph.parts.work (in_use k.graph.observers) (p ∷ q ∷ rest) → ComesBack (p ∷ q ∷ rest)
+      → Passes (beside F s k) p (q ∷ rest) names → (first : ℕ) × (more : List ℕ) × (names ≡ first ∷ more) × IsCycle F s (first ∷ (more ++ first ∷ []))
+      × Every (λ n. Met F m.settled s (Named n)) names
+  passed_cycle p q rest names listed back passes =
+      let covered = meeting_is_covered named value known m k stands unbroken sound_arena can p (listed.met p refl) in
+      cycles_are_named (beside F s k) (represented_fits named value s k holds.represents) stands.keep stands.valid.1
+      (nodes_apart F s k holds.represents) (parts_apart F s k holds.represents) m.settled (valid_grabs F m.settled stands.valid.0)
+      holds.settled.still.formulas p q rest names covered listed.walk
+      (subst (λ (r : Point). EndsAt r (q ∷ rest)) (sym back.starts) (ends_as (q ∷ rest) back.point back.ends)) (once_behind p q back.point rest back.front back.is_front back.starts back.once) passes
+
+  -- the model may refuse the stabilize for the declarations whose mains the cycle passes
+  module _ (g : Standing (Unit {0})) (called calls : ℕ) (few : HasCalledFew (arena_of k) called calls) where
+    abbrev broken : Kept
+    broken = record k { broken = Some 20; graph = g }
+
+    circular : (points : List Point) (targets : List ℕ) → IsListed (graph_functions F) (arena_of k) k.graph.parts.work (in_use k.graph.observers) points
+        → ComesBack points → MainsIn k (behind_first points) targets
+        → (first : ℕ) × (more : List ℕ) × (targets ≡ first ∷ more) × IsCircular F m broken (first ∷ (more ++ first ∷ [])) called calls
+    circular [] targets listed back mains = absurd back.starts
+    circular (p ∷ []) targets listed back mains = absurd (let long = back.long in omega (arith, long))
+    circular (p ∷ q ∷ rest) targets listed back mains =
+        let c = passed_cycle p q rest targets listed back (mains_passed F s k holds.represents stands.matches.names p (q ∷ rest) targets mains) in
+        let met = subst (λ (ns : List ℕ). Every (λ n. Met F m.settled s (Named n)) ns) c.2 c.4 in (
+          c.0,
+          c.1,
+          c.2,
+          record {
+            after = record m { broken = Some 20 };
+            stabilizes = by_cycle (c.0 ∷ (c.1 ++ c.0 ∷ [])) c.0 c.3 (inl refl) met.0 refl refl;
+            within = few_calls s (arena_of k) called calls holds.represents.calls few;
+            matches = broken_matches F m k g 20 stands.matches;
+          },
+        )
+
+    pub circular_met : (met : Option Refused) (r : Refused) (targets : List ℕ) → met ≡ Some r → kept_of r ≡ fault.Cycle
+        → IsLawful (graph_functions F) (arena_of k) k.graph.parts.work (in_use k.graph.observers) r → CyclePasses k met targets
+        → (first : ℕ) × (more : List ℕ) × (targets ≡ first ∷ more) × IsCircular F m broken (first ∷ (more ++ first ∷ [])) called calls
+    circular_met None r targets e cause lawful passes = absurd passes
+    circular_met (Some (refused.Cycle points)) (refused.Cycle others) targets e cause lawful passes =
+        let same : points ≡ others = cc in
+        circular others.items targets lawful.0 lawful.1 (subst (λ (v : _). MainsIn k (behind_first v.items) targets) same passes)
+    circular_met (Some (refused.Cycle points)) r targets e cause lawful passes = absurd (cc)
+    circular_met (Some other) r targets e cause lawful passes = absurd passes
+
+  -- which a plain script doesn't have
+  none_comes_back : (points : List Point) → IsListed (graph_functions F) (arena_of k) k.graph.parts.work (in_use k.graph.observers) points
+      → ComesBack points → ⊥
+  none_comes_back [] listed back = back.starts
+  none_comes_back (p ∷ []) listed back = let long = back.long in omega (arith, long)
+  none_comes_back (p ∷ q ∷ rest) listed back =
+      let names = passes_some (beside F s k) holds.represents.plain p (q ∷ rest) in
+      let c = passed_cycle p q rest names.0 listed back names.1 in
+      today_has_no_cycle F s (plain_is_todays s holds.represents.plain) c.0 (first_on_cycle F s c.0 (c.1 ++ c.0 ∷ []) c.3)
+
+  no_cycle : (met : Refused) → IsLawful (graph_functions F) (arena_of k) k.graph.parts.work (in_use k.graph.observers) met → kept_of met ≡ fault.Cycle → ⊥
+  no_cycle (refused.Cycle points) lawful e = none_comes_back points.items lawful.0 lawful.1
+  no_cycle (refused.Height points) lawful e = cc
+  no_cycle refused.Full lawful e = lawful
+  no_cycle refused.Memory lawful e = cc
+
+-- ---- over a graph with its functions
+
+module _ {A : Type 0} (named : List ℕ → Option FnRef) (value : FnRef → List GraphValue → GraphValue) (known : FnRef → Bool) (k : Kept)
+    (old new : Standing A) (same : k.graph ≡ without_functions old) (unbroken : k.broken ≡ None) (sound_arena : arena.IsSound old.parts.arena)
+    (sound : IsSound known (seen_value value) old.parts old.observers old.rooted old.refused)
+    (done : IsRefusedFor (functions_of (seen_value value)) old new fault.Cycle) (m : Moment) (stands : Stands (meanings_of named value) k m) where
+  kept_sound : arena.IsSound (arena_of k)
+  kept_sound = subst (λ (h : Standing (Unit {0})). arena.IsSound h.parts.arena) (sym same) sound_arena
+
+  kept_can : CanStabilize known (seen_value value) k.graph.parts k.graph.observers k.graph.rooted
+  kept_can = subst (λ (h : Standing (Unit {0})). CanStabilize known (seen_value value) h.parts h.observers h.rooted) (sym same) (sound.unbroken done.was)
+
+  kept_lawful : IsLawful (graph_functions (meanings_of named value)) (arena_of k) k.graph.parts.work (in_use k.graph.observers) done.met
+  kept_lawful =
+      subst (λ (h : Standing (Unit {0})). IsLawful (graph_functions (meanings_of named value)) h.parts.arena h.parts.work (in_use h.observers) done.met) (sym same)
+      (subst (λ (M : Functions). IsLawful M old.parts.arena old.parts.work (in_use old.observers) done.met) (sym (functions_are named value)) done.lawful)
+
+  -- a stabilize of a session's graph that was refused for a cycle is one of its script
+  pub session_circular : (targets : List ℕ) (called calls : ℕ) → CyclePasses k new.refused targets → HasCalledFew old.parts.arena called calls
+      → (first : ℕ) × (more : List ℕ) × (targets ≡ first ∷ more)
+      × IsCircular (meanings_of named value) m (record k { broken = Some 20; graph = without_functions new }) (first ∷ (more ++ first ∷ [])) called calls
+  session_circular targets called calls passes few =
+      circular_met named value known m k stands (stands.matches.broken ∙ unbroken) kept_sound kept_can (without_functions new) called calls
+      (subst (λ (h : Standing (Unit {0})). HasCalledFew h.parts.arena called calls) (sym same) few) new.refused done.met targets done.broken done.is_cause
+      kept_lawful passes
+
+  -- and where the script is plain there is none
+  pub session_no_cycle : ⊥
+  session_no_cycle =
+      no_cycle named value known m k stands (stands.matches.broken ∙ unbroken) kept_sound kept_can done.met kept_lawful done.is_cause

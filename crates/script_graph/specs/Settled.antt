@@ -1,0 +1,100 @@
+-- What is kept of the last accepted stabilize: the pair of state and graph as it left them, and what stands beside the graph since.
+use Rattle.std.specs.Prelude.{◌≡◌, ℕ, suc, true, false, cond, List, [], ◌∷◌, map, take, length, Option, None, Some, IsSome}
+use Rattle.inc_value.specs.Choice.{Among}
+use Rattle.inc_value.specs.declared.node.NodeId.{NodeId}
+use Rattle.inc_value.specs.declared.node.ObsId.{ObsId}
+use Rattle.inc_terms.specs.Graph.{Graph, Row}
+use Rattle.inc_terms.specs.Need.{Beside, Holder, Observing, Freezing, Observed}
+use Rattle.inc_terms.specs.Within.{Given}
+use Rattle.graph.specs.Standing.{Standing, node_at}
+use Rattle.graph.specs.declared.observer.Observer.{Observer as Looking}
+use Rattle.link_table.specs.Links.{times}
+use Rattle.node_arena.specs.Arena.{Arena}
+use Rattle.node_arena.specs.Graph.{graph_of}
+use Rattle.script_model.specs.Formula.{State, Entry, Observer, Meanings, entry_at}
+use Rattle.script_model.specs.Need.{Named, Needed, Visit, IsVisit, roots}
+use Rattle.script_graph.specs.Kept.{Kept, arena_of, node_in}
+use Rattle.script_graph.specs.Plain.{AllPlain}
+use Rattle.script_graph.specs.Represents.{besides}
+use Rattle.stabilize_round.specs.Calls.{arguments_of}
+use Rattle.stabilize_round.specs.State.{Call}
+use Rattle.stabilizer.specs.Round.{last_call, never_at}
+use Rattle.transfer.specs.Both.{Both, graph_value}
+use Rattle.transfer.specs.Holding.{LinksDepend}
+use Rattle.transfer.specs.Items.{node_of, FormulasStay}
+use Rattle.transfer.specs.Keeping.{RowsStay}
+use Rattle.transfer.specs.Shows.{Fits}
+
+-- ---- beside the graph
+
+-- the observers in use, from the i-th on
+abbrev pub observed_from : ℕ → List Looking → List Observed
+observed_from i [] = []
+observed_from i (o ∷ os) = cond o.in_use (record { observer = record { 0 = i }; node = o.node } ∷ observed_from (suc i) os) (observed_from (suc i) os)
+
+module _ {A : Type 0} where
+  -- the node of an observer in use that was there when a stabilize was accepted last
+  abbrev pub rooted_at : Standing A → ObsId → Option NodeId
+  rooted_at g o = node_at (take g.rooted g.observers) o
+
+  -- for which node a holder has put need on
+  abbrev pub root_of : Standing A → Holder → Option NodeId
+  root_of g (Observing o) = rooted_at g o
+  root_of g (Freezing n) = None
+
+  -- what stands beside the graph: need of the observers that the last accepted stabilize saw, the links and last calls since, and who has cutoff
+  -- Never
+  abbrev pub side_of : Standing A → Beside
+  side_of g = record {
+    roots = root_of g;
+    links = λ p q. times g.parts.work.graph.links p q;
+    last = λ n. arguments_of (last_call g.parts.work n);
+    stale = λ n. false;
+    never = λ n. never_at g.parts.work n;
+  }
+
+  -- the observers in use
+  abbrev pub observed_by : Standing A → List Observed
+  observed_by g = observed_from 0 g.observers
+
+-- ---- what stays of the pair
+
+-- a row's scope is that of a live node
+abbrev pub ScopesLive : Graph → Type 0
+ScopesLive G = (n : NodeId) (r : Row) (b : NodeId) → G.row n ≡ Some r → r.scope ≡ Some b → (q : Row) × (G.row b ≡ Some q)
+
+-- what was declared is declared still: formulas, targets and nodes of names stay, and so do rows that formulas may have
+pub record StillDeclares (before : State) (nodes : List NodeId) (arena : Arena) (s : State) (k : Kept) : Type 0 where
+  pub formulas : FormulasStay before s
+  pub targets : (n : ℕ) (e : Entry) → entry_at before n ≡ Some e → (d : Entry) × (entry_at s n ≡ Some d) × (d.target ≡ e.target)
+  pub names : (n : ℕ) (e : Entry) → entry_at before n ≡ Some e → node_in k.nodes n ≡ node_in nodes n
+  pub rows : RowsStay (graph_of arena) (graph_of (arena_of k))
+
+-- the function of the visit's node was last called with the visit's values
+pub record WasRun (x : Both) (k : Kept) (v : Visit) : Type 0 where
+  pub node : NodeId
+  pub is_node : node_of x v.item ≡ Some node
+  pub given : Given (arena_of k).given node
+  pub call : Call
+  pub is_last : last_call k.graph.parts.work node ≡ Some call
+  pub values_are : call.arguments ≡ map (graph_value x.nodes) v.values
+
+-- what an observer looks at that shows something was a root
+abbrev pub ShownWereRoots : State → State → Type 0
+ShownWereRoots before s = (x : Observer) → Among x s.observers → IsSome x.shown → Among (Named x.target) (roots before)
+
+-- the pair as the last accepted stabilize left it: the state then, the nodes of its declarations and the arena. The two fit; what was declared then
+-- is so still; attached links of what is held are of what points depend on there; and each call that was needed then was the last one of its
+-- node. No node has cutoff Never
+pub record Settled (F : Meanings) (before s : State) (k : Kept) : Type 0 where
+  pub nodes : List NodeId
+  pub arena : Arena
+  pub plain : AllPlain before
+  pub one_node_each : length nodes ≡ length before.entries
+  pub fits : Fits (besides F before nodes arena)
+  pub scopes : ScopesLive (graph_of arena)
+  pub still : StillDeclares before nodes arena s k
+  pub links : LinksDepend (besides F before nodes arena) (side_of k.graph) (observed_by k.graph)
+  pub ran : (v : Visit) → IsVisit F before v → Needed F before v.item → WasRun (besides F before nodes arena) k v
+  pub watched : ShownWereRoots before s
+  pub equal : (n : NodeId) → never_at k.graph.parts.work n ≡ true → ⊥
