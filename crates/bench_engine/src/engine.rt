@@ -4,7 +4,7 @@ ghost use Rattle.std.specs.Prelude.{◌≡◌, ◌≤◌, IfOk};
 use crate::adapter::StdFunctions;
 use crate::fault::{Fault, of_graph, of_stabilize};
 use graph::{Cutoff, Graph};
-use inc_value::{NodeId, ObsId, Outcome, Value};
+use inc_value::{Base, NodeId, ObsId, Outcome, Ty, Value};
 use std::alloc::Global;
 use std::marker::Model;
 use std_library::{Function, StdLib};
@@ -23,12 +23,12 @@ impl Model for Engine {
     ghost view = { λ e. e.graph.functions.library.calls };
 }
 
-/// The number of an outcome: a truth counts as 1, and its contrary as 0.
+/// The number of an outcome: a truth counts as 1, its contrary and what refers to a node as 0.
 fn number_of(outcome: &Outcome) -> Result<i64, Fault> {
     match outcome {
         Outcome::Val(Value::Int(number)) => Ok(*number),
         Outcome::Val(Value::Bool(true)) => Ok(1),
-        Outcome::Val(Value::Bool(false)) => Ok(0),
+        Outcome::Val(Value::Bool(false) | Value::Node(..)) => Ok(0),
         _ => Err(Fault::Refused),
     }
 }
@@ -61,6 +61,46 @@ impl Engine {
         ensures uncalled { self.new ≡ self.old }
     {
         match self.graph.var(Value::Int(value)) {
+            Ok(node) => Ok(node),
+            Err(fault) => Err(of_graph(fault)),
+        }
+    }
+
+    /// Makes a variable that holds a truth.
+    pub fn truth(&mut self, holds: bool) -> Result<NodeId, Fault>
+        ensures uncalled { self.new ≡ self.old }
+    {
+        match self.graph.var(Value::Bool(holds)) {
+            Ok(node) => Ok(node),
+            Err(fault) => Err(of_graph(fault)),
+        }
+    }
+
+    /// Makes a variable that refers to a node of numbers.
+    pub fn reference(&mut self, target: NodeId) -> Result<NodeId, Fault>
+        ensures uncalled { self.new ≡ self.old }
+    {
+        match self.graph.var(Value::Node(target, Base::Int)) {
+            Ok(node) => Ok(node),
+            Err(fault) => Err(of_graph(fault)),
+        }
+    }
+
+    /// Makes a node that reads the first of two nodes of numbers where the test holds, else the second.
+    pub fn choose(&mut self, test: NodeId, yes: NodeId, no: NodeId) -> Result<NodeId, Fault>
+        ensures uncalled { self.new ≡ self.old }
+    {
+        match self.graph.if_(Ty::Int, test, yes, no) {
+            Ok(node) => Ok(node),
+            Err(fault) => Err(of_graph(fault)),
+        }
+    }
+
+    /// Makes a node that reads the node of numbers to which a node refers.
+    pub fn join(&mut self, reference: NodeId) -> Result<NodeId, Fault>
+        ensures uncalled { self.new ≡ self.old }
+    {
+        match self.graph.join(Ty::Int, reference) {
             Ok(node) => Ok(node),
             Err(fault) => Err(of_graph(fault)),
         }
@@ -112,6 +152,26 @@ impl Engine {
         ensures uncalled { self.new ≡ self.old }
     {
         match self.graph.set_var(node, Value::Int(value)) {
+            Ok(()) => Ok(()),
+            Err(fault) => Err(of_graph(fault)),
+        }
+    }
+
+    /// Gives a variable another truth.
+    pub fn set_truth(&mut self, node: NodeId, holds: bool) -> Result<(), Fault>
+        ensures uncalled { self.new ≡ self.old }
+    {
+        match self.graph.set_var(node, Value::Bool(holds)) {
+            Ok(()) => Ok(()),
+            Err(fault) => Err(of_graph(fault)),
+        }
+    }
+
+    /// Has a variable refer to another node of numbers.
+    pub fn refer(&mut self, node: NodeId, target: NodeId) -> Result<(), Fault>
+        ensures uncalled { self.new ≡ self.old }
+    {
+        match self.graph.set_var(node, Value::Node(target, Base::Int)) {
             Ok(()) => Ok(()),
             Err(fault) => Err(of_graph(fault)),
         }

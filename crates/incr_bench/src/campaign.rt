@@ -1,12 +1,18 @@
 //! A graph by chance, compared with plain evaluation after each stabilize.
 use crate::clock::{begin, since};
 use crate::generator::Generator;
+use crate::levels::{fits, passes_of};
 use crate::lists::append;
 use crate::live::Live;
 use bench_engine::Fault;
 use plain_evaluation::{Definition, Watch, counted, evaluate, meant};
-use std::alloc::Global;
+use std::alloc::{AllocError, Global};
 use std::time::Clock;
+
+/// How long the chains are of which two fit over each other only in part, and from how many nodes on there are some.
+const LONG_CHAIN: usize = 58;
+
+const LONG_FROM: usize = 200;
 
 /// How long a campaign took in nanoseconds, how many functions were called, the last value, how many stabilizes were
 /// accepted, how often what an observer shows was compared, and after how many stabilizes one showed another value.
@@ -29,9 +35,11 @@ pub struct Campaign {
     /// What the nodes are, with the values that the variables have now.
     definitions: Vec<Definition>,
 
-    /// The nodes that are numbers, and those that are truths.
+    /// The nodes that are numbers, those that are truths, the variables that refer, and the ends of long chains.
     numbers: Vec<usize>,
     truths: Vec<usize>,
+    references: Vec<usize>,
+    ends: Vec<usize>,
 
     /// How many of the first nodes are variables.
     variables: usize,
@@ -51,6 +59,15 @@ fn any_of(generator: &mut Generator, places: &[usize]) -> usize {
         return 0;
     }
     places[generator.below(places.len())]
+}
+
+/// The same definitions once more.
+fn copy(alloc: Global, definitions: &[Definition]) -> Result<Vec<Definition>, AllocError> {
+    let mut all = Vec::new(alloc);
+    for definition in definitions {
+        all.push(*definition)?;
+    }
+    Ok(all)
 }
 
 /// A small number by chance.
@@ -77,6 +94,8 @@ impl Campaign {
             definitions: Vec::new(alloc),
             numbers: Vec::new(alloc),
             truths: Vec::new(alloc),
+            references: Vec::new(alloc),
+            ends: Vec::new(alloc),
             variables: size / 4 + 1,
             watched: Vec::new(alloc),
             observers: 0,
@@ -105,7 +124,8 @@ impl Campaign {
         live.add(definition)?;
         append(&mut self.definitions, definition)?;
         match definition {
-            Definition::Less(..) => append(&mut self.truths, place)?,
+            Definition::Less(..) | Definition::Truth(_) => append(&mut self.truths, place)?,
+            Definition::Refer(_) => append(&mut self.references, place)?,
             _ => append(&mut self.numbers, place)?,
         }
         Ok(())
@@ -116,26 +136,60 @@ impl Campaign {
         any_of(&mut self.generator, &self.numbers)
     }
 
-    /// A map of earlier nodes, by chance.
+    /// A variable by chance, of the numbers that there are.
+    fn variable(&mut self) -> Definition {
+        match self.generator.below(6) {
+            0 => Definition::Truth(self.generator.below(2) == 0),
+            1 if !self.numbers.is_empty() => Definition::Refer(self.number()),
+            _ => Definition::Var(small(&mut self.generator)),
+        }
+    }
+
+    /// A node over earlier ones, by chance.
     fn chosen(&mut self) -> Definition {
-        match self.generator.below(8) {
+        match self.generator.below(10) {
             0 => Definition::Neg(self.number()),
             1 | 2 | 3 => Definition::Sum(self.number(), self.number()),
             4 | 5 if !self.truths.is_empty() => {
                 let test = any_of(&mut self.generator, &self.truths);
                 Definition::Pick(test, self.number(), self.number())
             }
+            6 | 7 if !self.truths.is_empty() => {
+                let test = any_of(&mut self.generator, &self.truths);
+                Definition::If(test, self.number(), self.number())
+            }
+            8 if !self.references.is_empty() => {
+                Definition::Join(any_of(&mut self.generator, &self.references))
+            }
             _ => Definition::Less(self.number(), self.number()),
         }
+    }
+
+    /// A join over a variable that refers, by chance, under a chain of negations: of two such chains only one fits over the
+    /// other.
+    fn chain(&mut self, live: &mut Live) -> Result<(), Fault> {
+        let reference = any_of(&mut self.generator, &self.references);
+        self.add(live, Definition::Join(reference))?;
+        for _ in 0..LONG_CHAIN {
+            let last = self.definitions.len().saturating_sub(1);
+            self.add(live, Definition::Neg(last))?;
+        }
+        let end = self.definitions.len().saturating_sub(1);
+        append(&mut self.ends, end)?;
+        Ok(())
     }
 
     /// Makes the nodes.
     fn fill(&mut self, live: &mut Live, size: usize) -> Result<(), Fault> {
         for _ in 0..self.variables {
-            let value = small(&mut self.generator);
-            self.add(live, Definition::Var(value))?;
+            let definition = self.variable();
+            self.add(live, definition)?;
         }
-        for _ in self.variables..size {
+        if size >= LONG_FROM && !self.references.is_empty() {
+            self.chain(live)?;
+            self.chain(live)?;
+        }
+        for _ in self.definitions.len()..size {
             let definition = self.chosen();
             self.add(live, definition)?;
         }
@@ -173,22 +227,64 @@ impl Campaign {
         live.unobserve(watch.observer)
     }
 
-    /// Gives a variable a value, both by chance.
-    fn set(&mut self, live: &mut Live) -> Result<(), Fault> {
-        let place = self.generator.below(self.variables.max(1));
-        let value = small(&mut self.generator);
-        live.set(place, value)?;
-        if place < self.definitions.len() {
-            self.definitions[place] = Definition::Var(value);
+    /// What a variable is next, by chance.
+    fn next(&mut self, now: Definition) -> Definition {
+        match now {
+            Definition::Truth(holds) => Definition::Truth(!holds),
+            Definition::Refer(_) => {
+                if self.generator.below(3) == 0 && !self.ends.is_empty() {
+                    Definition::Refer(any_of(&mut self.generator, &self.ends))
+                } else {
+                    Definition::Refer(self.number())
+                }
+            }
+            _ => Definition::Var(small(&mut self.generator)),
         }
+    }
+
+    /// Changes a variable by chance, beside the graph. The answer is its place.
+    fn try_change(&mut self) -> usize {
+        let place = self.generator.below(self.variables.max(1));
+        let now = match self.definitions.get(place) {
+            Some(definition) => *definition,
+            None => return place,
+        };
+        let next = self.next(now);
+        if place < self.definitions.len() {
+            self.definitions[place] = next;
+        }
+        place
+    }
+
+    /// Gives the graph what the variables at these places are now.
+    fn tell(&self, live: &mut Live, places: &[usize]) -> Result<(), Fault> {
+        for place in places {
+            if let Some(definition) = self.definitions.get(*place) {
+                live.change(*place, *definition)?;
+            }
+        }
+        Ok(())
+    }
+
+    /// Changes some variables by chance, unless a circle or too long a chain would come of it.
+    fn set_some(&mut self, live: &mut Live, count: usize) -> Result<(), Fault> {
+        let before = copy(self.alloc, &self.definitions)?;
+        let mut places = Vec::new(self.alloc);
+        for _ in 0..count {
+            let place = self.try_change();
+            append(&mut places, place)?;
+        }
+        if fits(self.alloc, &self.definitions)? {
+            return self.tell(live, &places);
+        }
+        self.definitions = before;
         Ok(())
     }
 
     /// One to three changes of variables, and at times an observer made or ended.
     fn change(&mut self, live: &mut Live) -> Result<(), Fault> {
-        for _ in 0..1 + self.generator.below(3) {
-            self.set(live)?;
-        }
+        let count = 1 + self.generator.below(3);
+        self.set_some(live, count)?;
         match self.generator.below(4) {
             0 if self.watched.len() < self.definitions.len() => self.watch(live),
             1 => self.end(live),
@@ -198,7 +294,8 @@ impl Campaign {
 
     /// Compares what is shown with what plain evaluation gives.
     fn compare(&mut self, live: &Live) -> Result<(), Fault> {
-        let values = evaluate(self.alloc, &self.definitions)?;
+        let passes = passes_of(&self.definitions);
+        let values = evaluate(self.alloc, &self.definitions, passes)?;
         let meant = meant(self.alloc, &values, &self.watched)?;
         self.compare_with(live, &meant)
     }

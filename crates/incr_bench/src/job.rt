@@ -29,6 +29,18 @@ pub enum Shape {
     /// A chain of 10 that changes, beside nodes that don't.
     Idle,
 
+    /// An `if` over two chains of negations of one variable, of which a round chooses the other.
+    Flip,
+
+    /// The same, where a round sets the chains' variable too.
+    Flipx,
+
+    /// An `if` over two chains of 10 that is flipped, beside nodes that don't change.
+    Aside,
+
+    /// A join over variables, of which a round names another.
+    Switch,
+
     /// A graph by chance, compared with plain evaluation after each stabilize.
     Random,
 
@@ -50,11 +62,17 @@ fn most(shape: Shape) -> usize
 {
     match shape {
         Shape::Chain => 128,
+        Shape::Flip | Shape::Flipx => 127,
         Shape::Tree => 524_288,
         Shape::Random => 10_000,
-        Shape::Fan | Shape::Fold | Shape::Cut | Shape::Never | Shape::Idle | Shape::Needs => {
-            1_000_000
-        }
+        Shape::Fan
+        | Shape::Fold
+        | Shape::Cut
+        | Shape::Never
+        | Shape::Idle
+        | Shape::Aside
+        | Shape::Switch
+        | Shape::Needs => 1_000_000,
     }
 }
 
@@ -68,6 +86,10 @@ fn shape_named(name: &str) -> Option<Shape> {
         "cut" => Some(Shape::Cut),
         "never" => Some(Shape::Never),
         "idle" => Some(Shape::Idle),
+        "flip" => Some(Shape::Flip),
+        "flipx" => Some(Shape::Flipx),
+        "aside" => Some(Shape::Aside),
+        "switch" => Some(Shape::Switch),
         "random" => Some(Shape::Random),
         _ => None,
     }

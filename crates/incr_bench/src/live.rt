@@ -71,6 +71,38 @@ impl Live {
         Ok(())
     }
 
+    /// Makes a variable that holds a truth.
+    pub fn truth(&mut self, holds: bool) -> Result<(), Fault> {
+        let node = self.engine.truth(holds)?;
+        append(&mut self.nodes, node)?;
+        Ok(())
+    }
+
+    /// Makes a variable that refers to a node.
+    pub fn reference(&mut self, target: usize) -> Result<(), Fault> {
+        let node = self.engine.reference(node_at(&self.nodes, target))?;
+        append(&mut self.nodes, node)?;
+        Ok(())
+    }
+
+    /// Makes a node that reads the first of two nodes where the test holds, else the second.
+    pub fn choose(&mut self, test: usize, yes: usize, no: usize) -> Result<(), Fault> {
+        let node = self.engine.choose(
+            node_at(&self.nodes, test),
+            node_at(&self.nodes, yes),
+            node_at(&self.nodes, no),
+        )?;
+        append(&mut self.nodes, node)?;
+        Ok(())
+    }
+
+    /// Makes a node that reads the node to which another refers.
+    pub fn join(&mut self, reference: usize) -> Result<(), Fault> {
+        let node = self.engine.join(node_at(&self.nodes, reference))?;
+        append(&mut self.nodes, node)?;
+        Ok(())
+    }
+
     /// Makes a node that applies a function to nodes.
     fn map(&mut self, function: Function, kids: &[NodeId]) -> Result<(), Fault> {
         let node = self.engine.map(function, kids)?;
@@ -117,10 +149,14 @@ impl Live {
     pub fn add(&mut self, definition: Definition) -> Result<(), Fault> {
         match definition {
             Definition::Var(value) => self.var(value),
+            Definition::Truth(holds) => self.truth(holds),
+            Definition::Refer(target) => self.reference(target),
             Definition::Neg(kid) => self.neg(kid),
             Definition::Sum(left, right) => self.sum(left, right),
             Definition::Less(left, right) => self.less(left, right),
             Definition::Pick(test, first, second) => self.pick(test, first, second),
+            Definition::If(test, yes, no) => self.choose(test, yes, no),
+            Definition::Join(reference) => self.join(reference),
         }
     }
 
@@ -145,6 +181,31 @@ impl Live {
         ensures uncalled { self.new.engine ≡ self.old.engine }
     {
         self.engine.set(node_at(&self.nodes, place), value)
+    }
+
+    /// Gives a variable another truth.
+    pub fn set_truth(&mut self, place: usize, holds: bool) -> Result<(), Fault>
+        ensures uncalled { self.new.engine ≡ self.old.engine }
+    {
+        self.engine.set_truth(node_at(&self.nodes, place), holds)
+    }
+
+    /// Has a variable refer to another node.
+    pub fn refer(&mut self, place: usize, target: usize) -> Result<(), Fault>
+        ensures uncalled { self.new.engine ≡ self.old.engine }
+    {
+        self.engine
+            .refer(node_at(&self.nodes, place), node_at(&self.nodes, target))
+    }
+
+    /// Gives a variable what the definition says. Others aren't variables.
+    pub fn change(&mut self, place: usize, definition: Definition) -> Result<(), Fault> {
+        match definition {
+            Definition::Var(value) => self.set(place, value),
+            Definition::Truth(holds) => self.set_truth(place, holds),
+            Definition::Refer(target) => self.refer(place, target),
+            _ => Err(Fault::Refused),
+        }
     }
 
     /// Has a node tell its readers of each outcome, an equal one too.

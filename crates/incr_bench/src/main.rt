@@ -6,6 +6,7 @@ mod campaign;
 mod clock;
 mod generator;
 mod job;
+mod levels;
 mod lists;
 mod live;
 mod needs;
@@ -22,7 +23,7 @@ use std::process::ExitCode;
 
 /// What is written where the words ask for nothing.
 const USAGE: &[u8] =
-    b"usage: incr_bench chain|fan|tree|fold|cut|never|idle|random SIZE ROUNDS | incr_bench needs SIZE\n";
+    b"usage: incr_bench chain|fan|tree|fold|cut|never|idle|flip|flipx|aside|switch|random SIZE ROUNDS | incr_bench needs SIZE\n";
 
 fn main(rt: HostRuntime) -> ExitCode {
     let words = match words(&rt) {

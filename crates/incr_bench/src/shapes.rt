@@ -19,11 +19,26 @@ pub struct Rounds {
     pub last: i64,
 }
 
-/// Of a stabilized graph, how many of the first nodes take turns as the variable that a round changes, and the observer
-/// that is told at the end.
+/// What a round changes.
+#[derive(Clone, Copy)]
+enum Act {
+    /// One of so many variables, the first nodes, in turn.
+    Turn(usize),
+
+    /// The truth that the first node holds.
+    Flip,
+
+    /// The same, and the number that the second node holds.
+    FlipBoth,
+
+    /// The node at this place refers to another of so many.
+    Switch(usize),
+}
+
+/// Of a stabilized graph, what a round changes, and the observer that is told at the end.
 #[derive(Clone, Copy)]
 pub struct Steady {
-    variables: usize,
+    act: Act,
     told: usize,
 }
 
@@ -155,6 +170,43 @@ fn idle(live: &mut Live, size: usize) -> Result<(), Fault> {
     rest(live, size)
 }
 
+/// A chain of negations of a node.
+fn chain_over(live: &mut Live, kid: usize, size: usize) -> Result<(), Fault> {
+    live.neg(kid)?;
+    for _ in 1..size {
+        live.neg(live.len().saturating_sub(1))?;
+    }
+    Ok(())
+}
+
+/// A truth and a number, both variables, and an `if` over two chains of negations of the number, which is observed.
+fn flip(live: &mut Live, size: usize) -> Result<(), Fault>
+    requires { size ≤ 1000000 }
+{
+    live.truth(true)?;
+    live.var(1)?;
+    chain_over(live, 1, size)?;
+    chain_over(live, 1, size)?;
+    live.choose(0, size + 1, 2 * size + 1)?;
+    live.observe(2 * size + 2)
+}
+
+/// The same, beside nodes at rest.
+fn aside(live: &mut Live, size: usize) -> Result<(), Fault> {
+    flip(live, IDLE_CHAIN)?;
+    rest(live, size)
+}
+
+/// Variables, one that refers to the first of them, and a join over it, which is observed.
+fn switch(live: &mut Live, size: usize) -> Result<(), Fault>
+    requires { size ≤ 1000000 }
+{
+    variables(live, size)?;
+    live.reference(0)?;
+    live.join(size)?;
+    live.observe(size + 1)
+}
+
 /// Makes the nodes and observers of a shape.
 fn fill(live: &mut Live, shape: Shape, size: usize) -> Result<(), Fault>
     requires small { size ≤ 1000000 }
@@ -167,15 +219,21 @@ fn fill(live: &mut Live, shape: Shape, size: usize) -> Result<(), Fault>
         Shape::Cut => cut(live, size),
         Shape::Never => never(live, size),
         Shape::Idle => idle(live, size),
+        Shape::Flip | Shape::Flipx => flip(live, size),
+        Shape::Aside => aside(live, size),
+        Shape::Switch => switch(live, size),
         Shape::Fan | Shape::Random | Shape::Needs => fan(live, size),
     }
 }
 
-/// How many variables take turns.
-fn turns(shape: Shape, size: usize) -> usize {
+/// What a round changes.
+fn act_of(shape: Shape, size: usize) -> Act {
     match shape {
-        Shape::Tree | Shape::Fold => size,
-        _ => 1,
+        Shape::Tree | Shape::Fold => Act::Turn(size),
+        Shape::Flip | Shape::Aside => Act::Flip,
+        Shape::Flipx => Act::FlipBoth,
+        Shape::Switch => Act::Switch(size),
+        _ => Act::Turn(1),
     }
 }
 
@@ -206,6 +264,12 @@ pub fn change(live: &mut Live, place: usize, value: i64) -> Result<(), Fault> {
     live.stabilize()
 }
 
+/// Chooses the other chain and stabilizes.
+fn flipped(live: &mut Live, round: u64) -> Result<(), Fault> {
+    live.set_truth(0, round % 2 == 1)?;
+    live.stabilize()
+}
+
 impl Steady {
     /// Makes a graph of a shape, where there are no nodes, and stabilizes it.
     pub fn new(live: &mut Live, shape: Shape, size: usize) -> Result<Steady, Fault>
@@ -215,14 +279,25 @@ impl Steady {
         fill(live, shape, size)?;
         live.stabilize()?;
         Ok(Steady {
-            variables: turns(shape, size),
+            act: act_of(shape, size),
             told: told(shape, size),
         })
     }
 
     /// One round.
     fn round(self, live: &mut Live, round: u64) -> Result<(), Fault> {
-        change(live, turn(round, self.variables), fresh(round))
+        match self.act {
+            Act::Turn(variables) => change(live, turn(round, variables), fresh(round)),
+            Act::Flip => flipped(live, round),
+            Act::FlipBoth => {
+                live.set(1, fresh(round))?;
+                flipped(live, round)
+            }
+            Act::Switch(place) => {
+                live.refer(place, turn(round, place))?;
+                live.stabilize()
+            }
+        }
     }
 
     /// So many rounds.

@@ -5,4 +5,4 @@ mod comparison;
 mod definition;
 
 pub use comparison::{Watch, counted, meant};
-pub use definition::{Definition, evaluate};
+pub use definition::{Definition, at, evaluate};
