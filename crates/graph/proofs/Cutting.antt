@@ -51,12 +51,13 @@ module _ (old new : Parts) (id : NodeId) (c : Cutoff) (set : IsRewritten old.wor
   arena_as = ap (λ (p : Parts). p.arena) rest
 
   pub sound_cut : (known : FnRef → Bool) (value : FnRef → List Value → Value) (observers : List Observer) (rooted : ℕ) (refused : Option Refused)
-      → IsSound known value old observers rooted refused
+      → IsSound known value old observers rooted refused → refused ≡ None
       → (IsReady (functions_of value) old.arena old.work → IsReady (functions_of value) new.arena new.work)
       → IsSound known value new observers rooted refused
-  sound_cut known value observers rooted refused sound ready = record {
+  sound_cut known value observers rooted refused sound still ready = record {
     few = sound.few;
     earlier = sound.earlier;
+    kept = (ready (sound.unbroken still).ready).kept;
     unbroken = λ whole. let can = sound.unbroken whole in record {
       ready = ready can.ready;
       roots = λ p. ap (λ (x : Parts). root_times x.work.graph.roots p) rest ∙ can.roots p;

@@ -1,6 +1,6 @@
 -- What every graph keeps, where a node is added.
 use Rattle.std.proofs.Common.{◌≡◌, ◌⊎◌, inl, inr, ℕ, zero, suc, ◌+◌, ◌<◌, ◌≤◌, Bool, List, [], ◌∷◌, Option, None, Some, Ok, Err, sym, ap, subst, ◌∙◌, arith}
-use Rattle.std.specs.Prelude.{Result, IfOk, IfErr, OnOk, OnErr, IsErrOf}
+use Rattle.std.specs.Prelude.{Result, IfOk, OnOk, OnErr, IsErrOf}
 use Rattle.inc_value.specs.declared.function.FnRef.{FnRef}
 use Rattle.inc_value.specs.declared.node.NodeId.{NodeId}
 use Rattle.inc_value.specs.declared.node.Point.{Point}
@@ -8,7 +8,7 @@ use Rattle.inc_value.specs.declared.value.Value.{Value}
 use Rattle.inc_terms.specs.Depend.{main}
 use Rattle.inc_terms.specs.Graph as graph
 use Rattle.inc_terms.specs.Graph.{Row, Def}
-use Rattle.inc_terms.specs.Within.{Given, Fit, DefWithin}
+use Rattle.inc_terms.specs.Within.{Given, Fit}
 use Rattle.inc_value.specs.declared.function.FnKind.{FnKind}
 use Rattle.inc_value.specs.declared.ty.Ty.{Ty}
 use Rattle.node_arena.specs.Meanings.{KeepsKnown}
@@ -27,7 +27,7 @@ use Rattle.stabilizer.specs.declared.refused.Refused.{Refused}
 use Rattle.graph.specs.Known.{CallsKnown}
 use Rattle.graph.specs.Sound.{IsSound}
 use Rattle.inc_value.specs.declared.value.Value.TheVariants as value
-use Rattle.inc_value.specs.Choice.{Every, Among}
+use Rattle.inc_value.specs.Choice.{Every}
 use Rattle.inc_terms.specs.Within.{ValueWithin}
 use Rattle.node_arena.specs.Sound.{IsSound as IsArenaSound}
 use Rattle.node_arena.specs.Typing.{Makes}
@@ -136,14 +136,15 @@ set_fits known old new id v (Ok u) set same fit = λ n r is. elim (node_or_other
 module _ (known : FnRef → Bool) (value : FnRef → List Value → Value) (old new : Parts) (observers : List Observer) (rooted : ℕ)
     (refused : Option Refused) (sound : IsSound known value old observers rooted refused) where
   -- all that a call between stabilizes leaves
-  pub sound_still : (IsReady (functions_of value) old.arena old.work → IsReady (functions_of value) new.arena new.work)
+  pub sound_still : refused ≡ None → (IsReady (functions_of value) old.arena old.work → IsReady (functions_of value) new.arena new.work)
       → ((p : Point) → root_times new.work.graph.roots p ≡ root_times old.work.graph.roots p)
       → (AllCallFit known lists_none old.arena → AllCallFit known lists_none new.arena) → (old.arena.given ≤ new.arena.given)
       → ((n : NodeId) → Given old.arena.given n → at new.work.rows (main n) ≡ at old.work.rows (main n))
       → IsSound known value new observers rooted refused
-  sound_still ready roots fit given rows = record {
+  sound_still still ready roots fit given rows = record {
     few = sound.few;
     earlier = sound.earlier;
+    kept = (ready (sound.unbroken still).ready).kept;
     unbroken = λ whole. let can = sound.unbroken whole in
         can_still known value old new observers rooted can (ready can.ready) roots (fit can.fit) given
         (λ n among. rows n (can.given n (front_is_among observers rooted n among)));

@@ -1,6 +1,6 @@
 -- What a round gave, over other lists of the same nodes.
 use Rattle.std.proofs.Common.{◌≡◌, inl, inr, ℕ, ◌≤◌, Bool, List, ◌++◌, length, map, take, drop, Option, None, Some, Ok, Err, refl, sym, ap, subst, ◌∙◌}
-use Rattle.std.specs.Prelude.{Result, OnOk, IfErr, IsSome}
+use Rattle.std.specs.Prelude.{Result, OnOk, OnErr, IfErr, IsSome}
 use Rattle.std.proofs.Math.Seq.{take-length}
 use Rattle.inc_value.specs.declared.function.FnRef.{FnRef}
 use Rattle.inc_value.specs.declared.outcome.Outcome.{Outcome}
@@ -20,7 +20,7 @@ use Rattle.node_arena.specs.Meanings.{KeepsKnown}
 use Rattle.stabilize_round.specs.State.{count}
 use Rattle.node_outcomes.specs.Computing.{seen}
 use Rattle.node_outcomes.specs.Meaning.{functions_of}
-use Rattle.stabilizer.specs.Round.{AreRooted, IsReady, IsUpToDate, WasCalled, IsLawful, IsListed}
+use Rattle.stabilizer.specs.Round.{AreRooted, IsReady, IsUpToDate, WasCalled, IsLawful, IsListed, HasCalledMet}
 use Rattle.stabilizer.specs.declared.parts.Parts.{Parts}
 use Rattle.stabilizer.specs.declared.refused.Refused.{Refused}
 use Rattle.stabilizer.specs.declared.refused.Refused.TheVariants.{Height, Cycle, Full, Memory}
@@ -81,6 +81,12 @@ module _ (F : Functions) (arena : Arena) (old : Work) (xs ys : List NodeId) (to 
     work = λ before observers stood all. u.work before observers stood (λ n among. all n (to n among));
   }
 
+  pub few_as : (before after : ℕ) → HasCalledMet F arena old xs before after → HasCalledMet F arena old ys before after
+  few_as before after h = record {
+    few = h.few;
+    met = λ n among. met_as F (graph_of arena) none_died xs ys to (λ (p : Point). part.Needed old.graph p) (main n) (h.met n among);
+  }
+
   listed_as : (points : List Point) → IsListed F arena old xs points → IsListed F arena old ys points
   listed_as points l = record {
     walk = l.walk;
@@ -106,6 +112,10 @@ on_both (Err e) f a b = a
 pub if_err : {T E : Type 0} {P Q : E → Type 0} (r : Result T E) → ((e : E) → P e → Q e) → IfErr r P → IfErr r Q
 if_err (Ok v) f p = p
 if_err (Err e) f p = f e p
+
+pub err_as : {T E : Type 0} {A B : Type 0} (r : Result T E) → (A → B) → OnErr r A → OnErr r B
+err_as (Ok v) f a = a
+err_as (Err e) f a = f a
 
 -- ---- a round over observers
 
@@ -140,6 +150,11 @@ module _ (known known' : FnRef → Bool) (value value' : FnRef → List Value �
       → IsLawful (functions_of value) old.arena old.work (rest ++ observed) e)
       → IsLawful (functions_of value) old.arena old.work (in_use os) e
   all_lawful e lawful = lawful_as (functions_of value) old.arena old.work (rest ++ front) (in_use os) to_all from_all e (lawful front can.roots)
+
+  pub all_few : (before after : ℕ) → ((observed : List NodeId) → AreRooted old.work observed
+      → HasCalledMet (functions_of value) old.arena old.work (rest ++ observed) before after)
+      → HasCalledMet (functions_of value) old.arena old.work (in_use os) before after
+  all_few before after few = few_as (functions_of value) old.arena old.work (rest ++ front) (in_use os) to_all from_all before after (few front can.roots)
 
   shows_some : (x : Option Outcome) (o : Outcome) → x ≡ Some o → IsSome x
   shows_some None o e = absurd cc

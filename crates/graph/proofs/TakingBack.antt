@@ -57,14 +57,15 @@ module _ (known : FnRef → Bool) (value : FnRef → List Value → Value) (old 
     | inr h ↦ absurd (none-some r (sym (dropped n h) ∙ is))
   ]
 
-  pub sound_back : (IsReady (functions_of value) old.arena old.work → IsReady (functions_of value) new.arena new.work)
+  pub sound_back : refused ≡ None → (IsReady (functions_of value) old.arena old.work → IsReady (functions_of value) new.arena new.work)
       → new.work.graph.roots ≡ old.work.graph.roots → new.arena.given ≡ old.arena.given
       → ((n : NodeId) → n.gen_ < count → at new.work.rows (main n) ≡ at old.work.rows (main n))
       → ((p : Point) → Needed old.work.graph p → p.node.gen_ < count)
       → IsSound known value new observers rooted refused
-  sound_back ready roots given rows low = record {
+  sound_back still ready roots given rows low = record {
     few = sound.few;
     earlier = sound.earlier;
+    kept = (ready (sound.unbroken still).ready).kept;
     unbroken = λ whole. let can = sound.unbroken whole in
         can_still known value old new observers rooted can (ready can.ready) (λ p. ap (λ (r : Roots). root_times r p) roots) (fits_back can.fit)
         (omega (arith, given)) (λ n among. rows n (young_roots old.work (in_use (take rooted observers)) count can.roots low n among));

@@ -38,6 +38,7 @@ module _ (known : FnRef → Bool) (value : FnRef → List Value → Value) (part
   sound_observed few given = record {
     few = let l = length-append observers (observing node ∷ []) in omega (arith, l, few);
     earlier = let l = length-append observers (observing node ∷ []) in omega (arith, l, sound.earlier);
+    kept = sound.kept;
     unbroken = λ whole. let can = sound.unbroken whole in
         let front : take rooted (observers ++ observing node ∷ []) ≡ take rooted observers = take-append-le rooted observers (observing node ∷ []) sound.earlier in
         record {
@@ -85,6 +86,7 @@ module _ (known : FnRef → Bool) (value : FnRef → List Value → Value) (old 
   sound_unmade later = record {
     few = let l = set_length observers place (ended node) in omega (arith, l, sound.few);
     earlier = let l = set_length observers place (ended node) in omega (arith, l, sound.earlier);
+    kept = sound.kept;
     unbroken = λ whole. let can = sound.unbroken whole in
         let front : take rooted (slice_set observers place (ended node)) ≡ take rooted observers = front_stays observers rooted place (ended node) later in
         record {
@@ -98,13 +100,14 @@ module _ (known : FnRef → Bool) (value : FnRef → List Value → Value) (old 
   }
 
   -- one fewer that was, whose root came off
-  pub sound_ended : place < rooted → (IsReady (functions_of value) old.arena old.work → IsReady (functions_of value) new.arena new.work)
+  pub sound_ended : refused ≡ None → place < rooted → (IsReady (functions_of value) old.arena old.work → IsReady (functions_of value) new.arena new.work)
       → ((before after : List NodeId) → AreRooted old.work (before ++ node ∷ after) → AreRooted new.work (before ++ after))
       → new.arena ≡ old.arena → new.work.rows ≡ old.work.rows
       → IsSound known value new (slice_set observers place (ended node)) rooted refused
-  sound_ended below ready roots arena rows = record {
+  sound_ended still below ready roots arena rows = record {
     few = let l = set_length observers place (ended node) in omega (arith, l, sound.few);
     earlier = let l = set_length observers place (ended node) in omega (arith, l, sound.earlier);
+    kept = (ready (sound.unbroken still).ready).kept;
     unbroken = λ whole. let can = sound.unbroken whole in
         let out = front_out observers rooted place node below is in
         record {

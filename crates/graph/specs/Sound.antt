@@ -9,6 +9,7 @@ use Rattle.inc_terms.specs.Within.{Given}
 use Rattle.node_arena.specs.Graph.{AllCallFit}
 use Rattle.node_outcomes.specs.Computing.{seen}
 use Rattle.node_outcomes.specs.Meaning.{functions_of, lists_none}
+use Rattle.stabilizer.specs.Kept.{IsKept}
 use Rattle.stabilizer.specs.Round.{IsReady, AreRooted}
 use Rattle.stabilizer.specs.declared.parts.Parts.{Parts}
 use Rattle.stabilizer.specs.declared.refused.Refused.{Refused}
@@ -25,9 +26,10 @@ pub record CanStabilize (known : FnRef → Bool) (value : FnRef → List Value �
   pub given : (n : NodeId) → Among n (in_use observers) → Given parts.arena.given n
   pub shown : (n : NodeId) → Among n (in_use (take rooted observers)) → IsSome (seen parts.work.rows (main n))
 
--- what every graph keeps
+-- what every graph keeps: its parts fit together, also where a stabilize was refused
 pub record IsSound (known : FnRef → Bool) (value : FnRef → List Value → Value) (parts : Parts) (observers : List Observer) (rooted : ℕ)
     (refused : Option Refused) : Type 0 where
   pub few : length observers ≤ 2 ^ 32 - 1
   pub earlier : rooted ≤ length observers
+  pub kept : IsKept parts.arena parts.work
   pub unbroken : refused ≡ None → CanStabilize known value parts observers rooted

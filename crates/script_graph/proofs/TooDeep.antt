@@ -190,6 +190,8 @@ module _ {A : Type 0} where
     observers = done.observers;
     rooted = done.rooted;
     ran = done.ran;
+    cutoffs = done.cutoffs;
+    shows = done.shows;
     met = done.met;
     broken = done.broken;
     is_cause = done.is_cause;

@@ -83,7 +83,7 @@ no_heap arena work calls t st empty p e = absurd (let a = st.heap p in let b = a
 -- ---- what rows show
 
 -- what is seen of a node is what is shown of it
-seen_case : (x : Option Progress) (y : Option Row) (o : Option Outcome) → is_some x ≡ is_some y → ((k : Progress) → x ≡ Some k → o ≡ k.outcome)
+pub seen_case : (x : Option Progress) (y : Option Row) (o : Option Outcome) → is_some x ≡ is_some y → ((k : Progress) → x ≡ Some k → o ≡ k.outcome)
     → seen_of x ≡ shown_of y o
 seen_case None None o same is = refl
 seen_case None (Some r) o same is = absurd (cc)
@@ -107,7 +107,7 @@ last_none None y same e = refl
 last_none (Some k) y same e = absurd (let h = same ∙ ap is_some e in cc)
 
 -- who has a row has the same cutoff
-never_case : (x y : Option Progress) → is_some x ≡ is_some y → ((k : Progress) → x ≡ Some k → is_never k.cutoff ≡ never_in y) → never_in x ≡ never_in y
+pub never_case : (x y : Option Progress) → is_some x ≡ is_some y → ((k : Progress) → x ≡ Some k → is_never k.cutoff ≡ never_in y) → never_in x ≡ never_in y
 never_case None None same is = refl
 never_case None (Some k) same is = absurd (cc)
 never_case (Some k) y same is = is k refl

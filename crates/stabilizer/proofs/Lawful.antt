@@ -66,7 +66,7 @@ module _ (F : Functions) (arena : Arena) (old new : Work) (before between : ℕ)
     | inr now ↦ (let a = among_main p nodes now in (a.0, among_left a.0 nodes observed a.1, a.2))
   ]
 
-  met_as : (p : Point) → MetNow F begun.start G none_died last.root p → IsMet p
+  pub met_as : (p : Point) → MetNow F begun.start G none_died last.root p → IsMet p
   met_as p (invariant.from_root {r} root way) =
       let l = root_listed r root in
       from_root (inl l.1) (subst (λ (y : Point). Reaches (Depends F G none_died) y p) l.2 way)

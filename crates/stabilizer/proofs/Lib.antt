@@ -21,6 +21,8 @@ pub mod Ending
 pub mod Rounding
 pub mod Lawful
 pub mod Tried
+pub mod Leftover
+pub mod Remaining
 pub mod Empty
 pub mod Agreeing
 pub mod Typing

@@ -9,7 +9,6 @@ use Rattle.inc_value.specs.declared.node.Point.{Point}
 use Rattle.inc_value.specs.declared.value.Value.{Value}
 use Rattle.inc_value.specs.Choice.{Among, here}
 use Rattle.inc_terms.specs.Depend.{main}
-use Rattle.inc_terms.specs.Graph.{Graph}
 use Rattle.inc_terms.specs.Term.{Functions}
 use Rattle.inc_terms.proofs.Plan.{among_left, among_map}
 use Rattle.point_map.specs.Rows.{Place, row_in, same_point, at, Holds}
@@ -19,22 +18,20 @@ use Rattle.necessity.specs.Need.{Roots, root_times, KeepsRoots, OneRootMore}
 use Rattle.node_arena.specs.Arena.{Arena}
 use Rattle.node_arena.specs.Graph.{graph_of}
 use Rattle.node_arena.specs.Meanings.{SameValues}
-use Rattle.inc_terms.specs.Work.{taken_by}
-use Rattle.stabilize_round.specs.Calling.{cost_at, costs_of}
-use Rattle.stabilize_round.specs.Counts.{RoseBy, RoseAtMost}
+use Rattle.stabilize_round.specs.Calling.{costs_of}
+use Rattle.stabilize_round.specs.Counts.{RoseBy}
 use Rattle.node_outcomes.specs.Computing.{HasCalledSome}
 use Rattle.stabilize_round.specs.Invariant.{Invariant}
-use Rattle.stabilize_round.specs.Machine.{Move, Moves, Stops, as_it_is, unkept, called_more}
+use Rattle.stabilize_round.specs.Machine.{Move, Moves}
 use Rattle.stabilize_round.specs.Moves.{Quiet}
 use Rattle.stabilize_round.specs.State.{State, count}
-use Rattle.stabilize_round.proofs.Calls.{refused_calls}
 use Rattle.stabilize_round.proofs.Entry.{entry_holds}
 use Rattle.stabilize_round.proofs.Machine.{moves_keep}
 use Rattle.stabilize_round.proofs.Points.{same_or_other, one_same, one_other, count_append, count_among}
 use Rattle.stabilize_round.proofs.Steps.{joined, step_moves}
 use Rattle.stabilizer.specs.Kept.{IsKept}
 use Rattle.node_outcomes.specs.Meaning.{functions_of}
-use Rattle.stabilizer.specs.Round.{IsReady, AreRooted, IsUpToDate, HasCalledFew, IsInRound, RootsMore, OnlyRoots, Settles, Pauses, SettleRefused}
+use Rattle.stabilizer.specs.Round.{IsReady, AreRooted, IsUpToDate, IsInRound, RootsMore, OnlyRoots, Settles, Pauses, SettleRefused}
 use Rattle.stabilizer.specs.Stands.{Stands}
 use Rattle.stabilizer.specs.Stepping.{Steps, StepRefused, StepStops, as_it_was, wiring, StepFalls, CoversAll, left_to_settle}
 use Rattle.stabilizer.specs.Wiring.{PutsRoots, RootRefused, KeepsPlaces}
@@ -300,40 +297,6 @@ module _ (F : Functions) (arena : Arena) (old rooted : Work) (before : ℕ) (rea
   in_round =
       let w = put F first.start first.state before inv first.stands in
       record { start = first.start; state = w.0; holds = moves_keep F first.start first.state w.0 w.1 inv; stands = w.2 }
-
-  -- a refused round made at most the calls that some nodes take
-  module _ (stopped : Work) (after : ℕ) (e : Refused) (refused : SettleRefused F arena rooted stopped before after e) where
-    few_of : (t u : State) → Moves F first.start first.state t → Stops F first.start t u → u.graph ≡ graph_of arena → u.calls ≡ after
-        → HasCalledFew arena before after
-    few_of t u moves stops graph calls =
-        let k = refused_calls F first.start first.state t u first.entry moves stops in
-        record {
-          nodes = k.0;
-          once = k.1;
-          callers = λ n a. let m = k.3 n a in record {
-            row = m.0;
-            nodes = m.1;
-            is_row = subst (λ (G : Graph). G.row n ≡ Some m.0) graph m.2;
-            takes = subst (λ (G : Graph). taken_by G n m.0.def ≡ Some m.1) graph m.3;
-          };
-          count = subst (λ (x : ℕ). RoseAtMost before (costs_of (graph_of arena) k.0) x) calls
-              (subst (λ (x : ℕ). RoseAtMost x (costs_of (graph_of arena) k.0) u.calls) first.calls
-              (subst (λ (G : Graph). RoseAtMost first.start.calls (costs_of G k.0) u.calls) graph k.2));
-        }
-
-    pub few_called : HasCalledFew arena before after
-    few_called =
-        let w = put F first.start first.state before inv first.stands in
-        let k = refused first.start w.0 (moves_keep F first.start first.state w.0 w.1 inv) w.2 in
-        let run = joined (Move F first.start) first.state w.0 k.state w.1 k.moves in
-        let graph = k.stands.graph in
-        elim k.calls [
-          | inl e ↦ few_of k.state k.state run (as_it_is refl) graph (sym e)
-          | inr c ↦ few_of k.state (called_more k.state after) run
-              (unkept c.0 c.2 (subst (λ (G : Graph). G.row c.1 ≡ Some c.3.caller.row) (sym graph) c.3.caller.is_row)
-              (subst (λ (G : Graph). taken_by G c.1 c.3.caller.row.def ≡ Some c.3.caller.nodes) (sym graph) c.3.caller.takes)
-              (subst (λ (G : Graph). RoseAtMost k.state.calls (cost_at G c.1) after) (sym graph) c.3.count) refl) graph refl
-        ]
 
   -- a round that ended
   module _ (settled : Work) (after : ℕ) (steps : Settles F arena rooted settled before after) (kept : IsKept arena settled)

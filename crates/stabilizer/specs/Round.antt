@@ -168,6 +168,16 @@ pub record HasCalledFew (arena : Arena) (before after : ℕ) : Type 0 where
   pub callers : (n : NodeId) → Among n nodes → IsCallerAt arena n
   pub count : RoseAtMost before (costs_of (graph_of arena) nodes) after
 
+-- moreover each of these nodes is met, where these are observed
+pub record HasCalledMet (F : Functions) (arena : Arena) (old : Work) (observed : List NodeId) (before after : ℕ) : Type 0 where
+  pub few : HasCalledFew arena before after
+  pub met : (n : NodeId) → Among n few.nodes → Met F (graph_of arena) none_died observed (λ (p : Point). part.Needed old.graph p) (main n)
+
+-- what is shown of a node is what was before, or what it gives
+abbrev pub ShowsStill : Functions → Arena → Work → Work → NodeId → Type 0
+ShowsStill F arena old new n =
+    (seen new.rows (main n) ≡ seen old.rows (main n)) ⊎ ((o : Outcome) × (seen new.rows (main n) ≡ Some o) × NodeGives F (graph_of arena) n o)
+
 -- ---- the parts of a round
 
 -- these points are roots, each as often more as it is listed

@@ -8,14 +8,13 @@ ghost use Rattle.point_map.specs.Rows.{at, Holds};
 ghost use Rattle.stabilize_round.specs.Calling.{costs_of};
 ghost use Rattle.stabilize_round.specs.Counts.{RoseBy};
 ghost use Rattle.necessity.specs.Need.{KeepsRoots};
-ghost use Rattle.necessary_graph.specs.Part.{IsInStep};
 ghost use Rattle.recompute_heap.specs.Agree.{IsEmpty};
 ghost use Rattle.necessary_graph.specs.Part.{Needed};
 ghost use Rattle.node_arena.specs.Graph.{graph_of, AllCallFit};
 ghost use Rattle.stabilizer.specs.Kept.{IsKept};
 ghost use Rattle.node_outcomes.specs.Meaning.{functions_of, lists_none};
 ghost use Rattle.node_outcomes.specs.Computing.{KeepsFunctions};
-ghost use Rattle.stabilizer.specs.Round.{IsReady, AreRooted, IsUpToDate, IsLawful, LeavesTried, HasCalledFew};
+ghost use Rattle.stabilizer.specs.Round.{IsReady, AreRooted, IsUpToDate, IsLawful, LeavesTried, HasCalledMet, ShowsStill, never_at};
 ghost use Rattle.stabilizer.specs.Round.{IsInRound, RootsMore, OnlyRoots, Settles, SettleRefused};
 ghost use Rattle.stabilizer.specs.Stepping.{MainIsSettled, MainIsLeft, ChangeIsSettled, ChangeIsLeft, Steps, StepRefused, StepFalls};
 ghost use Rattle.stabilizer.specs.Wiring.{PutsRoots, RootRefused, KeepsPlaces};
@@ -94,7 +93,13 @@ impl Stabilizer {
             → IsLawful (functions_of (F.value functions.old)) parts.old.arena parts.old.work
             (roots.now ++ observed) e) }
         ensures tried { IfErr result (LeavesTried parts.new.arena parts.new.work) }
-        ensures few { OnErr result (HasCalledFew parts.old.arena (F.calls functions.old) (F.calls functions.new)) }
+        ensures few { OnErr result ((observed : List NodeId) → AreRooted parts.old.work observed
+            → HasCalledMet (functions_of (F.value functions.old)) parts.old.arena parts.old.work (roots.now ++ observed)
+            (F.calls functions.old) (F.calls functions.new)) }
+        ensures kept { OnErr result (IsKept parts.new.arena parts.new.work) }
+        ensures cutoffs { OnErr result ((n : NodeId) → never_at parts.new.work n ≡ never_at parts.old.work n) }
+        ensures shows { OnErr result ((n : NodeId)
+            → ShowsStill (functions_of (F.value functions.old)) parts.old.arena parts.old.work parts.new.work n) }
         ensures ran { OnErr result (parts.new.ran ≡ parts.old.ran) }
         ensures arena { parts.new.arena ≡ parts.old.arena }
         ensures functions { KeepsFunctions (F.named functions.old) (F.named functions.new)
@@ -120,10 +125,9 @@ fn put_roots(work: &mut Work, arena: &Arena, roots: &[NodeId]) -> Result<(), Ref
     ensures roots { OnlyRoots work.old.graph.roots work.new.graph.roots (map main roots.now) }
     ensures wired { OnOk result (PutsRoots arena.now work.old work.new) }
     ensures refused { IfErr result (RootRefused arena.now work.old work.new) }
-    ensures step { OnErr result (IsInStep work.new.graph) }
     ensures quiet { OnOk result (work.new.todo.items ≡ []) }
     ensures round { work.new.round ≡ work.old.round }
-    ensures kept { OnOk result (IsKept arena.now work.new) }
+    ensures kept { IsKept arena.now work.new }
 {
     for node in roots {
         work.put_root(arena, main_point(*node))?;

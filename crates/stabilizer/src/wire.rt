@@ -39,10 +39,9 @@ impl Work {
         ensures rooted { OnOk result (OneRootMore self.old.graph.roots self.new.graph.roots p) }
         ensures wired { OnOk result (PutsRoots arena.now self.old self.new) }
         ensures refused { IfErr result (RootRefused arena.now self.old self.new) }
-        ensures step { OnErr result (IsInStep self.new.graph) }
         ensures empty { OnOk result (self.new.todo.items ≡ []) }
         ensures round { self.new.round ≡ self.old.round }
-        ensures kept { OnOk result (IsKept arena.now self.new) }
+        ensures kept { IsKept arena.now self.new }
         ensures others { (a : Point) → a ≢ p → root_times self.new.graph.roots a ≡ root_times self.old.graph.roots a }
     {
         let opened = self.make_room(p)?;

@@ -7,7 +7,8 @@ ghost use Rattle.stabilize_round.specs.Calling.{costs_of};
 ghost use Rattle.stabilize_round.specs.Counts.{RoseBy};
 ghost use Rattle.node_outcomes.specs.Computing.{KeepsFunctions};
 ghost use Rattle.node_outcomes.specs.Meaning.{functions_of};
-ghost use Rattle.stabilizer.specs.Round.{IsUpToDate, IsLawful, LeavesTried, HasCalledFew};
+ghost use Rattle.stabilizer.specs.Kept.{IsKept};
+ghost use Rattle.stabilizer.specs.Round.{IsUpToDate, IsLawful, LeavesTried, HasCalledMet, ShowsStill, never_at};
 ghost use Rattle.graph.specs.Sound.{CanStabilize};
 ghost use Rattle.graph.specs.Standing.{IsBroken, in_use};
 ghost use Rattle.graph.specs.Stabilizes.{Stabilizes, IsRefusedFor};
@@ -39,7 +40,8 @@ impl<F: Functions> Graph<F> {
         ensures refused { (cause : ACause) → IsErrOf result (StabilizeFault.Refused cause)
             → IsRefusedFor (functions_of (F.value self.old.functions)) self.old self.new cause }
         ensures few { (cause : ACause) → IsErrOf result (StabilizeFault.Refused cause)
-            → HasCalledFew self.old.parts.arena (F.calls self.old.functions) (F.calls self.new.functions) }
+            → HasCalledMet (functions_of (F.value self.old.functions)) self.old.parts.arena self.old.parts.work (in_use self.old.observers)
+            (F.calls self.old.functions) (F.calls self.new.functions) }
         ensures calls_grow { F.calls self.old.functions ≤ F.calls self.new.functions }
         ensures unchanged { (cause : ACause) → IsErrOf result (StabilizeFault.Broken cause) → self.new ≡ self.old }
         ensures names { SameNames (F.named self.old.functions) (F.named self.new.functions) }
@@ -97,7 +99,12 @@ fn run<F: Functions>(
     ensures lawful { IfErr result (λ e. IsLawful (functions_of (F.value functions.old)) parts.old.arena parts.old.work
         (in_use observers.now) e) }
     ensures tried { IfErr result (LeavesTried parts.new.arena parts.new.work) }
-    ensures few { OnErr result (HasCalledFew parts.old.arena (F.calls functions.old) (F.calls functions.new)) }
+    ensures few { OnErr result (HasCalledMet (functions_of (F.value functions.old)) parts.old.arena parts.old.work
+        (in_use observers.now) (F.calls functions.old) (F.calls functions.new)) }
+    ensures kept { OnErr result (IsKept parts.new.arena parts.new.work) }
+    ensures shows { OnErr result ((n : NodeId)
+        → ShowsStill (functions_of (F.value functions.old)) parts.old.arena parts.old.work parts.new.work n) }
+    ensures cutoffs { OnErr result ((n : NodeId) → never_at parts.new.work n ≡ never_at parts.old.work n) }
     ensures ran { OnErr result (parts.new.ran ≡ parts.old.ran) }
     ensures arena { parts.new.arena ≡ parts.old.arena }
     ensures functions { KeepsFunctions (F.named functions.old) (F.named functions.new)

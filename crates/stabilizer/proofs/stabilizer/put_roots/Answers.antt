@@ -20,7 +20,7 @@ loop-node-preserved c =
     one_put c.args.arena.now c.args.work.now c.loop-node.work c.put_root.new.self c.args.roots.now c.loop-node.node-index other c.loop-node-test.true
     c.loop-node.invariant
     (subst (λ (p : Point). OneRootMore c.loop-node.work.graph.roots c.put_root.new.self.graph.roots p) c.main_point.ensures c.in_ok-put_root.ensures.rooted)
-    c.in_ok-put_root.ensures.wired c.in_ok-put_root.ensures.empty c.put_root.ensures.round c.in_ok-put_root.ensures.kept
+    c.in_ok-put_root.ensures.wired c.in_ok-put_root.ensures.empty c.put_root.ensures.round c.put_root.ensures.kept
 
 pub returns-in_err-put_root-clause-refused : goal.returns-in_err-put_root-clause-refused
 returns-in_err-put_root-clause-refused c =

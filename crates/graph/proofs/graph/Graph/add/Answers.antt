@@ -18,7 +18,7 @@ invariant_of-self g c = (
       let sound = rw c.arena.ensures at c.is_sound.ensures in
       let known = rw (← c.self.view_is) at c.requires.known in
       sound_still _ _ c.self.inside.parts c.add-added.new.self c.self.inside.observers.items c.self.inside.rooted c.self.inside.refused c.self.invariant.1
-      (a.ready _) (λ p. ap (λ (r : Roots). root_times r p) a.roots)
+      (rw (← c.self.view_is) at c.in-Ok.ensures.unbroken) (a.ready _) (λ p. ap (λ (r : Roots). root_times r p) a.roots)
       (answer_fits _ _ _ (def_of c.args.def) c.args.ty c.add-added.result answers known sound)
       (answer_given _ _ (def_of c.args.def) c.args.ty c.add-added.result answers) (λ n given. a.rows (main n) given)),
 )

@@ -24,3 +24,19 @@ returns-in-Ok-clause-brought g c =
       );
       right = right;
     })
+
+pub returns-in-Err-clause-refused : goal.returns-in-Err-clause-refused
+returns-in-Err-clause-refused g c cause is = rw (← c.self.view_is) (record {
+  was = (rw (← c.self.view_is) at c.in_default.ensures.none);
+  nodes = c.run.ensures.arena;
+  observers = refl;
+  rooted = refl;
+  ran = c.in-Err.ensures.ran;
+  cutoffs = c.in-Err.ensures.cutoffs;
+  shows = c.in-Err.ensures.shows;
+  met = c.in-Err.refused;
+  broken = refl;
+  is_cause = (let e = c.cause_of-cause.ensures in cc);
+  lawful = (rw c.deref.ensures.value at c.in-Err.ensures.lawful);
+  tried = c.in-Err.ensures.tried;
+})

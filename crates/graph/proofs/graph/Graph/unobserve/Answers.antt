@@ -26,7 +26,7 @@ invariant_of-self g c = (
       subst (λ (os : List Observer). IsSound (g.F.Functions.known c.self.inside.functions) (g.F.Functions.value c.self.inside.functions)
       c.unroot.new.self os c.self.inside.rooted c.self.inside.refused) (sym c.end.ensures)
       (sound_ended _ _ c.self.inside.parts c.unroot.new.self c.self.inside.observers.items c.self.inside.rooted c.args.observer.0
-      c.self.inside.refused c.self.invariant.1 c.in-Some.node is c.if-place-self.true (u.ready _) u.rooted u.arena u.rows)),
+      c.self.inside.refused c.self.invariant.1 c.in-Some.node is (rw (← c.self.view_is) at c.in_ok-check.ensures.unbroken) c.if-place-self.true (u.ready _) u.rooted u.arena u.rows)),
 )
 
 pub invariant_of-self-else-place-self : goal.invariant_of-self-else-place-self

@@ -2,8 +2,12 @@ use Rattle.std.proofs.Common.{List, subst, ◌∙◌}
 use Rattle.inc_value.specs.declared.node.NodeId.{NodeId}
 use Rattle.inc_value.specs.Choice.{Among}
 use Rattle.inc_terms.specs.Within.{Given}
+use Rattle.node_outcomes.specs.Meaning.{functions_of}
+use Rattle.stabilizer.proofs.Leftover.{none_called}
+use Rattle.stabilizer.proofs.Rounding.{on_err}
+use Rattle.graph.specs.Standing.{in_use}
 use Rattle.graph.proofs.Observing.{all_of}
-use Rattle.graph.proofs.Stabilizing.{on_ok, on_both, if_err, rest_given, all_right, all_lawful, can_again}
+use Rattle.graph.proofs.Stabilizing.{on_ok, err_as, on_both, if_err, rest_given, all_right, all_lawful, all_few, can_again}
 use Rattle.graph.proofs.graph.stabilize.run.Goals as goal
 
 pub run-requires-clause-given : goal.run-requires-clause-given
@@ -35,3 +39,17 @@ returns-clause-lawful g c =
     let lawful = rw e at c.run.ensures.lawful in
     if_err c.run.result (all_lawful (g.F.Functions.known c.args.functions.now) (g.F.Functions.known c.run.new.functions) (g.F.Functions.value c.args.functions.now) (g.F.Functions.value c.run.new.functions)
     c.args.parts.now c.run.new.parts c.args.observers.now c.args.rooted c.requires.can c.requires.within) lawful
+
+pub returns-clause-few : goal.returns-clause-few
+returns-clause-few g c =
+    let e = c.deref.ensures.value ∙ c.in_ok-roots.ensures in
+    let few = rw e at c.run.ensures.few in
+    err_as c.run.result (all_few (g.F.Functions.known c.args.functions.now) (g.F.Functions.known c.run.new.functions) (g.F.Functions.value c.args.functions.now) (g.F.Functions.value c.run.new.functions)
+    c.args.parts.now c.run.new.parts c.args.observers.now c.args.rooted c.requires.can c.requires.within
+    (g.F.Functions.calls c.args.functions.now) (g.F.Functions.calls c.run.new.functions)) few
+
+pub returns-in_err-roots-clause-few : goal.returns-in_err-roots-clause-few
+returns-in_err-roots-clause-few g c =
+    on_err c.from_residual.result
+    (none_called (functions_of (g.F.Functions.value c.args.functions.now)) c.args.parts.now.arena c.args.parts.now.work
+    (in_use c.args.observers.now) (g.F.Functions.calls c.args.functions.now))

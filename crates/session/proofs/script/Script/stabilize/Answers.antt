@@ -66,7 +66,7 @@ returns-in-Some g c =
           session_too_deep (g.L.Library.named l) (g.L.Library.value l) (g.L.Library.known l) _ c.self.inside.graph new refl unbroken
           c.keeps_sound.ensures.arena c.keeps_sound.ensures.sound done target (g.L.Library.calls l) (g.L.Library.calls new.functions.library)
           (first_of new.refused c.self.inside.nodes.items c.deref.result.now c.deref.ensures.value c.in-Some.target target same
-          c.in-Some.ensures.found) (c.stabilize.ensures.few cause.Height for) m stands;
+          c.in-Some.ensures.found) (c.stabilize.ensures.few cause.Height for).few m stands;
       target = λ target is.
           let same : c.in-Some.target ≡ target = cc in
           let many = c.self.invariant.one_node_each in
@@ -106,7 +106,7 @@ returns-in-None g c =
       target = tt;
       cut_short = λ m stands.
           session_cut_short (meanings_of (g.L.Library.named l) (g.L.Library.value l)) _ c.self.inside.graph new (g.L.Library.calls l)
-          (g.L.Library.calls new.functions.library) refl unbroken (c.stabilize.ensures.few cause.Height for) m stands.matches;
+          (g.L.Library.calls new.functions.library) refl unbroken (c.stabilize.ensures.few cause.Height for).few m stands.matches;
       for_memory = λ m stands. absurd (
           session_not_all_older (g.L.Library.named l) (g.L.Library.value l) (g.L.Library.known l) _ c.self.inside.graph new refl unbroken
           c.keeps_sound.ensures.arena c.keeps_sound.ensures.sound done
@@ -143,7 +143,7 @@ returns-in-Err-Refused-Memory g c =
       target = tt;
       cut_short = λ m stands.
           session_cut_short (meanings_of (g.L.Library.named l) (g.L.Library.value l)) _ c.self.inside.graph new (g.L.Library.calls l)
-          (g.L.Library.calls new.functions.library) refl unbroken (c.stabilize.ensures.few cause.Memory for) m stands.matches;
+          (g.L.Library.calls new.functions.library) refl unbroken (c.stabilize.ensures.few cause.Memory for).few m stands.matches;
       for_memory = λ m stands. memory_met (functions_of (seen_value (g.L.Library.value l))) c.self.inside.graph new done;
       count = omega arith;
       names = refl;
@@ -177,7 +177,7 @@ returns-in-Err-Refused-Cycle g c =
       target = tt;
       cut_short = λ m stands.
           session_cut_short (meanings_of (g.L.Library.named l) (g.L.Library.value l)) _ c.self.inside.graph new (g.L.Library.calls l)
-          (g.L.Library.calls new.functions.library) refl unbroken (c.stabilize.ensures.few cause.Cycle for) m stands.matches;
+          (g.L.Library.calls new.functions.library) refl unbroken (c.stabilize.ensures.few cause.Cycle for).few m stands.matches;
       for_memory = λ m stands. absurd (
           session_no_cycle (g.L.Library.named l) (g.L.Library.value l) (g.L.Library.known l) _ c.self.inside.graph new refl unbroken
           c.keeps_sound.ensures.arena c.keeps_sound.ensures.sound done m stands);

@@ -1,4 +1,4 @@
-use Rattle.std.proofs.Common.{◌≡◌, ◌+◌, ◌++◌, ℕ, List, Option, Some, sym, ap, subst, ◌∙◌}
+use Rattle.std.proofs.Common.{inl, refl, ◌≡◌, ◌+◌, ◌++◌, ℕ, List, Option, Some, sym, ap, subst, ◌∙◌}
 use Rattle.std.specs.Option.{SomeIff}
 use Rattle.std.specs.Result.{IsErrAnd}
 use Rattle.inc_value.specs.declared.node.NodeId.{NodeId}
@@ -11,8 +11,9 @@ use Rattle.node_outcomes.specs.Meaning.{functions_of}
 use Rattle.stabilizer.specs.Round.{IsReady, IsUpToDate, AreRooted, IsLawful, LeavesTried}
 use Rattle.stabilizer.proofs.Beginning.{same_meaning}
 use Rattle.stabilizer.proofs.Lawful.{roots_lawful, steps_lawful}
+use Rattle.stabilizer.proofs.Leftover.{none_called, roots_cutoffs, roots_show, steps_cutoffs, steps_show, steps_called}
 use Rattle.stabilizer.proofs.Tried.{roots_tried, steps_tried}
-use Rattle.stabilizer.proofs.Rounding.{on_err, exit_is, in_round, few_called, round_counts, round_readies, round_rights}
+use Rattle.stabilizer.proofs.Rounding.{on_err, exit_is, in_round, round_counts, round_readies, round_rights}
 use Rattle.stabilizer.proofs.stabilizer.Stabilizer.run.Goals as goal
 
 pub returns-in_err-put_roots-clause-lawful : goal.returns-in_err-put_roots-clause-lawful
@@ -46,7 +47,7 @@ returns-in_err-put_roots-clause-tried g c =
     let is : IsErrAnd c.from_residual.result (λ x. x ≡ e) = c.from_residual.ensures.1 in
     exit_is c.from_residual.result e (λ x. LeavesTried c.args.parts.now.arena c.put_roots.new.work x) is
     (roots_tried (functions_of (g.F.Functions.value c.args.functions.now)) c.args.parts.now.arena c.args.parts.now.work c.put_roots.new.work
-    (g.F.Functions.calls c.args.functions.now) c.requires.ready c.in_err-put_roots.ensures.step e c.in_err-put_roots.ensures.refused)
+    (g.F.Functions.calls c.args.functions.now) c.requires.ready c.put_roots.ensures.kept.step e c.in_err-put_roots.ensures.refused)
 
 pub returns-in_err-settle_all-clause-tried : goal.returns-in_err-settle_all-clause-tried
 returns-in_err-settle_all-clause-tried g c =
@@ -69,9 +70,30 @@ settle_all-requires-clause-in_round g c =
 pub returns-in_err-settle_all-clause-few : goal.returns-in_err-settle_all-clause-few
 returns-in_err-settle_all-clause-few g c =
     on_err c.from_residual-in_err-settle_all.result
-    (few_called (functions_of (g.F.Functions.value c.args.functions.now)) c.args.parts.now.arena c.args.parts.now.work c.put_roots.new.work
-    (g.F.Functions.calls c.args.functions.now) c.requires.ready c.in_ok-put_roots.ensures.wired c.settle_all.new.parts.work
-    (g.F.Functions.calls c.settle_all.new.functions) c.in_err-settle_all.field-0.0 c.in_err-settle_all.ensures.refused)
+    (λ observed looks. steps_called (functions_of (g.F.Functions.value c.args.functions.now)) c.args.parts.now.arena c.args.parts.now.work c.put_roots.new.work
+    c.settle_all.new.parts.work (g.F.Functions.calls c.args.functions.now) (g.F.Functions.calls c.settle_all.new.functions) c.requires.ready
+    c.in_ok-put_roots.ensures.wired c.in_err-settle_all.field-0.0 c.in_err-settle_all.ensures.refused c.args.roots.now observed
+    c.put_roots.ensures.roots c.settle_all.ensures.roots looks)
+
+pub returns-in_err-settle_all-clause-cutoffs : goal.returns-in_err-settle_all-clause-cutoffs
+returns-in_err-settle_all-clause-cutoffs g c =
+    on_err c.from_residual-in_err-settle_all.result
+    (steps_cutoffs (functions_of (g.F.Functions.value c.args.functions.now)) c.args.parts.now.arena c.args.parts.now.work c.put_roots.new.work
+    c.settle_all.new.parts.work (g.F.Functions.calls c.args.functions.now) (g.F.Functions.calls c.settle_all.new.functions) c.requires.ready
+    c.in_ok-put_roots.ensures.wired c.in_err-settle_all.field-0.0 c.in_err-settle_all.ensures.refused
+    (subst (λ (a : Arena). IsKept a c.settle_all.new.parts.work) c.settle_all.ensures.arena c.settle_all.ensures.kept))
+
+pub returns-in_err-put_roots-clause-few : goal.returns-in_err-put_roots-clause-few
+returns-in_err-put_roots-clause-few g c =
+    on_err c.from_residual.result
+    (λ observed looks. none_called (functions_of (g.F.Functions.value c.args.functions.now)) c.args.parts.now.arena c.args.parts.now.work
+    (c.args.roots.now ++ observed) (g.F.Functions.calls c.args.functions.now))
+
+pub returns-in_err-put_roots-clause-cutoffs : goal.returns-in_err-put_roots-clause-cutoffs
+returns-in_err-put_roots-clause-cutoffs g c =
+    on_err c.from_residual.result
+    (roots_cutoffs (functions_of (g.F.Functions.value c.args.functions.now)) c.args.parts.now.arena c.args.parts.now.work c.put_roots.new.work
+    (g.F.Functions.calls c.args.functions.now) c.requires.ready c.put_roots.ensures.kept c.in_err-put_roots.field-0.0 c.in_err-put_roots.ensures.refused)
 
 pub returns-clause-calls : goal.returns-clause-calls
 returns-clause-calls g c =
@@ -124,3 +146,25 @@ returns-clause-ready g c =
     (g.F.Functions.calls c.settle_all.new.functions) c.in_ok-settle_all.ensures.settled kept c.in_ok-settle_all.ensures.quiet c.in_ok-settle_all.ensures.empty
     new c.end_round.ensures.graph c.end_round.ensures.rows c.end_round.ensures.pairs c.end_round.ensures.todo c.end_round.ensures.ran
     c.end_round.ensures.strict round))
+
+pub returns-in_default-clause-few : goal.returns-in_default-clause-few
+returns-in_default-clause-few g c =
+    λ observed looks. none_called (functions_of (g.F.Functions.value c.args.functions.now)) c.args.parts.now.arena c.args.parts.now.work
+    (c.args.roots.now ++ observed) (g.F.Functions.calls c.args.functions.now)
+
+pub returns-in_err-settle_all-clause-shows : goal.returns-in_err-settle_all-clause-shows
+returns-in_err-settle_all-clause-shows g c =
+    on_err c.from_residual-in_err-settle_all.result
+    (steps_show (functions_of (g.F.Functions.value c.args.functions.now)) c.args.parts.now.arena c.args.parts.now.work c.put_roots.new.work
+    c.settle_all.new.parts.work (g.F.Functions.calls c.args.functions.now) (g.F.Functions.calls c.settle_all.new.functions) c.requires.ready
+    c.in_ok-put_roots.ensures.wired c.in_err-settle_all.field-0.0 c.in_err-settle_all.ensures.refused
+    (subst (λ (a : Arena). IsKept a c.settle_all.new.parts.work) c.settle_all.ensures.arena c.settle_all.ensures.kept))
+
+pub returns-in_err-put_roots-clause-shows : goal.returns-in_err-put_roots-clause-shows
+returns-in_err-put_roots-clause-shows g c =
+    on_err c.from_residual.result
+    (roots_show (functions_of (g.F.Functions.value c.args.functions.now)) c.args.parts.now.arena c.args.parts.now.work c.put_roots.new.work
+    (g.F.Functions.calls c.args.functions.now) c.requires.ready c.put_roots.ensures.kept c.in_err-put_roots.field-0.0 c.in_err-put_roots.ensures.refused)
+
+pub returns-in_default-clause-shows : goal.returns-in_default-clause-shows
+returns-in_default-clause-shows g c = λ n. inl refl

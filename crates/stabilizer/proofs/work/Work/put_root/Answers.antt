@@ -5,7 +5,7 @@ use Rattle.point_map.specs.Rows.{Rows, at}
 use Rattle.stabilizer.specs.Wiring.{IsLevelled, WireRefused, RootRefused}
 use Rattle.stabilizer.specs.declared.refused.Refused.TheVariants.{Memory}
 use Rattle.stabilizer.proofs.Raising.{if_refusal}
-use Rattle.stabilizer.proofs.Trying.{same_need, levelled_room, levelled_link, grown_kept}
+use Rattle.stabilizer.proofs.Trying.{same_need, levelled_room, levelled_link, levelled_kept, grown_kept}
 use Rattle.stabilizer.proofs.Putting.{on_ok, main_is_target, root_grown, root_more, root_follows, wires_then, refused_then, left_refuses}
 use Rattle.stabilizer.proofs.work.Work.put_root.Goals as goal
 
@@ -15,6 +15,12 @@ returns-in_err-opened-clause-refused c =
     if_refusal (RootRefused c.args.arena.now c.args.self.now m.new.self) Memory c.from_residual.result c.from_residual.ensures.1
     (left_refuses c.args.arena.now c.args.self.now m.new.self Memory
     (levelled_room c.args.self.now m.new.self m.ensures.looks c.in_err-opened.ensures.err m.ensures.step) refl)
+
+pub returns-in_err-opened-clause-kept : goal.returns-in_err-opened-clause-kept
+returns-in_err-opened-clause-kept c =
+    let m = c.make_room in
+    levelled_kept c.args.self.now m.new.self (levelled_room c.args.self.now m.new.self m.ensures.looks c.in_err-opened.ensures.err m.ensures.step)
+    c.args.arena.now c.requires.kept
 
 pub wire-requires : goal.wire-requires
 wire-requires c =
@@ -78,3 +84,14 @@ returns-in-Err-clause-refused c =
     (λ a. ap (λ (h : Rows _). is_some (at h a)) l.ensures.heights) (λ a. ap (λ (h : Rows _). is_some (at h a)) l.ensures.heap) d.ensures.closed
     d.ensures.kept d.ensures.links d.ensures.roots d.ensures.heap d.ensures.rest c.stands.ensures in
     left_refuses c.args.arena.now c.args.self.now d.new.self _ levelled refl
+
+pub returns-in-Err-clause-kept : goal.returns-in-Err-clause-kept
+returns-in-Err-clause-kept c =
+    let m = c.make_room in
+    let l = c.root_on in
+    let d = c.close in
+    let levelled : IsLevelled c.args.self.now d.new.self = levelled_link c.args.self.now m.new.self d.new.self l.new.self c.args.p c.in_ok-opened.opened
+    m.ensures.looks c.in_ok-opened.ensures.there c.in_ok-opened.ensures.opened m.ensures.others l.ensures.links c.in-Err.ensures.err
+    (λ a. ap (λ (h : Rows _). is_some (at h a)) l.ensures.heights) (λ a. ap (λ (h : Rows _). is_some (at h a)) l.ensures.heap) d.ensures.closed
+    d.ensures.kept d.ensures.links d.ensures.roots d.ensures.heap d.ensures.rest c.stands.ensures in
+    levelled_kept c.args.self.now d.new.self levelled c.args.arena.now c.requires.kept
