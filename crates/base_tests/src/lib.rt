@@ -6,9 +6,13 @@
 #[cfg(test)]
 mod arena;
 #[cfg(test)]
+mod builder;
+#[cfg(test)]
 mod links;
 #[cfg(test)]
 mod needed_graph;
+#[cfg(test)]
+mod nested_scopes;
 #[cfg(test)]
 mod point_maps;
 #[cfg(test)]

@@ -1,10 +1,10 @@
 //! A graph over the standard library, of which callers see the count of calls alone.
 ghost use Rattle.std.specs.Prelude.{◌≡◌, ◌≤◌, IfOk};
 
-use crate::adapter::StdFunctions;
 use crate::fault::{Fault, of_graph, of_stabilize};
 use graph::{Cutoff, Graph};
 use inc_value::{Base, NodeId, ObsId, Outcome, Ty, Value};
+use script_functions::ScriptFns;
 use std::alloc::Global;
 use std::marker::Model;
 use std_library::{Function, StdLib};
@@ -12,7 +12,7 @@ use std_library::{Function, StdLib};
 /// A graph over the standard library.
 #[derive(Drop)]
 pub struct Engine {
-    graph: Graph<StdFunctions>,
+    graph: Graph<ScriptFns<StdLib>>,
 }
 
 impl Model for Engine {
@@ -38,13 +38,13 @@ impl Engine {
     pub fn new(alloc: Global) -> Result<Engine, Fault>
         ensures { IfOk result (λ engine. engine ≡ 0) }
     {
-        match Graph::new(alloc, StdFunctions::new(StdLib::new())) {
+        match Graph::new(alloc, ScriptFns::new(alloc, StdLib::new())) {
             Ok(graph) => Ok(Engine { graph }),
             Err(_) => Err(Fault::Memory),
         }
     }
 
-    /// Gives all memory back: the graph's own drop of what it has, as its functions have none.
+    /// Gives all memory back: the graph's own drop of what it has, as its functions keep none.
     pub fn end(self) {
         self.graph.into_functions();
     }

@@ -1,7 +1,6 @@
 //! The engine as it is measured: a graph over the standard library, with its calls counted, and why a run stops.
 #![tactic(auto)]
 
-mod adapter;
 mod engine;
 mod fault;
 

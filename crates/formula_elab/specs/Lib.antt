@@ -3,4 +3,3 @@ pub mod Made
 pub mod Names
 pub mod Opened
 pub mod Plan
-pub mod UnnamedLaws

@@ -1,15 +1,12 @@
-//! What scripts become in a graph: the functions of a library as those of a graph, and the nodes to be made for a
-//! command.
+//! What scripts become in a graph: the nodes to be made for a command.
 #![tactic(auto)]
 
-mod functions;
 mod laws;
 mod lay;
 mod make;
 mod opened;
 mod plan;
 
-pub use functions::ScriptFns;
 pub use laws::{
     fitting_holds_no_reference, laid_in_order, none_stands, one_make_each, one_more_stands,
     root_declares,

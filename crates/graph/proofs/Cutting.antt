@@ -16,7 +16,7 @@ use Rattle.node_arena.specs.Graph.{AllCallFit}
 use Rattle.stabilize_round.proofs.Points.{same_or_other}
 use Rattle.node_outcomes.specs.Computing.{seen_of, seen}
 use Rattle.stabilizer.specs.Kept.{IsKept}
-use Rattle.node_outcomes.specs.Meaning.{functions_of, lists_none}
+use Rattle.node_outcomes.specs.Meaning.{functions_of, lists_none, maps_of}
 use Rattle.stabilizer.specs.Round.{IsReady}
 use Rattle.node_outcomes.specs.Row.{IsRewritten, with_cutoff}
 use Rattle.stabilizer.specs.declared.parts.Parts.{Parts}
@@ -61,7 +61,7 @@ module _ (old new : Parts) (id : NodeId) (c : Cutoff) (set : IsRewritten old.wor
     unbroken = λ whole. let can = sound.unbroken whole in record {
       ready = ready can.ready;
       roots = λ p. ap (λ (x : Parts). root_times x.work.graph.roots p) rest ∙ can.roots p;
-      fit = subst (λ (a : Arena). AllCallFit known lists_none a) (sym arena_as) can.fit;
+      fit = subst (λ (a : Arena). AllCallFit (maps_of known) lists_none a) (sym arena_as) can.fit;
       given = λ n among. subst (λ (a : Arena). Given a.given n) (sym arena_as) (can.given n among);
       shown = λ n among. subst IsSome (sym (seen_as (main n))) (can.shown n among);
     };

@@ -11,7 +11,7 @@ use Rattle.point_map.specs.Rows.{at}
 use Rattle.necessity.specs.Need.{root_times}
 use Rattle.node_arena.specs.Graph.{AllCallFit}
 use Rattle.node_outcomes.specs.Computing.{seen_of}
-use Rattle.node_outcomes.specs.Meaning.{functions_of, lists_none}
+use Rattle.node_outcomes.specs.Meaning.{functions_of, lists_none, maps_of}
 use Rattle.stabilizer.specs.Round.{IsReady}
 use Rattle.node_outcomes.specs.declared.row.Progress.{Progress}
 use Rattle.stabilizer.specs.declared.parts.Parts.{Parts}
@@ -24,7 +24,7 @@ module _ (known : FnRef → Bool) (value : FnRef → List Value → Value) (old 
   -- roots, what is shown of rooted nodes and ids that were given stay
   pub can_still : IsReady (functions_of value) new.arena new.work
       → ((p : Point) → root_times new.work.graph.roots p ≡ root_times old.work.graph.roots p)
-      → AllCallFit known lists_none new.arena → (old.arena.given ≤ new.arena.given)
+      → AllCallFit (maps_of known) lists_none new.arena → (old.arena.given ≤ new.arena.given)
       → ((n : NodeId) → Among n (in_use (take rooted observers)) → at new.work.rows (main n) ≡ at old.work.rows (main n))
       → CanStabilize known value new observers rooted
   can_still ready roots fit given rows = record {

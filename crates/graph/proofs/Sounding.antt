@@ -8,8 +8,7 @@ use Rattle.inc_value.specs.declared.value.Value.{Value}
 use Rattle.inc_terms.specs.Depend.{main}
 use Rattle.inc_terms.specs.Graph as graph
 use Rattle.inc_terms.specs.Graph.{Row, Def}
-use Rattle.inc_terms.specs.Within.{Given, Fit}
-use Rattle.inc_value.specs.declared.function.FnKind.{FnKind}
+use Rattle.inc_terms.specs.Within.{Given}
 use Rattle.inc_value.specs.declared.ty.Ty.{Ty}
 use Rattle.node_arena.specs.Meanings.{KeepsKnown}
 use Rattle.point_map.specs.Rows.{at}
@@ -20,7 +19,8 @@ use Rattle.node_arena.specs.declared.arena.AddFault.TheVariants as add
 use Rattle.node_arena.specs.Arena.{Arena, row_at, Changes, IsSet, NamesGiven}
 use Rattle.node_arena.specs.Graph.{AllCallFit, CallsFit}
 use Rattle.stabilize_round.proofs.Points.{node_or_other}
-use Rattle.node_outcomes.specs.Meaning.{functions_of, lists_none}
+use Rattle.node_outcomes.specs.Meaning.{functions_of, lists_none, maps_of}
+use Rattle.node_outcomes.proofs.Maps.{map_among, calls_fit_as, maps_stay_known}
 use Rattle.stabilizer.specs.Round.{IsReady}
 use Rattle.stabilizer.specs.declared.parts.Parts.{Parts}
 use Rattle.stabilizer.specs.declared.refused.Refused.{Refused}
@@ -37,30 +37,11 @@ use Rattle.graph.proofs.Observing.{front_is_among}
 
 -- ---- functions that fit
 
-module _ (known known' : FnRef → Bool) (keeps : KeepsKnown known known') (count count' : ℕ) where
-  fit_as : (k : FnKind) (f : FnRef) → Fit count known lists_none k f → Fit count' known' lists_none k f
-  fit_as k f h = ((keeps f h.0.0, h.0.1), λ n among. absurd among)
-
-  -- maps list no nodes, so how many ids were given makes no difference
-  pub calls_fit_as : (def : Def) → CallsFit count known lists_none def → CallsFit count' known' lists_none def
-  calls_fit_as (graph.Const v) h = h
-  calls_fit_as (graph.Var v) h = h
-  calls_fit_as (graph.Map f ns) h = (fit_as _ f h.0, h.1)
-  calls_fit_as (graph.Fold f v ns) h = (fit_as _ f h.0, h.1, h.2)
-  calls_fit_as (graph.If t a b) h = h
-  calls_fit_as (graph.Join n) h = h
-  calls_fit_as (graph.Bind l f ns) h = (fit_as _ f h.0, h.1, h.2)
-  calls_fit_as (graph.At t) h = tt
-  calls_fit_as (graph.Steps v steps) h = h
-  calls_fit_as graph.Now h = tt
-  calls_fit_as (graph.Every base span) h = tt
-  calls_fit_as (graph.Freeze n f) h = (fit_as _ f h.0, h.1)
-  calls_fit_as (graph.Expert f v ns) h = (fit_as _ f h.0, h.1, h.2)
-
 -- every id keeps its row, and no function is forgotten
 pub rows_fit : (known known' : FnRef → Bool) (old new : Arena) → KeepsKnown known known' → ((n : NodeId) → row_at new n ≡ row_at old n)
-    → AllCallFit known lists_none old → AllCallFit known' lists_none new
-rows_fit known known' old new keeps rows fit n r is = calls_fit_as known known' keeps old.given new.given r.def (fit n r (sym (rows n) ∙ is))
+    → AllCallFit (maps_of known) lists_none old → AllCallFit (maps_of known') lists_none new
+rows_fit known known' old new keeps rows fit n r is =
+    calls_fit_as (maps_of known) (maps_of known') (maps_stay_known known known' keeps) old.given new.given r.def (fit n r (sym (rows n) ∙ is))
 
 pub itself : (known : FnRef → Bool) → KeepsKnown known known
 itself known f h = h
@@ -77,13 +58,14 @@ every_unit (n ∷ ns) = (tt, every_unit ns)
 
 -- a map or a fold that makes its type has a function of the kind of maps
 pub known_fits : (known : FnRef → Bool) (a : Arena) (ty : Ty) (count : ℕ) (def : Def) → CallsKnown known def → Makes a def ty
-    → CallsFit count known lists_none def
+    → CallsFit count (maps_of known) lists_none def
 known_fits known a ty count (graph.Const v) k m = value_within v
 known_fits known a ty count (graph.Var v) k m = value_within v
-known_fits known a ty count (graph.Fold f v ns) k m = (((k, m.kind), λ n among. absurd among), value_within v, every_unit ns)
-known_fits known a ty count (graph.Map f ns) k m = (((k, m.kind), λ n among. absurd among), every_unit ns)
+known_fits known a ty count (graph.Fold f v ns) k m = (((map_among known f k m.kind, m.kind), λ n among. absurd among), value_within v, every_unit ns)
+known_fits known a ty count (graph.Map f ns) k m = (((map_among known f k m.kind, m.kind), λ n among. absurd among), every_unit ns)
 known_fits known a ty count (graph.If t l r) k m = (tt, tt, tt)
 known_fits known a ty count (graph.Join kid) k m = tt
+known_fits known a ty count (graph.Bind l f captures) k m = absurd k
 known_fits known a ty count def k m = absurd m
 
 -- ---- a node is added, or not
@@ -109,14 +91,14 @@ same_row : {x y : Row} → ◌≡◌ {A = Option Row} (Some x) (Some y) → x �
 same_row e = cc
 
 pub answer_fits : (known : FnRef → Bool) (old new : Arena) (def : Def) (ty : Ty) (result : Result NodeId AddFault) → AddAnswers old new def ty result
-    → CallsKnown known def → IsArenaSound new → AllCallFit known lists_none old → AllCallFit known lists_none new
+    → CallsKnown known def → IsArenaSound new → AllCallFit (maps_of known) lists_none old → AllCallFit (maps_of known) lists_none new
 answer_fits known old new def ty (Ok id) a calls sound fit = λ n r is. elim (node_or_other id n) [
-  | inl e ↦ subst (λ (x : Row). CallsFit new.given known lists_none x.def)
+  | inl e ↦ subst (λ (x : Row). CallsFit new.given (maps_of known) lists_none x.def)
       (same_row (sym a.added.changed ∙ (ap (row_at new) e ∙ is)))
       (known_fits known new ty new.given def calls (sound.types id (record { def = def; ty = ty; scope = None }) a.added.changed))
-  | inr ne ↦ calls_fit_as known known (itself known) old.given new.given r.def (fit n r (sym (a.added.others n (λ k. ne (sym k))) ∙ is))
+  | inr ne ↦ calls_fit_as (maps_of known) (maps_of known) (itself (maps_of known)) old.given new.given r.def (fit n r (sym (a.added.others n (λ k. ne (sym k))) ∙ is))
 ]
-answer_fits known old new def ty (Err e) a calls sound fit = subst (λ (x : Arena). AllCallFit known lists_none x) (sym a.err) fit
+answer_fits known old new def ty (Err e) a calls sound fit = subst (λ (x : Arena). AllCallFit (maps_of known) lists_none x) (sym a.err) fit
 
 -- ---- a variable is set, or not
 
@@ -125,12 +107,12 @@ on_err old new (Ok v) h = h
 on_err old new (Err e) h = ap (λ (x : Parts). x.arena) h
 
 pub set_fits : (known : FnRef → Bool) (old new : Arena) (id : NodeId) (v : Value) (result : Result (Unit {0}) SetFault)
-    → OnOk result (IsSet old new id v) → OnErr result (new ≡ old) → AllCallFit known lists_none old → AllCallFit known lists_none new
-set_fits known old new id v (Err e) set same fit = subst (λ (x : Arena). AllCallFit known lists_none x) (sym same) fit
+    → OnOk result (IsSet old new id v) → OnErr result (new ≡ old) → AllCallFit (maps_of known) lists_none old → AllCallFit (maps_of known) lists_none new
+set_fits known old new id v (Err e) set same fit = subst (λ (x : Arena). AllCallFit (maps_of known) lists_none x) (sym same) fit
 set_fits known old new id v (Ok u) set same fit = λ n r is. elim (node_or_other id n) [
-  | inl e ↦ subst (λ (x : Row). CallsFit new.given known lists_none x.def)
+  | inl e ↦ subst (λ (x : Row). CallsFit new.given (maps_of known) lists_none x.def)
       (same_row (sym set.changes.changed ∙ (ap (row_at new) e ∙ is))) (value_within v)
-  | inr ne ↦ calls_fit_as known known (itself known) old.given new.given r.def (fit n r (sym (set.changes.others n (λ k. ne (sym k))) ∙ is))
+  | inr ne ↦ calls_fit_as (maps_of known) (maps_of known) (itself (maps_of known)) old.given new.given r.def (fit n r (sym (set.changes.others n (λ k. ne (sym k))) ∙ is))
 ]
 
 module _ (known : FnRef → Bool) (value : FnRef → List Value → Value) (old new : Parts) (observers : List Observer) (rooted : ℕ)
@@ -138,7 +120,7 @@ module _ (known : FnRef → Bool) (value : FnRef → List Value → Value) (old 
   -- all that a call between stabilizes leaves
   pub sound_still : refused ≡ None → (IsReady (functions_of value) old.arena old.work → IsReady (functions_of value) new.arena new.work)
       → ((p : Point) → root_times new.work.graph.roots p ≡ root_times old.work.graph.roots p)
-      → (AllCallFit known lists_none old.arena → AllCallFit known lists_none new.arena) → (old.arena.given ≤ new.arena.given)
+      → (AllCallFit (maps_of known) lists_none old.arena → AllCallFit (maps_of known) lists_none new.arena) → (old.arena.given ≤ new.arena.given)
       → ((n : NodeId) → Given old.arena.given n → at new.work.rows (main n) ≡ at old.work.rows (main n))
       → IsSound known value new observers rooted refused
   sound_still still ready roots fit given rows = record {

@@ -1,5 +1,5 @@
 -- Nodes that are taken back aren't needed.
-use Rattle.std.proofs.Common.{◌≡◌, ◌⊎◌, inl, inr, ℕ, zero, suc, ◌<◌, ◌≤◌, Bool, true, List, [], ◌∷◌, map, take, Option, None, Some, refl, sym, ap, subst, ◌∙◌, arith}
+use Rattle.std.proofs.Common.{◌≡◌, ◌⊎◌, inl, inr, ℕ, zero, suc, ◌<◌, ◌≤◌, Bool, List, map, take, Option, None, sym, ap, ◌∙◌, arith}
 use Rattle.std.proofs.lemmas.Option.{none-some}
 use Rattle.inc_value.specs.declared.function.FnRef.{FnRef}
 use Rattle.inc_value.specs.declared.value.Value.{Value}
@@ -11,11 +11,11 @@ use Rattle.necessary_graph.specs.Part.{NecessaryPart, Needed}
 use Rattle.necessity.specs.Need.{Roots, root_times}
 use Rattle.node_arena.specs.Graph.{AllCallFit}
 use Rattle.point_map.specs.Rows.{at}
-use Rattle.node_arena.specs.Arena.{Arena, row_at}
+use Rattle.node_arena.specs.Arena.{row_at}
 use Rattle.stabilize_round.specs.State.{count}
 use Rattle.stabilize_round.proofs.Points.{among_count}
 use Rattle.stabilizer.specs.Round.{IsReady, AreRooted}
-use Rattle.node_outcomes.specs.Meaning.{functions_of, lists_none}
+use Rattle.node_outcomes.specs.Meaning.{functions_of, lists_none, maps_of}
 use Rattle.stabilizer.specs.declared.parts.Parts.{Parts}
 use Rattle.stabilizer.specs.declared.refused.Refused.{Refused}
 use Rattle.stabilizer.specs.declared.work.Work.{Work}
@@ -24,7 +24,8 @@ use Rattle.graph.specs.Standing.{Standing, IsNeeded, in_use}
 use Rattle.graph.specs.Sound.{IsSound}
 use Rattle.graph.specs.declared.observer.Observer.{Observer}
 use Rattle.graph.proofs.Sound.{can_still}
-use Rattle.graph.proofs.Sounding.{calls_fit_as, itself}
+use Rattle.node_outcomes.proofs.Maps.{calls_fit_as}
+use Rattle.graph.proofs.Sounding.{itself}
 use Rattle.graph.proofs.Unobserving.{mains_among}
 use Rattle.stabilizer.proofs.Trying.{same_need}
 
@@ -51,9 +52,9 @@ module _ (known : FnRef → Bool) (value : FnRef → List Value → Value) (old 
     (refused : Option Refused) (sound : IsSound known value old observers rooted refused) (count : ℕ)
     (older : (n : NodeId) → n.gen_ < count → row_at new.arena n ≡ row_at old.arena n)
     (dropped : (n : NodeId) → count ≤ n.gen_ → row_at new.arena n ≡ None) where
-  fits_back : AllCallFit known lists_none old.arena → AllCallFit known lists_none new.arena
+  fits_back : AllCallFit (maps_of known) lists_none old.arena → AllCallFit (maps_of known) lists_none new.arena
   fits_back fit n r is = elim (at_or_past n.gen_ count) [
-    | inl h ↦ calls_fit_as known known (itself known) old.arena.given new.arena.given r.def (fit n r (sym (older n h) ∙ is))
+    | inl h ↦ calls_fit_as (maps_of known) (maps_of known) (itself (maps_of known)) old.arena.given new.arena.given r.def (fit n r (sym (older n h) ∙ is))
     | inr h ↦ absurd (none-some r (sym (dropped n h) ∙ is))
   ]
 

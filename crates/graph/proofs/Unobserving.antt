@@ -17,7 +17,7 @@ use Rattle.node_outcomes.specs.Row.{outcome_in}
 use Rattle.node_outcomes.specs.Computing.{seen_of}
 use Rattle.node_arena.specs.Arena.{Arena}
 use Rattle.node_arena.specs.Graph.{AllCallFit}
-use Rattle.node_outcomes.specs.Meaning.{functions_of, lists_none}
+use Rattle.node_outcomes.specs.Meaning.{functions_of, lists_none, maps_of}
 use Rattle.stabilizer.specs.Round.{IsReady, AreRooted}
 use Rattle.node_outcomes.specs.declared.row.Progress.{Progress}
 use Rattle.stabilizer.specs.declared.parts.Parts.{Parts}
@@ -113,7 +113,7 @@ module _ (known : FnRef → Bool) (value : FnRef → List Value → Value) (old 
         record {
           ready = ready can.ready;
           roots = subst (AreRooted new.work) (sym out.now) (roots out.front out.back (subst (AreRooted old.work) out.was can.roots));
-          fit = subst (λ (a : Arena). AllCallFit known lists_none a) (sym arena) can.fit;
+          fit = subst (λ (a : Arena). AllCallFit (maps_of known) lists_none a) (sym arena) can.fit;
           given = λ n among. subst (λ (a : Arena). Given a.given n) (sym arena)
               (can.given n (left_is_among node n (in_use observers) (in_use (slice_set observers place (ended node)))
               (left_out observers place node is) among));

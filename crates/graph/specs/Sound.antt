@@ -8,7 +8,7 @@ use Rattle.inc_terms.specs.Depend.{main}
 use Rattle.inc_terms.specs.Within.{Given}
 use Rattle.node_arena.specs.Graph.{AllCallFit}
 use Rattle.node_outcomes.specs.Computing.{seen}
-use Rattle.node_outcomes.specs.Meaning.{functions_of, lists_none}
+use Rattle.node_outcomes.specs.Meaning.{functions_of, lists_none, maps_of}
 use Rattle.stabilizer.specs.Kept.{IsKept}
 use Rattle.stabilizer.specs.Round.{IsReady, AreRooted}
 use Rattle.stabilizer.specs.declared.parts.Parts.{Parts}
@@ -17,12 +17,12 @@ use Rattle.graph.specs.Standing.{in_use}
 use Rattle.graph.specs.declared.observer.Observer.{Observer}
 
 -- an unbroken graph: a round may begin, by the values of its functions; need begins at the observers that were there at the last one; all functions
--- of its nodes are known; observers look at given nodes; and those that were there at the last round show an outcome
+-- of its nodes are known maps; observers look at given nodes; and those that were there at the last round show an outcome
 pub record CanStabilize (known : FnRef → Bool) (value : FnRef → List Value → Value) (parts : Parts) (observers : List Observer) (rooted : ℕ)
     : Type 0 where
   pub ready : IsReady (functions_of value) parts.arena parts.work
   pub roots : AreRooted parts.work (in_use (take rooted observers))
-  pub fit : AllCallFit known lists_none parts.arena
+  pub fit : AllCallFit (maps_of known) lists_none parts.arena
   pub given : (n : NodeId) → Among n (in_use observers) → Given parts.arena.given n
   pub shown : (n : NodeId) → Among n (in_use (take rooted observers)) → IsSome (seen parts.work.rows (main n))
 

@@ -22,8 +22,11 @@ use stabilizer::{Parts, Refused};
 use std::alloc::{AllocError, Global};
 use std::marker::Model;
 
-/// A graph of constants, variables and maps over the functions of `F`. What is observed is brought up to date by
-/// `stabilize` and shows until the next one.
+/// A graph of constants, variables, maps, folds, ifs and joins over the functions of `F`. What is observed is brought
+/// up to date by `stabilize` and shows until the next one.
+///
+/// A graph whose functions are kept in boxes is made and used by functions that are generic in `F`: its invariant speaks
+/// of `F`, and of a keeper of boxes such a type can't be named. An example is `held` of closure_tests.
 #[derive(Drop)]
 pub struct Graph<F: Functions> {
     alloc: Global,
@@ -55,12 +58,14 @@ impl<F: Functions> Model for Graph<F> {
     ghost use Rattle.graph.specs.Sound.{IsSound};
 
     ghost invariant = { λ g. (g.invalid ≡ Invalid)
-        × IsSound (F.known g.functions) (F.value g.functions) g.parts g.observers.items g.rooted g.refused };
+        × IsSound (F.known g.functions) (F.value g.functions) g.parts g.observers.items g.rooted g.refused
+        × F.is_sound g.functions };
 }
 
 impl<F: Functions> Graph<F> {
     /// A graph without nodes. It owns the functions, which come back where there is no memory.
     pub fn new(alloc: Global, functions: F) -> Result<Graph<F>, (AllocError, F)>
+        requires sound { F.is_sound functions }
         ensures functions { IfOk result (λ g. g.functions ≡ functions) }
         ensures nodes { IfOk result (λ g. (n : NodeId) → row_at g.parts.arena n ≡ None) }
         ensures cutoffs { IfOk result (λ g. (n : NodeId) → never_at g.parts.work n ≡ false) }
@@ -70,6 +75,7 @@ impl<F: Functions> Graph<F> {
         ensures rooted { IfOk result (λ g. g.rooted ≡ 0) }
         ensures unbroken { IfOk result (λ g. IsUnbroken g) }
         ensures handed_back { IfErr result (λ e. e.1 ≡ functions) }
+        ensures still_sound { IfErr result (λ e. F.is_sound e.1) }
     {
         match Parts::new(alloc) {
             Ok(parts) => Ok(Graph {
@@ -87,14 +93,16 @@ impl<F: Functions> Graph<F> {
 
     /// The functions.
     pub fn functions(&self) -> &F
-        ensures { result.now ≡ self.now.functions }
+        ensures functions { result.now ≡ self.now.functions }
+        ensures sound { F.is_sound result.now }
     {
         &self.functions
     }
 
     /// The functions, given back.
     pub fn into_functions(self) -> F
-        ensures { result ≡ self.functions }
+        ensures functions { result ≡ self.functions }
+        ensures sound { F.is_sound result }
     {
         let Graph {
             functions,
@@ -135,6 +143,7 @@ impl<F: Functions> Graph<F> {
         ensures sound { IsSound (F.known self.entry.now.functions) (F.value self.entry.now.functions) self.entry.now.parts
             self.entry.now.observers self.entry.now.rooted self.entry.now.refused }
         ensures arena { IsSoundArena self.entry.now.parts.arena }
+        ensures functions { F.is_sound self.entry.now.functions }
     {
         self.parts.arena().is_sound();
     }

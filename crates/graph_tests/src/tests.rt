@@ -1,8 +1,8 @@
 //! Acts on a graph as tables, with the number that each answers.
 
-use formula_elab::ScriptFns;
 use graph::{Cutoff, Graph, GraphFault, Kept, Refused, StabilizeFault};
 use inc_value::{Base, NodeId, ObsId, Outcome, Ty, Value};
+use script_functions::ScriptFns;
 use std::alloc::Global;
 use std_library::{Function, StdLib};
 
@@ -753,7 +753,7 @@ fn does_all(graph: &mut Scripted, nodes: &mut Vec<NodeId>, acts: &[(Act, i64)]) 
 /// Whether the acts, done to a new graph, answer what is wanted. The graph is let go in one place, since each place where
 /// it may be costs a proof.
 fn is_done(alloc: Global, acts: &[(Act, i64)]) -> bool {
-    match Graph::new(alloc, ScriptFns::new(StdLib::new())) {
+    match Graph::new(alloc, ScriptFns::new(alloc, StdLib::new())) {
         Ok(mut graph) => {
             let mut nodes = Vec::new(alloc);
             let well = does_all(&mut graph, &mut nodes, acts);

@@ -26,7 +26,7 @@ module _ (P P' : NodeId → Type 0) (Q Q' : FnKind → FnRef → Type 0) (p : (n
   steps_more (s ∷ ss) h = (value_more s.value h.0, steps_more ss h.1)
 
   mutual
-    term_more : (t : Term) → TermWithin P Q t → TermWithin P' Q' t
+    pub term_more : (t : Term) → TermWithin P Q t → TermWithin P' Q' t
     term_more (Const v) h = value_more v h
     term_more (Ref n) h = p n h
     term_more (Cap i) h = tt
@@ -39,7 +39,7 @@ module _ (P P' : NodeId → Type 0) (Q Q' : FnKind → FnRef → Type 0) (p : (n
     term_more (Steps v ss) h = (value_more v h.0, steps_more ss h.1)
     term_more Now h = tt
 
-    terms_more : (ts : Terms) → TermsWithin P Q ts → TermsWithin P' Q' ts
+    pub terms_more : (ts : Terms) → TermsWithin P Q ts → TermsWithin P' Q' ts
     terms_more End h = tt
     terms_more (More t ts) h = (term_more t h.0, terms_more ts h.1)
 

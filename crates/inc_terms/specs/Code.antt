@@ -1,7 +1,7 @@
 -- What the code's nodes are.
 use Rattle.inc_terms.specs.declared.def.Def as declared
 use Rattle.inc_terms.specs.declared.def.Def.TheVariants as code
-use Rattle.inc_terms.specs.Graph.{Def, Const, Var, Map, Fold, If, Join}
+use Rattle.inc_terms.specs.Graph.{Def, Const, Var, Map, Fold, If, Join, Bind}
 
 -- the definition that the code's one stands for
 abbrev pub def_of : declared.Def → Def
@@ -11,3 +11,4 @@ def_of (code.Map f kids) = Map f kids
 def_of (code.Fold f v kids) = Fold f v kids
 def_of (code.If t a b) = If t a b
 def_of (code.Join kid) = Join kid
+def_of (code.Bind left f captures) = Bind left f captures

@@ -63,6 +63,12 @@ pub enum Def {
     },
     /// The node that the node's value names.
     Join(NodeId),
+    /// The right side that the function builds of the node's value and the captured nodes.
+    Bind {
+        left: NodeId,
+        function: FnRef,
+        captures: Nodes,
+    },
 }
 
 impl Def {
@@ -75,25 +81,27 @@ impl Def {
         ensures { result.now ≡ kids (def_of self.now) }
     {
         match self {
-            Def::Const(_) | Def::Var(_) | Def::If { .. } | Def::Join(_) => &[],
+            Def::Const(_) | Def::Var(_) | Def::If { .. } | Def::Join(_) | Def::Bind { .. } => &[],
             Def::Map(_, kids) | Def::Fold(_, _, kids) => kids.as_slice(),
         }
     }
 
-    /// The test or child of a node of two points, which its change reads. A node of one point has none.
+    /// The left, test or child of a node of two points, which its change reads. A node of one point has none.
     pub fn subject(&self) -> Option<NodeId>
         ensures { result ≡ subject_of (def_of self.now) }
     {
         match self {
             Def::If { test, .. } => Some(*test),
             Def::Join(kid) => Some(*kid),
+            Def::Bind { left, .. } => Some(*left),
             Def::Const(_) | Def::Var(_) | Def::Map(_, _) | Def::Fold(_, _, _) => None,
         }
     }
 
-    /// The right side that the subject's outcome chooses, if it chooses one.
+    /// The right side that the subject's outcome chooses, if it chooses one. A bind's is what was built for it, and
+    /// so none where it isn't built.
     pub fn right_side(&self, given: &Outcome) -> Option<NodeId>
-        ensures { (G : Graph) (n : NodeId) → result ≡ right_of G n (def_of self.now) given.now }
+        ensures { (G : Graph) (n : NodeId) → G.built n ≡ None → result ≡ right_of G n (def_of self.now) given.now }
     {
         match (self, given) {
             (Def::If { yes, .. }, Outcome::Val(Value::Bool(true))) => Some(*yes),

@@ -48,7 +48,7 @@ keeping a sound known ids fit = record {
 -- ---- functions that fit still do
 
 module _ (Q Q' : FnKind → FnRef → Type 0) (q : (k : FnKind) (f : FnRef) → Q k f → Q' k f) where
-  calls_more : (def : Def) → DefWithin (λ n. Unit {0}) Q def → DefWithin (λ n. Unit {0}) Q' def
+  pub calls_more : (def : Def) → DefWithin (λ n. Unit {0}) Q def → DefWithin (λ n. Unit {0}) Q' def
   calls_more (graph.Const v) h = h
   calls_more (graph.Var v) h = h
   calls_more (graph.Map f ns) h = (q _ f h.0, h.1)
@@ -67,7 +67,7 @@ fit_more : (count count' : ℕ) (known known' : FnRef → Bool) (ids : FnRef →
     → (k : FnKind) (f : FnRef) → Fit count known ids k f → Fit count' known' ids k f
 fit_more count count' known known' ids le keeps k f h = ((keeps f h.0.0, h.0.1), λ n among. let g = h.1 n among in omega (arith, g, le))
 
-id_or_other : (n m : NodeId) → (n ≡ m) ⊎ (n ≢ m)
+pub id_or_other : (n m : NodeId) → (n ≡ m) ⊎ (n ≢ m)
 id_or_other n m = elim (same_or_not n.slot m.slot) [
   | inl slot ↦ elim (same_or_not n.gen_ m.gen_) [
     | inl gen ↦ inl (same_id n m.slot m.gen_ slot gen)

@@ -4,3 +4,5 @@ mod Order
 mod Rows
 mod Sound
 mod Setting
+pub mod Growing
+pub mod RightSides

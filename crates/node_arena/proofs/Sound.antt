@@ -16,7 +16,7 @@ use Rattle.inc_terms.specs.Within.{Given}
 use Rattle.inc_terms.specs.Within.{ValueWithin}
 use Rattle.node_arena.specs.Arena.{Arena, row_at, IsLive, live, NamesGiven, with_value}
 use Rattle.node_arena.specs.Sound.{IsSound, IsOrder, IsKept}
-use Rattle.node_arena.specs.Typing.{Fits, FitsNode, FoldTakes, ReferenceFits, HasType, Makes, ty_of}
+use Rattle.node_arena.specs.Typing.{Fits, FitsNode, BindTakes, FoldTakes, ReferenceFits, HasType, Makes, ty_of}
 
 -- ---- what was given stays given
 
@@ -81,6 +81,11 @@ module _ (a a' : Arena) (fits : (n : NodeId) (t : Ty) → Given a.given n → Fi
   fold_takes_still t ns (first ∷ []) given h = absurd h
   fold_takes_still t ns (first ∷ element ∷ more ∷ tys) given h = absurd h
 
+  bind_takes_still : (left : NodeId) (ns : List NodeId) (tys : List Ty) → Given a.given left → Every (Given a.given) ns
+      → BindTakes a left ns tys → BindTakes a' left ns tys
+  bind_takes_still left ns [] is given h = absurd h
+  bind_takes_still left ns (t ∷ tys) is given h = (fits left t is h.0, all_fit ns tys given h.1)
+
   pub makes_still : (def : Def) (t : Ty) → NamesGiven a.given def → Makes a def t → Makes a' def t
   makes_still (graph.Const v) t given h = has_type_still v t given h
   makes_still (graph.Var v) t given h = has_type_still v t given h
@@ -94,6 +99,11 @@ module _ (a a' : Arena) (fits : (n : NodeId) (t : Ty) → Given a.given n → Fi
   makes_still (graph.If test left right) t given h =
       (fits test ty.Bool given.0 h.0, fits left t given.1 h.1, fits right t given.2 h.2)
   makes_still (graph.Join kid) t given h = (h.0, h.1, fits kid (ty.Node h.0) given h.2)
+  makes_still (graph.Bind left f captures) t given h = record {
+    kind = h.kind;
+    takes = bind_takes_still left captures f.sig.takes given.1 given.2 h.takes;
+    gives = h.gives;
+  }
   makes_still _ t given h = absurd h
 
 module _ (a a' : Arena) (later : (n : NodeId) → Given a.given n → (row_at a' n ≡ row_at a n) ⊎ (row_at a' n ≡ None)) where

@@ -1,5 +1,9 @@
 pub mod Arena
+pub mod Building
 pub mod Graph
+pub mod Listing
 pub mod Meanings
+pub mod RightSide
+pub mod RightSideLaws
 pub mod Sound
 pub mod Typing

@@ -1,6 +1,6 @@
 -- What every keeper of functions promises of the maps that it knows, and of what a call leaves alone.
 use Rattle.std.specs.Prelude.{◌≡◌, ℕ, Bool, List, Option, All, IsTrue}
-use Rattle.inc_value.specs.Sig.{IsMapSig}
+use Rattle.inc_value.specs.Sig.{Signature, IsMapSig}
 use Rattle.inc_value.specs.Ty.{IsBase}
 use Rattle.inc_value.specs.Value.{type_of, HaveTypes, IsProper}
 use Rattle.inc_value.specs.declared.function.FnRef.{FnRef}
@@ -44,3 +44,10 @@ abbrev pub MapsNameNoNode : Type 0
 MapsNameNoNode =
     (known : FnRef → Bool) (value : FnRef → List Value → Value) → GiveNoReference known value
     → (f : FnRef) (args : List Value) → KnownAs known Map f → ValueWithin (λ (n : NodeId). ⊥) (value f args)
+
+-- what a map promises by itself: of proper values of the types that it takes it gives a proper value of the type that it
+-- says, and whatever its arguments no reference to a node
+pub record IsLawfulMap (sig : Signature) (value : List Value → Value) : Type 0 where
+  pub types : (args : List Value) → All IsProper args → HaveTypes args sig.takes → type_of (value args) ≡ sig.gives
+  pub proper : (args : List Value) → All IsProper args → HaveTypes args sig.takes → IsProper (value args)
+  pub no_reference : (args : List Value) → IsBase (type_of (value args))

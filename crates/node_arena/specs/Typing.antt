@@ -12,7 +12,7 @@ use Rattle.inc_value.specs.declared.ty.Ty.{Ty}
 use Rattle.inc_value.specs.declared.ty.Ty.TheVariants as ty
 use Rattle.inc_value.specs.declared.value.Value.{Value}
 use Rattle.inc_value.specs.declared.value.Value.TheVariants.{Node}
-use Rattle.inc_terms.specs.Graph.{Row, Def, Const, Var, Map, Fold, If, Join}
+use Rattle.inc_terms.specs.Graph.{Row, Def, Const, Var, Map, Fold, If, Join, Bind}
 use Rattle.node_arena.specs.Arena.{Arena, row_at, live, NamesGiven}
 
 -- the type that a base type is
@@ -72,6 +72,17 @@ IfMakes a test left right t = Fits a test ty.Bool × Fits a left t × Fits a rig
 abbrev pub JoinMakes : Arena → NodeId → Ty → Type 0
 JoinMakes a kid t = (b : Base) × (base_of t ≡ Some b) × Fits a kid (ty.Node b)
 
+-- of the types that the function takes, the first is the left's and the rest are the captures'
+abbrev pub BindTakes : Arena → NodeId → List NodeId → List Ty → Type 0
+BindTakes a left captures [] = ⊥
+BindTakes a left captures (first ∷ rest) = Fits a left first × AllZip (Fits a) captures rest
+
+-- a bind whose left and captures are of the types that the function takes, and whose function gives the type
+pub record BindMakes (a : Arena) (left : NodeId) (f : FnRef) (captures : List NodeId) (t : Ty) : Type 0 where
+  pub kind : f.id.kind ≡ kind.Rhs
+  pub takes : BindTakes a left captures f.sig.takes
+  pub gives : f.sig.gives ≡ t
+
 -- what the types of live children, of values and of the function make of the definition
 abbrev pub Makes : Arena → Def → Ty → Type 0
 Makes a (Const v) t = HasType a v t
@@ -80,6 +91,7 @@ Makes a (Map f kids) t = MapMakes a f kids t
 Makes a (Fold f v kids) t = FoldMakes a f v kids t
 Makes a (If test left right) t = IfMakes a test left right t
 Makes a (Join kid) t = JoinMakes a kid t
+Makes a (Bind left f captures) t = BindMakes a left f captures t
 Makes a def t = ⊥
 
 -- a node of this definition and type can be added, where there is memory

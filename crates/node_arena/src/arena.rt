@@ -149,6 +149,7 @@ impl Arena {
     /// of the faults; a refused call leaves the arena as it was.
     pub fn add(&mut self, def: Def, ty: Ty, scope: Option<NodeId>) -> Result<NodeId, AddFault>
         requires scope { IfSome scope (Given self.old.given) }
+        ensures addable { OnOk result (IsAddable self.old (def_of def) ty) }
         ensures id { IfOk result (λ id. id.gen_ ≡ self.old.given) }
         ensures slot { IfOk result (λ id. id.slot < 1048576) }
         ensures fresh { IfOk result (λ id. row_at self.old id ≡ None) }

@@ -61,6 +61,9 @@ pub trait Library: Drop {
     ghost names_maps: { (l : Self) (name : List ℕ) (f : FnRef) → named l name ≡ Some f
         → IsTrue (known l f) × (f.id.kind ≡ Map) × IsMapSig f.sig };
 
+    // the library knows no function but maps
+    ghost maps_alone: { (l : Self) (f : FnRef) → IsTrue (known l f) → f.id.kind ≡ Map };
+
     // a map of the library has the types of a map
     ghost known_maps: { (l : Self) → HaveMapSigs (known l) };
 

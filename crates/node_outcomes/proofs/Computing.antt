@@ -30,6 +30,7 @@ use Rattle.node_arena.specs.Arena.{Arena, row_at, NamesGiven}
 use Rattle.node_arena.specs.Graph.{graph_of, AllCallFit, CallsFit}
 use Rattle.node_arena.specs.Meanings.{HaveMapSigs}
 use Rattle.node_arena.specs.Sound.{IsSound}
+use Rattle.node_arena.specs.declared.functions.Functions.{Ghosts}
 use Rattle.node_arena.specs.Typing.{Fits, Makes, MapMakes, FoldMakes, FoldTakes}
 use Rattle.inc_terms.specs.Work.{taken_by}
 use Rattle.stabilize_round.specs.Calling.{IsAnswer, cost_at, row_cost, or_none}
@@ -39,22 +40,37 @@ use Rattle.stabilize_round.specs.State.{Call}
 use Rattle.node_outcomes.specs.Computing.{seen, seen_of, seen_together, value_shown, ShowsValue, IsForcedBy, CallsSeen, Noted, KeepsTypes, KeepsFunctions, IsOfType, LooksAtSeen, has_part}
 use Rattle.node_outcomes.specs.Computing.{IsCalled, Calls, IsKnown, AllShow, LastWas, FoldFits, KeepsAllButCount, ComputesCall, CallComputes, Computes, NotComputed, Ends}
 use Rattle.node_outcomes.specs.Choosing.{no_graph, right_in}
-use Rattle.node_outcomes.specs.Meaning.{functions_of, lists_none}
+use Rattle.node_outcomes.specs.Meaning.{functions_of, lists_none, maps_of}
 use Rattle.node_outcomes.specs.Row.{IsRewritten, with_last, value_of, value_in, outcome_in}
 use Rattle.node_outcomes.specs.declared.row.Progress.{Progress}
+use Rattle.node_outcomes.proofs.Maps.{maps_have_sigs}
 use Rattle.node_outcomes.proofs.Pairs.{IsPair, ShowsRight, gives_own_right, right_shows}
 
 some_is : {A : Type 0} (x : Option A) → IsSome x → (a : A) × (x ≡ Some a)
 some_is None h = cc
 some_is (Some a) h = (a, refl)
 
+-- where nothing is called all is kept
+pub nothing_called : {F More : Type 0} (keeper : Ghosts F More) (functions : F) → keeper.is_sound functions → KeepsFunctions keeper functions functions
+nothing_called keeper functions sound = record {
+  sound = sound;
+  names = λ name. refl;
+  known = λ f h. h;
+  values = λ f xs. refl;
+  sides = λ f. refl;
+  tally = refl;
+}
+
 -- what was kept of functions, and is kept on, is kept
-pub functions_on : {a b c : List ℕ → Option FnRef} {d e f : FnRef → Bool} {u v w : FnRef → List Value → Value}
-    → KeepsFunctions a b d e u v → KeepsFunctions b c e f v w → KeepsFunctions a c d f u w
-functions_on h k = record {
+pub functions_on : {F More : Type 0} (keeper : Ghosts F More) (first mid last : F)
+    → KeepsFunctions keeper first mid → KeepsFunctions keeper mid last → KeepsFunctions keeper first last
+functions_on keeper first mid last h k = record {
+  sound = k.sound;
   names = λ name. k.names name ∙ h.names name;
   known = λ f t. k.known f (h.known f t);
   values = λ f xs. k.values f xs ∙ h.values f xs;
+  sides = λ f. k.sides f ∙ h.sides f;
+  tally = k.tally ∙ h.tally;
 }
 
 -- ---- what is seen, and which value is shown
@@ -474,12 +490,12 @@ module _ (value : FnRef → List Value → Value) (arena : Arena) (round : ℕ) 
         pair.gives_right (functions_of value) (graph_of arena) (seen old.rows) n
         ∙ ap (λ (x : Option Outcome). with_value x (λ (v : Value). see_right (seen old.rows) (right_of (graph_of arena) n (def_of d) (Val v))))
         (ap seen_of is_changed)
-        ∙ gives_own_right old.rows (graph_of arena) n d o changed.outcome (subst IsSome changes_outcome (looks.choice pair.subject))
+        ∙ gives_own_right old.rows (graph_of arena) n refl d o changed.outcome (subst IsSome changes_outcome (looks.choice pair.subject))
         (λ m c e right. looks.right m c (changes_outcome ∙ e) right) (chooses o shows)
 
     right_typed : (v : Value) → ShowsRight old.rows (right_in old.rows n (def_of d)) (Val v) → IsOfType arena v row.ty
     right_typed v shows =
-        let right = right_shows old.rows (graph_of arena) n d v changed.outcome (chooses (Val v) shows) in
+        let right = right_shows old.rows (graph_of arena) n refl d v changed.outcome (chooses (Val v) shows) in
         let its = kept.rights n right.node row changed right.given is_row is_changed right.is_given
         (ap (λ (x : Def). right_of (graph_of arena) n x right.given) is_def ∙ right.is_right) in
         shown_of_type arena old.rows kept right.node row.ty v its.1 (seen_is_shown (at old.rows (main right.node)) v right.shows)
@@ -509,10 +525,11 @@ module _ (value : FnRef → List Value → Value) (arena : Arena) (round : ℕ) 
     map_gives = map_makes.gives
 
     -- a known map gives a base type
-    pub map_base : (known : FnRef → Bool) → HaveMapSigs known → AllCallFit known lists_none arena → IsBase f.sig.gives
+    pub map_base : (known : FnRef → Bool) → HaveMapSigs known → AllCallFit (maps_of known) lists_none arena → IsBase f.sig.gives
     map_base known sigs fit =
-        let calls : CallsFit arena.given known lists_none (Map f nodes) = subst (CallsFit arena.given known lists_none) is_map (fit n row is_row) in
-        (sigs f calls.0.0.0 calls.0.0.1).2
+        let calls : CallsFit arena.given (maps_of known) lists_none (Map f nodes) =
+        subst (CallsFit arena.given (maps_of known) lists_none) is_map (fit n row is_row) in
+        (maps_have_sigs known sigs f calls.0.0.0 calls.0.0.1).2
 
   module _ (f : FnRef) (from : Value) (nodes : List NodeId) (is_fold : row.def ≡ Fold f from nodes) where
     fold_makes : FoldMakes arena f from nodes row.ty
@@ -527,11 +544,11 @@ module _ (value : FnRef → List Value → Value) (arena : Arena) (round : ℕ) 
     fold_gives = fold_makes.gives
 
     -- a known function that is folded gives a base type
-    pub fold_base : (known : FnRef → Bool) → HaveMapSigs known → AllCallFit known lists_none arena → IsBase f.sig.gives
+    pub fold_base : (known : FnRef → Bool) → HaveMapSigs known → AllCallFit (maps_of known) lists_none arena → IsBase f.sig.gives
     fold_base known sigs fit =
-        let calls : CallsFit arena.given known lists_none (Fold f from nodes) =
-        subst (CallsFit arena.given known lists_none) is_fold (fit n row is_row) in
-        (sigs f calls.0.0.0 calls.0.0.1).2
+        let calls : CallsFit arena.given (maps_of known) lists_none (Fold f from nodes) =
+        subst (CallsFit arena.given (maps_of known) lists_none) is_fold (fit n row is_row) in
+        (maps_have_sigs known sigs f calls.0.0.0 calls.0.0.1).2
 
   abbrev G : Graph
   G = graph_of arena

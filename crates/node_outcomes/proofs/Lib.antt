@@ -1,3 +1,4 @@
+pub mod Maps
 pub mod Folding
 pub mod Rewriting
 pub mod Pairs

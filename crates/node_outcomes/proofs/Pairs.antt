@@ -11,9 +11,9 @@ use Rattle.inc_value.specs.declared.value.Value.TheVariants as value
 use Rattle.inc_terms.specs.declared.def.Def as declared
 use Rattle.inc_terms.specs.declared.def.Def.TheVariants as form
 use Rattle.inc_terms.specs.Code.{def_of}
-use Rattle.inc_terms.specs.Depend.{main, subject_of, right_of}
+use Rattle.inc_terms.specs.Depend.{main, subject_of, right_of, root_for}
 use Rattle.inc_terms.specs.Evaluate.{with_value}
-use Rattle.inc_terms.specs.Graph.{Graph, Def, If, Join}
+use Rattle.inc_terms.specs.Graph.{Graph, Built, Def, If, Join}
 use Rattle.inc_terms.specs.Local.{own, own_right, see_right}
 use Rattle.inc_terms.specs.Term.{Functions}
 use Rattle.inc_terms.specs.Work.{taken_by}
@@ -22,32 +22,35 @@ use Rattle.node_outcomes.specs.Choosing.{no_graph}
 use Rattle.node_outcomes.specs.Computing.{seen}
 use Rattle.node_outcomes.specs.declared.row.Progress.{Progress}
 
--- no form of today asks the graph for its right side
-pub right_any : (G : Graph) (n : NodeId) (d : declared.Def) (o : Outcome) → right_of G n (def_of d) o ≡ right_of no_graph n (def_of d) o
-right_any G n (form.Const v) o = refl
-right_any G n (form.Var v) o = refl
-right_any G n (form.Map f ks) o = refl
-right_any G n (form.Fold f v ks) o = refl
-right_any G n (form.If t a b) Invalid = refl
-right_any G n (form.If t a b) (Val (value.Bool true)) = refl
-right_any G n (form.If t a b) (Val (value.Bool false)) = refl
-right_any G n (form.If t a b) (Val (value.Int z)) = refl
-right_any G n (form.If t a b) (Val (value.Text x)) = refl
-right_any G n (form.If t a b) (Val (value.Node m base)) = refl
-right_any G n (form.Join k) Invalid = refl
-right_any G n (form.Join k) (Val (value.Bool b)) = refl
-right_any G n (form.Join k) (Val (value.Int z)) = refl
-right_any G n (form.Join k) (Val (value.Text x)) = refl
-right_any G n (form.Join k) (Val (value.Node m base)) = refl
+-- where a bind isn't built no form asks the graph for its right side
+pub right_any : (G : Graph) (n : NodeId) → G.built n ≡ None → (d : declared.Def) (o : Outcome)
+    → right_of G n (def_of d) o ≡ right_of no_graph n (def_of d) o
+right_any G n built (form.Const v) o = refl
+right_any G n built (form.Var v) o = refl
+right_any G n built (form.Map f ks) o = refl
+right_any G n built (form.Fold f v ks) o = refl
+right_any G n built (form.If t a b) Invalid = refl
+right_any G n built (form.If t a b) (Val (value.Bool true)) = refl
+right_any G n built (form.If t a b) (Val (value.Bool false)) = refl
+right_any G n built (form.If t a b) (Val (value.Int z)) = refl
+right_any G n built (form.If t a b) (Val (value.Text x)) = refl
+right_any G n built (form.If t a b) (Val (value.Node m base)) = refl
+right_any G n built (form.Join k) Invalid = refl
+right_any G n built (form.Join k) (Val (value.Bool b)) = refl
+right_any G n built (form.Join k) (Val (value.Int z)) = refl
+right_any G n built (form.Join k) (Val (value.Text x)) = refl
+right_any G n built (form.Join k) (Val (value.Node m base)) = refl
+right_any G n built (form.Bind l f caps) o = ap (λ (w : Option Built). root_for w o) built
 
--- an outcome of the subject that is Invalid chooses nothing
-pub right_of_invalid : (G : Graph) (n : NodeId) (d : declared.Def) → right_of G n (def_of d) Invalid ≡ None
-right_of_invalid G n (form.Const v) = refl
-right_of_invalid G n (form.Var v) = refl
-right_of_invalid G n (form.Map f ks) = refl
-right_of_invalid G n (form.Fold f v ks) = refl
-right_of_invalid G n (form.If t a b) = refl
-right_of_invalid G n (form.Join k) = refl
+-- there an outcome of the subject that is Invalid chooses nothing
+invalid_chooses_none : (n : NodeId) (d : declared.Def) → right_of no_graph n (def_of d) Invalid ≡ None
+invalid_chooses_none n (form.Const v) = refl
+invalid_chooses_none n (form.Var v) = refl
+invalid_chooses_none n (form.Map f ks) = refl
+invalid_chooses_none n (form.Fold f v ks) = refl
+invalid_chooses_none n (form.If t a b) = refl
+invalid_chooses_none n (form.Join k) = refl
+invalid_chooses_none n (form.Bind l f caps) = refl
 
 -- a node of two points gives what its right side shows, and no function of it is called
 pub record IsPair (def : Def) : Type 0 where
@@ -80,17 +83,18 @@ sees_right rows (Some m) o is_seen (inl e) = e
 sees_right rows (Some m) o is_seen (inr h) = absurd (let some = is_seen m refl in let none = ap is_some h.0 in cc)
 
 -- so it is the own function's outcome
-pub gives_own_right : (rows : Rows Progress) (G : Graph) (n : NodeId) (d : declared.Def) (o : Outcome) (choice : Option Outcome) → IsSome choice
+pub gives_own_right : (rows : Rows Progress) (G : Graph) (n : NodeId) → G.built n ≡ None → (d : declared.Def) (o : Outcome) (choice : Option Outcome)
+    → IsSome choice
     → ((m : NodeId) (c : Outcome) → choice ≡ Some c → right_of G n (def_of d) c ≡ Some m → IsSome (seen rows (main m)))
     → ShowsRight rows (and_then choice (λ (c : Outcome). right_of no_graph n (def_of d) c)) o
     → with_value choice (λ (v : Value). see_right (seen rows) (right_of G n (def_of d) (Val v))) ≡ Some o
-gives_own_right rows G n d o None some is_seen shows = cc
-gives_own_right rows G n d o (Some Invalid) some is_seen shows =
-    let none : o ≡ Invalid = subst (λ (x : Option NodeId). ShowsRight rows x o) (right_of_invalid no_graph n d) shows in
+gives_own_right rows G n built d o None some is_seen shows = cc
+gives_own_right rows G n built d o (Some Invalid) some is_seen shows =
+    let none : o ≡ Invalid = subst (λ (x : Option NodeId). ShowsRight rows x o) (invalid_chooses_none n d) shows in
     ap Some (sym none)
-gives_own_right rows G n d o (Some (Val v)) some is_seen shows =
+gives_own_right rows G n built d o (Some (Val v)) some is_seen shows =
     sees_right rows (right_of G n (def_of d) (Val v)) o (λ m e. is_seen m (Val v) refl e)
-    (subst (λ (x : Option NodeId). ShowsRight rows x o) (sym (right_any G n d (Val v))) shows)
+    (subst (λ (x : Option NodeId). ShowsRight rows x o) (sym (right_any G n built d (Val v))) shows)
 
 -- a value that a right side shows
 pub record RightShows (rows : Rows Progress) (choice : Option Outcome) (G : Graph) (n : NodeId) (def : Def) (v : Value) : Type 0 where
@@ -107,9 +111,9 @@ value_of_right rows None v shows = cc
 value_of_right rows (Some m) v (inl e) = (m, refl, e)
 value_of_right rows (Some m) v (inr h) = absurd (let e = h.1 in cc)
 
-pub right_shows : (rows : Rows Progress) (G : Graph) (n : NodeId) (d : declared.Def) (v : Value) (choice : Option Outcome)
+pub right_shows : (rows : Rows Progress) (G : Graph) (n : NodeId) → G.built n ≡ None → (d : declared.Def) (v : Value) (choice : Option Outcome)
     → ShowsRight rows (and_then choice (λ (c : Outcome). right_of no_graph n (def_of d) c)) (Val v) → RightShows rows choice G n (def_of d) v
-right_shows rows G n d v None shows = cc
-right_shows rows G n d v (Some c) shows =
+right_shows rows G n built d v None shows = cc
+right_shows rows G n built d v (Some c) shows =
     let m = value_of_right rows (right_of no_graph n (def_of d) c) v shows in
-    record { given = c; node = m.0; is_given = refl; is_right = right_any G n d c ∙ m.1; shows = m.2 }
+    record { given = c; node = m.0; is_given = refl; is_right = right_any G n built d c ∙ m.1; shows = m.2 }

@@ -65,7 +65,7 @@ module _ (arena : Arena) (rows : Rows Progress) (kept : KeepsTypes arena rows) w
   fits_so n s m t (graph.Join kid) (Val (value.Bool z)) names makes is shows e = cc
   fits_so n s m t (graph.Join kid) (Val (value.Text x)) names makes is shows e = cc
   fits_so n s m t (graph.Join kid) Invalid names makes is shows e = cc
-  fits_so n s m t (graph.Bind l f caps) o names makes is shows e = absurd makes
+  fits_so n s m t (graph.Bind l f caps) o names makes is shows e = cc
   fits_so n s m t def o names makes is shows e = cc
 
   -- what a node's subject shows chooses a right side that was given and fits the node

@@ -12,6 +12,6 @@ use Rattle.node_outcomes.specs.declared.row.Progress.{Progress}
 abbrev pub no_graph : Graph
 no_graph = record { row = λ n. None; built = λ n. None; now = pos 0; frozen = λ n. None; lists = λ n. [] }
 
--- the right side of a node that its change's outcome chose; no form of today asks the graph for it
+-- the right side of a node that its change's outcome chose, where no bind is built: then no form asks the graph for it
 abbrev pub right_in : Rows Progress → NodeId → Def → Option NodeId
 right_in rows n def = and_then (outcome_in (at rows (change n))) (λ o. right_of no_graph n def o)

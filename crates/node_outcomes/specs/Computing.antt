@@ -22,6 +22,8 @@ use Rattle.node_arena.specs.Arena.{Arena, row_at}
 use Rattle.node_arena.specs.Graph.{graph_of}
 use Rattle.node_arena.specs.Typing.{Fits, HasType}
 use Rattle.node_arena.specs.Meanings.{SameNames, KeepsKnown, SameValues}
+use Rattle.node_arena.specs.RightSide.{SameSides}
+use Rattle.node_arena.specs.declared.functions.Functions.{Ghosts}
 use Rattle.inc_terms.specs.Work.{taken_by}
 use Rattle.stabilize_round.specs.Calling.{IsAnswer, cost_at}
 use Rattle.stabilize_round.specs.Counts.{RoseBy, RoseAtMost}
@@ -170,11 +172,15 @@ abbrev pub Ends : (FnRef → List Value → Value) → Arena → ℕ → Noted �
 Ends value arena round old new n (Ok o) = Computes value arena round old new n o
 Ends value arena round old new n (Err e) = NotComputed arena old new n
 
--- names stand for the functions that they stood for, known functions stay known, and give what they gave
-pub record KeepsFunctions (named named' : List ℕ → Option FnRef) (knows knows' : FnRef → Bool) (value value' : FnRef → List Value → Value) : Type 0 where
-  pub names : SameNames named named'
-  pub known : KeepsKnown knows knows'
-  pub values : SameValues value value'
+-- the keeper is still sound. Names stand for the functions that they stood for, known functions stay known, maps give what they gave, and right sides
+-- are made as they were. Nothing more was built or taken
+pub record KeepsFunctions {F More : Type 0} (keeper : Ghosts F More) (old new : F) : Type 0 where
+  pub sound : keeper.is_sound new
+  pub names : SameNames (keeper.named old) (keeper.named new)
+  pub known : KeepsKnown (keeper.known old) (keeper.known new)
+  pub values : SameValues (keeper.value old) (keeper.value new)
+  pub sides : SameSides (keeper.right old) (keeper.right new)
+  pub tally : keeper.tally new ≡ keeper.tally old
 
 -- ---- the parts of it
 

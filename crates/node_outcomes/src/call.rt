@@ -27,6 +27,7 @@ pub(crate) fn call_map<F: Functions>(
     kids: &[NodeId],
 ) -> Result<Outcome, AllocError>
     requires there { Holds rows.old (main node) }
+    requires sound { F.is_sound functions.old }
     requires known { IsTrue (F.known functions.old f.now) }
     requires kind { f.now.id.kind ≡ FnKind.Map }
     requires shown { AllShow rows.old kids.now }
@@ -34,8 +35,7 @@ pub(crate) fn call_map<F: Functions>(
     ensures called { Calls (F.value functions.old f.now) f.now.sig.gives
         (noted rows.old ran.old.items (F.calls functions.old)) (noted rows.new ran.new.items (F.calls functions.new))
         node (filter_map (value_shown rows.old) kids.now) 1 result }
-    ensures functions { KeepsFunctions (F.named functions.old) (F.named functions.new)
-        (F.known functions.old) (F.known functions.new) (F.value functions.old) (F.value functions.new) }
+    ensures functions { KeepsFunctions F.Functions functions.old functions.new }
 {
     match kids {
         [kid] => call_on_one(alloc, rows, ran, functions, node, f, *kid),
@@ -55,6 +55,7 @@ fn call_on_one<F: Functions>(
     kid: NodeId,
 ) -> Result<Outcome, AllocError>
     requires there { Holds rows.old (main node) }
+    requires sound { F.is_sound functions.old }
     requires known { IsTrue (F.known functions.old f.now) }
     requires kind { f.now.id.kind ≡ FnKind.Map }
     requires shown { AllShow rows.old (kid ∷ []) }
@@ -62,8 +63,7 @@ fn call_on_one<F: Functions>(
     ensures called { Calls (F.value functions.old f.now) f.now.sig.gives
         (noted rows.old ran.old.items (F.calls functions.old)) (noted rows.new ran.new.items (F.calls functions.new))
         node (filter_map (value_shown rows.old) (kid ∷ [])) 1 result }
-    ensures functions { KeepsFunctions (F.named functions.old) (F.named functions.new)
-        (F.known functions.old) (F.known functions.new) (F.value functions.old) (F.value functions.new) }
+    ensures functions { KeepsFunctions F.Functions functions.old functions.new }
 {
     let arguments = match value_of(alloc, rows, kid) {
         Ok(value) => [value],
@@ -86,6 +86,7 @@ fn call_on_two<F: Functions>(
     second: NodeId,
 ) -> Result<Outcome, AllocError>
     requires there { Holds rows.old (main node) }
+    requires sound { F.is_sound functions.old }
     requires known { IsTrue (F.known functions.old f.now) }
     requires kind { f.now.id.kind ≡ FnKind.Map }
     requires shown { AllShow rows.old (first ∷ second ∷ []) }
@@ -93,8 +94,7 @@ fn call_on_two<F: Functions>(
     ensures called { Calls (F.value functions.old f.now) f.now.sig.gives
         (noted rows.old ran.old.items (F.calls functions.old)) (noted rows.new ran.new.items (F.calls functions.new))
         node (filter_map (value_shown rows.old) (first ∷ second ∷ [])) 1 result }
-    ensures functions { KeepsFunctions (F.named functions.old) (F.named functions.new)
-        (F.known functions.old) (F.known functions.new) (F.value functions.old) (F.value functions.new) }
+    ensures functions { KeepsFunctions F.Functions functions.old functions.new }
 {
     let one = match value_of(alloc, rows, first) {
         Ok(value) => value,
@@ -123,14 +123,14 @@ fn call_on_all<F: Functions>(
     kids: &[NodeId],
 ) -> Result<Outcome, AllocError>
     requires there { Holds rows.old (main node) }
+    requires sound { F.is_sound functions.old }
     requires known { IsTrue (F.known functions.old f.now) }
     requires kind { f.now.id.kind ≡ FnKind.Map }
     requires fit { HaveTypes (filter_map (value_shown rows.old) kids.now) f.now.sig.takes }
     ensures called { Calls (F.value functions.old f.now) f.now.sig.gives
         (noted rows.old ran.old.items (F.calls functions.old)) (noted rows.new ran.new.items (F.calls functions.new))
         node (filter_map (value_shown rows.old) kids.now) 1 result }
-    ensures functions { KeepsFunctions (F.named functions.old) (F.named functions.new)
-        (F.known functions.old) (F.known functions.new) (F.value functions.old) (F.value functions.new) }
+    ensures functions { KeepsFunctions F.Functions functions.old functions.new }
 {
     let arguments = match values_shown(alloc, rows, kids) {
         Ok(arguments) => arguments,
@@ -152,14 +152,14 @@ fn call_on<F: Functions>(
     arguments: &[Value],
 ) -> Result<Outcome, AllocError>
     requires there { Holds rows.old (main node) }
+    requires sound { F.is_sound functions.old }
     requires known { IsTrue (F.known functions.old f.now) }
     requires kind { f.now.id.kind ≡ FnKind.Map }
     requires fit { HaveTypes arguments.now f.now.sig.takes }
     ensures called { Calls (F.value functions.old f.now) f.now.sig.gives
         (noted rows.old ran.old.items (F.calls functions.old)) (noted rows.new ran.new.items (F.calls functions.new))
         node arguments.now 1 result }
-    ensures functions { KeepsFunctions (F.named functions.old) (F.named functions.new)
-        (F.known functions.old) (F.known functions.new) (F.value functions.old) (F.value functions.new) }
+    ensures functions { KeepsFunctions F.Functions functions.old functions.new }
 {
     if ran.reserve(1).is_err() {
         return Err(AllocError);
@@ -195,6 +195,7 @@ pub(crate) fn call_fold<F: Functions>(
     kids: &[NodeId],
 ) -> Result<Outcome, AllocError>
     requires there { Holds rows.old (main node) }
+    requires sound { F.is_sound functions.old }
     requires known { IsTrue (F.known functions.old f.now) }
     requires kind { f.now.id.kind ≡ FnKind.Map }
     requires fit { FoldFits f.now initial.now (filter_map (value_shown rows.old) kids.now) }
@@ -202,8 +203,7 @@ pub(crate) fn call_fold<F: Functions>(
         (noted rows.old ran.old.items (F.calls functions.old)) (noted rows.new ran.new.items (F.calls functions.new))
         node (filter_map (value_shown rows.old) kids.now)
         (length (filter_map (value_shown rows.old) kids.now)) result }
-    ensures functions { KeepsFunctions (F.named functions.old) (F.named functions.new)
-        (F.known functions.old) (F.known functions.new) (F.value functions.old) (F.value functions.new) }
+    ensures functions { KeepsFunctions F.Functions functions.old functions.new }
 {
     let arguments = match values_shown(alloc, rows, kids) {
         Ok(arguments) => arguments,
@@ -226,14 +226,14 @@ fn fold_on<F: Functions>(
     arguments: &[Value],
 ) -> Result<Outcome, AllocError>
     requires there { Holds rows.old (main node) }
+    requires sound { F.is_sound functions.old }
     requires known { IsTrue (F.known functions.old f.now) }
     requires kind { f.now.id.kind ≡ FnKind.Map }
     requires fit { FoldFits f.now initial.now arguments.now }
     ensures called { Calls (folded (F.value functions.old f.now) initial.now) f.now.sig.gives
         (noted rows.old ran.old.items (F.calls functions.old)) (noted rows.new ran.new.items (F.calls functions.new))
         node arguments.now (length arguments.now) result }
-    ensures functions { KeepsFunctions (F.named functions.old) (F.named functions.new)
-        (F.known functions.old) (F.known functions.new) (F.value functions.old) (F.value functions.new) }
+    ensures functions { KeepsFunctions F.Functions functions.old functions.new }
 {
     if ran.reserve(1).is_err() {
         return Err(AllocError);
@@ -265,6 +265,7 @@ fn fold<F: Functions>(
     initial: &Value,
     values: &[Value],
 ) -> Result<Value, AllocError>
+    requires sound { F.is_sound functions.old }
     requires known { IsTrue (F.known functions.old f.now) }
     requires kind { f.now.id.kind ≡ FnKind.Map }
     requires fit { FoldFits f.now initial.now values.now }
@@ -272,8 +273,7 @@ fn fold<F: Functions>(
     ensures typed { IfOk result (λ v. type_of v ≡ f.now.sig.gives) }
     ensures calls { OnOk result (RoseBy (F.calls functions.old) (length values.now) (F.calls functions.new)) }
     ensures few { OnErr result (RoseAtMost (F.calls functions.old) (length values.now) (F.calls functions.new)) }
-    ensures functions { KeepsFunctions (F.named functions.old) (F.named functions.new)
-        (F.known functions.old) (F.known functions.new) (F.value functions.old) (F.value functions.new) }
+    ensures functions { KeepsFunctions F.Functions functions.old functions.new }
 {
     let mut result = match initial.copy(alloc) {
         Ok(copy) => copy,
@@ -296,6 +296,7 @@ fn call_with<F: Functions>(
     first: Value,
     second: &Value,
 ) -> Result<Value, AllocError>
+    requires sound { F.is_sound functions.old }
     requires known { IsTrue (F.known functions.old f.now) }
     requires kind { f.now.id.kind ≡ FnKind.Map }
     requires fit { HaveTypes (first ∷ second.now ∷ []) f.now.sig.takes }
@@ -303,8 +304,7 @@ fn call_with<F: Functions>(
     ensures typed { IfOk result (λ v. type_of v ≡ f.now.sig.gives) }
     ensures calls { OnOk result (RoseBy (F.calls functions.old) 1 (F.calls functions.new)) }
     ensures few { OnErr result (RoseAtMost (F.calls functions.old) 1 (F.calls functions.new)) }
-    ensures functions { KeepsFunctions (F.named functions.old) (F.named functions.new)
-        (F.known functions.old) (F.known functions.new) (F.value functions.old) (F.value functions.new) }
+    ensures functions { KeepsFunctions F.Functions functions.old functions.new }
 {
     let arguments = match second.copy(alloc) {
         Ok(copy) => [first, copy],

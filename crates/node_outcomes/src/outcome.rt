@@ -10,7 +10,7 @@ ghost use Rattle.node_arena.specs.Arena.{IsLive};
 ghost use Rattle.node_arena.specs.Graph.{AllCallFit};
 ghost use Rattle.node_outcomes.specs.Computing.{CallComputes, Ends, IsKnown, KeepsFunctions, KeepsTypes};
 ghost use Rattle.node_outcomes.specs.Computing.{FoldFits, ShowsValue, noted};
-ghost use Rattle.node_outcomes.specs.Meaning.{lists_none};
+ghost use Rattle.node_outcomes.specs.Meaning.{lists_none, maps_of};
 
 use crate::call::{call_fold, call_map};
 use crate::choosing::right_side;
@@ -24,7 +24,8 @@ use std::alloc::{AllocError, Global};
 
 /// What a node gives. A map's or a fold's function is called unless it was last called on the same
 /// values of its children, none of which has cutoff Never and was settled in this round. A node of two
-/// points gives what the right side shows that its change chose, and Invalid where it chose none.
+/// points gives what the right side shows that its change chose, and Invalid where it chose none. All functions of
+/// nodes are known maps, so no node is a bind.
 pub fn compute<F: Functions>(
     alloc: Global,
     arena: &Arena,
@@ -36,12 +37,12 @@ pub fn compute<F: Functions>(
 ) -> Result<Outcome, AllocError>
     requires types { KeepsTypes arena.now rows.old }
     requires live { IsLive arena.now node }
-    requires fit { AllCallFit (F.known functions.old) lists_none arena.now }
+    requires sound { F.is_sound functions.old }
+    requires fit { AllCallFit (maps_of (F.known functions.old)) lists_none arena.now }
     ensures computed { Ends (F.value functions.old) arena.now round
         (noted rows.old ran.old.items (F.calls functions.old))
         (noted rows.new ran.new.items (F.calls functions.new)) node result }
-    ensures functions { KeepsFunctions (F.named functions.old) (F.named functions.new)
-        (F.known functions.old) (F.known functions.new) (F.value functions.old) (F.value functions.new) }
+    ensures functions { KeepsFunctions F.Functions functions.old functions.new }
 {
     arena.is_sound();
     let row = arena.get(node).unwrap();
@@ -68,6 +69,7 @@ pub fn compute<F: Functions>(
             Some(target) => shown(alloc, rows, target),
             None => Ok(Outcome::Invalid),
         },
+        Def::Bind { .. } => unreachable!(),
     }
 }
 
@@ -83,6 +85,7 @@ fn compute_map<F: Functions>(
     kids: &[NodeId],
 ) -> Result<Outcome, AllocError>
     requires there { Holds rows.old (main node) }
+    requires sound { F.is_sound functions.old }
     requires known { IsTrue (F.known functions.old f.now) }
     requires kind { f.now.id.kind ≡ FnKind.Map }
     requires fit { (values : List Value) → AllZip (ShowsValue rows.old) kids.now values
@@ -90,8 +93,7 @@ fn compute_map<F: Functions>(
     ensures computed { CallComputes (F.value functions.old) (F.value functions.old f.now) f.now.sig.gives round
         (noted rows.old ran.old.items (F.calls functions.old))
         (noted rows.new ran.new.items (F.calls functions.new)) node (Map f.now kids.now) kids.now 1 result }
-    ensures functions { KeepsFunctions (F.named functions.old) (F.named functions.new)
-        (F.known functions.old) (F.known functions.new) (F.value functions.old) (F.value functions.new) }
+    ensures functions { KeepsFunctions F.Functions functions.old functions.new }
 {
     match known_outcome(alloc, rows, round, node, kids) {
         Ok(Some(outcome)) => Ok(outcome),
@@ -113,6 +115,7 @@ fn compute_fold<F: Functions>(
     kids: &[NodeId],
 ) -> Result<Outcome, AllocError>
     requires there { Holds rows.old (main node) }
+    requires sound { F.is_sound functions.old }
     requires known { IsTrue (F.known functions.old f.now) }
     requires kind { f.now.id.kind ≡ FnKind.Map }
     requires fit { (values : List Value) → AllZip (ShowsValue rows.old) kids.now values
@@ -121,8 +124,7 @@ fn compute_fold<F: Functions>(
         f.now.sig.gives round (noted rows.old ran.old.items (F.calls functions.old))
         (noted rows.new ran.new.items (F.calls functions.new)) node (Fold f.now initial.now kids.now) kids.now
         (length kids.now) result }
-    ensures functions { KeepsFunctions (F.named functions.old) (F.named functions.new)
-        (F.known functions.old) (F.known functions.new) (F.value functions.old) (F.value functions.new) }
+    ensures functions { KeepsFunctions F.Functions functions.old functions.new }
 {
     match known_outcome(alloc, rows, round, node, kids) {
         Ok(Some(outcome)) => Ok(outcome),

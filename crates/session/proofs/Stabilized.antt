@@ -1,5 +1,5 @@
 -- What is kept of a script once a stabilize ended, and the faults that don't come.
-use Rattle.std.proofs.Common.{◌≡◌, ℕ, ◌+◌, ◌≤◌, List, Option, None, Some, IsSome, Result, Err, IsErrOf, refl, ap, sym, subst, ◌∙◌}
+use Rattle.std.proofs.Common.{◌≡◌, Bool, ℕ, ◌+◌, ◌≤◌, List, Option, None, Some, IsSome, Result, Err, IsErrOf, IsTrue, refl, ap, sym, subst, ◌∙◌}
 use Rattle.graph.specs.Fault.{kept_of}
 use Rattle.graph.specs.Stabilizes.{Stabilizes, IsRefusedFor}
 use Rattle.graph.specs.Standing.{Standing, IsUnbroken, node_at}
@@ -9,10 +9,15 @@ use Rattle.graph.specs.declared.fault.StabilizeFault.{StabilizeFault}
 use Rattle.graph.specs.declared.fault.StabilizeFault.TheVariants as fault
 use Rattle.graph.specs.declared.observer.Observer.{Observer as Looking}
 use Rattle.inc_terms.specs.Term.{Functions}
+use Rattle.inc_value.specs.declared.function.FnKind.TheVariants.{Map}
+use Rattle.inc_value.specs.declared.function.FnRef.{FnRef}
 use Rattle.inc_value.specs.declared.node.NodeId.{NodeId}
 use Rattle.inc_value.specs.declared.node.Point.{Point}
 use Rattle.node_arena.specs.Arena.{Arena, live}
+use Rattle.node_arena.specs.Meanings.{KeepsKnown}
 use Rattle.script_graph.specs.Kept.{Kept, HasNode, IsSound, arena_of, without_functions}
+use Rattle.script_functions.specs.Keeping.{Maker, is_known}
+use Rattle.script_functions.specs.KeepingLaws.{map_known, known_map}
 use Rattle.script_graph.specs.Stabilizing.{ChainBegins, IsFirstNotOlder, AllOlder}
 use Rattle.stabilizer.specs.declared.refused.Refused.{Refused}
 use Rattle.stabilizer.specs.declared.refused.Refused.TheVariants as refused
@@ -73,3 +78,11 @@ module _ (met : Option Refused) (nodes others : List NodeId) (same : others ≡ 
 
   pub none_of : ((p : Point) → ChainBegins met p → AllOlder others p.node) → (p : Point) → ChainBegins met p → AllOlder nodes p.node
   none_of none p begins = subst (λ (ns : List NodeId). AllOlder ns p.node) same (none p begins)
+
+-- ---- the library
+
+-- a library that knows maps alone still knows what it knew, where the keeper of a script's functions does
+pub library_still_knows : (maps maps' : FnRef → Bool) (sides sides' : List Maker) → ((f : FnRef) → IsTrue (maps f) → f.id.kind ≡ Map)
+    → KeepsKnown (is_known maps sides) (is_known maps' sides') → KeepsKnown maps maps'
+library_still_knows maps maps' sides sides' alone keeps f h =
+    map_known maps' sides' f (keeps f (known_map maps sides f h (alone f h))) (alone f h)

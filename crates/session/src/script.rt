@@ -13,11 +13,11 @@ mod declaring;
 mod observing;
 mod stabilizing;
 
-use formula_elab::ScriptFns;
 use formula_lang::Names;
 use graph::{Graph, GraphFault};
 use inc_value::{NodeId, ObsId};
 use node_arena::Library;
+use script_functions::ScriptFns;
 pub(crate) use stabilizing::Stabilized;
 use std::alloc::{AllocError, Global};
 use std::marker::Model;
@@ -79,7 +79,7 @@ impl<L: Library> Script<L> {
         ensures observers { IfOk result (λ s. s.kept.graph.observers ≡ []) }
         ensures handed_back { IfErr result (λ e. e.1 ≡ library) }
     {
-        match Graph::new(alloc, ScriptFns::new(library)) {
+        match Graph::new(alloc, ScriptFns::new(alloc, library)) {
             Ok(graph) => Script::over(alloc, graph),
             Err((fault, functions)) => Err((fault, functions.into_library())),
         }

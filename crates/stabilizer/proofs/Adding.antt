@@ -16,13 +16,15 @@ use Rattle.node_arena.specs.Arena as nodes
 use Rattle.node_arena.specs.Arena.{Arena, row_at}
 use Rattle.node_outcomes.specs.Computing.{has_part}
 use Rattle.stabilize_round.proofs.Points.{node_or_other}
-use Rattle.stabilizer.specs.Between.{Stays, KeepsWork}
+use Rattle.stabilizer.specs.Between.{Stays, KeepsWork, out_of}
 use Rattle.stabilizer.specs.Kept.{IsKept}
 use Rattle.stabilizer.specs.Places.{ChangesNode, for_parts, pairs_with}
 use Rattle.stabilizer.specs.Wiring.{KeepsRound}
+use Rattle.node_outcomes.specs.Row.{outcome_in}
 use Rattle.node_outcomes.specs.declared.row.Progress.{Progress}
 use Rattle.stabilizer.specs.declared.work.Work.{Work}
 use Rattle.stabilizer.proofs.Between.{same_some, need_same, row_of}
+use Rattle.stabilizer.proofs.Linking.{some_or_none}
 use Rattle.stabilizer.proofs.Placing.{unsettled, at_node, has_parts, one_for_all, came_and_went, pair_stays, pair_listed}
 use Rattle.stabilizer.proofs.Typing.{KeepsTypes, typed_still, right_still}
 
@@ -145,6 +147,12 @@ module _ (before arena : Arena) (old work : Work) (id : NodeId) (row : Row) (hei
   needed_other : (p : Point) → Needed work.graph p → p.node ≢ id
   needed_other p n = other_node before old id kept gen p (kept.step.there p (need_before p n))
 
+  never_ran : (n : NodeId) → n ≡ id → out_of work (change n) ≡ None
+  never_ran n same = elim (some_or_none (at work.rows (change n))) [
+    | inl k ↦ ap outcome_in k.1 ∙ sym (ap (λ (x : Progress). x.outcome) (is_unsettled (change n) k.0 same k.1))
+    | inr none ↦ ap outcome_in none
+  ]
+
   pub added_stays : Stays before arena old work
   added_stays = record {
     needed = need_before;
@@ -155,6 +163,10 @@ module _ (before arena : Arena) (old work : Work) (id : NodeId) (row : Row) (hei
     calls = λ n r ns k c e def is last. elim (node_or_other n id) [
       | inl same ↦ absurd (none-some _ (ap (λ (x : Progress). x.last) (is_unsettled (main n) k same is) ∙ last))
       | inr ne ↦ (row_was n r ne e, sym (rows.others (main n) ne) ∙ is)
+    ];
+    runs = λ n s r o e def is. elim (node_or_other n id) [
+      | inl same ↦ absurd (none-some o (sym (never_ran n same) ∙ is))
+      | inr ne ↦ (row_was n r ne e, ap outcome_in (sym (rows.others (change n) ne)) ∙ is)
     ];
     unsettled = λ p k e. elim (node_or_other p.node id) [
       | inl is ↦ inr (sym (ap (λ (x : Progress). x.settled) (is_unsettled p k is e)))
@@ -193,6 +205,7 @@ back_stays arena old work same = record {
   rows = λ p n. same.rows p;
   nodes = λ p r need e. inl e;
   calls = λ n r ns k c e def is last. (e, sym (same.rows (main n)) ∙ is);
+  runs = λ n s r o e def is. (e, ap outcome_in (sym (same.rows (change n))) ∙ is);
   unsettled = λ p k e. inl (sym (same.rows p) ∙ e);
   round = same.round;
   todo = same.todo;

@@ -114,13 +114,15 @@ no_freeze a n r kid f row is = let d = code_row a n r row in by_def d.0 (sym d.1
     by_def (form.Const v) e = cc
     by_def _ e = cc
 
--- nor any binds
-built_any : (F : Functions) (G : Graph) (n : NodeId) (o : Outcome) (d : declared.Def) → IsBuilt F G n (def_of d) o
-built_any F G n o (form.Const v) = tt
-built_any F G n o _ = tt
+-- what has no subject isn't built
+pub one_point_built : (F : Functions) (G : Graph) (n : NodeId) (def : Def) (o : Outcome) → subject_of def ≡ None → IsBuilt F G n def o
+one_point_built F G n (graph.Bind l f caps) o one = absurd (none-some l (sym one))
+one_point_built F G n _ o one = tt
 
-pub code_built : (F : Functions) (G : Graph) (a : Arena) (n : NodeId) (r : Row) (o : Outcome) → row_at a n ≡ Some r → IsBuilt F G n r.def o
-code_built F G a n r o row = let d = code_row a n r row in subst (λ (x : Def). IsBuilt F G n x o) (sym d.1) (built_any F G n o d.0)
+-- no bind is built of an arena's nodes, so what is built for an outcome in one is so in any other
+pub built_still : (F : Functions) (a a' : Arena) (n : NodeId) (def : Def) (o : Outcome) → IsBuilt F (graph_of a) n def o → IsBuilt F (graph_of a') n def o
+built_still F a a' n (graph.Bind l f caps) o h = absurd (none-some h.0 h.1)
+built_still F a a' n _ o h = tt
 
 -- ---- agreement
 
@@ -150,7 +152,7 @@ module _ (F : Functions) (before arena : Arena) (out out' : Point → Option Out
       let x = o s sub in
       let mine : change p.node ≡ p = λ i. record { node = p.node; part = is' i } in
       let seen = read (main s) (rw (is, sub) (inl refl)) in
-      (x.0, rw (mine, here, ← mine) x.1, seen ∙ x.2, code_built F G' before p.node r x.0 row)
+      (x.0, rw (mine, here, ← mine) x.1, seen ∙ x.2, built_still F before arena p.node r.def x.0 x.3)
     where
       is' : Change ≡ p.part
       is' = sym is

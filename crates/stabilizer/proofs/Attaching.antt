@@ -32,6 +32,7 @@ use Rattle.stabilizer.specs.Kept.{IsKept}
 use Rattle.node_outcomes.specs.Row.{IsRewritten, with_stage, settled_in, stage_in, stage_of, outcome_in}
 use Rattle.stabilizer.specs.Stands.{Stands, hand}
 use Rattle.node_outcomes.specs.Choosing.{right_in, no_graph}
+use Rattle.node_outcomes.proofs.Pairs.{right_any}
 use Rattle.stabilizer.specs.Turning.{IsWaiting}
 use Rattle.stabilizer.specs.Wiring.{KeepsRound, IsDue, IsTurnedIn, Attaches, AttachRefused, Connects, LosesNeed, ConnectRefused, AreUnlinked}
 use Rattle.stabilizer.specs.declared.refused.Refused.{Refused}
@@ -42,14 +43,13 @@ use Rattle.stabilizer.specs.declared.work.Work.{Work}
 use Rattle.stabilizer.proofs.Linking.{some_or_none}
 use Rattle.stabilizer.proofs.Raising.{nothing, wired_before, wired_after, staged_kept, staged_row, up_wiring, up_stands, leaves_hand, no_links, own_alone}
 use Rattle.stabilizer.proofs.Sight.{code_def}
-use Rattle.stabilizer.proofs.TakingOne.{right_any}
 use Rattle.stabilizer.proofs.Unlinked.{raised_unlinked}
 
 -- the right sides of a node, by what is told without its graph
-pub targets_now : (G : Graph) (n : NodeId) (d : declared.Def) (x : Option Outcome)
+pub targets_now : (G : Graph) (n : NodeId) → G.built n ≡ None → (d : declared.Def) (x : Option Outcome)
     → targets G n (def_of d) x ≡ map main (at_most_one (and_then x (λ o. right_of no_graph n (def_of d) o)))
-targets_now G n d None = refl
-targets_now G n d (Some o) = ap (λ (y : Option NodeId). map main (at_most_one y)) (right_any G n d o)
+targets_now G n built d None = refl
+targets_now G n built d (Some o) = ap (λ (y : Option NodeId). map main (at_most_one y)) (right_any G n built d o)
 
 -- nothing is to be done
 pub stays_off : (arena : Arena) (work : Work) (n : NodeId) → (Needed work.graph (main n) → (k : Progress) → at work.rows (main n) ≡ Some k → k.stage ≡ code.Static → ⊥)
@@ -163,14 +163,14 @@ module _ (arena : Arena) (n : NodeId) (r : Row) (old : Work) (rows : Rows Progre
   pub right_given : (m : NodeId) → right ≡ Some m → Given arena.given m
   right_given m e = by (at old.rows (change n)) refl
     where
-      asked : (G : Graph) (o : Outcome) → right_of G n r.def o ≡ right_of no_graph n r.def o
-      asked G o = let d = code_def arena n r row in
-          subst (λ (x : Def). right_of G n x o ≡ right_of no_graph n x o) (sym d.1) (right_any G n d.0 o)
+      asked : (o : Outcome) → right_of (graph_of arena) n r.def o ≡ right_of no_graph n r.def o
+      asked o = let d = code_def arena n r row in
+          subst (λ (x : Def). right_of (graph_of arena) n x o ≡ right_of no_graph n x o) (sym d.1) (right_any (graph_of arena) n refl d.0 o)
 
       chosen : (k : Progress) → at old.rows (change n) ≡ Some k → (x : Option Outcome) → k.outcome ≡ x → and_then x (λ o. right_of no_graph n r.def o) ≡ Some m
           → Given arena.given m
       chosen k at_row None out h = absurd (none-some m h)
-      chosen k at_row (Some o) out h = (kept.rights n m r k o row at_row out (asked (graph_of arena) o ∙ h)).0
+      chosen k at_row (Some o) out h = (kept.rights n m r k o row at_row out (asked o ∙ h)).0
 
       by : (x : Option Progress) → at old.rows (change n) ≡ x → Given arena.given m
       by None eq = absurd (none-some m (ap (λ (x : Option Progress). and_then (outcome_in x) (λ o. right_of no_graph n r.def o)) (sym eq) ∙ e))
@@ -200,7 +200,7 @@ module _ (arena : Arena) (n : NodeId) (r : Row) (old : Work) (rows : Rows Progre
         let d = code_def arena n r row in
         ap (targets s.graph n r.def) out_is ∙ subst (λ (x : Def). targets s.graph n x (outcome_in (at old.rows (change n)))
         ≡ map main (at_most_one (and_then (outcome_in (at old.rows (change n))) (λ o. right_of no_graph n x o)))) (sym d.1)
-        (targets_now s.graph n d.0 (outcome_in (at old.rows (change n))))
+        (targets_now s.graph n (ap (λ (G : Graph). G.built n) on.graph) d.0 (outcome_in (at old.rows (change n))))
 
     pub raise_is : Raise s (main n) machine.Full owed
     raise_is = record {

@@ -11,7 +11,7 @@ use Rattle.inc_value.specs.declared.outcome.Outcome.{Outcome}
 use Rattle.inc_value.specs.Choice.{Among}
 use Rattle.inc_terms.specs.Depend.{main, change, subject_of, fixed_reads}
 use Rattle.inc_terms.specs.Graph.{Graph, Row}
-use Rattle.inc_terms.specs.Local.{shown, shown_of, Agrees}
+use Rattle.inc_terms.specs.Local.{shown, shown_of, Agrees, IsBuilt}
 use Rattle.inc_terms.specs.Plan.{gate_of, plan}
 use Rattle.inc_terms.specs.Term.{Functions}
 use Rattle.inc_terms.specs.Work.{taken_by}
@@ -42,7 +42,7 @@ use Rattle.node_outcomes.specs.declared.row.Progress.{Progress}
 use Rattle.node_outcomes.specs.declared.row.Stage.{Stage}
 use Rattle.node_outcomes.specs.declared.row.Stage.TheVariants as code
 use Rattle.stabilizer.specs.declared.work.Work.{Work}
-use Rattle.stabilizer.proofs.Agreeing.{code_built, no_freeze, plan_same, var_plan, reads_change, agrees_still, recalls_still}
+use Rattle.stabilizer.proofs.Agreeing.{one_point_built, built_still, no_freeze, plan_same, var_plan, reads_change, agrees_still, recalls_still}
 use Rattle.stabilizer.proofs.Deciding.{decides_needed}
 use Rattle.stabilizer.proofs.Linking.{some_or_none}
 
@@ -132,6 +132,12 @@ module _ (F : Functions) (arena : Arena) (work : Work) (ready : IsReady F arena 
   out_now : (p : Point) (k : Progress) → at work.rows p ≡ Some k → out_of work p ≡ s.out p
   out_now p k e = ap outcome_in e ∙ sym (ready.stands.out p k e)
 
+  ran_now : (p : Point) (o : Outcome) → out_of work p ≡ Some o → s.out p ≡ Some o
+  ran_now p o e = elim (some_or_none (at work.rows p)) [
+    | inl k ↦ sym (out_now p k.0 k.1) ∙ e
+    | inr none ↦ absurd (none-some o (sym (ap outcome_in none) ∙ e))
+  ]
+
   own_now : (p : Point) (r : Row) → row_at arena p.node ≡ Some r → p.part ≡ Main → IsSome (subject_of r.def)
       → out_of work (change p.node) ≡ s.out (change p.node)
   own_now p r row is some = let k = own_row arena work ready.kept p.node r row some in out_now (change p.node) k.0 k.1
@@ -189,6 +195,8 @@ module _ (F : Functions) (arena : Arena) (work : Work) (ready : IsReady F arena 
     ];
     answers = λ n r nodes k c row def e last. ready.entry.answers n r nodes c (row_now n r row)
         (subst (λ (G : Graph). taken_by G n r.def ≡ Some nodes) (sym ready.stands.graph) def) (ready.stands.last n k e ∙ last);
+    built = λ n r o row e. subst (λ (G : Graph). IsBuilt F G n r.def o) ready.stands.graph
+        (ready.entry.built n r o (row_now n r row) (ran_now (change n) o e));
     unsettled = λ p. sym (ready.stands.settled p) ∙ ready.entry.settled p;
     numbered = ready.numbered;
     strict = sym ready.stands.strict ∙ ready.entry.strict;
@@ -303,7 +311,7 @@ module _ (F : Functions) (arena : Arena) (work : Work) (b : IsBetween F arena wo
     bare = λ p t e. absurd (let f : now.stage p ≡ machine.Full = stage_then p ((exact p).0 t) in let h = sym f ∙ e in cc);
     scoped = λ n r c row sc. absurd (none-some c (sym (b.kept.flat n r row) ∙ sc));
     rooted = λ n r l f captures w row def built. absurd (none-some w built);
-    built = λ n r o row e. code_built F (graph_of arena) arena n r o row;
+    built = b.built;
     fresh = λ p r row t. elim (b.fresh p r ((exact p).0 t) row) [ inl h ↦ inl h | inr f ↦ inr (f.0, f.1, λ part. refl) ];
     settled = b.unsettled;
     owed = λ p h. refl;
@@ -430,6 +438,10 @@ module _ (F : Functions) (before arena : Arena) (old work : Work) (b : IsBetween
         | inl h ↦ inl (stays.heap p need h)
         | inr f ↦ inr (fresh_still p r need row same f)
       ]
+    ];
+    built = λ n r o row e. elim (some_or_none (subject_of r.def)) [
+      | inl s ↦ let w = stays.runs n s.0 r o row s.1 e in built_still F before arena n r.def o (b.built n r o w.0 w.1)
+      | inr one ↦ one_point_built F (graph_of arena) n r.def o one
     ];
     answers = λ n r nodes k c row def e last. let w = stays.calls n r nodes k c row def e last in
         b.answers n r nodes k c w.0 def w.1 last;

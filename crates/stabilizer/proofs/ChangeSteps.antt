@@ -31,6 +31,7 @@ use Rattle.stabilize_round.proofs.Parts.{bool_cases}
 use Rattle.stabilize_round.proofs.Points.{at_same}
 use Rattle.stabilize_round.proofs.Steps.{joined, off_moves, wired_moves}
 use Rattle.node_outcomes.specs.Choosing.{right_in}
+use Rattle.node_outcomes.proofs.Maps.{NoBinds}
 use Rattle.node_outcomes.specs.Row.{IsRewritten, with_outcome, stage_in, stage_of}
 use Rattle.stabilizer.specs.Kept.{IsKept}
 use Rattle.stabilizer.specs.Stands.{Stands}
@@ -97,7 +98,7 @@ is_quiet arena work calls s st idle p = elim (bool_cases (s.todo p)) [
 ]
 
 module _ (arena : Arena) (old : Work) (g : NecessaryPart) (p : Point) (n : NodeId) (same : p ≡ change n) (calls : ℕ) (kept : IsKept arena old)
-    (was : Holds old.graph.heap p) (low : IsLowest old.graph.heap (level old.graph.heights p)) (rest : g ≡ record old.graph { heap = g.heap })
+    (no_binds : NoBinds arena) (was : Holds old.graph.heap p) (low : IsLowest old.graph.heap (level old.graph.heights p)) (rest : g ≡ record old.graph { heap = g.heap })
     (c : Changes old.graph.heap g.heap p None) (idle : old.todo.items ≡ []) where
   was_own : Holds old.graph.heap (change n)
   was_own = subst (λ (x : Point). Holds old.graph.heap x) same was
@@ -157,14 +158,14 @@ module _ (arena : Arena) (old : Work) (g : NecessaryPart) (p : Point) (n : NodeI
     woken = todo' ready arena readied.work turned calls readied.stands n m.given readied.there readied.run
 
     move_is : StepChange F ready n m.given woken
-    move_is = change_step ready arena readied.work turned calls readied.stands n m.given readied.there readied.run F z ready_inv ready_quiet kept.flat
+    move_is = change_step ready arena readied.work turned calls readied.stands n m.given readied.there readied.run F z ready_inv ready_quiet kept.flat no_binds
         m.row m.subject m.is_row m.is_subject readied.least ready_seen readied.right
 
     abbrev after : State
     after = changed ready n m.given woken
 
     pub in_turn : IsTurnedIn F z after arena turned calls n
-    in_turn = turned_in ready arena readied.work turned calls readied.stands n m.given readied.there readied.run F z ready_inv ready_quiet kept.flat
+    in_turn = turned_in ready arena readied.work turned calls readied.stands n m.given readied.there readied.run F z ready_inv ready_quiet kept.flat no_binds
         m.row m.subject m.is_row m.is_subject readied.least ready_seen readied.right
 
     abbrev it_settles : Move F z ready after

@@ -15,7 +15,7 @@ use Rattle.necessary_graph.specs.Part.{Needed, IsInStep}
 use Rattle.node_arena.specs.Arena as nodes
 use Rattle.node_arena.specs.Arena.{Arena, row_at}
 use Rattle.node_outcomes.specs.Computing.{has_part}
-use Rattle.node_outcomes.specs.Row.{never_in}
+use Rattle.node_outcomes.specs.Row.{never_in, outcome_in}
 use Rattle.stabilize_round.proofs.Points.{node_or_other}
 use Rattle.stabilizer.specs.Between.{Stays, HasDropped}
 use Rattle.stabilizer.specs.Kept.{IsKept}
@@ -118,6 +118,7 @@ module _ (before arena : Arena) (old work : Work) (id : NodeId) (kept : IsKept b
     rows = λ p n. rows.others p (needed_other p (need_before p n));
     nodes = λ p r need e. inl (was_row p.node r e);
     calls = λ n r ns k c e def is last. (was_row n r e, was_kept (main n) k (node_left n r e) is);
+    runs = λ n s r o e def is. (was_row n r e, ap outcome_in (sym (rows.others (change n) (node_left n r e))) ∙ is);
     unsettled = λ p k e. inl (was_kept p k (row_left p (ap is_some e)) e);
     round = round;
     todo = todo;
@@ -179,6 +180,7 @@ module _ (arena : Arena) (old : Work) (work : Work) (kept : IsKept arena old) (r
     rows = λ p n. refl;
     nodes = λ p r need e. inl e;
     calls = λ n r ns k c e def is last. (e, is);
+    runs = λ n s r o e def is. (e, is);
     unsettled = λ p k e. inl e;
     round = record { ran = refl; strict = refl; round = refl };
     todo = refl;

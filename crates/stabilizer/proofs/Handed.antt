@@ -45,6 +45,7 @@ reads_kids G n (form.Map f ks) one = refl
 reads_kids G n (form.Fold f v ks) one = refl
 reads_kids G n (form.If t a b) one = absurd (cc)
 reads_kids G n (form.Join k) one = absurd (cc)
+reads_kids G n (form.Bind l f caps) one = absurd (cc)
 
 -- a point reads these points, and has no right side
 pub record Reads (p : Point) (r : Row) (links : List Point) : Type 0 where

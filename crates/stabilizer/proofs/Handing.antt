@@ -76,6 +76,7 @@ kid_is_given count (form.Map f ks) names n among = every_among (Given count) ks 
 kid_is_given count (form.Fold f v ks) names n among = every_among (Given count) ks n names.2 among
 kid_is_given count (form.If t a b) names n among = absurd among
 kid_is_given count (form.Join k) names n among = absurd among
+kid_is_given count (form.Bind l f caps) names n among = absurd among
 
 nothing_more : (xs ys : List Point) → ys ≡ [] → xs ++ ys ≡ xs
 nothing_more [] ys e = e

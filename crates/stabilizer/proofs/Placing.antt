@@ -138,3 +138,16 @@ among_older count n (m ∷ ms) older h = by_test (λ a. among_older count n ms o
         let f : n.gen_ ≡ m.gen_ = ap (λ (x : NodeId). x.gen_) is in
         absurd (grind (arith, nat_tests))
     by_test rest false e (inr a) = rest a
+
+-- what is left of a list by the count was given before it
+pub left_is_older : (count : ℕ) (n : NodeId) (ns : List NodeId) → Among n (filter (is_older count) ns) → n.gen_ < count
+left_is_older count n [] h = absurd h
+left_is_older count n (m ∷ ms) h = by_test (left_is_older count n ms) (is_older count m) refl h
+  where
+    by_test : (Among n (filter (is_older count) ms) → n.gen_ < count) → (b : Bool) → is_older count m ≡ b
+        → Among n (cond b (m ∷ filter (is_older count) ms) (filter (is_older count) ms)) → n.gen_ < count
+    by_test rest true e (inl is) =
+        let f : n.gen_ ≡ m.gen_ = ap (λ (x : NodeId). x.gen_) is in
+        grind (arith, nat_tests)
+    by_test rest true e (inr a) = rest a
+    by_test rest false e a = rest a

@@ -28,6 +28,7 @@ use Rattle.stabilizer.specs.Between.{Stays}
 use Rattle.stabilizer.specs.Wiring.{IsMarked, KeepsRound}
 use Rattle.stabilizer.specs.Kept.{IsKept}
 use Rattle.inc_terms.specs.Work.{taken_by}
+use Rattle.node_outcomes.specs.Row.{outcome_in}
 use Rattle.node_outcomes.specs.declared.row.Progress.{Progress}
 use Rattle.stabilizer.specs.declared.work.Work.{Work}
 use Rattle.stabilizer.proofs.Agreeing.{code_row}
@@ -180,6 +181,10 @@ module _ (before arena : Arena) (old work : Work) (id : NodeId) (v : Value) (kep
     calls = λ n r nodes k l e def is last. let w = row_was n r e in elim w.same [
       | inl same ↦ (w.is_was ∙ ap Some same, sym (same_rows (main n)) ∙ is)
       | inr h ↦ absurd (none-some nodes (sym (ap (λ (x : Row). taken_by (graph_of arena) n x.def) h.is_now) ∙ def))
+    ];
+    runs = λ n s r o e def is. let w = row_was n r e in elim w.same [
+      | inl same ↦ (w.is_was ∙ ap Some same, ap outcome_in (sym (same_rows (change n))) ∙ is)
+      | inr h ↦ absurd (none-some s (sym (ap (λ (x : Row). subject_of x.def) h.is_now) ∙ def))
     ];
     unsettled = λ p k e. inl (sym (same_rows p) ∙ e);
     round = round;

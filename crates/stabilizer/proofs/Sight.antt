@@ -183,6 +183,8 @@ module _ (s : State) (arena : Arena) (work : Work) (calls : ℕ) (kept : IsKept 
       own_right_same (graph_of arena) (shown s.graph s.out) (seen work.rows) n (def_of (form.If t a b)) sees (own_change refl)
   by_form F n (form.Join k) own_change =
       own_right_same (graph_of arena) (shown s.graph s.out) (seen work.rows) n (def_of (form.Join k)) sees (own_change refl)
+  by_form F n (form.Bind l f caps) own_change =
+      own_right_same (graph_of arena) (shown s.graph s.out) (seen work.rows) n (def_of (form.Bind l f caps)) sees (own_change refl)
 
   -- a live node's own function sees the same in the state
   pub own_sees : (F : Functions) (n : NodeId) (r : Row) → row_at arena n ≡ Some r
@@ -242,6 +244,7 @@ module _ (s : State) (arena : Arena) (work : Work) (calls : ℕ) (kept : IsKept 
     of_kids (form.Fold f v ns) h u = gathered_known (shown s.graph s.out) ns h u
     of_kids (form.If t a b) h u = cc
     of_kids (form.Join k) h u = cc
+    of_kids (form.Bind l f caps) h u = cc
 
     kids_known : seen_together work.rows (kids r.def) ≡ Unknown → ⊥
     kids_known u =
@@ -283,6 +286,7 @@ module _ (s : State) (arena : Arena) (work : Work) (calls : ℕ) (kept : IsKept 
         has_subject (form.Fold f v ns) e = absurd (none-some m e)
         has_subject (form.If t a b) e = refl
         has_subject (form.Join k) e = refl
+        has_subject (form.Bind l f caps) e = refl
 
     pub looks : LooksAtSeen work.rows (graph_of arena) n r.def
     looks = record { kids = kids_known; choice = choice; right = right_seen }

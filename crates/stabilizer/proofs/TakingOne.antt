@@ -6,8 +6,6 @@ use Rattle.inc_value.specs.declared.node.NodeId.{NodeId}
 use Rattle.inc_value.specs.declared.node.Part.TheVariants.{Main}
 use Rattle.inc_value.specs.declared.node.Point.{Point}
 use Rattle.inc_value.specs.declared.outcome.Outcome.{Outcome}
-use Rattle.inc_value.specs.declared.outcome.Outcome.TheVariants.{Val, Invalid}
-use Rattle.inc_value.specs.declared.value.Value.TheVariants as value
 use Rattle.inc_value.specs.Choice.{here, Among, Reaches, and_then}
 use Rattle.inc_terms.specs.declared.def.Def as declared
 use Rattle.inc_terms.specs.declared.def.Def.TheVariants as form
@@ -32,6 +30,7 @@ use Rattle.stabilize_round.proofs.Points.{same_or_other, at_other, count_append,
 use Rattle.stabilizer.specs.Deciding.{is_needed}
 use Rattle.node_outcomes.specs.Row.{IsRewritten, with_stage, settled_in, stage_in, stage_of, outcome_in}
 use Rattle.stabilizer.specs.Stands.{Stands, Hand, hand, owed_in}
+use Rattle.node_outcomes.proofs.Pairs.{right_any}
 use Rattle.stabilizer.specs.Turning.{IsLoosened, IsAttached, IsOff}
 use Rattle.node_outcomes.specs.Choosing.{right_in, no_graph}
 use Rattle.stabilizer.specs.Wiring.{IsMarked, IsSpared, TakesOne, HandIsSpared, hand_now}
@@ -44,28 +43,10 @@ use Rattle.stabilizer.proofs.TakingOff.{bool_cases, IsTakenOff, takes, stands_of
 abbrev nothing : Point → List Point
 nothing p = []
 
--- no form of today asks the graph for its right side
-pub right_any : (G : Graph) (n : NodeId) (d : declared.Def) (o : Outcome) → right_of G n (def_of d) o ≡ right_of no_graph n (def_of d) o
-right_any G n (form.Const v) o = refl
-right_any G n (form.Var v) o = refl
-right_any G n (form.Map f ks) o = refl
-right_any G n (form.Fold f v ks) o = refl
-right_any G n (form.If t a b) Invalid = refl
-right_any G n (form.If t a b) (Val (value.Bool true)) = refl
-right_any G n (form.If t a b) (Val (value.Bool false)) = refl
-right_any G n (form.If t a b) (Val (value.Int z)) = refl
-right_any G n (form.If t a b) (Val (value.Text x)) = refl
-right_any G n (form.If t a b) (Val (value.Node m base)) = refl
-right_any G n (form.Join k) Invalid = refl
-right_any G n (form.Join k) (Val (value.Bool b)) = refl
-right_any G n (form.Join k) (Val (value.Int z)) = refl
-right_any G n (form.Join k) (Val (value.Text x)) = refl
-right_any G n (form.Join k) (Val (value.Node m base)) = refl
-
-pub targets_are : (G : Graph) (n : NodeId) (d : declared.Def) (x : Option Outcome) (m : NodeId) → and_then x (λ o. right_of no_graph n (def_of d) o) ≡ Some m
-    → targets G n (def_of d) x ≡ main m ∷ []
-targets_are G n d None m e = absurd (none-some m e)
-targets_are G n d (Some o) m e = ap (λ (y : Option NodeId). map main (at_most_one y)) (right_any G n d o ∙ e)
+pub targets_are : (G : Graph) (n : NodeId) → G.built n ≡ None → (d : declared.Def) (x : Option Outcome) (m : NodeId)
+    → and_then x (λ o. right_of no_graph n (def_of d) o) ≡ Some m → targets G n (def_of d) x ≡ main m ∷ []
+targets_are G n built d None m e = absurd (none-some m e)
+targets_are G n built d (Some o) m e = ap (λ (y : Option NodeId). map main (at_most_one y)) (right_any G n built d o ∙ e)
 
 -- nothing is taken off
 pub nothing_taken : (arena : Arena) (work : Work) → IsInStep work.graph → TakesOne arena work work
@@ -139,7 +120,7 @@ module _ (arena : Arena) (old first new : Work) (n : NodeId) (r : Row) (d : decl
     right_side : targets s.graph n r.def (s.out (change n)) ≡ main m ∷ []
     right_side = ap (λ (x : Option Outcome). targets s.graph n r.def x) (out_own (at old.rows (change n)) refl own_row)
         ∙ (ap (λ (x : Def). targets s.graph n x (outcome_in (at old.rows (change n)))) def
-        ∙ targets_are s.graph n d (outcome_in (at old.rows (change n))) m
+        ∙ targets_are s.graph n (ap (λ (G : Graph). G.built n) st.graph) d (outcome_in (at old.rows (change n))) m
         (ap (λ (x : Def). and_then (outcome_in (at old.rows (change n))) (λ o. right_of no_graph n x o)) (sym def) ∙ right))
 
     abbrev static_plan : List Point
@@ -283,6 +264,7 @@ pub right_has_subject : (d : declared.Def) (n : NodeId) (x : Option Outcome) (m 
     → (k : NodeId) × (subject_of (def_of d) ≡ Some k)
 right_has_subject (form.If t a b) n x m e = (t, refl)
 right_has_subject (form.Join k) n x m e = (k, refl)
+right_has_subject (form.Bind l f caps) n x m e = (l, refl)
 right_has_subject (form.Const v) n None m e = absurd (none-some m e)
 right_has_subject (form.Const v) n (Some o) m e = absurd (none-some m e)
 right_has_subject (form.Var v) n None m e = absurd (none-some m e)

@@ -88,6 +88,7 @@ module _ (arena : Arena) (old : Work) (g : NecessaryPart) (id : NodeId) (kept : 
     rows = λ p n. refl;
     nodes = λ n r need e. inl e;
     calls = λ n r nodes k c row def e last. (row, e);
+    runs = λ n s r o row def is. (row, is);
     unsettled = λ p k e. inl e;
     round = record { ran = refl; strict = refl; round = refl };
     todo = refl;

@@ -161,7 +161,7 @@ module _ (arena : Arena) (old mid : Work) (g : NecessaryPart) (n : NodeId) (r : 
         ap (targets s.graph n r.def) (change_is s arena old calls kept st n r live two)
         ∙ subst (λ (x : Def). targets s.graph n x (outcome_in (at old.rows (change n)))
         ≡ map main (at_most_one (and_then (outcome_in (at old.rows (change n))) (λ o. right_of no_graph n x o)))) (sym d.1)
-        (targets_now s.graph n d.0 (outcome_in (at old.rows (change n))))
+        (targets_now s.graph n (ap (λ (G : Graph). G.built n) st.graph) d.0 (outcome_in (at old.rows (change n))))
 
     abbrev static_plan : List Point
     static_plan = live_plan s.graph s.out (main n) r machine.Static

@@ -4,9 +4,9 @@ use Rattle.inc_value.specs.declared.node.NodeId.{NodeId}
 use Rattle.inc_value.specs.declared.node.Point.{Point}
 use Rattle.inc_value.specs.declared.outcome.Outcome.{Outcome}
 use Rattle.inc_value.specs.declared.value.Value.{Value}
-use Rattle.inc_terms.specs.Depend.{main}
+use Rattle.inc_terms.specs.Depend.{main, change, subject_of}
 use Rattle.inc_terms.specs.Graph.{Row, Var}
-use Rattle.inc_terms.specs.Local.{shown, Agrees}
+use Rattle.inc_terms.specs.Local.{shown, Agrees, IsBuilt}
 use Rattle.inc_terms.specs.Plan.{plan}
 use Rattle.inc_terms.specs.Term.{Functions}
 use Rattle.point_map.specs.Rows.{at, Holds, KeepsRows}
@@ -30,8 +30,8 @@ use Rattle.stabilizer.specs.declared.work.Work.{Work}
 abbrev pub out_of : Work → Point → Option Outcome
 out_of work p = outcome_in (at work.rows p)
 
--- a needed point of a live node has all its links, and is in the heap, or agrees with what it is linked to; nothing was settled, called or found final
--- since the last round
+-- a needed point of a live node has all its links, and is in the heap, or agrees with what it is linked to; a bind whose change has run is built for the
+-- outcome; nothing was settled, called or found final since the last round
 pub record IsBetween (F : Functions) (arena : Arena) (work : Work) : Type 0 where
   pub kept : IsKept arena work
   pub full : (p : Point) (k : Progress) → Needed work.graph p → at work.rows p ≡ Some k → k.stage ≡ Full
@@ -40,6 +40,7 @@ pub record IsBetween (F : Functions) (arena : Arena) (work : Work) : Type 0 wher
   pub fresh : (p : Point) (r : Row) → Needed work.graph p → row_at arena p.node ≡ Some r
       → Holds work.graph.heap p ⊎ (Agrees F (graph_of arena) (out_of work) p
       × Recalls (graph_of arena) (shown (graph_of arena) (out_of work)) (last_call work) p)
+  pub built : (n : NodeId) (r : Row) (o : Outcome) → row_at arena n ≡ Some r → out_of work (change n) ≡ Some o → IsBuilt F (graph_of arena) n r.def o
   pub answers : KeepsAnswers F.value arena work.rows
   pub unsettled : (p : Point) → settled_in work.round (at work.rows p) ≡ false
   pub numbered : 0 < work.round
@@ -58,7 +59,7 @@ pub record KeepsWork (old new : Work) : Type 0 where
   pub round : KeepsRound old new
 
 -- between rounds this may change: less may be needed, and what is so keeps its links, its row and its place in the heap; its node stays, or is a variable with
--- another value and in the heap; what was called stays called; and no row is settled that wasn't
+-- another value and in the heap; what was called or has run was so before; and no row is settled that wasn't
 pub record Stays (before arena : Arena) (old work : Work) : Type 0 where
   pub needed : (p : Point) → Needed work.graph p → Needed old.graph p
   pub links : (p q : Point) → Needed work.graph p → times work.graph.links p q ≡ times old.graph.links p q
@@ -68,6 +69,8 @@ pub record Stays (before arena : Arena) (old work : Work) : Type 0 where
       ⊎ (Holds work.graph.heap p × (was : Row) × (v w : Value) × (row_at before p.node ≡ Some was) × (was.def ≡ Var w) × (r ≡ with_value was v))
   pub calls : (n : NodeId) (r : Row) (nodes : List NodeId) (k : Progress) (c : Call) → row_at arena n ≡ Some r → taken_by (graph_of arena) n r.def ≡ Some nodes
       → at work.rows (main n) ≡ Some k → k.last ≡ Some c → (row_at before n ≡ Some r) × (at old.rows (main n) ≡ Some k)
+  pub runs : (n s : NodeId) (r : Row) (o : Outcome) → row_at arena n ≡ Some r → subject_of r.def ≡ Some s → out_of work (change n) ≡ Some o
+      → (row_at before n ≡ Some r) × (out_of old (change n) ≡ Some o)
   pub unsettled : (p : Point) (k : Progress) → at work.rows p ≡ Some k → (at old.rows p ≡ Some k) ⊎ (k.settled ≡ 0)
   pub round : KeepsRound old work
   pub todo : work.todo.items ≡ old.todo.items

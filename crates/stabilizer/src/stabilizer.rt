@@ -12,7 +12,7 @@ ghost use Rattle.recompute_heap.specs.Agree.{IsEmpty};
 ghost use Rattle.necessary_graph.specs.Part.{Needed};
 ghost use Rattle.node_arena.specs.Graph.{graph_of, AllCallFit};
 ghost use Rattle.stabilizer.specs.Kept.{IsKept};
-ghost use Rattle.node_outcomes.specs.Meaning.{functions_of, lists_none};
+ghost use Rattle.node_outcomes.specs.Meaning.{functions_of, lists_none, maps_of};
 ghost use Rattle.node_outcomes.specs.Computing.{KeepsFunctions};
 ghost use Rattle.stabilizer.specs.Round.{IsReady, AreRooted, IsUpToDate, IsLawful, LeavesTried, HasCalledMet, ShowsStill, never_at};
 ghost use Rattle.stabilizer.specs.Round.{IsInRound, RootsMore, OnlyRoots, Settles, SettleRefused};
@@ -36,7 +36,8 @@ impl Stabilizer {
     pub fn step<F: Functions>(parts: &mut Parts, functions: &mut F) -> Result<bool, Refused>
         requires kept { IsKept parts.old.arena parts.old.work }
         requires quiet { parts.old.work.todo.items ≡ [] }
-        requires fit { AllCallFit (F.known functions.old) lists_none parts.old.arena }
+        requires sound { F.is_sound functions.old }
+        requires fit { AllCallFit (maps_of (F.known functions.old)) lists_none parts.old.arena }
         ensures stepped { IfOk result (λ more. IsTrue more → Steps (functions_of (F.value functions.old))
             parts.old.arena parts.old.work parts.new.work (F.calls functions.old) (F.calls functions.new)) }
         ensures empty { IfOk result (λ more. IsFalse more → IsEmpty parts.old.work.graph.heap) }
@@ -53,8 +54,7 @@ impl Stabilizer {
         ensures roots { KeepsRoots parts.old.work.graph.roots parts.new.work.graph.roots }
         ensures round { parts.new.work.round ≡ parts.old.work.round }
         ensures ran { parts.new.ran ≡ parts.old.ran }
-        ensures functions { KeepsFunctions (F.named functions.old) (F.named functions.new)
-            (F.known functions.old) (F.known functions.new) (F.value functions.old) (F.value functions.new) }
+        ensures functions { KeepsFunctions F.Functions functions.old functions.new }
     {
         let Some(p) = parts.work.graph.pop_least() else {
             return Ok(false);
@@ -81,7 +81,8 @@ impl Stabilizer {
         roots: &[NodeId],
     ) -> Result<(), Refused>
         requires ready { IsReady (functions_of (F.value functions.old)) parts.old.arena parts.old.work }
-        requires fit { AllCallFit (F.known functions.old) lists_none parts.old.arena }
+        requires sound { F.is_sound functions.old }
+        requires fit { AllCallFit (maps_of (F.known functions.old)) lists_none parts.old.arena }
         requires given { All (Given parts.old.arena.given) roots.now }
         ensures right { OnOk result ((observed : List NodeId) → AreRooted parts.old.work observed
             → IsUpToDate (functions_of (F.value functions.old)) parts.old.arena parts.old.work parts.new.work
@@ -102,8 +103,7 @@ impl Stabilizer {
             → ShowsStill (functions_of (F.value functions.old)) parts.old.arena parts.old.work parts.new.work n) }
         ensures ran { OnErr result (parts.new.ran ≡ parts.old.ran) }
         ensures arena { parts.new.arena ≡ parts.old.arena }
-        ensures functions { KeepsFunctions (F.named functions.old) (F.named functions.new)
-            (F.known functions.old) (F.known functions.new) (F.value functions.old) (F.value functions.new) }
+        ensures functions { KeepsFunctions F.Functions functions.old functions.new }
     {
         let Some(next) = parts.work.round.checked_add(1) else {
             return Err(Refused::Memory);
@@ -139,7 +139,8 @@ fn put_roots(work: &mut Work, arena: &Arena, roots: &[NodeId]) -> Result<(), Ref
 fn settle_all<F: Functions>(parts: &mut Parts, functions: &mut F) -> Result<(), Refused>
     requires kept { IsKept parts.old.arena parts.old.work }
     requires quiet { parts.old.work.todo.items ≡ [] }
-    requires fit { AllCallFit (F.known functions.old) lists_none parts.old.arena }
+    requires sound { F.is_sound functions.old }
+    requires fit { AllCallFit (maps_of (F.known functions.old)) lists_none parts.old.arena }
     requires in_round { IsInRound (functions_of (F.value functions.old)) parts.old.arena parts.old.work
         (F.calls functions.old) }
     ensures settled { OnOk result (Settles (functions_of (F.value functions.old)) parts.old.arena
@@ -153,8 +154,7 @@ fn settle_all<F: Functions>(parts: &mut Parts, functions: &mut F) -> Result<(), 
     ensures roots { KeepsRoots parts.old.work.graph.roots parts.new.work.graph.roots }
     ensures round { parts.new.work.round ≡ parts.old.work.round }
     ensures ran { parts.new.ran ≡ parts.old.ran }
-    ensures functions { KeepsFunctions (F.named functions.old) (F.named functions.new)
-        (F.known functions.old) (F.known functions.new) (F.value functions.old) (F.value functions.new) }
+    ensures functions { KeepsFunctions F.Functions functions.old functions.new }
 {
     while Stabilizer::step(parts, functions)? {}
     Ok(())
@@ -169,7 +169,8 @@ fn step_main<F: Functions>(
     requires kept { IsKept parts.old.arena parts.old.work }
     requires row { Holds parts.old.work.rows (main node) }
     requires taken { at parts.old.work.graph.heap (main node) ≡ None }
-    requires fit { AllCallFit (F.known functions.old) lists_none parts.old.arena }
+    requires sound { F.is_sound functions.old }
+    requires fit { AllCallFit (maps_of (F.known functions.old)) lists_none parts.old.arena }
     ensures settled { OnOk result (MainIsSettled (F.value functions.old) parts.old.arena parts.old.work parts.new.work
         node (F.calls functions.old) (F.calls functions.new)) }
     ensures refused { OnErr result (MainIsLeft parts.old.arena parts.old.work parts.new.work node
@@ -178,8 +179,7 @@ fn step_main<F: Functions>(
     ensures arena { parts.new.arena ≡ parts.old.arena }
     ensures ran { parts.new.ran ≡ parts.old.ran }
     ensures kept { IsKept parts.new.arena parts.new.work }
-    ensures functions { KeepsFunctions (F.named functions.old) (F.named functions.new)
-        (F.known functions.old) (F.known functions.new) (F.value functions.old) (F.value functions.new) }
+    ensures functions { KeepsFunctions F.Functions functions.old functions.new }
 {
     let computed = compute(
         parts.alloc,

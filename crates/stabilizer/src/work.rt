@@ -210,6 +210,7 @@ impl Work {
     /// Nodes of two points whose ids were given since the count are listed no more.
     pub fn forget_since(&mut self, count: u64)
         ensures kept { (n : ANode) → n.gen_ < count → Among n self.old.pairs.items → Among n self.new.pairs.items }
+        ensures forgotten { (n : ANode) → Among n self.new.pairs.items → n.gen_ < count }
         ensures rest { self.new ≡ record self.old { pairs = self.new.pairs } }
     {
         self.pairs.retain(|node| node.gen_ < count);

@@ -245,6 +245,14 @@ known_as_is_map None f h = absurd cc
 known_as_is_map (Some function) f h =
     subst (λ (g : FnRef). IsMapSig g.sig) (sym (reference_from_test f function h)) (reference_is_map function).2
 
+known_as_of_map : (f : FnRef) (o : Option Function) → IsTrue (known_as f o) → f.id.kind ≡ Map
+known_as_of_map f None h = absurd cc
+known_as_of_map f (Some function) h = map_from_test f.id.kind (first_true _ _ (first_true _ _ h))
+
+-- a known function is a map
+pub known_of_map : (f : FnRef) → IsTrue (known f) → f.id.kind ≡ Map
+known_of_map f h = known_as_of_map f (function_numbered f.id.number) h
+
 -- a known function has the types of a map
 pub known_is_map : (f : FnRef) → IsTrue (known f) → IsMapSig f.sig
 known_is_map f h = known_as_is_map (function_numbered f.id.number) f h

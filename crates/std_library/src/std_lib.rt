@@ -50,7 +50,7 @@ impl Library for StdLib {
     ghost use Rattle.inc_value.specs.Value.{type_of, HaveTypes, IsProper};
     ghost use Rattle.inc_value.specs.Counts.{raised, raised_on_err};
     ghost use Rattle.std_library.specs.Functions.{named, known, given};
-    ghost use Rattle.std_library.specs.FunctionLaws.{given_is_base, given_is_proper, given_is_typed, known_is_map, named_is_map};
+    ghost use Rattle.std_library.specs.FunctionLaws.{given_is_base, given_is_proper, given_is_typed, known_is_map, known_of_map, named_is_map};
 
     ghost named = { λ _ name. named name };
 
@@ -103,6 +103,8 @@ impl Library for StdLib {
     }
 
     ghost names_maps = { λ _ name f e. named_is_map name f e };
+
+    ghost maps_alone = { λ _ f known. known_of_map f known };
 
     ghost known_maps = { λ _ f known kind. known_is_map f known };
 

@@ -25,7 +25,9 @@ use Rattle.transfer.proofs.Agreement.{own_or}
 use Rattle.transfer.proofs.Carriers.{Carrier, at_name, at_place, at_grab, name_or, part_in, whole_in, carrier}
 use Rattle.transfer.specs.Cycles.{IsForm}
 use Rattle.transfer.proofs.Ghosts.{form_row}
-use Rattle.transfer.proofs.Leading.{Own, own_name, own_place, own_choice, own_left, own_grab, IsItself, itself, main_in, scoped_in, stands_deep, grab_depends, one_point, alongside, Alongside}
+use Rattle.transfer.proofs.Going.{grab_depends}
+use Rattle.transfer.proofs.Leading.{itself, one_point, alongside, Alongside}
+use Rattle.transfer.proofs.Owning.{Own, own_name, own_place, own_choice, own_left, own_grab, IsItself, main_in, scoped_in, stands_deep}
 use Rattle.transfer.proofs.Places.{part_above, place_shows}
 use Rattle.transfer.proofs.Reaching.{met_closed}
 use Rattle.transfer.proofs.Readers.{Reader, left_has_reader}

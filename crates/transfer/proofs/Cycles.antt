@@ -28,7 +28,9 @@ use Rattle.transfer.proofs.Chains.{main_item, left_bind, variable_leads}
 use Rattle.transfer.proofs.Commands.{own_target}
 use Rattle.transfer.proofs.Enclosed.{Enclosed, read_enclosed, met_reads}
 use Rattle.transfer.proofs.Ghosts.{form_row}
-use Rattle.transfer.proofs.Leading.{Own, own_name, own_place, own_choice, own_left, own_grab, IsItself, IsPart, IsSelf, Goes, to_part, to_own, to_left, OnPlaces, on_places, own_named, leads, left_in, Leads, part_read}
+use Rattle.transfer.proofs.Going.{IsPart, IsSelf, Goes, to_part, to_own, to_left, part_read}
+use Rattle.transfer.proofs.Leading.{OnPlaces, on_places, own_named, leads, left_in, Leads}
+use Rattle.transfer.proofs.Owning.{Own, own_name, own_place, own_choice, own_left, own_grab, IsItself}
 use Rattle.transfer.proofs.Numbers.{number}
 use Rattle.transfer.proofs.Places.{part_above, place_shows}
 use Rattle.transfer.proofs.Reaching.{met_closed}

@@ -25,6 +25,8 @@ pub mod Working
 pub mod Recalling
 pub mod Deep
 pub mod Numbers
+pub mod Owning
+pub mod Going
 pub mod Leading
 pub mod Readers
 pub mod Chains

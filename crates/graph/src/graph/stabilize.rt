@@ -2,6 +2,7 @@
 ghost use Rattle.std.specs.Prelude.{◌≡◌, ◌↔◌, ◌++◌, List, None, Some, IfOk, OnOk, OnErr, IfErr, IsErrOf, length, ◌≤◌};
 ghost use Rattle.inc_value.specs.declared.node.NodeId.{NodeId};
 ghost use Rattle.node_arena.specs.Meanings.{SameNames, KeepsKnown, SameValues};
+ghost use Rattle.node_arena.specs.RightSide.{SameSides};
 ghost use Rattle.node_arena.specs.Graph.{graph_of};
 ghost use Rattle.stabilize_round.specs.Calling.{costs_of};
 ghost use Rattle.stabilize_round.specs.Counts.{RoseBy};
@@ -47,6 +48,8 @@ impl<F: Functions> Graph<F> {
         ensures names { SameNames (F.named self.old.functions) (F.named self.new.functions) }
         ensures known { KeepsKnown (F.known self.old.functions) (F.known self.new.functions) }
         ensures values { SameValues (F.value self.old.functions) (F.value self.new.functions) }
+        ensures sides { SameSides (F.right self.old.functions) (F.right self.new.functions) }
+        ensures tally { F.tally self.new.functions ≡ F.tally self.old.functions }
     {
         if let Some(cause) = self.cause() {
             return Err(StabilizeFault::Broken(cause));
@@ -89,6 +92,7 @@ fn run<F: Functions>(
     rooted: usize,
 ) -> Result<(), Refused>
     requires within { rooted ≤ length observers.now }
+    requires sound { F.is_sound functions.old }
     requires can { CanStabilize (F.known functions.old) (F.value functions.old) parts.old observers.now rooted }
     ensures right { OnOk result (IsUpToDate (functions_of (F.value functions.old)) parts.old.arena parts.old.work parts.new.work
         (in_use observers.now) parts.new.ran.items) }
@@ -107,8 +111,7 @@ fn run<F: Functions>(
     ensures cutoffs { OnErr result ((n : NodeId) → never_at parts.new.work n ≡ never_at parts.old.work n) }
     ensures ran { OnErr result (parts.new.ran ≡ parts.old.ran) }
     ensures arena { parts.new.arena ≡ parts.old.arena }
-    ensures functions { KeepsFunctions (F.named functions.old) (F.named functions.new)
-        (F.known functions.old) (F.known functions.new) (F.value functions.old) (F.value functions.new) }
+    ensures functions { KeepsFunctions F.Functions functions.old functions.new }
 {
     let roots = nodes_in_use(alloc, observers, rooted)?;
     Stabilizer::run(parts, functions, &roots)

@@ -6,7 +6,7 @@ ghost use Rattle.inc_terms.specs.Code.{def_of};
 ghost use Rattle.inc_terms.specs.Within.{Given};
 ghost use Rattle.inc_terms.specs.Within.{ValueWithin};
 ghost use Rattle.node_arena.specs.Arena.{NamesGiven};
-ghost use Rattle.node_arena.specs.Typing.{Makes, Fits, FoldMakes, FoldTakes, JoinMakes, HasType, ReferenceFits, ty_of, base_of};
+ghost use Rattle.node_arena.specs.Typing.{Makes, Fits, BindMakes, BindTakes, FoldMakes, FoldTakes, JoinMakes, HasType, ReferenceFits, ty_of, base_of};
 
 use super::Arena;
 use inc_terms::Def;
@@ -52,6 +52,9 @@ pub(super) fn names_given(given: u64, def: &Def) -> bool
         }
         Def::If { test, yes, no } => all_given(given, &[*test, *yes, *no]),
         Def::Join(kid) => kid.gen_ < given,
+        Def::Bind { left, captures, .. } => {
+            left.gen_ < given && all_given(given, captures.as_slice())
+        }
     }
 }
 
@@ -146,6 +149,26 @@ fn folds(arena: &Arena, f: FnRef, initial: &Value, nodes: &[NodeId], ty: Ty) -> 
         && fold_takes(arena, ty, nodes, f.sig.takes())
 }
 
+/// Whether a function of right sides that takes the types takes the nodes, the left first and then the
+/// captures; a dead node is of every type.
+fn right_takes(arena: &Arena, left: NodeId, captures: &[NodeId], takes: &[Ty]) -> bool
+    ensures { IsTrue result ↔ BindTakes arena.now left captures.now takes.now }
+{
+    match takes {
+        [first, rest @ ..] => fits(arena, left, *first) && all_fit(arena, captures, rest),
+        _ => false,
+    }
+}
+
+/// Whether the function makes right sides of the type, of the left and the captures.
+fn binds(arena: &Arena, left: NodeId, f: FnRef, captures: &[NodeId], ty: Ty) -> bool
+    ensures { IsTrue result ↔ BindMakes arena.now left f captures.now ty }
+{
+    f.id.kind == FnKind::Rhs
+        && f.sig.gives() == ty
+        && right_takes(arena, left, captures, f.sig.takes())
+}
+
 /// Whether the definition makes the type.
 pub(super) fn makes(arena: &Arena, def: &Def, ty: Ty) -> bool
     ensures { IsTrue result ↔ Makes arena.now (def_of def.now) ty }
@@ -162,5 +185,10 @@ pub(super) fn makes(arena: &Arena, def: &Def, ty: Ty) -> bool
             fits(arena, *test, Ty::Bool) && fits(arena, *yes, ty) && fits(arena, *no, ty)
         }
         Def::Join(kid) => leads_to(arena, *kid, ty),
+        Def::Bind {
+            left,
+            function,
+            captures,
+        } => binds(arena, *left, *function, captures.as_slice(), ty),
     }
 }

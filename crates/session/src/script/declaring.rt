@@ -25,12 +25,13 @@ ghost use Rattle.script_model.specs.Values.{Value as AValue, to_engine};
 ghost use Rattle.session.specs.Carried.{IsBeside};
 
 use super::{Script, or_no_memory};
-use formula_elab::{Made, Make, Plan, ScriptFns, elaborate};
+use formula_elab::{Made, Make, Plan, elaborate};
 use formula_lang::{Command, Declaration, Formula, Kind, Names};
 use graph::{Graph, Mark};
 use inc_terms::Def;
 use inc_value::{NodeId, Ty, Value};
 use node_arena::Library;
+use script_functions::ScriptFns;
 use std::alloc::{AllocError, Global};
 
 impl<L: Library> Script<L> {
@@ -262,7 +263,7 @@ fn add<L: Library>(graph: &mut Graph<ScriptFns<L>>, def: Def) -> Result<NodeId, 
         Def::Fold(function, initial, kids) => {
             or_no_memory(graph.fold(function, initial, kids.as_slice()))
         }
-        Def::If { .. } | Def::Join(_) => unreachable!(),
+        Def::If { .. } | Def::Join(_) | Def::Bind { .. } => unreachable!(),
     }
 }
 

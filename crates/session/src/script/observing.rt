@@ -14,10 +14,10 @@ ghost use Rattle.script_model.specs.Step.{Moment, moved};
 ghost use Rattle.session.specs.Carried.{IsBeside};
 
 use super::{Script, or_no_memory};
-use formula_elab::ScriptFns;
 use graph::Graph;
 use inc_value::{NodeId, ObsId, Outcome};
 use node_arena::Library;
+use script_functions::ScriptFns;
 use std::alloc::AllocError;
 
 impl<L: Library> Script<L> {

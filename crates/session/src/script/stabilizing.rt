@@ -6,10 +6,10 @@ ghost use Rattle.script_graph.specs.Stabilizing.{ChainBegins, IsFirstNotOlder, A
 ghost use Rattle.session.specs.Carried.{EndsStabilize};
 
 use super::Script;
-use formula_elab::ScriptFns;
 use graph::{Graph, Kept, Refused, StabilizeFault};
 use inc_value::NodeId;
 use node_arena::Library;
+use script_functions::ScriptFns;
 use std::alloc::AllocError;
 
 /// How a stabilize ended.

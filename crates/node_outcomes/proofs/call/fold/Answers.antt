@@ -15,5 +15,5 @@ loop-value-preserved g c =
           ∙ sym (folded_take value c.args.initial.now c.args.values.now c.loop-value.value-index c.value-item.result c.loop-value-test.true);
       type = given.typed;
       calls = rose_on inv.calls given.calls;
-      functions = functions_on inv.functions given.functions;
+      functions = functions_on g.F.Functions _ _ _ inv.functions given.functions;
     }

@@ -11,6 +11,5 @@ invariant-loop-value g l = record {
   gathered : l.result ≡ folded (g.F.Functions.value l.fn.functions l.f) l.fn.initial (take l.value-index l.values);
   type : type_of l.result ≡ l.f.sig.gives;
   calls : RoseBy (g.F.Functions.calls l.fn.functions) l.value-index (g.F.Functions.calls l.functions);
-  functions : KeepsFunctions (g.F.Functions.named l.fn.functions) (g.F.Functions.named l.functions) (g.F.Functions.known l.fn.functions)
-      (g.F.Functions.known l.functions) (g.F.Functions.value l.fn.functions) (g.F.Functions.value l.functions);
+  functions : KeepsFunctions g.F.Functions l.fn.functions l.functions;
 }

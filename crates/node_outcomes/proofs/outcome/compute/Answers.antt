@@ -34,7 +34,7 @@ returns-in-Map-clause-computed g c =
     (value f) f.sig.gives (Map f nodes) nodes 1 is_map refl (λ values w e. e) refl refl refl
     (map_gives value c.args.arena.now c.args.round old c.args.node row c.requires.types c.is_sound.ensures is_row f nodes is_map)
     (map_base value c.args.arena.now c.args.round old c.args.node row c.requires.types c.is_sound.ensures is_row f nodes is_map
-    (g.F.Functions.known c.args.functions.now) (g.met.F.Functions.known_maps c.args.functions.now) c.requires.fit)
+    (g.F.Functions.known c.args.functions.now) (g.met.F.Functions.known_maps c.args.functions.now c.requires.sound) c.requires.fit)
     (noted c.compute_map.new.rows c.compute_map.new.ran.items (g.F.Functions.calls c.compute_map.new.functions))
     c.compute_map.result c.compute_map.ensures.computed
 
@@ -64,7 +64,7 @@ returns-in-Fold-clause-computed g c =
     (folded (value f) from) f.sig.gives (Fold f from nodes) nodes (length nodes) is_fold refl (λ values w e. e) refl refl refl
     (fold_gives value c.args.arena.now c.args.round old c.args.node row c.requires.types c.is_sound.ensures is_row f from nodes is_fold)
     (fold_base value c.args.arena.now c.args.round old c.args.node row c.requires.types c.is_sound.ensures is_row f from nodes is_fold
-    (g.F.Functions.known c.args.functions.now) (g.met.F.Functions.known_maps c.args.functions.now) c.requires.fit)
+    (g.F.Functions.known c.args.functions.now) (g.met.F.Functions.known_maps c.args.functions.now c.requires.sound) c.requires.fit)
     (noted c.compute_fold.new.rows c.compute_fold.new.ran.items (g.F.Functions.calls c.compute_fold.new.functions))
     c.compute_fold.result c.compute_fold.ensures.computed
 

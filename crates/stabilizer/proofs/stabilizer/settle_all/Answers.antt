@@ -1,6 +1,9 @@
-use Rattle.std.proofs.Common.{refl, ◌∙◌}
-use Rattle.node_outcomes.proofs.Computing.{functions_on}
-use Rattle.node_outcomes.specs.Meaning.{functions_of}
+use Rattle.std.proofs.Common.{refl, sym, subst, ◌∙◌}
+use Rattle.node_arena.specs.Arena.{Arena}
+use Rattle.node_arena.specs.Graph.{AllCallFit}
+use Rattle.node_outcomes.proofs.Computing.{functions_on, nothing_called}
+use Rattle.node_outcomes.proofs.Maps.{maps_still_fit}
+use Rattle.node_outcomes.specs.Meaning.{functions_of, lists_none, maps_of}
 use Rattle.stabilizer.specs.Round.{SettleRefused}
 use Rattle.stabilizer.proofs.Rounding.{exit_is, no_step, next_step, less_left, step_stops}
 use Rattle.stabilizer.proofs.stabilizer.settle_all.Goals as goal
@@ -11,8 +14,14 @@ loop-init g c = record {
   ran = refl;
   so = no_step (functions_of (g.F.Functions.value c.args.functions.now)) c.args.parts.now.arena c.args.parts.now.work
       (g.F.Functions.calls c.args.functions.now) c.requires.kept c.requires.quiet;
-  functions = record { names = λ name. refl; known = λ f h. h; values = λ f xs. refl };
+  functions = nothing_called g.F.Functions c.args.functions.now c.requires.sound;
 }
+
+pub step-requires-clause-fit : goal.step-requires-clause-fit
+step-requires-clause-fit g c =
+    let known = g.F.Functions.known c.loop.functions in
+    subst (λ (a : Arena). AllCallFit (maps_of known) lists_none a) (sym c.loop.invariant.arena)
+    (maps_still_fit (g.F.Functions.known c.args.functions.now) known c.args.parts.now.arena c.loop.invariant.functions.known c.requires.fit)
 
 pub loop-preserved : goal.loop-preserved
 loop-preserved g c = record {
@@ -23,7 +32,7 @@ loop-preserved g c = record {
       (g.F.Functions.calls c.args.functions.now) (g.F.Functions.calls c.loop.functions) (g.F.Functions.calls c.step.new.functions)
       c.loop.invariant.so c.step.ensures.arena c.step.ensures.kept c.in_ok-step.ensures.quiet
       (c.in_ok-step.ensures.stepped c.if-branch.true) c.step.ensures.places;
-  functions = functions_on c.loop.invariant.functions c.step.ensures.functions;
+  functions = functions_on g.F.Functions _ _ _ c.loop.invariant.functions c.step.ensures.functions;
 }
 
 pub loop-smaller : goal.loop-smaller
@@ -62,7 +71,7 @@ pub returns-in_err-step-clause-ran : goal.returns-in_err-step-clause-ran
 returns-in_err-step-clause-ran g c = c.step.ensures.ran ∙ c.loop.invariant.ran
 
 pub returns-in_err-step-clause-functions : goal.returns-in_err-step-clause-functions
-returns-in_err-step-clause-functions g c = functions_on c.loop.invariant.functions c.step.ensures.functions
+returns-in_err-step-clause-functions g c = functions_on g.F.Functions _ _ _ c.loop.invariant.functions c.step.ensures.functions
 
 -- ---- the heap is empty
 
@@ -96,4 +105,4 @@ pub returns-clause-ran : goal.returns-clause-ran
 returns-clause-ran g c = c.step.ensures.ran ∙ c.loop.invariant.ran
 
 pub returns-clause-functions : goal.returns-clause-functions
-returns-clause-functions g c = functions_on c.loop.invariant.functions c.step.ensures.functions
+returns-clause-functions g c = functions_on g.F.Functions _ _ _ c.loop.invariant.functions c.step.ensures.functions

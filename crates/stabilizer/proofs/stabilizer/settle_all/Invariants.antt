@@ -11,8 +11,7 @@ invariant-loop g l = record {
   ran : l.parts.ran ≡ l.fn.parts.ran;
   so : AreSettled (functions_of (g.F.Functions.value l.fn.functions)) l.fn.parts.arena l.fn.parts.work l.parts.work
       (g.F.Functions.calls l.fn.functions) (g.F.Functions.calls l.functions);
-  functions : KeepsFunctions (g.F.Functions.named l.fn.functions) (g.F.Functions.named l.functions) (g.F.Functions.known l.fn.functions)
-      (g.F.Functions.known l.functions) (g.F.Functions.value l.fn.functions) (g.F.Functions.value l.functions);
+  functions : KeepsFunctions g.F.Functions l.fn.functions l.functions;
 }
 
 abbrev pub decreases-loop : goal.decreases-loop

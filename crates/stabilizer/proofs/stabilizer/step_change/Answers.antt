@@ -85,6 +85,22 @@ returns-in_err-attach_right-clause-refused c =
     if_refusal (ChangeIsLeft arena old new n) e c.from_residual.result c.from_residual.ensures.1
     (unattached {turned = turned} is_turned c.in_err-attach_right.ensures.refused)
 
+pub returns-in_err-attach_right-clause-places : goal.returns-in_err-attach_right-clause-places
+returns-in_err-attach_right-clause-places c =
+    let arena = c.args.parts.now.arena in
+    let old = c.args.parts.now.work in
+    let n = c.args.node in
+    let r = row_of c.in-Some.row.now in
+    let m = c.in-Some-subject.subject in
+    let given = c.in-Ok.given in
+    let turned = c.turn.new.self in
+    let live : row_at arena n ≡ Some r = sym c.in-Some.ensures in
+    let sub : subject_of r.def ≡ Some m = sym c.subject.ensures ∙ c.in-Some-subject.is in
+    let t : HasTurned old turned n (right_in old.rows n r.def) given =
+    record { mid = c.turn.ensures.mid; turned = c.turn.ensures.turned; rows = c.turn.ensures.rows; rest = c.turn.ensures.rest } in
+    places_then old turned c.attach_right.new.self
+    (turned_places arena old turned n r m (right_in old.rows n r.def) given c.requires.kept live t) c.attach_right.ensures.places
+
 pub returns-clause-settled : goal.returns-clause-settled
 returns-clause-settled c =
     let arena = c.args.parts.now.arena in

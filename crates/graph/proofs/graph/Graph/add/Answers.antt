@@ -21,6 +21,7 @@ invariant_of-self g c = (
       (rw (← c.self.view_is) at c.in-Ok.ensures.unbroken) (a.ready _) (λ p. ap (λ (r : Roots). root_times r p) a.roots)
       (answer_fits _ _ _ (def_of c.args.def) c.args.ty c.add-added.result answers known sound)
       (answer_given _ _ (def_of c.args.def) c.args.ty c.add-added.result answers) (λ n given. a.rows (main n) given)),
+  c.self.invariant.2,
 )
 
 pub returns-clause-wrong_type : goal.returns-clause-wrong_type

@@ -16,4 +16,5 @@ invariant_of-self g c = (
       let b = c.back_to.ensures in
       sound_back _ _ c.self.inside.parts c.back_to.new.self c.self.inside.observers.items c.self.inside.rooted c.self.inside.refused c.self.invariant.1
       c.args.mark.given b.older b.dropped whole (b.ready _) b.roots b.given (λ n older. b.rows (main n) older) low),
+  c.self.invariant.2,
 )

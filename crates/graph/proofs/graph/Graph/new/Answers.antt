@@ -21,4 +21,5 @@ invariant_of-result g c = (
           shown = λ n among. absurd among;
         };
       }),
+  c.requires.sound,
 )

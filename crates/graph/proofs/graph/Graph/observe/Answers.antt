@@ -11,4 +11,5 @@ invariant_of-self-2 g c = (
       c.self.inside.parts os c.self.inside.rooted c.self.inside.refused) (sym c.in_ok-make.ensures.made)
       (sound_observed _ _ c.self.inside.parts c.self.inside.observers.items c.self.inside.rooted c.self.inside.refused c.self.invariant.1 c.args.node
       (omega (arith, c.if-count.false, c.len-count.ensures)) (rw (c.given.ensures, c.arena.ensures) at c.if-node-given.false)),
+  c.self.invariant.2,
 )

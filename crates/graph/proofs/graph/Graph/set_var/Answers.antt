@@ -39,4 +39,5 @@ invariant_of-self g c = (
       (rw (← c.self.view_is) at c.in-Ok.ensures.unbroken) (a.ready _) (λ p. ap (λ (r : Roots). root_times r p) a.roots)
       (set_fits _ _ _ c.args.node c.args.value c.set_var.result a.set (on_err c.self.inside.parts c.set_var.new.self c.set_var.result a.err))
       (omega (arith, a.given)) (λ n given. ap (λ (m : Rows Progress). at m (main n)) a.rows)),
+  c.self.invariant.2,
 )

@@ -27,6 +27,7 @@ invariant_of-self g c = (
       c.unroot.new.self os c.self.inside.rooted c.self.inside.refused) (sym c.end.ensures)
       (sound_ended _ _ c.self.inside.parts c.unroot.new.self c.self.inside.observers.items c.self.inside.rooted c.args.observer.0
       c.self.inside.refused c.self.invariant.1 c.in-Some.node is (rw (← c.self.view_is) at c.in_ok-check.ensures.unbroken) c.if-place-self.true (u.ready _) u.rooted u.arena u.rows)),
+  c.self.invariant.2,
 )
 
 pub invariant_of-self-else-place-self : goal.invariant_of-self-else-place-self
@@ -37,6 +38,7 @@ invariant_of-self-else-place-self g c = (
       c.self.inside.parts os c.self.inside.rooted c.self.inside.refused) (sym c.end.ensures)
       (sound_unmade _ _ c.self.inside.parts c.self.inside.parts c.self.inside.observers.items c.self.inside.rooted c.args.observer.0
       c.self.inside.refused c.self.invariant.1 c.in-Some.node is c.if-place-self.false)),
+  c.self.invariant.2,
 )
 
 pub returns-then-place-self-clause-ended : goal.returns-then-place-self-clause-ended

@@ -11,7 +11,7 @@ use Rattle.script_model.specs.Formula.{meanings_of}
 use Rattle.script_model.specs.Values.{seen_value}
 use Rattle.node_outcomes.specs.Meaning.{functions_of}
 use Rattle.session.proofs.Observed.{not_broken}
-use Rattle.session.proofs.Stabilized.{accepted_sound, refused_sound, refused_for, memory_met, first_of, none_of}
+use Rattle.session.proofs.Stabilized.{library_still_knows, accepted_sound, refused_sound, refused_for, memory_met, first_of, none_of}
 use Rattle.session.proofs.script.Script.stabilize.Goals as goal
 
 -- ---- accepted
@@ -27,7 +27,7 @@ returns-in-Ok g c =
     let unbroken = rw (← c.self.view_is) at c.requires.unbroken in
     rw (← c.self.view_is) (record {
       accepted = λ is m stands.
-          session_accepted (g.L.Library.named l) (g.L.Library.value l) (g.L.Library.known l) _ c.self.inside.graph new (g.L.Library.calls l)
+          session_accepted (g.L.Library.named l) (g.L.Library.value l) _ _ c.self.inside.graph new (g.L.Library.calls l)
           (g.L.Library.calls new.functions.library) refl unbroken c.keeps_sound.ensures.arena c.keeps_sound.ensures.sound c.in-Ok.ensures.brought c.in-Ok.ensures.calls m stands;
       too_deep = λ target is. absurd (cc);
       target = λ target is. absurd (cc);
@@ -37,7 +37,7 @@ returns-in-Ok g c =
       names = refl;
       given = ap (λ (a : Arena). a.given) c.in-Ok.ensures.brought.nodes;
       observers = c.in-Ok.ensures.brought.observers;
-      known_still = c.stabilize.ensures.known;
+      known_still = library_still_knows _ _ _ _ (g.met.L.Library.maps_alone l) c.stabilize.ensures.known;
       calls_grow = c.stabilize.ensures.calls_grow;
       functions = same_meanings _ _ (g.L.Library.value l) (g.L.Library.value new.functions.library) c.stabilize.ensures.names c.stabilize.ensures.values;
     })
@@ -63,7 +63,7 @@ returns-in-Some g c =
       accepted = λ is. absurd (cc);
       too_deep = λ target is m stands.
           let same : c.in-Some.target ≡ target = cc in
-          session_too_deep (g.L.Library.named l) (g.L.Library.value l) (g.L.Library.known l) _ c.self.inside.graph new refl unbroken
+          session_too_deep (g.L.Library.named l) (g.L.Library.value l) _ _ c.self.inside.graph new refl unbroken
           c.keeps_sound.ensures.arena c.keeps_sound.ensures.sound done target (g.L.Library.calls l) (g.L.Library.calls new.functions.library)
           (first_of new.refused c.self.inside.nodes.items c.deref.result.now c.deref.ensures.value c.in-Some.target target same
           c.in-Some.ensures.found) (c.stabilize.ensures.few cause.Height for).few m stands;
@@ -78,7 +78,7 @@ returns-in-Some g c =
       names = refl;
       given = ap (λ (a : Arena). a.given) done.nodes;
       observers = done.observers;
-      known_still = c.stabilize.ensures.known;
+      known_still = library_still_knows _ _ _ _ (g.met.L.Library.maps_alone l) c.stabilize.ensures.known;
       calls_grow = c.stabilize.ensures.calls_grow;
       functions = same_meanings _ _ (g.L.Library.value l) (g.L.Library.value new.functions.library) c.stabilize.ensures.names c.stabilize.ensures.values;
     })
@@ -108,14 +108,14 @@ returns-in-None g c =
           session_cut_short (meanings_of (g.L.Library.named l) (g.L.Library.value l)) _ c.self.inside.graph new (g.L.Library.calls l)
           (g.L.Library.calls new.functions.library) refl unbroken (c.stabilize.ensures.few cause.Height for).few m stands.matches;
       for_memory = λ m stands. absurd (
-          session_not_all_older (g.L.Library.named l) (g.L.Library.value l) (g.L.Library.known l) _ c.self.inside.graph new refl unbroken
+          session_not_all_older (g.L.Library.named l) (g.L.Library.value l) _ _ c.self.inside.graph new refl unbroken
           c.keeps_sound.ensures.arena c.keeps_sound.ensures.sound done
           (none_of new.refused c.self.inside.nodes.items c.deref.result.now c.deref.ensures.value c.in-None.ensures.none) m stands);
       count = omega arith;
       names = refl;
       given = ap (λ (a : Arena). a.given) done.nodes;
       observers = done.observers;
-      known_still = c.stabilize.ensures.known;
+      known_still = library_still_knows _ _ _ _ (g.met.L.Library.maps_alone l) c.stabilize.ensures.known;
       calls_grow = c.stabilize.ensures.calls_grow;
       functions = same_meanings _ _ (g.L.Library.value l) (g.L.Library.value new.functions.library) c.stabilize.ensures.names c.stabilize.ensures.values;
     })
@@ -149,7 +149,7 @@ returns-in-Err-Refused-Memory g c =
       names = refl;
       given = ap (λ (a : Arena). a.given) done.nodes;
       observers = done.observers;
-      known_still = c.stabilize.ensures.known;
+      known_still = library_still_knows _ _ _ _ (g.met.L.Library.maps_alone l) c.stabilize.ensures.known;
       calls_grow = c.stabilize.ensures.calls_grow;
       functions = same_meanings _ _ (g.L.Library.value l) (g.L.Library.value new.functions.library) c.stabilize.ensures.names c.stabilize.ensures.values;
     })
@@ -179,13 +179,13 @@ returns-in-Err-Refused-Cycle g c =
           session_cut_short (meanings_of (g.L.Library.named l) (g.L.Library.value l)) _ c.self.inside.graph new (g.L.Library.calls l)
           (g.L.Library.calls new.functions.library) refl unbroken (c.stabilize.ensures.few cause.Cycle for).few m stands.matches;
       for_memory = λ m stands. absurd (
-          session_no_cycle (g.L.Library.named l) (g.L.Library.value l) (g.L.Library.known l) _ c.self.inside.graph new refl unbroken
+          session_no_cycle (g.L.Library.named l) (g.L.Library.value l) _ _ c.self.inside.graph new refl unbroken
           c.keeps_sound.ensures.arena c.keeps_sound.ensures.sound done m stands);
       count = omega arith;
       names = refl;
       given = ap (λ (a : Arena). a.given) done.nodes;
       observers = done.observers;
-      known_still = c.stabilize.ensures.known;
+      known_still = library_still_knows _ _ _ _ (g.met.L.Library.maps_alone l) c.stabilize.ensures.known;
       calls_grow = c.stabilize.ensures.calls_grow;
       functions = same_meanings _ _ (g.L.Library.value l) (g.L.Library.value new.functions.library) c.stabilize.ensures.names c.stabilize.ensures.values;
     })

@@ -1,6 +1,7 @@
 use Rattle.std.proofs.Common.{subst, sym}
 use Rattle.node_arena.specs.Arena.{Arena}
-use Rattle.node_outcomes.specs.Meaning.{functions_of}
+use Rattle.node_outcomes.specs.Meaning.{functions_of, lists_none}
+use Rattle.node_outcomes.proofs.Maps.{no_binds}
 use Rattle.stabilizer.specs.Kept.{IsKept}
 use Rattle.stabilizer.specs.Stepping.{StepRefused}
 use Rattle.stabilizer.proofs.Carrying.{taken_kept}
@@ -26,7 +27,9 @@ returns-in_err-step_change-in-Change-clause-refused g c =
     let calls = g.F.Functions.calls c.args.functions.now in
     let e = c.in_err-step_change-in-Change.field-0.0 in
     if_refusal (StepRefused F arena old new calls calls) e c.from_residual.result c.from_residual.ensures.1
-    (change_stops arena old c.pop_least.new.self p p.node (is_change p c.in-Change.is) calls c.requires.kept c.in-Some.ensures.was c.in-Some.ensures.least
+    (change_stops arena old c.pop_least.new.self p p.node (is_change p c.in-Change.is) calls c.requires.kept
+    (no_binds (g.F.Functions.known c.args.functions.now) lists_none c.args.parts.now.arena c.requires.fit)
+    c.in-Some.ensures.was c.in-Some.ensures.least
     c.pop_least.ensures.rest c.in-Some.ensures.removed c.requires.quiet F new e c.in_err-step_change-in-Change.ensures.refused)
 
 pub returns-in_ok-step_change-in-Change-clause-stepped : goal.returns-in_ok-step_change-in-Change-clause-stepped
@@ -34,7 +37,9 @@ returns-in_ok-step_change-in-Change-clause-stepped g c = λ more.
     let F = functions_of (g.F.Functions.value c.args.functions.now) in
     let p = c.in-Some.p in
     change_steps c.args.parts.now.arena c.args.parts.now.work c.pop_least.new.self p p.node (is_change p c.in-Change.is)
-    (g.F.Functions.calls c.args.functions.now) c.requires.kept c.in-Some.ensures.was c.in-Some.ensures.least
+    (g.F.Functions.calls c.args.functions.now) c.requires.kept
+    (no_binds (g.F.Functions.known c.args.functions.now) lists_none c.args.parts.now.arena c.requires.fit)
+    c.in-Some.ensures.was c.in-Some.ensures.least
     c.pop_least.ensures.rest c.in-Some.ensures.removed c.requires.quiet F c.step_change.new.parts.work c.in_ok-step_change-in-Change.ensures.settled
     c.in_ok-step_change-in-Change.ensures.quiet
 
@@ -43,7 +48,9 @@ returns-in_ok-step_change-in-Change-clause-falls g c = λ more.
     let F = functions_of (g.F.Functions.value c.args.functions.now) in
     let p = c.in-Some.p in
     change_falls c.args.parts.now.arena c.args.parts.now.work c.pop_least.new.self p p.node (is_change p c.in-Change.is)
-    (g.F.Functions.calls c.args.functions.now) c.requires.kept c.in-Some.ensures.was c.in-Some.ensures.least
+    (g.F.Functions.calls c.args.functions.now) c.requires.kept
+    (no_binds (g.F.Functions.known c.args.functions.now) lists_none c.args.parts.now.arena c.requires.fit)
+    c.in-Some.ensures.was c.in-Some.ensures.least
     c.pop_least.ensures.rest c.in-Some.ensures.removed c.requires.quiet F c.step_change.new.parts.work c.in_ok-step_change-in-Change.ensures.settled
     c.in_ok-step_change-in-Change.ensures.quiet
     (subst (λ (a : Arena). IsKept a c.step_change.new.parts.work) c.step_change.ensures.arena c.step_change.ensures.kept)

@@ -1,0 +1,4 @@
+pub mod Arithmetic
+pub mod Held
+pub mod Making
+pub mod Sides

@@ -1,0 +1,3 @@
+pub mod Signature
+pub mod TableLaws
+pub mod Tables

@@ -1,0 +1,162 @@
+//! The nodes of an arena while a function builds a right side.
+ghost use Rattle.std.specs.Prelude.{◌≡◌, IfOk, IfErr, OnErr};
+ghost use Rattle.inc_value.specs.Value.{type_of};
+ghost use Rattle.inc_terms.specs.Code.{def_of};
+ghost use Rattle.inc_terms.specs.Graph.{Const, Map, Fold, If, Join, Bind};
+ghost use Rattle.inc_terms.specs.Within.{Given};
+ghost use Rattle.node_arena.specs.Building.{building_in, Answers, TellsFault, Adds};
+ghost use Rattle.node_arena.specs.Sound.{IsSound};
+
+use crate::{AddFault, Arena};
+use inc_terms::{Def, Nodes};
+use inc_value::{FnRef, NodeId, Ty, Value};
+use std::alloc::{AllocError, Global};
+use std::marker::Model;
+
+/// Owns the nodes of an arena while a function builds a right side, and adds nodes to the scope of
+/// one bind.
+#[derive(Drop)]
+pub struct Builder {
+    alloc: Global,
+    arena: Arena,
+    scope: NodeId,
+}
+
+impl Model for Builder {
+    ghost use Rattle.node_arena.specs.Building.{Building, building_in};
+    ghost use Rattle.inc_terms.specs.Within.{Given};
+
+    ghost Value = { Building };
+
+    ghost view = { λ b. building_in b.scope b.arena };
+
+    ghost invariant = { λ b. Given b.arena.given b.scope };
+}
+
+impl Builder {
+    /// A builder of nodes in the scope of the bind, which takes their memory from `alloc`.
+    pub fn new(alloc: Global, arena: Arena, scope: NodeId) -> Builder
+        requires { Given arena.given scope }
+        ensures { result ≡ building_in scope arena }
+    {
+        Builder {
+            alloc,
+            arena,
+            scope,
+        }
+    }
+
+    /// The arena, with what was added.
+    pub fn finish(self) -> Arena
+        ensures { result ≡ self.arena }
+    {
+        self.arena
+    }
+
+    /// How many ids the arena has given.
+    pub fn given(&self) -> u64
+        ensures { result ≡ self.now.arena.given }
+    {
+        self.arena.given()
+    }
+
+    /// A law: the arena is sound, and the scope's bind was given.
+    pub fn is_sound(&self)
+        ensures sound { IsSound self.now.arena }
+        ensures scope { Given self.now.arena.given self.now.scope }
+    {
+        self.arena.is_sound();
+    }
+
+    /// Adds a node that always has the value. What is looked at comes in the order of the faults, want
+    /// of memory last; a refused call leaves the nodes as they were.
+    pub fn constant(&mut self, value: Value) -> Result<NodeId, AddFault>
+        ensures answer { Answers self.old.arena (Const value) (type_of value) result }
+        ensures told { TellsFault self.old.arena (Const value) (type_of value) result }
+        ensures added { IfOk result (λ id. Adds self.old self.new id (Const value) (type_of value)) }
+        ensures err { OnErr result (self.new ≡ self.old) }
+    {
+        let ty = value.ty();
+        self.add(Def::Const(value), ty)
+    }
+
+    /// Adds a node that applies a function to the values of nodes. Faults as for a constant, but want
+    /// of memory may also come first, when the list of nodes is copied.
+    pub fn map(&mut self, f: FnRef, kids: &[NodeId]) -> Result<NodeId, AddFault>
+        ensures answer { Answers self.old.arena (Map f kids.now) f.sig.gives result }
+        ensures added { IfOk result (λ id. Adds self.old self.new id (Map f kids.now) f.sig.gives) }
+        ensures err { OnErr result (self.new ≡ self.old) }
+    {
+        let nodes = self.listed(kids)?;
+        self.add(Def::Map(f, nodes), f.sig.gives())
+    }
+
+    /// Adds a node that folds the values of nodes by a function of two arguments, from the initial
+    /// value on. Faults as for a map.
+    pub fn fold(&mut self, f: FnRef, initial: Value, kids: &[NodeId]) -> Result<NodeId, AddFault>
+        ensures answer { Answers self.old.arena (Fold f initial kids.now) f.sig.gives result }
+        ensures added { IfOk result (λ id. Adds self.old self.new id (Fold f initial kids.now) f.sig.gives) }
+        ensures err { OnErr result (self.new ≡ self.old) }
+    {
+        let nodes = self.listed(kids)?;
+        self.add(Def::Fold(f, initial, nodes), f.sig.gives())
+    }
+
+    /// Adds a node of the type that shows one node where the test's value is true, and the other where
+    /// it is false. Faults as for a constant.
+    pub fn if_(&mut self, ty: Ty, test: NodeId, yes: NodeId, no: NodeId) -> Result<NodeId, AddFault>
+        ensures answer { Answers self.old.arena (If test yes no) ty result }
+        ensures told { TellsFault self.old.arena (If test yes no) ty result }
+        ensures added { IfOk result (λ id. Adds self.old self.new id (If test yes no) ty) }
+        ensures err { OnErr result (self.new ≡ self.old) }
+    {
+        self.add(Def::If { test, yes, no }, ty)
+    }
+
+    /// Adds a node of the type that shows the node that the kid's value names. Faults as for a constant.
+    pub fn join(&mut self, ty: Ty, kid: NodeId) -> Result<NodeId, AddFault>
+        ensures answer { Answers self.old.arena (Join kid) ty result }
+        ensures told { TellsFault self.old.arena (Join kid) ty result }
+        ensures added { IfOk result (λ id. Adds self.old self.new id (Join kid) ty) }
+        ensures err { OnErr result (self.new ≡ self.old) }
+    {
+        self.add(Def::Join(kid), ty)
+    }
+
+    /// Adds a bind: a node that shows the right side that the function makes of the left's value and
+    /// the captured nodes. Faults as for a map.
+    pub fn bind(&mut self, left: NodeId, f: FnRef, captures: &[NodeId]) -> Result<NodeId, AddFault>
+        ensures answer { Answers self.old.arena (Bind left f captures.now) f.sig.gives result }
+        ensures added { IfOk result (λ id. Adds self.old self.new id (Bind left f captures.now) f.sig.gives) }
+        ensures err { OnErr result (self.new ≡ self.old) }
+    {
+        let nodes = self.listed(captures)?;
+        let def = Def::Bind {
+            left,
+            function: f,
+            captures: nodes,
+        };
+        self.add(def, f.sig.gives())
+    }
+
+    /// The nodes as a list of a definition.
+    fn listed(&self, nodes: &[NodeId]) -> Result<Nodes, AddFault>
+        ensures ok { IfOk result (λ list. list ≡ nodes.now) }
+        ensures err { IfErr result (λ e. e ≡ AddFault.Memory) }
+    {
+        match Nodes::from_slice(self.alloc, nodes) {
+            Ok(list) => Ok(list),
+            Err(AllocError) => Err(AddFault::Memory),
+        }
+    }
+
+    /// Adds a node to the scope.
+    fn add(&mut self, def: Def, ty: Ty) -> Result<NodeId, AddFault>
+        ensures answer { Answers self.old.arena (def_of def) ty result }
+        ensures told { TellsFault self.old.arena (def_of def) ty result }
+        ensures added { IfOk result (λ id. Adds self.old self.new id (def_of def) ty) }
+        ensures err { OnErr result (self.new ≡ self.old) }
+    {
+        self.arena.add(def, ty, Some(self.scope))
+    }
+}

@@ -1,0 +1,5 @@
+mod Moving
+mod Sound
+mod Dying
+mod Entering
+mod Giving

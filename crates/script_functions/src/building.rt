@@ -1,0 +1,274 @@
+//! Lines built in an arena.
+ghost use Rattle.std.specs.Prelude.{◌≡◌, map, Ok, IfOk, IfErr, IsErr, OnOk, OnErr, IsErrOf};
+ghost use Rattle.inc_value.specs.Value.{type_of};
+ghost use Rattle.inc_terms.specs.Graph.{Const, Map, Fold, If, Join, Bind};
+ghost use Rattle.node_arena.specs.Arena.{IsFull};
+ghost use Rattle.node_arena.specs.Building.{Adds, Grows};
+ghost use Rattle.node_arena.specs.RightSide.{MayBuild, IsRoot};
+ghost use Rattle.script_functions.specs.Bodies.{side_of};
+ghost use Rattle.script_functions.specs.Filling.{node_of, filled, IsReady};
+ghost use Rattle.script_functions.specs.Underway.{IsNoted, AreBuilt};
+
+use crate::{Body, Line, ListedNode, Part, TypedLine};
+use inc_value::{FnRef, NodeId, Ty, Value};
+use node_arena::{AddFault, BuildFault, Builder};
+use std::alloc::{AllocError, Global};
+
+/// The node that a part stands for, if it is there.
+fn node_of(listed: &[ListedNode], captures: &[NodeId], made: &[NodeId], part: Part) -> NodeId
+    ensures { result ≡ node_of listed.now captures.now made.now part }
+{
+    let node = match part {
+        Part::Listed(place) => listed.get(place).map(|listed| listed.node()),
+        Part::Captured(place) => captures.get(place).copied(),
+        Part::Line(place) => made.get(place).copied(),
+    };
+    node.unwrap_or_default()
+}
+
+/// The nodes that parts stand for.
+fn nodes_of(
+    alloc: Global,
+    listed: &[ListedNode],
+    captures: &[NodeId],
+    made: &[NodeId],
+    parts: &[Part],
+) -> Result<Vec<NodeId>, BuildFault>
+    ensures ok { IfOk result (λ nodes. nodes.items ≡ map (node_of listed.now captures.now made.now) parts.now) }
+    ensures err { IfErr result (λ fault. fault ≡ BuildFault.Memory) }
+{
+    let nodes = parts
+        .iter()
+        .map(|part| node_of(listed, captures, made, *part))
+        .collect(alloc);
+    match nodes {
+        Ok(nodes) => Ok(nodes),
+        Err(AllocError) => Err(BuildFault::Memory),
+    }
+}
+
+/// The node, or why it isn't built, where its ids were given and its types fit.
+fn built(answer: Result<NodeId, AddFault>) -> Result<NodeId, BuildFault>
+    requires given { ¬ IsErrOf answer AddFault.Unknown }
+    requires typed { ¬ IsErrOf answer AddFault.WrongType }
+    ensures ok { IfOk result (λ id. answer ≡ Ok id) }
+    ensures err { OnErr result (IsErr answer) }
+    ensures full { IsErrOf result BuildFault.Full → IsErrOf answer AddFault.Full }
+{
+    match answer {
+        Ok(id) => Ok(id),
+        Err(fault) => Err(BuildFault::from_add(fault)),
+    }
+}
+
+/// Adds a node that always has the value, where what it names was given and is of its type.
+fn add_constant(alloc: Global, value: &Value, builder: &mut Builder) -> Result<NodeId, BuildFault>
+    requires ready { IsReady builder.old (Const value.now) (type_of value.now) }
+    ensures added { IfOk result (λ id. Adds builder.old builder.new id (Const value.now) (type_of value.now)) }
+    ensures full { IsErrOf result BuildFault.Full → IsFull builder.new.arena }
+    ensures err { OnErr result (builder.new ≡ builder.old) }
+{
+    let Ok(value) = value.copy(alloc) else {
+        return Err(BuildFault::Memory);
+    };
+    built(builder.constant(value))
+}
+
+/// Adds a node that maps the nodes' values, where they are of the types that the function takes.
+fn add_map(f: FnRef, nodes: &[NodeId], builder: &mut Builder) -> Result<NodeId, BuildFault>
+    requires ready { IsReady builder.old (Map f nodes.now) f.sig.gives }
+    ensures added { IfOk result (λ id. Adds builder.old builder.new id (Map f nodes.now) f.sig.gives) }
+    ensures full { IsErrOf result BuildFault.Full → IsFull builder.new.arena }
+    ensures err { OnErr result (builder.new ≡ builder.old) }
+{
+    built(builder.map(f, nodes))
+}
+
+/// Adds a node that folds the nodes' values from the value on, where they are of the types that the
+/// function takes.
+fn add_fold(
+    alloc: Global,
+    f: FnRef,
+    initial: &Value,
+    nodes: &[NodeId],
+    builder: &mut Builder,
+) -> Result<NodeId, BuildFault>
+    requires ready { IsReady builder.old (Fold f initial.now nodes.now) f.sig.gives }
+    ensures added { IfOk result (λ id. Adds builder.old builder.new id (Fold f initial.now nodes.now) f.sig.gives) }
+    ensures full { IsErrOf result BuildFault.Full → IsFull builder.new.arena }
+    ensures err { OnErr result (builder.new ≡ builder.old) }
+{
+    let Ok(initial) = initial.copy(alloc) else {
+        return Err(BuildFault::Memory);
+    };
+    built(builder.fold(f, initial, nodes))
+}
+
+/// Adds a node that has the value of one node where the test's is true, else that of the other, where
+/// they are of the type.
+fn add_if(
+    test: NodeId,
+    yes: NodeId,
+    no: NodeId,
+    ty: Ty,
+    builder: &mut Builder,
+) -> Result<NodeId, BuildFault>
+    requires ready { IsReady builder.old (If test yes no) ty }
+    ensures added { IfOk result (λ id. Adds builder.old builder.new id (If test yes no) ty) }
+    ensures full { IsErrOf result BuildFault.Full → IsFull builder.new.arena }
+    ensures err { OnErr result (builder.new ≡ builder.old) }
+{
+    built(builder.if_(ty, test, yes, no))
+}
+
+/// Adds a node that has the value of the node that the kid's value names, where that is of the type.
+fn add_join(kid: NodeId, ty: Ty, builder: &mut Builder) -> Result<NodeId, BuildFault>
+    requires ready { IsReady builder.old (Join kid) ty }
+    ensures added { IfOk result (λ id. Adds builder.old builder.new id (Join kid) ty) }
+    ensures full { IsErrOf result BuildFault.Full → IsFull builder.new.arena }
+    ensures err { OnErr result (builder.new ≡ builder.old) }
+{
+    built(builder.join(ty, kid))
+}
+
+/// Adds a bind of the left and captured nodes, where they are of the types that the function takes.
+fn add_bind(
+    left: NodeId,
+    f: FnRef,
+    captures: &[NodeId],
+    builder: &mut Builder,
+) -> Result<NodeId, BuildFault>
+    requires ready { IsReady builder.old (Bind left f captures.now) f.sig.gives }
+    ensures added { IfOk result (λ id. Adds builder.old builder.new id (Bind left f captures.now) f.sig.gives) }
+    ensures full { IsErrOf result BuildFault.Full → IsFull builder.new.arena }
+    ensures err { OnErr result (builder.new ≡ builder.old) }
+{
+    built(builder.bind(left, f, captures))
+}
+
+/// Adds the node of a line, where its parts are of the types that it wants.
+fn add_line(
+    alloc: Global,
+    listed: &[ListedNode],
+    captures: &[NodeId],
+    made: &[NodeId],
+    row: &TypedLine,
+    builder: &mut Builder,
+) -> Result<NodeId, BuildFault>
+    requires ready { IsReady builder.old (filled listed.now captures.now made.now row.now.line) row.now.ty }
+    ensures added { IfOk result (λ id. Adds builder.old builder.new id
+        (filled listed.now captures.now made.now row.now.line) row.now.ty) }
+    ensures full { IsErrOf result BuildFault.Full → IsFull builder.new.arena }
+    ensures err { OnErr result (builder.new ≡ builder.old) }
+{
+    let node = |part: Part| node_of(listed, captures, made, part);
+    match &row.line {
+        Line::Const(value) => add_constant(alloc, value, builder),
+        Line::Map(f, parts) => {
+            let nodes = nodes_of(alloc, listed, captures, made, parts.as_slice())?;
+            add_map(*f, &nodes, builder)
+        }
+        Line::Fold(f, initial, parts) => {
+            let nodes = nodes_of(alloc, listed, captures, made, parts.as_slice())?;
+            add_fold(alloc, *f, initial, &nodes, builder)
+        }
+        Line::If { test, yes, no } => add_if(node(*test), node(*yes), node(*no), row.ty, builder),
+        Line::Join(part) => add_join(node(*part), row.ty, builder),
+        Line::Bind {
+            left,
+            function,
+            captures: parts,
+            ..
+        } => {
+            let nodes = nodes_of(alloc, listed, captures, made, parts.as_slice())?;
+            add_bind(node(*left), *function, &nodes, builder)
+        }
+    }
+}
+
+/// Adds the node of a line, where its parts are of the types that it wants, and notes it.
+fn add_next(
+    alloc: Global,
+    listed: &[ListedNode],
+    captures: &[NodeId],
+    made: &mut Vec<NodeId>,
+    row: &TypedLine,
+    builder: &mut Builder,
+) -> Result<(), BuildFault>
+    requires ready { IsReady builder.old (filled listed.now captures.now made.old.items row.now.line) row.now.ty }
+    ensures noted { OnOk result (IsNoted builder.old builder.new made.old.items made.new.items
+        (filled listed.now captures.now made.old.items row.now.line) row.now.ty) }
+    ensures full { IsErrOf result BuildFault.Full → IsFull builder.new.arena }
+    ensures err { OnErr result (builder.new ≡ builder.old) }
+{
+    if made.reserve(1).is_err() {
+        return Err(BuildFault::Memory);
+    }
+    let id = add_line(alloc, listed, captures, made, row, builder)?;
+    made.push_reserved(id);
+    Ok(())
+}
+
+/// Adds the node of line 0, and notes it.
+fn add_left(
+    alloc: Global,
+    left: &Value,
+    made: &mut Vec<NodeId>,
+    builder: &mut Builder,
+) -> Result<(), BuildFault>
+    requires ready { IsReady builder.old (Const left.now) (type_of left.now) }
+    ensures noted { OnOk result (IsNoted builder.old builder.new made.old.items made.new.items
+        (Const left.now) (type_of left.now)) }
+    ensures full { IsErrOf result BuildFault.Full → IsFull builder.new.arena }
+    ensures err { OnErr result (builder.new ≡ builder.old) }
+{
+    if made.reserve(1).is_err() {
+        return Err(BuildFault::Memory);
+    }
+    let id = add_constant(alloc, left, builder)?;
+    made.push_reserved(id);
+    Ok(())
+}
+
+/// Builds the lines of a body, and gives the nodes of all, line 0 first.
+fn build_lines(
+    alloc: Global,
+    body: &Body,
+    left: &Value,
+    captures: &[NodeId],
+    builder: &mut Builder,
+) -> Result<Vec<NodeId>, BuildFault>
+    requires ready { MayBuild builder.old body.now.draft.sig (side_of body.now) left.now captures.now }
+    ensures grows { Grows (side_of body.now).uses builder.old builder.new (side_of body.now).size }
+    ensures built { IfOk result (λ made. AreBuilt builder.new body.now left.now captures.now made.items) }
+    ensures full { IsErrOf result BuildFault.Full → IsFull builder.new.arena }
+{
+    let draft = body.draft();
+    let lines = draft.lines();
+    let mut made = Vec::new(alloc);
+    add_left(alloc, left, &mut made, builder)?;
+    for row in lines {
+        builder.is_sound();
+        add_next(alloc, draft.listed(), captures, &mut made, row, builder)?;
+    }
+    Ok(made)
+}
+
+/// Builds a body for the left value and the captures, and gives the node of its root.
+pub(crate) fn build_body(
+    alloc: Global,
+    body: &Body,
+    left: &Value,
+    captures: &[NodeId],
+    builder: &mut Builder,
+) -> Result<NodeId, BuildFault>
+    requires ready { MayBuild builder.old body.now.draft.sig (side_of body.now) left.now captures.now }
+    ensures grows { Grows (side_of body.now).uses builder.old builder.new (side_of body.now).size }
+    ensures root { IfOk result (λ n. IsRoot builder.new captures.now n
+        ((side_of body.now).term left.now) body.now.draft.sig.gives) }
+    ensures full { IsErrOf result BuildFault.Full → IsFull builder.new.arena }
+{
+    let made = build_lines(alloc, body, left, captures, builder)?;
+    let draft = body.draft();
+    Ok(node_of(draft.listed(), captures, &made, body.root()))
+}

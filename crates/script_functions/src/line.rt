@@ -1,0 +1,124 @@
+//! Lines of a body, and what they read.
+ghost use Rattle.std.specs.Prelude.{◌≡◌, IfOk};
+
+use inc_value::{FnRef, NodeId, Ty, Value};
+use std::alloc::{AllocError, Global};
+use std::marker::Model;
+
+/// What a line reads, by its place in its list.
+#[derive(Clone, Copy)]
+pub enum Part {
+    /// A node that the body lists.
+    Listed(usize),
+    /// A captured node.
+    Captured(usize),
+    /// The node of another line. Line 0 is the left value.
+    Line(usize),
+}
+
+/// A list of parts.
+#[derive(Drop)]
+pub struct Parts {
+    parts: Vec<Part>,
+}
+
+impl Model for Parts {
+    ghost use Rattle.std.specs.Prelude.{List};
+    ghost use Rattle.script_functions.specs.declared.line.Part.{Part};
+
+    ghost Value = { List Part };
+
+    ghost view = { λ p. p.parts.items };
+}
+
+impl Parts {
+    /// The parts, in this order.
+    pub fn from_slice(alloc: Global, parts: &[Part]) -> Result<Parts, AllocError>
+        ensures { IfOk result (λ list. list ≡ parts.now) }
+    {
+        Ok(Parts {
+            parts: Vec::from_slice(alloc, parts)?,
+        })
+    }
+
+    /// The parts in order.
+    pub fn as_slice(&self) -> &[Part]
+        ensures { result.now ≡ self.now }
+    {
+        &self.parts
+    }
+}
+
+/// What the node of one place of a formula is, over what it reads.
+#[derive(Drop)]
+pub enum Line {
+    /// Always the value.
+    Const(Value),
+    /// The function of the parts' values.
+    Map(FnRef, Parts),
+    /// The function of two values, from the value on over the parts' values in order.
+    Fold(FnRef, Value, Parts),
+    /// The first part where the test is true, the second where it is false.
+    If {
+        test: Part,
+        yes: Part,
+        no: Part,
+    },
+    /// The node that the part's value names.
+    Join(Part),
+    /// The right side that the function builds of the part's value and the captures. It takes `most`
+    /// nodes at most, with those of the scopes within.
+    Bind {
+        left: Part,
+        function: FnRef,
+        most: u64,
+        captures: Parts,
+    },
+}
+
+/// A line, and the type of its node's values.
+#[derive(Drop)]
+pub struct TypedLine {
+    pub line: Line,
+    pub ty: Ty,
+}
+
+/// A node that stands outside of the body, with its type.
+#[derive(Clone, Copy, PartialEq, Eq)]
+pub struct ListedNode {
+    node: NodeId,
+    ty: Ty,
+}
+
+impl Model for ListedNode {
+    ghost use Rattle.node_arena.specs.Listing.{Listed};
+
+    ghost Value = { Listed };
+
+    ghost view = { λ x. record { node = x.node; ty = x.ty } };
+
+    ghost inverse = { λ x. record { node = x.node; ty = x.ty } };
+}
+
+impl ListedNode {
+    /// The node, of values of the type.
+    pub fn new(node: NodeId, ty: Ty) -> ListedNode
+        ensures { result ≡ record { node = node; ty = ty } }
+    {
+        ListedNode { node, ty }
+    }
+
+    /// The node.
+    pub fn node(self) -> NodeId
+        ensures { result ≡ self.node }
+    {
+        self.node
+    }
+
+    /// The type of its values.
+    pub fn ty(self) -> Ty
+        ensures { result ≡ self.ty }
+    {
+        self.ty
+    }
+}
