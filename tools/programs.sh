@@ -73,6 +73,16 @@ awk 'BEGIN {
 }' >"$room/full.incr"
 awk 'BEGIN { for (i = 0; i < 1024; i++) print "ok"; print "refused 19" }' >"$room/full.out"
 
+# a fold over 2,000 elements, which nearly fill the longest line, called anew for all of them where one changes
+awk 'BEGIN {
+    print "var x int 1"
+    printf "let s fold add from 0 [x"
+    for (k = 1; k < 2000; k++) printf ",x"
+    print "]\nobserve o s\nstabilize\nshow o\nset x 3\nstabilize\nshow o"
+}' >"$room/long.incr"
+printf 'ok\nok\nok\nstable 1\no = 2000\nok\nstable 2\no = 6000\n' >"$room/incr.long"
+printf 'ok\nok\nok\nstable 1\ncalls 2000\no = 2000\nok\nstable 2\ncalls 2000\no = 6000\n' >"$room/incr_profile.long"
+
 for program in incr incr_profile; do
     if [ ! -x "crates/$program/out/$program" ]; then
         echo "programs: crates/$program/out/$program is missing: rt ci builds it"
@@ -82,6 +92,7 @@ for program in incr incr_profile; do
     runs "$program" 0 "$room/nothing" /dev/null run
     runs "$program" 1 "$room/refused.out" "$room/refused.incr" run
     runs "$program" 1 "$room/full.out" "$room/full.incr" run
+    runs "$program" 0 "$room/$program.long" "$room/long.incr" run
     runs "$program" 2 "$room/$program.usage" examples/first.incr
     runs "$program" 2 "$room/$program.usage" examples/first.incr run run
     runs "$program" 2 "$room/$program.usage" examples/first.incr Run

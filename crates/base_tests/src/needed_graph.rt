@@ -342,14 +342,10 @@ fn does_all(graph: &mut NecessaryGraph, acts: &[(Act, i64)]) -> bool {
 
 /// Whether the acts, done to a new graph, answer what is wanted.
 fn is_done(alloc: Global, acts: &[(Act, i64)]) -> bool {
-    match NecessaryGraph::new(alloc) {
-        Ok(mut graph) => {
-            let well = does_all(&mut graph, acts);
-            drop(graph);
-            well
-        }
-        Err(_) => false,
-    }
+    let mut graph = NecessaryGraph::new(alloc);
+    let well = does_all(&mut graph, acts);
+    drop(graph);
+    well
 }
 
 /// Whether that is so of each table.

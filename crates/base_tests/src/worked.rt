@@ -138,14 +138,10 @@ fn lowest_first(heap: &mut RecomputeHeap) -> bool {
 
 /// The same of one of its own.
 fn heap_is_well(alloc: Global) -> bool {
-    match RecomputeHeap::new(alloc) {
-        Ok(mut heap) => {
-            let well = lowest_first(&mut heap);
-            drop(heap);
-            well
-        }
-        Err(_) => false,
-    }
+    let mut heap = RecomputeHeap::new(alloc);
+    let well = lowest_first(&mut heap);
+    drop(heap);
+    well
 }
 
 // ---- heights

@@ -1,5 +1,5 @@
 //! A graph over the standard library, of which callers see the count of calls alone.
-ghost use Rattle.std.specs.Prelude.{◌≡◌, ◌≤◌, IfOk};
+ghost use Rattle.std.specs.Prelude.{◌≡◌, ◌≤◌};
 
 use crate::fault::{Fault, of_graph, of_stabilize};
 use graph::{Cutoff, Graph};
@@ -35,12 +35,11 @@ fn number_of(outcome: &Outcome) -> Result<i64, Fault> {
 
 impl Engine {
     /// A graph without nodes.
-    pub fn new(alloc: Global) -> Result<Engine, Fault>
-        ensures { IfOk result (λ engine. engine ≡ 0) }
+    pub fn new(alloc: Global) -> Engine
+        ensures { result ≡ 0 }
     {
-        match Graph::new(alloc, ScriptFns::new(alloc, StdLib::new())) {
-            Ok(graph) => Ok(Engine { graph }),
-            Err(_) => Err(Fault::Memory),
+        Engine {
+            graph: Graph::new(alloc, ScriptFns::new(alloc, StdLib::new())),
         }
     }
 

@@ -1,5 +1,5 @@
 //! The names that a script has declared, and its observers in use.
-ghost use Rattle.std.specs.Prelude.{pos, nat_abs, ◌≤ℤ◌, ◌≡◌, ◌≢◌, ◌≤◌, ◌<◌, ◌++◌, ◌∷◌, [], ℕ, length, slice_get, None, Some, IfOk, IfSome, IsFalse, IsOk, IsTrue, MatchOption, OnErr, OnOk};
+ghost use Rattle.std.specs.Prelude.{pos, nat_abs, ◌≤ℤ◌, ◌≡◌, ◌≢◌, ◌≤◌, ◌<◌, ◌++◌, ◌∷◌, [], ℕ, length, slice_get, None, Some, IfSome, IsFalse, IsTrue, MatchOption, OnErr, OnOk};
 ghost use Rattle.indexmap.specs.IndexMap.{swap_remove_by};
 ghost use Rattle.std.specs.Str.{bytes_eq};
 ghost use Rattle.script_model.specs.Check.{first_named, is_among};
@@ -61,17 +61,16 @@ impl Model for Names {
 }
 
 impl Names {
-    /// No names and no observers, at time 0. This takes no memory yet.
-    pub fn new(alloc: Global) -> Result<Names, AllocError>
-        ensures made { IsOk result }
-        ensures ok { IfOk result (λ n. n ≡ record { declared = []; observers = []; now = 0 }) }
+    /// No names and no observers, at time 0. This takes no memory.
+    pub fn new(alloc: Global) -> Names
+        ensures { result ≡ record { declared = []; observers = []; now = 0 } }
     {
-        Ok(Names {
+        Names {
             alloc,
             declared: IndexMap::new(alloc),
             observers: IndexSet::new(alloc),
             now: 0,
-        })
+        }
     }
 
     /// How many names are declared.

@@ -5,27 +5,29 @@ use Rattle.inc_value.specs.declared.function.FnRef.{FnRef}
 use Rattle.inc_value.specs.declared.node.NodeId.{NodeId}
 use Rattle.inc_value.specs.declared.node.Point.{Point}
 use Rattle.inc_value.specs.declared.value.Value.{Value}
-use Rattle.inc_terms.specs.Depend.{main}
+use Rattle.inc_terms.specs.Depend.{main, change}
 use Rattle.inc_terms.specs.Graph.{Row}
 use Rattle.inc_terms.specs.Within.{Given}
 use Rattle.map_nodes.specs.declared.cutoff.Cutoff.{Cutoff}
 use Rattle.point_map.specs.Rows.{at}
+use Rattle.link_table.specs.Links.{times}
 use Rattle.necessity.specs.Need.{root_times}
-use Rattle.node_arena.specs.Arena.{Arena, row_at, IsLive}
+use Rattle.node_arena.specs.Arena.{Arena, row_at}
 use Rattle.node_arena.specs.Graph.{AllCallFit}
 use Rattle.stabilize_round.proofs.Points.{same_or_other}
 use Rattle.node_outcomes.specs.Computing.{seen_of, seen}
 use Rattle.stabilizer.specs.Kept.{IsKept}
 use Rattle.node_outcomes.specs.Meaning.{functions_of, lists_none, maps_of}
-use Rattle.stabilizer.specs.Round.{IsReady}
-use Rattle.node_outcomes.specs.Row.{IsRewritten, with_cutoff}
+use Rattle.stabilizer.specs.Round.{IsReady, last_of}
+use Rattle.node_outcomes.specs.Row.{IsRewritten, with_cutoff, outcome_in, cutoff_in}
 use Rattle.stabilizer.specs.declared.parts.Parts.{Parts}
 use Rattle.stabilizer.specs.declared.refused.Refused.{Refused}
 use Rattle.node_outcomes.specs.declared.row.Progress.{Progress}
 use Rattle.graph.specs.Effects.{SetsCutoff}
 use Rattle.stabilizer.proofs.Beginning.{main_there}
-use Rattle.graph.specs.Sound.{IsSound}
+use Rattle.graph.specs.Inside.{FitsInside}
 use Rattle.graph.specs.Standing.{Standing}
+use Rattle.graph.proofs.Seeing.{seen_as}
 use Rattle.graph.specs.declared.observer.Observer.{Observer}
 
 seen_still : (c : Cutoff) (x : Option Progress) → seen_of (option_map (with_cutoff c) x) ≡ seen_of x
@@ -39,21 +41,32 @@ no_row (Some k) (Some r) same dead = absurd (dead refl)
 
 module _ (old new : Parts) (id : NodeId) (c : Cutoff) (set : IsRewritten old.work.rows new.work.rows (main id) (with_cutoff c))
     (rest : new ≡ record old { work = record old.work { rows = new.work.rows } }) where
-  -- what is seen stays
-  seen_as : (p : Point) → seen new.work.rows p ≡ seen old.work.rows p
-  seen_as p = elim (same_or_other (main id) p) [
-    | inl e ↦ subst (λ (x : Point). seen new.work.rows x ≡ seen old.work.rows x) e
-        (ap seen_of set.changed ∙ seen_still c (at old.work.rows (main id)))
-    | inr ne ↦ ap seen_of (set.others p (λ h. ne (sym h)))
+  -- what the cutoff doesn't tell stays
+  same_in : {A : Type 0} (f : Option Progress → A) → ((x : Option Progress) → f (option_map (with_cutoff c) x) ≡ f x) → (p : Point)
+      → f (at new.work.rows p) ≡ f (at old.work.rows p)
+  same_in f still p = elim (same_or_other (main id) p) [
+    | inl e ↦ subst (λ (x : Point). f (at new.work.rows x) ≡ f (at old.work.rows x)) e (ap f set.changed ∙ still (at old.work.rows (main id)))
+    | inr ne ↦ ap f (set.others p (λ h. ne (sym h)))
   ]
+
+  seen_same : (p : Point) → seen new.work.rows p ≡ seen old.work.rows p
+  seen_same = same_in seen_of (seen_still c)
+
+  outcome_still : (x : Option Progress) → outcome_in (option_map (with_cutoff c) x) ≡ outcome_in x
+  outcome_still None = refl
+  outcome_still (Some k) = refl
+
+  last_still : (x : Option Progress) → last_of (option_map (with_cutoff c) x) ≡ last_of x
+  last_still None = refl
+  last_still (Some k) = refl
 
   arena_as : new.arena ≡ old.arena
   arena_as = ap (λ (p : Parts). p.arena) rest
 
   pub sound_cut : (known : FnRef → Bool) (value : FnRef → List Value → Value) (observers : List Observer) (rooted : ℕ) (refused : Option Refused)
-      → IsSound known value old observers rooted refused → refused ≡ None
+      → FitsInside known value old observers rooted refused → refused ≡ None
       → (IsReady (functions_of value) old.arena old.work → IsReady (functions_of value) new.arena new.work)
-      → IsSound known value new observers rooted refused
+      → FitsInside known value new observers rooted refused
   sound_cut known value observers rooted refused sound still ready = record {
     few = sound.few;
     earlier = sound.earlier;
@@ -63,17 +76,37 @@ module _ (old new : Parts) (id : NodeId) (c : Cutoff) (set : IsRewritten old.wor
       roots = λ p. ap (λ (x : Parts). root_times x.work.graph.roots p) rest ∙ can.roots p;
       fit = subst (λ (a : Arena). AllCallFit (maps_of known) lists_none a) (sym arena_as) can.fit;
       given = λ n among. subst (λ (a : Arena). Given a.given n) (sym arena_as) (can.given n among);
-      shown = λ n among. subst IsSome (sym (seen_as (main n))) (can.shown n among);
+      shown = λ n among. subst IsSome (sym (seen_same (main n))) (can.shown n among);
     };
   }
 
-  pub sets_cutoff : {F : Type 0} (s : Standing F) → s.parts ≡ old → IsKept old.arena old.work
-      → (at old.work.rows (main id) ≡ None → new ≡ old) → SetsCutoff s (record s { parts = new }) id c
-  sets_cutoff s is kept dead = record {
-    set = subst (λ (p : Parts). IsRewritten p.work.rows new.work.rows (main id) (with_cutoff c)) (sym is) set;
-    rest = ap (λ (p : Parts). record s { parts = p })
-        (subst (λ (p : Parts). new ≡ record p { work = record p.work { rows = new.work.rows } }) (sym is) rest);
-    dead = λ not. ap (λ (p : Parts). record s { parts = p })
-        (dead (no_row (at old.work.rows (main id)) (row_at old.arena id) (main_there old.arena old.work kept id)
-        (λ live. not (subst (λ (p : Parts). IsLive p.arena id) (sym is) live))) ∙ sym is);
-  }
+  -- of a row that there is
+  cut_at : (x : Option Progress) → IsSome x → cutoff_in (option_map (with_cutoff c) x) ≡ c
+  cut_at None there = absurd (cc)
+  cut_at (Some k) there = refl
+
+  module _ {F : Type 0} (functions : F) (observers : List Observer) (rooted : ℕ) (refused : Option Refused) where
+    abbrev before : Standing F
+    before = seen_as functions old observers rooted refused
+
+    abbrev after : Standing F
+    after = seen_as functions new observers rooted refused
+
+    pub sets_cutoff : IsKept old.arena old.work → (at old.work.rows (main id) ≡ None → new ≡ old) → SetsCutoff before after id c
+    sets_cutoff kept dead = record {
+      set = λ live. ap cutoff_in set.changed ∙ cut_at (at old.work.rows (main id)) (main_there old.arena old.work kept id ∙ live);
+      others = λ n other. ap cutoff_in (set.others (main n) (λ e. other (ap (λ (p : Point). p.node) e)));
+      dead = λ not. ap (λ (p : Parts). seen_as functions p observers rooted refused)
+          (dead (no_row (at old.work.rows (main id)) (row_at old.arena id) (main_there old.arena old.work kept id) not));
+      functions = refl;
+      nodes = arena_as;
+      observers = refl;
+      rooted = refl;
+      refused = refl;
+      ran = ap (λ (p : Parts). p.ran.items) rest;
+      links = λ p q. ap (λ (x : Parts). times x.work.graph.links p q) rest;
+      roots = λ p. ap (λ (x : Parts). root_times x.work.graph.roots p) rest;
+      shown = λ n. seen_same (main n);
+      chosen = λ n. same_in outcome_in outcome_still (change n);
+      last = λ n. same_in last_of last_still (main n);
+    }

@@ -1,6 +1,7 @@
 -- Faults of the crates below, told apart.
-use Rattle.std.proofs.Common.{◌≡◌, Ok, Err, refl, sym, ap, ◌∙◌}
-use Rattle.std.specs.Prelude.{Result, ◌↔◌}
+use Rattle.std.proofs.Common.{◌≡◌, Ok, Err, refl, sym, ap, subst, ◌∙◌}
+use Rattle.std.specs.Prelude.{Result, IfOk, ◌↔◌}
+use Rattle.inc_value.specs.declared.node.NodeId.{NodeId}
 use Rattle.graph.specs.Fault.{of_add, of_set}
 use Rattle.graph.specs.declared.fault.GraphFault.{GraphFault}
 use Rattle.graph.specs.declared.fault.GraphFault.TheVariants as fault
@@ -57,3 +58,8 @@ add_passed (Err e) q s f m only is both unbroken = (
   (λ h. (unbroken, both.0 (ap Err (only e (same_err (sym m ∙ h)))))),
   (λ k. m ∙ ap Err (ap of_add (same_err (both.1 k.1)) ∙ is)),
 )
+
+-- what such an answer says of a new id
+pub id_passes : (P : NodeId → Type 0) (r : Result NodeId AddFault) (q : Result NodeId GraphFault) → AddPasses r q → IfOk r P → IfOk q P
+id_passes P (Ok id) q is p = subst (λ (x : Result NodeId GraphFault). IfOk x P) (sym is) p
+id_passes P (Err e) q is p = subst (λ (x : Result NodeId GraphFault). IfOk x P) (sym is) p

@@ -1,8 +1,11 @@
+pub mod Needing
 pub mod Observing
+pub mod Seeing
 pub mod Sound
 pub mod Faulting
 pub mod Sounding
 pub mod Stabilizing
+pub mod Rounding
 pub mod Unobserving
 pub mod TakingBack
 pub mod Cutting

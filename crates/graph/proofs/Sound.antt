@@ -15,8 +15,12 @@ use Rattle.node_outcomes.specs.Meaning.{functions_of, lists_none, maps_of}
 use Rattle.stabilizer.specs.Round.{IsReady}
 use Rattle.node_outcomes.specs.declared.row.Progress.{Progress}
 use Rattle.stabilizer.specs.declared.parts.Parts.{Parts}
+use Rattle.stabilizer.specs.declared.refused.Refused.{Refused}
+use Rattle.node_arena.specs.Sound as arena
+use Rattle.graph.specs.Sound.{IsSound}
 use Rattle.graph.specs.Standing.{in_use}
-use Rattle.graph.specs.Sound.{CanStabilize}
+use Rattle.graph.proofs.Seeing.{seen_as}
+use Rattle.graph.specs.Inside.{CanStabilize, FitsInside}
 use Rattle.graph.specs.declared.observer.Observer.{Observer}
 
 module _ (known : FnRef → Bool) (value : FnRef → List Value → Value) (old new : Parts) (observers : List Observer) (rooted : ℕ)
@@ -34,3 +38,15 @@ module _ (known : FnRef → Bool) (value : FnRef → List Value → Value) (old 
     given = λ n among. let g = can.given n among in omega (arith, g, given);
     shown = λ n among. subst (λ (k : Option Progress). IsSome (seen_of k)) (sym (rows n among)) (can.shown n among);
   }
+
+-- what callers are told of it
+pub sound_of : {F : Type 0} (functions : F) (known : FnRef → Bool) (value : FnRef → List Value → Value) (parts : Parts) (observers : List Observer)
+    (rooted : ℕ) (refused : Option Refused) → FitsInside known value parts observers rooted refused → arena.IsSound parts.arena
+    → IsSound known (seen_as functions parts observers rooted refused)
+sound_of functions known value parts observers rooted refused fits sound = record {
+  few = fits.few;
+  earlier = fits.earlier;
+  nodes = sound;
+  flat = fits.kept.flat;
+  whole = λ whole. let can = fits.unbroken whole in record { roots = can.roots; fit = can.fit; given = can.given; shown = can.shown };
+}

@@ -21,11 +21,19 @@ use Rattle.node_arena.specs.Graph.{AllCallFit, CallsFit}
 use Rattle.stabilize_round.proofs.Points.{node_or_other}
 use Rattle.node_outcomes.specs.Meaning.{functions_of, lists_none, maps_of}
 use Rattle.node_outcomes.proofs.Maps.{map_among, calls_fit_as, maps_stay_known}
-use Rattle.stabilizer.specs.Round.{IsReady}
+use Rattle.map_nodes.specs.declared.cutoff.Cutoff.TheVariants.{Equal}
+use Rattle.inc_value.specs.declared.node.Part.TheVariants.{Main}
+use Rattle.node_outcomes.specs.Computing.{seen_of}
+use Rattle.node_outcomes.specs.declared.row.Progress.{Progress}
+use Rattle.stabilizer.specs.Places.{ChangesNode, for_parts}
+use Rattle.stabilizer.specs.Round.{IsReady, last_of}
 use Rattle.stabilizer.specs.declared.parts.Parts.{Parts}
 use Rattle.stabilizer.specs.declared.refused.Refused.{Refused}
+use Rattle.node_outcomes.specs.Row.{cutoff_in}
+use Rattle.graph.specs.Effects.{Adds, KeepsBesideGiven}
 use Rattle.graph.specs.Known.{CallsKnown}
-use Rattle.graph.specs.Sound.{IsSound}
+use Rattle.graph.specs.Inside.{FitsInside}
+use Rattle.graph.specs.Standing.{Standing}
 use Rattle.inc_value.specs.declared.value.Value.TheVariants as value
 use Rattle.inc_value.specs.Choice.{Every}
 use Rattle.inc_terms.specs.Within.{ValueWithin}
@@ -78,6 +86,22 @@ pub record AddAnswers (old new : Arena) (def : Def) (ty : Ty) (result : Result N
   pub fresh : IfOk result (λ (id : NodeId). id.gen_ ≡ old.given)
   pub unknown : (¬ NamesGiven old.given def) → IsErrOf result add.Unknown
 
+-- the new node's points have this row: no outcome, no last call, cutoff Equal
+pub adds_of : {F : Type 0} (s t : Standing F) (def : Def) (ty : Ty) (result : Result NodeId AddFault) (k : Progress) → k.outcome ≡ None → k.last ≡ None
+    → k.cutoff ≡ Equal → AddAnswers s.nodes t.nodes def ty result
+    → IfOk result (λ (id : NodeId). ChangesNode s.work.rows t.work.rows id (for_parts def (λ part. k))) → KeepsBesideGiven s t
+    → IfOk result (λ (id : NodeId). Adds s t id (record { def = def; ty = ty; scope = None }))
+adds_of s t def ty (Ok id) k unshown uncalled equal a row beside = record {
+  beside = beside;
+  fresh = a.fresh;
+  given = a.given;
+  changes = a.added;
+  unshown = ap seen_of (row.now Main) ∙ unshown;
+  uncalled = ap last_of (row.now Main) ∙ uncalled;
+  equal = ap cutoff_in (row.now Main) ∙ equal;
+}
+adds_of s t def ty (Err e) k unshown uncalled equal a row beside = tt
+
 below_or_not : (m n : ℕ) → (m < n) ⊎ (n ≤ m)
 below_or_not m zero = inr (omega arith)
 below_or_not zero (suc n) = inl (omega arith)
@@ -116,13 +140,13 @@ set_fits known old new id v (Ok u) set same fit = λ n r is. elim (node_or_other
 ]
 
 module _ (known : FnRef → Bool) (value : FnRef → List Value → Value) (old new : Parts) (observers : List Observer) (rooted : ℕ)
-    (refused : Option Refused) (sound : IsSound known value old observers rooted refused) where
+    (refused : Option Refused) (sound : FitsInside known value old observers rooted refused) where
   -- all that a call between stabilizes leaves
   pub sound_still : refused ≡ None → (IsReady (functions_of value) old.arena old.work → IsReady (functions_of value) new.arena new.work)
       → ((p : Point) → root_times new.work.graph.roots p ≡ root_times old.work.graph.roots p)
       → (AllCallFit (maps_of known) lists_none old.arena → AllCallFit (maps_of known) lists_none new.arena) → (old.arena.given ≤ new.arena.given)
       → ((n : NodeId) → Given old.arena.given n → at new.work.rows (main n) ≡ at old.work.rows (main n))
-      → IsSound known value new observers rooted refused
+      → FitsInside known value new observers rooted refused
   sound_still still ready roots fit given rows = record {
     few = sound.few;
     earlier = sound.earlier;

@@ -25,7 +25,7 @@ use Rattle.stabilizer.specs.declared.parts.Parts.{Parts}
 use Rattle.stabilizer.specs.declared.refused.Refused.{Refused}
 use Rattle.stabilizer.specs.declared.refused.Refused.TheVariants.{Height, Cycle, Full, Memory}
 use Rattle.stabilizer.specs.declared.work.Work.{Work}
-use Rattle.graph.specs.Sound.{CanStabilize}
+use Rattle.graph.specs.Inside.{CanStabilize}
 use Rattle.graph.specs.Standing.{in_use}
 use Rattle.graph.specs.declared.observer.Observer.{Observer}
 use Rattle.graph.proofs.Observing.{in_use_split, among_swapped, among_right, count_swapped}
@@ -74,7 +74,8 @@ module _ (F : Functions) (arena : Arena) (old : Work) (xs ys : List NodeId) (to 
     shallow = λ p need. u.shallow p (needed_as F (graph_of arena) none_died ys xs back p need);
     links = u.links;
     recalls = u.recalls;
-    kept = u.kept;
+    kept = λ n not. elim (u.kept n not) [ inl e ↦ inl e | inr c ↦ inr (called_as new n c.0, c.1) ];
+    costs = u.costs;
     cutoffs = u.cutoffs;
     once = u.once;
     called = λ n among. called_as new n (u.called n among);

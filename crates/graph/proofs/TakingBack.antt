@@ -21,13 +21,13 @@ use Rattle.stabilizer.specs.declared.refused.Refused.{Refused}
 use Rattle.stabilizer.specs.declared.work.Work.{Work}
 use Rattle.graph.specs.Effects.{KeepsBeside}
 use Rattle.graph.specs.Standing.{Standing, IsNeeded, in_use}
-use Rattle.graph.specs.Sound.{IsSound}
+use Rattle.graph.specs.Inside.{FitsInside}
 use Rattle.graph.specs.declared.observer.Observer.{Observer}
 use Rattle.graph.proofs.Sound.{can_still}
 use Rattle.node_outcomes.proofs.Maps.{calls_fit_as}
 use Rattle.graph.proofs.Sounding.{itself}
 use Rattle.graph.proofs.Unobserving.{mains_among}
-use Rattle.stabilizer.proofs.Trying.{same_need}
+use Rattle.graph.proofs.Needing.{needed_root, needed_linked, needed_has}
 
 -- a root is needed
 root_is_needed : (g : NecessaryPart) (p : Point) → 0 < root_times g.roots p → Needed g p
@@ -49,7 +49,7 @@ at_or_past zero (suc count) = inl (omega arith)
 at_or_past (suc n) (suc count) = elim (at_or_past n count) [ inl h ↦ inl (omega (arith, h)) | inr h ↦ inr (omega (arith, h)) ]
 
 module _ (known : FnRef → Bool) (value : FnRef → List Value → Value) (old new : Parts) (observers : List Observer) (rooted : ℕ)
-    (refused : Option Refused) (sound : IsSound known value old observers rooted refused) (count : ℕ)
+    (refused : Option Refused) (sound : FitsInside known value old observers rooted refused) (count : ℕ)
     (older : (n : NodeId) → n.gen_ < count → row_at new.arena n ≡ row_at old.arena n)
     (dropped : (n : NodeId) → count ≤ n.gen_ → row_at new.arena n ≡ None) where
   fits_back : AllCallFit (maps_of known) lists_none old.arena → AllCallFit (maps_of known) lists_none new.arena
@@ -62,7 +62,7 @@ module _ (known : FnRef → Bool) (value : FnRef → List Value → Value) (old 
       → new.work.graph.roots ≡ old.work.graph.roots → new.arena.given ≡ old.arena.given
       → ((n : NodeId) → n.gen_ < count → at new.work.rows (main n) ≡ at old.work.rows (main n))
       → ((p : Point) → Needed old.work.graph p → p.node.gen_ < count)
-      → IsSound known value new observers rooted refused
+      → FitsInside known value new observers rooted refused
   sound_back still ready roots given rows low = record {
     few = sound.few;
     earlier = sound.earlier;
@@ -74,10 +74,11 @@ module _ (known : FnRef → Bool) (value : FnRef → List Value → Value) (old 
 
 -- ---- who is needed, over calls that keep all beside the nodes
 
-module _ {F : Type 0} (old new : Standing F) (keeps : KeepsBeside old new) where
+module _ {F : Type 0} {Of : NodeId → Type 0} (old new : Standing F) (keeps : KeepsBeside Of old new) where
   -- none more is
   pub needed_still : (p : Point) → IsNeeded new p → IsNeeded old p
-  needed_still p need = (same_need old.parts.work.graph new.parts.work.graph keeps.roots keeps.links p).0 need
+  needed_still = needed_has new (IsNeeded old) (λ p is. needed_root old p (let r = keeps.roots p in omega (arith, r, is)))
+      (λ a b link need. needed_linked old a b need (let l = keeps.links a b in omega (arith, l, link)))
 
   -- what is needed stays below a count of ids
   pub below_still : (count : ℕ) → ((p : Point) → IsNeeded old p → p.node.gen_ < count) → (p : Point) → IsNeeded new p → p.node.gen_ < count

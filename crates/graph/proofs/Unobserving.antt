@@ -23,7 +23,7 @@ use Rattle.node_outcomes.specs.declared.row.Progress.{Progress}
 use Rattle.stabilizer.specs.declared.parts.Parts.{Parts}
 use Rattle.stabilizer.specs.declared.refused.Refused.{Refused}
 use Rattle.graph.specs.Standing.{in_use, looked_at}
-use Rattle.graph.specs.Sound.{IsSound}
+use Rattle.graph.specs.Inside.{FitsInside}
 use Rattle.graph.specs.declared.observer.Observer.{Observer}
 use Rattle.graph.proofs.Observing.{IsLeftOut, ended, left_out, left_is_among, front_set, front_stays, front_same, in_use_append, among_either}
 
@@ -31,10 +31,10 @@ abbrev pub observing : NodeId → Observer
 observing node = record { node = node; in_use = true }
 
 module _ (known : FnRef → Bool) (value : FnRef → List Value → Value) (parts : Parts) (observers : List Observer) (rooted : ℕ)
-    (refused : Option Refused) (sound : IsSound known value parts observers rooted refused) (node : NodeId) where
+    (refused : Option Refused) (sound : FitsInside known value parts observers rooted refused) (node : NodeId) where
   -- an observer more
   pub sound_observed : (length observers < 2 ^ 32 - 1) → Given parts.arena.given node
-      → IsSound known value parts (observers ++ observing node ∷ []) rooted refused
+      → FitsInside known value parts (observers ++ observing node ∷ []) rooted refused
   sound_observed few given = record {
     few = let l = length-append observers (observing node ∷ []) in omega (arith, l, few);
     earlier = let l = length-append observers (observing node ∷ []) in omega (arith, l, sound.earlier);
@@ -79,10 +79,10 @@ is_root parts observers rooted node roots among =
     omega (arith, r, c)
 
 module _ (known : FnRef → Bool) (value : FnRef → List Value → Value) (old new : Parts) (observers : List Observer) (rooted place : ℕ)
-    (refused : Option Refused) (sound : IsSound known value old observers rooted refused) (node : NodeId)
+    (refused : Option Refused) (sound : FitsInside known value old observers rooted refused) (node : NodeId)
     (is : looked_at (slice_get observers place) ≡ Some node) where
   -- an observer fewer that wasn't there at the last round
-  pub sound_unmade : rooted ≤ place → IsSound known value old (slice_set observers place (ended node)) rooted refused
+  pub sound_unmade : rooted ≤ place → FitsInside known value old (slice_set observers place (ended node)) rooted refused
   sound_unmade later = record {
     few = let l = set_length observers place (ended node) in omega (arith, l, sound.few);
     earlier = let l = set_length observers place (ended node) in omega (arith, l, sound.earlier);
@@ -103,7 +103,7 @@ module _ (known : FnRef → Bool) (value : FnRef → List Value → Value) (old 
   pub sound_ended : refused ≡ None → place < rooted → (IsReady (functions_of value) old.arena old.work → IsReady (functions_of value) new.arena new.work)
       → ((before after : List NodeId) → AreRooted old.work (before ++ node ∷ after) → AreRooted new.work (before ++ after))
       → new.arena ≡ old.arena → new.work.rows ≡ old.work.rows
-      → IsSound known value new (slice_set observers place (ended node)) rooted refused
+      → FitsInside known value new (slice_set observers place (ended node)) rooted refused
   sound_ended still below ready roots arena rows = record {
     few = let l = set_length observers place (ended node) in omega (arith, l, sound.few);
     earlier = let l = set_length observers place (ended node) in omega (arith, l, sound.earlier);

@@ -1,28 +1,46 @@
 -- What a contract sees of a graph.
-use Rattle.std.specs.Prelude.{◌≡◌, ℕ, cond, List, [], ◌∷◌, take, Option, None, Some, slice_get}
+use Rattle.std.specs.Prelude.{◌≡◌, ◌+◌, ◌==◌, ◌<◌, ◌&&◌, ℕ, nat_lt, Bool, false, cond, List, [], ◌∷◌, map, take, Option, None, Some, slice_get}
 use Rattle.inc_value.specs.declared.node.NodeId.{NodeId}
 use Rattle.inc_value.specs.declared.node.ObsId.{ObsId}
 use Rattle.inc_value.specs.declared.node.Point.{Point}
 use Rattle.inc_value.specs.declared.outcome.Outcome.{Outcome}
-use Rattle.inc_terms.specs.Depend.{main}
+use Rattle.inc_value.specs.Choice.{Reaches}
+use Rattle.inc_terms.specs.Depend.{main, change}
 use Rattle.inc_terms.specs.Graph.{Graph}
-use Rattle.necessary_graph.specs.Part.{Needed}
+use Rattle.link_table.specs.Links.{times}
+use Rattle.map_nodes.specs.declared.cutoff.Cutoff.{Cutoff}
+use Rattle.necessity.specs.Need.{root_times}
+use Rattle.node_arena.specs.Arena.{Arena}
 use Rattle.node_arena.specs.Graph.{graph_of}
 use Rattle.node_outcomes.specs.Computing.{seen}
-use Rattle.stabilizer.specs.declared.parts.Parts.{Parts}
+use Rattle.node_outcomes.specs.Row.{outcome_in, settled_in}
+use Rattle.node_outcomes.specs.declared.row.Progress.{Progress}
+use Rattle.point_map.specs.Rows.{at}
+use Rattle.stabilize_round.specs.State.{Call, count}
+use Rattle.stabilizer.specs.Round.{last_call, cutoff_at}
+use Rattle.stabilizer.specs.declared.work.Work.{Work}
 use Rattle.stabilizer.specs.declared.refused.Refused.{Refused}
 use Rattle.graph.specs.Fault.{kept_of}
 use Rattle.graph.specs.declared.fault.Kept.{Kept}
 use Rattle.graph.specs.declared.observer.Observer.{Observer}
 
--- a graph: its functions; its nodes with all that is kept of them; the observers, in the order in which they were made, and how many of them there
--- were when a stabilize was accepted last; and what a refused stabilize met
+-- a graph
 pub record Standing (F : Type 0) : Type 0 where
+  -- its functions
   pub functions : F
-  pub parts : Parts
+  -- its live nodes, by id, and how many ids were given
+  pub nodes : Arena
+  -- its observers, in the order in which they were made, and how many of them there were when a stabilize was accepted last
   pub observers : List Observer
   pub rooted : ℕ
+  -- whose functions were called by the stabilize that was accepted last, in order
+  pub ran : List NodeId
+  -- what a refused stabilize met
   pub refused : Option Refused
+  -- what its stabilizer works on: contracts speak of it by the words below alone
+  pub work : Work
+
+-- ---- observers
 
 -- the nodes of the observers that are in use
 abbrev pub in_use : List Observer → List NodeId
@@ -38,7 +56,49 @@ looked_at (Some o) = cond o.in_use (Some o.node) None
 abbrev pub node_at : List Observer → ObsId → Option NodeId
 node_at os o = looked_at (slice_get os o.0)
 
+-- ---- what is kept of nodes
+
+-- a row was settled in the round before the one of this number
+abbrev pub settled_before : ℕ → Option Progress → Bool
+settled_before round None = false
+settled_before round (Some k) = nat_lt 0 k.settled && (k.settled + 1 == round)
+
+-- a row was settled in the last round: that before the one of this number, or where one was refused this one
+abbrev pub settled_last : Option Refused → ℕ → Option Progress → Bool
+settled_last None round k = settled_before round k
+settled_last (Some refused) round k = settled_in round k
+
 module _ {F : Type 0} where
+  -- what is shown of a node: the outcome that it had when it was brought up to date last, Invalid of a dead one
+  abbrev pub shown_of : Standing F → NodeId → Option Outcome
+  shown_of s n = seen s.work.rows (main n)
+
+  -- by which outcome of its test or child an if or a join last chose its right side
+  abbrev pub chosen_by : Standing F → NodeId → Option Outcome
+  chosen_by s n = outcome_in (at s.work.rows (change n))
+
+  -- what a node's function was last called on, and what it gave
+  abbrev pub called_last : Standing F → NodeId → Option Call
+  called_last s n = last_call s.work n
+
+  -- which outcomes of a node are told to its readers
+  abbrev pub cutoff_of : Standing F → NodeId → Cutoff
+  cutoff_of s n = cutoff_at s.work n
+
+  -- whether a point was settled by the last stabilize, accepted or refused; told of what that stabilize leaves
+  abbrev pub is_settled : Standing F → Point → Bool
+  is_settled s p = settled_last s.refused s.work.round (at s.work.rows p)
+
+  -- how often a point is linked to another
+  abbrev pub times_linked : Standing F → Point → Point → ℕ
+  times_linked s p q = times s.work.graph.links p q
+
+  -- how often need begins at a point
+  abbrev pub times_rooted : Standing F → Point → ℕ
+  times_rooted s p = root_times s.work.graph.roots p
+
+  -- ---- words for it
+
   -- no stabilize was refused
   abbrev pub IsUnbroken : Standing F → Type 0
   IsUnbroken s = s.refused ≡ None
@@ -49,16 +109,22 @@ module _ {F : Type 0} where
 
   -- the nodes as a graph, whose evaluation from scratch says what is shown
   abbrev pub graph : Standing F → Graph
-  graph s = graph_of s.parts.arena
+  graph s = graph_of s.nodes
 
   -- the nodes of the observers in use that were there when a stabilize was accepted last
   abbrev pub rooted_nodes : Standing F → List NodeId
   rooted_nodes s = in_use (take s.rooted s.observers)
 
-  -- the point is brought up to date by a stabilize: an observer that was there at the last accepted one leads to it
-  abbrev pub IsNeeded : Standing F → Point → Type 0
-  IsNeeded s p = Needed s.parts.work.graph p
+  -- a point is linked to another
+  abbrev pub IsLinked : Standing F → Point → Point → Type 0
+  IsLinked s p q = 0 < times_linked s p q
 
-  -- what is shown of a node: the outcome that it had when it was brought up to date last, Invalid of a dead one
-  abbrev pub shown_of : Standing F → NodeId → Option Outcome
-  shown_of s n = seen s.parts.work.rows (main n)
+  -- the point is brought up to date by a stabilize: links lead to it from where need begins
+  pub record IsNeeded (s : Standing F) (p : Point) : Type 0 where
+    pub root : Point
+    pub is_root : 0 < times_rooted s root
+    pub leads : Reaches (IsLinked s) root p
+
+  -- need begins at the mains of these nodes, as often at each as it is listed
+  abbrev pub AreRooted : Standing F → List NodeId → Type 0
+  AreRooted s nodes = (p : Point) → times_rooted s p ≡ count p (map main nodes)

@@ -1,11 +1,11 @@
 //! Graphs.
-ghost use Rattle.std.specs.Prelude.{◌≡◌, ◌↔◌, false, [], None, Some, IfOk, IfErr, IfSome, IfNone, IsErrOf, OnOk, option_copied};
+ghost use Rattle.std.specs.Prelude.{◌≡◌, [], None, Some, IfErr, IfSome, IfNone, OnOk, option_copied};
 ghost use Rattle.inc_value.specs.declared.node.NodeId.{NodeId};
 ghost use Rattle.node_arena.specs.Arena.{row_at, live, IsLive};
-ghost use Rattle.node_arena.specs.Sound.{IsSound as IsSoundArena};
-ghost use Rattle.stabilizer.specs.Round.{never_at};
+ghost use Rattle.inc_value.specs.declared.node.Point.{Point};
+ghost use Rattle.map_nodes.specs.declared.cutoff.Cutoff.TheVariants.{Equal};
 ghost use Rattle.graph.specs.Sound.{IsSound};
-ghost use Rattle.graph.specs.Standing.{IsUnbroken, IsBroken};
+ghost use Rattle.graph.specs.Standing.{IsUnbroken, IsBroken, called_last, cutoff_of, times_linked, times_rooted};
 ghost use Rattle.graph.specs.declared.fault.Kept.{Kept as ACause};
 
 mod build;
@@ -19,7 +19,7 @@ use inc_value::{NodeId, Outcome};
 use node_arena::Functions;
 pub use stabilize::Round;
 use stabilizer::{Parts, Refused};
-use std::alloc::{AllocError, Global};
+use std::alloc::Global;
 use std::marker::Model;
 
 /// A graph of constants, variables, maps, folds, ifs and joins over the functions of `F`. What is observed is brought
@@ -47,47 +47,48 @@ impl<F: Functions> Model for Graph<F> {
 
     ghost view = { λ g. record {
       functions = g.functions;
-      parts = g.parts;
+      nodes = g.parts.arena;
       observers = g.observers.items;
       rooted = g.rooted;
+      ran = g.parts.ran.items;
       refused = g.refused;
+      work = g.parts.work;
     } };
 
     ghost use Rattle.std.specs.Prelude.{◌≡◌};
     ghost use Rattle.inc_value.specs.declared.outcome.Outcome.TheVariants.{Invalid};
-    ghost use Rattle.graph.specs.Sound.{IsSound};
+    ghost use Rattle.graph.specs.Inside.{FitsInside};
 
     ghost invariant = { λ g. (g.invalid ≡ Invalid)
-        × IsSound (F.known g.functions) (F.value g.functions) g.parts g.observers.items g.rooted g.refused
+        × FitsInside (F.known g.functions) (F.value g.functions) g.parts g.observers.items g.rooted g.refused
         × F.is_sound g.functions };
 }
 
 impl<F: Functions> Graph<F> {
-    /// A graph without nodes. It owns the functions, which come back where there is no memory.
-    pub fn new(alloc: Global, functions: F) -> Result<Graph<F>, (AllocError, F)>
+    /// A graph without nodes. It owns the functions. This takes no memory.
+    pub fn new(alloc: Global, functions: F) -> Graph<F>
         requires sound { F.is_sound functions }
-        ensures functions { IfOk result (λ g. g.functions ≡ functions) }
-        ensures nodes { IfOk result (λ g. (n : NodeId) → row_at g.parts.arena n ≡ None) }
-        ensures cutoffs { IfOk result (λ g. (n : NodeId) → never_at g.parts.work n ≡ false) }
-        ensures live { IfOk result (λ g. live g.parts.arena ≡ 0) }
-        ensures given { IfOk result (λ g. g.parts.arena.given ≡ 0) }
-        ensures observers { IfOk result (λ g. g.observers ≡ []) }
-        ensures rooted { IfOk result (λ g. g.rooted ≡ 0) }
-        ensures unbroken { IfOk result (λ g. IsUnbroken g) }
-        ensures handed_back { IfErr result (λ e. e.1 ≡ functions) }
-        ensures still_sound { IfErr result (λ e. F.is_sound e.1) }
+        ensures functions { result.functions ≡ functions }
+        ensures nodes { (n : NodeId) → row_at result.nodes n ≡ None }
+        ensures live { live result.nodes ≡ 0 }
+        ensures given { result.nodes.given ≡ 0 }
+        ensures cutoff { (n : NodeId) → cutoff_of result n ≡ Equal }
+        ensures observers { result.observers ≡ [] }
+        ensures rooted { result.rooted ≡ 0 }
+        ensures roots { (p : Point) → times_rooted result p ≡ 0 }
+        ensures links { (p q : Point) → times_linked result p q ≡ 0 }
+        ensures uncalled { (n : NodeId) → called_last result n ≡ None }
+        ensures ran { result.ran ≡ [] }
+        ensures unbroken { IsUnbroken result }
     {
-        match Parts::new(alloc) {
-            Ok(parts) => Ok(Graph {
-                alloc,
-                functions,
-                parts,
-                observers: Vec::new(alloc),
-                rooted: 0,
-                invalid: Outcome::Invalid,
-                refused: None,
-            }),
-            Err(fault) => Err((fault, functions)),
+        Graph {
+            alloc,
+            functions,
+            parts: Parts::new(alloc),
+            observers: Vec::new(alloc),
+            rooted: 0,
+            invalid: Outcome::Invalid,
+            refused: None,
         }
     }
 
@@ -128,8 +129,8 @@ impl<F: Functions> Graph<F> {
 
     /// The node itself, where it is live: no node of today stands on the right side of a bind.
     pub fn owner(&self, node: NodeId) -> Option<NodeId>
-        ensures live { IfSome result (λ top. (top ≡ node) × IsLive self.now.parts.arena node) }
-        ensures dead { IfNone result (IsLive self.now.parts.arena node → ⊥) }
+        ensures live { IfSome result (λ top. (top ≡ node) × IsLive self.now.nodes node) }
+        ensures dead { IfNone result (IsLive self.now.nodes node → ⊥) }
     {
         if self.parts.arena().is_live(node) {
             Some(node)
@@ -140,9 +141,7 @@ impl<F: Functions> Graph<F> {
 
     /// What is kept fits together: a fact for a caller's proof. Nothing runs.
     pub fn keeps_sound(&self)
-        ensures sound { IsSound (F.known self.entry.now.functions) (F.value self.entry.now.functions) self.entry.now.parts
-            self.entry.now.observers self.entry.now.rooted self.entry.now.refused }
-        ensures arena { IsSoundArena self.entry.now.parts.arena }
+        ensures sound { IsSound (F.known self.entry.now.functions) self.entry.now }
         ensures functions { F.is_sound self.entry.now.functions }
     {
         self.parts.arena().is_sound();

@@ -2,7 +2,7 @@
 use Rattle.std.proofs.Common.{◌≡◌, Result, Ok, Err, IfOk, IsErrOf, sym, ap, ◌∙◌}
 use Rattle.std.specs.Prelude.{OnErr}
 use Rattle.std.proofs.lemmas.Option.{none-some}
-use Rattle.graph.specs.Effects.{Adds, KeepsAll, KeepsBeside}
+use Rattle.graph.specs.Effects.{Adds, KeepsAll, KeepsBesideGiven}
 use Rattle.graph.specs.Stabilizes.{IsRefusedFor}
 use Rattle.graph.specs.Standing.{Standing, IsUnbroken, IsBroken}
 use Rattle.graph.specs.declared.fault.Kept.{Kept as Cause}
@@ -14,7 +14,7 @@ use Rattle.inc_value.specs.declared.node.NodeId.{NodeId}
 
 -- after a call that adds a node, or is refused
 pub added_still : {F E : Type 0} (r : Result NodeId E) (old new : Standing F) (row : Row) → IfOk r (λ id. Adds old new id row)
-    → OnErr r (KeepsAll old new) → KeepsBeside old new
+    → OnErr r (KeepsAll old new) → KeepsBesideGiven old new
 added_still (Ok id) old new row adds keeps = adds.beside
 added_still (Err e) old new row adds keeps = keeps.beside
 

@@ -309,13 +309,29 @@ const FOLD: &[(Act, i64)] = &[
     (Act::Calls, 6),
 ];
 
-/// A fold without children calls nothing.
+/// A new map of the same function and the same child as an older one was never called, and its function is called.
+const TWINS: &[(Act, i64)] = &[
+    (Act::Var(2), 0),
+    (Act::Map(Function::Neg, 0, 0, 0), 0),
+    (Act::Observe(1), 0),
+    (Act::Stabilize, 1),
+    (Act::Map(Function::Neg, 0, 0, 0), 0),
+    (Act::Observe(2), 0),
+    (Act::Stabilize, 1),
+    (Act::Ran(1), 0),
+    (Act::Ran(2), 1),
+    (Act::Show(1), -2),
+    (Act::Calls, 2),
+];
+
+/// A fold without children calls nothing, and isn't listed.
 const EMPTY_FOLD: &[(Act, i64)] = &[
     (Act::FoldNone(7), 0),
     (Act::Observe(0), 0),
-    (Act::Stabilize, 1),
+    (Act::Stabilize, 0),
     (Act::Show(0), 7),
     (Act::Calls, 0),
+    (Act::Ran(0), 0),
     (Act::Stabilize, 0),
     (Act::Show(0), 7),
     (Act::Calls, 0),
@@ -458,6 +474,7 @@ const TABLES: &[&[(Act, i64)]] = &[
     UNOBSERVED,
     TAKEN_BACK,
     FOLD,
+    TWINS,
     EMPTY_FOLD,
     FOLD_OVER_DEAD,
     NEVER,
@@ -753,16 +770,12 @@ fn does_all(graph: &mut Scripted, nodes: &mut Vec<NodeId>, acts: &[(Act, i64)]) 
 /// Whether the acts, done to a new graph, answer what is wanted. The graph is let go in one place, since each place where
 /// it may be costs a proof.
 fn is_done(alloc: Global, acts: &[(Act, i64)]) -> bool {
-    match Graph::new(alloc, ScriptFns::new(alloc, StdLib::new())) {
-        Ok(mut graph) => {
-            let mut nodes = Vec::new(alloc);
-            let well = does_all(&mut graph, &mut nodes, acts);
-            drop(nodes);
-            drop(graph);
-            well
-        }
-        Err(_) => false,
-    }
+    let mut graph = Graph::new(alloc, ScriptFns::new(alloc, StdLib::new()));
+    let mut nodes = Vec::new(alloc);
+    let well = does_all(&mut graph, &mut nodes, acts);
+    drop(nodes);
+    drop(graph);
+    well
 }
 
 /// Whether that is so of each table.

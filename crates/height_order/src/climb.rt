@@ -64,7 +64,7 @@ fn lift_all(
     ensures asked { IfOk result (λ _. AllAsked links.now new.reader new.kid lifts.new) }
     ensures climbed { IfOk result (λ o. IfNone o (IsClimbed heights.now links.now new.reader new.kid lifts.new)) }
 {
-    let mut queue = RecomputeHeap::new(alloc)?;
+    let mut queue = RecomputeHeap::new(alloc);
     let met = lift_queued(links, heights, new, lifts, &mut queue);
     drop(queue);
     met

@@ -37,12 +37,12 @@ fn observer_at(observers: &[ObsId], place: usize) -> ObsId {
 
 impl Live {
     /// A graph without nodes.
-    pub fn new(alloc: Global) -> Result<Live, Fault> {
-        Ok(Live {
-            engine: Engine::new(alloc)?,
+    pub fn new(alloc: Global) -> Live {
+        Live {
+            engine: Engine::new(alloc),
             nodes: Vec::new(alloc),
             observers: Vec::new(alloc),
-        })
+        }
     }
 
     /// Gives all memory back.

@@ -118,7 +118,7 @@ fn run<C: Clock, K: Sink, N: Sink>(
 ) -> Result<(), Fault>
     requires { IsWithin job }
 {
-    let mut live = Live::new(alloc)?;
+    let mut live = Live::new(alloc);
     let done = run_over(alloc, &mut live, clock, job, out, notes);
     live.end();
     done

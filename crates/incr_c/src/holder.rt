@@ -1,5 +1,5 @@
 //! A session, and what it printed that is still to be read.
-ghost use Rattle.std.specs.Prelude.{◌≡◌, ◌<◌, ◌≤◌, ◌^◌, length, IfOk};
+ghost use Rattle.std.specs.Prelude.{◌≡◌, ◌<◌, ◌^◌, length, IfOk};
 ghost use Rattle.incr_c.specs.Holding.{IsFirst, Reads, TakesLine};
 
 use crate::answer::Answer;
@@ -28,15 +28,11 @@ impl Holder {
     pub(crate) fn new(alloc: Global) -> Result<Box<Holder>, AllocError>
         ensures { IfOk result (λ b. IsFirst b.value) }
     {
-        match Session::new(alloc, StdLib::new()) {
-            Ok(session) => {
-                let printed = Vec::new(alloc);
-                match Box::new(alloc, Holder { session, printed }) {
-                    Ok(held) => Ok(held),
-                    Err(_) => Err(AllocError),
-                }
-            }
-            Err((fault, _)) => Err(fault),
+        let session = Session::new(alloc, StdLib::new());
+        let printed = Vec::new(alloc);
+        match Box::new(alloc, Holder { session, printed }) {
+            Ok(held) => Ok(held),
+            Err(_) => Err(AllocError),
         }
     }
 

@@ -307,14 +307,10 @@ fn judges_folds(alloc: Global, names: &Names) -> bool {
 
 /// The same with names of its own.
 fn judges_well(alloc: Global) -> bool {
-    match Names::new(alloc) {
-        Ok(mut names) => {
-            let well = declare_all(&mut names) && judges_folds(alloc, &names);
-            drop(names);
-            well
-        }
-        Err(_) => false,
-    }
+    let mut names = Names::new(alloc);
+    let well = declare_all(&mut names) && judges_folds(alloc, &names);
+    drop(names);
+    well
 }
 
 /// Whether lines that are made in the buffer have the faults of their rows.

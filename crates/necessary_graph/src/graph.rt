@@ -1,5 +1,5 @@
 //! The necessary part of a graph.
-ghost use Rattle.std.specs.Prelude.{[], ◌≡◌, ◌⊎◌, ◌<◌, ◌≤◌, ◌↔◌, None, Some, is_some, IsTrue, IsFalse, IsOk, IfOk, OnOk, OnErr, IfErr, IfSome, IfNone, length};
+ghost use Rattle.std.specs.Prelude.{◌≡◌, ◌<◌, ◌≤◌, ◌↔◌, None, Some, is_some, IsTrue, IsFalse, IfOk, OnOk, OnErr, IfErr, IfSome, IfNone, length};
 ghost use Rattle.inc_value.specs.declared.node.Point.{Point};
 ghost use Rattle.point_map.specs.Rows.{at, Holds, Changes, KeepsRows};
 ghost use Rattle.link_table.specs.Links.{times, Reads, KeepsLinks, OneLinkMore, AreReaders, AreKids};
@@ -22,8 +22,9 @@ use recompute_heap::RecomputeHeap;
 use std::alloc::{AllocError, Global};
 use std::marker::Model;
 
-/// Points with heights, roots, counted links, and the points that are to be recomputed. Only needed points have
-/// links of their own or are to be recomputed, and each stands higher than all that it reads.
+/// Points with heights, roots, counted links, and the points that are to be recomputed. Each call leaves them in step:
+/// heights rise along links and are at most 128, only needed points have links of their own, needed points are there, and
+/// the points that are to be recomputed are needed, each at its height.
 #[derive(Drop)]
 pub struct NecessaryGraph {
     heights: Heights,
@@ -50,29 +51,21 @@ impl Model for NecessaryGraph {
 }
 
 impl NecessaryGraph {
-    /// No points. The error is want of memory.
-    pub fn new(alloc: Global) -> Result<NecessaryGraph, AllocError>
-        ensures points { IfOk result (λ g. (p : Point) → at g.heights p ≡ None) }
-        ensures roots { IfOk result (λ g. (p : Point) → root_times g.roots p ≡ 0) }
-        ensures links { IfOk result (λ g. (p q : Point) → times g.links p q ≡ 0) }
-        ensures heap { IfOk result (λ g. IsEmpty g.heap) }
+    /// No points. This takes no memory.
+    pub fn new(alloc: Global) -> NecessaryGraph
+        ensures points { (p : Point) → at result.heights p ≡ None }
+        ensures roots { (p : Point) → root_times result.roots p ≡ 0 }
+        ensures links { (p q : Point) → times result.links p q ≡ 0 }
+        ensures heap { IsEmpty result.heap }
+        ensures in_step { IsInStep result }
     {
-        Ok(NecessaryGraph {
+        NecessaryGraph {
             heights: Heights::new(alloc),
             needs: Needs::new(alloc),
-            heap: RecomputeHeap::new(alloc)?,
+            heap: RecomputeHeap::new(alloc),
             points: 0,
             moved: Vec::new(alloc),
-        })
-    }
-
-    /// What stands between any two calls: heights rise along links and are at most 128, only needed points have links
-    /// of their own, needed points are there, and the points that are to be recomputed are needed, each at its
-    /// height. This does nothing.
-    pub fn stands(&self)
-        ensures { IsInStep self.now }
-    {
-        let _points = self.points;
+        }
     }
 
     /// Adds a point that isn't there, at a height, and makes room for it in the heap. Without memory nothing changes.
@@ -84,6 +77,7 @@ impl NecessaryGraph {
         ensures roots { self.new.roots ≡ self.old.roots }
         ensures links { self.new.links ≡ self.old.links }
         ensures heap { KeepsRows self.old.heap self.new.heap }
+        ensures in_step { IsInStep self.new }
     {
         let points = self.points.checked_add(1).ok_or(AllocError)?;
         self.heap.reserve(points - self.heap.len())?;
@@ -100,6 +94,7 @@ impl NecessaryGraph {
         ensures roots { self.new.roots ≡ self.old.roots }
         ensures links { self.new.links ≡ self.old.links }
         ensures heap { self.new.heap ≡ self.old.heap }
+        ensures in_step { IsInStep self.new }
     {
         self.heights.drop_point(p);
         self.points -= 1;
@@ -115,6 +110,7 @@ impl NecessaryGraph {
         ensures heights { self.new.heights ≡ self.old.heights }
         ensures links { KeepsLinks self.old.links self.new.links }
         ensures heap { self.new.heap ≡ self.old.heap }
+        ensures in_step { IsInStep self.new }
     {
         let newly = !self.needs.is_needed(p);
         self.needs.make_needed(p)?;
@@ -124,7 +120,8 @@ impl NecessaryGraph {
     /// Takes a root off, once. What is no longer needed then loses its links and leaves the heap. This takes no memory.
     pub fn root_off(&mut self, p: Point)
         requires root { IsRoot (web self.old) p }
-        ensures { IsUnrooted self.old self.new p }
+        ensures unrooted { IsUnrooted self.old self.new p }
+        ensures in_step { IsInStep self.new }
     {
         self.needs.make_unneeded(p);
         if !self.needs.is_needed(p) {
@@ -156,6 +153,7 @@ impl NecessaryGraph {
         ensures over_levelled { IfErr result (λ e. IfOver (λ _. IsExactBelow self.new.heights self.new.links p q) e) }
         ensures no_over { OnOk result (HasChain (ReadsWith self.old.links p q) 130 → ⊥) }
         ensures still { level self.old.heights q < level self.old.heights p → KeepsRows self.old.heights self.new.heights }
+        ensures in_step { IsInStep self.new }
     {
         let newly = !self.needs.is_needed(q);
         self.moved.clear();
@@ -175,7 +173,8 @@ impl NecessaryGraph {
     /// This takes no memory.
     pub fn unlink(&mut self, p: Point, q: Point)
         requires linked { Reads self.old.links p q }
-        ensures { IsUnlinked self.old self.new p q }
+        ensures unlinked { IsUnlinked self.old self.new p q }
+        ensures in_step { IsInStep self.new }
     {
         self.needs.detach(p, q);
         self.heights.unlink(p, q);
@@ -189,6 +188,7 @@ impl NecessaryGraph {
         requires needed { Needed self.old p }
         ensures inserted { Changes self.old.heap self.new.heap p (at self.old.heights p) }
         ensures rest { self.new ≡ record self.old { heap = self.new.heap } }
+        ensures in_step { IsInStep self.new }
     {
         put(&self.heights, &mut self.heap, p);
     }
@@ -198,6 +198,7 @@ impl NecessaryGraph {
     pub fn insert_readers<S: Skip>(&mut self, q: Point, skip: &S)
         ensures inserted { HasReaders self.old.heights self.old.links q (S.skipped skip.now) self.old.heap self.new.heap }
         ensures rest { self.new ≡ record self.old { heap = self.new.heap } }
+        ensures in_step { IsInStep self.new }
     {
         put_readers(&self.heights, &self.needs, &mut self.heap, q, skip);
     }
@@ -206,6 +207,7 @@ impl NecessaryGraph {
     pub fn remove(&mut self, p: Point)
         ensures removed { Changes self.old.heap self.new.heap p None }
         ensures rest { self.new ≡ record self.old { heap = self.new.heap } }
+        ensures in_step { IsInStep self.new }
     {
         take_out(&mut self.heap, p);
     }
@@ -218,6 +220,7 @@ impl NecessaryGraph {
         ensures none { IfNone result (IsEmpty self.old.heap) }
         ensures unchanged { IfNone result (self.new ≡ self.old) }
         ensures rest { self.new ≡ record self.old { heap = self.new.heap } }
+        ensures in_step { IsInStep self.new }
     {
         let (p, _height) = self.heap.pop_least()?;
         Some(p)

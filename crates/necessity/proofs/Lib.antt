@@ -4,3 +4,4 @@ pub mod Steps
 pub mod Starts
 pub mod Reaching
 pub mod Sound
+mod Idle

@@ -12,6 +12,7 @@ use Rattle.necessity.specs.Counting.{need_at, differ, is_counted, is_above_zero,
 use Rattle.necessity.proofs.Turning.{same_need, row_need}
 use Rattle.necessity.proofs.Starts.{rest_moves, rest_turns, root_stays, root_turns, rest_kept, length_kept, reads_split, attach_stays, attach_turns, attach_room, detach_stays, detach_turns, detach_room}
 use Rattle.necessity.proofs.Reaching.{roots_seen, acyclic_kept}
+use Rattle.necessity.proofs.Idle.{idle_kept}
 
 pub needs_of_rows : (m new : Rows Need) → KeepsRows m new → (k : Point) → need_at new k ≡ need_at m k
 needs_of_rows m new kept k = same_need m new k (kept k)
@@ -31,6 +32,7 @@ sound_kept l l' m m' n waiting room room' s links rows more = record {
   none_wait = s.none_wait;
   all = omega (arith, s.all, length_kept l l' links);
   fit = omega (arith, s.fit, more);
+  no_idle_row = idle_kept l l' m m' links rows s.no_idle_row;
 }
 
 -- roots that are counted as before

@@ -212,20 +212,21 @@ none_read l p kids are none k = let e = rw none at (are k) in omega (arith, e)
 pub none_reads : (l : Links) (p : Point) (readers : List Point) → AreReaders l p readers → readers ≡ [] → (k : Point) → times l k p ≡ 0
 none_reads l p readers are none k = let e = rw none at (are k) in omega (arith, e)
 
+-- no links lead from needed readers where none lead at all
+pub none_from : (l : Links) (m : Rows Need) (p : Point) → ((k : Point) → times l k p ≡ 0) → (n : ℕ) → links_from (needed_in m) l p ≡ n → n ≡ 0
+none_from l m p no_readers zero e = refl
+none_from l m p no_readers (suc n) e = absurd (
+    let f = found (leads_from (needed_in m) p) l.all (omega (arith, e)) in
+    let leads = both (needed_in m f.0.reader) (same_point f.0.kid p) f.2 in
+    let kid = same_point_eq f.0.kid p leads.1 in
+    let there = counted (same_link f.0.reader p) l.all f.0 f.1 (rw (kid, same_point_self f.0.reader, same_point_self p) refl) in
+    omega (arith, there, no_readers f.0.reader))
+
 module _ (l : Links) (m new : Rows Need) (p : Point) (r : IsAtRest l m) (no_kids : (k : Point) → times l p k ≡ 0)
     (no_readers : (k : Point) → times l k p ≡ 0) (no_root : (need_at m p).roots ≡ 0) (off : Changes m new p None) where
-  none_from : (n : ℕ) → links_from (needed_in m) l p ≡ n → n ≡ 0
-  none_from zero e = refl
-  none_from (suc n) e = absurd (
-      let f = found (leads_from (needed_in m) p) l.all (omega (arith, e)) in
-      let leads = both (needed_in m f.0.reader) (same_point f.0.kid p) f.2 in
-      let kid = same_point_eq f.0.kid p leads.1 in
-      let there = counted (same_link f.0.reader p) l.all f.0 f.1 (rw (kid, same_point_self f.0.reader, same_point_self p) refl) in
-      omega (arith, there, no_readers f.0.reader))
-
   pub needs_kept : (k : Point) → need_at new k ≡ need_at m k
   needs_kept k = elim (point_cases k p) [
-    | inl same ↦ rw (same, off.changed) (sym (zero_need (need_at m p) no_root (r.counts p ∙ none_from (links_from (needed_in m) l p) refl)))
+    | inl same ↦ rw (same, off.changed) (sym (zero_need (need_at m p) no_root (r.counts p ∙ none_from l m p no_readers (links_from (needed_in m) l p) refl)))
     | inr differs ↦ same_need m new k (off.others k differs)
   ]
 

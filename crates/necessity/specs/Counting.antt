@@ -1,5 +1,5 @@
 -- Roots and links from needed readers, counted at each point, and a change of them under way.
-use Rattle.std.specs.Prelude.{◌≡◌, ◌+◌, ◌-◌, ◌<◌, ◌≤◌, ℕ, Bool, true, false, not, ◌&&◌, ◌||◌, nat_lt, cond, List, [], ◌∷◌, ◌++◌, length, count_by, map, option_map, unwrap_or}
+use Rattle.std.specs.Prelude.{◌≡◌, ◌+◌, ◌-◌, ◌<◌, ◌≤◌, ℕ, Bool, true, false, not, ◌&&◌, ◌||◌, nat_lt, cond, List, [], ◌∷◌, ◌++◌, None, length, count_by, map, option_map, unwrap_or}
 use Rattle.inc_value.specs.declared.node.Point.{Point}
 use Rattle.inc_value.specs.Walk.{IsOnCycle}
 use Rattle.point_map.specs.Rows.{Rows, at, Holds, same_point}
@@ -86,13 +86,22 @@ pub record IsIdle (l : Links) (m : Rows Need) (p : Point) : Type 0 where
   pub no_kids : (k : Point) → times l p k ≡ 0
   pub no_readers : (k : Point) → times l k p ≡ 0
 
--- the counts are right, no link leads back, and points that turn have room to wait
+-- a point without roots and links has no row
+abbrev pub NoIdleRow : Links → Rows Need → Type 0
+NoIdleRow l m = (p : Point) → IsIdle l m p → at m p ≡ None
+
+-- no point has a row that had none
+abbrev pub NoNewRows : Rows Need → Rows Need → Type 0
+NoNewRows old new = (k : Point) → Holds new k → Holds old k
+
+-- the counts are right, no link leads back, points that turn have room to wait, and rows stand for roots and links alone
 pub record IsSound (l : Links) (m : Rows Need) (attached : ℕ) (waiting : List Point) (room : ℕ) : Type 0 where
   pub at_rest : IsAtRest l m
   pub acyclic : (a : Point) → IsOnCycle (Reads l) a → ⊥
   pub none_wait : waiting ≡ []
   pub all : attached ≡ length l.all
   pub fit : attached ≤ room
+  pub no_idle_row : NoIdleRow l m
 
 -- one link more or fewer from a needed reader
 abbrev pub recounted : Bool → Need → Need

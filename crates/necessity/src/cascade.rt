@@ -3,7 +3,7 @@ ghost use Rattle.std.specs.Prelude.{◌≡◌, ◌+◌, ◌<◌, ◌≤◌, ◌^
 ghost use Rattle.point_map.specs.Rows.{Changes, Holds};
 ghost use Rattle.necessity.specs.Turn.{to_needed};
 ghost use Rattle.necessity.specs.Counting.{need_at, needed_in, behind, due_where, recounted, waiting_after};
-ghost use Rattle.necessity.specs.Counting.{KeepsRootCounts, IsUnderWay, IsAtRest};
+ghost use Rattle.necessity.specs.Counting.{KeepsRootCounts, NoNewRows, IsUnderWay, IsAtRest};
 
 use crate::need::{Need, Turn};
 use crate::rows::need_of;
@@ -42,6 +42,7 @@ pub fn recount_kids(
         ≤ vec_capacity waiting.old }
     ensures under_way { IsUnderWay (to_needed turn) links.now rows.new waiting.new.items [] }
     ensures roots { KeepsRootCounts rows.old rows.new }
+    ensures rows { NoNewRows rows.old rows.new }
     ensures behind { length waiting.new.items + behind (to_needed turn) links.now rows.new waiting.new.items
         ≤ length waiting.old.items + behind (to_needed turn) links.now rows.old (waiting.old.items ++ p ∷ []) }
     ensures capacity { vec_capacity waiting.new ≡ vec_capacity waiting.old }
@@ -60,6 +61,7 @@ pub fn settle(links: &LinkTable, rows: &mut PointMap<Need>, waiting: &mut Vec<Po
     ensures at_rest { IsAtRest links.now rows.new }
     ensures none_wait { waiting.new.items ≡ [] }
     ensures roots { KeepsRootCounts rows.old rows.new }
+    ensures rows { NoNewRows rows.old rows.new }
     ensures capacity { vec_capacity waiting.new ≡ vec_capacity waiting.old }
 {
     while let Some(p) = waiting.pop() {
@@ -83,6 +85,7 @@ pub fn recount_link(
     ensures at_rest { IsAtRest links.now rows.new }
     ensures none_wait { waiting.new.items ≡ [] }
     ensures roots { KeepsRootCounts rows.old rows.new }
+    ensures rows { NoNewRows rows.old rows.new }
     ensures capacity { vec_capacity waiting.new ≡ vec_capacity waiting.old }
 {
     if need_of(rows, link.reader).is_above_zero() {

@@ -1,8 +1,8 @@
 //! Rows of what is counted at points.
-ghost use Rattle.std.specs.Prelude.{◌≡◌, ◌+◌, ◌<◌, ◌≤◌, ◌↔◌, IsTrue, Some, None};
+ghost use Rattle.std.specs.Prelude.{◌≡◌, ◌≢◌, ◌+◌, ◌<◌, ◌≤◌, ◌↔◌, IsTrue, Some, None};
 ghost use Rattle.inc_value.specs.declared.node.Point.{Point};
 ghost use Rattle.point_map.specs.Rows.{at, Holds, Changes};
-ghost use Rattle.necessity.specs.Counting.{need_at, IsAtRest, IsIdle};
+ghost use Rattle.necessity.specs.Counting.{need_at, IsAtRest, IsIdle, NoNewRows};
 
 use crate::need::Need;
 use inc_value::Point;
@@ -36,6 +36,7 @@ pub fn open(rows: &mut PointMap<Need>, p: Point)
     requires room { 0 < rows.old.spare }
     ensures there { Holds rows.new p }
     ensures held { (k : Point) → Holds rows.old k → Holds rows.new k }
+    ensures others { (k : Point) → k ≢ p → Holds rows.new k → Holds rows.old k }
     ensures needs { (k : Point) → need_at rows.new k ≡ need_at rows.old k }
     ensures spare { rows.old.spare ≤ rows.new.spare + 1 }
 {
@@ -63,6 +64,7 @@ pub fn forget(links: &LinkTable, rows: &mut PointMap<Need>, p: Point)
     ensures at_rest { IsAtRest links.now rows.new }
     ensures needs { (k : Point) → need_at rows.new k ≡ need_at rows.old k }
     ensures gone { IsIdle links.now rows.old p → at rows.new p ≡ None }
+    ensures rows { NoNewRows rows.old rows.new }
 {
     if rows.holds(p) && is_idle(links, rows, p) {
         let _row = rows.remove(p);

@@ -38,7 +38,7 @@ use Rattle.stabilize_round.specs.Counts.{RoseBy, RoseAtMost}
 use Rattle.stabilize_round.specs.Moves.{calls_of}
 use Rattle.stabilize_round.specs.State.{Call}
 use Rattle.node_outcomes.specs.Computing.{seen, seen_of, seen_together, value_shown, ShowsValue, IsForcedBy, CallsSeen, Noted, KeepsTypes, KeepsFunctions, IsOfType, LooksAtSeen, has_part}
-use Rattle.node_outcomes.specs.Computing.{IsCalled, Calls, IsKnown, AllShow, LastWas, FoldFits, KeepsAllButCount, ComputesCall, CallComputes, Computes, NotComputed, Ends}
+use Rattle.node_outcomes.specs.Computing.{ran_then, IsCalled, Calls, IsKnown, AllShow, LastWas, FoldFits, KeepsAllButCount, ComputesCall, CallComputes, Computes, NotComputed, Ends}
 use Rattle.node_outcomes.specs.Choosing.{no_graph, right_in}
 use Rattle.node_outcomes.specs.Meaning.{functions_of, lists_none, maps_of}
 use Rattle.node_outcomes.specs.Row.{IsRewritten, with_last, value_of, value_in, outcome_in}
@@ -577,7 +577,7 @@ module _ (value : FnRef → List Value → Value) (arena : Arena) (round : ℕ) 
             (subst (λ (ns : List NodeId). seen_together old.rows ns ≡ Unknown → ⊥) (ap kids is_def ∙ kids_are) looks.kids));
       };
       row = m.row;
-      ran = m.ran;
+      ran = subst (λ (k : ℕ). new.ran ≡ ran_then (calls_of m.called k) old.ran n) cost_here m.ran;
       count = subst (λ (k : ℕ). RoseBy old.calls (calls_of m.called k) new.calls) cost_here m.count;
       typed = λ r v e is. let w = m.shows v is in subst (λ (x : Value). IsOfType arena x r.ty) w.2 (typed r w.0 e w.1);
       answer_typed = typed;

@@ -1,5 +1,6 @@
 -- What a node gives by what its children show, and what its function was called on.
-use Rattle.std.specs.Prelude.{◌≡◌, ◌||◌, ◌⊎◌, ◌++◌, ℕ, Bool, true, false, List, [], ◌∷◌, Option, None, Some, IsSome, option_and_then, is_some, Result, Ok, Err}
+use Rattle.std.specs.Prelude.{◌≡◌, ◌||◌, ◌⊎◌, ◌++◌, ℕ, zero, suc, Bool, true, false, List, [], ◌∷◌}
+use Rattle.std.specs.Prelude.{Option, None, Some, IsSome, option_and_then, is_some, Result, Ok, Err}
 use Rattle.std.specs.List.{AllZip}
 use Rattle.inc_value.specs.Choice.{Among, Every}
 use Rattle.inc_value.specs.declared.ty.Ty.{Ty}
@@ -140,18 +141,18 @@ pub record KeepsTypes (arena : Arena) (kept : Rows Progress) : Type 0 where
   pub calls : (n : NodeId) (r : Row) (k : Progress) (c : Call) → row_at arena n ≡ Some r → at kept (main n) ≡ Some k
       → k.last ≡ Some c → IsOfType arena c.result r.ty
 
--- the nodes whose functions were called, with this one where its was
-abbrev pub ran_then : Bool → List NodeId → NodeId → List NodeId
-ran_then true ran n = ran ++ n ∷ []
-ran_then false ran n = ran
+-- the nodes whose functions were called, with this one where so many calls are one at least
+abbrev pub ran_then : ℕ → List NodeId → NodeId → List NodeId
+ran_then zero ran n = ran
+ran_then (suc k) ran n = ran ++ n ∷ []
 
--- a live node was computed: what its function was last called on is kept, the node is listed where it was called, and the count of calls rose so
+-- a live node was computed: what its function was last called on is kept, the node is listed where a call was made, and the count of calls rose so
 pub record Computes (value : FnRef → List Value → Value) (arena : Arena) (round : ℕ) (old new : Noted) (n : NodeId) (o : Outcome) : Type 0 where
   pub last : Option Call
   pub called : Bool
   pub computed : IsComputed value arena round old.rows n o last called
   pub row : IsRewritten old.rows new.rows (main n) (with_last last)
-  pub ran : new.ran ≡ ran_then called old.ran n
+  pub ran : new.ran ≡ ran_then (calls_of called (cost_at (graph_of arena) n)) old.ran n
   pub count : RoseBy old.calls (calls_of called (cost_at (graph_of arena) n)) new.calls
   pub typed : (r : Row) (v : Value) → row_at arena n ≡ Some r → o ≡ Val v → IsOfType arena v r.ty
   pub answer_typed : (r : Row) (c : Call) → row_at arena n ≡ Some r → last ≡ Some c → IsOfType arena c.result r.ty
@@ -198,12 +199,12 @@ LastWas rows n c = option_and_then (λ (k : Progress). k.last) (at rows (main n)
 abbrev pub AllShow : Rows Progress → List NodeId → Type 0
 AllShow rows nodes = Every (λ (m : NodeId). IsSome (value_shown rows m)) nodes
 
--- a node's function was called on these values, so often: what the calls gave is kept, and the node listed
+-- a node's function was called on these values, so often: what the calls gave is kept, and the node listed where that is once at least
 pub record IsCalled (answer : List Value → Value) (t : Ty) (old new : Noted) (n : NodeId) (values : List Value) (o : Outcome) (cost : ℕ) : Type 0 where
   pub outcome : o ≡ Val (answer values)
   pub type : type_of (answer values) ≡ t
   pub row : IsRewritten old.rows new.rows (main n) (with_call (record { arguments = values; result = answer values }))
-  pub ran : new.ran ≡ old.ran ++ n ∷ []
+  pub ran : new.ran ≡ ran_then cost old.ran n
   pub count : RoseBy old.calls cost new.calls
 
 -- how calls of a node's function on these values end: it was called so often, or there was no memory
@@ -238,7 +239,7 @@ pub record ComputesCall (value : FnRef → List Value → Value) (answer : List 
   pub gives : ((c : Call) → kept.last ≡ Some c → c.result ≡ answer c.arguments) → (seen_together old.rows nodes ≡ Unknown → ⊥)
       → given answer (seen_together old.rows nodes) ≡ Some o
   pub row : IsRewritten old.rows new.rows (main n) (with_last last)
-  pub ran : new.ran ≡ ran_then called old.ran n
+  pub ran : new.ran ≡ ran_then (calls_of called cost) old.ran n
   pub count : RoseBy old.calls (calls_of called cost) new.calls
   pub shows : (v : Value) → o ≡ Val v → (c : Call) × (last ≡ Some c) × (c.result ≡ v)
   pub answer_typed : (c : Call) → last ≡ Some c → (kept.last ≡ Some c) ⊎ (type_of c.result ≡ t)

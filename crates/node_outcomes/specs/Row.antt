@@ -54,10 +54,14 @@ abbrev pub is_never : Cutoff → Bool
 is_never Equal = false
 is_never Never = true
 
--- whether a row's cutoff is Never
+-- a row's cutoff, and Equal without one
+abbrev pub cutoff_in : Option Progress → Cutoff
+cutoff_in None = Equal
+cutoff_in (Some k) = k.cutoff
+
+-- whether that is Never
 abbrev pub never_in : Option Progress → Bool
-never_in None = false
-never_in (Some k) = is_never k.cutoff
+never_in x = is_never (cutoff_in x)
 
 -- whether a row of cutoff Never was settled in the round
 abbrev pub passes_in : ℕ → Option Progress → Bool

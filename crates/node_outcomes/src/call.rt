@@ -214,7 +214,7 @@ pub(crate) fn call_fold<F: Functions>(
     outcome
 }
 
-/// Folds values, and keeps these and the result.
+/// Folds values, and keeps these and the result. A fold of no values takes no call, and isn't listed.
 fn fold_on<F: Functions>(
     alloc: Global,
     rows: &mut PointMap<Progress>,
@@ -253,7 +253,9 @@ fn fold_on<F: Functions>(
         drop(copy);
         return Err(AllocError);
     }
-    ran.push_reserved(node);
+    if !arguments.is_empty() {
+        ran.push_reserved(node);
+    }
     Ok(Outcome::Val(copy))
 }
 

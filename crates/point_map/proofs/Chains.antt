@@ -1,11 +1,11 @@
 -- Pushing onto a chain and popping its head.
-use Rattle.std.proofs.Common.{◌≡◌, ◌≢◌, ◌∙◌, ◌⊎◌, ℕ, ◌+◌, ◌<◌, ◌≤◌, true, false, List, [], ◌∷◌, length, refl, ap, sym, subst, inl, inr, arith, nat_eq, cond, eqb}
-use Rattle.std.specs.Prelude.{Option, Some, None, slice_index_or, slice_set}
-use Rattle.std.proofs.lemmas.Bool.{cases_eq, ne_eqb, eq-eqb}
+use Rattle.std.proofs.Common.{◌≡◌, ◌≢◌, ◌∙◌, ◌⊎◌, ℕ, zero, suc, ◌+◌, ◌<◌, ◌≤◌, true, false, List, [], ◌∷◌, ◌++◌, length, refl, ap, sym, subst, inl, inr, arith, nat_eq, cond, eqb, replicate, take_all}
+use Rattle.std.specs.Prelude.{Result, Ok, Err, is_ok, take, ◌-◌, if◌then◌else◌, Option, Some, None, slice_index_or, slice_set}
+use Rattle.std.proofs.lemmas.Bool.{cases_eq, ne_eqb, eq-eqb, cases_lt}
 use Rattle.std.proofs.lemmas.Bool.Decides.{eqb_tells}
 use Rattle.std.proofs.lemmas.Map.Steps.{length-le_from_distinct_below}
 use Rattle.std.specs.List.{IsDistinct, AllByRecursion, list_any}
-use Rattle.std.proofs.lemmas.List.{length-set, get_or-set_same, get_or-set_other}
+use Rattle.std.proofs.lemmas.List.{length-set, length-append, get_or_past, get_or-set_same, get_or-set_other}
 use Rattle.point_map.specs.Chains.{Among, NoRepeats, Chain, IsLinked, NoneOnChain}
 
 -- a chain is the same where the links of its places are
@@ -301,3 +301,47 @@ distinct_from (k ∷ ks) h = (apart k ks h.0, distinct_from ks h.1)
 -- places below a bound, none twice, are no more than the bound
 pub few_places : (ks : List ℕ) (bound : ℕ) → NoRepeats ks → ((k : ℕ) → Among ks k → k < bound) → length ks ≤ bound
 few_places ks bound once below = length-le_from_distinct_below ks bound (distinct_from ks once) (λ q h. below q (among_any ks q h))
+
+-- where a chain has no place, it leads nowhere
+chain_past : (next : ℕ → Option ℕ) (from : Option ℕ) (ks : List ℕ) → from ≡ None → ((k : ℕ) → Among ks k → ⊥) → Chain next from ks
+chain_past next from [] none never = none
+chain_past next from (k ∷ ks) none never = absurd (never k (inl refl))
+
+wide_at : (heads : List (Option ℕ)) (n b : ℕ) → slice_index_or (heads ++ replicate n None) b None ≡ slice_index_or heads b None
+wide_at [] zero b = refl
+wide_at [] (suc n) zero = refl
+wide_at [] (suc n) (suc b) = wide_at [] n b
+wide_at (h ∷ heads) n zero = refl
+wide_at (h ∷ heads) n (suc b) = wide_at heads n b
+
+-- more buckets, all empty
+pub links_wide : (heads : List (Option ℕ)) (n : ℕ) (next bucket : ℕ → Option ℕ) → IsLinked heads next bucket
+    → IsLinked (heads ++ replicate n None) next bucket
+links_wide heads n next bucket links = record {
+  chains = links.chains;
+  linked = λ b lt. subst (λ from. Chain next from (links.chains b)) (sym (wide_at heads n b)) (elim (cases_lt b (length heads)) [
+    | inl in_old ↦ links.linked b in_old
+    | inr past ↦ chain_past next (slice_index_or heads b None) (links.chains b) (get_or_past heads b None past)
+        (λ k a. let e = (links.every k b (links.own b k a)).0 in omega (arith, e, past))
+  ]);
+  every = λ k b is. let e = links.every k b is in let longer = length-append heads (replicate n None) in (omega (arith, e.0, longer), e.1);
+  own = links.own;
+  once = links.once;
+}
+
+module _ {T E : Type 0} (r : Result T E) (heads items : List (Option ℕ)) (width len : ℕ) (short : len < width) (len_is : len ≡ length heads)
+    (is : items ≡ (if is_ok r then take width heads ++ replicate (width - len) None else heads)) where
+  either_width : (items ≡ heads) ⊎ (items ≡ heads ++ replicate (width - len) None)
+  either_width = go r is
+    where
+      go : (q : Result T E) → items ≡ (if is_ok q then take width heads ++ replicate (width - len) None else heads)
+          → (items ≡ heads) ⊎ (items ≡ heads ++ replicate (width - len) None)
+      go (Ok x) h = inr (h ∙ ap (λ l. l ++ replicate (width - len) None) (take_all width heads (omega (arith, short, len_is))))
+      go (Err e) h = inl h
+
+  -- so many buckets, or as many as before
+  pub wide_linked : (next bucket : ℕ → Option ℕ) → IsLinked heads next bucket → IsLinked items next bucket
+  wide_linked next bucket links = elim either_width [
+    | inl same ↦ rw same links
+    | inr more ↦ rw more (links_wide heads (width - len) next bucket links)
+  ]

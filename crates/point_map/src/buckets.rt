@@ -1,4 +1,4 @@
-ghost use Rattle.std.specs.Prelude.{[], ℕ, ◌⊎◌, ◌≡◌, ◌+◌, ◌<◌, ◌≤◌, None, Some, IsSome, IfSome, IfNone, OnSome, IsOk, IfOk, OnOk, ◌≢◌, OnErr, true, false, option_copied, option_map, length};
+ghost use Rattle.std.specs.Prelude.{[], ℕ, ◌⊎◌, ◌≡◌, ◌+◌, ◌<◌, ◌≤◌, None, Some, IsSome, IfSome, IfNone, OnSome, IsOk, IfOk, OnOk, ◌≢◌, OnErr, true, false, option_copied, option_map, length, max};
 ghost use Rattle.point_map.specs.Buckets.{Kept, kept_at, kept_count, KeptChanges, IsKeptIn, IsEmptyBucket, IsTaken, IsAt};
 ghost use Rattle.point_map.specs.Chains.{NoneOnChain};
 ghost use Rattle.point_map.specs.Links.{point_in, next_in};
@@ -111,6 +111,20 @@ impl<R> Buckets<R> {
             links: Slab::with_capacity(alloc, n)?,
             spare: n,
         })
+    }
+
+    /// Makes at least so many buckets, the new ones empty. Without memory the buckets stay as they are.
+    pub fn widen(&mut self, width: usize) -> Result<(), AllocError>
+        ensures kept { self.new.kept ≡ self.old.kept }
+        ensures width { OnOk result (self.new.width ≡ max self.old.width width) }
+        ensures spare { self.new.spare ≡ self.old.spare }
+        ensures err { OnErr result (self.new ≡ self.old) }
+        ensures succeeds { width ≤ self.old.width → IsOk result }
+    {
+        if width <= self.heads.len() {
+            return Ok(());
+        }
+        self.heads.resize(width, None)
     }
 
     /// Makes room for `n` more points. Without memory the buckets stay as they are.

@@ -1,14 +1,14 @@
 -- Places and buckets that agree: what each change leaves.
-use Rattle.std.proofs.Common.{◌≡◌, ◌≢◌, ◌∙◌, ℕ, ◌<◌, ◌≤◌, List, [], ◌∷◌, refl, ap, sym, subst, inl, inr, arith, false, is_some, IsSome, option_map}
+use Rattle.std.proofs.Common.{◌≡◌, ◌≢◌, ◌∙◌, ℕ, ◌+◌, ◌<◌, ◌≤◌, List, [], ◌∷◌, refl, ap, sym, subst, inl, inr, arith, false, is_some, IsSome, option_map}
 use Rattle.std.proofs.lemmas.Grind.{common_steps}
-use Rattle.std.specs.Prelude.{Option, Some, None, slice_index_or, option_and_then, count_by}
+use Rattle.std.specs.Prelude.{Option, Some, None, slice_index_or, option_and_then, count_by, max}
 use Rattle.std.proofs.Math.ListN.{get_or-map}
 use Rattle.std.proofs.lemmas.Bool.{cases_eq}
 use Rattle.inc_value.specs.declared.node.Point.{Point}
 use Rattle.point_map.specs.Rows.{row_in, StandsOnce}
-use Rattle.point_map.specs.Buckets.{Kept, Buckets, kept_at, KeptChanges, IsTaken}
+use Rattle.point_map.specs.Buckets.{Kept, Buckets, kept_at, kept_count, KeptChanges, IsTaken}
 use Rattle.point_map.proofs.Places.{point_cases, point_of_pair, row_once, row_absent, row_found}
-use Rattle.recompute_heap.specs.Agree.{leveled, heights_of, Agree, EveryKept, NoneBelow, NoneAbove}
+use Rattle.recompute_heap.specs.Agree.{leveled, heights_of, Agree, HasBuckets, EveryKept, NoneBelow, NoneAbove}
 
 some_same : {A : Type 0} (a b : A) → Some a ≡ Some b → a ≡ b
 some_same a b h = cc
@@ -299,3 +299,17 @@ module _ {R : Type 0} where
   pub point_none : (o : Option (Kept R)) → option_map (λ k. k.point) o ≡ None → o ≡ None
   point_none None h = refl
   point_none (Some k) h = absurd (no_some k.point (sym h))
+
+  -- as many points and as much room, in as many buckets
+  pub buckets_same : (old new : Buckets R) (width : ℕ) → HasBuckets old width → new.width ≡ old.width
+      → kept_count new + new.spare ≡ kept_count old + old.spare → HasBuckets new width
+  buckets_same old new width has same sum = record {
+    few = let f = has.few in omega (arith, f, same);
+    all = λ some. same ∙ has.all (omega (arith, some, sum));
+  }
+
+  -- all the buckets there are to be
+  pub buckets_full : (old new : Buckets R) (width : ℕ) → HasBuckets old width → new.width ≡ max old.width width → HasBuckets new width
+  buckets_full old new width has is =
+      let full : new.width ≡ width = let f = has.few in grind (arith, f, is) in
+      record { few = omega (arith, full); all = λ some. full }

@@ -1,8 +1,8 @@
 -- How the places of a heap's points agree with its buckets.
-use Rattle.std.specs.Prelude.{◌≡◌, ◌≤◌, ℕ, List, Option, Some, None, map, option_map}
+use Rattle.std.specs.Prelude.{◌≡◌, ◌+◌, ◌<◌, ◌≤◌, ℕ, List, Option, Some, None, map, option_map}
 use Rattle.inc_value.specs.declared.node.Point.{Point}
 use Rattle.point_map.specs.Rows.{Rows, at}
-use Rattle.point_map.specs.Buckets.{Kept, Buckets, kept_at}
+use Rattle.point_map.specs.Buckets.{Kept, Buckets, kept_at, kept_count}
 
 module _ {R : Type 0} where
   -- a point with its height
@@ -17,6 +17,11 @@ module _ {R : Type 0} where
   pub record Agree (place : Point → Option ℕ) (kept : ℕ → Option (Kept R)) : Type 0 where
     pub held : (p : Point) (i : ℕ) → place p ≡ Some i → (k : Kept R) × (kept i ≡ Some k) × (k.point ≡ p)
     pub placed : (i : ℕ) (k : Kept R) → kept i ≡ Some k → place k.point ≡ Some i
+
+  -- there are so many buckets, or none yet, where no point is kept and there is no room for one
+  pub record HasBuckets (b : Buckets R) (width : ℕ) : Type 0 where
+    pub few : b.width ≤ width
+    pub all : 0 < kept_count b + b.spare → b.width ≡ width
 
   -- this is so of each point that is kept
   abbrev pub EveryKept : (Kept R → Type 0) → Buckets R → Type 0

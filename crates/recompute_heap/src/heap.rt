@@ -1,4 +1,4 @@
-ghost use Rattle.std.specs.Prelude.{[], ◌≡◌, ◌+◌, ◌<◌, ◌≤◌, None, Some, is_some, IfSome, IfNone, OnSome, IsOk, IfOk, OnOk, OnErr};
+ghost use Rattle.std.specs.Prelude.{[], ◌≡◌, ◌+◌, ◌<◌, ◌≤◌, None, Some, is_some, IfSome, IfNone, OnSome, IsOk, OnOk, OnErr};
 ghost use Rattle.point_map.specs.Rows.{at, count, Holds, Changes, KeepsRows};
 ghost use Rattle.recompute_heap.specs.Agree.{IsLeast, IsEmpty};
 
@@ -8,7 +8,7 @@ use std::alloc::{AllocError, Global};
 use std::marker::Model;
 
 /// The points to be recomputed, each with its height of at most 128. A contract sees a heap as a
-/// finite map from points to heights. `reserve` makes room, and no other call takes memory.
+/// finite map from points to heights. `reserve` makes room, the buckets too, and no other call takes memory.
 #[derive(Drop)]
 pub struct RecomputeHeap {
     places: PointMap<usize>,
@@ -20,7 +20,7 @@ impl Model for RecomputeHeap {
     ghost use Rattle.std.specs.Prelude.{ℕ, ◌≡◌, ◌≤◌};
     ghost use Rattle.point_map.specs.Rows.{Rows, at};
     ghost use Rattle.point_map.specs.Buckets.{kept_at};
-    ghost use Rattle.recompute_heap.specs.Agree.{heights_of, Agree, NoneBelow, NoneAbove};
+    ghost use Rattle.recompute_heap.specs.Agree.{heights_of, Agree, HasBuckets, NoneBelow, NoneAbove};
 
     ghost Value = { Rows ℕ };
 
@@ -29,23 +29,23 @@ impl Model for RecomputeHeap {
     ghost invariant = { λ h.
         Agree (at h.places) (kept_at h.buckets)
         × NoneBelow h.buckets h.least
-        × (h.buckets.width ≡ 129)
+        × HasBuckets h.buckets 129
         × (h.buckets.spare ≤ h.places.spare)
         × (h.least ≤ 129)
         × NoneAbove h.buckets 128 };
 }
 
 impl RecomputeHeap {
-    /// An empty heap without room.
-    pub fn new(alloc: Global) -> Result<RecomputeHeap, AllocError>
-        ensures empty { IfOk result (λ h. h.places ≡ []) }
-        ensures spare { IfOk result (λ h. h.spare ≡ 0) }
+    /// An empty heap without room. This takes no memory.
+    pub fn new(alloc: Global) -> RecomputeHeap
+        ensures empty { result.places ≡ [] }
+        ensures spare { result.spare ≡ 0 }
     {
-        Ok(RecomputeHeap {
+        RecomputeHeap {
             places: PointMap::new(alloc),
-            buckets: Buckets::new(alloc, 129, 0)?,
+            buckets: Buckets::none(alloc),
             least: 129,
-        })
+        }
     }
 
     /// Makes room for `n` more points, so that as many inserts need no memory. Without memory the heap stays as it is.
@@ -57,7 +57,11 @@ impl RecomputeHeap {
         ensures err { OnErr result (self.new ≡ self.old) }
         ensures succeeds { n ≤ self.old.spare → IsOk result }
     {
+        if n <= self.buckets.spare() {
+            return Ok(());
+        }
         self.places.reserve(n)?;
+        self.buckets.widen(129)?;
         self.buckets.reserve(n)
     }
 

@@ -9,21 +9,17 @@ use Rattle.inc_value.specs.declared.value.Value.{Value as GraphValue}
 use Rattle.inc_terms.specs.Depend.{Depends, none_died}
 use Rattle.inc_terms.specs.Evaluate.{NodeGives}
 use Rattle.inc_terms.specs.Local.{Exact}
-use Rattle.inc_terms.specs.Need.{Needed as GraphNeeded}
 use Rattle.inc_terms.specs.Term.{Functions}
 use Rattle.inc_terms.specs.Within.{Given}
-use Rattle.graph.specs.Sound.{IsSound, CanStabilize}
-use Rattle.graph.specs.Stabilizes.{Stabilizes as GraphStabilizes}
-use Rattle.graph.specs.Standing.{Standing, in_use, node_at}
+use Rattle.graph.specs.Sound.{IsSound, IsWhole}
+use Rattle.graph.specs.Stabilizes.{Stabilizes as GraphStabilizes, IsObserved}
+use Rattle.graph.specs.Standing.{Standing, graph, in_use, node_at, AreRooted}
 use Rattle.graph.specs.declared.observer.Observer.{Observer as Looking}
 use Rattle.node_arena.specs.Arena.{Arena, row_at}
 use Rattle.node_arena.specs.Graph.{graph_of, NoScopes}
-use Rattle.node_arena.specs.Sound as arena
 use Rattle.stabilize_round.specs.Calling.{costs_of}
 use Rattle.stabilize_round.specs.Counts.{RoseBy}
-use Rattle.node_outcomes.specs.Computing.{seen}
 use Rattle.node_outcomes.specs.Meaning.{functions_of}
-use Rattle.stabilizer.specs.Round.{AreRooted}
 use Rattle.script_model.specs.Blocked.{InTheWay, on_cycle, too_deep}
 use Rattle.script_model.specs.Check.{is_among}
 use Rattle.script_model.specs.Formula.{State, Entry, Body, Formula, Observer, Meanings, meanings_of, Literal, Name, Apply, Fold, Variable, Computed}
@@ -43,11 +39,12 @@ use Rattle.script_graph.proofs.Held.{held_needed}
 use Rattle.script_graph.proofs.Looking.{observed_of_root}
 use Rattle.script_graph.proofs.Owner.{mains_alone}
 use Rattle.script_graph.proofs.Plain.{name_gives_base}
-use Rattle.script_graph.proofs.Recalling.{needed_is_right, visit_is_recalled}
+use Rattle.script_graph.proofs.Recalling.{shown_at, needed_is_right, visit_is_recalled}
 use Rattle.script_graph.proofs.Remembering.{observed_root, stood, observed_among, due_is_covered}
 use Rattle.script_graph.proofs.Same.{observed_so, represents_so}
 use Rattle.script_graph.proofs.Showing.{ShowsThen, AllShow, all_show, made_then, shows_then, names_then, watches_then}
 use Rattle.script_graph.proofs.Watching.{observed_are, watched_roots_are, watched_roots_have}
+use Rattle.script_graph.proofs.Without.{sound_without, stabilizes_without}
 use Rattle.transfer.specs.Both.{Both}
 use Rattle.transfer.specs.Items.{node_of, GrabsBind, RootsHave}
 use Rattle.transfer.specs.Shows.{Fits}
@@ -86,10 +83,9 @@ entries_become F before s after plain = all_become F before s after 0 s.entries
 
 module _ (named : List ℕ → Option FnRef) (value : FnRef → List GraphValue → GraphValue) (known : FnRef → Bool) (m : Moment) (k : Kept)
     (g : Standing (Unit {0})) (called calls : ℕ) (stands : Stands (meanings_of named value) k m) (unbroken : m.broken ≡ None)
-    (sound_arena : arena.IsSound (arena_of k))
-    (sound : IsSound known (seen_value value) k.graph.parts k.graph.observers k.graph.rooted k.graph.refused)
+    (sound : IsSound known k.graph)
     (done : GraphStabilizes (graph_functions (meanings_of named value)) k.graph g)
-    (rose : RoseBy called (costs_of (graph_of (arena_of k)) g.parts.ran.items) calls) where
+    (rose : RoseBy called (costs_of (graph k.graph) g.ran) calls) where
   abbrev F : Meanings
   F = meanings_of named value
 
@@ -109,7 +105,7 @@ module _ (named : List ℕ → Option FnRef) (value : FnRef → List GraphValue 
   observed = in_use k.graph.observers
 
   abbrev ran : List NodeId
-  ran = g.parts.ran.items
+  ran = g.ran
 
   abbrev x : Both
   x = beside F s k
@@ -120,11 +116,11 @@ module _ (named : List ℕ → Option FnRef) (value : FnRef → List GraphValue 
   holds : Holds F k m
   holds = stands.matches.holds unbroken
 
-  can : CanStabilize known (seen_value value) k.graph.parts k.graph.observers k.graph.rooted
-  can = sound.unbroken done.was
+  whole : IsWhole known k.graph
+  whole = sound.whole done.was
 
   no_scopes : NoScopes nodes_now
-  no_scopes = can.ready.kept.flat
+  no_scopes = sound.flat
 
   fits : Fits x
   fits = represented_fits named value s k holds.represents
@@ -137,25 +133,25 @@ module _ (named : List ℕ → Option FnRef) (value : FnRef → List GraphValue 
 
   -- ---- what is needed
 
-  exact : (p : Point) → GraphNeeded M (graph_of nodes_now) none_died observed p → Exact M (graph_of nodes_now) (seen g.parts.work.rows) p
-  exact = needed_is_right M nodes_now no_scopes k.graph.parts.work g.parts.work observed ran
-      (mains_alone x fits holds.represents.plain grabs observed (watched_roots_are F s k holds.represents.plain holds.watches)) done.right
+  exact : (p : Point) → IsObserved M k.graph p → Exact M (graph_of nodes_now) (shown_at g) p
+  exact = needed_is_right M k.graph g no_scopes
+      (mains_alone x fits holds.represents.plain grabs observed (watched_roots_are F s k holds.represents.plain holds.watches)) done
 
   -- nothing that is needed is on a cycle or too deep
   free : NothingNeededIsBlocked F m
   free i need blocked = by_cause i need blocked
     where
       by_cause : (j : Item) → Needed F s j → InTheWay F s j → ⊥
-      by_cause j n (on_cycle {n = t} cycle) = needed_is_on_no_cycle x fits grabs observed have (seen g.parts.work.rows) exact t n cycle
+      by_cause j n (on_cycle {n = t} cycle) = needed_is_on_no_cycle x fits grabs observed have (shown_at g) exact t n cycle
       by_cause j n (too_deep deep) =
-          needed_is_shallow x fits stands.valid.1 observed have (seen g.parts.work.rows) exact (λ p is long. done.right.shallow p is long) j n deep
+          needed_is_shallow x fits stands.valid.1 observed have (shown_at g) exact (λ p is long. done.shallow p is long) j n deep
 
   -- ---- calls
 
   due : WithinWork F before s (costs_of (graph_of nodes_now) ran)
-  due = due_is_covered named value known m k stands unbroken sound_arena can (costs_of (graph_of nodes_now) ran)
-      (done.right.work (side_of k.graph) (observed_by k.graph) (stood named value known m k stands unbroken sound_arena can)
-      (observed_among named value known m k stands unbroken sound_arena can) (costs_of (graph_of nodes_now) ran) (omega arith))
+  due = due_is_covered named value known m k stands unbroken sound whole (costs_of (graph_of nodes_now) ran)
+      (done.work (side_of k.graph) (observed_by k.graph) (stood named value known m k stands unbroken sound whole)
+      (observed_among named value known m k stands unbroken sound whole) (costs_of (graph_of nodes_now) ran) (omega arith))
 
   -- ---- observers
 
@@ -199,20 +195,19 @@ module _ (named : List ℕ → Option FnRef) (value : FnRef → List GraphValue 
   recalled v is need =
       let in_old = represents_so F s (there_in (made_then F s k g holds.watches.made shown)) (s.accepted + 1) k still refl refl refl holds.represents in
       let are = sym (ap in_use done.observers) ∙ observed_are then new watched in
-      let r = visit_is_recalled F then k.nodes nodes_now (represented_fits named value then still in_old) (grabs_bind then represented.plain)
-      k.graph.parts.work g.parts.work observed ran
-      (λ t among. inl (observed_of_root then represented.plain (node_in k.nodes) observed are t among)) exact done.right v is need in
+      let r = visit_is_recalled F then k.nodes k.graph g (represented_fits named value then still in_old) (grabs_bind then represented.plain)
+      (λ t among. inl (observed_of_root then represented.plain (node_in k.nodes) observed are t among)) exact done v is need in
       record {
         node = r.node;
         is_node = subst (λ (a : Arena). node_of (besides F then k.nodes a) v.item ≡ Some r.node) (sym done.nodes) r.is_node;
-        given = subst (λ (a : Arena). Given a.given r.node) (sym done.nodes) (sound_arena.given r.node (rw r.is_row refl));
+        given = subst (λ (a : Arena). Given a.given r.node) (sym done.nodes) (sound.nodes.given r.node (rw r.is_row refl));
         call = r.call;
         is_last = r.is_last;
         values_are = r.values_are;
       }
 
-  rooted : AreRooted g.parts.work (in_use g.observers)
-  rooted = subst (λ (os : List Looking). AreRooted g.parts.work (in_use os)) (sym done.observers) done.right.rooted
+  rooted : AreRooted g (in_use g.observers)
+  rooted = subst (λ (os : List Looking). AreRooted g (in_use os)) (sym done.observers) done.roots
 
   settled : Settled F then then new
   settled = record {
@@ -230,10 +225,10 @@ module _ (named : List ℕ → Option FnRef) (value : FnRef → List GraphValue 
       rows = λ n r u is def. is;
     };
     links = λ p q held link.
-        subst (λ (a : Arena). Depends M (graph_of a) none_died p q) (sym done.nodes) ((done.right.links p q (held_needed g rooted p held)).0 link);
+        subst (λ (a : Arena). Depends M (graph_of a) none_died p q) (sym done.nodes) ((done.links p q (held_needed g rooted p held)).0 link);
     ran = recalled;
     watched = λ z among is. observed_root then z among;
-    equal = λ n never. holds.settled.equal n (sym (done.right.cutoffs n) ∙ never);
+    equal = λ n. done.cutoff n ∙ holds.settled.equal n;
   }
 
   -- ---- the moment after it
@@ -276,31 +271,16 @@ module _ (named : List ℕ → Option FnRef) (value : FnRef → List GraphValue 
 -- ---- over a graph with its functions
 
 module _ {A : Type 0} where
-  -- what is so of a graph is so of what is kept of it
-  pub kept_stabilizes : (M : Functions) (old new : Standing A) → GraphStabilizes M old new
-      → GraphStabilizes M (without_functions old) (without_functions new)
-  kept_stabilizes M old new done = record {
-    was = done.was;
-    unbroken = done.unbroken;
-    nodes = done.nodes;
-    observers = done.observers;
-    rooted = done.rooted;
-    shows = done.shows;
-    right = done.right;
-  }
-
   -- a stabilize of a session's graph that was accepted is one of its script
   pub session_accepted : (named : List ℕ → Option FnRef) (value : FnRef → List GraphValue → GraphValue) (known : FnRef → Bool) (k : Kept)
       (old new : Standing A) (called calls : ℕ) → k.graph ≡ without_functions old → k.broken ≡ None
-      → arena.IsSound old.parts.arena → IsSound known (seen_value value) old.parts old.observers old.rooted old.refused
-      → GraphStabilizes (functions_of (seen_value value)) old new
-      → RoseBy called (costs_of (graph_of old.parts.arena) new.parts.ran.items) calls → (m : Moment) → Stands (meanings_of named value) k m
+      → IsSound known old → GraphStabilizes (functions_of (seen_value value)) old new
+      → RoseBy called (costs_of (graph old) new.ran) calls → (m : Moment) → Stands (meanings_of named value) k m
       → IsAccepted (meanings_of named value) m (record k { accepted = k.accepted + 1; graph = without_functions new }) called calls
-  session_accepted named value known k old new called calls same unbroken sound_arena sound done rose m stands =
+  session_accepted named value known k old new called calls same unbroken sound done rose m stands =
       accepted_stands named value known m k (without_functions new) called calls stands (stands.matches.broken ∙ unbroken)
-      (subst (λ (h : Standing (Unit {0})). arena.IsSound h.parts.arena) (sym same) sound_arena)
-      (subst (λ (h : Standing (Unit {0})). IsSound known (seen_value value) h.parts h.observers h.rooted h.refused) (sym same) sound)
+      (subst (λ (h : Standing (Unit {0})). IsSound known h) (sym same) (sound_without known old sound))
       (subst (λ (h : Standing (Unit {0})). GraphStabilizes (graph_functions (meanings_of named value)) h (without_functions new)) (sym same)
       (subst (λ (M : Functions). GraphStabilizes M (without_functions old) (without_functions new)) (sym (functions_are named value))
-      (kept_stabilizes (functions_of (seen_value value)) old new done)))
-      (subst (λ (h : Standing (Unit {0})). RoseBy called (costs_of (graph_of h.parts.arena) new.parts.ran.items) calls) (sym same) rose)
+      (stabilizes_without (functions_of (seen_value value)) old new done)))
+      (subst (λ (h : Standing (Unit {0})). RoseBy called (costs_of (graph h) new.ran) calls) (sym same) rose)

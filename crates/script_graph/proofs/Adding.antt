@@ -11,12 +11,12 @@ use Rattle.inc_terms.specs.Graph.{Def}
 use Rattle.node_arena.specs.Arena.{live, IsFull}
 use Rattle.script_graph.specs.Growing.{def_ty, IsWelcome}
 
-module _ {F : Type 0} (s : Standing F) (known : FnRef → Bool) (d : Def) (whole : IsUnbroken s) (welcome : IsWelcome known s.parts.arena d)
-    (room : live s.parts.arena < 1048576) (ids : s.parts.arena.given < 2 ^ 64 - 1) where
+module _ {F : Type 0} (s : Standing F) (known : FnRef → Bool) (d : Def) (whole : IsUnbroken s) (welcome : IsWelcome known s.nodes d)
+    (room : live s.nodes < 1048576) (ids : s.nodes.given < 2 ^ 64 - 1) where
   not_broken : (cause : Kept) → IsBroken s cause → ⊥
   not_broken cause (r, is, of) = let clash : None ≡ Some r = sym whole ∙ is in cc
 
-  not_full : IsFull s.parts.arena → ⊥
+  not_full : IsFull s.nodes → ⊥
   not_full (inl many) = omega (arith, many, room)
   not_full (inr all) = omega (arith, all, ids)
 

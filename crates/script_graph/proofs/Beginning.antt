@@ -1,13 +1,13 @@
 -- What is kept before the first line.
-use Rattle.std.proofs.Common.{◌≡◌, ℕ, false, List, [], length, Option, None, Some, refl, ap, sym, ◌∙◌, arith}
+use Rattle.std.proofs.Common.{◌≡◌, ℕ, List, [], length, Option, None, Some, refl, ap, sym, ◌∙◌, arith}
 use Rattle.std.proofs.lemmas.Option.{none-some}
-use Rattle.graph.specs.Standing.{Standing, IsUnbroken}
+use Rattle.graph.specs.Standing.{Standing, IsUnbroken, cutoff_of}
 use Rattle.inc_value.specs.declared.function.FnRef.{FnRef}
 use Rattle.inc_value.specs.declared.node.NodeId.{NodeId}
 use Rattle.inc_value.specs.declared.value.Value.{Value as GraphValue}
 use Rattle.inc_terms.specs.Need.{Holder, Observing, Freezing}
+use Rattle.map_nodes.specs.declared.cutoff.Cutoff.TheVariants.{Equal}
 use Rattle.node_arena.specs.Arena.{row_at, live}
-use Rattle.stabilizer.specs.Round.{never_at}
 use Rattle.script_model.specs.Formula.{Meanings, meanings_of, start}
 use Rattle.script_model.specs.Step.{first_moment}
 use Rattle.script_model.specs.Valid.{KeepToTypes}
@@ -31,8 +31,8 @@ first_kept g = record {
   graph = g;
 }
 
-module _ (g : Standing (Unit {0})) (nodes : (n : NodeId) → row_at g.parts.arena n ≡ None) (observers : g.observers ≡ []) where
-  pub first_sound : live g.parts.arena ≡ 0 → IsUnbroken g → IsSound (first_kept g)
+module _ (g : Standing (Unit {0})) (nodes : (n : NodeId) → row_at g.nodes n ≡ None) (observers : g.observers ≡ []) where
+  pub first_sound : live g.nodes ≡ 0 → IsUnbroken g → IsSound (first_kept g)
   first_sound none unbroken = record {
     one_node_each = refl;
     has_nodes = λ n d is. absurd (cc);
@@ -65,10 +65,10 @@ module _ (g : Standing (Unit {0})) (nodes : (n : NodeId) → row_at g.parts.aren
         let none = ap length observers in omega (arith, low, none)
     no_root (Freezing f) n root = cc
 
-    first_settled : ((n : NodeId) → never_at g.parts.work n ≡ false) → Settled F start start (first_kept g)
-    first_settled cutoffs = record {
+    first_settled : ((n : NodeId) → cutoff_of g n ≡ Equal) → Settled F start start (first_kept g)
+    first_settled cutoff = record {
       nodes = [];
-      arena = g.parts.arena;
+      arena = g.nodes;
       plain = λ n body is. absurd (cc);
       one_node_each = refl;
       fits = represented_fits named value start (first_kept g) first_represents;
@@ -82,11 +82,11 @@ module _ (g : Standing (Unit {0})) (nodes : (n : NodeId) → row_at g.parts.aren
       links = λ p q held link. absurd (no_root held.holder held.node held.is_root);
       ran = λ v visit need. absurd need.1;
       watched = λ x among is. absurd among;
-      equal = λ n never. let equal = cutoffs n in cc;
+      equal = cutoff;
     }
 
-    pub first_stands : ((n : NodeId) → never_at g.parts.work n ≡ false) → KeepToTypes F → Stands F (first_kept g) first_moment
-    first_stands cutoffs keep = record {
+    pub first_stands : ((n : NodeId) → cutoff_of g n ≡ Equal) → KeepToTypes F → Stands F (first_kept g) first_moment
+    first_stands cutoff keep = record {
       keep = keep;
       valid = start_is_valid F;
       matches = record {
@@ -104,7 +104,7 @@ module _ (g : Standing (Unit {0})) (nodes : (n : NodeId) → row_at g.parts.aren
             named = λ i o name is at. absurd (cc);
             apart = λ o p x y at also same. absurd (cc);
           };
-          settled = first_settled cutoffs;
+          settled = first_settled cutoff;
         };
       };
     }

@@ -189,21 +189,21 @@ node_index n (m ∷ ms) (inr among) = let rest = node_index n ms among in (suc r
 
 pub made_new_calls : {F : Type 0} (first now : Standing F) (makes : List Open) (made : List NodeId) (count : ℕ)
     → IsMaking first now makes made → length made ≡ length makes → calls_of_opens makes ≤ count
-    → HasNewCalls first.parts.arena now.parts.arena count
+    → HasNewCalls first.nodes now.nodes count
 made_new_calls first now makes made count h whole most = record {
   callers = made_callers makes made;
   few = let few = made_few makes made in omega (arith, few, most);
   all = λ c is. elim (h.new_rows c.node is.row is.is_row) [
-    | inl was ↦ inl (caller_in first.parts.arena now.parts.arena c is was)
+    | inl was ↦ inl (caller_in first.nodes now.nodes c is was)
     | inr new ↦ inr (is_made c is (node_index c.node made new))
   ];
 }
   where
-    is_made : (c : Caller) → IsCaller now.parts.arena c → (i : ℕ) × (i < length made) × (node_at made i ≡ c.node) → Among c (made_callers makes made)
+    is_made : (c : Caller) → IsCaller now.nodes c → (i : ℕ) × (i < length made) × (node_at made i ≡ c.node) → Among c (made_callers makes made)
     is_made c is (i, low, same) =
         let x = open_at makes i (omega (arith, low, whole)) in
         let top = h.stands.top i x.0 x.1 low in
-        let row : top.0 ≡ is.row = (let e : Some top.0 ≡ Some is.row = sym top.1 ∙ (ap (row_at now.parts.arena) same ∙ is.is_row) in cc) in
+        let row : top.0 ≡ is.row = (let e : Some top.0 ≡ Some is.row = sym top.1 ∙ (ap (row_at now.nodes) same ∙ is.is_row) in cc) in
         let def : filled made x.0 ≡ is.row.def = sym top.3 ∙ ap (λ (r : Row). r.def) row in
-        let cost = sym (filled_cost (graph_of now.parts.arena) c.node made x.0) ∙ (ap (cost_of (graph_of now.parts.arena) c.node) def ∙ is.calls) in
+        let cost = sym (filled_cost (graph_of now.nodes) c.node made x.0) ∙ (ap (cost_of (graph_of now.nodes) c.node) def ∙ is.calls) in
         subst (λ (n : NodeId). Among (record { node = n; cost = c.cost }) (made_callers makes made)) same (made_among makes made i x.0 c.cost low x.1 cost)

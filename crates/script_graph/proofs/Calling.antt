@@ -5,9 +5,11 @@ use Rattle.std.proofs.lemmas.List.Sums.{sum_by-cons}
 use Rattle.inc_value.specs.Choice.{Among, NoRepeats}
 use Rattle.inc_value.specs.declared.node.NodeId.{NodeId}
 use Rattle.inc_terms.specs.Graph.{Graph, Row, Def}
+use Rattle.inc_terms.specs.Term.{Functions}
 use Rattle.inc_terms.specs.Work.{cost_of}
+use Rattle.graph.specs.Standing.{Standing, graph}
+use Rattle.graph.specs.Stabilizes.{HasCalledMet}
 use Rattle.node_arena.specs.Arena.{Arena}
-use Rattle.node_arena.specs.Graph.{graph_of}
 use Rattle.script_model.specs.Formula.{State}
 use Rattle.script_model.specs.Run.{most_calls}
 use Rattle.script_graph.specs.Represents.{Caller, IsCaller, HasFewCalls}
@@ -15,7 +17,6 @@ use Rattle.script_graph.proofs.Callers.{calls_by}
 use Rattle.inc_terms.specs.Work.{taken_by}
 use Rattle.stabilize_round.proofs.Calling.{cost_taken}
 use Rattle.stabilize_round.specs.Calling.{or_none, row_cost, cost_at}
-use Rattle.stabilizer.specs.Round.{HasCalledFew}
 
 -- ---- lists
 
@@ -103,11 +104,11 @@ taken_costs G n r kids row takes =
     by_def : (def : Def) → taken_by G n def ≡ Some kids → cost_of G n def ≡ Some (or_none (cost_of G n def))
     by_def def takes = cost_taken G n def kids takes
 
--- a refused round calls no more than one visit of each place would
-pub few_calls : (s : State) (arena : Arena) (before after : ℕ) → HasFewCalls s arena → HasCalledFew arena before after
+-- a refused stabilize calls no more than one visit of each place would
+pub few_calls : {A : Type 0} (M : Functions) (s : State) (g : Standing A) (before after : ℕ) → HasFewCalls s g.nodes → HasCalledMet M g before after
     → after ≤ before + most_calls s
-few_calls s arena before after has called =
-    let few = callers_few s arena (cost_at (graph_of arena)) called.nodes has called.once (λ n among.
+few_calls M s g before after has called =
+    let few = callers_few s g.nodes (cost_at (graph g)) called.nodes has called.once (λ n among.
     let c = called.callers n among in
-    record { row = c.row; is_row = c.is_row; calls = taken_costs (graph_of arena) n c.row c.nodes c.is_row c.takes }) in
+    record { row = c.row; is_row = c.is_row; calls = taken_costs (graph g) n c.row c.nodes c.is_row c.takes }) in
     omega (arith, few, called.count.within)

@@ -1,21 +1,20 @@
 -- What observers show, and what is kept of the last accepted stabilize, after a call that keeps both.
-use Rattle.std.proofs.Common.{◌≡◌, ℕ, ◌<◌, ◌≤◌, true, List, take, length, Some, IsSome, refl, ap, sym, subst, ◌∙◌, arith, slice_get}
+use Rattle.std.proofs.Common.{◌≡◌, ℕ, ◌<◌, ◌≤◌, List, take, length, Some, IsSome, refl, ap, sym, subst, ◌∙◌, arith, slice_get}
 use Rattle.inc_value.specs.Choice.{Among}
 use Rattle.inc_value.specs.Ty.{IsBase}
 use Rattle.inc_value.specs.declared.node.NodeId.{NodeId}
 use Rattle.inc_value.specs.declared.node.ObsId.{ObsId}
 use Rattle.inc_value.specs.declared.node.Point.{Point}
 use Rattle.inc_terms.specs.Within.{Given}
-use Rattle.graph.specs.Effects.{KeepsBeside}
+use Rattle.graph.specs.Effects.{KeepsBesideGiven}
 use Rattle.graph.specs.Standing as standing
-use Rattle.graph.specs.Standing.{shown_of}
+use Rattle.graph.specs.Standing.{shown_of, called_last, cutoff_of, times_linked}
 use Rattle.graph.specs.declared.observer.Observer.{Observer as Looking}
-use Rattle.link_table.specs.Links.{times}
+use Rattle.map_nodes.specs.declared.cutoff.Cutoff.TheVariants.{Equal}
 use Rattle.node_arena.specs.Arena.{Arena}
 use Rattle.script_model.specs.Formula.{State, Body, Meanings, Observer, body_at}
 use Rattle.script_model.specs.Need.{Visit}
 use Rattle.script_model.specs.Values.{Value, Int, Bool, Text, Reference, Outcome, Val, Invalid, type_of}
-use Rattle.stabilizer.specs.Round.{last_call, never_at}
 use Rattle.script_graph.specs.Kept.{Kept, arena_of, node_in}
 use Rattle.script_graph.specs.Represents.{besides, IsBaseOutcome, IsShown, IsObserver, Watches}
 use Rattle.script_graph.specs.Settled.{rooted_at, StillDeclares, WasRun, Settled}
@@ -40,7 +39,7 @@ base_outcome nodes nodes' Invalid base = refl
 
 -- ---- observers
 
-module _ (s s' : State) (k k' : Kept) (beside : KeepsBeside k.graph k'.graph) (observers : k'.observers ≡ k.observers)
+module _ (s s' : State) (k k' : Kept) (beside : KeepsBesideGiven k.graph k'.graph) (observers : k'.observers ≡ k.observers)
     (names : k'.names.observers ≡ k.names.observers) (same : s'.observers ≡ s.observers)
     (nodes : (n : ℕ) (b : Body) → body_at s n ≡ Some b → node_in k'.nodes n ≡ node_in k.nodes n)
     (given : (n : ℕ) (b : Body) → body_at s n ≡ Some b → Given (arena_of k).given (node_in k.nodes n))
@@ -97,23 +96,23 @@ still_then before s s' nodes arena k k' first next = record {
 }
 
 -- what a call leaves beside the graph: no observer comes to those that were there at the last accepted stabilize, links are fewer, last calls are as
--- they were, and no further node has cutoff Never
+-- they were, and no further node has a cutoff other than Equal
 pub record LeavesBeside (k k' : Kept) : Type 0 where
   pub rooted : (o : ObsId) (n : NodeId) → rooted_at k'.graph o ≡ Some n → rooted_at k.graph o ≡ Some n
-  pub fewer : (p q : Point) → times k'.graph.parts.work.graph.links p q ≤ times k.graph.parts.work.graph.links p q
+  pub fewer : (p q : Point) → times_linked k'.graph p q ≤ times_linked k.graph p q
   pub given : (arena_of k).given ≤ (arena_of k').given
-  pub last : (n : NodeId) → Given (arena_of k).given n → last_call k'.graph.parts.work n ≡ last_call k.graph.parts.work n
-  pub cutoffs : (n : NodeId) → never_at k'.graph.parts.work n ≡ true → never_at k.graph.parts.work n ≡ true
+  pub last : (n : NodeId) → Given (arena_of k).given n → called_last k'.graph n ≡ called_last k.graph n
+  pub no_more_cutoffs : (n : NodeId) → cutoff_of k.graph n ≡ Equal → cutoff_of k'.graph n ≡ Equal
 
 -- a call that keeps what is beside the graph
-pub leaves_beside : (k k' : Kept) → KeepsBeside k.graph k'.graph → (arena_of k).given ≤ (arena_of k').given → LeavesBeside k k'
+pub leaves_beside : (k k' : Kept) → KeepsBesideGiven k.graph k'.graph → (arena_of k).given ≤ (arena_of k').given → LeavesBeside k k'
 leaves_beside k k' keeps given = record {
   rooted = λ o n at. subst (λ (r : ℕ). standing.node_at (take r k.graph.observers) o ≡ Some n) keeps.rooted
       (subst (λ (os : List Looking). standing.node_at (take k'.graph.rooted os) o ≡ Some n) keeps.observers at);
   fewer = λ p q. let same = keeps.links p q in omega (arith, same);
   given = given;
   last = keeps.last;
-  cutoffs = keeps.fewer_cutoffs;
+  no_more_cutoffs = keeps.no_more_cutoffs;
 }
 
 -- what is kept of the last accepted stabilize is so still
@@ -131,7 +130,7 @@ settled_on F before s s' k k' leaves still shown st = record {
       (link_less k.graph k'.graph leaves.rooted leaves.fewer p q link);
   ran = λ v is need. ran_on v (st.ran v is need);
   watched = λ x among is. st.watched x (shown x among is) is;
-  equal = λ n never. st.equal n (leaves.cutoffs n never);
+  equal = λ n. leaves.no_more_cutoffs n (st.equal n);
 }
   where
     ran_on : (v : Visit) → WasRun (besides F before st.nodes st.arena) k v → WasRun (besides F before st.nodes st.arena) k' v

@@ -1,9 +1,9 @@
 -- A stabilize that was refused for a cycle is one of the script, and a plain script has none.
 use Rattle.std.proofs.Common.{◌≡◌, ◌⊎◌, inl, inr, ℕ, zero, suc, ◌<◌, Bool, true, List, [], ◌∷◌, ◌++◌, length, Option, None, Some, option_map, refl, ap, sym, subst, ◌∙◌, arith, slice_get}
 use Rattle.std.proofs.lemmas.Option.{slice_get_within, slice_get-map}
-use Rattle.graph.specs.Sound.{IsSound, CanStabilize}
-use Rattle.graph.specs.Stabilizes.{IsRefusedFor}
-use Rattle.graph.specs.Standing.{Standing, in_use}
+use Rattle.graph.specs.Sound.{IsSound, IsWhole}
+use Rattle.graph.specs.Stabilizes.{IsRefusedFor, HasCalledMet, IsListed, IsLawful, ComesBack}
+use Rattle.graph.specs.Standing.{Standing}
 use Rattle.graph.specs.Fault.{kept_of}
 use Rattle.graph.specs.declared.fault.Kept.TheVariants as fault
 use Rattle.height_order.specs.Chains as chains
@@ -15,12 +15,11 @@ use Rattle.inc_value.specs.declared.value.Value.{Value as GraphValue}
 use Rattle.inc_terms.specs.Depend.{main}
 use Rattle.inc_terms.specs.Term.{Functions}
 use Rattle.node_arena.specs.Graph.{graph_of}
-use Rattle.node_arena.specs.Sound as arena
 use Rattle.node_outcomes.specs.Meaning.{functions_of}
 use Rattle.script_model.specs.Blocked.{NameReads, EachReads, LastIs, IsCycle, OnCycle}
 use Rattle.script_model.specs.Check.{Declared, declared_of, target_of_body}
 use Rattle.script_model.specs.Formula as script
-use Rattle.script_model.specs.Formula.{State, Entry, Body, Formula, Meanings, meanings_of, body_at, formula_of_body, Literal, Name, Apply, Fold as FoldOf, Variable, Computed, Grab}
+use Rattle.script_model.specs.Formula.{State, Entry, Body, Formula, Meanings, meanings_of, body_at, Name, Variable, Computed, Grab}
 use Rattle.script_model.specs.Need.{Edge, Inside, Named, Place, Met, formula_at}
 use Rattle.script_model.specs.Step.{Moment, by_cycle}
 use Rattle.script_model.specs.Values.{Value, seen_value}
@@ -39,8 +38,8 @@ use Rattle.script_graph.proofs.Functions.{functions_are}
 use Rattle.script_graph.proofs.Owning.{aged_item, aged_part, own_node}
 use Rattle.script_graph.proofs.Plain.{plain_is_todays}
 use Rattle.script_graph.proofs.Remembering.{meeting_is_covered, nodes_apart, own_body, same_owner}
+use Rattle.script_graph.proofs.Without.{sound_without, lawful_without, few_without}
 use Rattle.stabilize_round.proofs.Points.{same_or_other}
-use Rattle.stabilizer.specs.Round.{HasCalledFew, IsListed, IsLawful, ComesBack}
 use Rattle.stabilizer.specs.declared.refused.Refused.{Refused}
 use Rattle.stabilizer.specs.declared.refused.Refused.TheVariants as refused
 use Rattle.transfer.specs.Both.{Both}
@@ -204,8 +203,8 @@ first_on_cycle F s n (a ∷ names) cycle = (a, cycle.0.0, reach_last F s n a nam
 -- ---- the stabilize
 
 module _ (named : List ℕ → Option FnRef) (value : FnRef → List GraphValue → GraphValue) (known : FnRef → Bool) (m : Moment) (k : Kept)
-    (stands : Stands (meanings_of named value) k m) (unbroken : m.broken ≡ None) (sound_arena : arena.IsSound (arena_of k))
-    (can : CanStabilize known (seen_value value) k.graph.parts k.graph.observers k.graph.rooted) where
+    (stands : Stands (meanings_of named value) k m) (unbroken : m.broken ≡ None) (sound : IsSound known k.graph)
+    (whole : IsWhole known k.graph) where
   abbrev F : Meanings
   F = meanings_of named value
 
@@ -217,22 +216,22 @@ module _ (named : List ℕ → Option FnRef) (value : FnRef → List GraphValue 
 
   -- the names that a listed cycle passes are a cycle of met names, with the first of them once more at its end
   pub passed_cycle : (p q : Point) (rest : List Point) (names : List ℕ)
-      → IsListed (graph_functions F) (arena_of k) k.graph.parts.work (in_use k.graph.observers) (p ∷ q ∷ rest) → ComesBack (p ∷ q ∷ rest)
+      → IsListed (graph_functions F) k.graph (p ∷ q ∷ rest) → ComesBack (p ∷ q ∷ rest)
       → Passes (beside F s k) p (q ∷ rest) names → (first : ℕ) × (more : List ℕ) × (names ≡ first ∷ more) × IsCycle F s (first ∷ (more ++ first ∷ []))
       × Every (λ n. Met F m.settled s (Named n)) names
   passed_cycle p q rest names listed back passes =
-      let covered = meeting_is_covered named value known m k stands unbroken sound_arena can p (listed.met p refl) in
+      let covered = meeting_is_covered named value known m k stands unbroken sound whole p (listed.met p refl) in
       cycles_are_named (beside F s k) (represented_fits named value s k holds.represents) stands.keep stands.valid.1
       (nodes_apart F s k holds.represents) (parts_apart F s k holds.represents) m.settled (valid_grabs F m.settled stands.valid.0)
       holds.settled.still.formulas p q rest names covered listed.walk
       (subst (λ (r : Point). EndsAt r (q ∷ rest)) (sym back.starts) (ends_as (q ∷ rest) back.point back.ends)) (once_behind p q back.point rest back.front back.is_front back.starts back.once) passes
 
   -- the model may refuse the stabilize for the declarations whose mains the cycle passes
-  module _ (g : Standing (Unit {0})) (called calls : ℕ) (few : HasCalledFew (arena_of k) called calls) where
+  module _ {N : Functions} (g : Standing (Unit {0})) (called calls : ℕ) (few : HasCalledMet N k.graph called calls) where
     abbrev broken : Kept
     broken = record k { broken = Some 20; graph = g }
 
-    circular : (points : List Point) (targets : List ℕ) → IsListed (graph_functions F) (arena_of k) k.graph.parts.work (in_use k.graph.observers) points
+    circular : (points : List Point) (targets : List ℕ) → IsListed (graph_functions F) k.graph points
         → ComesBack points → MainsIn k (behind_first points) targets
         → (first : ℕ) × (more : List ℕ) × (targets ≡ first ∷ more) × IsCircular F m broken (first ∷ (more ++ first ∷ [])) called calls
     circular [] targets listed back mains = absurd back.starts
@@ -246,13 +245,13 @@ module _ (named : List ℕ → Option FnRef) (value : FnRef → List GraphValue 
           record {
             after = record m { broken = Some 20 };
             stabilizes = by_cycle (c.0 ∷ (c.1 ++ c.0 ∷ [])) c.0 c.3 (inl refl) met.0 refl refl;
-            within = few_calls s (arena_of k) called calls holds.represents.calls few;
+            within = few_calls N s k.graph called calls holds.represents.calls few;
             matches = broken_matches F m k g 20 stands.matches;
           },
         )
 
     pub circular_met : (met : Option Refused) (r : Refused) (targets : List ℕ) → met ≡ Some r → kept_of r ≡ fault.Cycle
-        → IsLawful (graph_functions F) (arena_of k) k.graph.parts.work (in_use k.graph.observers) r → CyclePasses k met targets
+        → IsLawful (graph_functions F) k.graph r → CyclePasses k met targets
         → (first : ℕ) × (more : List ℕ) × (targets ≡ first ∷ more) × IsCircular F m broken (first ∷ (more ++ first ∷ [])) called calls
     circular_met None r targets e cause lawful passes = absurd passes
     circular_met (Some (refused.Cycle points)) (refused.Cycle others) targets e cause lawful passes =
@@ -262,7 +261,7 @@ module _ (named : List ℕ → Option FnRef) (value : FnRef → List GraphValue 
     circular_met (Some other) r targets e cause lawful passes = absurd passes
 
   -- which a plain script doesn't have
-  none_comes_back : (points : List Point) → IsListed (graph_functions F) (arena_of k) k.graph.parts.work (in_use k.graph.observers) points
+  none_comes_back : (points : List Point) → IsListed (graph_functions F) k.graph points
       → ComesBack points → ⊥
   none_comes_back [] listed back = back.starts
   none_comes_back (p ∷ []) listed back = let long = back.long in omega (arith, long)
@@ -271,7 +270,7 @@ module _ (named : List ℕ → Option FnRef) (value : FnRef → List GraphValue 
       let c = passed_cycle p q rest names.0 listed back names.1 in
       today_has_no_cycle F s (plain_is_todays s holds.represents.plain) c.0 (first_on_cycle F s c.0 (c.1 ++ c.0 ∷ []) c.3)
 
-  no_cycle : (met : Refused) → IsLawful (graph_functions F) (arena_of k) k.graph.parts.work (in_use k.graph.observers) met → kept_of met ≡ fault.Cycle → ⊥
+  no_cycle : (met : Refused) → IsLawful (graph_functions F) k.graph met → kept_of met ≡ fault.Cycle → ⊥
   no_cycle (refused.Cycle points) lawful e = none_comes_back points.items lawful.0 lawful.1
   no_cycle (refused.Height points) lawful e = cc
   no_cycle refused.Full lawful e = lawful
@@ -280,30 +279,30 @@ module _ (named : List ℕ → Option FnRef) (value : FnRef → List GraphValue 
 -- ---- over a graph with its functions
 
 module _ {A : Type 0} (named : List ℕ → Option FnRef) (value : FnRef → List GraphValue → GraphValue) (known : FnRef → Bool) (k : Kept)
-    (old new : Standing A) (same : k.graph ≡ without_functions old) (unbroken : k.broken ≡ None) (sound_arena : arena.IsSound old.parts.arena)
-    (sound : IsSound known (seen_value value) old.parts old.observers old.rooted old.refused)
+    (old new : Standing A) (same : k.graph ≡ without_functions old) (unbroken : k.broken ≡ None) (sound : IsSound known old)
     (done : IsRefusedFor (functions_of (seen_value value)) old new fault.Cycle) (m : Moment) (stands : Stands (meanings_of named value) k m) where
-  kept_sound : arena.IsSound (arena_of k)
-  kept_sound = subst (λ (h : Standing (Unit {0})). arena.IsSound h.parts.arena) (sym same) sound_arena
+  kept_sound : IsSound known k.graph
+  kept_sound = subst (λ (h : Standing (Unit {0})). IsSound known h) (sym same) (sound_without known old sound)
 
-  kept_can : CanStabilize known (seen_value value) k.graph.parts k.graph.observers k.graph.rooted
-  kept_can = subst (λ (h : Standing (Unit {0})). CanStabilize known (seen_value value) h.parts h.observers h.rooted) (sym same) (sound.unbroken done.was)
+  kept_whole : IsWhole known k.graph
+  kept_whole = kept_sound.whole (ap (λ (h : Standing (Unit {0})). h.refused) same ∙ done.was)
 
-  kept_lawful : IsLawful (graph_functions (meanings_of named value)) (arena_of k) k.graph.parts.work (in_use k.graph.observers) done.met
-  kept_lawful =
-      subst (λ (h : Standing (Unit {0})). IsLawful (graph_functions (meanings_of named value)) h.parts.arena h.parts.work (in_use h.observers) done.met) (sym same)
-      (subst (λ (M : Functions). IsLawful M old.parts.arena old.parts.work (in_use old.observers) done.met) (sym (functions_are named value)) done.lawful)
+  kept_lawful : IsLawful (graph_functions (meanings_of named value)) k.graph done.met
+  kept_lawful = subst (λ (h : Standing (Unit {0})). IsLawful (graph_functions (meanings_of named value)) h done.met) (sym same)
+      (lawful_without (graph_functions (meanings_of named value)) old done.met
+      (subst (λ (M : Functions). IsLawful M old done.met) (sym (functions_are named value)) done.lawful))
 
   -- a stabilize of a session's graph that was refused for a cycle is one of its script
-  pub session_circular : (targets : List ℕ) (called calls : ℕ) → CyclePasses k new.refused targets → HasCalledFew old.parts.arena called calls
-      → (first : ℕ) × (more : List ℕ) × (targets ≡ first ∷ more)
+  pub session_circular : (targets : List ℕ) (called calls : ℕ) → CyclePasses k new.refused targets
+      → HasCalledMet (functions_of (seen_value value)) old called calls → (first : ℕ) × (more : List ℕ) × (targets ≡ first ∷ more)
       × IsCircular (meanings_of named value) m (record k { broken = Some 20; graph = without_functions new }) (first ∷ (more ++ first ∷ [])) called calls
   session_circular targets called calls passes few =
-      circular_met named value known m k stands (stands.matches.broken ∙ unbroken) kept_sound kept_can (without_functions new) called calls
-      (subst (λ (h : Standing (Unit {0})). HasCalledFew h.parts.arena called calls) (sym same) few) new.refused done.met targets done.broken done.is_cause
+      circular_met named value known m k stands (stands.matches.broken ∙ unbroken) kept_sound kept_whole (without_functions new) called calls
+      (subst (λ (h : Standing (Unit {0})). HasCalledMet (functions_of (seen_value value)) h called calls) (sym same)
+      (few_without (functions_of (seen_value value)) old called calls few)) new.refused done.met targets done.broken done.is_cause
       kept_lawful passes
 
   -- and where the script is plain there is none
   pub session_no_cycle : ⊥
   session_no_cycle =
-      no_cycle named value known m k stands (stands.matches.broken ∙ unbroken) kept_sound kept_can done.met kept_lawful done.is_cause
+      no_cycle named value known m k stands (stands.matches.broken ∙ unbroken) kept_sound kept_whole done.met kept_lawful done.is_cause

@@ -29,12 +29,12 @@ use Rattle.script_model.specs.Step.{Moment, declared_in, moved}
 use Rattle.script_model.specs.Values.{Value, to_engine}
 use Rattle.script_graph.specs.Growing.{Extends, IsMaking, PartFits, AllOpenFit}
 use Rattle.script_graph.specs.Kept as kept
-use Rattle.script_graph.specs.Kept.{Kept, arena_of, node_in, HasNode, IsSound, without_functions}
+use Rattle.script_graph.specs.Kept.{Kept, node_in, HasNode, IsSound, without_functions}
 use Rattle.script_graph.specs.Represents.{beside}
 use Rattle.script_graph.specs.State.{MatchesMoment}
 use Rattle.script_graph.proofs.Counting.{live_within}
 use Rattle.script_graph.proofs.Declaring.{declaring_stands, with_declared}
-use Rattle.script_graph.proofs.Extending.{extends_without, stands_on, taken_back_extends}
+use Rattle.script_graph.proofs.Extending.{beside_without, extends_without, stands_on, taken_back_extends}
 use Rattle.script_graph.proofs.Laying.{every_name_of, laid_fits, made_declares, made_owned, made_root, made_variable}
 use Rattle.script_graph.proofs.Callers.{HasNewCalls, WereLive, made_new_calls, caller_live, calls_laid_body}
 use Rattle.script_graph.proofs.Making.{reference_fits, value_given}
@@ -96,12 +96,12 @@ module _ {F : Type 0} (first now : Standing F) (names : Names) (nodes : List Nod
   abbrev returned : Kept
   returned = record { names = names; nodes = nodes; observers = observers; room = room; accepted = accepted; broken = broken; graph = without_functions now }
 
-  module _ (h : IsSound before) (sound : arena.IsSound first.parts.arena) (sound' : arena.IsSound now.parts.arena) where
-    pub returned_sound : Extends first now → live now.parts.arena ≤ live first.parts.arena → IsSound returned
+  module _ (h : IsSound before) (sound : arena.IsSound first.nodes) (sound' : arena.IsSound now.nodes) where
+    pub returned_sound : Extends first now → live now.nodes ≤ live first.nodes → IsSound returned
     returned_sound more few =
         sound_on before h sound (without_functions now) (extends_without first now more) (let room = h.few in omega (arith, few, room))
 
-    pub returned_stands : Extends first now → HasNewCalls first.parts.arena now.parts.arena 0 → (named : List ℕ → Option FnRef) (value : FnRef → List GraphValue → GraphValue) (m : Moment)
+    pub returned_stands : Extends first now → HasNewCalls first.nodes now.nodes 0 → (named : List ℕ → Option FnRef) (value : FnRef → List GraphValue → GraphValue) (m : Moment)
         → MatchesMoment (meanings_of named value) before m → MatchesMoment (meanings_of named value) returned m
     returned_stands more fewer named value m =
         stands_on named value before (without_functions now) sound sound' (extends_without first now more) fewer m
@@ -121,13 +121,13 @@ module _ {F : Type 0} (first now : Standing F) (names : Names) (nodes : List Nod
         more : Extends (without_functions first) (without_functions now)
         more = extends_without first now making.extends
 
-        there : (position : ℕ) (t : Ty) → NameFits names position t → (r : Row) × (row_at first.parts.arena (node_at nodes position) ≡ Some r) × (r.ty ≡ t)
-        there = names_there first.parts.arena names nodes h.one_node_each h.has_nodes
+        there : (position : ℕ) (t : Ty) → NameFits names position t → (r : Row) × (row_at first.nodes (node_at nodes position) ≡ Some r) × (r.ty ≡ t)
+        there = names_there first.nodes names nodes h.one_node_each h.has_nodes
 
-        laid : AllOpenFit known first.parts.arena makes × PartFits first.parts.arena makes ty (laid_body (node_at nodes) 0 body).root
-        laid = laid_fits known first.parts.arena (node_at nodes) names there body ty fits.body_fits
+        laid : AllOpenFit known first.nodes makes × PartFits first.nodes makes ty (laid_body (node_at nodes) 0 body).root
+        laid = laid_fits known first.nodes (node_at nodes) names there body ty fits.body_fits
 
-        typed : (r : Row) × (row_at now.parts.arena root ≡ Some r) × (r.ty ≡ ty)
+        typed : (r : Row) × (row_at now.nodes root ≡ Some r) × (r.ty ≡ ty)
         typed = made_root known names first now (node_at nodes) made sound body ty making whole laid.1
 
         node_new : node_in (nodes ++ root ∷ []) (length names.declared) ≡ root
@@ -141,7 +141,7 @@ module _ {F : Type 0} (first now : Standing F) (names : Names) (nodes : List Nod
         size : length makes ≡ places_of_body body
         size = one_each_of_body (λ n. n < length nodes) (node_at nodes) body (names_within known names nodes h.one_node_each body ty fits.body_fits)
 
-        few : live now.parts.arena + less ≤ 1048575
+        few : live now.nodes + less ≤ 1048575
         few = let room = h.few in omega (arith, making.few, room, room_is, whole, size)
 
         pub declared_stands : (named : List ℕ → Option FnRef) (value : FnRef → List GraphValue → GraphValue) (m : Moment) → broken ≡ None
@@ -156,35 +156,23 @@ module _ {F : Type 0} (first now : Standing F) (names : Names) (nodes : List Nod
         pub declared_sound : IsSound after
         declared_sound =
             sound_declared before h sound (without_functions now) more name ty body root less typed.0 typed.1 typed.2
-            (variable_of known names now.parts.arena (node_at nodes) made body ty fits.body_fits (λ v is. variable_here v body is making whole))
+            (variable_of known names now.nodes (node_at nodes) made body ty fits.body_fits (λ v is. variable_here v body is making whole))
             (target_node known names nodes made body ty fits.body_fits node_same node_new) few
           where
             variable_here : (v : Value) (b : Body) → b ≡ Variable v → IsMaking first now (laid_body (node_at nodes) 0 b).makes made
-                → length made ≡ length (laid_body (node_at nodes) 0 b).makes → IsVariable now.parts.arena (node_of made (laid_body (node_at nodes) 0 b).root)
+                → length made ≡ length (laid_body (node_at nodes) 0 b).makes → IsVariable now.nodes (node_of made (laid_body (node_at nodes) 0 b).root)
             variable_here v b is making whole =
-                subst (λ (c : Body). IsVariable now.parts.arena (node_of made (laid_body (node_at nodes) 0 c).root)) (sym is)
+                subst (λ (c : Body). IsVariable now.nodes (node_of made (laid_body (node_at nodes) 0 c).root)) (sym is)
                 (made_variable known names first now (node_at nodes) made sound v
                 (subst (λ (c : Body). IsMaking first now (laid_body (node_at nodes) 0 c).makes made) is making)
                 (subst (λ (c : Body). length made ≡ length (laid_body (node_at nodes) 0 c).makes) is whole))
 
   -- ---- after an assignment
 
-  module _ (h : IsSound before) (sound : arena.IsSound first.parts.arena) (sound' : arena.IsSound now.parts.arena) (target : ℕ) (w : GraphValue) (sets : Sets first now (node_in nodes target) w) where
+  module _ (h : IsSound before) (sound : arena.IsSound first.nodes) (sound' : arena.IsSound now.nodes) (target : ℕ) (w : GraphValue) (sets : Sets first now (node_in nodes target) w) where
     sets_without : Sets (without_functions first) (without_functions now) (node_in nodes target) w
     sets_without = record {
-      beside = record {
-        functions = refl;
-        observers = sets.beside.observers;
-        rooted = sets.beside.rooted;
-        refused = sets.beside.refused;
-        shown = sets.beside.shown;
-        last = sets.beside.last;
-        cutoffs = sets.beside.cutoffs;
-        fewer_cutoffs = sets.beside.fewer_cutoffs;
-        links = sets.beside.links;
-        roots = sets.beside.roots;
-        ran = sets.beside.ran;
-      };
+      beside = beside_without (Given first.nodes.given) first now sets.beside;
       given = sets.given;
       set = sets.set;
     }
@@ -200,7 +188,7 @@ module _ {F : Type 0} (first now : Standing F) (names : Names) (nodes : List Nod
 -- ---- nodes that were taken back
 
 module _ {F : Type 0} (first full now : Standing F) (count : ℕ) (more : Extends first full) (back : TakesBack full now count)
-    (since : count ≡ first.parts.arena.given) where
+    (since : count ≡ first.nodes.given) where
   pub back_extends : Extends first now
   back_extends = taken_back_extends first full now count more back (omega (arith, since))
 
@@ -208,22 +196,22 @@ module _ {F : Type 0} (first full now : Standing F) (count : ℕ) (more : Extend
   below_or i j = grind arith
 
   -- what is live was live first
-  back_live : WereLive first.parts.arena now.parts.arena
+  back_live : WereLive first.nodes now.nodes
   back_live n r is = elim (below_or n.gen_ count) [
     | inl low ↦ sym (more.rows n (omega (arith, low, since))) ∙ (sym (back.older n low) ∙ is)
     | inr high ↦ absurd (none-some r (sym (back.dropped n high) ∙ is))
   ]
 
   -- no more nodes are live
-  pub back_few : live now.parts.arena ≤ live first.parts.arena
-  back_few = live_within first.parts.arena now.parts.arena (λ n r is. (r, back_live n r is))
+  pub back_few : live now.nodes ≤ live first.nodes
+  back_few = live_within first.nodes now.nodes (λ n r is. (r, back_live n r is))
 
   -- nor is a caller that wasn't
-  pub back_calls : HasNewCalls first.parts.arena now.parts.arena 0
+  pub back_calls : HasNewCalls first.nodes now.nodes 0
   back_calls = record {
     callers = [];
     few = omega arith;
-    all = λ c is. inl (caller_live first.parts.arena now.parts.arena back_live c is);
+    all = λ c is. inl (caller_live first.nodes now.nodes back_live c is);
   }
 
 -- ---- a variable that may be set

@@ -185,11 +185,11 @@ with_declared k name ty body root room g = record k {
 }
 
 module _ (named : List ℕ → Option FnRef) (value : FnRef → List GraphValue → GraphValue) (known : FnRef → Bool) (k : Kept) (g : Standing (Unit {0}))
-    (sound : arena.IsSound (arena_of k)) (sound' : arena.IsSound g.parts.arena) (more : Extends k.graph g) (m : Moment)
+    (sound : arena.IsSound (arena_of k)) (sound' : arena.IsSound g.nodes) (more : Extends k.graph g) (m : Moment)
     (name : List ℕ) (ty : Ty) (body : Body) (root : NodeId) (room : ℕ) (fits : DeclarationFits known k.names name ty body)
     (room_is : room + places_of_body body ≡ k.room)
-    (fewer : HasNewCalls (arena_of k) g.parts.arena (calls_of_body body))
-    (owned : OwnNodesOf (graph_of g.parts.arena) (λ (n : NodeId). ((arena_of k).given ≤ n.gen_) × (n.gen_ ≤ root.gen_))
+    (fewer : HasNewCalls (arena_of k) g.nodes (calls_of_body body))
+    (owned : OwnNodesOf (graph_of g.nodes) (λ (n : NodeId). ((arena_of k).given ≤ n.gen_) × (n.gen_ ≤ root.gen_))
     (λ (n : NodeId). ((arena_of k).given ≤ n.gen_) × (n.gen_ < root.gen_)) root body) where
   abbrev F : Meanings
   F = meanings_of named value
@@ -203,7 +203,7 @@ module _ (named : List ℕ → Option FnRef) (value : FnRef → List GraphValue 
   abbrev new : Kept
   new = with_declared k name ty body root room g
 
-  stays : RowsStay (graph_of (arena_of k)) (graph_of g.parts.arena)
+  stays : RowsStay (graph_of (arena_of k)) (graph_of g.nodes)
   stays n r u is def = live_stays k.graph g sound more n r is
 
   names_on : AreNames k.names s → AreNames new.names s'
@@ -258,7 +258,7 @@ module _ (named : List ℕ → Option FnRef) (value : FnRef → List GraphValue 
     same_early n low t early = node_old t (omega (arith, early.0, low))
 
     declares_each : (n : ℕ) (b : Option Body) → body_at s' n ≡ b → Declares (beside F s' new) (node_in new.nodes n) b
-    declares_each n None is = (ap (row_at g.parts.arena) past ∙ never_given g.parts.arena sound', refl)
+    declares_each n None is = (ap (row_at g.nodes) past ∙ never_given g.nodes sound', refl)
       where
         past : node_in new.nodes n ≡ no_node
         past =
@@ -300,17 +300,17 @@ module _ (named : List ℕ → Option FnRef) (value : FnRef → List GraphValue 
 
     -- what is so of the nodes of a declaration
     abbrev AgedAt : ℕ → NodeId → Body → Type 0
-    AgedAt n q b = OwnNodesOf (graph_of g.parts.arena) (IsWithin new.nodes n) (IsPartWithin new.nodes n) q b
+    AgedAt n q b = OwnNodesOf (graph_of g.nodes) (IsWithin new.nodes n) (IsPartWithin new.nodes n) q b
 
     aged_each : (n : ℕ) (b : Body) → body_at s' n ≡ Some b → AgedAt n (node_in new.nodes n) b
     aged_each n b is = elim (body_of s name ty body n b is) [
       | inl h ↦ subst (λ (q : NodeId). AgedAt n q b) (sym (node_old n h.0))
-          (own_nodes_of_on (graph_of (arena_of k)) (graph_of g.parts.arena) (IsWithin k.nodes n) (IsWithin new.nodes n) (IsPartWithin k.nodes n)
+          (own_nodes_of_on (graph_of (arena_of k)) (graph_of g.nodes) (IsWithin k.nodes n) (IsWithin new.nodes n) (IsPartWithin k.nodes n)
           (IsPartWithin new.nodes n) (within_old n h.0) (part_old n h.0) stays (node_in k.nodes n) b (held.aged n b h.1))
       | inr h ↦ subst (λ (j : ℕ). AgedAt j (node_in new.nodes j) b) (sym h.0)
           (subst (λ (q : NodeId). AgedAt (length s.entries) q b) (sym node_new)
           (subst (λ (c : Body). AgedAt (length s.entries) root c) (sym h.1)
-          (own_nodes_of_on (graph_of g.parts.arena) (graph_of g.parts.arena) (λ (q : NodeId). ((arena_of k).given ≤ q.gen_) × (q.gen_ ≤ root.gen_))
+          (own_nodes_of_on (graph_of g.nodes) (graph_of g.nodes) (λ (q : NodeId). ((arena_of k).given ≤ q.gen_) × (q.gen_ ≤ root.gen_))
           (IsWithin new.nodes (length s.entries)) (λ (q : NodeId). ((arena_of k).given ≤ q.gen_) × (q.gen_ < root.gen_))
           (IsPartWithin new.nodes (length s.entries)) within_new part_new (λ q r u row def. row) root body owned)))
     ]
@@ -333,7 +333,7 @@ module _ (named : List ℕ → Option FnRef) (value : FnRef → List GraphValue 
       declares = λ n. declares_each n (body_at s' n) refl;
       targets = targets_each;
       aged = aged_each;
-      calls = few_calls_on s s' (arena_of k) g.parts.arena (calls_of_body body) fewer
+      calls = few_calls_on s s' (arena_of k) g.nodes (calls_of_body body) fewer
           (let calls = sum_by_push (λ (e : Entry). calls_of_body e.body) s.entries (entry s name ty body) in omega (arith, calls)) held.calls;
     }
 

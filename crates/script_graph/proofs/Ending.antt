@@ -306,8 +306,8 @@ module _ (k : Kept) (name d : List ℕ) (i : ℕ) (o : ObsId) (g : Standing (Uni
   pub ending_sound : IsSound new
   ending_sound = record {
     one_node_each = sound.one_node_each;
-    has_nodes = λ n e at. subst (λ (a : Arena). HasNode a k.nodes n e) (sym ends.arena) (sound.has_nodes n e at);
-    few = subst (λ (a : Arena). live a + k.room ≤ 1048575) (sym ends.arena) sound.few;
+    has_nodes = λ n e at. subst (λ (a : Arena). HasNode a k.nodes n e) (sym ends.nodes) (sound.has_nodes n e at);
+    few = subst (λ (a : Arena). live a + k.room ≤ 1048575) (sym ends.nodes) sound.few;
     one_observer_each = swap_length k.observers i o ∙ ap (λ (n : ℕ). n - 1) sound.one_observer_each ∙ sym (swap_length k.names.observers i d);
     looking = looking_left;
     apart = once_apart new.observers (λ j l p at also.
@@ -416,10 +416,10 @@ module _ (k : Kept) (name d : List ℕ) (i : ℕ) (o : ObsId) (g : Standing (Uni
     leaves : LeavesBeside k new
     leaves = record {
       rooted = λ p n at. rooted_still p n (rooted_looks g p n at) (same_or p.0 o.0);
-      fewer = ends.fewer;
-      given = let same = ap (λ (a : Arena). a.given) ends.arena in omega (arith, same);
+      fewer = ends.fewer_links;
+      given = let same = ap (λ (a : Arena). a.given) ends.nodes in omega (arith, same);
       last = λ n given. ends.last n;
-      cutoffs = λ n never. sym (ends.cutoffs n) ∙ never;
+      no_more_cutoffs = λ n equal. ends.cutoff n ∙ equal;
     }
       where
         rooted_still : (p : ObsId) (n : NodeId) → (p.0 < g.rooted) × (node_at g.observers p ≡ Some n) → (p.0 ≡ o.0) ⊎ (p.0 ≡ o.0 → ⊥)
@@ -433,7 +433,7 @@ module _ (k : Kept) (name d : List ℕ) (i : ℕ) (o : ObsId) (g : Standing (Uni
       formulas = λ owner path f is. is;
       targets = λ n e is. (e, is, refl);
       names = λ n e is. refl;
-      rows = λ n r u is def. ap (λ (a : Arena). row_at a n) ends.arena ∙ is;
+      rows = λ n r u is def. ap (λ (a : Arena). row_at a n) ends.nodes ∙ is;
     }
 
     -- and it matches the moment without the observer
@@ -443,7 +443,7 @@ module _ (k : Kept) (name d : List ℕ) (i : ℕ) (o : ObsId) (g : Standing (Uni
       accepted = stands.accepted;
       broken = stands.broken;
       holds = λ e. record {
-        represents = represents_so F s (filter (is_other name) s.observers) s.accepted k new refl refl ends.arena held.represents;
+        represents = represents_so F s (filter (is_other name) s.observers) s.accepted k new refl refl ends.nodes held.represents;
         watches = watching;
         settled = settled_on F m.settled s then k new leaves still (λ x among is. among_filter x (is_other name) s.observers among) held.settled;
       };

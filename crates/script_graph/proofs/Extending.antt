@@ -1,16 +1,16 @@
 -- A graph to which nodes were added, and what is kept of a script over it.
-use Rattle.std.proofs.Common.{◌≡◌, ◌⊎◌, inl, inr, ℕ, zero, suc, ◌+◌, ◌<◌, ◌≤◌, List, [], ◌∷◌, length, Option, None, Some, refl, ap, sym, subst, ◌∙◌, arith, slice_get}
+use Rattle.std.proofs.Common.{◌≡◌, ℕ, zero, suc, ◌<◌, ◌≤◌, List, [], ◌∷◌, length, Option, None, Some, refl, ap, sym, subst, ◌∙◌, arith, slice_get}
 use Rattle.std.proofs.lemmas.Option.{slice_get_within}
 use Rattle.inc_value.specs.Choice.{and_then}
 use Rattle.inc_value.specs.declared.function.FnRef.{FnRef}
 use Rattle.inc_value.specs.declared.node.NodeId.{NodeId}
 use Rattle.inc_value.specs.declared.value.Value.{Value as GraphValue}
 use Rattle.inc_terms.specs.Graph as graph
-use Rattle.inc_terms.specs.Graph.{Graph, Row, Def}
+use Rattle.inc_terms.specs.Graph.{Row}
 use Rattle.inc_terms.specs.Term as term
 use Rattle.inc_terms.specs.Term.{Term, Terms}
 use Rattle.inc_terms.specs.Within.{Given}
-use Rattle.graph.specs.Effects.{KeepsAll, Adds, TakesBack}
+use Rattle.graph.specs.Effects.{KeepsBeside, KeepsAll, Adds, TakesBack}
 use Rattle.graph.specs.Standing.{Standing}
 use Rattle.node_arena.specs.Arena.{Arena, row_at}
 use Rattle.node_arena.specs.Graph.{graph_of}
@@ -33,10 +33,6 @@ use Rattle.transfer.proofs.Typed.{body_entry}
 
 -- ---- extending
 
-given_later : (a b : ℕ) → (b ≡ a) ⊎ (b ≡ a + 1) → a ≤ b
-given_later a b (inl e) = omega (arith, e)
-given_later a b (inr e) = omega (arith, e)
-
 module _ {F : Type 0} where
   pub extends_itself : (s : Standing F) → Extends s s
   extends_itself s = record {
@@ -45,13 +41,14 @@ module _ {F : Type 0} where
       observers = refl;
       rooted = refl;
       refused = refl;
-      shown = λ n h. refl;
-      last = λ n h. refl;
-      cutoffs = λ n h. refl;
-      fewer_cutoffs = λ n never. never;
+      ran = refl;
       links = λ p q. refl;
       roots = λ p. refl;
-      ran = refl;
+      shown = λ n h. refl;
+      chosen = λ n h. refl;
+      last = λ n h. refl;
+      cutoff = λ n h. refl;
+      no_more_cutoffs = λ n equal. equal;
     };
     given = omega arith;
     rows = λ n h. refl;
@@ -64,13 +61,14 @@ module _ {F : Type 0} where
       observers = h.beside.observers ∙ g.beside.observers;
       rooted = h.beside.rooted ∙ g.beside.rooted;
       refused = h.beside.refused ∙ g.beside.refused;
-      shown = λ n low. h.beside.shown n (omega (arith, low, g.given)) ∙ g.beside.shown n low;
-      last = λ n low. h.beside.last n (omega (arith, low, g.given)) ∙ g.beside.last n low;
-      cutoffs = λ n low. h.beside.cutoffs n (omega (arith, low, g.given)) ∙ g.beside.cutoffs n low;
-      fewer_cutoffs = λ n never. g.beside.fewer_cutoffs n (h.beside.fewer_cutoffs n never);
+      ran = h.beside.ran ∙ g.beside.ran;
       links = λ p q. h.beside.links p q ∙ g.beside.links p q;
       roots = λ p. h.beside.roots p ∙ g.beside.roots p;
-      ran = h.beside.ran ∙ g.beside.ran;
+      shown = λ n low. h.beside.shown n (omega (arith, low, g.given)) ∙ g.beside.shown n low;
+      chosen = λ n low. h.beside.chosen n (omega (arith, low, g.given)) ∙ g.beside.chosen n low;
+      last = λ n low. h.beside.last n (omega (arith, low, g.given)) ∙ g.beside.last n low;
+      cutoff = λ n low. h.beside.cutoff n (omega (arith, low, g.given)) ∙ g.beside.cutoff n low;
+      no_more_cutoffs = λ n equal. h.beside.no_more_cutoffs n (g.beside.no_more_cutoffs n equal);
     };
     given = omega (arith, g.given, h.given);
     rows = λ n low. h.rows n (omega (arith, low, g.given)) ∙ g.rows n low;
@@ -86,53 +84,59 @@ module _ {F : Type 0} where
   pub keeps_extends : (a b : Standing F) → KeepsAll a b → Extends a b
   keeps_extends a b h = record {
     beside = h.beside;
-    given = given_later a.parts.arena.given b.parts.arena.given h.given;
-    rows = λ n low. h.rows n;
+    given = let same = ap (λ (a : Arena). a.given) h.nodes in omega (arith, same);
+    rows = λ n low. ap (λ (a : Arena). row_at a n) h.nodes;
   }
 
   -- nodes that were added and taken back again
-  pub taken_back_extends : (a b c : Standing F) (count : ℕ) → Extends a b → TakesBack b c count → a.parts.arena.given ≤ count → Extends a c
+  pub taken_back_extends : (a b c : Standing F) (count : ℕ) → Extends a b → TakesBack b c count → a.nodes.given ≤ count → Extends a c
   taken_back_extends a b c count g h later = record {
     beside = record {
-      functions = h.functions ∙ g.beside.functions;
-      observers = h.observers ∙ g.beside.observers;
-      rooted = h.rooted ∙ g.beside.rooted;
-      refused = h.refused ∙ g.beside.refused;
-      shown = λ n low. h.shown n (omega (arith, low, later)) ∙ g.beside.shown n low;
-      last = λ n low. h.last n (omega (arith, low, later)) ∙ g.beside.last n low;
-      cutoffs = λ n low. h.cutoffs n (omega (arith, low, later)) ∙ g.beside.cutoffs n low;
-      fewer_cutoffs = λ n never. g.beside.fewer_cutoffs n (h.fewer_cutoffs n never);
-      links = λ p q. h.links p q ∙ g.beside.links p q;
-      roots = λ p. h.roots p ∙ g.beside.roots p;
-      ran = h.ran ∙ g.beside.ran;
+      functions = h.beside.functions ∙ g.beside.functions;
+      observers = h.beside.observers ∙ g.beside.observers;
+      rooted = h.beside.rooted ∙ g.beside.rooted;
+      refused = h.beside.refused ∙ g.beside.refused;
+      ran = h.beside.ran ∙ g.beside.ran;
+      links = λ p q. h.beside.links p q ∙ g.beside.links p q;
+      roots = λ p. h.beside.roots p ∙ g.beside.roots p;
+      shown = λ n low. h.beside.shown n (omega (arith, low, later)) ∙ g.beside.shown n low;
+      chosen = λ n low. h.beside.chosen n (omega (arith, low, later)) ∙ g.beside.chosen n low;
+      last = λ n low. h.beside.last n (omega (arith, low, later)) ∙ g.beside.last n low;
+      cutoff = λ n low. h.beside.cutoff n (omega (arith, low, later)) ∙ g.beside.cutoff n low;
+      no_more_cutoffs = λ n equal. h.beside.no_more_cutoffs n (g.beside.no_more_cutoffs n equal);
     };
     given = omega (arith, g.given, h.given);
     rows = λ n low. h.older n (omega (arith, low, later)) ∙ g.rows n low;
   }
 
-  -- so it is but for the functions
+  -- what stays beside nodes stays but for the functions
+  pub beside_without : (Of : NodeId → Type 0) (a b : Standing F) → KeepsBeside Of a b → KeepsBeside Of (without_functions a) (without_functions b)
+  beside_without Of a b h = record {
+    functions = refl;
+    observers = h.observers;
+    rooted = h.rooted;
+    refused = h.refused;
+    ran = h.ran;
+    links = h.links;
+    roots = h.roots;
+    shown = h.shown;
+    chosen = h.chosen;
+    last = h.last;
+    cutoff = h.cutoff;
+    no_more_cutoffs = h.no_more_cutoffs;
+  }
+
+  -- so do nodes that were there
   pub extends_without : (a b : Standing F) → Extends a b → Extends (without_functions a) (without_functions b)
   extends_without a b h = record {
-    beside = record {
-      functions = refl;
-      observers = h.beside.observers;
-      rooted = h.beside.rooted;
-      refused = h.beside.refused;
-      shown = h.beside.shown;
-      last = h.beside.last;
-      cutoffs = h.beside.cutoffs;
-      fewer_cutoffs = h.beside.fewer_cutoffs;
-      links = h.beside.links;
-      roots = h.beside.roots;
-      ran = h.beside.ran;
-    };
+    beside = beside_without (Given a.nodes.given) a b h.beside;
     given = h.given;
     rows = h.rows;
   }
 
   -- live nodes stay
-  pub live_stays : (a b : Standing F) → arena.IsSound a.parts.arena → Extends a b → (n : NodeId) (r : Row)
-      → row_at a.parts.arena n ≡ Some r → row_at b.parts.arena n ≡ Some r
+  pub live_stays : (a b : Standing F) → arena.IsSound a.nodes → Extends a b → (n : NodeId) (r : Row)
+      → row_at a.nodes n ≡ Some r → row_at b.nodes n ≡ Some r
   live_stays a b sound h n r is = h.rows n (sound.given n (rw is refl)) ∙ is
 
 -- ---- what nodes show
@@ -252,20 +256,20 @@ node_past (x ∷ ns) (suc i) high = node_past ns i (omega (arith, high))
 -- ---- what is kept
 
 module _ (named : List ℕ → Option FnRef) (value : FnRef → List GraphValue → GraphValue) (k : Kept) (g : Standing (Unit {0}))
-    (sound : arena.IsSound (arena_of k)) (sound' : arena.IsSound g.parts.arena) (more : Extends k.graph g)
-    (fewer : HasNewCalls (arena_of k) g.parts.arena 0) (m : Moment) where
+    (sound : arena.IsSound (arena_of k)) (sound' : arena.IsSound g.nodes) (more : Extends k.graph g)
+    (fewer : HasNewCalls (arena_of k) g.nodes 0) (m : Moment) where
   abbrev F : Meanings
   F = meanings_of named value
 
   abbrev new : Kept
   new = record k { graph = g }
 
-  stays : RowsStay (graph_of (arena_of k)) (graph_of g.parts.arena)
+  stays : RowsStay (graph_of (arena_of k)) (graph_of g.nodes)
   stays n r u is def = live_stays k.graph g sound more n r is
 
   module _ (held : Represents F m.present k) where
     declares_each : (n : ℕ) (b : Option Body) → body_at m.present n ≡ b → Declares (beside F m.present new) (node_in k.nodes n) b
-    declares_each n None is = (ap (row_at g.parts.arena) past ∙ never_given g.parts.arena sound', refl)
+    declares_each n None is = (ap (row_at g.nodes) past ∙ never_given g.nodes sound', refl)
       where
         past : node_in k.nodes n ≡ no_node
         past = node_past k.nodes n (omega (arith, body_past m.present n is, held.one_node_each))
@@ -282,9 +286,9 @@ module _ (named : List ℕ → Option FnRef) (value : FnRef → List GraphValue 
       plain = held.plain;
       declares = λ n. declares_each n (body_at m.present n) refl;
       targets = held.targets;
-      aged = λ n b is. own_nodes_of_on (graph_of (arena_of k)) (graph_of g.parts.arena) (IsWithin k.nodes n) (IsWithin k.nodes n)
+      aged = λ n b is. own_nodes_of_on (graph_of (arena_of k)) (graph_of g.nodes) (IsWithin k.nodes n) (IsWithin k.nodes n)
           (IsPartWithin k.nodes n) (IsPartWithin k.nodes n) (λ q h. h) (λ q h. h) stays (node_in k.nodes n) b (held.aged n b is);
-      calls = few_calls_on m.present m.present (arena_of k) g.parts.arena 0 fewer (omega arith) held.calls;
+      calls = few_calls_on m.present m.present (arena_of k) g.nodes 0 fewer (omega arith) held.calls;
     }
 
   holds_on : Holds F k m → Holds F new m

@@ -8,14 +8,11 @@ use Rattle.inc_terms.specs.Depend.{main}
 use Rattle.inc_terms.specs.Need.{Holder, Observing, Freezing, Observed, nodes_of, StillHolds, Linked, Held}
 use Rattle.inc_terms.proofs.Local.{reach_more}
 use Rattle.inc_terms.proofs.Plan.{among_map}
-use Rattle.graph.specs.Standing.{Standing, in_use, looked_at, node_at}
+use Rattle.graph.specs.Standing.{Standing, in_use, looked_at, node_at, rooted_nodes, IsNeeded, AreRooted, times_linked, times_rooted}
 use Rattle.graph.specs.declared.observer.Observer.{Observer as Looking}
-use Rattle.link_table.specs.Links.{times}
-use Rattle.necessary_graph.specs.Part as part
-use Rattle.necessary_graph.proofs.Reaching.{needed_has, root_needed, read_needed}
-use Rattle.necessity.specs.Need.{root_times}
+use Rattle.graph.specs.Stabilizes.{StoodBeside}
+use Rattle.graph.proofs.Needing.{needed_root, needed_linked, needed_has}
 use Rattle.stabilize_round.proofs.Points.{count_among, among_count}
-use Rattle.stabilizer.specs.Round.{AreRooted, StoodBeside}
 use Rattle.script_graph.specs.Settled.{observed_from, rooted_at, root_of, side_of, observed_by}
 
 -- ---- observers
@@ -126,11 +123,11 @@ module _ {A : Type 0} where
   root_holds g (Freezing m) n e = absurd (cc)
 
   -- what is needed is held beside the graph
-  module _ (g : Standing A) (roots : AreRooted g.parts.work (in_use (take g.rooted g.observers))) where
-    root_held : (p : Point) → 0 < root_times g.parts.work.graph.roots p → Held (side_of g) (observed_by g) p
+  module _ (g : Standing A) (roots : AreRooted g (rooted_nodes g)) where
+    root_held : (p : Point) → 0 < times_rooted g p → Held (side_of g) (observed_by g) p
     root_held p root =
-        let n = main_among p (in_use (take g.rooted g.observers))
-        (count_among p (map main (in_use (take g.rooted g.observers))) (subst (λ (c : ℕ). 0 < c) (roots p) root)) in
+        let n = main_among p (rooted_nodes g)
+        (count_among p (map main (rooted_nodes g)) (subst (λ (c : ℕ). 0 < c) (roots p) root)) in
         let o = looked_by (take g.rooted g.observers) n.0 n.1 in
         record {
           holder = Observing (record { 0 = o.0 });
@@ -140,8 +137,8 @@ module _ {A : Type 0} where
           reached = subst (λ (q : Point). Reaches (Linked (side_of g)) (main n.0) q) (sym n.2) here;
         }
 
-    pub needed_held : (p : Point) → part.Needed g.parts.work.graph p → Held (side_of g) (observed_by g) p
-    needed_held p need = needed_has g.parts.work.graph (Held (side_of g) (observed_by g)) root_held
+    pub needed_held : (p : Point) → IsNeeded g p → Held (side_of g) (observed_by g) p
+    needed_held p need = needed_has g (Held (side_of g) (observed_by g)) root_held
         (λ a b link h. record {
           holder = h.holder;
           node = h.node;
@@ -150,12 +147,12 @@ module _ {A : Type 0} where
           reached = reach_more (Linked (side_of g)) (main h.node) a b h.reached link;
         }) p need
 
-    pub stood_beside : StoodBeside (side_of g) g.parts.work (observed_by g)
+    pub stood_beside : StoodBeside (side_of g) g (observed_by g)
     stood_beside = record { held = needed_held; last = λ n. refl; never = λ n. refl }
 
   -- of fewer roots and links less is held
   module _ (g g' : Standing A) (rooted : (o : ObsId) (n : NodeId) → rooted_at g' o ≡ Some n → rooted_at g o ≡ Some n)
-      (fewer : (p q : Point) → times g'.parts.work.graph.links p q ≤ times g.parts.work.graph.links p q) where
+      (fewer : (p q : Point) → times_linked g' p q ≤ times_linked g p q) where
     root_less : (holder : Holder) (n : NodeId) → root_of g' holder ≡ Some n → root_of g holder ≡ Some n
     root_less (Observing o) n e = rooted o n e
     root_less (Freezing m) n e = absurd (cc)
@@ -173,17 +170,17 @@ module _ {A : Type 0} where
     }
 
   -- where all observers in use are roots, what is held is needed
-  module _ (g : Standing A) (roots : AreRooted g.parts.work (in_use g.observers)) where
-    root_is_needed : (holder : Holder) (n : NodeId) → root_of g holder ≡ Some n → part.Needed g.parts.work.graph (main n)
+  module _ (g : Standing A) (roots : AreRooted g (in_use g.observers)) where
+    root_is_needed : (holder : Holder) (n : NodeId) → root_of g holder ≡ Some n → IsNeeded g (main n)
     root_is_needed (Observing o) n e =
-        root_needed g.parts.work.graph (main n) (subst (λ (c : ℕ). 0 < c) (sym (roots (main n)))
+        needed_root g (main n) (subst (λ (c : ℕ). 0 < c) (sym (roots (main n)))
         (among_count (main n) (map main (in_use g.observers))
         (among_map main n (in_use g.observers) (looked_in g.observers o.0 n (rooted_looks g o n e).1))))
     root_is_needed (Freezing m) n e = absurd (cc)
 
-    pub held_needed : (p : Point) → Held (side_of g) (observed_by g) p → part.Needed g.parts.work.graph p
+    pub held_needed : (p : Point) → Held (side_of g) (observed_by g) p → IsNeeded g p
     held_needed p h = on (root_is_needed h.holder h.node h.is_root) h.reached
       where
-        on : {a b : Point} → part.Needed g.parts.work.graph a → Reaches (Linked (side_of g)) a b → part.Needed g.parts.work.graph b
+        on : {a b : Point} → IsNeeded g a → Reaches (Linked (side_of g)) a b → IsNeeded g b
         on need here = need
-        on need (step link rest) = on (read_needed g.parts.work.graph _ _ need link) rest
+        on need (step link rest) = on (needed_linked g _ _ need link) rest

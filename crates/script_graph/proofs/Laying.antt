@@ -293,7 +293,7 @@ module _ (known : FnRef → Bool) (G : Graph) (all : List Open) (made : List Nod
 
 -- the nodes of a body were made from the first on, and none after the root
 module _ (known : FnRef → Bool) (names : Names) {F : Type 0} (first now : Standing F) (nodes : ℕ → NodeId) (made : List NodeId)
-    (sound : arena.IsSound first.parts.arena) where
+    (sound : arena.IsSound first.nodes) where
   abbrev makes_for : Body → List Open
   makes_for body = (laid_body nodes 0 body).makes
 
@@ -302,14 +302,14 @@ module _ (known : FnRef → Bool) (names : Names) {F : Type 0} (first now : Stan
 
   -- it was given since, and no later than the root
   abbrev pub IsSince : NodeId → NodeId → Type 0
-  IsSince root n = (first.parts.arena.given ≤ n.gen_) × (n.gen_ ≤ root.gen_)
+  IsSince root n = (first.nodes.given ≤ n.gen_) × (n.gen_ ≤ root.gen_)
 
   -- or before the root
   abbrev pub IsPartSince : NodeId → NodeId → Type 0
-  IsPartSince root n = (first.parts.arena.given ≤ n.gen_) × (n.gen_ < root.gen_)
+  IsPartSince root n = (first.nodes.given ≤ n.gen_) × (n.gen_ < root.gen_)
 
   made_id : (body : Body) → IsMaking first now (makes_for body) made → length made ≡ length (makes_for body) → (i : ℕ) (n : NodeId)
-      → i < length (makes_for body) → n ≡ node_at made i → n.gen_ ≡ first.parts.arena.given + i
+      → i < length (makes_for body) → n ≡ node_at made i → n.gen_ ≡ first.nodes.given + i
   made_id body h whole i n low is = ap (λ (m : NodeId). m.gen_) is ∙ h.ids i (omega (arith, low, whole))
 
   between : (body : Body) → IsMaking first now (makes_for body) made → length made ≡ length (makes_for body) → (r : ℕ) → r < length (makes_for body)
@@ -330,15 +330,15 @@ module _ (known : FnRef → Bool) (names : Names) {F : Type 0} (first now : Stan
 
   own_between : (body : Body) (ty : Ty) → BodyFits known names body ty → IsMaking first now (makes_for body) made → length made ≡ length (makes_for body)
       → (r : ℕ) → r < length (makes_for body) → length (makes_for body) ≤ r + 1 → root_for body ≡ node_at made r
-      → OwnNodesOf (graph_of now.parts.arena) (IsSince (root_for body)) (IsPartSince (root_for body)) (root_for body) body
+      → OwnNodesOf (graph_of now.nodes) (IsSince (root_for body)) (IsPartSince (root_for body)) (root_for body) body
   own_between body ty fits h whole r low high root =
-      own_nodes_of_on (graph_of now.parts.arena) (graph_of now.parts.arena) (IsMade made (length (makes_for body))) (IsSince (root_for body))
+      own_nodes_of_on (graph_of now.nodes) (graph_of now.nodes) (IsMade made (length (makes_for body))) (IsSince (root_for body))
       (IsMade made (length (makes_for body) - 1)) (IsPartSince (root_for body)) (between body h whole r low high root)
       (before_root body h whole r low high root) (λ n r u row def. row) (root_for body) body
-      (body_owns known (graph_of now.parts.arena) (makes_for body) made h.stands whole nodes names body ty fits (sits_itself (makes_for body)))
+      (body_owns known (graph_of now.nodes) (makes_for body) made h.stands whole nodes names body ty fits (sits_itself (makes_for body)))
 
   pub made_owned : (body : Body) (ty : Ty) → BodyFits known names body ty → IsMaking first now (makes_for body) made → length made ≡ length (makes_for body)
-      → OwnNodesOf (graph_of now.parts.arena) (IsSince (root_for body)) (IsPartSince (root_for body)) (root_for body) body
+      → OwnNodesOf (graph_of now.nodes) (IsSince (root_for body)) (IsPartSince (root_for body)) (root_for body) body
   made_owned (Variable v) ty fits h whole = own_between (Variable v) ty fits h whole 0 (omega arith) (omega arith) refl
   made_owned (Computed (Literal v) kept) ty fits h whole = own_between (Computed (Literal v) kept) ty fits h whole 0 (omega arith) (omega arith) refl
   made_owned (Computed (Name n) kept) ty fits h whole = tt
@@ -355,8 +355,8 @@ module _ (known : FnRef → Bool) (names : Names) {F : Type 0} (first now : Stan
 
   -- the root is a live node of the type
   pub made_root : (body : Body) (ty : Ty) → IsMaking first now (makes_for body) made → length made ≡ length (makes_for body)
-      → PartFits first.parts.arena (makes_for body) ty (laid_body nodes 0 body).root
-      → (r : Row) × (row_at now.parts.arena (root_for body) ≡ Some r) × (r.ty ≡ ty)
+      → PartFits first.nodes (makes_for body) ty (laid_body nodes 0 body).root
+      → (r : Row) × (row_at now.nodes (root_for body) ≡ Some r) × (r.ty ≡ ty)
   made_root body ty h whole fits =
       let early = (body_in_order nodes body).1 in
       part_row first now (makes_for body) made h sound (laid_body nodes 0 body).root ty fits
@@ -364,7 +364,7 @@ module _ (known : FnRef → Bool) (names : Names) {F : Type 0} (first now : Stan
 
   -- and a variable, where one is declared
   pub made_variable : (v : Value) → IsMaking first now (makes_for (Variable v)) made → length made ≡ length (makes_for (Variable v))
-      → IsVariable now.parts.arena (root_for (Variable v))
+      → IsVariable now.nodes (root_for (Variable v))
   made_variable v h whole =
       let top = h.stands.top 0 (Var (to_engine v)) refl (omega (arith, whole)) in
       record { row = top.0; value = to_engine v; there = top.1; variable = top.3 }

@@ -30,3 +30,4 @@ pub mod Showing
 pub mod Sounding
 pub mod TooDeep
 pub mod Watching
+pub mod Without

@@ -68,19 +68,19 @@ reference_fits a (value.Text bytes) base = tt
 reference_fits a (value.Node n b) base = absurd base
 
 module _ {F : Type 0} (first now : Standing F) (makes : List Open) (made : List NodeId) (h : IsMaking first now makes made)
-    (sound : arena.IsSound first.parts.arena) where
+    (sound : arena.IsSound first.nodes) where
   -- a part's node is there with its type
-  pub part_row : (p : Part) (t : Ty) → PartFits first.parts.arena makes t p → IsEarlier (length made) p
-      → (r : Row) × (row_at now.parts.arena (node_of made p) ≡ Some r) × (r.ty ≡ t)
+  pub part_row : (p : Part) (t : Ty) → PartFits first.nodes makes t p → IsEarlier (length made) p
+      → (r : Row) × (row_at now.nodes (node_of made p) ≡ Some r) × (r.ty ≡ t)
   part_row (Named n) t (r, row, ty) early = (r, live_stays first now sound h.extends n r row, ty)
   part_row (Made i) t (x, at, ty) early = let r = h.types i x at early in (r.0, r.1, r.2 ∙ ty)
 
-  part_given : (p : Part) (t : Ty) → PartFits first.parts.arena makes t p → IsEarlier (length made) p → Given now.parts.arena.given (node_of made p)
+  part_given : (p : Part) (t : Ty) → PartFits first.nodes makes t p → IsEarlier (length made) p → Given now.nodes.given (node_of made p)
   part_given (Named n) t (r, row, ty) early = let low = sound.given n (rw row refl) in omega (arith, low, h.extends.given)
   part_given (Made i) t fits early = let id = h.ids i early in omega (arith, id, h.given, early)
 
-  parts_fit : (ps : List Part) (tys : List Ty) → AllZip (λ (p : Part) (t : Ty). PartFits first.parts.arena makes t p) ps tys
-      → All (IsEarlier (length made)) ps → AllZip (Fits now.parts.arena) (map (node_of made) ps) tys
+  parts_fit : (ps : List Part) (tys : List Ty) → AllZip (λ (p : Part) (t : Ty). PartFits first.nodes makes t p) ps tys
+      → All (IsEarlier (length made)) ps → AllZip (Fits now.nodes) (map (node_of made) ps) tys
   parts_fit [] [] fits early = tt
   parts_fit [] (t ∷ tys) fits early = absurd fits
   parts_fit (p ∷ ps) [] fits early = absurd fits
@@ -90,8 +90,8 @@ module _ {F : Type 0} (first now : Standing F) (makes : List Open) (made : List 
         parts_fit ps tys fits.1 (All-tail (IsEarlier (length made)) p ps early),
       )
 
-  parts_given : (ps : List Part) (tys : List Ty) → AllZip (λ (p : Part) (t : Ty). PartFits first.parts.arena makes t p) ps tys
-      → All (IsEarlier (length made)) ps → Every (Given now.parts.arena.given) (map (node_of made) ps)
+  parts_given : (ps : List Part) (tys : List Ty) → AllZip (λ (p : Part) (t : Ty). PartFits first.nodes makes t p) ps tys
+      → All (IsEarlier (length made)) ps → Every (Given now.nodes.given) (map (node_of made) ps)
   parts_given [] [] fits early = tt
   parts_given [] (t ∷ tys) fits early = absurd fits
   parts_given (p ∷ ps) [] fits early = absurd fits
@@ -100,8 +100,8 @@ module _ {F : Type 0} (first now : Standing F) (makes : List Open) (made : List 
     parts_given ps tys fits.1 (All-tail (IsEarlier (length made)) p ps early),
   )
 
-  each_fits : (ps : List Part) (t : Ty) → Every (PartFits first.parts.arena makes t) ps → All (IsEarlier (length made)) ps
-      → Every (λ n. Fits now.parts.arena n t) (map (node_of made) ps)
+  each_fits : (ps : List Part) (t : Ty) → Every (PartFits first.nodes makes t) ps → All (IsEarlier (length made)) ps
+      → Every (λ n. Fits now.nodes n t) (map (node_of made) ps)
   each_fits [] t fits early = tt
   each_fits (p ∷ ps) t fits early =
       let r = part_row p t fits.0 (All-head (IsEarlier (length made)) p ps early) in (
@@ -109,25 +109,25 @@ module _ {F : Type 0} (first now : Standing F) (makes : List Open) (made : List 
         each_fits ps t fits.1 (All-tail (IsEarlier (length made)) p ps early),
       )
 
-  each_given : (ps : List Part) (t : Ty) → Every (PartFits first.parts.arena makes t) ps → All (IsEarlier (length made)) ps
-      → Every (Given now.parts.arena.given) (map (node_of made) ps)
+  each_given : (ps : List Part) (t : Ty) → Every (PartFits first.nodes makes t) ps → All (IsEarlier (length made)) ps
+      → Every (Given now.nodes.given) (map (node_of made) ps)
   each_given [] t fits early = tt
   each_given (p ∷ ps) t fits early = (
     part_given p t fits.0 (All-head (IsEarlier (length made)) p ps early),
     each_given ps t fits.1 (All-tail (IsEarlier (length made)) p ps early),
   )
 
-  open_welcome : (known : FnRef → Bool) (x : Open) → OpenFits known first.parts.arena makes x → NeedsEarlier (length made) x
-      → IsWelcome known now.parts.arena (filled made x)
+  open_welcome : (known : FnRef → Bool) (x : Open) → OpenFits known first.nodes makes x → NeedsEarlier (length made) x
+      → IsWelcome known now.nodes (filled made x)
   open_welcome known (Const v) fits early = record {
-    named = value_given (Given now.parts.arena.given) v fits;
-    makes = record { type = refl; reference = reference_fits now.parts.arena v fits };
+    named = value_given (Given now.nodes.given) v fits;
+    makes = record { type = refl; reference = reference_fits now.nodes v fits };
     calls = tt;
     one_point = refl;
   }
   open_welcome known (Var v) fits early = record {
-    named = value_given (Given now.parts.arena.given) v fits;
-    makes = record { type = refl; reference = reference_fits now.parts.arena v fits };
+    named = value_given (Given now.nodes.given) v fits;
+    makes = record { type = refl; reference = reference_fits now.nodes v fits };
     calls = tt;
     one_point = refl;
   }
@@ -138,24 +138,24 @@ module _ {F : Type 0} (first now : Standing F) (makes : List Open) (made : List 
     one_point = refl;
   }
   open_welcome known (Fold f v parts) fits early = record {
-    named = (tt, value_given (Given now.parts.arena.given) v fits.base, each_given parts fits.element fits.parts_fit early);
+    named = (tt, value_given (Given now.nodes.given) v fits.base, each_given parts fits.element fits.parts_fit early);
     makes = record {
       kind = fits.kind;
-      takes = subst (λ (tys : List Ty). FoldTakes now.parts.arena f.sig.gives (map (node_of made) parts) tys) (sym fits.takes)
+      takes = subst (λ (tys : List Ty). FoldTakes now.nodes f.sig.gives (map (node_of made) parts) tys) (sym fits.takes)
           (refl, each_fits parts fits.element fits.parts_fit early);
       gives = refl;
-      initial = record { type = fits.initial; reference = reference_fits now.parts.arena v fits.base };
+      initial = record { type = fits.initial; reference = reference_fits now.nodes v fits.base };
     };
     calls = fits.is_known;
     one_point = refl;
   }
 
   -- the graph takes what is to be made next
-  pub next_welcome : (known : FnRef → Bool) → AllOpenFit known first.parts.arena makes → (d : Def) → next_def makes made ≡ Some d
-      → IsWelcome known now.parts.arena d
+  pub next_welcome : (known : FnRef → Bool) → AllOpenFit known first.nodes makes → (d : Def) → next_def makes made ≡ Some d
+      → IsWelcome known now.nodes d
   next_welcome known fit d next =
       let x = next_open makes made d next in
-      subst (λ (e : Def). IsWelcome known now.parts.arena e) x.2
+      subst (λ (e : Def). IsWelcome known now.nodes e) x.2
       (open_welcome known x.0 (fit (length made) x.0 x.1) (order_of makes (length made) x.0 h.stands.order x.1))
 
 -- ---- steps
@@ -165,7 +165,7 @@ module _ {F : Type 0} where
   pub none_made : (s : Standing F) (makes : List Open) → AreInOrder 0 makes → IsMaking s s makes []
   none_made s makes order = record {
     extends = extends_itself s;
-    stands = none_stands (graph_of s.parts.arena) makes order;
+    stands = none_stands (graph_of s.nodes) makes order;
     types = λ i x at less. absurd (omega (arith, less));
     ids = λ i less. absurd (omega (arith, less));
     given = omega arith;
@@ -175,11 +175,11 @@ module _ {F : Type 0} where
 
   -- one more was made
   pub one_more_made : (first now new : Standing F) (makes : List Open) (made : List NodeId) → IsMaking first now makes made
-      → arena.IsSound now.parts.arena → (d : Def) → next_def makes made ≡ Some d → (id : NodeId) → Adds now new id (top d (def_ty d))
+      → arena.IsSound now.nodes → (d : Def) → next_def makes made ≡ Some d → (id : NodeId) → Adds now new id (top d (def_ty d))
       → IsMaking first new makes (made ++ id ∷ [])
   one_more_made first now new makes made h sound d next id adds = record {
     extends = extends_on first now new h.extends more;
-    stands = one_more_stands (graph_of now.parts.arena) (graph_of new.parts.arena) makes made d id h.stands (live_stays now new sound more) next
+    stands = one_more_stands (graph_of now.nodes) (graph_of new.nodes) makes made d id h.stands (live_stays now new sound more) next
         (top d (def_ty d), adds.changes.changed, refl, refl);
     types = λ i x at less. type_at i x at (below i (length made) (omega (arith, less, size)));
     ids = λ i less. id_at i (below i (length made) (omega (arith, less, size)));
@@ -191,7 +191,7 @@ module _ {F : Type 0} where
         | inr new ↦ inr (among_left n made (id ∷ []) new)
       ]
     ];
-    few = let more_live = live_more now.parts.arena new.parts.arena id (Some (top d (def_ty d))) adds.changes in
+    few = let more_live = live_more now.nodes new.nodes id (Some (top d (def_ty d))) adds.changes in
         omega (arith, h.few, more_live, size);
   }
     where
@@ -211,18 +211,18 @@ module _ {F : Type 0} where
       last i is = get_or_at made id [] no_node i (sym is)
 
       type_at : (i : ℕ) (x : Open) → slice_get makes i ≡ Some x → (i < length made) ⊎ (i ≡ length made)
-          → (r : Row) × (row_at new.parts.arena (node_at (made ++ id ∷ []) i) ≡ Some r) × (r.ty ≡ open_ty x)
+          → (r : Row) × (row_at new.nodes (node_at (made ++ id ∷ []) i) ≡ Some r) × (r.ty ≡ open_ty x)
       type_at i x at (inl less) =
           let r = h.types i x at less in
-          (r.0, ap (row_at new.parts.arena) (earlier i less) ∙ live_stays now new sound more (node_at made i) r.0 r.1, r.2)
+          (r.0, ap (row_at new.nodes) (earlier i less) ∙ live_stays now new sound more (node_at made i) r.0 r.1, r.2)
       type_at i x at (inr is) =
           let y = next_open makes made d next in
           let same : y.0 ≡ x = let e : Some y.0 ≡ Some x = sym y.1 ∙ (ap (slice_get makes) (sym is) ∙ at) in cc in (
             top d (def_ty d),
-            ap (row_at new.parts.arena) (last i is) ∙ adds.changes.changed,
+            ap (row_at new.nodes) (last i is) ∙ adds.changes.changed,
             ap def_ty (sym y.2) ∙ (filled_ty made y.0 ∙ ap open_ty same),
           )
 
-      id_at : (i : ℕ) → (i < length made) ⊎ (i ≡ length made) → (node_at (made ++ id ∷ []) i).gen_ ≡ first.parts.arena.given + i
+      id_at : (i : ℕ) → (i < length made) ⊎ (i ≡ length made) → (node_at (made ++ id ∷ []) i).gen_ ≡ first.nodes.given + i
       id_at i (inl less) = ap (λ (n : NodeId). n.gen_) (earlier i less) ∙ h.ids i less
-      id_at i (inr is) = ap (λ (n : NodeId). n.gen_) (last i is) ∙ (adds.fresh ∙ (h.given ∙ ap (λ j. first.parts.arena.given + j) (sym is)))
+      id_at i (inr is) = ap (λ (n : NodeId). n.gen_) (last i is) ∙ (adds.fresh ∙ (h.given ∙ ap (λ j. first.nodes.given + j) (sym is)))

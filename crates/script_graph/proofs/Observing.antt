@@ -5,21 +5,16 @@ use Rattle.std.specs.List.{list_any}
 use Rattle.std.specs.Prelude.{IsFalse}
 use Rattle.std.specs.Str.{bytes_eq}
 use Rattle.graph.specs.Effects.{Observes}
-use Rattle.graph.specs.Standing.{Standing, node_at, looked_at, shown_of}
+use Rattle.graph.specs.Standing.{Standing, node_at, looked_at, shown_of, called_last, cutoff_of, times_linked}
 use Rattle.inc_value.specs.Choice.{Among}
 use Rattle.inc_value.specs.declared.node.NodeId.{NodeId}
 use Rattle.inc_value.specs.declared.node.ObsId.{ObsId}
-use Rattle.inc_terms.specs.Depend.{main}
-use Rattle.link_table.specs.Links.{times}
-use Rattle.node_arena.specs.Arena.{row_at}
+use Rattle.node_arena.specs.Arena.{Arena, row_at}
 use Rattle.inc_value.specs.declared.outcome.Outcome as engine
 use Rattle.script_model.specs.Check.{Observe, declared_of, is_among, names_of}
 use Rattle.script_model.specs.Formula.{State, Entry, Body, Observer, Meanings, body_at}
 use Rattle.script_model.specs.Step.{Moment, moved, find_observer, new_observer, shown_by}
 use Rattle.script_model.specs.Values.{Int, Bool as Truth, Text, Reference, Outcome, Val, Invalid}
-use Rattle.node_outcomes.specs.Computing.{seen}
-use Rattle.stabilizer.specs.Round.{last_call, never_at}
-use Rattle.stabilizer.specs.declared.parts.Parts.{Parts}
 use Rattle.script_graph.specs.Kept.{Kept, arena_of, node_in}
 use Rattle.script_graph.specs.Represents.{there_in, AreNames, IsBaseOutcome, IsObserver, IsShown, Watches}
 use Rattle.script_graph.specs.Settled.{StillDeclares}
@@ -161,8 +156,8 @@ module _ (F : Meanings) (k : Kept) (m : Moment) (name : List ℕ) (target : ℕ)
   w : Watches s k
   w = held.watches
 
-  parts_same : g.parts ≡ k.graph.parts
-  parts_same = ap (λ (h : Standing (Unit {0})). h.parts) observes.rest
+  nodes_same : g.nodes ≡ k.graph.nodes
+  nodes_same = ap (λ (h : Standing (Unit {0})). h.nodes) observes.rest
 
   observers_more : g.observers ≡ k.graph.observers ++ record { node = node_in k.nodes target; in_use = true } ∷ []
   observers_more = ap (λ (h : Standing (Unit {0})). h.observers) observes.rest
@@ -188,7 +183,7 @@ module _ (F : Meanings) (k : Kept) (m : Moment) (name : List ℕ) (target : ℕ)
   old_shown : (p : ObsId) (y : Observer) → IsShown k p y → IsShown new p y
   old_shown p y h = record {
     earlier = λ less. let e = h.earlier (subst (λ (n : ℕ). p.0 < n) rooted_same less) in
-        (e.0, e.1, e.2, ap (λ (ps : Parts). seen ps.work.rows (main (node_in k.nodes y.target))) parts_same ∙ e.3);
+        (e.0, e.1, e.2, ap (λ (h : Standing (Unit {0})). shown_of h (node_in k.nodes y.target)) observes.rest ∙ e.3);
     later = λ more. h.later (subst (λ (n : ℕ). n ≤ p.0) rooted_same more);
   }
 
@@ -276,10 +271,10 @@ module _ (F : Meanings) (k : Kept) (m : Moment) (name : List ℕ) (target : ℕ)
         let is = rooted_looks g p n at in
         let low : p.0 < k.graph.rooted = subst (λ (r : ℕ). p.0 < r) rooted_same is.0 in
         looks_rooted k.graph p n low (sym (looks_old p (let r = rooted in omega (arith, low, r))) ∙ is.1);
-    fewer = λ p q. let same = ap (λ (ps : Parts). times ps.work.graph.links p q) parts_same in omega (arith, same);
-    given = let same = ap (λ (ps : Parts). ps.arena.given) parts_same in omega (arith, same);
-    last = λ n given. ap (λ (ps : Parts). last_call ps.work n) parts_same;
-    cutoffs = λ n never. sym (ap (λ (ps : Parts). never_at ps.work n) parts_same) ∙ never;
+    fewer = λ p q. let same = ap (λ (h : Standing (Unit {0})). times_linked h p q) observes.rest in omega (arith, same);
+    given = let same = ap (λ (a : Arena). a.given) nodes_same in omega (arith, same);
+    last = λ n given. ap (λ (h : Standing (Unit {0})). called_last h n) observes.rest;
+    no_more_cutoffs = λ n equal. ap (λ (h : Standing (Unit {0})). cutoff_of h n) observes.rest ∙ equal;
   }
 
   still : StillDeclares s k.nodes (arena_of k) then new
@@ -287,7 +282,7 @@ module _ (F : Meanings) (k : Kept) (m : Moment) (name : List ℕ) (target : ℕ)
     formulas = λ owner path f is. is;
     targets = λ n e is. (e, is, refl);
     names = λ n e is. refl;
-    rows = λ n r u is def. ap (λ (ps : Parts). row_at ps.arena n) parts_same ∙ is;
+    rows = λ n r u is def. ap (λ (a : Arena). row_at a n) nodes_same ∙ is;
   }
 
   shown_was : (y : Observer) → Among y then.observers → IsSome y.shown → Among y s.observers
@@ -303,7 +298,7 @@ module _ (F : Meanings) (k : Kept) (m : Moment) (name : List ℕ) (target : ℕ)
     accepted = stands.accepted;
     broken = stands.broken;
     holds = λ e. record {
-      represents = represents_so F s (s.observers ++ x ∷ []) s.accepted k new refl refl (ap (λ p. p.arena) parts_same) held.represents;
+      represents = represents_so F s (s.observers ++ x ∷ []) s.accepted k new refl refl nodes_same held.represents;
       watches = watching;
       settled = settled_on F m.settled s then k new leaves still shown_was held.settled;
     };

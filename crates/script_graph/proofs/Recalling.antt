@@ -4,23 +4,22 @@ use Rattle.inc_value.specs.declared.node.NodeId.{NodeId}
 use Rattle.inc_value.specs.declared.node.Part.{Part}
 use Rattle.inc_value.specs.declared.node.Part.TheVariants.{Change, Main}
 use Rattle.inc_value.specs.declared.node.Point.{Point}
+use Rattle.inc_value.specs.declared.outcome.Outcome.{Outcome}
 use Rattle.inc_value.specs.declared.value.Value.{Value as GraphValue}
-use Rattle.inc_terms.specs.Depend.{kids_of, main, none_died, unfrozen}
+use Rattle.inc_terms.specs.Depend.{kids_of, main, unfrozen}
 use Rattle.inc_terms.specs.Evaluate.{answer, GiveAll, Stands}
 use Rattle.inc_terms.specs.Graph.{Graph, Row, Def, Map, Fold, Freeze, Expert}
-use Rattle.inc_terms.specs.Local.{PartExact, Exact, shown_of}
-use Rattle.inc_terms.specs.Need.{Needed as GraphNeeded}
+use Rattle.inc_terms.specs.Local.{PartExact, Exact, shown_of as shown_as}
 use Rattle.inc_terms.specs.Term.{Functions}
 use Rattle.inc_terms.specs.Work.{cost_of, predicate_cost, predicate_kids}
+use Rattle.graph.specs.Standing.{Standing, graph, in_use, shown_of, called_last}
+use Rattle.graph.specs.Stabilizes.{Stabilizes, IsObserved}
 use Rattle.node_arena.specs.Arena.{Arena, row_at}
-use Rattle.node_arena.specs.Graph.{graph_of, NoScopes}
+use Rattle.node_arena.specs.Graph.{NoScopes}
 use Rattle.script_model.specs.Formula.{State, Meanings}
 use Rattle.script_model.specs.Need.{Visit, IsVisit, Needed}
 use Rattle.inc_terms.specs.Work.{taken_by}
 use Rattle.stabilize_round.specs.State.{Call}
-use Rattle.node_outcomes.specs.Computing.{seen}
-use Rattle.stabilizer.specs.Round.{IsUpToDate, last_call}
-use Rattle.stabilizer.specs.declared.work.Work.{Work}
 use Rattle.script_graph.specs.Kept.{node_in}
 use Rattle.script_graph.specs.Represents.{graph_functions, besides}
 use Rattle.transfer.specs.Both.{Both, graph_value}
@@ -30,20 +29,23 @@ use Rattle.transfer.proofs.Recalling.{visits_have_nodes}
 
 -- ---- what is needed is right
 
+-- the outcome that a graph shows of a main's node
+abbrev pub shown_at : {A : Type 0} → Standing A → Point → Option Outcome
+shown_at g p = shown_of g p.node
+
 -- where all that is needed are mains of nodes outside scopes
-module _ (M : Functions) (arena : Arena) (no_scopes : NoScopes arena) (old new : Work) (observed ran : List NodeId)
-    (mains : (n : NodeId) → GraphNeeded M (graph_of arena) none_died observed (record { node = n; part = Change }) → ⊥)
-    (right : IsUpToDate M arena old new observed ran) where
-  part_right : (n : NodeId) (part : Part) → GraphNeeded M (graph_of arena) none_died observed (record { node = n; part = part }) → (r : Row)
-      → row_at arena n ≡ Some r → PartExact M (graph_of arena) (seen new.rows) n r.def part
-  part_right n Main need r row = let s = right.sees n need in (s.0, ap (λ (x : Option Row). shown_of x (seen new.rows (main n))) row ∙ s.1, s.2)
+module _ {A : Type 0} (M : Functions) (old new : Standing A) (no_scopes : NoScopes old.nodes)
+    (mains : (n : NodeId) → IsObserved M old (record { node = n; part = Change }) → ⊥) (done : Stabilizes M old new) where
+  part_right : (n : NodeId) (part : Part) → IsObserved M old (record { node = n; part = part }) → (r : Row)
+      → row_at old.nodes n ≡ Some r → PartExact M (graph old) (shown_at new) n r.def part
+  part_right n Main need r row = let s = done.sees n need in (s.0, ap (λ (x : Option Row). shown_as x (shown_of new n)) row ∙ s.1, s.2)
   part_right n Change need r row = absurd (mains n need)
 
-  stands : (S : Option NodeId) → S ≡ None → Stands M (graph_of arena) S
+  stands : (S : Option NodeId) → S ≡ None → Stands M (graph old) S
   unfolding answer
   stands S none = (1, rw none refl)
 
-  pub needed_is_right : (p : Point) → GraphNeeded M (graph_of arena) none_died observed p → Exact M (graph_of arena) (seen new.rows) p
+  pub needed_is_right : (p : Point) → IsObserved M old p → Exact M (graph old) (shown_at new) p
   needed_is_right p need r row = (stands r.scope (no_scopes p.node r row), part_right p.node p.part need r row)
 
 -- ---- what calls
@@ -70,24 +72,23 @@ called_on M G n values cost def give is = absurd (cc)
 -- ---- the last calls
 
 -- the visit's node was last called with the visit's values
-pub record IsRecalled (x : Both) (arena : Arena) (work : Work) (v : Visit) : Type 0 where
+pub record IsRecalled {A : Type 0} (x : Both) (arena : Arena) (g : Standing A) (v : Visit) : Type 0 where
   pub node : NodeId
   pub is_node : node_of x v.item ≡ Some node
   pub row : Row
   pub is_row : row_at arena node ≡ Some row
   pub call : Call
-  pub is_last : last_call work node ≡ Some call
+  pub is_last : called_last g node ≡ Some call
   pub values_are : call.arguments ≡ map (graph_value x.nodes) v.values
 
-module _ (F : Meanings) (s : State) (nodes : List NodeId) (arena : Arena) (fits : Fits (besides F s nodes arena)) (grabs : GrabsBind s)
-    (old new : Work) (observed ran : List NodeId) (have : RootsHave (besides F s nodes arena) observed)
-    (exact : (p : Point) → GraphNeeded (graph_functions F) (graph_of arena) none_died observed p
-    → Exact (graph_functions F) (graph_of arena) (seen new.rows) p)
-    (right : IsUpToDate (graph_functions F) arena old new observed ran) where
-  pub visit_is_recalled : (v : Visit) → IsVisit F s v → Needed F s v.item → IsRecalled (besides F s nodes arena) arena new v
+module _ {A : Type 0} (F : Meanings) (s : State) (nodes : List NodeId) (old new : Standing A) (fits : Fits (besides F s nodes old.nodes))
+    (grabs : GrabsBind s) (have : RootsHave (besides F s nodes old.nodes) (in_use old.observers))
+    (exact : (p : Point) → IsObserved (graph_functions F) old p → Exact (graph_functions F) (graph old) (shown_at new) p)
+    (done : Stabilizes (graph_functions F) old new) where
+  pub visit_is_recalled : (v : Visit) → IsVisit F s v → Needed F s v.item → IsRecalled (besides F s nodes old.nodes) old.nodes new v
   visit_is_recalled v is need =
-      let h = visits_have_nodes (besides F s nodes arena) fits grabs observed have (seen new.rows) exact v is need in
-      let m = called_on (graph_functions F) (graph_of arena) h.0 (map (graph_value (node_in nodes)) v.values) v.cost h.3.row.def h.3.values h.3.cost in
-      let c = right.recalls h.0 h.3.row m.kids (map (graph_value (node_in nodes)) v.values) ((right.needs (main h.0)).1 h.2) h.3.is_row m.takes
+      let h = visits_have_nodes (besides F s nodes old.nodes) fits grabs (in_use old.observers) have (shown_at new) exact v is need in
+      let m = called_on (graph_functions F) (graph old) h.0 (map (graph_value (node_in nodes)) v.values) v.cost h.3.row.def h.3.values h.3.cost in
+      let c = done.recalls h.0 h.3.row m.kids (map (graph_value (node_in nodes)) v.values) ((done.needs (main h.0)).1 h.2) h.3.is_row m.takes
       m.give in
       record { node = h.0; is_node = h.1; row = h.3.row; is_row = h.3.is_row; call = c.0; is_last = c.1; values_are = c.2 }

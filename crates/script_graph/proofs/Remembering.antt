@@ -1,5 +1,5 @@
 -- What a session keeps of the last accepted stabilize is what the laws of calls ask for.
-use Rattle.std.proofs.Common.{◌≡◌, ◌⊎◌, inl, inr, ℕ, zero, suc, ◌<◌, ◌≤◌, Bool, List, [], ◌∷◌, map, length, Option, None, Some, IsSome, refl, ap, sym, subst, ◌∙◌, arith, slice_get}
+use Rattle.std.proofs.Common.{◌≡◌, ◌⊎◌, inl, inr, ℕ, zero, suc, ◌<◌, ◌≤◌, Bool, true, List, [], ◌∷◌, map, length, Option, None, Some, IsSome, refl, ap, sym, subst, ◌∙◌, arith, slice_get}
 use Rattle.inc_value.specs.Choice.{Among, Every, and_then}
 use Rattle.inc_value.specs.declared.function.FnRef.{FnRef}
 use Rattle.inc_value.specs.declared.node.NodeId.{NodeId}
@@ -7,25 +7,23 @@ use Rattle.inc_value.specs.declared.node.ObsId.{ObsId}
 use Rattle.inc_value.specs.declared.node.Point.{Point}
 use Rattle.inc_value.specs.declared.value.Value.{Value as GraphValue}
 use Rattle.inc_terms.specs.Depend.{none_died}
-use Rattle.inc_terms.specs.Graph.{Graph}
-use Rattle.inc_terms.specs.Need.{Observing, Freezing, nodes_of, Held, Met as GraphMet, from_root, from_held}
-use Rattle.inc_terms.specs.Term.{Functions}
+use Rattle.inc_terms.specs.Need.{Observing, Freezing, nodes_of, Held, Met as GraphMet}
 use Rattle.inc_terms.specs.Work.{WithinWork as GraphWork}
 use Rattle.inc_terms.proofs.Plan.{among_left, among_map}
-use Rattle.graph.specs.Sound.{CanStabilize}
-use Rattle.graph.specs.Standing.{in_use, node_at}
-use Rattle.necessary_graph.specs.Part as part
+use Rattle.graph.specs.Sound.{IsSound, IsWhole}
+use Rattle.graph.specs.Stabilizes.{StoodBeside, IsMet}
+use Rattle.graph.specs.Standing.{in_use, node_at, IsNeeded, cutoff_of}
+use Rattle.map_nodes.specs.declared.cutoff.Cutoff.{Cutoff}
+use Rattle.map_nodes.specs.declared.cutoff.Cutoff.TheVariants.{Equal, Never}
 use Rattle.node_arena.specs.Arena.{row_at}
 use Rattle.node_arena.specs.Graph.{graph_of}
-use Rattle.node_arena.specs.Sound as arena
+use Rattle.node_outcomes.specs.Row.{is_never}
 use Rattle.script_model.specs.Check.{target_of_body}
 use Rattle.script_model.specs.Formula.{State, Entry, Body, Formula, Observer, Meanings, meanings_of, body_at, entry_at, formula_of_body, Name, Variable, Computed}
 use Rattle.script_model.specs.Need.{Named, Met, WithinWork, formula_at, part_of, own_roots, roots}
 use Rattle.script_model.specs.Step.{Moment}
 use Rattle.script_model.specs.Valid.{Valid, ValidObserver}
-use Rattle.script_model.specs.Values.{seen_value}
 use Rattle.stabilize_round.specs.Calls.{arguments_of}
-use Rattle.stabilizer.specs.Round.{StoodBeside}
 use Rattle.script_graph.specs.Kept.{Kept, arena_of, node_in, no_node}
 use Rattle.script_graph.specs.Plain.{IsPlainBody, IsEarlierTarget, AllPlain}
 use Rattle.script_graph.specs.Represents.{graph_functions, besides, beside, there_in, IsWithin, IsPartWithin, Represents, Watches}
@@ -37,6 +35,7 @@ use Rattle.script_graph.proofs.Held.{looked_within, observed_nodes, rooted_looks
 use Rattle.script_graph.proofs.Owning.{own_node}
 use Rattle.script_graph.proofs.Looking.{roots_are, among_image, same_name}
 use Rattle.script_graph.proofs.Watching.{watched_roots_are}
+use Rattle.script_graph.proofs.Without.{met_more}
 use Rattle.transfer.specs.Both.{Both}
 use Rattle.transfer.specs.Holding.{Later, HoldersAre, LastKept, MarksAreNew, Remembers}
 use Rattle.transfer.specs.Items.{node_at as place_node, CoveredBy, RootsAre}
@@ -125,19 +124,15 @@ observed_root s z among =
     among_left (Named z.target) (map (λ (x : Observer). Named x.target) s.observers) (own_roots s 0 s.entries)
     (among_map (λ (x : Observer). Named x.target) z s.observers among)
 
--- ---- what is met
-
--- more that was held, more is met
-pub met_more : (M : Functions) (G : Graph) (died : NodeId → Option NodeId) (observed : List NodeId) (held more : Point → Type 0)
-    → ((p : Point) → held p → more p) → (p : Point) → GraphMet M G died observed held p → GraphMet M G died observed more p
-met_more M G died observed held more all p (from_root root on) = from_root root on
-met_more M G died observed held more all p (from_held {h} was row stands on) = from_held (all h was) row stands on
-
 -- ---- the last accepted stabilize
 
+not_never : (c : Cutoff) → c ≡ Equal → is_never c ≡ true → ⊥
+not_never Equal e never = cc
+not_never Never e never = cc
+
 module _ (named : List ℕ → Option FnRef) (value : FnRef → List GraphValue → GraphValue) (known : FnRef → Bool) (m : Moment) (k : Kept)
-    (stands : Stands (meanings_of named value) k m) (unbroken : m.broken ≡ None) (sound : arena.IsSound (arena_of k))
-    (can : CanStabilize known (seen_value value) k.graph.parts k.graph.observers k.graph.rooted) where
+    (stands : Stands (meanings_of named value) k m) (unbroken : m.broken ≡ None) (sound : IsSound known k.graph)
+    (whole : IsWhole known k.graph) where
   abbrev F : Meanings
   F = meanings_of named value
 
@@ -195,7 +190,7 @@ module _ (named : List ℕ → Option FnRef) (value : FnRef → List GraphValue 
       let high = none_past before.entries n is in
       let each = st.one_node_each in
       let past : node_in st.nodes n ≡ no_node = node_past st.nodes n (omega (arith, high, each)) in
-      inr (is, ap (row_at (arena_of k)) past ∙ never_given (arena_of k) sound)
+      inr (is, ap (row_at (arena_of k)) past ∙ never_given (arena_of k) sound.nodes)
 
   later : Later left then
   later = record {
@@ -241,7 +236,7 @@ module _ (named : List ℕ → Option FnRef) (value : FnRef → List GraphValue 
     links = st.links;
     last = last;
     marks = marks;
-    cutoffs = st.equal;
+    cutoffs = λ n never. not_never (cutoff_of k.graph n) (st.equal n) never;
   }
 
   -- ---- what is met, and which calls are due
@@ -250,18 +245,16 @@ module _ (named : List ℕ → Option FnRef) (value : FnRef → List GraphValue 
   roots_now = subst (RootsAre then) (sym (observed_nodes 0 k.graph.observers)) (watched_roots_are F s k holds.represents.plain holds.watches)
 
   -- what the graph meets is covered by what the script meets
-  pub meeting_is_covered : (p : Point)
-      → GraphMet (graph_functions F) (graph_of (arena_of k)) none_died (in_use k.graph.observers) (λ (q : Point). part.Needed k.graph.parts.work.graph q) p
-      → CoveredBy then (Met F before s) p
+  pub meeting_is_covered : (p : Point) → IsMet (graph_functions F) k.graph p → CoveredBy then (Met F before s) p
   meeting_is_covered p met =
       met_is_covered left then (side_of k.graph) (observed_by k.graph) remembers fits stands.valid.1 (nodes_apart F s k holds.represents) roots_now p
       (subst (λ (ns : List NodeId). GraphMet (graph_functions F) (graph_of (arena_of k)) none_died ns (Held (side_of k.graph) (observed_by k.graph)) p)
       (sym (observed_nodes 0 k.graph.observers))
-      (met_more (graph_functions F) (graph_of (arena_of k)) none_died (in_use k.graph.observers) (λ (q : Point). part.Needed k.graph.parts.work.graph q)
-      (Held (side_of k.graph) (observed_by k.graph)) (needed_held k.graph can.roots) p met))
+      (met_more (graph_functions F) (graph_of (arena_of k)) none_died (in_use k.graph.observers) (IsNeeded k.graph)
+      (Held (side_of k.graph) (observed_by k.graph)) (needed_held k.graph whole.roots) p met))
 
-  pub stood : StoodBeside (side_of k.graph) k.graph.parts.work (observed_by k.graph)
-  stood = stood_beside k.graph can.roots
+  pub stood : StoodBeside (side_of k.graph) k.graph (observed_by k.graph)
+  stood = stood_beside k.graph whole.roots
 
   pub observed_among : (n : NodeId) → Among n (in_use k.graph.observers) → Among n (nodes_of (observed_by k.graph))
   observed_among n among = subst (Among n) (sym (observed_nodes 0 k.graph.observers)) among

@@ -12,7 +12,7 @@ use Rattle.inc_value.specs.declared.node.NodeId.{NodeId}
 use Rattle.inc_value.specs.declared.ty.Ty.{Ty}
 use Rattle.inc_value.specs.declared.value.Value.{Value as GraphValue}
 use Rattle.inc_terms.specs.Graph as graph
-use Rattle.inc_terms.specs.Graph.{Graph, Row, Def}
+use Rattle.inc_terms.specs.Graph.{Row}
 use Rattle.inc_terms.specs.Work.{cost_of}
 use Rattle.graph.specs.Effects.{Sets}
 use Rattle.graph.specs.Standing.{Standing}
@@ -122,7 +122,7 @@ variable_entry names s same target ty fits = go (slice_get s.entries target) ref
 -- ---- what is kept
 
 module _ (named : List ℕ → Option FnRef) (value : FnRef → List GraphValue → GraphValue) (k : Kept) (g : Standing (Unit {0}))
-    (sound : arena.IsSound (arena_of k)) (sound' : arena.IsSound g.parts.arena) (m : Moment) (target : ℕ) (w : GraphValue) (v : Value) (is_value : to_engine v ≡ w)
+    (sound : arena.IsSound (arena_of k)) (sound' : arena.IsSound g.nodes) (m : Moment) (target : ℕ) (w : GraphValue) (v : Value) (is_value : to_engine v ≡ w)
     (sets : Sets k.graph g (node_in k.nodes target) w) (fits : AssignmentFits k.names target (engine.type_of w)) where
   abbrev F : Meanings
   F = meanings_of named value
@@ -189,13 +189,13 @@ module _ (named : List ℕ → Option FnRef) (value : FnRef → List GraphValue 
       old = rw was at (held.declares target)
 
       -- a row that isn't the variable's stays
-      row_other : (n : NodeId) (r : Row) → (n ≡ node_in k.nodes target → ⊥) → row_at (arena_of k) n ≡ Some r → row_at g.parts.arena n ≡ Some r
+      row_other : (n : NodeId) (r : Row) → (n ≡ node_in k.nodes target → ⊥) → row_at (arena_of k) n ≡ Some r → row_at g.nodes n ≡ Some r
       row_other n r other is = sets.set.changes.others n other ∙ is
 
       same_row : (r q : Row) → row_at (arena_of k) (node_in k.nodes target) ≡ Some r → row_at (arena_of k) (node_in k.nodes target) ≡ Some q → r ≡ q
       same_row r q first second = let e : Some r ≡ Some q = sym first ∙ second in cc
 
-      stays : RowsStay (graph_of (arena_of k)) (graph_of g.parts.arena)
+      stays : RowsStay (graph_of (arena_of k)) (graph_of g.nodes)
       stays n r t is def = row_other n r (λ same.
           let row : r ≡ old.0 = same_row r old.0 (ap (row_at (arena_of k)) (sym same) ∙ is) old.1 in
           let none : plain r.def ≡ None = ap (λ (q : Row). plain q.def) row ∙ ap plain old.3 in
@@ -229,7 +229,7 @@ module _ (named : List ℕ → Option FnRef) (value : FnRef → List GraphValue 
           )
 
       declares_each : (n : ℕ) (b : Option Body) → body_at s' n ≡ b → Declares (beside F s' new) (node_in k.nodes n) b
-      declares_each n None is = (ap (row_at g.parts.arena) past ∙ never_given g.parts.arena sound', refl)
+      declares_each n None is = (ap (row_at g.nodes) past ∙ never_given g.nodes sound', refl)
         where
           past : node_in k.nodes n ≡ no_node
           past = let size = with_length (λ body. Variable v) s.entries target in
@@ -256,13 +256,13 @@ module _ (named : List ℕ → Option FnRef) (value : FnRef → List GraphValue 
       ]
 
       aged_each : (n : ℕ) (b : Body) → body_at s' n ≡ Some b
-          → OwnNodesOf (graph_of g.parts.arena) (IsWithin k.nodes n) (IsPartWithin k.nodes n) (node_in k.nodes n) b
+          → OwnNodesOf (graph_of g.nodes) (IsWithin k.nodes n) (IsPartWithin k.nodes n) (node_in k.nodes n) b
       aged_each n b is = elim (cases_eq n target) [
         | inl same ↦
             let body : Variable v ≡ b = let e : Some (Variable v) ≡ Some b = sym now ∙ (ap (body_at s') (sym same) ∙ is) in cc in
-            subst (λ (c : Body). OwnNodesOf (graph_of g.parts.arena) (IsWithin k.nodes n) (IsPartWithin k.nodes n) (node_in k.nodes n) c) body
+            subst (λ (c : Body). OwnNodesOf (graph_of g.nodes) (IsWithin k.nodes n) (IsPartWithin k.nodes n) (node_in k.nodes n) c) body
             (held.aged n (Variable u) (ap (body_at s) same ∙ was))
-        | inr other ↦ own_nodes_of_on (graph_of (arena_of k)) (graph_of g.parts.arena) (IsWithin k.nodes n) (IsWithin k.nodes n)
+        | inr other ↦ own_nodes_of_on (graph_of (arena_of k)) (graph_of g.nodes) (IsWithin k.nodes n) (IsWithin k.nodes n)
             (IsPartWithin k.nodes n) (IsPartWithin k.nodes n) (λ q h. h) (λ q h. h) stays (node_in k.nodes n) b (held.aged n b (sym (others n other) ∙ is))
       ]
 
@@ -276,16 +276,16 @@ module _ (named : List ℕ → Option FnRef) (value : FnRef → List GraphValue 
         | inr other ↦ held.targets n d (sym (with_other (λ body. Variable v) s.entries target n other) ∙ is)
       ]
 
-      no_new_call : HasNewCalls (arena_of k) g.parts.arena 0
+      no_new_call : HasNewCalls (arena_of k) g.nodes 0
       no_new_call = record {
         callers = [];
         few = omega arith;
         all = λ c is. elim (node_or c.node (node_in k.nodes target)) [
           | inl same ↦ absurd (
               let row : with_value sets.set.row w ≡ is.row =
-              (let h : Some (with_value sets.set.row w) ≡ Some is.row = sym sets.set.changes.changed ∙ (ap (row_at g.parts.arena) (sym same) ∙ is.is_row) in cc) in
-              let cost : None ≡ Some c.cost = ap (λ (r : Row). cost_of (graph_of g.parts.arena) c.node r.def) row ∙ is.calls in cc)
-          | inr other ↦ inl (caller_in (arena_of k) g.parts.arena c is (sym (sets.set.changes.others c.node other) ∙ is.is_row))
+              (let h : Some (with_value sets.set.row w) ≡ Some is.row = sym sets.set.changes.changed ∙ (ap (row_at g.nodes) (sym same) ∙ is.is_row) in cc) in
+              let cost : None ≡ Some c.cost = ap (λ (r : Row). cost_of (graph_of g.nodes) c.node r.def) row ∙ is.calls in cc)
+          | inr other ↦ inl (caller_in (arena_of k) g.nodes c is (sym (sets.set.changes.others c.node other) ∙ is.is_row))
         ];
       }
 
@@ -298,7 +298,7 @@ module _ (named : List ℕ → Option FnRef) (value : FnRef → List GraphValue 
         declares = λ n. declares_each n (body_at s' n) refl;
         targets = targets_each;
         aged = aged_each;
-        calls = few_calls_on s s' (arena_of k) g.parts.arena 0 no_new_call
+        calls = few_calls_on s s' (arena_of k) g.nodes 0 no_new_call
             (let calls = with_amounts calls_of_body (λ body. Variable v) s.entries target e there (sym (ap calls_of_body variable)) in omega (arith, calls))
             held.calls;
       }

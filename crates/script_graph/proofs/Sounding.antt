@@ -48,17 +48,17 @@ module _ (k : Kept) (h : IsSound k) (sound : arena.IsSound (arena_of k)) where
     unbroken_on : k.broken ≡ None → IsUnbroken g
     unbroken_on whole = more.beside.refused ∙ h.unbroken whole
 
-    node_on : (n : ℕ) (d : Declared) → HasNode (arena_of k) k.nodes n d → HasNode g.parts.arena k.nodes n d
+    node_on : (n : ℕ) (d : Declared) → HasNode (arena_of k) k.nodes n d → HasNode g.nodes k.nodes n d
     node_on n d node = record {
       row = node.row;
       is_row = live_stays k.graph g sound more (node_in k.nodes n) node.row node.is_row;
       typed = node.typed;
       target = node.target;
-      variable = λ kind. variable_on (arena_of k) g.parts.arena (node_in k.nodes n) (live_stays k.graph g sound more (node_in k.nodes n)) (node.variable kind);
+      variable = λ kind. variable_on (arena_of k) g.nodes (node_in k.nodes n) (live_stays k.graph g sound more (node_in k.nodes n)) (node.variable kind);
     }
 
     -- where nodes were added, and the room for those that are declared stays
-    pub sound_on : live g.parts.arena + k.room ≤ 1048575 → IsSound (record k { graph = g })
+    pub sound_on : live g.nodes + k.room ≤ 1048575 → IsSound (record k { graph = g })
     sound_on few = record {
       one_node_each = h.one_node_each;
       has_nodes = λ n d is. node_on n d (h.has_nodes n d is);
@@ -69,8 +69,8 @@ module _ (k : Kept) (h : IsSound k) (sound : arena.IsSound (arena_of k)) where
       unbroken = unbroken_on;
     }
 
-    module _ (name : List ℕ) (ty : Ty) (body : Body) (root : NodeId) (room : ℕ) (r : Row) (row : row_at g.parts.arena root ≡ Some r) (typed : r.ty ≡ ty)
-        (variable : kind_of_body body ≡ VariableKind → IsVariable g.parts.arena root)
+    module _ (name : List ℕ) (ty : Ty) (body : Body) (root : NodeId) (room : ℕ) (r : Row) (row : row_at g.nodes root ≡ Some r) (typed : r.ty ≡ ty)
+        (variable : kind_of_body body ≡ VariableKind → IsVariable g.nodes root)
         (target : node_in (k.nodes ++ root ∷ []) (target_of_body (length k.names.declared) body) ≡ root) where
       abbrev new : Kept
       new = with_declared k name ty body root room g
@@ -84,41 +84,41 @@ module _ (k : Kept) (h : IsSound k) (sound : arena.IsSound (arena_of k)) where
       node_new : node_in new.nodes (length k.names.declared) ≡ root
       node_new = get_or_at k.nodes root [] no_node (length k.names.declared) h.one_node_each
 
-      has_old : (n : ℕ) (d : Declared) → n < length k.names.declared → slice_get k.names.declared n ≡ Some d → HasNode g.parts.arena new.nodes n d
+      has_old : (n : ℕ) (d : Declared) → n < length k.names.declared → slice_get k.names.declared n ≡ Some d → HasNode g.nodes new.nodes n d
       has_old n d low is =
           let node = node_on n d (h.has_nodes n d is) in
           let same = node_old n (omega (arith, low, h.one_node_each)) in
           record {
             row = node.row;
-            is_row = ap (row_at g.parts.arena) same ∙ node.is_row;
+            is_row = ap (row_at g.nodes) same ∙ node.is_row;
             typed = node.typed;
             target = node_old d.target (target_within n d is) ∙ (node.target ∙ sym same);
-            variable = λ kind. subst (λ (q : NodeId). IsVariable g.parts.arena q) (sym same) (node.variable kind);
+            variable = λ kind. subst (λ (q : NodeId). IsVariable g.nodes q) (sym same) (node.variable kind);
           }
 
-      has_new : HasNode g.parts.arena new.nodes (length k.names.declared) last
+      has_new : HasNode g.nodes new.nodes (length k.names.declared) last
       has_new = record {
         row = r;
-        is_row = ap (row_at g.parts.arena) node_new ∙ row;
+        is_row = ap (row_at g.nodes) node_new ∙ row;
         typed = typed;
         target = target ∙ sym node_new;
-        variable = λ kind. subst (λ (q : NodeId). IsVariable g.parts.arena q) (sym node_new) (variable kind);
+        variable = λ kind. subst (λ (q : NodeId). IsVariable g.nodes q) (sym node_new) (variable kind);
       }
 
-      has_each : (n : ℕ) (d : Declared) → slice_get new.names.declared n ≡ Some d → HasNode g.parts.arena new.nodes n d
+      has_each : (n : ℕ) (d : Declared) → slice_get new.names.declared n ≡ Some d → HasNode g.nodes new.nodes n d
       has_each n d is = elim (cases_eq n (length k.names.declared)) [
         | inl same ↦
             let there : last ≡ d = let e : Some last ≡ Some d = sym (get_append_last k.names.declared last)
             ∙ (ap (slice_get new.names.declared) (sym same) ∙ is) in cc in
-            subst (λ (c : Declared). HasNode g.parts.arena new.nodes n c) there
-            (subst (λ (j : ℕ). HasNode g.parts.arena new.nodes j last) (sym same) has_new)
+            subst (λ (c : Declared). HasNode g.nodes new.nodes n c) there
+            (subst (λ (j : ℕ). HasNode g.nodes new.nodes j last) (sym same) has_new)
         | inr other ↦
             let old : slice_get k.names.declared n ≡ Some d = sym (get_append_other k.names.declared last n other) ∙ is in
             has_old n d (slice_get_within k.names.declared n d old) old
       ]
 
       -- where a declaration was added, with less room
-      pub sound_declared : live g.parts.arena + room ≤ 1048575 → IsSound new
+      pub sound_declared : live g.nodes + room ≤ 1048575 → IsSound new
       sound_declared few = record {
         one_node_each =
             let nodes = length-append k.nodes (root ∷ []) in
@@ -145,32 +145,32 @@ module _ (k : Kept) (h : IsSound k) (sound : arena.IsSound (arena_of k)) where
     same_row : (p : NodeId) (r q : Row) → row_at (arena_of k) p ≡ Some r → row_at (arena_of k) p ≡ Some q → r ≡ q
     same_row p r q left right = let e : Some r ≡ Some q = sym left ∙ right in cc
 
-    row_set : (p : NodeId) (r : Row) → row_at (arena_of k) p ≡ Some r → (q : Row) × (row_at g.parts.arena p ≡ Some q) × (q.ty ≡ r.ty)
+    row_set : (p : NodeId) (r : Row) → row_at (arena_of k) p ≡ Some r → (q : Row) × (row_at g.nodes p ≡ Some q) × (q.ty ≡ r.ty)
     row_set p r is = elim (node_or p n) [
       | inl same ↦
           let row = same_row p sets.set.row r (ap (row_at (arena_of k)) same ∙ sets.set.there) is in
-          (with_value sets.set.row w, ap (row_at g.parts.arena) same ∙ sets.set.changes.changed, ap (λ (x : Row). x.ty) row)
+          (with_value sets.set.row w, ap (row_at g.nodes) same ∙ sets.set.changes.changed, ap (λ (x : Row). x.ty) row)
       | inr other ↦ (r, sets.set.changes.others p other ∙ is, refl)
     ]
 
-    row_back : (p : NodeId) (r : Row) → row_at g.parts.arena p ≡ Some r → (q : Row) × (row_at (arena_of k) p ≡ Some q)
+    row_back : (p : NodeId) (r : Row) → row_at g.nodes p ≡ Some r → (q : Row) × (row_at (arena_of k) p ≡ Some q)
     row_back p r is = elim (node_or p n) [
       | inl same ↦ (sets.set.row, ap (row_at (arena_of k)) same ∙ sets.set.there)
       | inr other ↦ (r, sym (sets.set.changes.others p other) ∙ is)
     ]
 
-    variable_set : (p : NodeId) → IsVariable (arena_of k) p → IsVariable g.parts.arena p
+    variable_set : (p : NodeId) → IsVariable (arena_of k) p → IsVariable g.nodes p
     variable_set p v = elim (node_or p n) [
       | inl same ↦ record {
         row = with_value sets.set.row w;
         value = w;
-        there = ap (row_at g.parts.arena) same ∙ sets.set.changes.changed;
+        there = ap (row_at g.nodes) same ∙ sets.set.changes.changed;
         variable = refl;
       }
       | inr other ↦ record { row = v.row; value = v.value; there = sets.set.changes.others p other ∙ v.there; variable = v.variable }
     ]
 
-    has_set : (i : ℕ) (d : Declared) → HasNode (arena_of k) k.nodes i d → HasNode g.parts.arena k.nodes i d
+    has_set : (i : ℕ) (d : Declared) → HasNode (arena_of k) k.nodes i d → HasNode g.nodes k.nodes i d
     has_set i d node =
         let r = row_set (node_in k.nodes i) node.row node.is_row in
         record {
@@ -185,7 +185,7 @@ module _ (k : Kept) (h : IsSound k) (sound : arena.IsSound (arena_of k)) where
     sound_set = record {
       one_node_each = h.one_node_each;
       has_nodes = λ i d is. has_set i d (h.has_nodes i d is);
-      few = let count = live_within (arena_of k) g.parts.arena row_back in omega (arith, count, h.few);
+      few = let count = live_within (arena_of k) g.nodes row_back in omega (arith, count, h.few);
       one_observer_each = h.one_observer_each;
       looking = λ o among. subst (λ (os : List Looking). IsSome (standing.node_at os o)) (sym sets.beside.observers) (h.looking o among);
       apart = h.apart;

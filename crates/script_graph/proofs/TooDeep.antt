@@ -1,11 +1,10 @@
 -- A stabilize that was refused for depth is one of the script.
 use Rattle.std.proofs.Common.{◌≡◌, ◌⊎◌, inl, inr, ℕ, ◌<◌, Bool, true, List, [], ◌∷◌, length, Option, None, Some, refl, ap, sym, subst, ◌∙◌, arith}
 use Rattle.std.proofs.lemmas.Option.{slice_get_within}
-use Rattle.graph.specs.Sound.{IsSound, CanStabilize}
-use Rattle.graph.specs.Stabilizes.{IsRefusedFor}
-use Rattle.graph.specs.Standing.{Standing, in_use}
+use Rattle.graph.specs.Sound.{IsSound, IsWhole}
+use Rattle.graph.specs.Stabilizes.{IsRefusedFor, HasCalledMet, IsListed, IsLawful}
+use Rattle.graph.specs.Standing.{Standing}
 use Rattle.graph.specs.Fault.{kept_of}
-use Rattle.graph.specs.declared.fault.Kept.{Kept as Cause}
 use Rattle.graph.specs.declared.fault.Kept.TheVariants as fault
 use Rattle.height_order.specs.Chains.{StartsAt}
 use Rattle.inc_value.specs.Choice.{NoRepeats, and_then}
@@ -14,14 +13,12 @@ use Rattle.inc_value.specs.declared.node.NodeId.{NodeId}
 use Rattle.inc_value.specs.declared.node.Point.{Point}
 use Rattle.inc_value.specs.declared.value.Value.{Value as GraphValue}
 use Rattle.inc_terms.specs.Term.{Functions}
-use Rattle.node_arena.specs.Arena.{Arena}
-use Rattle.node_arena.specs.Sound as arena
 use Rattle.script_model.specs.Blocked.{Holds as HoldsName, own}
 use Rattle.script_model.specs.Formula.{State, Entry, Body, Formula, Meanings, meanings_of, body_at, entry_at, formula_of_body, Grab}
 use Rattle.script_model.specs.Need.{Item, Named, Place, formula_at, part_of}
 use Rattle.script_model.specs.Step.{Moment, by_height}
 use Rattle.script_model.specs.Values.{seen_value}
-use Rattle.script_graph.specs.Kept.{Kept, arena_of, without_functions}
+use Rattle.script_graph.specs.Kept.{Kept, without_functions}
 use Rattle.script_graph.specs.Represents.{graph_functions, beside, Computes, IsVariableBody, IsOwnFormula, owner_of, IsWithin}
 use Rattle.script_graph.specs.Stabilizing.{IsTooDeep, ChainBegins, IsFirstNotOlder, AllOlder}
 use Rattle.script_graph.specs.State.{Holds, Stands}
@@ -32,11 +29,10 @@ use Rattle.script_graph.proofs.Functions.{functions_are}
 use Rattle.script_graph.proofs.Owner.{IsTooDeepAt, deep_owner, told_node}
 use Rattle.script_graph.proofs.Owning.{aged_item}
 use Rattle.script_graph.proofs.Remembering.{meeting_is_covered}
+use Rattle.script_graph.proofs.Without.{sound_without, few_without, refused_without}
 use Rattle.node_outcomes.specs.Meaning.{functions_of}
-use Rattle.stabilizer.specs.Round.{HasCalledFew, IsListed, IsLawful}
 use Rattle.stabilizer.specs.declared.refused.Refused.{Refused}
 use Rattle.stabilizer.specs.declared.refused.Refused.TheVariants as refused
-use Rattle.stabilizer.specs.declared.work.Work.{Work}
 use Rattle.transfer.specs.Both.{Both}
 use Rattle.transfer.specs.Items.{GrabsBind, GrabsStay}
 use Rattle.transfer.specs.Shows.{Fits}
@@ -83,8 +79,8 @@ holds_owner target (Place owner path) e = e
 -- ---- the stabilize
 
 module _ (named : List ℕ → Option FnRef) (value : FnRef → List GraphValue → GraphValue) (known : FnRef → Bool) (m : Moment) (k : Kept)
-    (stands : Stands (meanings_of named value) k m) (unbroken : m.broken ≡ None) (sound_arena : arena.IsSound (arena_of k))
-    (can : CanStabilize known (seen_value value) k.graph.parts k.graph.observers k.graph.rooted) where
+    (stands : Stands (meanings_of named value) k m) (unbroken : m.broken ≡ None) (sound : IsSound known k.graph)
+    (whole : IsWhole known k.graph) where
   abbrev F : Meanings
   F = meanings_of named value
 
@@ -93,9 +89,6 @@ module _ (named : List ℕ → Option FnRef) (value : FnRef → List GraphValue 
 
   abbrev before : State
   before = m.settled
-
-  abbrev observed : List NodeId
-  observed = in_use k.graph.observers
 
   abbrev x : Both
   x = beside F s k
@@ -116,19 +109,19 @@ module _ (named : List ℕ → Option FnRef) (value : FnRef → List GraphValue 
   grabs_stay : GrabsStay before s
   grabs_stay n b v is = absurd (holds.settled.plain n (Grab b v true) is)
 
-  listed_is_deep : (points : List Point) → IsListed (graph_functions F) (arena_of k) k.graph.parts.work observed points → length points ≡ 130
+  listed_is_deep : (points : List Point) → IsListed (graph_functions F) k.graph points → length points ≡ 130
       → NoRepeats points → (p : Point) → StartsAt points p → IsTooDeepAt x before p.node
   listed_is_deep [] listed long once p starts = absurd starts
   listed_is_deep (q ∷ rest) listed long once p starts =
-      let covered = meeting_is_covered named value known m k stands unbroken sound_arena can q (listed.met q refl) in
+      let covered = meeting_is_covered named value known m k stands unbroken sound whole q (listed.met q refl) in
       let i = deep_has_item x fits stands.keep stands.valid.1 before grabs_before holds.settled.still.formulas grabs_stay q rest covered
       (omega (arith, long)) listed.walk once in
-      let at = told_node x can.ready.kept.flat holds.represents.plain q i.0 i.2 in
+      let at = told_node x sound.flat holds.represents.plain q i.0 i.2 in
       subst (IsTooDeepAt x before) (ap (λ (y : Point). y.node) starts)
       (deep_owner x fits holds.represents.plain before grabs_before grabs holds.settled.still.formulas i.0 q.node i.1 at i.3)
 
   -- where the chain begins an item is too deep
-  begins_deep : (met : Option Refused) (r : Refused) → met ≡ Some r → IsLawful (graph_functions F) (arena_of k) k.graph.parts.work observed r
+  begins_deep : (met : Option Refused) (r : Refused) → met ≡ Some r → IsLawful (graph_functions F) k.graph r
       → (p : Point) → ChainBegins met p → IsTooDeepAt x before p.node
   begins_deep None r e lawful p begins = absurd begins
   begins_deep (Some (refused.Height points)) (refused.Height others) e lawful p begins =
@@ -154,14 +147,14 @@ module _ (named : List ℕ → Option FnRef) (value : FnRef → List GraphValue 
         omega (arith, early, late)
 
     -- the model may refuse the stabilize for the first of these declarations
-    pub too_deep_stands : (target called calls : ℕ) → IsFirstNotOlder k.nodes p.node target → HasCalledFew (arena_of k) called calls
+    pub too_deep_stands : {N : Functions} (target called calls : ℕ) → IsFirstNotOlder k.nodes p.node target → HasCalledMet N k.graph called calls
         → IsTooDeep F m (record k { broken = Some 21; graph = g }) target called calls
-    too_deep_stands target called calls first few =
+    too_deep_stands {N} target called calls first few =
         record {
           after = record m { broken = Some 21 };
           stabilizes = by_height target deep.item deep.met deep.deep
               (own (holds_owner target deep.item (first_is_owner k.nodes p.node target (owner_of deep.item) first within))) refl refl;
-          within = few_calls s (arena_of k) called calls holds.represents.calls few;
+          within = few_calls N s k.graph called calls holds.represents.calls few;
           matches = broken_matches F m k g 21 stands.matches;
         }
 
@@ -172,64 +165,46 @@ long_begins : (points : List Point) → length points ≡ 130 → (p : Point) ×
 long_begins [] long = absurd (cc)
 long_begins (p ∷ rest) long = (p, refl)
 
-chain_begins : (M : Functions) (a : Arena) (work : Work) (observed : List NodeId) (refused : Option Refused) (met : Refused) → refused ≡ Some met
-    → kept_of met ≡ fault.Height → IsLawful M a work observed met → (p : Point) × ChainBegins refused p
-chain_begins M a work observed None met e cause lawful = absurd (cc)
-chain_begins M a work observed (Some (refused.Height points)) (refused.Height others) e cause lawful =
+chain_begins : {A : Type 0} (M : Functions) (g : Standing A) (refused : Option Refused) (met : Refused) → refused ≡ Some met
+    → kept_of met ≡ fault.Height → IsLawful M g met → (p : Point) × ChainBegins refused p
+chain_begins M g None met e cause lawful = absurd (cc)
+chain_begins M g (Some (refused.Height points)) (refused.Height others) e cause lawful =
     let same : points ≡ others = cc in
     long_begins points.items (subst (λ (v : _). length v.items ≡ 130) (sym same) lawful.1)
-chain_begins M a work observed (Some met) r e cause lawful = absurd (cc)
+chain_begins M g (Some met) r e cause lawful = absurd (cc)
 
 module _ {A : Type 0} where
-  -- what is so of a graph is so of what is kept of it
-  pub kept_refused : (M : Functions) (old new : Standing A) (cause : Cause) → IsRefusedFor M old new cause
-      → IsRefusedFor M (without_functions old) (without_functions new) cause
-  kept_refused M old new cause done = record {
-    was = done.was;
-    nodes = done.nodes;
-    observers = done.observers;
-    rooted = done.rooted;
-    ran = done.ran;
-    cutoffs = done.cutoffs;
-    shows = done.shows;
-    met = done.met;
-    broken = done.broken;
-    is_cause = done.is_cause;
-    lawful = done.lawful;
-    tried = done.tried;
-  }
-
   module _ (named : List ℕ → Option FnRef) (value : FnRef → List GraphValue → GraphValue) (known : FnRef → Bool) (k : Kept) (old new : Standing A)
       (same : k.graph ≡ without_functions old) (unbroken : k.broken ≡ None)
-      (sound_arena : arena.IsSound old.parts.arena) (sound : IsSound known (seen_value value) old.parts old.observers old.rooted old.refused)
+      (sound : IsSound known old)
       (done : IsRefusedFor (functions_of (seen_value value)) old new fault.Height) where
-    kept_can : CanStabilize known (seen_value value) k.graph.parts k.graph.observers k.graph.rooted
-    kept_can = subst (λ (h : Standing (Unit {0})). CanStabilize known (seen_value value) h.parts h.observers h.rooted) (sym same) (sound.unbroken done.was)
+    kept_sound : IsSound known k.graph
+    kept_sound = subst (λ (h : Standing (Unit {0})). IsSound known h) (sym same) (sound_without known old sound)
 
-    kept_sound : arena.IsSound (arena_of k)
-    kept_sound = subst (λ (h : Standing (Unit {0})). arena.IsSound h.parts.arena) (sym same) sound_arena
+    kept_whole : IsWhole known k.graph
+    kept_whole = kept_sound.whole (ap (λ (h : Standing (Unit {0})). h.refused) same ∙ done.was)
 
     kept_done : IsRefusedFor (graph_functions (meanings_of named value)) k.graph (without_functions new) fault.Height
     kept_done =
         subst (λ (h : Standing (Unit {0})). IsRefusedFor (graph_functions (meanings_of named value)) h (without_functions new) fault.Height) (sym same)
         (subst (λ (M : Functions). IsRefusedFor M (without_functions old) (without_functions new) fault.Height) (sym (functions_are named value))
-        (kept_refused (functions_of (seen_value value)) old new fault.Height done))
+        (refused_without (functions_of (seen_value value)) old new fault.Height done))
 
     begins : (p : Point) × ChainBegins new.refused p
-    begins = chain_begins (functions_of (seen_value value)) old.parts.arena old.parts.work (in_use old.observers) new.refused done.met done.broken
-        done.is_cause done.lawful
+    begins = chain_begins (functions_of (seen_value value)) old new.refused done.met done.broken done.is_cause done.lawful
 
     -- some declaration's node isn't older than the first of the chain
     pub session_not_all_older : ((p : Point) → ChainBegins new.refused p → AllOlder k.nodes p.node) → (m : Moment)
         → Stands (meanings_of named value) k m → ⊥
-    session_not_all_older all m stands = not_all_older named value known m k stands (stands.matches.broken ∙ unbroken) kept_sound kept_can
+    session_not_all_older all m stands = not_all_older named value known m k stands (stands.matches.broken ∙ unbroken) kept_sound kept_whole
         (without_functions new) kept_done begins.0 begins.1 (all begins.0 begins.1)
 
     -- a stabilize of a session's graph that was refused for depth is one of its script
     pub session_too_deep : (target called calls : ℕ) → ((p : Point) → ChainBegins new.refused p → IsFirstNotOlder k.nodes p.node target)
-        → HasCalledFew old.parts.arena called calls → (m : Moment) → Stands (meanings_of named value) k m
+        → HasCalledMet (functions_of (seen_value value)) old called calls → (m : Moment) → Stands (meanings_of named value) k m
         → IsTooDeep (meanings_of named value) m (record k { broken = Some 21; graph = without_functions new }) target called calls
     session_too_deep target called calls first few m stands =
-        too_deep_stands named value known m k stands (stands.matches.broken ∙ unbroken) kept_sound kept_can (without_functions new) kept_done begins.0 begins.1
+        too_deep_stands named value known m k stands (stands.matches.broken ∙ unbroken) kept_sound kept_whole (without_functions new) kept_done begins.0 begins.1
         target called calls (first begins.0 begins.1)
-        (subst (λ (h : Standing (Unit {0})). HasCalledFew h.parts.arena called calls) (sym same) few)
+        (subst (λ (h : Standing (Unit {0})). HasCalledMet (functions_of (seen_value value)) h called calls) (sym same)
+        (few_without (functions_of (seen_value value)) old called calls few))

@@ -20,7 +20,7 @@ use Rattle.formula_elab.specs.declared.opened.Open.{Open}
 use Rattle.formula_elab.specs.declared.opened.Open.TheVariants as open_def
 use Rattle.formula_elab.specs.declared.opened.Part.{Part}
 use Rattle.formula_elab.specs.declared.opened.Part.TheVariants as part
-use Rattle.graph.specs.Effects.{KeepsBeside}
+use Rattle.graph.specs.Effects.{KeepsBesideGiven}
 use Rattle.graph.specs.Standing.{Standing}
 use Rattle.graph.specs.Known.{CallsKnown}
 use Rattle.node_arena.specs.Arena.{Arena, row_at, live, NamesGiven}
@@ -78,17 +78,17 @@ pub record IsWelcome (known : FnRef → Bool) (a : Arena) (d : Def) : Type 0 whe
 module _ {F : Type 0} where
   -- nodes were added: what was given before is as it was
   pub record Extends (old new : Standing F) : Type 0 where
-    pub beside : KeepsBeside old new
-    pub given : old.parts.arena.given ≤ new.parts.arena.given
-    pub rows : (n : NodeId) → Given old.parts.arena.given n → row_at new.parts.arena n ≡ row_at old.parts.arena n
+    pub beside : KeepsBesideGiven old new
+    pub given : old.nodes.given ≤ new.nodes.given
+    pub rows : (n : NodeId) → Given old.nodes.given n → row_at new.nodes n ≡ row_at old.nodes n
 
   -- over the first graph so many of what is to be made were made in order, each under the next id
   pub record IsMaking (first now : Standing F) (makes : List Open) (made : List NodeId) : Type 0 where
     pub extends : Extends first now
-    pub stands : StandsIn (graph_of now.parts.arena) makes made
+    pub stands : StandsIn (graph_of now.nodes) makes made
     pub types : (i : ℕ) (x : Open) → slice_get makes i ≡ Some x → i < length made
-        → (r : Row) × (row_at now.parts.arena (node_at made i) ≡ Some r) × (r.ty ≡ open_ty x)
-    pub ids : (i : ℕ) → i < length made → (node_at made i).gen_ ≡ first.parts.arena.given + i
-    pub given : now.parts.arena.given ≡ first.parts.arena.given + length made
-    pub new_rows : (n : NodeId) (r : Row) → row_at now.parts.arena n ≡ Some r → (row_at first.parts.arena n ≡ Some r) ⊎ Among n made
-    pub few : live now.parts.arena ≤ live first.parts.arena + length made
+        → (r : Row) × (row_at now.nodes (node_at made i) ≡ Some r) × (r.ty ≡ open_ty x)
+    pub ids : (i : ℕ) → i < length made → (node_at made i).gen_ ≡ first.nodes.given + i
+    pub given : now.nodes.given ≡ first.nodes.given + length made
+    pub new_rows : (n : NodeId) (r : Row) → row_at now.nodes n ≡ Some r → (row_at first.nodes n ≡ Some r) ⊎ Among n made
+    pub few : live now.nodes ≤ live first.nodes + length made

@@ -21,7 +21,15 @@ pub record Kept : Type 0 where
 
 -- the graph but for its functions
 abbrev pub without_functions : {F : Type 0} → Standing F → Standing (Unit {0})
-without_functions s = record { functions = tt; parts = s.parts; observers = s.observers; rooted = s.rooted; refused = s.refused }
+without_functions s = record {
+  functions = tt;
+  nodes = s.nodes;
+  observers = s.observers;
+  rooted = s.rooted;
+  ran = s.ran;
+  refused = s.refused;
+  work = s.work;
+}
 
 -- a library, and what is kept of a script over it
 pub record Script (L : Type 0) : Type 0 where
@@ -38,7 +46,7 @@ node_in nodes n = slice_index_or nodes n no_node
 
 -- the nodes of the graph
 abbrev pub arena_of : Kept → Arena
-arena_of k = k.graph.parts.arena
+arena_of k = k.graph.nodes
 
 -- the live node of a declaration, which has its type, and is a variable where the declaration is; the target's node is the same
 pub record HasNode (a : Arena) (nodes : List NodeId) (n : ℕ) (d : Declared) : Type 0 where

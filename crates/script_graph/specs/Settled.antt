@@ -1,16 +1,17 @@
 -- What is kept of the last accepted stabilize: the pair of state and graph as it left them, and what stands beside the graph since.
-use Rattle.std.specs.Prelude.{◌≡◌, ℕ, suc, true, false, cond, List, [], ◌∷◌, map, take, length, Option, None, Some, IsSome}
+use Rattle.std.specs.Prelude.{◌≡◌, ℕ, suc, false, cond, List, [], ◌∷◌, map, take, length, Option, None, Some, IsSome}
 use Rattle.inc_value.specs.Choice.{Among}
 use Rattle.inc_value.specs.declared.node.NodeId.{NodeId}
 use Rattle.inc_value.specs.declared.node.ObsId.{ObsId}
 use Rattle.inc_terms.specs.Graph.{Graph, Row}
 use Rattle.inc_terms.specs.Need.{Beside, Holder, Observing, Freezing, Observed}
 use Rattle.inc_terms.specs.Within.{Given}
-use Rattle.graph.specs.Standing.{Standing, node_at}
+use Rattle.graph.specs.Standing.{Standing, node_at, called_last, cutoff_of, times_linked}
 use Rattle.graph.specs.declared.observer.Observer.{Observer as Looking}
-use Rattle.link_table.specs.Links.{times}
+use Rattle.map_nodes.specs.declared.cutoff.Cutoff.TheVariants.{Equal}
 use Rattle.node_arena.specs.Arena.{Arena}
 use Rattle.node_arena.specs.Graph.{graph_of}
+use Rattle.node_outcomes.specs.Row.{is_never}
 use Rattle.script_model.specs.Formula.{State, Entry, Observer, Meanings, entry_at}
 use Rattle.script_model.specs.Need.{Named, Needed, Visit, IsVisit, roots}
 use Rattle.script_graph.specs.Kept.{Kept, arena_of, node_in}
@@ -18,7 +19,6 @@ use Rattle.script_graph.specs.Plain.{AllPlain}
 use Rattle.script_graph.specs.Represents.{besides}
 use Rattle.stabilize_round.specs.Calls.{arguments_of}
 use Rattle.stabilize_round.specs.State.{Call}
-use Rattle.stabilizer.specs.Round.{last_call, never_at}
 use Rattle.transfer.specs.Both.{Both, graph_value}
 use Rattle.transfer.specs.Holding.{LinksDepend}
 use Rattle.transfer.specs.Items.{node_of, FormulasStay}
@@ -47,10 +47,10 @@ module _ {A : Type 0} where
   abbrev pub side_of : Standing A → Beside
   side_of g = record {
     roots = root_of g;
-    links = λ p q. times g.parts.work.graph.links p q;
-    last = λ n. arguments_of (last_call g.parts.work n);
+    links = λ p q. times_linked g p q;
+    last = λ n. arguments_of (called_last g n);
     stale = λ n. false;
-    never = λ n. never_at g.parts.work n;
+    never = λ n. is_never (cutoff_of g n);
   }
 
   -- the observers in use
@@ -76,7 +76,7 @@ pub record WasRun (x : Both) (k : Kept) (v : Visit) : Type 0 where
   pub is_node : node_of x v.item ≡ Some node
   pub given : Given (arena_of k).given node
   pub call : Call
-  pub is_last : last_call k.graph.parts.work node ≡ Some call
+  pub is_last : called_last k.graph node ≡ Some call
   pub values_are : call.arguments ≡ map (graph_value x.nodes) v.values
 
 -- what an observer looks at that shows something was a root
@@ -85,7 +85,7 @@ ShownWereRoots before s = (x : Observer) → Among x s.observers → IsSome x.sh
 
 -- the pair as the last accepted stabilize left it: the state then, the nodes of its declarations and the arena. The two fit; what was declared then
 -- is so still; attached links of what is held are of what points depend on there; and each call that was needed then was the last one of its
--- node. No node has cutoff Never
+-- node. Each node has cutoff Equal
 pub record Settled (F : Meanings) (before s : State) (k : Kept) : Type 0 where
   pub nodes : List NodeId
   pub arena : Arena
@@ -97,4 +97,4 @@ pub record Settled (F : Meanings) (before s : State) (k : Kept) : Type 0 where
   pub links : LinksDepend (besides F before nodes arena) (side_of k.graph) (observed_by k.graph)
   pub ran : (v : Visit) → IsVisit F before v → Needed F before v.item → WasRun (besides F before nodes arena) k v
   pub watched : ShownWereRoots before s
-  pub equal : (n : NodeId) → never_at k.graph.parts.work n ≡ true → ⊥
+  pub equal : (n : NodeId) → cutoff_of k.graph n ≡ Equal

@@ -153,13 +153,7 @@ fn run_lines<S: Source, K: Sink, L: Library, R: Report<L>>(
         Ok(lines) => lines,
         Err(AllocError) => return (Ending::Memory, lib),
     };
-    let mut session = match Session::new(alloc, lib) {
-        Ok(session) => session,
-        Err((AllocError, lib)) => {
-            drop(lines);
-            return (Ending::Memory, lib);
-        }
-    };
+    let mut session = Session::new(alloc, lib);
     let mut buffer = Vec::new(alloc);
     let ending = take_lines(
         &mut lines,

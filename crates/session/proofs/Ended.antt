@@ -66,15 +66,16 @@ ends_so old new o h = record {
   was = h.was;
   observers = h.observers;
   functions = refl;
-  arena = h.arena;
+  nodes = h.nodes;
   rooted = h.rooted;
   refused = h.refused;
-  shown = h.shown;
-  last = h.last;
-  cutoffs = h.cutoffs;
-  fewer = h.fewer;
   ran = h.ran;
-  unrooted = h.unrooted;
+  shown = h.shown;
+  chosen = h.chosen;
+  last = h.last;
+  cutoff = h.cutoff;
+  fewer_links = h.fewer_links;
+  fewer_roots = h.fewer_roots;
 }
 
 -- ---- what is kept without the observer

@@ -193,8 +193,8 @@ module _ (k : Kept) (name : List ℕ) (target : ℕ) (o : ObsId) (g : Standing (
   observers_more : g.observers ≡ k.graph.observers ++ record { node = node_in k.nodes target; in_use = true } ∷ []
   observers_more = ap (λ (h : Standing (Unit {0})). h.observers) observes.rest
 
-  arena_same : g.parts.arena ≡ arena_of k
-  arena_same = ap (λ (h : Standing (Unit {0})). h.parts.arena) observes.rest
+  arena_same : g.nodes ≡ arena_of k
+  arena_same = ap (λ (h : Standing (Unit {0})). h.nodes) observes.rest
 
   looks_old : (p : ObsId) → Among p k.observers → IsSome (node_at g.observers p)
   looks_old p among =
@@ -249,9 +249,9 @@ module _ {F : Type 0} (s : Standing F) (unbroken : IsUnbroken s) where
   -- a given node isn't observed for want of memory alone, while there are few observers
   only_memory : (r : Result ObsId GraphFault) (e : GraphFault) (node : NodeId) → r ≡ Err e → IfErr r IsObserveFault
       → ((cause : Cause) → IsErrOf r (fault.Broken cause) ↔ IsBroken s cause)
-      → (IsErrOf r fault.Unknown ↔ (IsUnbroken s × ¬ Given s.parts.arena.given node))
-      → (IsErrOf r fault.TooMany ↔ (IsUnbroken s × (Given s.parts.arena.given node × (2 ^ 32 - 1 ≤ length s.observers))))
-      → Given s.parts.arena.given node → length s.observers < 2 ^ 32 - 1 → e ≡ fault.Memory
+      → (IsErrOf r fault.Unknown ↔ (IsUnbroken s × ¬ Given s.nodes.given node))
+      → (IsErrOf r fault.TooMany ↔ (IsUnbroken s × (Given s.nodes.given node × (2 ^ 32 - 1 ≤ length s.observers))))
+      → Given s.nodes.given node → length s.observers < 2 ^ 32 - 1 → e ≡ fault.Memory
   only_memory r e node is observing broken unknown too_many given few = go (subst (λ (q : Result ObsId GraphFault). IfErr q IsObserveFault) is observing)
     where
       by : {x : GraphFault} → e ≡ x → IsErrOf r x
@@ -266,9 +266,9 @@ module _ {F : Type 0} (s : Standing F) (unbroken : IsUnbroken s) where
   -- so where it isn't observed, memory was wanting
   pub memory_wanting : (r : Result ObsId GraphFault) (node : NodeId) → IfErr r IsObserveFault
       → ((cause : Cause) → IsErrOf r (fault.Broken cause) ↔ IsBroken s cause)
-      → (IsErrOf r fault.Unknown ↔ (IsUnbroken s × ¬ Given s.parts.arena.given node))
-      → (IsErrOf r fault.TooMany ↔ (IsUnbroken s × (Given s.parts.arena.given node × (2 ^ 32 - 1 ≤ length s.observers))))
-      → Given s.parts.arena.given node → length s.observers < 2 ^ 32 - 1 → IfErr r (λ e. e ≡ fault.Memory)
+      → (IsErrOf r fault.Unknown ↔ (IsUnbroken s × ¬ Given s.nodes.given node))
+      → (IsErrOf r fault.TooMany ↔ (IsUnbroken s × (Given s.nodes.given node × (2 ^ 32 - 1 ≤ length s.observers))))
+      → Given s.nodes.given node → length s.observers < 2 ^ 32 - 1 → IfErr r (λ e. e ≡ fault.Memory)
   memory_wanting (Ok o) node observing broken unknown too_many given few = tt
   memory_wanting (Err e) node observing broken unknown too_many given few =
       only_memory (Err e) e node refl observing broken unknown too_many given few

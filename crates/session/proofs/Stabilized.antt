@@ -25,7 +25,7 @@ use Rattle.stabilizer.specs.declared.refused.Refused.TheVariants as refused
 -- ---- what is kept
 
 -- over a graph with the same nodes and observers what is kept fits together, if the graph is unbroken where nothing broke the session
-same_sound : (k : Kept) → IsSound k → (g : Standing (Unit {0})) → g.parts.arena ≡ arena_of k → g.observers ≡ k.graph.observers
+same_sound : (k : Kept) → IsSound k → (g : Standing (Unit {0})) → g.nodes ≡ arena_of k → g.observers ≡ k.graph.observers
     → (accepted : ℕ) (broken : Option ℕ) → (broken ≡ None → IsUnbroken g) → IsSound (record k { accepted = accepted; broken = broken; graph = g })
 same_sound k sound g nodes observers accepted broken unbroken = record {
   one_node_each = sound.one_node_each;
@@ -41,14 +41,14 @@ module _ {A : Type 0} (M : Functions) (k : Kept) (sound : IsSound k) (old new : 
   -- what is kept fits together after a stabilize that was accepted
   pub accepted_sound : Stabilizes M old new → (accepted : ℕ) → IsSound (record k { accepted = accepted; graph = without_functions new })
   accepted_sound done accepted = same_sound k sound (without_functions new)
-      (done.nodes ∙ sym (ap (λ (g : Standing (Unit {0})). g.parts.arena) same))
+      (done.nodes ∙ sym (ap (λ (g : Standing (Unit {0})). g.nodes) same))
       (done.observers ∙ sym (ap (λ (g : Standing (Unit {0})). g.observers) same)) accepted k.broken (λ none. done.unbroken)
 
   -- and after one that was refused and broke the session
   pub refused_sound : (why : Cause) → IsRefusedFor M old new why → (number : ℕ)
       → IsSound (record k { broken = Some number; graph = without_functions new })
   refused_sound why done number = same_sound k sound (without_functions new)
-      (done.nodes ∙ sym (ap (λ (g : Standing (Unit {0})). g.parts.arena) same))
+      (done.nodes ∙ sym (ap (λ (g : Standing (Unit {0})). g.nodes) same))
       (done.observers ∙ sym (ap (λ (g : Standing (Unit {0})). g.observers) same)) k.accepted (Some number) (λ none. absurd (cc))
 
 -- ---- faults

@@ -1,12 +1,8 @@
 //! A script in the making: its names, and the graph of its formulas.
-ghost use Rattle.std.specs.Prelude.{◌≡◌, false, [], None, Some, IfOk, IfErr, OnErr, IsErr, Ok};
-ghost use Rattle.graph.specs.Standing.{IsUnbroken};
-ghost use Rattle.inc_value.specs.declared.node.NodeId.{NodeId as ANode};
-ghost use Rattle.node_arena.specs.Arena.{live, row_at};
+ghost use Rattle.std.specs.Prelude.{◌≡◌, [], None, Some, IfOk, IfErr, OnErr, IsErr, Ok};
 ghost use Rattle.script_model.specs.Formula.{meanings_of};
 ghost use Rattle.script_model.specs.Step.{first_moment};
 ghost use Rattle.script_graph.specs.Kept.{arena_of};
-ghost use Rattle.stabilizer.specs.Round.{never_at};
 ghost use Rattle.script_graph.specs.State.{Stands};
 
 mod declaring;
@@ -70,48 +66,23 @@ impl<L: Library> Model for Script<L> {
 }
 
 impl<L: Library> Script<L> {
-    /// A script before its first line. It owns the library, which comes back where there is no memory.
-    pub(crate) fn new(alloc: Global, library: L) -> Result<Script<L>, (AllocError, L)>
-        ensures library { IfOk result (λ s. s.library ≡ library) }
-        ensures first { IfOk result (λ s. Stands (meanings_of (L.named library) (L.value library)) s.kept first_moment) }
-        ensures accepted { IfOk result (λ s. s.kept.accepted ≡ 0) }
-        ensures given { IfOk result (λ s. (arena_of s.kept).given ≡ 0) }
-        ensures observers { IfOk result (λ s. s.kept.graph.observers ≡ []) }
-        ensures handed_back { IfErr result (λ e. e.1 ≡ library) }
+    /// A script before its first line. It owns the library. This takes no memory.
+    pub(crate) fn new(alloc: Global, library: L) -> Script<L>
+        ensures library { result.library ≡ library }
+        ensures first { Stands (meanings_of (L.named library) (L.value library)) result.kept first_moment }
+        ensures accepted { result.kept.accepted ≡ 0 }
+        ensures given { (arena_of result.kept).given ≡ 0 }
+        ensures observers { result.kept.graph.observers ≡ [] }
     {
-        match Graph::new(alloc, ScriptFns::new(alloc, library)) {
-            Ok(graph) => Script::over(alloc, graph),
-            Err((fault, functions)) => Err((fault, functions.into_library())),
-        }
-    }
-
-    /// A script before its first line, over a graph without nodes.
-    fn over(alloc: Global, graph: Graph<ScriptFns<L>>) -> Result<Script<L>, (AllocError, L)>
-        requires nodes { (n : ANode) → row_at graph.parts.arena n ≡ None }
-        requires cutoffs { (n : ANode) → never_at graph.parts.work n ≡ false }
-        requires live { live graph.parts.arena ≡ 0 }
-        requires given { graph.parts.arena.given ≡ 0 }
-        requires observers { graph.observers ≡ [] }
-        requires unbroken { IsUnbroken graph }
-        ensures library { IfOk result (λ s. s.library ≡ graph.functions.library) }
-        ensures first { let l = graph.functions.library in IfOk result (λ s. Stands (meanings_of (L.named l) (L.value l)) s.kept first_moment) }
-        ensures accepted { IfOk result (λ s. s.kept.accepted ≡ 0) }
-        ensures given { IfOk result (λ s. (arena_of s.kept).given ≡ 0) }
-        ensures observers { IfOk result (λ s. s.kept.graph.observers ≡ []) }
-        ensures handed_back { IfErr result (λ e. e.1 ≡ graph.functions.library) }
-    {
-        match Names::new(alloc) {
-            Ok(names) => Ok(Script {
-                alloc,
-                graph,
-                names,
-                nodes: Vec::new(alloc),
-                observers: Vec::new(alloc),
-                room: PLACE_LIMIT,
-                accepted: 0,
-                broken: None,
-            }),
-            Err(fault) => Err((fault, graph.into_functions().into_library())),
+        Script {
+            alloc,
+            graph: Graph::new(alloc, ScriptFns::new(alloc, library)),
+            names: Names::new(alloc),
+            nodes: Vec::new(alloc),
+            observers: Vec::new(alloc),
+            room: PLACE_LIMIT,
+            accepted: 0,
+            broken: None,
         }
     }
 

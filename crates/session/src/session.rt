@@ -1,5 +1,5 @@
 //! Sessions.
-ghost use Rattle.std.specs.Prelude.{◌≡◌, ℕ, ◌<◌, ◌≤◌, ◌+◌, ◌^◌, List, length, IsTrue, IfOk, IfErr, OnOk, OnErr};
+ghost use Rattle.std.specs.Prelude.{◌≡◌, ℕ, ◌<◌, ◌≤◌, ◌+◌, ◌^◌, List, length, IsTrue, IfOk, OnOk, OnErr};
 ghost use Rattle.inc_value.specs.declared.function.FnRef.{FnRef};
 ghost use Rattle.script_model.specs.Step.{Moment, first_moment};
 
@@ -39,20 +39,16 @@ impl<L: Library> Session<L> {
     ghost use Rattle.script_model.specs.Formula.{meanings_of};
     ghost use Rattle.session.specs.Taken.{AsksStabilize, KeepsUnlessAccepted, Takes, Stops};
 
-    /// A session before its first line. It owns the library, which comes back where there is no memory.
-    pub fn new(alloc: Global, library: L) -> Result<Session<L>, (AllocError, L)>
-        ensures library { IfOk result (λ s. s.library ≡ library) }
-        ensures lines { IfOk result (λ s. s.lines ≡ 0) }
-        ensures first { IfOk result (λ s. Stands (meanings_of (L.named library) (L.value library)) s.kept first_moment) }
-        ensures handed_back { IfErr result (λ e. e.1 ≡ library) }
+    /// A session before its first line. It owns the library. This takes no memory.
+    pub fn new(alloc: Global, library: L) -> Session<L>
+        ensures library { result.library ≡ library }
+        ensures lines { result.lines ≡ 0 }
+        ensures first { Stands (meanings_of (L.named library) (L.value library)) result.kept first_moment }
     {
-        match Script::new(alloc, library) {
-            Ok(script) => Ok(Session {
-                alloc,
-                script,
-                lines: 0,
-            }),
-            Err(refused) => Err(refused),
+        Session {
+            alloc,
+            script: Script::new(alloc, library),
+            lines: 0,
         }
     }
 

@@ -71,7 +71,8 @@ pub record StaysCalled (G G' : Graph) (n : NodeId) : Type 0 where
   pub frozen : G'.frozen n ≡ G.frozen n
   pub lists : G'.lists n ≡ G.lists n
 
-costs_at : (G G' : Graph) (n : NodeId) → StaysCalled G G' n → cost_at G n ≡ cost_at G' n
+-- what so stays costs as much
+pub costs_at : (G G' : Graph) (n : NodeId) → StaysCalled G G' n → cost_at G n ≡ cost_at G' n
 costs_at G G' n h =
     ap (λ (x : Option Row). row_cost G n x) h.before
     ∙ ap or_none (sym (cost_same G G' n h.frozen h.lists h.row.def)) ∙ sym (ap (λ (x : Option Row). row_cost G' n x) h.after)
@@ -79,7 +80,6 @@ costs_at G G' n h =
 both_sums : (a b c d : ℕ) → a ≡ b → c ≡ d → a + c ≡ b + d
 both_sums a b c d e e' = rw (e, e') refl
 
--- what so stays costs as much
 pub costs_same : (G G' : Graph) (ns : List NodeId) → ((n : NodeId) → Among n ns → StaysCalled G G' n) → costs_of G ns ≡ costs_of G' ns
 costs_same G G' [] stays = refl
 costs_same G G' (n ∷ ns) stays =

@@ -336,7 +336,8 @@ module _ (F : Functions) (z : Start) (s : State) (inv : Invariant F z s) (quiet 
     accounts = record {
       once = inv.accounts.once;
       called = λ m a. called_stays m (inv.accounts.called m a);
-      kept = inv.accounts.kept;
+      costs = inv.accounts.costs;
+      kept = λ m r row a. elim (inv.accounts.kept m r row a) [ inl e ↦ inl e | inr c ↦ inr (called_stays m c.0, c.1) ];
       count = inv.accounts.count;
       answers = inv.accounts.answers;
       cutoffs = inv.accounts.cutoffs;

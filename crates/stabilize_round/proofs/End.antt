@@ -21,9 +21,9 @@ use Rattle.inc_terms.proofs.Local.{main_sees}
 use Rattle.inc_terms.proofs.Plan.{among_left, among_right, plan_depends, depends_plan}
 use Rattle.inc_terms.proofs.Walk.{low_is_not_deep}
 use Rattle.stabilize_round.specs.State.{State, Start, Call, Stage, Bare, Gated, Static, Full, Linked, count}
-use Rattle.stabilize_round.specs.Invariant.{Invariant, Recalls}
+use Rattle.stabilize_round.specs.Invariant.{Invariant, Recalls, HasCalled}
 use Rattle.stabilize_round.specs.Moves.{Quiet}
-use Rattle.stabilize_round.specs.Calling.{IsAnswer}
+use Rattle.stabilize_round.specs.Calling.{IsAnswer, cost_at}
 use Rattle.stabilize_round.specs.Freezing.{fires, row_fires, fires_at}
 use Rattle.stabilize_round.specs.Ended.{RootsAre, Fires, Ended, unsettled}
 use Rattle.stabilize_round.proofs.Freezing.{Firing, firing, firing_fires}
@@ -162,9 +162,10 @@ module _ (F : Functions) (z : Start) (s : State) (inv : Invariant F z s) (quiet 
   ]
 
   renewed : (n : NodeId) (r : Row) (kids : List NodeId) (values : List Value) → z.stale n ≡ true → s.needed (main n) ≡ true
-      → s.graph.row n ≡ Some r → taken_by s.graph n r.def ≡ Some kids → GiveAll F s.graph kids values → Among n s.ran
-  renewed n r kids values st need row takes gives = elim (bool_cases (s.settled (main n))) [
-    | inl h ↦ inv.accounts.renewed n r kids values st h row takes gives
+      → s.graph.row n ≡ Some r → taken_by s.graph n r.def ≡ Some kids → GiveAll F s.graph kids values → 0 < cost_at s.graph n
+      → Among n s.ran
+  renewed n r kids values st need row takes gives some = elim (bool_cases (s.settled (main n))) [
+    | inl h ↦ inv.accounts.renewed n r kids values st h row takes gives some
     | inr h ↦ absurd (let a = unmarked n r row need in let b = inv.accounts.marked n h in cc)
   ]
 
@@ -174,9 +175,9 @@ module _ (F : Functions) (z : Start) (s : State) (inv : Invariant F z s) (quiet 
       → taken_by s.graph n r.def ≡ Some (kid ∷ [])
   kept_single kid f r n is none = rw (is, none) refl
 
-  fired_by_call : (n : NodeId) (v : Value) (h : Firing (s.graph.row n) (s.graph.frozen n) (s.last n) v) → Among n s.ran → Fires F s.graph n v
-  fired_by_call n v h a =
-      let c = inv.accounts.called n a in
+  fired_by_call : (n : NodeId) (v : Value) (h : Firing (s.graph.row n) (s.graph.frozen n) (s.last n) v)
+      → HasCalled F z s.graph s.died s.root s.settled s.last n → Fires F s.graph n v
+  fired_by_call n v h c =
       let mine = h.is_row in let its = c.is_row in
       let rows : c.row ≡ h.row = cc in
       let takes = kept_single h.kid h.predicate h.row n h.is_freeze h.keeps_none in
@@ -204,15 +205,17 @@ module _ (F : Functions) (z : Start) (s : State) (inv : Invariant F z s) (quiet 
   fired n v e =
       let h = firing (s.graph.row n) (s.graph.frozen n) (s.last n) v e in
       elim (among_or_not n s.ran) [
-        | inl a ↦ fired_by_call n v h a
-        | inr no_ ↦ absurd (
-            let kept = inv.accounts.kept n h.row h.is_row no_ in
-            let none : fires h.row.def (s.graph.frozen n) (s.last n) ≡ None =
-            ap (λ (x : Option Call). fires h.row.def (s.graph.frozen n) x) kept ∙ inv.accounts.unfired n h.row h.is_row in
-            let some : fires h.row.def (s.graph.frozen n) (s.last n) ≡ Some v =
-            sym (ap (λ (x : Option Row). row_fires x (s.graph.frozen n) (s.last n)) h.is_row) ∙ e in
-            cc
-            )
+        | inl a ↦ fired_by_call n v h (inv.accounts.called n a)
+        | inr no_ ↦ elim (inv.accounts.kept n h.row h.is_row no_) [
+          | inr c ↦ fired_by_call n v h c.0
+          | inl kept ↦ absurd (
+              let none : fires h.row.def (s.graph.frozen n) (s.last n) ≡ None =
+              ap (λ (x : Option Call). fires h.row.def (s.graph.frozen n) x) kept ∙ inv.accounts.unfired n h.row h.is_row in
+              let some : fires h.row.def (s.graph.frozen n) (s.last n) ≡ Some v =
+              sym (ap (λ (x : Option Row). row_fires x (s.graph.frozen n) (s.last n)) h.is_row) ∙ e in
+              cc
+              )
+        ]
       ]
 
   fires_now : (n : NodeId) (v : Value) → Fires F s.graph n v → fires_at s n ≡ Some v
@@ -260,6 +263,7 @@ module _ (F : Functions) (z : Start) (s : State) (inv : Invariant F z s) (quiet 
     local = λ p o. agrees p (under p o);
     sees = λ n o. main_sees F s.graph s.out n (low (main n) (under (main n) o)).exact;
     recalls = recalls;
+    costs = inv.accounts.costs;
     kept = inv.accounts.kept;
     once = inv.accounts.once;
     ran = inv.accounts.called;

@@ -55,13 +55,14 @@ module _ (F : Functions) (z : Start) (s : State) (entry : Entry F z s) where
     accounts = record {
       once = rw entry.ran tt;
       called = λ n a. none_ran n a;
-      kept = λ n r row h. sym (entry.last n);
+      costs = λ n a. none_ran n a;
+      kept = λ n r row h. inl (sym (entry.last n));
       count = rw (entry.ran, entry.calls) none_yet;
       answers = entry.answers;
       cutoffs = λ n. sym (entry.never n);
       marked = λ n h. sym (entry.stale n);
       unmarked = λ n h. not_settled (main n) h;
-      renewed = λ n r kids values st h row takes gives. not_settled (main n) h;
+      renewed = λ n r kids values st h row takes gives some. not_settled (main n) h;
       unfired = λ n r row. ap (λ (x : Option Call). fires r.def (s.graph.frozen n) x) (entry.last n)
           ∙ sym (ap (λ (x : Option Row). row_fires x (s.graph.frozen n) (s.last n)) row) ∙ entry.unfired n;
     };

@@ -378,7 +378,8 @@ module _ (F : Functions) (z : Start) (s : State) (inv : Invariant F z s) (p : Po
     accounts = record {
       once = inv.accounts.once;
       called = λ n a. called_root n (inv.accounts.called n a);
-      kept = inv.accounts.kept;
+      costs = inv.accounts.costs;
+      kept = λ n r row a. elim (inv.accounts.kept n r row a) [ inl e ↦ inl e | inr c ↦ inr (called_root n c.0, c.1) ];
       count = inv.accounts.count;
       answers = inv.accounts.answers;
       cutoffs = inv.accounts.cutoffs;

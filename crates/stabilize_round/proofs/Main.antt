@@ -21,8 +21,8 @@ use Rattle.inc_terms.proofs.Local.{main_sees}
 use Rattle.inc_terms.proofs.Plan.{among_left, among_right, plan_depends, depends_plan}
 use Rattle.stabilize_round.specs.State.{State, Start, Call, Stage, Bare, Gated, Static, Full, Linked, count, ghost_plan, at_point, at_node}
 use Rattle.stabilize_round.specs.Invariant.{Invariant, Web, Rows, Waits, IsRight, IsDone, Recalls, Settled, Strict, MetNow, from_held, LastSettled}
-use Rattle.stabilize_round.specs.Invariant.{HasCalled, Accounts}
-use Rattle.stabilize_round.specs.Moves.{Quiet, Calls, ran_more, computed, StepMain}
+use Rattle.stabilize_round.specs.Invariant.{HasCalled, Accounts, AccountsOf}
+use Rattle.stabilize_round.specs.Moves.{Quiet, Calls, ran_more, calls_of, computed, StepMain}
 use Rattle.inc_terms.specs.Work.{taken_by}
 use Rattle.stabilize_round.specs.Calling.{made_stale, IsAnswer, cost_at}
 use Rattle.stabilize_round.proofs.Reasons.{reason_more, since_start}
@@ -362,9 +362,8 @@ module _ (F : Functions) (z : Start) (s : State) (inv : Invariant F z s) (quiet 
   is_met : MetNow F z G s.died s.root (main n)
   is_met = elim (inv.met.needed (main n) need) [ inl m ↦ m | inr h ↦ from_held h move.is_row (exact_here move.row move.is_row).0 here ]
 
-  not_ran : (m : NodeId) → Among m s.ran → n ≡ m → ⊥
-  not_ran m a e =
-      let c = inv.accounts.called m a in
+  not_called : (m : NodeId) → HasCalled F z G s.died s.root s.settled s.last m → n ≡ m → ⊥
+  not_called m c e =
       let st : s.settled (main n) ≡ true = subst (λ (y : NodeId). s.settled (main y) ≡ true) (sym e) c.is_settled in
       let x = inv.settled.twice (main n) st move.taken.heap in cc
 
@@ -374,23 +373,24 @@ module _ (F : Functions) (z : Start) (s : State) (inv : Invariant F z s) (quiet 
     | inl e ↦ absurd (let x : Main ≡ Change = inv.settled.twice (main n) e move.taken.heap in cc)
   ]
 
-  called_stays : (m : NodeId) → Among m s.ran → HasCalled F z G s.died s.root (at_point (main n) true s.settled) (at_node n last' s.last) m
-  called_stays m a =
-      let c = inv.accounts.called m a in
-      record {
-        row = c.row;
-        kids = c.kids;
-        values = c.values;
-        result = c.result;
-        is_row = c.is_row;
-        takes = c.takes;
-        answers = c.answers;
-        is_settled = settled_more (main m) c.is_settled;
-        met = c.met;
-        gives = c.gives;
-        is_last = node_other n last' s.last m (not_ran m a) ∙ c.is_last;
-        reason = reason_more settled_more c.reason;
-      }
+  abbrev CalledNow : NodeId → Type 0
+  CalledNow m = HasCalled F z G s.died s.root (at_point (main n) true s.settled) (at_node n last' s.last) m
+
+  called_stays : (m : NodeId) → HasCalled F z G s.died s.root s.settled s.last m → CalledNow m
+  called_stays m c = record {
+    row = c.row;
+    kids = c.kids;
+    values = c.values;
+    result = c.result;
+    is_row = c.is_row;
+    takes = c.takes;
+    answers = c.answers;
+    is_settled = settled_more (main m) c.is_settled;
+    met = c.met;
+    gives = c.gives;
+    is_last = node_other n last' s.last m (not_called m c) ∙ c.is_last;
+    reason = reason_more settled_more c.reason;
+  }
 
   -- the children on whose values the function is called are exact
   at_kid : (kids : List NodeId) → taken_by G n move.row.def ≡ Some kids → (q : Point) → Among q (map main kids) → Linked s (main n) q
@@ -414,95 +414,98 @@ module _ (F : Functions) (z : Start) (s : State) (inv : Invariant F z s) (quiet 
   ]
 
   -- a node that was made stale runs
-  renewed : (was : Bool) → Calls F s n move.row.def last' was → (m : NodeId) (r : Row) (kids : List NodeId) (values : List Value)
+  renewed : (ns : List NodeId) → ((m : NodeId) → Among m s.ran → Among m ns)
+      → (z.stale n ≡ true → (kids : List NodeId) (values : List Value) → taken_by G n move.row.def ≡ Some kids → GiveAll F G kids values
+      → 0 < cost_at G n → Among n ns) → (m : NodeId) (r : Row) (kids : List NodeId) (values : List Value)
       → z.stale m ≡ true → at_point (main n) true s.settled (main m) ≡ true → G.row m ≡ Some r → taken_by G m r.def ≡ Some kids
-      → GiveAll F G kids values → Among m (ran_more n was s.ran)
-  renewed was h m r kids values st settled row takes gives = elim (node_or_other n m) [
-    | inr ne ↦ more_ran was (inv.accounts.renewed m r kids values st
-        (sym (at_other (main n) true s.settled (main m) (λ e. ne (ap (λ (p : Point). p.node) e))) ∙ settled) row takes gives)
-    | inl e ↦ subst (λ (y : NodeId). Among y (ran_more n was s.ran)) e (by_call was h
+      → GiveAll F G kids values → 0 < cost_at G m → Among m ns
+  renewed ns more mine m r kids values st settled row takes gives some = elim (node_or_other n m) [
+    | inr ne ↦ more m (inv.accounts.renewed m r kids values st
+        (sym (at_other (main n) true s.settled (main m) (λ e. ne (ap (λ (p : Point). p.node) e))) ∙ settled) row takes gives some)
+    | inl e ↦ subst (λ (y : NodeId). Among y ns) e (by_row
         (subst (λ (y : NodeId). z.stale y ≡ true) (sym e) st) (subst (λ (y : NodeId). G.row y ≡ Some r) (sym e) row)
-        (subst (λ (y : NodeId). taken_by G y r.def ≡ Some kids) (sym e) takes))
+        (subst (λ (y : NodeId). taken_by G y r.def ≡ Some kids) (sym e) takes) (subst (λ (y : NodeId). 0 < cost_at G y) (sym e) some))
   ]
     where
-      more_ran : (was : Bool) → Among m s.ran → Among m (ran_more n was s.ran)
-      more_ran true a = inr a
-      more_ran false a = a
-
-      by_call : (was : Bool) → Calls F s n move.row.def last' was → z.stale n ≡ true → G.row n ≡ Some r → taken_by G n r.def ≡ Some kids
-          → Among n (ran_more n was s.ran)
-      by_call true h st row takes = inl refl
-      by_call false h st row takes =
-          let mine = move.is_row in
+      by_row : z.stale n ≡ true → G.row n ≡ Some r → taken_by G n r.def ≡ Some kids → 0 < cost_at G n → Among n ns
+      by_row st row takes some =
+          let is = move.is_row in
           let same : r ≡ move.row = cc in
-          let takes' : taken_by G n move.row.def ≡ Some kids = subst (λ (y : Row). taken_by G n y.def ≡ Some kids) same takes in
-          absurd ((h.1 kids values takes' (gives_gathered F G s.out kids values (kid_sees kids takes') gives)).3
-          (made_stale (inv.accounts.marked n not_settled ∙ st)))
+          mine st kids values (subst (λ (y : Row). taken_by G n y.def ≡ Some kids) same takes) gives some
 
-  accounts : (was : Bool) → called ≡ was → Calls F s n move.row.def last' was → Accounts F z after
-  accounts false is h =
+  -- it runs: with a reason it is called
+  not_left : Calls F s n move.row.def last' false → z.stale n ≡ true → (kids : List NodeId) (values : List Value)
+      → taken_by G n move.row.def ≡ Some kids → GiveAll F G kids values → ⊥
+  not_left h st kids values takes gives =
+      (h.1 kids values takes (gives_gathered F G s.out kids values (kid_sees kids takes) gives)).3 (made_stale (inv.accounts.marked n not_settled ∙ st))
+
+  -- the last call of a node that isn't settled is that with which the round began
+  last_here : s.last n ≡ z.last n
+  last_here = elim (inv.accounts.kept n move.row move.is_row (λ a. not_called n (inv.accounts.called n a) refl)) [
+    | inl e ↦ e
+    | inr c ↦ absurd (not_called n c.0 refl)
+  ]
+
+  -- what is kept of another node stays
+  kept_other : (m : NodeId) (r : Row) → G.row m ≡ Some r → (n ≡ m → ⊥) → (Among m s.ran → ⊥)
+      → (at_node n last' s.last m ≡ z.last m) ⊎ (CalledNow m × (cost_at G m ≡ 0))
+  kept_other m r row ne a = elim (inv.accounts.kept m r row a) [
+    | inl e ↦ inl (node_other n last' s.last m ne ∙ e)
+    | inr c ↦ inr (called_stays m c.0, c.1)
+  ]
+
+  abbrev AccountsWith : List NodeId → Type 0
+  AccountsWith ns = AccountsOf F z G s.died s.root (at_point (main n) true s.settled) (at_node n last' s.last) s.never (at_node n false s.stale) ns calls'
+
+  -- the function wasn't called
+  uncalled : called ≡ false → Calls F s n move.row.def last' false → AccountsWith s.ran
+  uncalled is h =
+      let mine : at_node n last' s.last n ≡ s.last n = node_same n last' s.last ∙ h.0 in
       let same : (m : NodeId) → at_node n last' s.last m ≡ s.last m = λ m. elim (node_or_other n m) [
-        | inl e ↦ let b = node_same n last' s.last in subst (λ (y : NodeId). at_node n last' s.last y ≡ s.last y) e (b ∙ h.0)
+        | inl e ↦ subst (λ (y : NodeId). at_node n last' s.last y ≡ s.last y) e mine
         | inr ne ↦ node_other n last' s.last m ne
       ] in
       record {
-        once = rw is inv.accounts.once;
-        called = λ m a. called_stays m (rw is at a);
-        kept = λ m r row a. same m ∙ inv.accounts.kept m r row (λ x. a (rw is x));
-        count = rw is (none_more inv.accounts.count (rw is at move.count));
+        once = inv.accounts.once;
+        called = λ m a. called_stays m (inv.accounts.called m a);
+        costs = inv.accounts.costs;
+        kept = λ m r row a. elim (inv.accounts.kept m r row a) [ inl e ↦ inl (same m ∙ e) | inr c ↦ inr (called_stays m c.0, c.1) ];
+        count = none_more inv.accounts.count (rw is at move.count);
         answers = λ m r kids c row def l. inv.accounts.answers m r kids c row def (sym (same m) ∙ l);
         cutoffs = inv.accounts.cutoffs;
         marked = marked;
         unmarked = unmarked;
-        renewed = rw is (renewed false h);
+        renewed = renewed s.ran (λ m a. a) (λ st kids values takes gives some. absurd (not_left h st kids values takes gives));
         unfired = inv.accounts.unfired;
       }
-  accounts true is h =
-      let fresh_here : Among n s.ran → ⊥ = λ a. not_ran n a refl in
-      let gives = gathered_gives F G s.out h.0 h.1 (kid_sees h.0 h.3) h.4 in
-      let mine : at_node n last' s.last n ≡ Some (record { arguments = h.1; result = h.2 }) = node_same n last' s.last ∙ h.6 in
-      let mine_called : HasCalled F z G s.died s.root (at_point (main n) true s.settled) (at_node n last' s.last) n = record {
-        row = move.row;
-        kids = h.0;
-        values = h.1;
-        result = h.2;
-        is_row = move.is_row;
-        takes = h.3;
-        answers = h.7;
-        is_settled = at_same (main n) true s.settled;
-        met = is_met;
-        gives = gives;
-        is_last = mine;
-        reason = reason_more settled_more (since_start (inv.accounts.kept n move.row move.is_row fresh_here) inv.accounts.cutoffs
-            (inv.accounts.marked n not_settled) h.5);
-      } in
-      record {
-        once = rw is (fresh_here, inv.accounts.once);
-        called = λ m a. called_more m (rw is at a) mine_called;
-        kept = λ m r row a. let a' : Among m (n ∷ s.ran) → ⊥ = λ x. a (rw is x) in
-            node_other n last' s.last m (λ e. a' (inl (sym e))) ∙ inv.accounts.kept m r row (λ x. a' (inr x));
-        count = rw is (subst (λ (k : ℕ). RoseBy z.calls k calls') (sym (sum_by-cons (cost_at G) n s.ran))
-            (more_on inv.accounts.count (rw is at move.count)));
-        answers = λ m r kids c row def l. elim (node_or_other n m) [
-          | inl e ↦ by_call m r kids c row def e (subst (λ (y : NodeId). at_node n last' s.last y ≡ Some c) (sym e) l) h
-          | inr ne ↦ inv.accounts.answers m r kids c row def (sym (node_other n last' s.last m ne) ∙ l)
-        ];
-        cutoffs = inv.accounts.cutoffs;
-        marked = marked;
-        unmarked = unmarked;
-        renewed = rw is (renewed true h);
-        unfired = inv.accounts.unfired;
-      }
-    where
-      called_more : (m : NodeId) → Among m (n ∷ s.ran) → HasCalled F z G s.died s.root (at_point (main n) true s.settled) (at_node n last' s.last) n
-          → HasCalled F z G s.died s.root (at_point (main n) true s.settled) (at_node n last' s.last) m
-      called_more m (inl e) c = subst (λ (y : NodeId). HasCalled F z G s.died s.root (at_point (main n) true s.settled) (at_node n last' s.last) y)
-          (sym e) c
-      called_more m (inr a) c = called_stays m a
 
-      by_call : (m : NodeId) (r : Row) (kids : List NodeId) (c : Call) → G.row m ≡ Some r → taken_by G m r.def ≡ Some kids → n ≡ m
-          → at_node n last' s.last n ≡ Some c → Calls F s n move.row.def last' true → IsAnswer F r.def c.arguments c.result
-      by_call m r kids c row def e l h =
+  -- it was, as its children gave other values or for another reason
+  now_called : Calls F s n move.row.def last' true → CalledNow n
+  now_called h = record {
+    row = move.row;
+    kids = h.0;
+    values = h.1;
+    result = h.2;
+    is_row = move.is_row;
+    takes = h.3;
+    answers = h.7;
+    is_settled = at_same (main n) true s.settled;
+    met = is_met;
+    gives = gathered_gives F G s.out h.0 h.1 (kid_sees h.0 h.3) h.4;
+    is_last = node_same n last' s.last ∙ h.6;
+    reason = reason_more settled_more (since_start last_here inv.accounts.cutoffs (inv.accounts.marked n not_settled) h.5);
+  }
+
+  -- what calls gave is what functions give
+  answers_now : Calls F s n move.row.def last' true → (m : NodeId) (r : Row) (kids : List NodeId) (c : Call) → G.row m ≡ Some r
+      → taken_by G m r.def ≡ Some kids → at_node n last' s.last m ≡ Some c → IsAnswer F r.def c.arguments c.result
+  answers_now h m r kids c row def l = elim (node_or_other n m) [
+    | inl e ↦ by_call e (subst (λ (y : NodeId). at_node n last' s.last y ≡ Some c) (sym e) l)
+    | inr ne ↦ inv.accounts.answers m r kids c row def (sym (node_other n last' s.last m ne) ∙ l)
+  ]
+    where
+      by_call : n ≡ m → at_node n last' s.last n ≡ Some c → IsAnswer F r.def c.arguments c.result
+      by_call e l =
           let row' : G.row n ≡ Some r = subst (λ (y : NodeId). G.row y ≡ Some r) (sym e) row in
           let is' = move.is_row in
           let same : r ≡ move.row = cc in
@@ -511,6 +514,61 @@ module _ (F : Functions) (z : Start) (s : State) (inv : Invariant F z s) (quiet 
           let cs : record { arguments = h.1; result = h.2 } ≡ c = cc in
           subst (λ (y : Row). IsAnswer F y.def c.arguments c.result) (sym same)
           (subst (λ (x : Call). IsAnswer F move.row.def x.arguments x.result) cs h.7)
+
+  -- that took no call
+  called_free : called ≡ true → Calls F s n move.row.def last' true → cost_at G n ≡ 0 → AccountsWith s.ran
+  called_free is h free = record {
+    once = inv.accounts.once;
+    called = λ m a. called_stays m (inv.accounts.called m a);
+    costs = inv.accounts.costs;
+    kept = λ m r row a. elim (node_or_other n m) [
+      | inl e ↦ inr (subst (λ (y : NodeId). CalledNow y × (cost_at G y ≡ 0)) e (now_called h, free))
+      | inr ne ↦ kept_other m r row ne a
+    ];
+    count = none_more inv.accounts.count (subst (λ (k : ℕ). RoseBy s.calls k calls') free (rw is at move.count));
+    answers = answers_now h;
+    cutoffs = inv.accounts.cutoffs;
+    marked = marked;
+    unmarked = unmarked;
+    renewed = renewed s.ran (λ m a. a) (λ st kids values takes gives some. absurd (omega arith));
+    unfired = inv.accounts.unfired;
+  }
+
+  -- or some
+  called_some : called ≡ true → Calls F s n move.row.def last' true → 0 < cost_at G n → AccountsWith (n ∷ s.ran)
+  called_some is h some = record {
+    once = ((λ a. not_called n (inv.accounts.called n a) refl), inv.accounts.once);
+    called = λ m a. called_more m a;
+    costs = λ m a. costs_more m a;
+    kept = λ m r row a. kept_other m r row (λ e. a (inl (sym e))) (λ x. a (inr x));
+    count = subst (λ (k : ℕ). RoseBy z.calls k calls') (sym (sum_by-cons (cost_at G) n s.ran)) (more_on inv.accounts.count (rw is at move.count));
+    answers = answers_now h;
+    cutoffs = inv.accounts.cutoffs;
+    marked = marked;
+    unmarked = unmarked;
+    renewed = renewed (n ∷ s.ran) (λ m a. inr a) (λ st kids values takes gives more. inl refl);
+    unfired = inv.accounts.unfired;
+  }
+    where
+      called_more : (m : NodeId) → Among m (n ∷ s.ran) → CalledNow m
+      called_more m (inl e) = subst CalledNow (sym e) (now_called h)
+      called_more m (inr a) = called_stays m (inv.accounts.called m a)
+
+      costs_more : (m : NodeId) → Among m (n ∷ s.ran) → 0 < cost_at G m
+      costs_more m (inl e) = subst (λ (y : NodeId). 0 < cost_at G y) (sym e) some
+      costs_more m (inr a) = inv.accounts.costs m a
+
+  accounts : (was : Bool) → called ≡ was → Calls F s n move.row.def last' was → Accounts F z after
+  accounts false is h =
+      subst AccountsWith (sym (ap (λ (b : Bool). ran_more n (calls_of b (cost_at G n)) s.ran) is)) (uncalled is h)
+  accounts true is h = by_cost (cost_at G n) refl
+    where
+      ran_is : (k : ℕ) → cost_at G n ≡ k → ran_more n (calls_of called (cost_at G n)) s.ran ≡ ran_more n k s.ran
+      ran_is k e = ap (λ (b : Bool). ran_more n (calls_of b (cost_at G n)) s.ran) is ∙ ap (λ (i : ℕ). ran_more n i s.ran) e
+
+      by_cost : (k : ℕ) → cost_at G n ≡ k → Accounts F z after
+      by_cost zero e = subst AccountsWith (sym (ran_is zero e)) (called_free is h e)
+      by_cost (suc k) e = subst AccountsWith (sym (ran_is (suc k) e)) (called_some is h (omega (arith, e)))
 
   last_settled : LastSettled after
   last_settled q e = let same : main n ≡ q = cc in

@@ -1,5 +1,5 @@
 -- Building a bind anew keeps the invariant.
-use Rattle.std.proofs.Common.{◌≡◌, ◌⊎◌, inl, inr, ℕ, Bool, true, List, [], ◌∷◌, map, Option, None, Some, refl, sym, ap, subst, ◌∙◌}
+use Rattle.std.proofs.Common.{◌≡◌, ◌⊎◌, inl, inr, ℕ, ◌<◌, Bool, true, List, [], ◌∷◌, map, Option, None, Some, refl, sym, ap, subst, ◌∙◌}
 use Rattle.std.proofs.lemmas.Bool.{cases_lt}
 use Rattle.inc_value.specs.declared.function.FnKind.{FnKind}
 use Rattle.inc_value.specs.declared.function.FnRef.{FnRef}
@@ -33,10 +33,10 @@ use Rattle.stabilize_round.proofs.Points.{same_or_other, node_or_other}
 use Rattle.stabilize_round.proofs.Low.{plan_links}
 use Rattle.inc_terms.proofs.Seeing.{looks, own_same}
 use Rattle.inc_terms.specs.Work.{taken_by}
-use Rattle.stabilize_round.specs.Calling.{IsAnswer, costs_of}
+use Rattle.stabilize_round.specs.Calling.{IsAnswer, cost_at, costs_of}
 use Rattle.stabilize_round.specs.Counts.{RoseBy}
 use Rattle.stabilize_round.specs.Freezing.{fires}
-use Rattle.stabilize_round.proofs.Calling.{taken_same, costs_same}
+use Rattle.stabilize_round.proofs.Calling.{taken_same, StaysCalled, costs_at, costs_same}
 use Rattle.stabilize_round.proofs.Freezing.{never_called}
 use Rattle.stabilize_round.proofs.Planned.{recalls_same, reads_taken, looks_main}
 use Rattle.stabilize_round.proofs.Main.{main_change}
@@ -437,16 +437,20 @@ module _ (F : Functions) (z : Start) (s : State) (inv : Invariant F z s) (b : No
         reason = c.reason;
       }
 
+  called_rows : (n : NodeId) → HasCalled F z G s.died s.root s.settled s.last n → StaysCalled G G' n
+  called_rows n c = record {
+    row = c.row;
+    before = c.is_row;
+    after = row_stays n (q_kept (main n) (inv.settled.done (main n) c.is_settled)) ∙ c.is_row;
+    frozen = move.rebuilt.frozen n (q_given (main n) (inv.settled.done (main n) c.is_settled));
+    lists = move.rebuilt.lists n (q_given (main n) (inv.settled.done (main n) c.is_settled));
+  }
+
+  cost_after : (n : NodeId) → HasCalled F z G s.died s.root s.settled s.last n → cost_at G n ≡ cost_at G' n
+  cost_after n c = costs_at G G' n (called_rows n c)
+
   costs_after : costs_of G s.ran ≡ costs_of G' s.ran
-  costs_after = costs_same G G' s.ran (λ n a.
-      let c = inv.accounts.called n a in
-      record {
-        row = c.row;
-        before = c.is_row;
-        after = row_stays n (q_kept (main n) (inv.settled.done (main n) c.is_settled)) ∙ c.is_row;
-        frozen = move.rebuilt.frozen n (q_given (main n) (inv.settled.done (main n) c.is_settled));
-        lists = move.rebuilt.lists n (q_given (main n) (inv.settled.done (main n) c.is_settled));
-      })
+  costs_after = costs_same G G' s.ran (λ n a. called_rows n (inv.accounts.called n a))
 
   gives_all_before : (ks : List NodeId) (vs : List Value) → ((k : NodeId) → Among (main k) (map main ks) → P k) → GiveAll F G' ks vs → GiveAll F G ks vs
   gives_all_before [] [] given h = tt
@@ -456,8 +460,8 @@ module _ (F : Functions) (z : Start) (s : State) (inv : Invariant F z s) (b : No
       (gives_before k (given k (inl refl)) _ h.0, gives_all_before ks vs (λ m a. given m (inr a)) h.1)
 
   renewed_after : (n : NodeId) (r : Row) (kids : List NodeId) (values : List Value) → z.stale n ≡ true → s.settled (main n) ≡ true
-      → G'.row n ≡ Some r → taken_by G' n r.def ≡ Some kids → GiveAll F G' kids values → Among n s.ran
-  renewed_after n r kids values st settled row' takes gives =
+      → G'.row n ≡ Some r → taken_by G' n r.def ≡ Some kids → GiveAll F G' kids values → 0 < cost_at G' n → Among n s.ran
+  renewed_after n r kids values st settled row' takes gives some =
       let d = inv.settled.done (main n) settled in
       let k = q_kept (main n) d in
       let row : G.row n ≡ Some r = sym (row_stays n k) ∙ row' in
@@ -468,6 +472,13 @@ module _ (F : Functions) (z : Start) (s : State) (inv : Invariant F z s) (b : No
       inv.accounts.renewed n r kids values st settled row takes' (gives_all_before kids values (λ k a. dep_given (main n) (main k) (q_given (main n) d)
       (q_links (main n) d (main k) (among_right (main k) (gate_of d.row.scope) _
       (among_left (main k) (fixed_reads G n d.row.def Main) _ (reads_taken G n d.row.def kids (main k) takes_d a))))) gives)
+      (subst (λ (k : ℕ). 0 < k) (sym (costs_at G G' n (record {
+        row = r;
+        before = row;
+        after = row';
+        frozen = move.rebuilt.frozen n (q_given (main n) d);
+        lists = move.rebuilt.lists n (q_given (main n) d);
+      }))) some)
 
   unfired_after : (n : NodeId) (r : Row) → G'.row n ≡ Some r → fires r.def (G'.frozen n) (z.last n) ≡ None
   unfired_after n r row' = elim (cases_lt n.gen_ s.given) [
@@ -484,10 +495,14 @@ module _ (F : Functions) (z : Start) (s : State) (inv : Invariant F z s) (b : No
     | inr le ↦ absurd (let x = move.beside.new_last n le in cc)
   ]
 
-  last_after : (n : NodeId) (r : Row) → G'.row n ≡ Some r → (Among n s.ran → ⊥) → made.last n ≡ z.last n
+  last_after : (n : NodeId) (r : Row) → G'.row n ≡ Some r → (Among n s.ran → ⊥)
+      → (made.last n ≡ z.last n) ⊎ (HasCalled F z G' died' s.root s.settled made.last n × (cost_at G' n ≡ 0))
   last_after n r row' a = elim (cases_lt n.gen_ s.given) [
-    | inl lt ↦ let k = alive n r lt row' in move.beside.last n r row' lt ∙ inv.accounts.kept n r k.1 a
-    | inr le ↦ move.beside.new_last n le ∙ sym (move.given.start.last n le)
+    | inl lt ↦ elim (inv.accounts.kept n r (alive n r lt row').1 a) [
+      | inl e ↦ inl (move.beside.last n r row' lt ∙ e)
+      | inr c ↦ inr (called_after n c.0, sym (cost_after n c.0) ∙ c.1)
+    ]
+    | inr le ↦ inl (move.beside.new_last n le ∙ sym (move.given.start.last n le))
   ]
 
   built_after : (n : NodeId) (r : Row) (o : Outcome) → G'.row n ≡ Some r → out' (change n) ≡ Some o → IsBuilt F G' n r.def o
@@ -629,6 +644,7 @@ module _ (F : Functions) (z : Start) (s : State) (inv : Invariant F z s) (b : No
       accounts = record {
         once = inv.accounts.once;
         called = λ n a. called_after n (inv.accounts.called n a);
+        costs = λ n a. subst (λ (k : ℕ). 0 < k) (cost_after n (inv.accounts.called n a)) (inv.accounts.costs n a);
         kept = last_after;
         count = subst (λ (k : ℕ). RoseBy z.calls k s.calls) costs_after inv.accounts.count;
         answers = answers_after;

@@ -14,7 +14,7 @@ use Rattle.inc_terms.specs.Depend.{Depends, main, change, subject_of}
 use Rattle.inc_terms.specs.Local.{shown, by_sight, Agrees, Exact, Scoped, IsRooted, IsBuilt}
 use Rattle.inc_terms.specs.Plan.{targets}
 use Rattle.inc_terms.specs.Work.{taken_by}
-use Rattle.stabilize_round.specs.Calling.{Reason, IsAnswer, costs_of}
+use Rattle.stabilize_round.specs.Calling.{Reason, IsAnswer, cost_at, costs_of}
 use Rattle.stabilize_round.specs.Freezing.{fires}
 use Rattle.stabilize_round.specs.Counts.{RoseBy}
 use Rattle.stabilize_round.specs.State.{State, Start, Call, Stage, Bare, Gated, Static, Full, count, plan_at}
@@ -166,14 +166,17 @@ pub record HasCalled (F : Functions) (z : Start) (G : Graph) (died : NodeId → 
   pub answers : IsAnswer F row.def values result
   pub reason : Reason z.last z.never settled z.stale n kids values
 
--- each function was called once at most, and what it wasn't called for stays; what calls gave is what the function gives; cutoffs stay; a node is
--- marked stale until its main is settled, and then its function was called where its children give values; no freeze fires by what it was last called on
--- when the round began
+-- each function was called for a node once at most, with one call at least; for others their last calls stay, but for a node that takes no call: a fold
+-- of no nodes keeps that it was computed on none. What calls gave is what the function gives; cutoffs stay; a node is marked stale until its main is
+-- settled, and then its function was called where its children give values and it takes a call; no freeze fires by what it was last called on when the
+-- round began
 pub record AccountsOf (F : Functions) (z : Start) (G : Graph) (died : NodeId → Option NodeId) (root : Point → ℕ) (settled : Point → Bool)
     (last : NodeId → Option Call) (never stale : NodeId → Bool) (ran : List NodeId) (calls : ℕ) : Type 0 where
   pub once : NoRepeats ran
   pub called : (n : NodeId) → Among n ran → HasCalled F z G died root settled last n
-  pub kept : (n : NodeId) (r : Row) → G.row n ≡ Some r → (Among n ran → ⊥) → last n ≡ z.last n
+  pub costs : (n : NodeId) → Among n ran → 0 < cost_at G n
+  pub kept : (n : NodeId) (r : Row) → G.row n ≡ Some r → (Among n ran → ⊥)
+      → (last n ≡ z.last n) ⊎ (HasCalled F z G died root settled last n × (cost_at G n ≡ 0))
   pub count : RoseBy z.calls (costs_of G ran) calls
   pub answers : (n : NodeId) (r : Row) (kids : List NodeId) (c : Call) → G.row n ≡ Some r → taken_by G n r.def ≡ Some kids → last n ≡ Some c
       → IsAnswer F r.def c.arguments c.result
@@ -181,7 +184,7 @@ pub record AccountsOf (F : Functions) (z : Start) (G : Graph) (died : NodeId →
   pub marked : (n : NodeId) → settled (main n) ≡ false → stale n ≡ z.stale n
   pub unmarked : (n : NodeId) → settled (main n) ≡ true → stale n ≡ false
   pub renewed : (n : NodeId) (r : Row) (kids : List NodeId) (values : List Value) → z.stale n ≡ true → settled (main n) ≡ true
-      → G.row n ≡ Some r → taken_by G n r.def ≡ Some kids → GiveAll F G kids values → Among n ran
+      → G.row n ≡ Some r → taken_by G n r.def ≡ Some kids → GiveAll F G kids values → 0 < cost_at G n → Among n ran
   pub unfired : (n : NodeId) (r : Row) → G.row n ≡ Some r → fires r.def (G.frozen n) (z.last n) ≡ None
 
 -- those of a state

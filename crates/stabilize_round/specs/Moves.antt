@@ -1,5 +1,5 @@
 -- What a round does to its state, move by move.
-use Rattle.std.specs.Prelude.{◌≡◌, ◌⊎◌, ◌≤◌, ℕ, true, false, Bool, List, ◌∷◌, Option, Some}
+use Rattle.std.specs.Prelude.{◌≡◌, ◌⊎◌, ◌≤◌, ℕ, zero, suc, true, false, Bool, List, ◌∷◌, Option, Some}
 use Rattle.inc_value.specs.declared.node.NodeId.{NodeId}
 use Rattle.inc_value.specs.declared.node.Point.{Point}
 use Rattle.inc_value.specs.declared.outcome.Outcome.{Outcome}
@@ -42,15 +42,15 @@ Calls F s n def last' true =
     × (last' ≡ Some (record { arguments = values; result = result }))
     × IsAnswer F def values result
 
--- the nodes whose functions were called, with this one where its was
-abbrev pub ran_more : NodeId → Bool → List NodeId → List NodeId
-ran_more n true ns = n ∷ ns
-ran_more n false ns = ns
-
 -- a main calls its function as often as it takes, or not at all
 abbrev pub calls_of : Bool → ℕ → ℕ
 calls_of true cost = cost
 calls_of false cost = 0
+
+-- the nodes whose functions were called, with this one where so many calls are one at least
+abbrev pub ran_more : NodeId → ℕ → List NodeId → List NodeId
+ran_more n zero ns = ns
+ran_more n (suc k) ns = n ∷ ns
 
 -- a main was computed; where its node was made stale it isn't any more
 abbrev pub computed : State → NodeId → Outcome → (Point → Bool) → Option Call → Bool → ℕ → State
@@ -59,7 +59,7 @@ computed s n o heap' last' called calls' = record s {
   settled = at_point (main n) true s.settled;
   heap = heap';
   last = at_node n last' s.last;
-  ran = ran_more n called s.ran;
+  ran = ran_more n (calls_of called (cost_at s.graph n)) s.ran;
   calls = calls';
   taken = Some (main n);
   stale = at_node n false s.stale;

@@ -1,5 +1,5 @@
 -- What the parts keep stays so while a point is taken from the heap, settled, or put back.
-use Rattle.std.proofs.Common.{◌≡◌, ◌≢◌, inl, inr, ℕ, ◌≤◌, Bool, true, Option, None, Some, refl, sym, ap, subst, ◌∙◌, arith}
+use Rattle.std.proofs.Common.{◌≡◌, ◌≢◌, inl, inr, ℕ, ◌≤◌, true, Option, None, Some, refl, sym, ap, subst, ◌∙◌, arith}
 use Rattle.std.specs.Prelude.{is_some}
 use Rattle.inc_value.specs.Choice.{Among}
 use Rattle.inc_value.specs.declared.node.NodeId.{NodeId}
@@ -119,8 +119,8 @@ module _ (arena : Arena) (old : Work) (g : NecessaryPart) (rest : g ≡ record o
 some_row : (a b : Progress) → ◌≡◌ {A = Option Progress} (Some a) (Some b) → a ≡ b
 some_row a b e = cc
 
-module _ (arena : Arena) (old new : Work) (n : NodeId) (o : Outcome) (last : Option Call) (called : Bool)
-    (kept : IsKept arena old) (w : IsSettled old new n o last called) (step : IsInStep new.graph) (pairs : new.pairs ≡ old.pairs)
+module _ (arena : Arena) (old new : Work) (n : NodeId) (o : Outcome) (last : Option Call) (made : ℕ)
+    (kept : IsKept arena old) (w : IsSettled old new n o last made) (step : IsInStep new.graph) (pairs : new.pairs ≡ old.pairs)
     (typed : (r : Row) (v : Value) → row_at arena n ≡ Some r → o ≡ Val v → IsOfType arena v r.ty)
     (answer_typed : (r : Row) (c : Call) → row_at arena n ≡ Some r → last ≡ Some c → IsOfType arena c.result r.ty) where
   abbrev fresh : Progress

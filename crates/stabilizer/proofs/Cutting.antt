@@ -16,8 +16,8 @@ use Rattle.stabilize_round.specs.State.{State, Start}
 use Rattle.stabilize_round.proofs.Points.{same_or_other, node_or_other}
 use Rattle.stabilizer.specs.Kept.{IsKept}
 use Rattle.stabilizer.specs.Places.{ChangesNode, for_parts}
-use Rattle.stabilizer.specs.Round.{IsReady, never_at}
-use Rattle.node_outcomes.specs.Row.{IsRewritten, with_cutoff, settled_in, stage_of, never_in}
+use Rattle.stabilizer.specs.Round.{IsReady, never_at, cutoff_at}
+use Rattle.node_outcomes.specs.Row.{IsRewritten, with_cutoff, settled_in, stage_of, never_in, cutoff_in}
 use Rattle.stabilizer.specs.Stands.{Stands}
 use Rattle.node_outcomes.specs.declared.row.Progress.{Progress}
 use Rattle.stabilizer.specs.declared.work.Work.{Work}
@@ -152,13 +152,13 @@ module _ (arena : Arena) (old : Work) (rows : Rows Progress) (id : NodeId) (c : 
 
 -- ---- cutoffs stay
 
-pub rows_cutoffs : (old new : Work) → KeepsRows old.rows new.rows → (n : NodeId) → never_at new n ≡ never_at old n
-rows_cutoffs old work same n = ap never_in (same (main n))
+pub rows_cutoffs : (old new : Work) → KeepsRows old.rows new.rows → (n : NodeId) → cutoff_at new n ≡ cutoff_at old n
+rows_cutoffs old work same n = ap cutoff_in (same (main n))
 
 -- a new node's is Equal, as that of a node that isn't there
 pub added_cutoffs : (old new : Work) (id : NodeId) (def : Def) → at old.rows (main id) ≡ None
-    → ChangesNode old.rows new.rows id (for_parts def (λ part. unsettled)) → (n : NodeId) → never_at new n ≡ never_at old n
+    → ChangesNode old.rows new.rows id (for_parts def (λ part. unsettled)) → (n : NodeId) → cutoff_at new n ≡ cutoff_at old n
 added_cutoffs old new id def none rows n = elim (node_or_other id n) [
-  | inl e ↦ subst (λ (x : NodeId). never_at new x ≡ never_at old x) e (ap never_in (rows.now Main) ∙ sym (ap never_in none))
-  | inr ne ↦ ap never_in (rows.others (main n) (λ h. ne (sym h)))
+  | inl e ↦ subst (λ (x : NodeId). cutoff_at new x ≡ cutoff_at old x) e (ap cutoff_in (rows.now Main) ∙ sym (ap cutoff_in none))
+  | inr ne ↦ ap cutoff_in (rows.others (main n) (λ h. ne (sym h)))
 ]

@@ -1,5 +1,5 @@
 -- A node that isn't needed is dropped.
-use Rattle.std.proofs.Common.{◌≡◌, ◌≢◌, inl, inr, ℕ, true, ◌<◌, ◌≤◌, Option, None, Some, refl, sym, ap, subst, ◌∙◌, arith}
+use Rattle.std.proofs.Common.{◌≡◌, ◌≢◌, inl, inr, ℕ, ◌<◌, ◌≤◌, Option, None, Some, refl, sym, ap, subst, ◌∙◌, arith}
 use Rattle.std.specs.Prelude.{is_some}
 use Rattle.std.proofs.lemmas.Option.{none-some}
 use Rattle.inc_value.specs.declared.node.NodeId.{NodeId}
@@ -15,12 +15,13 @@ use Rattle.necessary_graph.specs.Part.{Needed, IsInStep}
 use Rattle.node_arena.specs.Arena as nodes
 use Rattle.node_arena.specs.Arena.{Arena, row_at}
 use Rattle.node_outcomes.specs.Computing.{has_part}
-use Rattle.node_outcomes.specs.Row.{never_in, outcome_in}
+use Rattle.node_outcomes.specs.Row.{cutoff_in, outcome_in}
 use Rattle.stabilize_round.proofs.Points.{node_or_other}
 use Rattle.stabilizer.specs.Between.{Stays, HasDropped}
 use Rattle.stabilizer.specs.Kept.{IsKept}
 use Rattle.stabilizer.specs.Places.{ChangesNode}
-use Rattle.stabilizer.specs.Round.{IsReady, never_at}
+use Rattle.map_nodes.specs.declared.cutoff.Cutoff.TheVariants.{Equal}
+use Rattle.stabilizer.specs.Round.{IsReady, cutoff_at}
 use Rattle.stabilizer.specs.Wiring.{KeepsRound}
 use Rattle.node_outcomes.specs.declared.row.Progress.{Progress}
 use Rattle.stabilizer.specs.declared.work.Work.{Work}
@@ -138,11 +139,13 @@ module _ (before arena arena' : Arena) (old work work' : Work) (count : ℕ) (id
     older = λ n h. dropped.others n (younger n h) ∙ so_far.older n h;
     given = given ∙ so_far.given;
     rows = λ p h. rows.others p (younger p.node h) ∙ so_far.rows p h;
-    cutoffs = λ n h. ap never_in (rows.others (main n) (younger n h) ∙ so_far.rows (main n) h);
-    fewer_cutoffs = λ n h. elim (node_or_other n id) [
-      | inl is ↦ absurd (let none = ap never_in (rows.now Main) in
-          let had : never_in (at work'.rows (main id)) ≡ true = subst (λ (x : NodeId). never_at work' x ≡ true) is h in cc)
-      | inr ne ↦ so_far.fewer_cutoffs n (sym (ap never_in (rows.others (main n) ne)) ∙ h)
+    cutoffs = λ n h. ap cutoff_in (rows.others (main n) (younger n h) ∙ so_far.rows (main n) h);
+    other_cutoffs = λ n. elim (node_or_other n id) [
+      | inl is ↦ inr (subst (λ (x : NodeId). cutoff_at work' x ≡ Equal) (sym is) (ap cutoff_in (rows.now Main)))
+      | inr ne ↦ elim (so_far.other_cutoffs n) [
+        | inl e ↦ inl (ap cutoff_in (rows.others (main n) ne) ∙ e)
+        | inr e ↦ inr (ap cutoff_in (rows.others (main n) ne) ∙ e)
+      ]
     ];
     links = links ∙ so_far.links;
     roots = roots ∙ so_far.roots;

@@ -23,6 +23,8 @@ use Rattle.inc_terms.specs.Term.{Functions, refs}
 use Rattle.inc_terms.proofs.Evaluation.{one_outcome}
 use Rattle.inc_terms.proofs.Local.{needed_more}
 use Rattle.inc_terms.proofs.Plan.{among_left, among_right, among_parts, among_map}
+use Rattle.map_nodes.specs.declared.cutoff.Cutoff.{Cutoff}
+use Rattle.map_nodes.specs.declared.cutoff.Cutoff.TheVariants.{Equal, Never}
 use Rattle.point_map.specs.Rows.{at}
 use Rattle.link_table.specs.Links.{Reads}
 use Rattle.necessary_graph.specs.Part as part
@@ -33,13 +35,13 @@ use Rattle.stabilize_round.specs.Calling as reason
 use Rattle.stabilize_round.specs.Calling.{Reason, cost_at, costs_of}
 use Rattle.stabilize_round.specs.Freezing.{fires_at}
 use Rattle.stabilize_round.proofs.Freezing.{other_rests}
-use Rattle.stabilizer.specs.Round.{WasForced, IsReady, AreRooted, last_of, last_call, never_at, WasCalled, IsUpToDate}
+use Rattle.stabilizer.specs.Round.{WasForced, IsReady, AreRooted, last_of, last_call, cutoff_at, WasCalled, IsUpToDate}
 use Rattle.inc_terms.specs.Work.{taken_by}
 use Rattle.stabilize_round.specs.Counts.{RoseBy}
 use Rattle.stabilize_round.proofs.Planned.{reads_taken}
 use Rattle.stabilize_round.specs.Ended.{RootsAre, Ended}
 use Rattle.stabilize_round.specs.Invariant as invariant
-use Rattle.stabilize_round.specs.Invariant.{Invariant, MetNow, Recalls, IsUnmarked}
+use Rattle.stabilize_round.specs.Invariant.{Invariant, MetNow, HasCalled, Recalls, IsUnmarked}
 use Rattle.stabilize_round.specs.Machine.{Entry, Moves}
 use Rattle.stabilize_round.specs.Moves.{Quiet}
 use Rattle.stabilize_round.specs.State.{State, Start, Call, Full, count, planned, plan_at}
@@ -49,7 +51,7 @@ use Rattle.stabilize_round.proofs.Parts.{bool_cases}
 use Rattle.stabilize_round.proofs.Points.{count_among, among_count}
 use Rattle.node_outcomes.specs.Computing.{seen, seen_of, has_part}
 use Rattle.stabilizer.specs.Kept.{IsKept}
-use Rattle.node_outcomes.specs.Row.{settled_in, is_never, never_in, outcome_in}
+use Rattle.node_outcomes.specs.Row.{settled_in, is_never, never_in, cutoff_in, outcome_in}
 use Rattle.stabilizer.specs.Stands.{Stands}
 use Rattle.node_outcomes.specs.declared.row.Progress.{Progress}
 use Rattle.stabilizer.specs.declared.work.Work.{Work}
@@ -106,11 +108,19 @@ last_none : (x : Option Progress) (y : Option Row) → is_some x ≡ is_some y �
 last_none None y same e = refl
 last_none (Some k) y same e = absurd (let h = same ∙ ap is_some e in cc)
 
+-- a cutoff is told by whether it is Never
+same_cutoff : (a b : Cutoff) → is_never a ≡ is_never b → a ≡ b
+same_cutoff Equal Equal is = refl
+same_cutoff Equal Never is = absurd (cc)
+same_cutoff Never Equal is = absurd (cc)
+same_cutoff Never Never is = refl
+
 -- who has a row has the same cutoff
-pub never_case : (x y : Option Progress) → is_some x ≡ is_some y → ((k : Progress) → x ≡ Some k → is_never k.cutoff ≡ never_in y) → never_in x ≡ never_in y
-never_case None None same is = refl
-never_case None (Some k) same is = absurd (cc)
-never_case (Some k) y same is = is k refl
+pub cutoff_case : (x y : Option Progress) → is_some x ≡ is_some y → ((k : Progress) → x ≡ Some k → is_never k.cutoff ≡ never_in y)
+    → cutoff_in x ≡ cutoff_in y
+cutoff_case None None same is = refl
+cutoff_case None (Some k) same is = absurd (cc)
+cutoff_case (Some k) y same is = same_cutoff k.cutoff (cutoff_in y) (is k refl)
 
 -- what nodes give that show what they give, put together
 gathered_by : (F : Functions) (G : Graph) (out : Point → Option Outcome) (ns : List NodeId) (vs : List Value) → GiveAll F G ns vs
@@ -268,8 +278,8 @@ module _ (F : Functions) (arena : Arena) (old mid : Work) (before after : ℕ) (
   last_is n r row = last_case (at mid.rows (main n)) (row_at arena n) r (t.last n) (main_there arena mid kept n) row (λ k e. stands.last n k e)
 
   -- cutoffs stay
-  cutoffs : (n : NodeId) → never_at mid n ≡ never_at old n
-  cutoffs n = never_case (at mid.rows (main n)) (at old.rows (main n)) (main_there arena mid kept n ∙ sym (main_there arena old first n)) (λ k e.
+  cutoffs : (n : NodeId) → cutoff_at mid n ≡ cutoff_at old n
+  cutoffs n = cutoff_case (at mid.rows (main n)) (at old.rows (main n)) (main_there arena mid kept n ∙ sym (main_there arena old first n)) (λ k e.
       sym (stands.never n k e) ∙ (inv.accounts.cutoffs n ∙ begun.never n))
 
   -- the count of calls rose by what each costs
@@ -409,38 +419,26 @@ module _ (F : Functions) (arena : Arena) (old mid : Work) (before after : ℕ) (
         let c = ended.recalls (main n) ((stands.needed (main n)).1 need) r nodes values row refl def all in
         (c.0, last_is n r row ∙ c.1, c.2)
 
-    uncalled : (n : NodeId) → (Among n mid.ran.items → ⊥) → last_call mid n ≡ last_call old n
-    uncalled n not = by_row (row_at arena n) refl
-      where
-        by_row : (x : Option Row) → row_at arena n ≡ x → last_call mid n ≡ last_call old n
-        by_row None e = last_none (at mid.rows (main n)) (row_at arena n) (main_there arena mid kept n) e
-            ∙ sym (last_none (at old.rows (main n)) (row_at arena n) (main_there arena old first n) e)
-        by_row (Some r) e = last_is n r e
-            ∙ (ended.kept n r e (λ a. not (reverse_among n mid.ran.items (subst (λ (ns : List NodeId). Among n ns) stands.ran a)))
-            ∙ begun.last n)
-
     is_met : (p : Point) → MetNow F begun.start G none_died t.root p → Met F G none_died observed (λ (q : Point). part.Needed old.graph q) p
     is_met p (invariant.from_root {r} root way) =
         let l = are.listed r root in
         from_root l.1 (subst (λ (y : Point). Reaches (Depends F G none_died) y p) l.2 way)
     is_met p (invariant.from_held {h} held row stands way) = from_held ((begun.held h).0 held) row stands way
 
-    called : (n : NodeId) → Among n mid.ran.items → WasCalled F arena old mid observed n
-    called n a =
-        let c = ended.ran n (subst (λ (ns : List NodeId). Among n ns) (sym stands.ran) (among_reverse n mid.ran.items a)) in
-        record {
-          row = c.row;
-          nodes = c.kids;
-          values = c.values;
-          result = c.result;
-          is_row = c.is_row;
-          takes = c.takes;
-          answers = c.answers;
-          gives = c.gives;
-          reason = by_reason c.kids c.values c.reason;
-          is_last = last_is n c.row c.is_row ∙ c.is_last;
-          met = is_met (main n) c.met;
-        }
+    was_called : (n : NodeId) → HasCalled F begun.start G none_died t.root last.settled t.last n → WasCalled F arena old mid observed n
+    was_called n c = record {
+      row = c.row;
+      nodes = c.kids;
+      values = c.values;
+      result = c.result;
+      is_row = c.is_row;
+      takes = c.takes;
+      answers = c.answers;
+      gives = c.gives;
+      reason = by_reason c.kids c.values c.reason;
+      is_last = last_is n c.row c.is_row ∙ c.is_last;
+      met = is_met (main n) c.met;
+    }
       where
         by_reason : (kids : List NodeId) (values : List Value) → Reason begun.start.last begun.start.never last.settled begun.start.stale n kids values
             → ((c : Call) → last_call old n ≡ Some c → c.arguments ≡ values → ⊥) ⊎ WasForced old mid kids
@@ -452,6 +450,30 @@ module _ (F : Functions) (arena : Arena) (old mid : Work) (before after : ℕ) (
           sym (ap (λ (r : ℕ). settled_in r (at mid.rows (main kid))) same_round) ∙ (sym (stands.settled (main kid)) ∙ settled),
         )
         by_reason kids values (reason.made_stale marked) = absurd (let x = begun.stale n in cc)
+
+    in_state : (n : NodeId) → Among n mid.ran.items → Among n t.ran
+    in_state n a = subst (λ (ns : List NodeId). Among n ns) (sym stands.ran) (among_reverse n mid.ran.items a)
+
+    called : (n : NodeId) → Among n mid.ran.items → WasCalled F arena old mid observed n
+    called n a = was_called n (ended.ran n (in_state n a))
+
+    costs : (n : NodeId) → Among n mid.ran.items → 0 < cost_at G n
+    costs n a = ended.costs n (in_state n a)
+
+    abbrev IsKeptAt : NodeId → Type 0
+    IsKeptAt n = (last_call mid n ≡ last_call old n) ⊎ (WasCalled F arena old mid observed n × (cost_at G n ≡ 0))
+
+    uncalled : (n : NodeId) → (Among n mid.ran.items → ⊥) → IsKeptAt n
+    uncalled n not = by_row (row_at arena n) refl
+      where
+        by_row : (x : Option Row) → row_at arena n ≡ x → IsKeptAt n
+        by_row None e = inl (last_none (at mid.rows (main n)) (row_at arena n) (main_there arena mid kept n) e
+            ∙ sym (last_none (at old.rows (main n)) (row_at arena n) (main_there arena old first n) e))
+        by_row (Some r) e =
+            elim (ended.kept n r e (λ a. not (reverse_among n mid.ran.items (subst (λ (ns : List NodeId). Among n ns) stands.ran a)))) [
+              | inl k ↦ inl (last_is n r e ∙ (k ∙ begun.last n))
+              | inr c ↦ inr (was_called n c.0, c.1)
+            ]
 
     once : NoRepeats mid.ran.items
     once = once_reverse mid.ran.items (subst (λ (ns : List NodeId). NoRepeats ns) stands.ran ended.once)
@@ -470,12 +492,29 @@ module _ (F : Functions) (arena : Arena) (old mid : Work) (before after : ℕ) (
       cutoffs = cutoffs;
       once = once;
       called = called;
+      costs = costs;
       work = λ beside observers stood are_on calls few. within F arena kept.flat old mid observed (root_observed arena observed) beside observers stood are_on
           mid.ran.items once called calls few;
     }
 
     module _ (new : Work) (graph : new.graph ≡ mid.graph) (rows : new.rows ≡ mid.rows) (pairs : new.pairs ≡ mid.pairs) (todo : new.todo ≡ mid.todo)
         (ran : new.ran.items ≡ []) (strict : new.strict ≡ false) (round : new.round ≡ mid.round + 1) where
+      called_next : (n : NodeId) → WasCalled F arena old mid observed n
+          → WasCalled F arena old (record mid { ran = new.ran; strict = new.strict; round = new.round }) observed n
+      called_next n c = record {
+        row = c.row;
+        nodes = c.nodes;
+        values = c.values;
+        result = c.result;
+        is_row = c.is_row;
+        takes = c.takes;
+        answers = c.answers;
+        gives = c.gives;
+        reason = c.reason;
+        is_last = c.is_last;
+        met = c.met;
+      }
+
       up_next : IsUpToDate F arena old (record mid { ran = new.ran; strict = new.strict; round = new.round }) observed mid.ran.items
       up_next = let up = up_to_date in record {
         rooted = up.rooted;
@@ -486,22 +525,11 @@ module _ (F : Functions) (arena : Arena) (old mid : Work) (before after : ℕ) (
         shallow = up.shallow;
         links = up.links;
         recalls = up.recalls;
-        kept = up.kept;
+        kept = λ n not. elim (up.kept n not) [ inl e ↦ inl e | inr c ↦ inr (called_next n c.0, c.1) ];
         cutoffs = up.cutoffs;
         once = up.once;
-        called = λ n a. let c = up.called n a in record {
-          row = c.row;
-          nodes = c.nodes;
-          values = c.values;
-          result = c.result;
-          is_row = c.is_row;
-          takes = c.takes;
-          answers = c.answers;
-          gives = c.gives;
-          reason = c.reason;
-          is_last = c.is_last;
-          met = c.met;
-        };
+        called = λ n a. called_next n (up.called n a);
+        costs = up.costs;
         work = up.work;
       }
 

@@ -29,13 +29,13 @@ use Rattle.stabilize_round.proofs.Entry.{entry_holds}
 use Rattle.stabilize_round.proofs.Machine.{moves_keep}
 use Rattle.stabilize_round.proofs.Steps.{joined}
 use Rattle.stabilizer.specs.Kept.{IsKept}
-use Rattle.stabilizer.specs.Round.{IsReady, AreRooted, OnlyRoots, HasCalledMet, SettleRefused, ShowsStill, never_at}
+use Rattle.stabilizer.specs.Round.{IsReady, AreRooted, OnlyRoots, HasCalledMet, SettleRefused, ShowsStill, cutoff_at}
 use Rattle.stabilizer.specs.Stands.{Hand, Stands}
 use Rattle.stabilizer.specs.Wiring.{PutsRoots, RootRefused}
 use Rattle.stabilizer.specs.declared.refused.Refused.{Refused}
 use Rattle.stabilizer.specs.declared.work.Work.{Work}
 use Rattle.stabilizer.proofs.Beginning.{Begun, begun, main_there}
-use Rattle.stabilizer.proofs.Ending.{as_graph, never_case, seen_case}
+use Rattle.stabilizer.proofs.Ending.{as_graph, cutoff_case, seen_case}
 use Rattle.stabilizer.proofs.Lawful.{met_as}
 use Rattle.stabilizer.proofs.Remaining.{moves_out}
 
@@ -49,10 +49,10 @@ none_called F arena old observed count = record {
 module _ (F : Functions) (arena : Arena) (old new : Work) (before between : ℕ) (b : Begun F arena old before) (left : Option Hand) (t : State)
     (run : Moves F b.start b.state t) (stands : Stands arena new between left t) where
   -- cutoffs stay
-  cutoffs_still : IsKept arena old → IsKept arena new → (n : NodeId) → never_at new n ≡ never_at old n
+  cutoffs_still : IsKept arena old → IsKept arena new → (n : NodeId) → cutoff_at new n ≡ cutoff_at old n
   cutoffs_still first kept n =
       let inv = moves_keep F b.start b.state t run (entry_holds F b.start b.state b.entry) in
-      never_case (at new.rows (main n)) (at old.rows (main n)) (main_there arena new kept n ∙ sym (main_there arena old first n))
+      cutoff_case (at new.rows (main n)) (at old.rows (main n)) (main_there arena new kept n ∙ sym (main_there arena old first n))
       (λ k e. sym (stands.never n k e) ∙ (inv.accounts.cutoffs n ∙ b.never n))
 
   -- what is shown of a node stays, or is what it gives
@@ -121,7 +121,7 @@ only_still old mid new ps only same p h = only p (subst (λ (n : ℕ). 0 < n) (s
 
 -- a root or its links were refused
 pub roots_cutoffs : (F : Functions) (arena : Arena) (old new : Work) (before : ℕ) → IsReady F arena old → IsKept arena new → (e : Refused)
-    → RootRefused arena old new e → (n : NodeId) → never_at new n ≡ never_at old n
+    → RootRefused arena old new e → (n : NodeId) → cutoff_at new n ≡ cutoff_at old n
 roots_cutoffs F arena old new before ready kept e refused =
     let b = begun F arena old ready before in
     let k = refused F b.start b.state before (entry_holds F b.start b.state b.entry) b.stands in
@@ -143,7 +143,7 @@ module _ (F : Functions) (arena : Arena) (old mid new : Work) (before after : �
   inv = entry_holds F b.start b.state b.entry
 
   -- a step was refused
-  pub steps_cutoffs : IsKept arena new → (n : NodeId) → never_at new n ≡ never_at old n
+  pub steps_cutoffs : IsKept arena new → (n : NodeId) → cutoff_at new n ≡ cutoff_at old n
   steps_cutoffs kept =
       let m = put F b.start b.state before inv b.stands in
       let k = refused b.start m.0 (moves_keep F b.start b.state m.0 m.1 inv) m.2 in

@@ -16,6 +16,9 @@ use Rattle.link_table.specs.Links.{Reads}
 use Rattle.height_order.specs.Levels.{level}
 use Rattle.necessary_graph.specs.Part.{NecessaryPart, IsInStep}
 use Rattle.node_arena.specs.Arena.{Arena}
+use Rattle.node_arena.specs.Graph.{graph_of}
+use Rattle.stabilize_round.specs.Calling.{cost_at}
+use Rattle.stabilize_round.specs.Moves.{calls_of}
 use Rattle.node_outcomes.specs.Computing.{Computes, NotComputed, noted}
 use Rattle.stabilizer.specs.Kept.{IsKept}
 use Rattle.node_outcomes.specs.Row.{IsRewritten, with_last, with_outcome, settled_in, is_never}
@@ -86,7 +89,7 @@ module _ (value : FnRef → List Value → Value) (arena : Arena) (old mid new :
   before_in : (p : Point) → Holds mid.graph.heap p → Holds old.graph.heap p
   before_in p h = subst (λ (g : NecessaryPart). Holds g.heap p) graph_is h
 
-  is_settled : IsSettled old new n o c.last c.called
+  is_settled : IsSettled old new n o c.last (calls_of c.called (cost_at (graph_of arena) n))
   is_settled = record {
     row = c.computed.kept;
     was = was;
@@ -138,7 +141,8 @@ module _ (value : FnRef → List Value → Value) (arena : Arena) (old mid new :
   }
 
   pub main_kept : IsInStep new.graph → new ≡ record mid { graph = new.graph; rows = new.rows } → IsKept arena new
-  main_kept step only = settled_kept arena old new n o c.last c.called kept is_settled step (ap (λ (w : Work). w.pairs) only ∙ rest.pairs) c.typed c.answer_typed
+  main_kept step only = settled_kept arena old new n o c.last (calls_of c.called (cost_at (graph_of arena) n)) kept is_settled step
+      (ap (λ (w : Work). w.pairs) only ∙ rest.pairs) c.typed c.answer_typed
 
 -- ---- what stays where a main is left
 

@@ -12,7 +12,8 @@ use Rattle.inc_value.specs.Choice.{Among}
 use Rattle.inc_terms.specs.Depend.{main, change, subject_of}
 use Rattle.inc_terms.specs.Graph.{Row, Def}
 use Rattle.map_nodes.specs.declared.cutoff.Cutoff.TheVariants.{Equal}
-use Rattle.point_map.specs.Rows.{Rows, at, Changes}
+use Rattle.point_map.specs.Rows.{Rows, at, Changes, KeepsRows}
+use Rattle.point_map.proofs.Places.{point_cases}
 use Rattle.node_outcomes.specs.Computing.{has_part}
 use Rattle.node_outcomes.specs.declared.row.Progress.{Progress}
 use Rattle.node_outcomes.specs.declared.row.Stage.TheVariants.{Bare}
@@ -64,6 +65,23 @@ one_point old new n def a e c none = record { now = now; others = λ p ne. c.oth
     now : (part : Part) → at new (record { node = n; part = part }) ≡ for_parts def (λ x. a) part
     now Main = c.changed
     now Change = c.others (change n) (change_other n n) ∙ (none ∙ sym (ap (option_map (λ m. a)) e))
+
+-- one with a subject has two
+pub two_points : {A : Type 0} (old new : Rows A) (n m : NodeId) (def : Def) (rows : Part → A) → subject_of def ≡ Some m
+    → ChangesNode old new n (λ part. Some (rows part)) → ChangesNode old new n (for_parts def rows)
+two_points old new n m def rows e c = record { now = now; others = c.others }
+  where
+    now : (part : Part) → at new (record { node = n; part = part }) ≡ for_parts def rows part
+    now Main = c.now Main
+    now Change = c.now Change ∙ sym (ap (option_map (λ x. rows Change)) e)
+
+-- a row that comes and goes again
+pub on_and_off : {A : Type 0} (old mid back new : Rows A) (p p1 p2 : Point) (row : Option A) → p1 ≡ p → p2 ≡ p → at old p ≡ None
+    → Changes old mid p1 row → KeepsRows mid back → Changes back new p2 None → KeepsRows old new
+on_and_off old mid back new p p1 p2 row e1 e2 absent on kept off q = elim (point_cases q p) [
+  | inl same ↦ ap (at new) (same ∙ sym e2) ∙ off.changed ∙ sym absent ∙ ap (at old) (sym same)
+  | inr differs ↦ off.others q (λ e. differs (e ∙ e2)) ∙ kept q ∙ on.others q (λ e. differs (e ∙ e1))
+]
 
 -- one for the main, one for the change
 abbrev pub by_part : {A : Type 0} → A → A → Part → A

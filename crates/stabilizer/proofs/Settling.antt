@@ -1,5 +1,5 @@
 -- A main is settled: how the state follows.
-use Rattle.std.proofs.Common.{◌≡◌, ◌⊎◌, inl, inr, ℕ, ◌<◌, Bool, true, false, List, [], ◌∷◌, Option, None, Some, refl, sym, ap, subst, ◌∙◌, arith}
+use Rattle.std.proofs.Common.{◌≡◌, ◌⊎◌, inl, inr, ℕ, zero, suc, ◌<◌, Bool, true, false, List, [], ◌∷◌, Option, None, Some, refl, sym, ap, subst, ◌∙◌, arith}
 use Rattle.std.specs.Prelude.{is_some, reverse, ◌==◌}
 use Rattle.std.proofs.lemmas.Grind.{common_steps}
 use Rattle.std.proofs.lemmas.List.{reverse-append}
@@ -14,8 +14,11 @@ use Rattle.necessity.specs.Need.{Roots, root_times}
 use Rattle.height_order.specs.Levels.{level}
 use Rattle.necessary_graph.specs.Part.{Needed}
 use Rattle.node_arena.specs.Arena.{Arena}
+use Rattle.node_arena.specs.Graph.{graph_of}
+use Rattle.inc_terms.specs.Graph.{Graph}
 use Rattle.stabilize_round.specs.State.{State, Call, Linked, at_point, at_node}
-use Rattle.stabilize_round.specs.Moves.{Enqueues, computed, ran_more}
+use Rattle.stabilize_round.specs.Moves.{Enqueues, computed, calls_of, ran_more}
+use Rattle.stabilize_round.specs.Calling.{cost_at}
 use Rattle.stabilize_round.proofs.Points.{same_or_other, at_same, at_other, node_or_other, node_same, node_other}
 use Rattle.node_outcomes.specs.Computing.{ran_then}
 use Rattle.node_outcomes.specs.Row.{settled_in, stage_of, is_never}
@@ -27,16 +30,19 @@ use Rattle.stabilizer.specs.declared.work.Work.{Work}
 pub same_number : (n : ℕ) → (n == n) ≡ true
 same_number n = grind (arith, common_steps)
 
-ran_is : (called : Bool) (n : NodeId) (ran : List NodeId) → ran_more n called (reverse ran) ≡ reverse (ran_then called ran n)
-ran_is true n ran = sym (reverse-append ran (n ∷ []))
-ran_is false n ran = refl
+ran_is : (made : ℕ) (n : NodeId) (ran : List NodeId) → ran_more n made (reverse ran) ≡ reverse (ran_then made ran n)
+ran_is zero n ran = refl
+ran_is (suc k) n ran = sym (reverse-append ran (n ∷ []))
 
 some_row : (a b : Progress) → ◌≡◌ {A = Option Progress} (Some a) (Some b) → a ≡ b
 some_row a b e = cc
 
 module _ (s : State) (arena : Arena) (old new : Work) (calls calls' : ℕ) (n : NodeId) (o : Outcome) (last' : Option Call) (called : Bool)
-    (st : Stands arena old calls None s) (w : IsSettled old new n o last' called)
+    (st : Stands arena old calls None s) (w : IsSettled old new n o last' (calls_of called (cost_at (graph_of arena) n)))
     (needs : (a : Point) → (Needed new.graph a → Needed old.graph a) × (Needed old.graph a → Needed new.graph a)) where
+  abbrev made : ℕ
+  made = calls_of called (cost_at (graph_of arena) n)
+
   abbrev heap' : Point → Bool
   heap' a = is_some (at new.graph.heap a)
 
@@ -88,7 +94,8 @@ module _ (s : State) (arena : Arena) (old new : Work) (calls calls' : ℕ) (n : 
     todo = λ a t. subst (λ (xs : List Point). Among a xs ⊎ ⊥) (sym w.todo) (st.todo a t);
     strict = st.strict ∙ sym w.strict;
     died = st.died;
-    ran = ap (ran_more n called) st.ran ∙ (ran_is called n old.ran.items ∙ ap reverse (sym w.ran));
+    ran = ap (λ (G : Graph). ran_more n (calls_of called (cost_at G n)) s.ran) st.graph ∙ (ap (ran_more n made) st.ran
+        ∙ (ran_is made n old.ran.items ∙ ap reverse (sym w.ran)));
     calls = refl;
     given = st.given;
   }

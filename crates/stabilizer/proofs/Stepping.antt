@@ -1,5 +1,5 @@
 -- A step of the stabilizer is a step of the machine.
-use Rattle.std.proofs.Common.{◌≡◌, ◌≢◌, ◌⊎◌, inl, inr, ℕ, zero, suc, ◌<◌, ◌≤◌, Bool, true, false, List, Option, None, Some, refl, sym, ap, subst, ◌∙◌, arith}
+use Rattle.std.proofs.Common.{◌≡◌, ◌≢◌, ◌⊎◌, inl, inr, ℕ, zero, suc, ◌<◌, ◌≤◌, true, false, List, Option, None, Some, refl, sym, ap, subst, ◌∙◌, arith}
 use Rattle.std.specs.Prelude.{is_some, reverse, not, ◌==◌}
 use Rattle.inc_value.specs.declared.function.FnRef.{FnRef}
 use Rattle.inc_value.specs.declared.node.NodeId.{NodeId}
@@ -12,7 +12,7 @@ use Rattle.inc_terms.specs.Term.{Functions}
 use Rattle.point_map.specs.Rows.{Rows, at, Holds, Changes}
 use Rattle.point_map.proofs.Places.{point_cases}
 use Rattle.link_table.specs.Links.{Links, times, Reads}
-use Rattle.recompute_heap.specs.Agree.{IsLeast as IsLowest}
+use Rattle.recompute_heap.specs.Agree.{IsLeast as IsLowest, IsEmpty}
 use Rattle.height_order.specs.Levels.{level, or_zero, KeepsPoints}
 use Rattle.necessity.specs.Need.{Roots, root_times}
 use Rattle.necessary_graph.specs.Part.{NecessaryPart, Needed}
@@ -34,7 +34,7 @@ use Rattle.node_outcomes.specs.Meaning.{functions_of}
 use Rattle.node_outcomes.specs.Row.{settled_in}
 use Rattle.stabilizer.specs.Settling.{IsSettled}
 use Rattle.stabilizer.specs.Stands.{Stands}
-use Rattle.stabilizer.specs.Stepping.{MainIsSettled, MainIsLeft, Steps, StepRefused, as_it_was, StepFalls, is_unsettled}
+use Rattle.stabilizer.specs.Stepping.{MainIsSettled, MainIsLeft, TakesLeast, Steps, StepRefused, as_it_was, StepFalls, is_unsettled}
 use Rattle.stabilizer.specs.declared.refused.Refused.{Refused}
 use Rattle.stabilizer.specs.declared.refused.Refused.TheVariants.{Memory}
 use Rattle.stabilizer.specs.Wiring.{KeepsGraph}
@@ -50,13 +50,13 @@ zero_or_more zero = inl refl
 zero_or_more (suc n) = inr (omega arith)
 
 -- a main that was settled after it left the heap was settled
-module _ (old new : Work) (g : NecessaryPart) (p : Point) (n : NodeId) (o : Outcome) (last : Option Call) (called : Bool)
+module _ (old new : Work) (g : NecessaryPart) (p : Point) (n : NodeId) (o : Outcome) (last : Option Call) (made : ℕ)
     (same : p ≡ main n) (graph : KeepsGraph old.graph g) (c : Changes old.graph.heap g.heap p None)
-    (w : IsSettled (record old { graph = g }) new n o last called) where
+    (w : IsSettled (record old { graph = g }) new n o last made) where
   heap_as : (a : Point) → a ≢ main n → at g.heap a ≡ at old.graph.heap a
   heap_as a ne = c.others a (λ e. ne (e ∙ same))
 
-  pub settled_before : IsSettled old new n o last called
+  pub settled_before : IsSettled old new n o last made
   settled_before = record {
     row = w.row;
     was = w.was;
@@ -75,6 +75,16 @@ module _ (old new : Work) (g : NecessaryPart) (p : Point) (n : NodeId) (o : Outc
     strict = w.strict;
     round = w.round;
   }
+
+-- a heap that holds a point isn't empty
+pub not_empty : (heap : Rows ℕ) (p : Point) → Holds heap p → IsEmpty heap → ⊥
+not_empty heap p held empty = absurd (let e : true ≡ false = sym held ∙ ap is_some (empty p) in cc)
+
+-- the parts without the point that was taken
+pub takes_least : (old : Work) (g : NecessaryPart) (p q : Point) → p ≡ q → Holds old.graph.heap p → IsLowest old.graph.heap (level old.graph.heights p)
+    → g ≡ record old.graph { heap = g.heap } → Changes old.graph.heap g.heap p None → TakesLeast old (record old { graph = g }) q
+takes_least old g p q same held low rest c =
+    subst (TakesLeast old (record old { graph = g })) same (record { held = held; least = low; heap = c; graph = rest; rest = refl })
 
 -- what is lowest in the heap is least
 module _ (s : State) (arena : Arena) (old : Work) (calls : ℕ) (kept : IsKept arena old) (st : Stands arena old calls None s) (p : Point)
@@ -96,8 +106,8 @@ module _ (value : FnRef → List Value → Value) (arena : Arena) (old new : Wor
   abbrev F : Functions
   F = functions_of value
 
-  pub w : IsSettled old new n m.outcome m.last m.called
-  w = settled_before old new g p n m.outcome m.last m.called same (heap_graph arena old g rest) c m.settled
+  pub w : IsSettled old new n m.outcome m.last (calls_of m.called (cost_at (graph_of arena) n))
+  w = settled_before old new g p n m.outcome m.last (calls_of m.called (cost_at (graph_of arena) n)) same (heap_graph arena old g rest) c m.settled
 
   pub steps : Steps F arena old new before after
   steps z s inv quiet st = (

@@ -1,5 +1,5 @@
 -- What stands between rounds, of the parts alone, and what calls made there leave.
-use Rattle.std.specs.Prelude.{◌≡◌, ◌⊎◌, ◌<◌, ℕ, true, false, List, [], Option, Some}
+use Rattle.std.specs.Prelude.{◌≡◌, ◌⊎◌, ◌<◌, ℕ, false, List, [], Option, Some}
 use Rattle.inc_value.specs.declared.node.NodeId.{NodeId}
 use Rattle.inc_value.specs.declared.node.Point.{Point}
 use Rattle.inc_value.specs.declared.outcome.Outcome.{Outcome}
@@ -19,7 +19,8 @@ use Rattle.stabilize_round.specs.State.{Call, count}
 use Rattle.stabilize_round.specs.Invariant.{Recalls}
 use Rattle.node_outcomes.specs.Computing.{KeepsAnswers}
 use Rattle.stabilizer.specs.Kept.{IsKept}
-use Rattle.stabilizer.specs.Round.{IsReady, last_call, never_at}
+use Rattle.map_nodes.specs.declared.cutoff.Cutoff.TheVariants.{Equal}
+use Rattle.stabilizer.specs.Round.{IsReady, last_call, cutoff_at}
 use Rattle.node_outcomes.specs.Row.{settled_in, outcome_in}
 use Rattle.stabilizer.specs.Wiring.{KeepsRound}
 use Rattle.node_outcomes.specs.declared.row.Progress.{Progress}
@@ -80,8 +81,8 @@ pub record HasDropped (before arena : Arena) (old work : Work) (count : ℕ) : T
   pub older : (n : NodeId) → n.gen_ < count → row_at arena n ≡ row_at before n
   pub given : arena.given ≡ before.given
   pub rows : (p : Point) → p.node.gen_ < count → at work.rows p ≡ at old.rows p
-  pub cutoffs : (n : NodeId) → n.gen_ < count → never_at work n ≡ never_at old n
-  pub fewer_cutoffs : (n : NodeId) → never_at work n ≡ true → never_at old n ≡ true
+  pub cutoffs : (n : NodeId) → n.gen_ < count → cutoff_at work n ≡ cutoff_at old n
+  pub other_cutoffs : (n : NodeId) → (cutoff_at work n ≡ cutoff_at old n) ⊎ (cutoff_at work n ≡ Equal)
   pub links : work.graph.links ≡ old.graph.links
   pub roots : work.graph.roots ≡ old.graph.roots
   pub heap : work.graph.heap ≡ old.graph.heap

@@ -14,6 +14,7 @@ use Rattle.inc_terms.specs.Plan.{targets}
 use Rattle.inc_terms.specs.Need.{Beside, Observed, nodes_of, Held, Needed, Met}
 use Rattle.inc_terms.specs.Term.{Functions}
 use Rattle.inc_terms.specs.Work.{WithinWork}
+use Rattle.map_nodes.specs.declared.cutoff.Cutoff.{Cutoff}
 use Rattle.link_table.specs.Links.{Reads}
 use Rattle.necessary_graph.specs.Part as part
 use Rattle.necessity.specs.Need.{Roots, root_times}
@@ -22,7 +23,7 @@ use Rattle.node_arena.specs.Graph.{graph_of}
 use Rattle.point_map.specs.Rows.{at}
 use Rattle.stabilize_round.specs.Calls.{arguments_of}
 use Rattle.inc_terms.specs.Work.{taken_by}
-use Rattle.stabilize_round.specs.Calling.{IsAnswer, costs_of}
+use Rattle.stabilize_round.specs.Calling.{IsAnswer, cost_at, costs_of}
 use Rattle.stabilize_round.specs.Counts.{RoseAtMost}
 use Rattle.stabilize_round.specs.Invariant.{Invariant}
 use Rattle.stabilize_round.specs.Machine.{Entry, Moves}
@@ -33,7 +34,7 @@ use Rattle.height_order.specs.Chains.{ReadsWith, StartsAt, EndsAt}
 use Rattle.stabilizer.specs.declared.refused.Refused.{Refused}
 use Rattle.stabilizer.specs.declared.refused.Refused.TheVariants.{Height, Cycle, Full, Memory}
 use Rattle.stabilizer.specs.Kept.{IsKept}
-use Rattle.node_outcomes.specs.Row.{never_in, settled_in, outcome_in}
+use Rattle.node_outcomes.specs.Row.{cutoff_in, is_never, settled_in, outcome_in}
 use Rattle.stabilizer.specs.Refusing.{TellsWhy}
 use Rattle.stabilizer.specs.Stands.{Stands, Hand}
 use Rattle.node_outcomes.specs.declared.row.Progress.{Progress}
@@ -63,9 +64,13 @@ last_of (Some k) = k.last
 abbrev pub last_call : Work → NodeId → Option Call
 last_call work n = last_of (at work.rows (main n))
 
--- the node's cutoff is Never
+-- the node's cutoff, Equal of one that has no row
+abbrev pub cutoff_at : Work → NodeId → Cutoff
+cutoff_at work n = cutoff_in (at work.rows (main n))
+
+-- it is Never
 abbrev pub never_at : Work → NodeId → Bool
-never_at work n = never_in (at work.rows (main n))
+never_at work n = is_never (cutoff_at work n)
 
 -- a child of cutoff Never was settled in the round that began so: the function was called even on the values of its last call
 abbrev pub WasForced : Work → Work → List NodeId → Type 0
@@ -91,7 +96,8 @@ pub record StoodBeside (before : Beside) (work : Work) (observers : List Observe
   pub last : (n : NodeId) → before.last n ≡ arguments_of (last_call work n)
   pub never : (n : NodeId) → before.never n ≡ never_at work n
 
--- after a round that was accepted, with these nodes observed
+-- after a round that was accepted, with these nodes observed. The last call of a node whose function wasn't called stays, but for a node that takes no
+-- call: a fold of no nodes keeps that it was computed on none
 pub record IsUpToDate (F : Functions) (arena : Arena) (old new : Work) (observed : List NodeId) (ran : List NodeId) : Type 0 where
   pub rooted : AreRooted new observed
   pub needs : (p : Point) → part.Needed new.graph p ↔ Needed F (graph_of arena) none_died observed p
@@ -106,10 +112,12 @@ pub record IsUpToDate (F : Functions) (arena : Arena) (old new : Work) (observed
   pub recalls : (n : NodeId) (r : Row) (nodes : List NodeId) (values : List Value) → part.Needed new.graph (main n)
       → row_at arena n ≡ Some r → taken_by (graph_of arena) n r.def ≡ Some nodes → GiveAll F (graph_of arena) nodes values
       → (c : Call) × (last_call new n ≡ Some c) × (c.arguments ≡ values)
-  pub kept : (n : NodeId) → (Among n ran → ⊥) → last_call new n ≡ last_call old n
-  pub cutoffs : (n : NodeId) → never_at new n ≡ never_at old n
+  pub kept : (n : NodeId) → (Among n ran → ⊥)
+      → (last_call new n ≡ last_call old n) ⊎ (WasCalled F arena old new observed n × (cost_at (graph_of arena) n ≡ 0))
+  pub cutoffs : (n : NodeId) → cutoff_at new n ≡ cutoff_at old n
   pub once : NoRepeats ran
   pub called : (n : NodeId) → Among n ran → WasCalled F arena old new observed n
+  pub costs : (n : NodeId) → Among n ran → 0 < cost_at (graph_of arena) n
   pub work : (before : Beside) (observers : List Observed) → StoodBeside before old observers
       → ((n : NodeId) → Among n observed → Among n (nodes_of observers))
       → (calls : ℕ) → calls ≤ costs_of (graph_of arena) ran → WithinWork F (graph_of arena) none_died observers before calls

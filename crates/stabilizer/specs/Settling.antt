@@ -1,5 +1,5 @@
 -- What is done to a main that is settled.
-use Rattle.std.specs.Prelude.{◌≡◌, ◌≢◌, ◌⊎◌, Bool, true, false, Option, Some}
+use Rattle.std.specs.Prelude.{◌≡◌, ◌≢◌, ◌⊎◌, ℕ, true, false, Option, Some}
 use Rattle.inc_value.specs.declared.node.NodeId.{NodeId}
 use Rattle.inc_value.specs.declared.node.Point.{Point}
 use Rattle.inc_value.specs.declared.outcome.Outcome.{Outcome}
@@ -13,9 +13,9 @@ use Rattle.stabilizer.specs.Wiring.{KeepsGraph}
 use Rattle.node_outcomes.specs.declared.row.Progress.{Progress}
 use Rattle.stabilizer.specs.declared.work.Work.{Work}
 
--- a main of the heap was settled on an outcome, with this last call. It left the heap, and where its outcome is another than before, or its cutoff is
+-- a main of the heap was settled on an outcome, with this last call, for which so many calls were made. It left the heap, and where its outcome is another than before, or its cutoff is
 -- Never, the points that read it and weren't settled came in
-pub record IsSettled (old new : Work) (n : NodeId) (o : Outcome) (last : Option Call) (called : Bool) : Type 0 where
+pub record IsSettled (old new : Work) (n : NodeId) (o : Outcome) (last : Option Call) (calls : ℕ) : Type 0 where
   pub row : Progress
   pub was : at old.rows (main n) ≡ Some row
   pub now : at new.rows (main n) ≡ Some (record { stage = row.stage; settled = old.round; outcome = Some o; last = last; cutoff = row.cutoff })
@@ -27,7 +27,7 @@ pub record IsSettled (old new : Work) (n : NodeId) (o : Outcome) (last : Option 
       → Holds new.graph.heap p ⊎ (settled_in old.round (at old.rows p) ≡ true)
   pub only : (p : Point) → p ≢ main n → Holds new.graph.heap p
       → Holds old.graph.heap p ⊎ (Reads old.graph.links p (main n) × (settled_in old.round (at old.rows p) ≡ false))
-  pub ran : new.ran.items ≡ ran_then called old.ran.items n
+  pub ran : new.ran.items ≡ ran_then calls old.ran.items n
   pub todo : new.todo.items ≡ old.todo.items
   pub strict : new.strict ≡ old.strict
   pub round : new.round ≡ old.round

@@ -10,6 +10,8 @@ use Rattle.inc_terms.specs.Depend.{main, change, subject_of}
 use Rattle.inc_terms.specs.Graph.{Row}
 use Rattle.inc_terms.specs.Term.{Functions}
 use Rattle.point_map.specs.Rows.{at, Holds, KeepsRows, Changes}
+use Rattle.recompute_heap.specs.Agree.{IsLeast as IsLowest}
+use Rattle.height_order.specs.Levels.{level}
 use Rattle.node_arena.specs.Arena.{Arena, row_at}
 use Rattle.node_arena.specs.Graph.{graph_of}
 use Rattle.stabilize_round.specs.Calling.{cost_at}
@@ -40,7 +42,7 @@ pub record MainIsSettled (value : FnRef → List Value → Value) (arena : Arena
   pub last : Option Call
   pub called : Bool
   pub computed : IsComputed value arena old.round old.rows n outcome last called
-  pub settled : IsSettled old new n outcome last called
+  pub settled : IsSettled old new n outcome last (calls_of called (cost_at (graph_of arena) n))
   pub count : RoseBy before (calls_of called (cost_at (graph_of arena) n)) after
 
 -- without memory a main stays as it was; some of the calls that it takes may have been made
@@ -79,6 +81,21 @@ pub data ChangeIsLeft (arena : Arena) (old new : Work) (n : NodeId) (e : Refused
   unattached : {turned : Work} → ChangeIsTurned arena old turned n → AttachRefused arena turned new n e → ChangeIsLeft arena old new n e
   unwired : {turned attached : Work} → ChangeIsTurned arena old turned n → Attaches arena turned attached n
       → WireRefused arena attached new None e → ChangeIsLeft arena old new n e
+
+-- the parts without a point of the heap that none there is lower than
+pub record TakesLeast (old taken : Work) (p : Point) : Type 0 where
+  pub held : Holds old.graph.heap p
+  pub least : IsLowest old.graph.heap (level old.graph.heights p)
+  pub heap : Changes old.graph.heap taken.graph.heap p None
+  pub graph : taken.graph ≡ record old.graph { heap = taken.graph.heap }
+  pub rest : taken ≡ record old { graph = taken.graph }
+
+-- a least point left the heap and was settled: a main was computed, or a change that calls no function turned
+pub data SettlesLeast (value : FnRef → List Value → Value) (arena : Arena) (old new : Work) (before after : ℕ) : Type 0 where
+  of_main : {n : NodeId} {taken : Work} → TakesLeast old taken (main n) → MainIsSettled value arena taken new n before after
+      → SettlesLeast value arena old new before after
+  of_change : {n : NodeId} {taken : Work} → TakesLeast old taken (change n) → ChangeIsSettled arena taken new n → after ≡ before
+      → SettlesLeast value arena old new before after
 
 -- from each state that the parts stand for, with the count of calls, a step leads to one that they stand for then
 abbrev pub Steps : Functions → Arena → Work → Work → ℕ → ℕ → Type 0

@@ -1,6 +1,6 @@
 //! The nodes of a graph with all that a stabilizer keeps of them.
-ghost use Rattle.std.specs.Prelude.{ℕ, ◌≡◌, ◌⊎◌, ◌↔◌, ◌+◌, ◌<◌, ◌≤◌, ◌++◌, true, false, [], ◌∷◌, List, None, Some};
-ghost use Rattle.std.specs.Prelude.{IfOk, IfErr, OnOk, OnErr, IsErrOf, option_copied};
+ghost use Rattle.std.specs.Prelude.{ℕ, ◌≡◌, ◌⊎◌, ◌↔◌, ◌+◌, ◌<◌, ◌≤◌, ◌++◌, [], ◌∷◌, List, None, Some};
+ghost use Rattle.std.specs.Prelude.{IfOk, OnOk, OnErr, IsErrOf, option_copied};
 ghost use Rattle.inc_value.specs.declared.node.NodeId.{NodeId};
 ghost use Rattle.inc_value.specs.declared.node.Part.{Part};
 ghost use Rattle.inc_value.specs.declared.node.Point.{Point};
@@ -9,6 +9,7 @@ ghost use Rattle.inc_terms.specs.Depend.{main};
 ghost use Rattle.inc_terms.specs.Term.{Functions};
 ghost use Rattle.inc_terms.specs.Within.{Given, ValueWithin};
 ghost use Rattle.point_map.specs.Rows.{at, Holds, KeepsRows};
+ghost use Rattle.link_table.specs.Links.{times};
 ghost use Rattle.necessity.specs.Need.{IsRoot, OneRootMore};
 ghost use Rattle.necessary_graph.specs.Part.{web, Needed};
 ghost use Rattle.necessary_graph.specs.Sweep.{IsUnrooted};
@@ -18,7 +19,7 @@ ghost use Rattle.node_outcomes.specs.Row.{IsRewritten, outcome_in, with_cutoff};
 ghost use Rattle.stabilizer.specs.Between.{KeepsWork};
 ghost use Rattle.stabilizer.specs.Kept.{IsKept};
 ghost use Rattle.stabilizer.specs.Places.{ChangesNode, for_parts};
-ghost use Rattle.stabilizer.specs.Round.{IsReady, AreRooted, never_at};
+ghost use Rattle.stabilizer.specs.Round.{IsReady, AreRooted, cutoff_at};
 
 use crate::work::Work;
 use inc_terms::Def;
@@ -39,24 +40,23 @@ pub struct Parts {
 }
 
 impl Parts {
-    /// No nodes. The error is want of memory.
-    pub fn new(alloc: Global) -> Result<Parts, AllocError>
-        ensures ready { IfOk result (λ p. (F : Functions) → IsReady F p.arena p.work) }
-        ensures empty { IfOk result (λ p. (n : NodeId) → row_at p.arena n ≡ None) }
-        ensures live { IfOk result (λ p. live p.arena ≡ 0) }
-        ensures given { IfOk result (λ p. p.arena.given ≡ 0) }
-        ensures roots { IfOk result (λ p. AreRooted p.work []) }
-        ensures ran { IfOk result (λ p. p.ran.items ≡ []) }
-        ensures cutoffs { IfOk result (λ p. (n : NodeId) → never_at p.work n ≡ false) }
+    /// No nodes. This takes no memory.
+    pub fn new(alloc: Global) -> Parts
+        ensures ready { (F : Functions) → IsReady F result.arena result.work }
+        ensures empty { (n : NodeId) → row_at result.arena n ≡ None }
+        ensures live { live result.arena ≡ 0 }
+        ensures given { result.arena.given ≡ 0 }
+        ensures roots { AreRooted result.work [] }
+        ensures ran { result.ran.items ≡ [] }
+        ensures rows { (a : Point) → at result.work.rows a ≡ None }
+        ensures links { (a b : Point) → times result.work.graph.links a b ≡ 0 }
     {
-        let work = Work::new(alloc)?;
-        work.graph.stands();
-        Ok(Parts {
+        Parts {
             alloc,
             arena: Arena::new(alloc),
-            work,
+            work: Work::new(alloc),
             ran: Vec::new(alloc),
-        })
+        }
     }
 
     /// The nodes.
@@ -94,8 +94,8 @@ impl Parts {
             self.new.work.graph.heights id (for_parts (def_of def) h)) }
         ensures rows { (p : Point) → Given self.old.arena.given p.node
             → at self.new.work.rows p ≡ at self.old.work.rows p }
-        ensures cutoffs { (n : NodeId) → never_at self.new.work n ≡ never_at self.old.work n }
-        ensures equal { IfOk result (λ id. never_at self.new.work id ≡ false) }
+        ensures cutoffs { (n : NodeId) → cutoff_at self.new.work n ≡ cutoff_at self.old.work n }
+        ensures equal { IfOk result (λ id. cutoff_at self.new.work id ≡ Cutoff.Equal) }
         ensures links { self.new.work.graph.links ≡ self.old.work.graph.links }
         ensures roots { self.new.work.graph.roots ≡ self.old.work.graph.roots }
         ensures heap { KeepsRows self.old.work.graph.heap self.new.work.graph.heap }
@@ -110,7 +110,6 @@ impl Parts {
         }
         let id = self.arena.next_id();
         let added = self.work.add_node(id, &def);
-        self.work.graph.stands();
         match added {
             Ok(()) => {}
             Err(AllocError) => {
@@ -198,7 +197,6 @@ impl Parts {
             → IsReady F self.new.arena self.new.work }
     {
         self.work.graph.root_off(main_point(id));
-        self.work.graph.stands();
     }
 
     /// Drops the nodes whose ids were given since the count; none of them is needed. Their ids stay used up. This takes
@@ -210,8 +208,9 @@ impl Parts {
         ensures dropped { (n : NodeId) → count ≤ n.gen_ → row_at self.new.arena n ≡ None }
         ensures given { self.new.arena.given ≡ self.old.arena.given }
         ensures rows { (p : Point) → p.node.gen_ < count → at self.new.work.rows p ≡ at self.old.work.rows p }
-        ensures cutoffs { (n : NodeId) → n.gen_ < count → never_at self.new.work n ≡ never_at self.old.work n }
-        ensures fewer_cutoffs { (n : NodeId) → never_at self.new.work n ≡ true → never_at self.old.work n ≡ true }
+        ensures cutoffs { (n : NodeId) → n.gen_ < count → cutoff_at self.new.work n ≡ cutoff_at self.old.work n }
+        ensures other_cutoffs { (n : NodeId) → (cutoff_at self.new.work n ≡ cutoff_at self.old.work n)
+            ⊎ (cutoff_at self.new.work n ≡ Cutoff.Equal) }
         ensures links { self.new.work.graph.links ≡ self.old.work.graph.links }
         ensures roots { self.new.work.graph.roots ≡ self.old.work.graph.roots }
         ensures heap { self.new.work.graph.heap ≡ self.old.work.graph.heap }
@@ -245,7 +244,6 @@ impl Parts {
     {
         self.arena.drop_node(id);
         self.work.drop_node(id);
-        self.work.graph.stands();
     }
 
     /// The outcome of a live node. None before it was first brought up to date, and of a dead one, which shows Invalid.

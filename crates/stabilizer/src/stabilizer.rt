@@ -1,5 +1,5 @@
 //! Steps and rounds.
-ghost use Rattle.std.specs.Prelude.{◌≡◌, ◌++◌, [], None, List, map, All};
+ghost use Rattle.std.specs.Prelude.{◌≡◌, ◌+◌, ◌++◌, [], None, List, map, All};
 ghost use Rattle.std.specs.Prelude.{IfOk, OnOk, OnErr, IfErr, IsTrue, IsFalse};
 ghost use Rattle.inc_value.specs.declared.node.NodeId.{NodeId};
 ghost use Rattle.inc_terms.specs.Depend.{main, change};
@@ -14,9 +14,10 @@ ghost use Rattle.node_arena.specs.Graph.{graph_of, AllCallFit};
 ghost use Rattle.stabilizer.specs.Kept.{IsKept};
 ghost use Rattle.node_outcomes.specs.Meaning.{functions_of, lists_none, maps_of};
 ghost use Rattle.node_outcomes.specs.Computing.{KeepsFunctions};
-ghost use Rattle.stabilizer.specs.Round.{IsReady, AreRooted, IsUpToDate, IsLawful, LeavesTried, HasCalledMet, ShowsStill, never_at};
+ghost use Rattle.stabilizer.specs.Round.{IsReady, AreRooted, IsUpToDate, IsLawful, LeavesTried, HasCalledMet, ShowsStill, cutoff_at};
 ghost use Rattle.stabilizer.specs.Round.{IsInRound, RootsMore, OnlyRoots, Settles, SettleRefused};
-ghost use Rattle.stabilizer.specs.Stepping.{MainIsSettled, MainIsLeft, ChangeIsSettled, ChangeIsLeft, Steps, StepRefused, StepFalls};
+ghost use Rattle.stabilizer.specs.Stepping.{MainIsSettled, MainIsLeft, ChangeIsSettled, ChangeIsLeft, SettlesLeast};
+ghost use Rattle.stabilizer.specs.Stepping.{Steps, StepRefused, StepFalls};
 ghost use Rattle.stabilizer.specs.Wiring.{PutsRoots, RootRefused, KeepsPlaces};
 
 use crate::parts::Parts;
@@ -40,6 +41,9 @@ impl Stabilizer {
         requires fit { AllCallFit (maps_of (F.known functions.old)) lists_none parts.old.arena }
         ensures stepped { IfOk result (λ more. IsTrue more → Steps (functions_of (F.value functions.old))
             parts.old.arena parts.old.work parts.new.work (F.calls functions.old) (F.calls functions.new)) }
+        ensures settled { IfOk result (λ more. IsTrue more → SettlesLeast (F.value functions.old) parts.old.arena
+            parts.old.work parts.new.work (F.calls functions.old) (F.calls functions.new)) }
+        ensures more { IfOk result (λ more. IsTrue more → ¬ IsEmpty parts.old.work.graph.heap) }
         ensures empty { IfOk result (λ more. IsFalse more → IsEmpty parts.old.work.graph.heap) }
         ensures unchanged { IfOk result (λ more. IsFalse more → parts.new ≡ parts.old) }
         ensures uncalled { IfOk result (λ more. IsFalse more → F.calls functions.new ≡ F.calls functions.old) }
@@ -90,6 +94,7 @@ impl Stabilizer {
         ensures calls { OnOk result (RoseBy (F.calls functions.old)
             (costs_of (graph_of parts.old.arena) parts.new.ran.items) (F.calls functions.new)) }
         ensures ready { OnOk result (IsReady (functions_of (F.value functions.new)) parts.new.arena parts.new.work) }
+        ensures round { OnOk result (parts.new.work.round ≡ parts.old.work.round + 1) }
         ensures lawful { IfErr result (λ e. (observed : List NodeId) → AreRooted parts.old.work observed
             → IsLawful (functions_of (F.value functions.old)) parts.old.arena parts.old.work
             (roots.now ++ observed) e) }
@@ -98,7 +103,7 @@ impl Stabilizer {
             → HasCalledMet (functions_of (F.value functions.old)) parts.old.arena parts.old.work (roots.now ++ observed)
             (F.calls functions.old) (F.calls functions.new)) }
         ensures kept { OnErr result (IsKept parts.new.arena parts.new.work) }
-        ensures cutoffs { OnErr result ((n : NodeId) → never_at parts.new.work n ≡ never_at parts.old.work n) }
+        ensures cutoffs { OnErr result ((n : NodeId) → cutoff_at parts.new.work n ≡ cutoff_at parts.old.work n) }
         ensures shows { OnErr result ((n : NodeId)
             → ShowsStill (functions_of (F.value functions.old)) parts.old.arena parts.old.work parts.new.work n) }
         ensures ran { OnErr result (parts.new.ran ≡ parts.old.ran) }

@@ -1,5 +1,5 @@
 //! Roots and links for what is newly needed.
-ghost use Rattle.std.specs.Prelude.{◌≡◌, ◌≢◌, ◌⊎◌, ◌↔◌, ◌<◌, [], true, None, Some, IsTrue, IsFalse, IsSome, map, vec_len, vec_capacity};
+ghost use Rattle.std.specs.Prelude.{◌≡◌, ◌≢◌, ◌↔◌, ◌<◌, [], true, None, Some, IsTrue, IsFalse, IsSome, map, vec_len, vec_capacity};
 ghost use Rattle.std.specs.Prelude.{IfOk, IfErr, OnOk, OnErr};
 ghost use Rattle.inc_value.specs.Choice.{Among};
 ghost use Rattle.inc_value.specs.declared.node.NodeId.{NodeId as ANode};
@@ -52,7 +52,6 @@ impl Work {
             }
             Err(AllocError) => {
                 self.close(p, opened);
-                self.graph.stands();
                 Err(Refused::Memory)
             }
         }
@@ -199,7 +198,6 @@ impl Work {
                     return Err(refusal(q, fault));
                 }
                 self.take_off_unconfirmed(arena);
-                self.graph.stands();
                 if !self.graph.is_needed(p) {
                     return Ok(false);
                 }
@@ -234,13 +232,11 @@ impl Work {
         };
         match self.graph.link(p, q) {
             Ok(newly) => {
-                self.graph.stands();
                 self.wake(q, newly);
                 Ok(())
             }
             Err(fault) => {
                 self.close(q, opened);
-                self.graph.stands();
                 Err(fault)
             }
         }
@@ -249,6 +245,7 @@ impl Work {
     /// Makes room for a point that may be newly needed: a place of the worklist, and the point itself where its node
     /// is dead. Answers whether the point was added.
     fn make_room(&mut self, p: Point) -> Result<bool, AllocError>
+        requires step { IsInStep self.old.graph }
         ensures there { OnOk result (Holds self.new.graph.heights p) }
         ensures opened { IfOk result (λ opened. IsTrue opened ↔ (at self.old.graph.heights p ≡ None)) }
         ensures unneeded { IfOk result (λ opened. IsTrue opened → Needed self.old.graph p → ⊥) }
@@ -259,17 +256,15 @@ impl Work {
         ensures rows { self.new.rows ≡ self.old.rows }
         ensures step { IsInStep self.new.graph }
     {
-        self.graph.stands();
         self.todo.reserve(1)?;
-        let opened = self.open(p);
-        self.graph.stands();
-        opened
+        self.open(p)
     }
 
     /// A needed point that wasn't needed before is to have its links and to be recomputed.
     fn wake(&mut self, p: Point, newly: bool)
         requires needed { Needed self.old.graph p }
         requires room { vec_len self.old.todo < vec_capacity self.old.todo }
+        requires step { IsInStep self.old.graph }
         ensures woken { IsTrue newly → IsWoken self.old self.new p }
         ensures unchanged { IsFalse newly → self.new ≡ self.old }
         ensures step { IsInStep self.new.graph }
@@ -277,7 +272,6 @@ impl Work {
         if newly {
             self.newly_needed(p);
         }
-        self.graph.stands();
     }
 }
 

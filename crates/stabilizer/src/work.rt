@@ -1,12 +1,12 @@
 //! What a stabilize works on beside the nodes: who is needed, how far each point has come, and what is to be done.
-ghost use Rattle.std.specs.Prelude.{◌≡◌, ◌≢◌, ◌↔◌, ◌<◌, ◌≤◌, ◌++◌, ℕ, [], ◌∷◌, None, Some, IsSome, IsTrue, IsFalse};
+ghost use Rattle.std.specs.Prelude.{◌≡◌, ◌≢◌, ◌↔◌, ◌<◌, ◌≤◌, ◌++◌, ℕ, [], ◌∷◌, None, Some, IsTrue, IsFalse};
 ghost use Rattle.std.specs.Prelude.{IfOk, OnOk, OnErr, vec_len, vec_capacity};
 ghost use Rattle.inc_value.specs.Choice.{Among};
 ghost use Rattle.inc_value.specs.declared.node.NodeId.{NodeId as ANode};
 ghost use Rattle.inc_value.specs.declared.node.Part.{Part};
 ghost use Rattle.inc_value.specs.declared.node.Point.{Point, Point as APoint};
 ghost use Rattle.inc_terms.specs.Code.{def_of};
-ghost use Rattle.inc_terms.specs.Depend.{main, change, subject_of};
+ghost use Rattle.inc_terms.specs.Depend.{main, change};
 ghost use Rattle.point_map.specs.Rows.{at, Holds, Changes, KeepsRows};
 ghost use Rattle.link_table.specs.Links.{times};
 ghost use Rattle.recompute_heap.specs.Agree.{IsEmpty};
@@ -44,7 +44,7 @@ pub(crate) struct Work {
     pub pairs: Vec<NodeId>,
     /// Points that are newly needed and have no links yet.
     pub todo: Vec<Point>,
-    /// The nodes whose functions were called in this round, in order.
+    /// The nodes whose functions were called in this round, in order. A fold of no nodes takes no call.
     pub ran: Vec<NodeId>,
     /// Whether refusals are final in this round.
     pub strict: bool,
@@ -53,28 +53,29 @@ pub(crate) struct Work {
 }
 
 impl Work {
-    /// No points. The error is want of memory.
-    pub fn new(alloc: Global) -> Result<Work, AllocError>
-        ensures rows { IfOk result (λ w. (p : Point) → at w.rows p ≡ None) }
-        ensures heights { IfOk result (λ w. (p : Point) → at w.graph.heights p ≡ None) }
-        ensures roots { IfOk result (λ w. (p : Point) → root_times w.graph.roots p ≡ 0) }
-        ensures links { IfOk result (λ w. (p q : Point) → times w.graph.links p q ≡ 0) }
-        ensures heap { IfOk result (λ w. IsEmpty w.graph.heap) }
-        ensures todo { IfOk result (λ w. w.todo.items ≡ []) }
-        ensures ran { IfOk result (λ w. w.ran.items ≡ []) }
-        ensures pairs { IfOk result (λ w. w.pairs.items ≡ []) }
-        ensures round { IfOk result (λ w. w.round ≡ 1) }
-        ensures strict { IfOk result (λ w. IsFalse w.strict) }
+    /// No points. This takes no memory.
+    pub fn new(alloc: Global) -> Work
+        ensures rows { (p : Point) → at result.rows p ≡ None }
+        ensures heights { (p : Point) → at result.graph.heights p ≡ None }
+        ensures roots { (p : Point) → root_times result.graph.roots p ≡ 0 }
+        ensures links { (p q : Point) → times result.graph.links p q ≡ 0 }
+        ensures heap { IsEmpty result.graph.heap }
+        ensures todo { result.todo.items ≡ [] }
+        ensures ran { result.ran.items ≡ [] }
+        ensures pairs { result.pairs.items ≡ [] }
+        ensures round { result.round ≡ 1 }
+        ensures strict { IsFalse result.strict }
+        ensures step { IsInStep result.graph }
     {
-        Ok(Work {
-            graph: NecessaryGraph::new(alloc)?,
+        Work {
+            graph: NecessaryGraph::new(alloc),
             rows: PointMap::new(alloc),
             pairs: Vec::new(alloc),
             todo: Vec::new(alloc),
             ran: Vec::new(alloc),
             strict: false,
             round: 1,
-        })
+        }
     }
 
     /// Adds a point of a new node, with all memory that it needs in a round but for links.
@@ -82,6 +83,7 @@ impl Work {
         requires low { height ≤ 128 }
         requires absent { at self.old.graph.heights p ≡ None }
         requires no_row { at self.old.rows p ≡ None }
+        requires step { IsInStep self.old.graph }
         ensures row { OnOk result (Changes self.old.rows self.new.rows p
             (Some (record { stage = Stage.Bare; settled = 0; outcome = None; last = None; cutoff = Cutoff.Equal }))) }
         ensures added { OnOk result (Changes self.old.graph.heights self.new.graph.heights p (Some height)) }
@@ -90,6 +92,7 @@ impl Work {
         ensures links { self.new.graph.links ≡ self.old.graph.links }
         ensures roots { self.new.graph.roots ≡ self.old.graph.roots }
         ensures heap { KeepsRows self.old.graph.heap self.new.graph.heap }
+        ensures step { IsInStep self.new.graph }
         ensures rest { self.new ≡ record self.old { graph = self.new.graph; rows = self.new.rows } }
         ensures todo { self.new.todo ≡ self.old.todo }
         ensures round { KeepsRound self.old self.new }
@@ -104,6 +107,7 @@ impl Work {
     pub fn add_node(&mut self, node: NodeId, def: &Def) -> Result<(), AllocError>
         requires no_main { (at self.old.graph.heights (main node) ≡ None) × (at self.old.rows (main node) ≡ None) }
         requires no_change { (at self.old.graph.heights (change node) ≡ None) × (at self.old.rows (change node) ≡ None) }
+        requires step { IsInStep self.old.graph }
         ensures rows { OnOk result (ChangesNode self.old.rows self.new.rows node (for_parts (def_of def.now) (λ part.
             record { stage = Stage.Bare; settled = 0; outcome = None; last = None; cutoff = Cutoff.Equal }))) }
         ensures added { OnOk result ((h : Part → ℕ)
@@ -115,6 +119,7 @@ impl Work {
         ensures links { self.new.graph.links ≡ self.old.graph.links }
         ensures roots { self.new.graph.roots ≡ self.old.graph.roots }
         ensures heap { KeepsRows self.old.graph.heap self.new.graph.heap }
+        ensures step { IsInStep self.new.graph }
         ensures todo { self.new.todo ≡ self.old.todo }
         ensures round { KeepsRound self.old self.new }
     {
@@ -135,6 +140,7 @@ impl Work {
         requires low { height ≤ 128 }
         requires no_main { (at self.old.graph.heights (main node) ≡ None) × (at self.old.rows (main node) ≡ None) }
         requires no_change { (at self.old.graph.heights (change node) ≡ None) × (at self.old.rows (change node) ≡ None) }
+        requires step { IsInStep self.old.graph }
         ensures rows { OnOk result (ChangesNode self.old.rows self.new.rows node (λ part. Some (
             record { stage = Stage.Bare; settled = 0; outcome = None; last = None; cutoff = Cutoff.Equal }))) }
         ensures added { OnOk result ((h : Part → ℕ)
@@ -146,10 +152,10 @@ impl Work {
         ensures links { self.new.graph.links ≡ self.old.graph.links }
         ensures roots { self.new.graph.roots ≡ self.old.graph.roots }
         ensures heap { KeepsRows self.old.graph.heap self.new.graph.heap }
+        ensures step { IsInStep self.new.graph }
         ensures todo { self.new.todo ≡ self.old.todo }
         ensures round { KeepsRound self.old self.new }
     {
-        self.graph.stands();
         self.pairs.reserve(1)?;
         self.add(change_point(node), height)?;
         match self.add(main_point(node), (height + 1).min(128)) {
@@ -203,7 +209,6 @@ impl Work {
         ensures round { KeepsRound self.old self.new }
     {
         self.graph.drop_point(p);
-        self.graph.stands();
         drop(self.rows.remove(p));
     }
 
@@ -219,10 +224,10 @@ impl Work {
     /// Puts a needed point into the heap, unless it was settled.
     pub fn enqueue(&mut self, p: Point)
         requires needed { Needed self.old.graph p }
+        requires step { IsInStep self.old.graph }
         ensures enqueued { IsEnqueued self.old self.new p }
         ensures rest { self.new ≡ record self.old { graph = self.new.graph } }
     {
-        self.graph.stands();
         if !was_settled(&self.rows, p, self.round) {
             self.graph.insert(p);
         }
@@ -232,6 +237,7 @@ impl Work {
     /// are to be recomputed. This takes no memory.
     pub fn settle(&mut self, p: Point, outcome: Outcome)
         requires there { Holds self.old.rows p }
+        requires step { IsInStep self.old.graph }
         ensures row { IsRewritten self.old.rows self.new.rows p (with_outcome outcome self.old.round) }
         ensures graph { KeepsGraph self.old.graph self.new.graph }
         ensures told { IsTold self.old self.new p outcome }
@@ -244,13 +250,13 @@ impl Work {
         if !stopped {
             self.enqueue_readers(p);
         }
-        self.graph.stands();
     }
 
     /// Settles a node's change on an outcome of its subject. Where it is another than before, a main with a right side
     /// loses it, and is to be recomputed. This takes no memory.
     pub fn turn(&mut self, node: NodeId, def: &Def, given: Outcome)
         requires there { Holds self.old.rows (change node) }
+        requires step { IsInStep self.old.graph }
         ensures { HasTurned self.old self.new node (right_in self.old.rows node (def_of def.now)) given }
     {
         if !ran_with(&self.rows, node, &given) && self.is_attached(node) {
@@ -278,6 +284,7 @@ impl Work {
     /// Takes a node's main's right side off, for which it waits again. The main is to be recomputed.
     fn drop_right(&mut self, node: NodeId, def: &Def)
         requires attached { IsAttached self.old node }
+        requires step { IsInStep self.old.graph }
         ensures loosened { IsLoosened self.old self.new node (right_in self.old.rows node (def_of def.now)) }
         ensures step { IsInStep self.new.graph }
     {
@@ -290,7 +297,6 @@ impl Work {
                 self.graph.unlink(p, q);
             }
         }
-        self.graph.stands();
     }
 
     /// Takes the right sides off that weren't confirmed by their node's change in this round, and puts these changes into
@@ -338,6 +344,7 @@ impl Work {
 
     /// Puts a needed point into the heap, also one that was settled.
     pub fn schedule(&mut self, p: Point)
+        requires step { IsInStep self.old.graph }
         ensures scheduled { IsMarked self.old.graph self.new.graph p }
         ensures step { IsInStep self.new.graph }
         ensures rest { self.new ≡ record self.old { graph = self.new.graph } }
@@ -345,15 +352,15 @@ impl Work {
         if self.graph.is_needed(p) {
             self.graph.insert(p);
         }
-        self.graph.stands();
     }
 
     /// The points that read this one are to be recomputed, but for those that were settled.
     fn enqueue_readers(&mut self, p: Point)
+        requires step { IsInStep self.old.graph }
         ensures enqueued { AreEnqueued self.old self.new p }
+        ensures step { IsInStep self.new.graph }
         ensures rest { self.new ≡ record self.old { graph = self.new.graph } }
     {
-        self.graph.stands();
         let settled = Settled {
             rows: &self.rows,
             round: self.round,
@@ -365,9 +372,9 @@ impl Work {
     pub fn newly_needed(&mut self, p: Point)
         requires needed { Needed self.old.graph p }
         requires room { vec_len self.old.todo < vec_capacity self.old.todo }
+        requires step { IsInStep self.old.graph }
         ensures { IsWoken self.old self.new p }
     {
-        self.graph.stands();
         if self.rows.holds(p) {
             set_stage(&mut self.rows, p, Stage::Bare);
             self.enqueue(p);
@@ -377,6 +384,7 @@ impl Work {
 
     /// Adds a point of a dead node, unless the point is there, and answers whether it did.
     pub fn open(&mut self, p: Point) -> Result<bool, AllocError>
+        requires step { IsInStep self.old.graph }
         ensures there { OnOk result (Holds self.new.graph.heights p) }
         ensures opened { IfOk result (λ opened. IsTrue opened ↔ (at self.old.graph.heights p ≡ None)) }
         ensures added { IfOk result (λ opened. IsTrue opened
@@ -388,6 +396,7 @@ impl Work {
         ensures heap { KeepsRows self.old.graph.heap self.new.graph.heap }
         ensures others { (q : Point) → q ≢ p → at self.new.graph.heights q ≡ at self.old.graph.heights q }
         ensures err { OnErr result (KeepsRows self.old.graph.heights self.new.graph.heights) }
+        ensures step { IsInStep self.new.graph }
         ensures rest { self.new ≡ record self.old { graph = self.new.graph } }
     {
         if self.graph.is_there(p) {
@@ -401,11 +410,13 @@ impl Work {
     pub fn close(&mut self, p: Point, opened: bool)
         requires there { Holds self.old.graph.heights p }
         requires unneeded { IsTrue opened → Needed self.old.graph p → ⊥ }
+        requires step { IsInStep self.old.graph }
         ensures closed { IsTrue opened → Changes self.old.graph.heights self.new.graph.heights p None }
         ensures kept { IsFalse opened → self.new ≡ self.old }
         ensures links { self.new.graph.links ≡ self.old.graph.links }
         ensures roots { self.new.graph.roots ≡ self.old.graph.roots }
         ensures heap { self.new.graph.heap ≡ self.old.graph.heap }
+        ensures step { IsInStep self.new.graph }
         ensures rest { self.new ≡ record self.old { graph = self.new.graph } }
     {
         if opened {

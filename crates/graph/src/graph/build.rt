@@ -40,7 +40,6 @@ impl<F: Functions> Graph<F> {
             ↔ (IsUnbroken self.old × HasNoRoom self.old (Const value) (type_of value)) }
         ensures adding { IfErr result IsAddFault }
         ensures err { OnErr result (KeepsAll self.old self.new) }
-        ensures nodes { OnErr result (self.new.parts.arena ≡ self.old.parts.arena) }
     {
         let ty = value.ty();
         self.add(Def::Const(value), ty)
@@ -57,7 +56,6 @@ impl<F: Functions> Graph<F> {
             ↔ (IsUnbroken self.old × HasNoRoom self.old (Var value) (type_of value)) }
         ensures adding { IfErr result IsAddFault }
         ensures err { OnErr result (KeepsAll self.old self.new) }
-        ensures nodes { OnErr result (self.new.parts.arena ≡ self.old.parts.arena) }
     {
         let ty = value.ty();
         self.add(Def::Var(value), ty)
@@ -81,7 +79,6 @@ impl<F: Functions> Graph<F> {
             → IsErrOf result GraphFault.Full ⊎ IsErrOf result GraphFault.Memory }
         ensures adding { IfErr result IsAddFault }
         ensures err { OnErr result (KeepsAll self.old self.new) }
-        ensures nodes { OnErr result (self.new.parts.arena ≡ self.old.parts.arena) }
     {
         self.check()?;
         let nodes = Nodes::from_slice(self.alloc, kids)?;
@@ -143,7 +140,6 @@ impl<F: Functions> Graph<F> {
         ensures full { IsErrOf result GraphFault.Full ↔ (IsUnbroken self.old × HasNoRoom self.old (If test yes no) ty) }
         ensures adding { IfErr result IsAddFault }
         ensures err { OnErr result (KeepsAll self.old self.new) }
-        ensures nodes { OnErr result (self.new.parts.arena ≡ self.old.parts.arena) }
     {
         self.add(Def::If { test, yes, no }, ty)
     }
@@ -158,7 +154,6 @@ impl<F: Functions> Graph<F> {
         ensures full { IsErrOf result GraphFault.Full ↔ (IsUnbroken self.old × HasNoRoom self.old (Join kid) ty) }
         ensures adding { IfErr result IsAddFault }
         ensures err { OnErr result (KeepsAll self.old self.new) }
-        ensures nodes { OnErr result (self.new.parts.arena ≡ self.old.parts.arena) }
     {
         self.add(Def::Join(kid), ty)
     }
@@ -176,7 +171,6 @@ impl<F: Functions> Graph<F> {
             ↔ (IsUnbroken self.old × HasNoRoom self.old (def_of def) ty) }
         ensures adding { IfErr result IsAddFault }
         ensures err { OnErr result (KeepsAll self.old self.new) }
-        ensures nodes { OnErr result (self.new.parts.arena ≡ self.old.parts.arena) }
     {
         match self.check() {
             Ok(()) => {}
@@ -198,12 +192,12 @@ impl<F: Functions> Graph<F> {
         ensures broken { (cause : ACause) → IsErrOf result (GraphFault.Broken cause) ↔ IsBroken self.old cause }
         ensures set { OnOk result (Sets self.old self.new node value) }
         ensures unknown { IsErrOf result GraphFault.Unknown ↔ (IsUnbroken self.old
-            × ¬ (Given self.old.parts.arena.given node × ValueWithin (Given self.old.parts.arena.given) value)) }
-        ensures not_var { IsErrOf result GraphFault.NotVar ↔ (IsUnbroken self.old × (Given self.old.parts.arena.given node
-            × ValueWithin (Given self.old.parts.arena.given) value × ¬ IsVariable self.old.parts.arena node)) }
+            × ¬ (Given self.old.nodes.given node × ValueWithin (Given self.old.nodes.given) value)) }
+        ensures not_var { IsErrOf result GraphFault.NotVar ↔ (IsUnbroken self.old × (Given self.old.nodes.given node
+            × ValueWithin (Given self.old.nodes.given) value × ¬ IsVariable self.old.nodes node)) }
         ensures wrong_type { IsErrOf result GraphFault.WrongType ↔ (IsUnbroken self.old
-            × (ValueWithin (Given self.old.parts.arena.given) value × IsVariable self.old.parts.arena node
-            × ¬ FitsNode self.old.parts.arena node value)) }
+            × (ValueWithin (Given self.old.nodes.given) value × IsVariable self.old.nodes node
+            × ¬ FitsNode self.old.nodes node value)) }
         ensures setting { IfErr result IsSetFault }
         ensures err { OnErr result (self.new ≡ self.old) }
     {
@@ -225,7 +219,7 @@ impl<F: Functions> Graph<F> {
     pub fn set_cutoff(&mut self, node: NodeId, cutoff: Cutoff) -> Result<(), GraphFault>
         ensures broken { (cause : ACause) → IsErrOf result (GraphFault.Broken cause) ↔ IsBroken self.old cause }
         ensures set { OnOk result (SetsCutoff self.old self.new node cutoff) }
-        ensures unknown { IsErrOf result GraphFault.Unknown ↔ (IsUnbroken self.old × ¬ Given self.old.parts.arena.given node) }
+        ensures unknown { IsErrOf result GraphFault.Unknown ↔ (IsUnbroken self.old × ¬ Given self.old.nodes.given node) }
         ensures setting { IfErr result IsCutoffFault }
         ensures err { OnErr result (self.new ≡ self.old) }
     {
@@ -240,7 +234,7 @@ impl<F: Functions> Graph<F> {
     /// Whether the node is live.
     pub fn is_live(&self, node: NodeId) -> Result<bool, GraphFault>
         ensures broken { (cause : ACause) → IsErrOf result (GraphFault.Broken cause) ↔ IsBroken self.now cause }
-        ensures live { IfOk result (λ live. IsTrue live ↔ IsLive self.now.parts.arena node) }
+        ensures live { IfOk result (λ live. IsTrue live ↔ IsLive self.now.nodes node) }
         ensures unbroken { IsOk result ↔ IsUnbroken self.now }
     {
         self.check()?;
@@ -250,7 +244,7 @@ impl<F: Functions> Graph<F> {
     /// A mark to which `back_to` leads.
     pub fn mark(&self) -> Result<Mark, GraphFault>
         ensures broken { (cause : ACause) → IsErrOf result (GraphFault.Broken cause) ↔ IsBroken self.now cause }
-        ensures mark { IfOk result (λ mark. mark.given ≡ self.now.parts.arena.given) }
+        ensures mark { IfOk result (λ mark. mark.given ≡ self.now.nodes.given) }
         ensures observed { IfOk result (λ mark. (n : NodeId) → Among n (in_use self.now.observers) → n.gen_ < mark.given) }
         ensures rooted { IfOk result (λ mark. (n : NodeId) → Among n (rooted_nodes self.now) → n.gen_ < mark.given) }
         ensures needed { IfOk result (λ mark. (p : Point) → IsNeeded self.now p → p.node.gen_ < mark.given) }

@@ -1,5 +1,5 @@
 //! Observers that are made, asked and ended.
-ghost use Rattle.std.specs.Prelude.{◌≡◌, ◌↔◌, ◌<◌, ◌≤◌, ◌-◌, ◌^◌, ◌++◌, [], ◌∷◌, None, Some, true, length, IfOk, IfErr, OnOk, OnErr, IsErrOf, IsSome};
+ghost use Rattle.std.specs.Prelude.{◌≡◌, ◌↔◌, ◌<◌, ◌≤◌, ◌-◌, ◌^◌, None, Some, length, IfOk, IfErr, OnOk, OnErr, IsErrOf, IsSome};
 ghost use Rattle.inc_value.specs.declared.node.NodeId.{NodeId};
 ghost use Rattle.inc_terms.specs.Within.{Given};
 ghost use Rattle.graph.specs.Standing.{IsUnbroken, IsBroken, node_at, shown_of};
@@ -17,8 +17,8 @@ impl<F: Functions> Graph<F> {
     pub fn observe(&mut self, node: NodeId) -> Result<ObsId, GraphFault>
         ensures broken { (cause : ACause) → IsErrOf result (GraphFault.Broken cause) ↔ IsBroken self.old cause }
         ensures observed { IfOk result (λ o. Observes self.old self.new o node) }
-        ensures unknown { IsErrOf result GraphFault.Unknown ↔ (IsUnbroken self.old × ¬ Given self.old.parts.arena.given node) }
-        ensures too_many { IsErrOf result GraphFault.TooMany ↔ (IsUnbroken self.old × (Given self.old.parts.arena.given node
+        ensures unknown { IsErrOf result GraphFault.Unknown ↔ (IsUnbroken self.old × ¬ Given self.old.nodes.given node) }
+        ensures too_many { IsErrOf result GraphFault.TooMany ↔ (IsUnbroken self.old × (Given self.old.nodes.given node
             × (2 ^ 32 - 1 ≤ length self.old.observers))) }
         ensures observing { IfErr result IsObserveFault }
         ensures err { OnErr result (self.new ≡ self.old) }

@@ -1,18 +1,16 @@
 //! One call that brings what is observed up to date.
-ghost use Rattle.std.specs.Prelude.{◌≡◌, ◌↔◌, ◌++◌, List, None, Some, IfOk, OnOk, OnErr, IfErr, IsErrOf, length, ◌≤◌};
+ghost use Rattle.std.specs.Prelude.{◌≡◌, ◌↔◌, Some, OnOk, OnErr, IfErr, IsErrOf, length, ◌≤◌};
 ghost use Rattle.inc_value.specs.declared.node.NodeId.{NodeId};
 ghost use Rattle.node_arena.specs.Meanings.{SameNames, KeepsKnown, SameValues};
 ghost use Rattle.node_arena.specs.RightSide.{SameSides};
-ghost use Rattle.node_arena.specs.Graph.{graph_of};
 ghost use Rattle.stabilize_round.specs.Calling.{costs_of};
 ghost use Rattle.stabilize_round.specs.Counts.{RoseBy};
 ghost use Rattle.node_outcomes.specs.Computing.{KeepsFunctions};
 ghost use Rattle.node_outcomes.specs.Meaning.{functions_of};
-ghost use Rattle.stabilizer.specs.Kept.{IsKept};
-ghost use Rattle.stabilizer.specs.Round.{IsUpToDate, IsLawful, LeavesTried, HasCalledMet, ShowsStill, never_at};
-ghost use Rattle.graph.specs.Sound.{CanStabilize};
-ghost use Rattle.graph.specs.Standing.{IsBroken, in_use};
-ghost use Rattle.graph.specs.Stabilizes.{Stabilizes, IsRefusedFor};
+ghost use Rattle.graph.specs.Inside.{CanStabilize, BringsUpToDate, calls_in, IsNextRound, IsRefusedLawfully, WasTried};
+ghost use Rattle.graph.specs.Inside.{CalledMet, FitTogether, AllShowStill, KeepsCutoffs, KeepsNodes, KeepsCalled};
+ghost use Rattle.graph.specs.Standing.{IsBroken, graph, in_use};
+ghost use Rattle.graph.specs.Stabilizes.{Stabilizes, IsRefusedFor, HasCalledMet};
 ghost use Rattle.graph.specs.declared.fault.Kept.{Kept as ACause};
 
 use super::Graph;
@@ -26,7 +24,8 @@ use std::alloc::Global;
 /// What the last accepted stabilize did.
 #[derive(Clone, Copy)]
 pub struct Round<'a> {
-    /// The maps and folds that were computed anew, each once, in order. A fold of no nodes takes no call.
+    /// The maps and folds whose functions were called, each once, in order. A fold of no nodes takes no call and isn't
+    /// listed.
     pub ran: &'a [NodeId],
 }
 
@@ -36,12 +35,12 @@ impl<F: Functions> Graph<F> {
     pub fn stabilize(&mut self) -> Result<(), StabilizeFault>
         ensures broken { (cause : ACause) → IsErrOf result (StabilizeFault.Broken cause) ↔ IsBroken self.old cause }
         ensures brought { OnOk result (Stabilizes (functions_of (F.value self.old.functions)) self.old self.new) }
-        ensures calls { OnOk result (RoseBy (F.calls self.old.functions)
-            (costs_of (graph_of self.old.parts.arena) self.new.parts.ran.items) (F.calls self.new.functions)) }
+        ensures calls { OnOk result (RoseBy (F.calls self.old.functions) (costs_of (graph self.old) self.new.ran)
+            (F.calls self.new.functions)) }
         ensures refused { (cause : ACause) → IsErrOf result (StabilizeFault.Refused cause)
             → IsRefusedFor (functions_of (F.value self.old.functions)) self.old self.new cause }
         ensures few { (cause : ACause) → IsErrOf result (StabilizeFault.Refused cause)
-            → HasCalledMet (functions_of (F.value self.old.functions)) self.old.parts.arena self.old.parts.work (in_use self.old.observers)
+            → HasCalledMet (functions_of (F.value self.old.functions)) self.old
             (F.calls self.old.functions) (F.calls self.new.functions) }
         ensures calls_grow { F.calls self.old.functions ≤ F.calls self.new.functions }
         ensures unchanged { (cause : ACause) → IsErrOf result (StabilizeFault.Broken cause) → self.new ≡ self.old }
@@ -75,7 +74,7 @@ impl<F: Functions> Graph<F> {
 
     /// What the last accepted stabilize did.
     pub fn round(&self) -> Round<'_>
-        ensures { result.ran.now ≡ self.now.parts.ran.items }
+        ensures { result.ran.now ≡ self.now.ran }
     {
         Round {
             ran: self.parts.ran(),
@@ -94,23 +93,20 @@ fn run<F: Functions>(
     requires within { rooted ≤ length observers.now }
     requires sound { F.is_sound functions.old }
     requires can { CanStabilize (F.known functions.old) (F.value functions.old) parts.old observers.now rooted }
-    ensures right { OnOk result (IsUpToDate (functions_of (F.value functions.old)) parts.old.arena parts.old.work parts.new.work
-        (in_use observers.now) parts.new.ran.items) }
-    ensures calls { OnOk result (RoseBy (F.calls functions.old)
-        (costs_of (graph_of parts.old.arena) parts.new.ran.items) (F.calls functions.new)) }
+    ensures right { OnOk result (BringsUpToDate (functions_of (F.value functions.old)) parts.old parts.new (in_use observers.now)) }
+    ensures calls { OnOk result (RoseBy (F.calls functions.old) (calls_in parts.old parts.new) (F.calls functions.new)) }
     ensures can { OnOk result (CanStabilize (F.known functions.new) (F.value functions.new) parts.new observers.now
         (length observers.now)) }
-    ensures lawful { IfErr result (λ e. IsLawful (functions_of (F.value functions.old)) parts.old.arena parts.old.work
-        (in_use observers.now) e) }
-    ensures tried { IfErr result (LeavesTried parts.new.arena parts.new.work) }
-    ensures few { OnErr result (HasCalledMet (functions_of (F.value functions.old)) parts.old.arena parts.old.work
-        (in_use observers.now) (F.calls functions.old) (F.calls functions.new)) }
-    ensures kept { OnErr result (IsKept parts.new.arena parts.new.work) }
-    ensures shows { OnErr result ((n : NodeId)
-        → ShowsStill (functions_of (F.value functions.old)) parts.old.arena parts.old.work parts.new.work n) }
-    ensures cutoffs { OnErr result ((n : NodeId) → never_at parts.new.work n ≡ never_at parts.old.work n) }
-    ensures ran { OnErr result (parts.new.ran ≡ parts.old.ran) }
-    ensures arena { parts.new.arena ≡ parts.old.arena }
+    ensures round { OnOk result (IsNextRound parts.old parts.new) }
+    ensures lawful { IfErr result (IsRefusedLawfully (functions_of (F.value functions.old)) parts.old (in_use observers.now)) }
+    ensures tried { IfErr result (WasTried parts.new) }
+    ensures few { OnErr result (CalledMet (functions_of (F.value functions.old)) parts.old (in_use observers.now)
+        (F.calls functions.old) (F.calls functions.new)) }
+    ensures kept { OnErr result (FitTogether parts.new) }
+    ensures shows { OnErr result (AllShowStill (functions_of (F.value functions.old)) parts.old parts.new) }
+    ensures cutoffs { OnErr result (KeepsCutoffs parts.old parts.new) }
+    ensures ran { OnErr result (KeepsCalled parts.old parts.new) }
+    ensures arena { KeepsNodes parts.old parts.new }
     ensures functions { KeepsFunctions F.Functions functions.old functions.new }
 {
     let roots = nodes_in_use(alloc, observers, rooted)?;

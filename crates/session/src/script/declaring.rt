@@ -113,9 +113,9 @@ fn add_declared<L: Library>(
     requires unbroken { IsUnbroken graph.old }
     requires one_each { length nodes.old.items ≡ length names.old.declared }
     requires has_nodes { (n : ℕ) (d : Declared) → slice_get names.old.declared n ≡ Some d
-        → HasNode graph.old.parts.arena nodes.old.items n d }
-    requires room { live graph.old.parts.arena + places_of_body (body_view body.now) ≤ 1048575 }
-    requires ids { graph.old.parts.arena.given + 2 ^ 20 < 2 ^ 64 - 1 }
+        → HasNode graph.old.nodes nodes.old.items n d }
+    requires room { live graph.old.nodes + places_of_body (body_view body.now) ≤ 1048575 }
+    requires ids { graph.old.nodes.given + 2 ^ 20 < 2 ^ 64 - 1 }
     ensures made { OnOk result ((made : List NodeId)
         × IsMaking graph.old graph.new (laid_body (node_at nodes.old.items) 0 (body_view body.now)).makes made
         × (length made ≡ length (laid_body (node_at nodes.old.items) 0 (body_view body.now)).makes)
@@ -131,7 +131,7 @@ fn add_declared<L: Library>(
     ensures kept { OnErr result (Extends graph.old graph.new) }
     ensures names_kept { OnErr result (names.new ≡ names.old) }
     ensures nodes_kept { OnErr result (nodes.new.items ≡ nodes.old.items) }
-    ensures given { graph.new.parts.arena.given ≤ graph.old.parts.arena.given + 2 ^ 20 }
+    ensures given { graph.new.nodes.given ≤ graph.old.nodes.given + 2 ^ 20 }
 {
     match make_declared(alloc, graph, names, nodes, command, name, ty, body) {
         Ok(node) => {
@@ -165,15 +165,15 @@ fn make_declared<L: Library>(
     requires unbroken { IsUnbroken graph.old }
     requires one_each { length nodes.now ≡ length names.now.declared }
     requires has_nodes { (n : ℕ) (d : Declared) → slice_get names.now.declared n ≡ Some d
-        → HasNode graph.old.parts.arena nodes.now n d }
-    requires room { live graph.old.parts.arena + places_of_body (body_view body.now) ≤ 1048575 }
-    requires ids { graph.old.parts.arena.given + 2 ^ 20 < 2 ^ 64 - 1 }
+        → HasNode graph.old.nodes nodes.now n d }
+    requires room { live graph.old.nodes + places_of_body (body_view body.now) ≤ 1048575 }
+    requires ids { graph.old.nodes.given + 2 ^ 20 < 2 ^ 64 - 1 }
     ensures made { IfOk result (λ node. (made : List NodeId)
         × IsMaking graph.old graph.new (laid_body (node_at nodes.now) 0 (body_view body.now)).makes made
         × (length made ≡ length (laid_body (node_at nodes.now) 0 (body_view body.now)).makes)
         × (node ≡ node_of made (laid_body (node_at nodes.now) 0 (body_view body.now)).root)) }
     ensures kept { OnErr result (Extends graph.old graph.new) }
-    ensures given { graph.new.parts.arena.given ≤ graph.old.parts.arena.given + 2 ^ 20 }
+    ensures given { graph.new.nodes.given ≤ graph.old.nodes.given + 2 ^ 20 }
 {
     match elaborate(alloc, command, nodes) {
         Ok(plan) => {
@@ -196,13 +196,13 @@ fn make_all<L: Library>(
     requires waits { plan.old.is_waiting ≡ false }
     requires root { IsSome plan.old.root }
     requires order { AreInOrder 0 plan.old.makes }
-    requires fit { AllOpenFit (L.known graph.old.functions.library) graph.old.parts.arena plan.old.makes }
-    requires room { live graph.old.parts.arena + length plan.old.makes ≤ 1048575 }
-    requires ids { graph.old.parts.arena.given + length plan.old.makes < 2 ^ 64 - 1 }
+    requires fit { AllOpenFit (L.known graph.old.functions.library) graph.old.nodes plan.old.makes }
+    requires room { live graph.old.nodes + length plan.old.makes ≤ 1048575 }
+    requires ids { graph.old.nodes.given + length plan.old.makes < 2 ^ 64 - 1 }
     ensures made { IfOk result (λ node. (made : List NodeId) × IsMaking graph.old graph.new plan.old.makes made
         × (length made ≡ length plan.old.makes) × (Some node ≡ option_map (node_of made) plan.old.root)) }
     ensures kept { OnErr result (Extends graph.old graph.new) }
-    ensures given { graph.new.parts.arena.given ≤ graph.old.parts.arena.given + length plan.old.makes }
+    ensures given { graph.new.nodes.given ≤ graph.old.nodes.given + length plan.old.makes }
 {
     graph.keeps_sound();
     let mut made = None;
@@ -236,9 +236,9 @@ fn root_of(plan: &Plan) -> NodeId
 /// Makes a node whose children are there and fit.
 fn make_one<L: Library>(graph: &mut Graph<ScriptFns<L>>, make: Make) -> Result<NodeId, AllocError>
     requires unbroken { IsUnbroken graph.old }
-    requires welcome { IsWelcome (L.known graph.old.functions.library) graph.old.parts.arena (def_to_make make) }
-    requires room { live graph.old.parts.arena < 1048576 }
-    requires ids { graph.old.parts.arena.given < 2 ^ 64 - 1 }
+    requires welcome { IsWelcome (L.known graph.old.functions.library) graph.old.nodes (def_to_make make) }
+    requires room { live graph.old.nodes < 1048576 }
+    requires ids { graph.old.nodes.given < 2 ^ 64 - 1 }
     ensures added { IfOk result (λ node. Adds graph.old graph.new node (top (def_to_make make) (def_ty (def_to_make make)))) }
     ensures kept { OnErr result (KeepsAll graph.old graph.new) }
 {
@@ -250,9 +250,9 @@ fn make_one<L: Library>(graph: &mut Graph<ScriptFns<L>>, make: Make) -> Result<N
 /// Adds a node whose children are there and fit.
 fn add<L: Library>(graph: &mut Graph<ScriptFns<L>>, def: Def) -> Result<NodeId, AllocError>
     requires unbroken { IsUnbroken graph.old }
-    requires welcome { IsWelcome (L.known graph.old.functions.library) graph.old.parts.arena (def_of def) }
-    requires room { live graph.old.parts.arena < 1048576 }
-    requires ids { graph.old.parts.arena.given < 2 ^ 64 - 1 }
+    requires welcome { IsWelcome (L.known graph.old.functions.library) graph.old.nodes (def_of def) }
+    requires room { live graph.old.nodes < 1048576 }
+    requires ids { graph.old.nodes.given < 2 ^ 64 - 1 }
     ensures added { IfOk result (λ node. Adds graph.old graph.new node (top (def_of def) (def_ty (def_of def)))) }
     ensures kept { OnErr result (KeepsAll graph.old graph.new) }
 {
@@ -282,7 +282,7 @@ fn kind_of(body: &Declaration) -> Kind
 /// A mark to which `take_back` leads.
 fn mark_of<L: Library>(graph: &Graph<ScriptFns<L>>) -> Mark
     requires unbroken { IsUnbroken graph.now }
-    ensures mark { result.given ≡ graph.now.parts.arena.given }
+    ensures mark { result.given ≡ graph.now.nodes.given }
     ensures needed { (p : Point) → IsNeeded graph.now p → p.node.gen_ < result.given }
 {
     match graph.mark() {
@@ -306,10 +306,10 @@ fn take_back<L: Library>(graph: &mut Graph<ScriptFns<L>>, mark: Mark)
 /// Gives a variable a value of its type.
 fn set_node<L: Library>(graph: &mut Graph<ScriptFns<L>>, node: NodeId, value: Value)
     requires unbroken { IsUnbroken graph.old }
-    requires variable { IsVariable graph.old.parts.arena node }
-    requires given { Given graph.old.parts.arena.given node }
-    requires within { ValueWithin (Given graph.old.parts.arena.given) value }
-    requires fits { FitsNode graph.old.parts.arena node value }
+    requires variable { IsVariable graph.old.nodes node }
+    requires given { Given graph.old.nodes.given node }
+    requires within { ValueWithin (Given graph.old.nodes.given) value }
+    requires fits { FitsNode graph.old.nodes node value }
     ensures { Sets graph.old graph.new node value }
 {
     match graph.set_var(node, value) {

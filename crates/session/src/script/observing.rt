@@ -88,7 +88,7 @@ fn observe_node<L: Library>(
     node: NodeId,
 ) -> Result<(), AllocError>
     requires unbroken { IsUnbroken graph.old }
-    requires given { Given graph.old.parts.arena.given node }
+    requires given { Given graph.old.nodes.given node }
     requires few { length graph.old.observers < 2 ^ 32 - 1 }
     ensures ok { OnOk result ((o : AnObserver) × Observes graph.old graph.new o node × (observers.new.items ≡ observers.old.items ++ o ∷ [])) }
     ensures graph_kept { OnErr result (graph.new ≡ graph.old) }

@@ -4,6 +4,7 @@ use Rattle.necessity.specs.Turn.{to_needed}
 use Rattle.necessity.specs.Counting.{IsUnderWay}
 use Rattle.necessity.proofs.Turning.{taken_up, behind_taken}
 use Rattle.necessity.proofs.Steps.{recount_steps, behind_as_before, one_waits_more, roots_as_before, due_there, due_fits, due_counted}
+use Rattle.necessity.proofs.Idle.{row_again}
 use Rattle.necessity.proofs.cascade.recount_kids.Goals as goal
 
 pub loop-k-init : goal.loop-k-init
@@ -18,6 +19,7 @@ loop-k-init c = rw c.into_iter-k-iterator.ensures.into_iter_gives (
       under_way = taken_up t l m w due c.args.p c.requires.under_way c.kids-k-items.ensures;
       room = omega (arith, taken);
       roots = λ k. refl;
+      rows = λ k held. held;
       capacity = refl;
     })
 
@@ -58,6 +60,7 @@ loop-k-preserved c =
       under_way = recount_steps t l m m2 w w2 left k under_way row waits;
       room = omega (arith, long, after, more, c.loop-k.invariant.room);
       roots = λ x. roots_as_before t l m m2 w w2 left k under_way row waits x ∙ c.loop-k.invariant.roots x;
+      rows = λ x held. c.loop-k.invariant.rows x (row_again m m2 k _ row (due_there t l m w left k under_way) x held);
       capacity = c.recount.ensures.capacity ∙ c.loop-k.invariant.capacity;
     }
 
@@ -69,6 +72,7 @@ returns c =
       under_way = subst (λ due. IsUnderWay (to_needed c.args.turn) c.args.links.now c.loop-k.rows c.loop-k.waiting.items due)
           none.0 c.loop-k.invariant.under_way;
       roots = c.loop-k.invariant.roots;
+      rows = c.loop-k.invariant.rows;
       behind = omega (arith, long, c.loop-k.invariant.room);
       capacity = c.loop-k.invariant.capacity;
     }

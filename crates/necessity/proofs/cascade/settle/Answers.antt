@@ -13,6 +13,7 @@ loop-p-preserved c =
       under_way = c.recount_kids.ensures.under_way;
       room = omega (arith, room, long, c.recount_kids.ensures.behind, c.recount_kids.ensures.capacity, c.in-Some.ensures.capacity);
       roots = λ k. c.recount_kids.ensures.roots k ∙ c.loop-p.invariant.roots k;
+      rows = λ k held. c.loop-p.invariant.rows k (c.recount_kids.ensures.rows k held);
       capacity = omega (arith, c.recount_kids.ensures.capacity, c.in-Some.ensures.capacity, c.loop-p.invariant.capacity);
     }
 

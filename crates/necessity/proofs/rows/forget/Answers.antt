@@ -1,3 +1,4 @@
+use Rattle.necessity.proofs.Idle.{row_gone}
 use Rattle.necessity.proofs.Starts.{needs_kept, rest_forgets}
 use Rattle.necessity.proofs.rows.forget.Goals as goal
 
@@ -13,4 +14,5 @@ returns-then-is_idle c =
       at_rest = rest_forgets l m new p c.requires.at_rest idle.no_kids idle.no_readers idle.no_root off;
       needs = needs_kept l m new p c.requires.at_rest idle.no_kids idle.no_readers idle.no_root off;
       gone = λ h. off.changed;
+      rows = row_gone m new p off;
     }

@@ -1,4 +1,4 @@
-use Rattle.std.proofs.Common.{ap, refl}
+use Rattle.std.proofs.Common.{refl}
 use Rattle.script_run.proofs.Course.{Ran-nothing}
 use Rattle.script_run.proofs.Steps.{keeps_same, memory_no_read, memory_no_write, no_fault, runs_lines}
 use Rattle.script_run.proofs.running.run_lines.Goals as goal
@@ -11,17 +11,7 @@ returns-in-Err g c = record {
   sink = no_fault _ _ refl memory_no_write;
 }
 
-pub returns-in-Err-new : goal.returns-in-Err-new
-returns-in-Err-new g c =
-    let same = c.in-Err-new.ensures.handed_back in
-    record {
-      ran = Ran-nothing _ _ _ _ _ (ap g.L.Library.calls same);
-      library = keeps_same _ _ _ _ _ same;
-      source = no_fault _ _ refl memory_no_read;
-      sink = no_fault _ _ refl memory_no_write;
-    }
-
 pub returns : goal.returns
 returns g c =
-    let s = c.in-Ok-new.ensures in
+    let s = c.new-session.ensures in
     runs_lines _ _ _ _ _ _ _ _ _ _ s.library c.into_library.ensures s.first c.in-Ok.ensures.ok c.take_lines-ending.ensures

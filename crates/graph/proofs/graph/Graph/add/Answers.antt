@@ -1,11 +1,13 @@
-use Rattle.std.proofs.Common.{Err, refl, sym, ap, subst, ◌∙◌}
+use Rattle.std.proofs.Common.{inl, Err, refl, sym, ap, subst, ◌∙◌}
 use Rattle.node_arena.specs.declared.arena.AddFault.TheVariants as add
 use Rattle.graph.specs.declared.fault.GraphFault.TheVariants as fault
-use Rattle.graph.proofs.Faulting.{AddPasses, add_passed, add_wrong_type}
+use Rattle.graph.proofs.Faulting.{AddPasses, add_passed, add_wrong_type, id_passes}
 use Rattle.inc_terms.specs.Code.{def_of}
 use Rattle.inc_terms.specs.Depend.{main}
 use Rattle.necessity.specs.Need.{Roots, root_times}
-use Rattle.graph.proofs.Sounding.{AddAnswers, sound_still, answer_fits, answer_given}
+use Rattle.inc_terms.specs.Within.{Given}
+use Rattle.graph.proofs.Seeing.{beside_as}
+use Rattle.graph.proofs.Sounding.{AddAnswers, adds_of, sound_still, answer_fits, answer_given}
 use Rattle.graph.proofs.graph.Graph.add.Goals as goal
 use Rattle.graph.proofs.graph.Graph.add.Goals.{in-Ok-added, in-Err-added}
 
@@ -30,3 +32,17 @@ returns-clause-wrong_type g c = rw (← c.self.view_is) (add_passed c.add-added.
       | in-Ok-added w ↦ subst (λ r. AddPasses r c.match-added.result) (sym w.in-Ok-added.is) w.result-is
       | in-Err-added w ↦ subst (λ r. AddPasses r c.match-added.result) (sym w.in-Err-added.is) (w.result-is ∙ ap Err w.add_fault.ensures)
     ]) add_wrong_type refl c.add-added.ensures.wrong_type (rw (← c.self.view_is) at c.in-Ok.ensures.unbroken))
+
+pub returns-clause-added : goal.returns-clause-added
+returns-clause-added g c =
+    let a = c.add-added.ensures in
+    let passes : AddPasses c.add-added.result c.match-added.result = elim c.match-added.branch [
+      | in-Ok-added w ↦ subst (λ r. AddPasses r c.match-added.result) (sym w.in-Ok-added.is) w.result-is
+      | in-Err-added w ↦ subst (λ r. AddPasses r c.match-added.result) (sym w.in-Err-added.is) (w.result-is ∙ ap Err w.add_fault.ensures)
+    ] in
+    let answers : AddAnswers c.self.inside.parts.arena c.add-added.new.self.arena (def_of c.args.def) c.args.ty c.add-added.result
+    = record { added = a.added; given = a.given; err = a.err; fresh = a.id; unknown = a.unknown.1 } in
+    let beside = beside_as c.self.inside.functions c.self.inside.parts c.add-added.new.self c.self.inside.observers.items c.self.inside.rooted
+    c.self.inside.refused (Given c.self.inside.parts.arena.given) a.ran a.links a.roots a.rows (λ n. inl (a.cutoffs n)) in
+    rw (← c.self.view_is) (id_passes _ c.add-added.result c.match-added.result passes
+    (adds_of _ _ (def_of c.args.def) c.args.ty c.add-added.result _ refl refl refl answers a.row beside))

@@ -1,12 +1,14 @@
-use Rattle.std.proofs.Common.{arith}
+use Rattle.std.proofs.Common.{◌<◌, arith}
 use Rattle.inc_terms.specs.Depend.{main}
+use Rattle.graph.proofs.Seeing.{needed_out, beside_as}
 use Rattle.graph.proofs.TakingBack.{sound_back}
 use Rattle.graph.proofs.graph.Graph.back_to.Goals as goal
 
 pub back_to-requires-clause-unneeded : goal.back_to-requires-clause-unneeded
 back_to-requires-clause-unneeded g c p since need =
     let whole = rw (← c.self.view_is) at c.in_ok-check.ensures.unbroken in
-    let low = (rw (← c.self.view_is) at c.requires.unneeded) whole p need in omega (arith, low, since)
+    let low = (rw (← c.self.view_is) at c.requires.unneeded) whole p (needed_out c.self.inside.functions c.self.inside.parts
+    c.self.inside.observers.items c.self.inside.rooted c.self.inside.refused p need) in omega (arith, low, since)
 
 pub invariant_of-self : goal.invariant_of-self
 invariant_of-self g c = (
@@ -15,6 +17,19 @@ invariant_of-self g c = (
       let low = (rw (← c.self.view_is) at c.requires.unneeded) whole in
       let b = c.back_to.ensures in
       sound_back _ _ c.self.inside.parts c.back_to.new.self c.self.inside.observers.items c.self.inside.rooted c.self.inside.refused c.self.invariant.1
-      c.args.mark.given b.older b.dropped whole (b.ready _) b.roots b.given (λ n older. b.rows (main n) older) low),
+      c.args.mark.given b.older b.dropped whole (b.ready _) b.roots b.given (λ n older. b.rows (main n) older)
+      (λ p need. low p (needed_out c.self.inside.functions c.self.inside.parts c.self.inside.observers.items c.self.inside.rooted
+      c.self.inside.refused p need))),
   c.self.invariant.2,
 )
+
+pub returns-clause-taken : goal.returns-clause-taken
+returns-clause-taken g c =
+    let b = c.back_to.ensures in
+    rw (← c.self.view_is) (record {
+      beside = beside_as c.self.inside.functions c.self.inside.parts c.back_to.new.self c.self.inside.observers.items c.self.inside.rooted
+          c.self.inside.refused (λ n. n.gen_ < c.args.mark.given) b.ran b.links b.roots b.rows b.other_cutoffs;
+      older = b.older;
+      dropped = b.dropped;
+      given = b.given;
+    })

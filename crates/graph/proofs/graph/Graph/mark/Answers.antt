@@ -1,4 +1,5 @@
 use Rattle.graph.proofs.Observing.{front_is_among}
+use Rattle.graph.proofs.Seeing.{needed_in}
 use Rattle.graph.proofs.graph.Graph.mark.Goals as goal
 
 pub returns-clause-observed : goal.returns-clause-observed
@@ -18,4 +19,5 @@ pub returns-clause-needed : goal.returns-clause-needed
 returns-clause-needed g c p need =
     let whole = rw (← c.self.view_is) at c.in_ok-check.ensures.unbroken in
     let kept = (c.self.invariant.1.unbroken whole).ready.kept in
-    rw (c.given.ensures, c.arena.ensures) (kept.given p (kept.step.there p (rw (← c.self.view_is) at need)))
+    rw (c.given.ensures, c.arena.ensures) (kept.given p (kept.step.there p (needed_in c.self.inside.functions c.self.inside.parts
+    c.self.inside.observers.items c.self.inside.rooted c.self.inside.refused p (rw (← c.self.view_is) at need))))

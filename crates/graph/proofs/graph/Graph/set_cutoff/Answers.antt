@@ -1,4 +1,4 @@
-use Rattle.graph.proofs.Cutting.{sound_cut}
+use Rattle.graph.proofs.Cutting.{sound_cut, sets_cutoff}
 use Rattle.graph.proofs.graph.Graph.set_cutoff.Goals as goal
 
 pub invariant_of-self : goal.invariant_of-self
@@ -9,3 +9,9 @@ invariant_of-self g c = (
       c.self.inside.rooted c.self.inside.refused c.self.invariant.1 (rw (← c.self.view_is) at c.in_ok-check.ensures.unbroken) (a.ready _)),
   c.self.invariant.2,
 )
+
+pub returns-clause-set : goal.returns-clause-set
+returns-clause-set g c =
+    let a = c.set_cutoff.ensures in
+    rw (← c.self.view_is) (sets_cutoff c.self.inside.parts c.set_cutoff.new.self c.args.node c.args.cutoff a.cutoff a.rest c.self.inside.functions
+    c.self.inside.observers.items c.self.inside.rooted c.self.inside.refused c.self.invariant.1.kept a.dead)

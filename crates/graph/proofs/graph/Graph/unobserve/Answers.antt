@@ -1,11 +1,11 @@
 use Rattle.std.proofs.Common.{List, refl, sym, ap, subst, ◌∙◌}
-use Rattle.inc_terms.specs.Depend.{main}
+use Rattle.inc_terms.specs.Depend.{main, change}
 use Rattle.point_map.specs.Rows.{Rows, at}
 use Rattle.node_outcomes.specs.Computing.{seen_of}
 use Rattle.stabilizer.specs.Round.{last_of}
-use Rattle.node_outcomes.specs.Row.{never_in}
+use Rattle.node_outcomes.specs.Row.{outcome_in, cutoff_in}
 use Rattle.node_outcomes.specs.declared.row.Progress.{Progress}
-use Rattle.graph.specs.Sound.{IsSound}
+use Rattle.graph.specs.Inside.{FitsInside}
 use Rattle.graph.specs.declared.observer.Observer.{Observer}
 use Rattle.graph.proofs.Observing.{front_among}
 use Rattle.graph.proofs.Unobserving.{sound_unmade, sound_ended, is_root, roots_fewer}
@@ -23,7 +23,7 @@ invariant_of-self g c = (
   c.self.invariant.0,
   (let is = rw c.deref.ensures.value at (sym c.node_at.ensures ∙ c.in-Some.is) in
       let u = c.unroot.ensures in
-      subst (λ (os : List Observer). IsSound (g.F.Functions.known c.self.inside.functions) (g.F.Functions.value c.self.inside.functions)
+      subst (λ (os : List Observer). FitsInside (g.F.Functions.known c.self.inside.functions) (g.F.Functions.value c.self.inside.functions)
       c.unroot.new.self os c.self.inside.rooted c.self.inside.refused) (sym c.end.ensures)
       (sound_ended _ _ c.self.inside.parts c.unroot.new.self c.self.inside.observers.items c.self.inside.rooted c.args.observer.0
       c.self.inside.refused c.self.invariant.1 c.in-Some.node is (rw (← c.self.view_is) at c.in_ok-check.ensures.unbroken) c.if-place-self.true (u.ready _) u.rooted u.arena u.rows)),
@@ -34,7 +34,7 @@ pub invariant_of-self-else-place-self : goal.invariant_of-self-else-place-self
 invariant_of-self-else-place-self g c = (
   c.self.invariant.0,
   (let is = rw c.deref.ensures.value at (sym c.node_at.ensures ∙ c.in-Some.is) in
-      subst (λ (os : List Observer). IsSound (g.F.Functions.known c.self.inside.functions) (g.F.Functions.value c.self.inside.functions)
+      subst (λ (os : List Observer). FitsInside (g.F.Functions.known c.self.inside.functions) (g.F.Functions.value c.self.inside.functions)
       c.self.inside.parts os c.self.inside.rooted c.self.inside.refused) (sym c.end.ensures)
       (sound_unmade _ _ c.self.inside.parts c.self.inside.parts c.self.inside.observers.items c.self.inside.rooted c.args.observer.0
       c.self.inside.refused c.self.invariant.1 c.in-Some.node is c.if-place-self.false)),
@@ -50,13 +50,14 @@ returns-then-place-self-clause-ended g c =
       was = is;
       observers = c.end.ensures;
       functions = refl;
-      arena = u.arena;
+      nodes = u.arena;
       rooted = refl;
       refused = refl;
+      ran = ap (λ v. v.items) u.ran;
       shown = λ n. ap (λ (m : Rows Progress). seen_of (at m (main n))) u.rows;
+      chosen = λ n. ap (λ (m : Rows Progress). outcome_in (at m (change n))) u.rows;
       last = λ n. ap (λ (m : Rows Progress). last_of (at m (main n))) u.rows;
-      cutoffs = λ n. ap (λ (m : Rows Progress). never_in (at m (main n))) u.rows;
-      fewer = u.unrooted.sweep.fewer;
-      ran = u.ran;
-      unrooted = roots_fewer _ _ (main c.in-Some.node) u.roots;
+      cutoff = λ n. ap (λ (m : Rows Progress). cutoff_in (at m (main n))) u.rows;
+      fewer_links = u.unrooted.sweep.fewer;
+      fewer_roots = roots_fewer _ _ (main c.in-Some.node) u.roots;
     })

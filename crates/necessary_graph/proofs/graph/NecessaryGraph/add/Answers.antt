@@ -28,3 +28,9 @@ invariant_of-self-2 c =
       rw e (room_added i.heights.heights c.add_at.new.self.heights i.heap c.reserve.new.self i.points c.args.p c.args.height c.self.invariant.2 added heap
           c.reserve.ensures.count (omega (arith, e, c.len.ensures, c.reserve.ensures.count, c.in_ok-reserve.ensures.room))),
     )
+
+pub returns-in_err-add_at-clause-in_step : goal.returns-in_err-add_at-clause-in_step
+returns-in_err-add_at-clause-in_step c = (invariant_of-self-in_err-add_at c).1
+
+pub returns-clause-in_step : goal.returns-clause-in_step
+returns-clause-in_step c = (invariant_of-self-2 c).1

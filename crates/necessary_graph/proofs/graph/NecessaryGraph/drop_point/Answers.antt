@@ -33,3 +33,6 @@ invariant_of-self c =
           (unread g inv.1 c.args.p unneeded),
       room.1,
     )
+
+pub returns-clause-in_step : goal.returns-clause-in_step
+returns-clause-in_step c = (invariant_of-self c).1

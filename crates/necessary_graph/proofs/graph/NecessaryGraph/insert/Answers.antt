@@ -10,3 +10,6 @@ invariant_of-self c =
       put_stands (part_of i.heights i.needs i.heap) c.self.invariant.1 c.put.new.heap c.args.p needed c.put.ensures.put,
       c.put.ensures.room i.points c.self.invariant.2,
     )
+
+pub returns-clause-in_step : goal.returns-clause-in_step
+returns-clause-in_step c = (invariant_of-self c).1

@@ -11,3 +11,6 @@ invariant_of-self g c =
           e.heights e.put,
       e.room i.points c.self.invariant.2,
     )
+
+pub returns-clause-in_step : goal.returns-clause-in_step
+returns-clause-in_step g c = (invariant_of-self g c).1

@@ -161,3 +161,12 @@ invariant_of-self-in-Err c =
 
 pub returns-in-Err-clause-err : goal.returns-in-Err-clause-err
 returns-in-Err-clause-err c = rw (← c.self.view_is) c.in-Err.ensures.err
+
+pub returns-in_err-linked-clause-in_step : goal.returns-in_err-linked-clause-in_step
+returns-in_err-linked-clause-in_step c = (invariant_of-self c).1
+
+pub returns-in-Ok-clause-in_step : goal.returns-in-Ok-clause-in_step
+returns-in-Ok-clause-in_step c = (invariant_of-self-in-Ok c).1
+
+pub returns-in-Err-clause-in_step : goal.returns-in-Err-clause-in_step
+returns-in-Err-clause-in_step c = (invariant_of-self-in-Err c).1

@@ -11,3 +11,6 @@ invariant_of-self-2 c =
       taken_in_step (part_of i.heights i.needs i.heap) c.self.invariant.1 c.pop_least.new.self c.in_ok-p.p e.changes,
       room_taken i.heights.heights i.heap c.pop_least.new.self i.points c.in_ok-p.p c.self.invariant.2 e.changes e.count e.spare,
     )
+
+pub returns-clause-in_step : goal.returns-clause-in_step
+returns-clause-in_step c = (invariant_of-self-2 c).1

@@ -19,8 +19,8 @@ invariant_of-self c =
       w.room i.points c.self.invariant.2,
     )
 
-pub returns-then-not-is_needed : goal.returns-then-not-is_needed
-returns-then-not-is_needed c =
+pub returns-then-not-is_needed-clause-unrooted : goal.returns-then-not-is_needed-clause-unrooted
+returns-then-not-is_needed-clause-unrooted c =
     let i = c.self.inside in
     let old : NecessaryPart = part_of i.heights i.needs i.heap in
     let t : NecessaryPart = part_of i.heights c.make_unneeded.new.self i.heap in
@@ -40,10 +40,16 @@ invariant_of-self-else-not-is_needed c =
       c.self.invariant.2,
     )
 
-pub returns-else-not-is_needed : goal.returns-else-not-is_needed
-returns-else-not-is_needed c =
+pub returns-else-not-is_needed-clause-unrooted : goal.returns-else-not-is_needed-clause-unrooted
+returns-else-not-is_needed-clause-unrooted c =
     let i = c.self.inside in
     let old : NecessaryPart = part_of i.heights i.needs i.heap in
     let t : NecessaryPart = part_of i.heights c.make_unneeded.new.self i.heap in
     rw (← c.self.view_is) ((unrooted_alone old t c.args.p c.self.invariant.1 c.make_unneeded.ensures.root c.make_unneeded.ensures.links refl refl
     (c.if-not-is_needed.ensures.0 refl)).0)
+
+pub returns-then-not-is_needed-clause-in_step : goal.returns-then-not-is_needed-clause-in_step
+returns-then-not-is_needed-clause-in_step c = (invariant_of-self c).1
+
+pub returns-else-not-is_needed-clause-in_step : goal.returns-else-not-is_needed-clause-in_step
+returns-else-not-is_needed-clause-in_step c = (invariant_of-self-else-not-is_needed c).1

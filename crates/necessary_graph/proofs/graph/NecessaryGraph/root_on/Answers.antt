@@ -41,3 +41,9 @@ returns-clause-needed c =
     let old : NecessaryPart = part_of i.heights i.needs i.heap in
     let new : NecessaryPart = part_of i.heights c.make_needed.new.self i.heap in
     rw (← c.self.view_is) (root_needs old new c.args.p c.self.invariant.1 c.in_ok-make_needed.ensures.root c.make_needed.ensures.links)
+
+pub returns-in_err-make_needed-clause-in_step : goal.returns-in_err-make_needed-clause-in_step
+returns-in_err-make_needed-clause-in_step c = (invariant_of-self c).1
+
+pub returns-clause-in_step : goal.returns-clause-in_step
+returns-clause-in_step c = (invariant_of-self-2 c).1

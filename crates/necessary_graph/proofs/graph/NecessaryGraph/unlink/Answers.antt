@@ -25,8 +25,8 @@ invariant_of-self c =
       w.room i.points (rw c.unlink.ensures.heights c.self.invariant.2),
     )
 
-pub returns-then-not-is_needed : goal.returns-then-not-is_needed
-returns-then-not-is_needed c =
+pub returns-then-not-is_needed-clause-unlinked : goal.returns-then-not-is_needed-clause-unlinked
+returns-then-not-is_needed-clause-unlinked c =
     let i = c.self.inside in
     let old : NecessaryPart = part_of i.heights i.needs i.heap in
     let t : NecessaryPart = part_of c.unlink.new.self c.detach.new.self i.heap in
@@ -46,10 +46,16 @@ invariant_of-self-else-not-is_needed c =
       rw c.unlink.ensures.heights c.self.invariant.2,
     )
 
-pub returns-else-not-is_needed : goal.returns-else-not-is_needed
-returns-else-not-is_needed c =
+pub returns-else-not-is_needed-clause-unlinked : goal.returns-else-not-is_needed-clause-unlinked
+returns-else-not-is_needed-clause-unlinked c =
     let i = c.self.inside in
     let old : NecessaryPart = part_of i.heights i.needs i.heap in
     let t : NecessaryPart = part_of c.unlink.new.self c.detach.new.self i.heap in
     rw (← c.self.view_is) ((unlinked_alone old t c.args.p c.args.q c.self.invariant.1 c.detach.ensures.link c.detach.ensures.roots
     c.unlink.ensures.heights refl (c.if-not-is_needed.ensures.0 refl)).0)
+
+pub returns-then-not-is_needed-clause-in_step : goal.returns-then-not-is_needed-clause-in_step
+returns-then-not-is_needed-clause-in_step c = (invariant_of-self c).1
+
+pub returns-else-not-is_needed-clause-in_step : goal.returns-else-not-is_needed-clause-in_step
+returns-else-not-is_needed-clause-in_step c = (invariant_of-self-else-not-is_needed c).1

@@ -1,5 +1,6 @@
 use Rattle.std.proofs.Common.{◌∙◌, ap, sym, subst, arith, vec_capacity}
 use Rattle.necessity.specs.Counting.{IsSound}
+use Rattle.necessity.proofs.Idle.{idle_attach}
 use Rattle.necessity.proofs.Starts.{length_more}
 use Rattle.necessity.proofs.Reaching.{acyclic_more}
 use Rattle.necessity.proofs.Sound.{on_err, rest_of_rows, needs_of_rows, counts_of_needs, roots_kept, sound_kept, attach_due, attach_due_room}
@@ -50,6 +51,9 @@ invariant_of-self-2 c =
       none_wait = c.recount_link.ensures.none_wait;
       all = omega (arith, long, c.self.invariant.all);
       fit = omega (arith, c.in_ok-reserve.ensures.ok, c.recount_link.ensures.capacity);
+      no_idle_row = idle_attach l c.add.new.self c.args.p c.args.q one c.self.inside.rows c.reserve-2.new.self c.open.new.rows c.open-2.new.rows
+          c.recount_link.new.rows c.self.invariant.no_idle_row c.reserve-2.ensures.rows c.open.ensures.needs c.open.ensures.others
+          c.open-2.ensures.needs c.open-2.ensures.others c.recount_link.ensures.roots c.recount_link.ensures.rows;
     }
 
 pub returns : goal.returns

@@ -1,4 +1,5 @@
 use Rattle.std.proofs.Common.{◌∙◌, ap, arith}
+use Rattle.necessity.proofs.Idle.{idle_detach}
 use Rattle.necessity.proofs.Starts.{length_more}
 use Rattle.necessity.proofs.Reaching.{acyclic_fewer}
 use Rattle.necessity.proofs.Sound.{roots_kept, detach_due, detach_due_room}
@@ -28,6 +29,10 @@ invariant_of-self c =
       none_wait = c.recount_link.ensures.none_wait;
       all = omega (arith, long, c.self.invariant.all);
       fit = omega (arith, c.self.invariant.fit, c.recount_link.ensures.capacity);
+      no_idle_row = idle_detach c.remove.new.self c.self.inside.links c.args.p c.args.q one c.self.inside.rows c.recount_link.new.rows
+          c.forget.new.rows c.forget-2.new.rows c.self.invariant.no_idle_row c.recount_link.ensures.roots c.recount_link.ensures.rows
+          c.forget.ensures.needs c.forget.ensures.rows c.forget.ensures.gone
+          c.forget-2.ensures.needs c.forget-2.ensures.rows c.forget-2.ensures.gone;
     }
 
 pub returns : goal.returns

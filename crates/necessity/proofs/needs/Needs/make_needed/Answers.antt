@@ -2,6 +2,7 @@ use Rattle.std.proofs.Common.{◌≡◌, ◌∙◌, ◌+◌, [], ◌∷◌, ◌+
 use Rattle.std.proofs.lemmas.Grind.{common_steps}
 use Rattle.necessity.specs.declared.need.Need.{Need}
 use Rattle.necessity.specs.Counting.{IsUnderWay}
+use Rattle.necessity.proofs.Idle.{idle_on}
 use Rattle.necessity.proofs.Sound.{root_on_stays, root_on_turns, root_on}
 use Rattle.necessity.proofs.needs.Needs.make_needed.Goals as goal
 
@@ -17,6 +18,8 @@ invariant_of-self-then-is_above_zero c =
       none_wait = c.self.invariant.none_wait;
       all = c.self.invariant.all;
       fit = c.self.invariant.fit;
+      no_idle_row = idle_on c.self.inside.links c.self.inside.rows c.reserve.new.self c.put.new.rows c.put.new.rows c.args.p is
+          c.self.invariant.no_idle_row c.reserve.ensures.rows c.put.ensures (omega (arith, raised)) (λ k. refl) (λ k held. held);
     }
 
 pub returns-then-is_above_zero-clause-root : goal.returns-then-is_above_zero-clause-root
@@ -44,3 +47,19 @@ returns-clause-root c =
     root_on c.self.inside.links c.self.inside.rows c.reserve.new.self c.put.new.rows c.args.p c.need_of-need.result is
     c.self.invariant.at_rest c.reserve.ensures.rows c.put.ensures c.need_of-need.ensures refl raised
     c.settle.new.rows (λ k. c.settle.ensures.roots k ∙ c.recount_kids.ensures.roots k))
+
+pub invariant_of-self-2 : goal.invariant_of-self-2
+invariant_of-self-2 c =
+    let raised : c.in_ok-roots.roots ≡ c.need_of-need.result.roots + 1 = grind (arith, common_steps) in
+    let is : Need = record { roots = c.in_ok-roots.roots; by = c.need_of-need.result.by } in
+    record {
+      at_rest = c.settle.ensures.at_rest;
+      acyclic = c.self.invariant.acyclic;
+      none_wait = c.settle.ensures.none_wait;
+      all = c.self.invariant.all;
+      fit = omega (arith, c.self.invariant.fit, c.settle.ensures.capacity, c.recount_kids.ensures.capacity);
+      no_idle_row = idle_on c.self.inside.links c.self.inside.rows c.reserve.new.self c.put.new.rows c.settle.new.rows c.args.p is
+          c.self.invariant.no_idle_row c.reserve.ensures.rows c.put.ensures (omega (arith, raised))
+          (λ k. c.settle.ensures.roots k ∙ c.recount_kids.ensures.roots k)
+          (λ k held. c.recount_kids.ensures.rows k (c.settle.ensures.rows k held));
+    }

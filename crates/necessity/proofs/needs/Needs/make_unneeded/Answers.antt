@@ -2,6 +2,7 @@ use Rattle.std.proofs.Common.{◌≡◌, ◌∙◌, ◌+◌, ◌-◌, [], ◌∷
 use Rattle.necessity.specs.declared.need.Need.{Need}
 use Rattle.necessity.specs.Counting.{IsUnderWay}
 use Rattle.necessity.proofs.Reaching.{roots_seen}
+use Rattle.necessity.proofs.Idle.{idle_off, idle_needed}
 use Rattle.necessity.proofs.Sound.{root_off_stays, root_off_turns, root_off, root_held}
 use Rattle.necessity.proofs.needs.Needs.make_unneeded.Goals as goal
 
@@ -20,13 +21,32 @@ invariant_of-self c =
     let is : Need = record { roots = c.need_of-need.result.roots - 1; by = c.need_of-need.result.by } in
     let raised : c.need_of-need.result.roots ≡ is.roots + 1 = omega (arith, root, some) in
     let on = sym c.is_above_zero.ensures ∙ c.if-is_above_zero.true in
+    let rest = root_off_stays c.self.inside.links c.self.inside.rows c.replace-was.new.self c.args.p c.need_of-need.result is
+    c.self.invariant.at_rest c.replace-was.ensures.changes c.need_of-need.ensures refl raised on in
     record {
-      at_rest = root_off_stays c.self.inside.links c.self.inside.rows c.replace-was.new.self c.args.p c.need_of-need.result is
-          c.self.invariant.at_rest c.replace-was.ensures.changes c.need_of-need.ensures refl raised on;
+      at_rest = rest;
       acyclic = c.self.invariant.acyclic;
       none_wait = c.self.invariant.none_wait;
       all = c.self.invariant.all;
       fit = c.self.invariant.fit;
+      no_idle_row = idle_needed c.self.inside.links c.self.inside.rows c.replace-was.new.self c.args.p is c.self.invariant.no_idle_row
+          c.replace-was.ensures.changes rest on;
+    }
+
+pub invariant_of-self-2 : goal.invariant_of-self-2
+invariant_of-self-2 c =
+    let is : Need = record { roots = c.need_of-need.result.roots - 1; by = c.need_of-need.result.by } in
+    record {
+      at_rest = c.forget.ensures.at_rest;
+      acyclic = c.self.invariant.acyclic;
+      none_wait = c.settle.ensures.none_wait;
+      all = c.self.invariant.all;
+      fit = omega (arith, c.self.invariant.fit, c.settle.ensures.capacity, c.recount_kids.ensures.capacity);
+      no_idle_row = idle_off c.self.inside.links c.self.inside.rows c.replace-was.new.self c.settle.new.rows c.forget.new.rows c.args.p is
+          c.self.invariant.no_idle_row c.replace-was.ensures.changes
+          (λ k. c.settle.ensures.roots k ∙ c.recount_kids.ensures.roots k)
+          (λ k held. c.recount_kids.ensures.rows k (c.settle.ensures.rows k held))
+          c.forget.ensures.gone c.forget.ensures.needs c.forget.ensures.rows;
     }
 
 pub returns-then-is_above_zero-clause-root : goal.returns-then-is_above_zero-clause-root

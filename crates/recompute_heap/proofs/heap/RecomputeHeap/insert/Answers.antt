@@ -1,7 +1,7 @@
 use Rattle.std.proofs.Common.{◌≤◌, refl, ap, sym, ◌∙◌, arith}
 use Rattle.point_map.specs.Rows.{at}
 use Rattle.point_map.specs.Buckets.{kept_at}
-use Rattle.recompute_heap.proofs.Agreeing.{absent_place, agree_put, height_put, height_new, view_at, every_put}
+use Rattle.recompute_heap.proofs.Agreeing.{absent_place, agree_put, height_put, height_new, view_at, every_put, buckets_same}
 use Rattle.recompute_heap.proofs.heap.RecomputeHeap.insert.Goals as goal
 
 pub insert-requires-clause-absent : goal.insert-requires-clause-absent
@@ -23,7 +23,7 @@ invariant_of-self c =
           (record { bucket = c.args.height; point = c.args.p; row = tt })
           (λ j k h. let was = c.self.invariant.1 j k h in let m = c.min-self-inside.ensures in grind (arith, m, was)) e.changes
           (let m = c.min-self-inside.ensures in grind (arith, m)),
-      e.width ∙ c.self.invariant.2,
+      buckets_same c.self.inside.buckets c.push-place.new.self 129 c.self.invariant.2 e.width (omega (arith, e.spare, e.count)),
       omega (arith, e.spare, c.insert.ensures.spare, c.self.invariant.3),
       (let m = c.min-self-inside.ensures in grind (arith, m, c.self.invariant.4)),
       every_put (λ k. k.bucket ≤ 128) c.self.inside.buckets c.push-place.new.self c.push-place.result

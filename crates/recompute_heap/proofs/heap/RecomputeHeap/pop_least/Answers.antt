@@ -2,8 +2,8 @@ use Rattle.std.proofs.Common.{◌≡◌, ◌≤◌, Some, ap, sym, subst, ◌∙
 use Rattle.std.specs.Prelude.{option_and_then}
 use Rattle.point_map.specs.Rows.{at}
 use Rattle.point_map.specs.Buckets.{kept_at}
-use Rattle.recompute_heap.specs.Agree.{Agree, heights_of}
-use Rattle.recompute_heap.proofs.Agreeing.{agree_off, height_off, height_none, view_at, every_off, every_height, none_there, none_counted}
+use Rattle.recompute_heap.specs.Agree.{Agree, HasBuckets, heights_of}
+use Rattle.recompute_heap.proofs.Agreeing.{agree_off, height_off, height_none, view_at, every_off, every_height, none_there, none_counted, buckets_same}
 use Rattle.recompute_heap.proofs.heap.RecomputeHeap.pop_least.Goals as goal
 
 pub remove-place-requires : goal.remove-place-requires
@@ -28,7 +28,8 @@ invariant_of-self-in-Some c =
           there c.remove-place.ensures.changes.changed c.remove-place.ensures.changes.others c.in-Some.ensures.changes.changed
           c.in-Some.ensures.changes.others,
       every_off (λ k. now.least ≤ k.bucket) now.buckets c.pop.new.self c.in-Some._place c.loop-self.invariant.2 c.in-Some.ensures.changes,
-      c.in-Some.ensures.width ∙ ap (λ b. b.width) bs ∙ c.self.invariant.2,
+      buckets_same now.buckets c.pop.new.self 129 (subst (λ b. HasBuckets b 129) (sym bs) c.self.invariant.2) c.in-Some.ensures.width
+          (omega (arith, c.in-Some.ensures.spare, c.in-Some.ensures.count)),
       omega (
         arith,
         c.in-Some.ensures.spare,

@@ -1,7 +1,7 @@
 use Rattle.std.proofs.Common.{◌≤◌, ap, sym, ◌∙◌, is_some, arith}
 use Rattle.point_map.specs.Rows.{at}
 use Rattle.point_map.specs.Buckets.{kept_at}
-use Rattle.recompute_heap.proofs.Agreeing.{some_height, agree_off, height_off, height_none, agree_moved, height_moved, height_gone, view_at, every_taken, vacated_is, point_from, point_none}
+use Rattle.recompute_heap.proofs.Agreeing.{some_height, agree_off, height_off, height_none, agree_moved, height_moved, height_gone, view_at, every_taken, vacated_is, point_from, point_none, buckets_same}
 use Rattle.recompute_heap.proofs.heap.RecomputeHeap.remove.Goals as goal
 
 pub remove-place-requires : goal.remove-place-requires
@@ -20,7 +20,8 @@ invariant_of-self c =
           c.args.p c.in-Some.moved c.remove-place.result taken.vacated k.0 c.self.invariant.0 r.value r.changes.changed r.changes.others
           taken.vacant taken.moved taken.others k.1 k.2 c.replace-was.ensures.changes.changed c.replace-was.ensures.changes.others,
       every_taken (λ k. c.self.inside.least ≤ k.bucket) c.self.inside.buckets c.take-taken.new.self c.remove-place.result c.self.invariant.1 taken,
-      c.take-taken.ensures.width ∙ c.self.invariant.2,
+      buckets_same c.self.inside.buckets c.take-taken.new.self 129 c.self.invariant.2 c.take-taken.ensures.width
+          (omega (arith, c.take-taken.ensures.spare, c.take-taken.ensures.count)),
       omega (arith, c.take-taken.ensures.spare, r.spare, c.replace-was.ensures.spare, c.self.invariant.3),
       c.self.invariant.4,
       every_taken (λ k. k.bucket ≤ 128) c.self.inside.buckets c.take-taken.new.self c.remove-place.result c.self.invariant.5 taken,

@@ -14,7 +14,7 @@ invariant_of-self g c =
     let r = rw (← c.self.view_is) at c.requires in
     let made = c.in-Ok.ensures.made in
     rw (c.in-Ok.ensures.names, made.3) (declared_sound s.graph new s.names s.nodes.items s.observers.items s.room s.accepted s.broken
-    c.self.invariant c.keeps_sound.ensures.arena c.keeps_sound-in-Ok.ensures.arena _ c.args.name.now c.args.ty (body_view c.args.body.now) r.fits
+    c.self.invariant c.keeps_sound.ensures.sound.nodes c.keeps_sound-in-Ok.ensures.sound.nodes _ c.args.name.now c.args.ty (body_view c.args.body.now) r.fits
     made.0 c.args.room r.room made.1 made.2)
 
 pub invariant_of-self-in-Err : goal.invariant_of-self-in-Err
@@ -27,7 +27,7 @@ invariant_of-self-in-Err g c =
     let since = c.mark_of-mark.ensures.mark in
     let more = back_extends s.graph full now count kept c.take_back.ensures since in
     rw (c.in-Err.ensures.names_kept, c.in-Err.ensures.nodes_kept) (returned_sound s.graph now s.names s.nodes.items s.observers.items s.room
-    s.accepted s.broken c.self.invariant c.keeps_sound.ensures.arena c.keeps_sound-in-Err.ensures.arena more
+    s.accepted s.broken c.self.invariant c.keeps_sound.ensures.sound.nodes c.keeps_sound-in-Err.ensures.sound.nodes more
     (back_few s.graph full now count kept c.take_back.ensures since))
 
 pub returns-in-Ok-clause-declared : goal.returns-in-Ok-clause-declared
@@ -37,7 +37,7 @@ returns-in-Ok-clause-declared g c =
     let r = rw (← c.self.view_is) at c.requires in
     let made = c.in-Ok.ensures.made in
     rw (← c.self.view_is, c.in-Ok.ensures.names, made.3) (λ m. declared_stands s.graph new s.names s.nodes.items s.observers.items s.room s.accepted
-    s.broken c.self.invariant c.keeps_sound.ensures.arena c.keeps_sound-in-Ok.ensures.arena (g.L.Library.known s.graph.functions.library)
+    s.broken c.self.invariant c.keeps_sound.ensures.sound.nodes c.keeps_sound-in-Ok.ensures.sound.nodes (g.L.Library.known s.graph.functions.library)
     c.args.name.now c.args.ty (body_view c.args.body.now) r.fits made.0 c.args.room r.room made.1 made.2
     (g.L.Library.named s.graph.functions.library) (g.L.Library.value s.graph.functions.library) m r.unbroken)
 
@@ -51,6 +51,6 @@ returns-in-Err-clause-kept g c =
     let since = c.mark_of-mark.ensures.mark in
     let more = back_extends s.graph full now count kept c.take_back.ensures since in
     rw (← c.self.view_is, c.in-Err.ensures.names_kept, c.in-Err.ensures.nodes_kept) (returned_stands s.graph now s.names s.nodes.items
-    s.observers.items s.room s.accepted s.broken c.self.invariant c.keeps_sound.ensures.arena c.keeps_sound-in-Err.ensures.arena more
+    s.observers.items s.room s.accepted s.broken c.self.invariant c.keeps_sound.ensures.sound.nodes c.keeps_sound-in-Err.ensures.sound.nodes more
     (back_calls s.graph full now count kept c.take_back.ensures since) (g.L.Library.named s.graph.functions.library)
     (g.L.Library.value s.graph.functions.library))

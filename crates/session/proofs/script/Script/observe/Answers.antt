@@ -6,7 +6,7 @@ use Rattle.session.proofs.script.Script.observe.Goals as goal
 pub observe_node-requires-clause-given : goal.observe_node-requires-clause-given
 observe_node-requires-clause-given g c =
     let fits = rw (← c.self.view_is) at c.requires.fits in
-    given_node _ c.self.invariant c.keeps_sound.ensures.arena c.args.target fits.earlier c.index-node.result.now c.index-node.ensures
+    given_node _ c.self.invariant c.keeps_sound.ensures.sound.nodes c.args.target fits.earlier c.index-node.result.now c.index-node.ensures
 
 pub invariant_of-self : goal.invariant_of-self
 invariant_of-self g c =

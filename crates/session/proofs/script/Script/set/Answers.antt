@@ -10,17 +10,17 @@ use Rattle.session.proofs.script.Script.set.Goals as goal
 pub set_node-requires-clause-variable : goal.set_node-requires-clause-variable
 set_node-requires-clause-variable g c =
     let fits = rw (← c.self.view_is) at c.requires.fits in
-    (node_takes _ c.self.invariant c.keeps_sound.ensures.arena c.args.target c.args.value fits c.index.result.now c.index.ensures).variable
+    (node_takes _ c.self.invariant c.keeps_sound.ensures.sound.nodes c.args.target c.args.value fits c.index.result.now c.index.ensures).variable
 
 pub set_node-requires-clause-given : goal.set_node-requires-clause-given
 set_node-requires-clause-given g c =
     let fits = rw (← c.self.view_is) at c.requires.fits in
-    (node_takes _ c.self.invariant c.keeps_sound.ensures.arena c.args.target c.args.value fits c.index.result.now c.index.ensures).given
+    (node_takes _ c.self.invariant c.keeps_sound.ensures.sound.nodes c.args.target c.args.value fits c.index.result.now c.index.ensures).given
 
 pub set_node-requires-clause-fits : goal.set_node-requires-clause-fits
 set_node-requires-clause-fits g c =
     let fits = rw (← c.self.view_is) at c.requires.fits in
-    (node_takes _ c.self.invariant c.keeps_sound.ensures.arena c.args.target c.args.value fits c.index.result.now c.index.ensures).fits
+    (node_takes _ c.self.invariant c.keeps_sound.ensures.sound.nodes c.args.target c.args.value fits c.index.result.now c.index.ensures).fits
 
 pub invariant_of-self : goal.invariant_of-self
 invariant_of-self g c =
@@ -29,7 +29,7 @@ invariant_of-self g c =
     let node = target_node _ c.self.invariant c.args.target fits.name.earlier c.index.result.now c.index.ensures in
     let sets = subst (λ (n : NodeId). Sets s.graph c.set_node.new.graph n c.args.value) node c.set_node.ensures in
     set_sound s.graph c.set_node.new.graph s.names s.nodes.items s.observers.items s.room s.accepted s.broken c.self.invariant
-    c.keeps_sound.ensures.arena c.keeps_sound-2.ensures.arena c.args.target c.args.value sets
+    c.keeps_sound.ensures.sound.nodes c.keeps_sound-2.ensures.sound.nodes c.args.target c.args.value sets
 
 pub returns-clause-set : goal.returns-clause-set
 returns-clause-set g c =
@@ -38,4 +38,4 @@ returns-clause-set g c =
     let node = target_node _ c.self.invariant c.args.target fits.name.earlier c.index.result.now c.index.ensures in
     let sets = subst (λ (n : NodeId). Sets s.graph c.set_node.new.graph n c.args.value) node c.set_node.ensures in
     rw (← c.self.view_is) (set_stands s.graph c.set_node.new.graph s.names s.nodes.items s.observers.items s.room s.accepted s.broken c.self.invariant
-    c.keeps_sound.ensures.arena c.keeps_sound-2.ensures.arena c.args.target c.args.value sets fits (g.L.Library.named s.graph.functions.library) (g.L.Library.value s.graph.functions.library))
+    c.keeps_sound.ensures.sound.nodes c.keeps_sound-2.ensures.sound.nodes c.args.target c.args.value sets fits (g.L.Library.named s.graph.functions.library) (g.L.Library.value s.graph.functions.library))

@@ -28,7 +28,7 @@ returns-in-Ok g c =
     rw (← c.self.view_is) (record {
       accepted = λ is m stands.
           session_accepted (g.L.Library.named l) (g.L.Library.value l) _ _ c.self.inside.graph new (g.L.Library.calls l)
-          (g.L.Library.calls new.functions.library) refl unbroken c.keeps_sound.ensures.arena c.keeps_sound.ensures.sound c.in-Ok.ensures.brought c.in-Ok.ensures.calls m stands;
+          (g.L.Library.calls new.functions.library) refl unbroken c.keeps_sound.ensures.sound c.in-Ok.ensures.brought c.in-Ok.ensures.calls m stands;
       too_deep = λ target is. absurd (cc);
       target = λ target is. absurd (cc);
       cut_short = tt;
@@ -64,9 +64,9 @@ returns-in-Some g c =
       too_deep = λ target is m stands.
           let same : c.in-Some.target ≡ target = cc in
           session_too_deep (g.L.Library.named l) (g.L.Library.value l) _ _ c.self.inside.graph new refl unbroken
-          c.keeps_sound.ensures.arena c.keeps_sound.ensures.sound done target (g.L.Library.calls l) (g.L.Library.calls new.functions.library)
+          c.keeps_sound.ensures.sound done target (g.L.Library.calls l) (g.L.Library.calls new.functions.library)
           (first_of new.refused c.self.inside.nodes.items c.deref.result.now c.deref.ensures.value c.in-Some.target target same
-          c.in-Some.ensures.found) (c.stabilize.ensures.few cause.Height for).few m stands;
+          c.in-Some.ensures.found) (c.stabilize.ensures.few cause.Height for) m stands;
       target = λ target is.
           let same : c.in-Some.target ≡ target = cc in
           let many = c.self.invariant.one_node_each in
@@ -106,10 +106,10 @@ returns-in-None g c =
       target = tt;
       cut_short = λ m stands.
           session_cut_short (meanings_of (g.L.Library.named l) (g.L.Library.value l)) _ c.self.inside.graph new (g.L.Library.calls l)
-          (g.L.Library.calls new.functions.library) refl unbroken (c.stabilize.ensures.few cause.Height for).few m stands.matches;
+          (g.L.Library.calls new.functions.library) refl unbroken (c.stabilize.ensures.few cause.Height for) m stands.matches;
       for_memory = λ m stands. absurd (
           session_not_all_older (g.L.Library.named l) (g.L.Library.value l) _ _ c.self.inside.graph new refl unbroken
-          c.keeps_sound.ensures.arena c.keeps_sound.ensures.sound done
+          c.keeps_sound.ensures.sound done
           (none_of new.refused c.self.inside.nodes.items c.deref.result.now c.deref.ensures.value c.in-None.ensures.none) m stands);
       count = omega arith;
       names = refl;
@@ -143,7 +143,7 @@ returns-in-Err-Refused-Memory g c =
       target = tt;
       cut_short = λ m stands.
           session_cut_short (meanings_of (g.L.Library.named l) (g.L.Library.value l)) _ c.self.inside.graph new (g.L.Library.calls l)
-          (g.L.Library.calls new.functions.library) refl unbroken (c.stabilize.ensures.few cause.Memory for).few m stands.matches;
+          (g.L.Library.calls new.functions.library) refl unbroken (c.stabilize.ensures.few cause.Memory for) m stands.matches;
       for_memory = λ m stands. memory_met (functions_of (seen_value (g.L.Library.value l))) c.self.inside.graph new done;
       count = omega arith;
       names = refl;
@@ -177,10 +177,10 @@ returns-in-Err-Refused-Cycle g c =
       target = tt;
       cut_short = λ m stands.
           session_cut_short (meanings_of (g.L.Library.named l) (g.L.Library.value l)) _ c.self.inside.graph new (g.L.Library.calls l)
-          (g.L.Library.calls new.functions.library) refl unbroken (c.stabilize.ensures.few cause.Cycle for).few m stands.matches;
+          (g.L.Library.calls new.functions.library) refl unbroken (c.stabilize.ensures.few cause.Cycle for) m stands.matches;
       for_memory = λ m stands. absurd (
           session_no_cycle (g.L.Library.named l) (g.L.Library.value l) _ _ c.self.inside.graph new refl unbroken
-          c.keeps_sound.ensures.arena c.keeps_sound.ensures.sound done m stands);
+          c.keeps_sound.ensures.sound done m stands);
       count = omega arith;
       names = refl;
       given = ap (λ (a : Arena). a.given) done.nodes;

@@ -27,7 +27,7 @@ or_no_memory-requires-in-Map g c = record {
       let a = c.map.ensures in
       let welcome = rw c.in-Map.is at c.requires.welcome in
       memory_alone c.args.graph.now _ (graph.Map c.in-Map.function c.as_slice.result.now) c.requires.unbroken
-      (subst (λ (ks : List NodeId). IsWelcome (g.L.Library.known c.args.graph.now.functions.library) c.args.graph.now.parts.arena (graph.Map c.in-Map.function ks)) (sym c.as_slice.ensures) welcome)
+      (subst (λ (ks : List NodeId). IsWelcome (g.L.Library.known c.args.graph.now.functions.library) c.args.graph.now.nodes (graph.Map c.in-Map.function ks)) (sym c.as_slice.ensures) welcome)
       c.requires.room c.requires.ids
       c.map.result a.adding (λ cause. (a.broken cause).0) a.unknown a.wrong_type a.full;
 }
@@ -38,7 +38,7 @@ or_no_memory-requires-in-Fold g c = record {
       let a = c.fold.ensures in
       let welcome = rw c.in-Fold.is at c.requires.welcome in
       memory_alone c.args.graph.now _ (graph.Fold c.in-Fold.function c.in-Fold.initial c.as_slice-in-Fold.result.now) c.requires.unbroken
-      (subst (λ (ks : List NodeId). IsWelcome (g.L.Library.known c.args.graph.now.functions.library) c.args.graph.now.parts.arena (graph.Fold c.in-Fold.function c.in-Fold.initial ks)) (sym c.as_slice-in-Fold.ensures) welcome)
+      (subst (λ (ks : List NodeId). IsWelcome (g.L.Library.known c.args.graph.now.functions.library) c.args.graph.now.nodes (graph.Fold c.in-Fold.function c.in-Fold.initial ks)) (sym c.as_slice-in-Fold.ensures) welcome)
       c.requires.room c.requires.ids
       c.fold.result a.adding (λ cause. (a.broken cause).0) a.unknown a.wrong_type a.full;
 }

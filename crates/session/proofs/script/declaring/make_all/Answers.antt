@@ -12,7 +12,7 @@ make_one-requires-clause-welcome g c =
     let e = c.in-Ok-Some.ensures in
     let next : next_def c.args.plan.now.makes (with_made c.loop-make.plan.made c.loop-make.made) ≡ Some (def_to_make c.in-Ok-Some.make) =
     sym (rw (e.made, e.makes, h.makes, c.in-Ok-Some.field-0-is) at e.make) in
-    rw h.making.extends.beside.functions (next_welcome c.args.graph.now c.loop-make.graph c.args.plan.now.makes (with_made c.loop-make.plan.made c.loop-make.made) h.making c.keeps_sound.ensures.arena _ c.requires.fit _ next)
+    rw h.making.extends.beside.functions (next_welcome c.args.graph.now c.loop-make.graph c.args.plan.now.makes (with_made c.loop-make.plan.made c.loop-make.made) h.making c.keeps_sound.ensures.sound.nodes _ c.requires.fit _ next)
 
 pub loop-make-preserved : goal.loop-make-preserved
 loop-make-preserved g c =
@@ -25,7 +25,7 @@ loop-make-preserved g c =
       makes = e.makes ∙ h.makes;
       root = e.root ∙ h.root;
       answered = (λ is. rw c.in-Ok-Some.field-0-is at e.waits, λ is. refl);
-      making = rw e.made (one_more_made c.args.graph.now c.loop-make.graph c.make_one.new.graph c.args.plan.now.makes made h.making c.keeps_sound-in-Ok-Some.ensures.arena _ next c.in-Ok.node c.in-Ok.ensures.added);
+      making = rw e.made (one_more_made c.args.graph.now c.loop-make.graph c.make_one.new.graph c.args.plan.now.makes made h.making c.keeps_sound-in-Ok-Some.ensures.sound.nodes _ next c.in-Ok.node c.in-Ok.ensures.added);
       within = rw e.made (let low = next_within c.args.plan.now.makes made _ next in let size = length-append made (c.in-Ok.node ∷ []) in omega (arith, low, size));
     }
 

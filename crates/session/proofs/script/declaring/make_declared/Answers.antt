@@ -20,8 +20,8 @@ make_all-made-requires g c =
       waits = e.waits;
       root = rw e.root refl;
       order = rw e.makes (laid_in_order (node_at c.args.nodes.now) (body_view c.args.body.now));
-      fit = rw e.makes (laid_fits _ c.args.graph.now.parts.arena (node_at c.args.nodes.now) c.args.names.now
-          (names_there c.args.graph.now.parts.arena c.args.names.now c.args.nodes.now c.requires.one_each c.requires.has_nodes)
+      fit = rw e.makes (laid_fits _ c.args.graph.now.nodes (node_at c.args.nodes.now) c.args.names.now
+          (names_there c.args.graph.now.nodes c.args.names.now c.args.nodes.now c.requires.one_each c.requires.has_nodes)
           (body_view c.args.body.now) c.args.ty c.requires.fits.body_fits).0;
       room = omega (arith, e.places, c.requires.room);
       ids = omega (arith, e.places, c.requires.room, c.requires.ids);

@@ -11,17 +11,17 @@ use Rattle.node_arena.specs.Arena.{IsVariable}
 use Rattle.node_arena.specs.Typing.{FitsNode}
 use Rattle.session.proofs.script.declaring.set_node.Goals as goal
 
-module _ {F : Type 0} (s : Standing F) (n : NodeId) (w : Value) (whole : IsUnbroken s) (variable : IsVariable s.parts.arena n)
-    (given : Given s.parts.arena.given n) (within : ValueWithin (Given s.parts.arena.given) w) (fits : FitsNode s.parts.arena n w) where
+module _ {F : Type 0} (s : Standing F) (n : NodeId) (w : Value) (whole : IsUnbroken s) (variable : IsVariable s.nodes n)
+    (given : Given s.nodes.given n) (within : ValueWithin (Given s.nodes.given) w) (fits : FitsNode s.nodes n w) where
   not_broken : (cause : Kept) → IsBroken s cause → ⊥
   not_broken cause (r, is, of) = let clash : None ≡ Some r = sym whole ∙ is in cc
 
   no_fault : {T : Type 0} (r : Result T GraphFault) (e : GraphFault) → r ≡ Err e → IsSetFault e
       → ((cause : Kept) → IsErrOf r (fault.Broken cause) → IsBroken s cause)
-      → (IsErrOf r fault.Unknown → IsUnbroken s × ((Given s.parts.arena.given n × ValueWithin (Given s.parts.arena.given) w) → ⊥))
-      → (IsErrOf r fault.NotVar → IsUnbroken s × (Given s.parts.arena.given n × ValueWithin (Given s.parts.arena.given) w × (IsVariable s.parts.arena n → ⊥)))
+      → (IsErrOf r fault.Unknown → IsUnbroken s × ((Given s.nodes.given n × ValueWithin (Given s.nodes.given) w) → ⊥))
+      → (IsErrOf r fault.NotVar → IsUnbroken s × (Given s.nodes.given n × ValueWithin (Given s.nodes.given) w × (IsVariable s.nodes n → ⊥)))
       → (IsErrOf r fault.WrongType → IsUnbroken s
-      × (ValueWithin (Given s.parts.arena.given) w × IsVariable s.parts.arena n × (FitsNode s.parts.arena n w → ⊥))) → ⊥
+      × (ValueWithin (Given s.nodes.given) w × IsVariable s.nodes n × (FitsNode s.nodes n w → ⊥))) → ⊥
   no_fault r e is (inl (cause, same)) broken unknown not_var wrong = not_broken cause (broken cause (is ∙ ap (λ (x : GraphFault). Err x) same))
   no_fault r e is (inr (inl same)) broken unknown not_var wrong = (unknown (is ∙ ap (λ (x : GraphFault). Err x) same)).1 (given, within)
   no_fault r e is (inr (inr (inl same))) broken unknown not_var wrong = (not_var (is ∙ ap (λ (x : GraphFault). Err x) same)).1.2 variable

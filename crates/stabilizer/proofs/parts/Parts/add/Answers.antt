@@ -32,7 +32,7 @@ module _ (c : goal.After-drop-in-Err-added) where
   }
 
   kept_as_before : IsKept c.args.self.now.arena c.add_node-added.new.self
-  kept_as_before = back_kept c.args.self.now.arena c.args.self.now.work c.add_node-added.new.self c.requires.kept same c.stands.ensures
+  kept_as_before = back_kept c.args.self.now.arena c.args.self.now.work c.add_node-added.new.self c.requires.kept same c.add_node-added.ensures.step
       (λ n given among. subst (Among n) (sym c.in-Err-added.ensures.err_pairs) among)
 
 pub returns-in-Err-added-clause-kept : goal.returns-in-Err-added-clause-kept
@@ -54,13 +54,13 @@ module _ (c : goal.In-Ok-insert) where
   kept : IsKept c.insert.new.self work
   kept = let a = c.in-Ok.ensures in
       added_kept c.args.self.now.arena c.insert.new.self old work c.next_id-id.result _ a.added.0 c.requires.kept c.next_id-id.ensures.generation
-      c.in-Ok-insert.ensures.added refl c.in-Ok-insert.ensures.given a.rows a.added.1 a.pairs a.links a.roots a.heap c.stands.ensures a.round
+      c.in-Ok-insert.ensures.added refl c.in-Ok-insert.ensures.given a.rows a.added.1 a.pairs a.links a.roots a.heap c.add_node-added.ensures.step a.round
       (same_todo old work a.todo)
 
   stays : Stays c.args.self.now.arena c.insert.new.self old work
   stays = let a = c.in-Ok.ensures in
       added_stays c.args.self.now.arena c.insert.new.self old work c.next_id-id.result _ a.added.0 c.requires.kept c.next_id-id.ensures.generation
-      c.in-Ok-insert.ensures.added refl c.in-Ok-insert.ensures.given a.rows a.added.1 a.pairs a.links a.roots a.heap c.stands.ensures a.round
+      c.in-Ok-insert.ensures.added refl c.in-Ok-insert.ensures.given a.rows a.added.1 a.pairs a.links a.roots a.heap c.add_node-added.ensures.step a.round
       (same_todo old work a.todo)
 
 pub returns-in-Ok-insert-clause-kept : goal.returns-in-Ok-insert-clause-kept

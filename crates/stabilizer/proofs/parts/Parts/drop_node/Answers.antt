@@ -6,7 +6,7 @@ use Rattle.stabilizer.proofs.Between.{ready_stays, same_todo}
 use Rattle.stabilizer.proofs.Dropping.{dropped_kept, dropped_stays}
 use Rattle.stabilizer.proofs.parts.Parts.drop_node.Goals as goal
 
-module _ (c : goal.After-stands) where
+module _ (c : goal.After-drop_node-2) where
   abbrev old : Work
   old = c.args.self.now.work
 
@@ -16,13 +16,13 @@ module _ (c : goal.After-stands) where
   kept : IsKept c.drop_node.new.self work
   kept = let d = c.drop_node-2.ensures in
       dropped_kept c.args.self.now.arena c.drop_node.new.self old work c.args.id c.requires.kept c.requires.unneeded c.drop_node.ensures.dropped
-      c.drop_node.ensures.given d.rows d.dropped d.links d.roots d.heap c.stands.ensures d.round (same_todo old work d.todo)
+      c.drop_node.ensures.given d.rows d.dropped d.links d.roots d.heap d.step d.round (same_todo old work d.todo)
       (ap (λ (w : Work). w.pairs) d.rest)
 
   stays : Stays c.args.self.now.arena c.drop_node.new.self old work
   stays = let d = c.drop_node-2.ensures in
       dropped_stays c.args.self.now.arena c.drop_node.new.self old work c.args.id c.requires.kept c.requires.unneeded c.drop_node.ensures.dropped
-      c.drop_node.ensures.given d.rows d.dropped d.links d.roots d.heap c.stands.ensures d.round (same_todo old work d.todo)
+      c.drop_node.ensures.given d.rows d.dropped d.links d.roots d.heap d.step d.round (same_todo old work d.todo)
       (ap (λ (w : Work). w.pairs) d.rest)
 
 pub returns-clause-kept : goal.returns-clause-kept

@@ -109,6 +109,10 @@ returns-clause-calls g c =
 next_is : (result : Option ℕ) (P : Type 0) (v next : ℕ) → SomeIff result P v → result ≡ Some next → next ≡ v
 next_is result P v next h e = (subst (λ (r : Option ℕ). SomeIff r P v) e h).1
 
+pub returns-clause-round : goal.returns-clause-round
+returns-clause-round g c =
+    c.end_round.ensures.round ∙ next_is c.checked_add.result _ (c.args.parts.now.work.round + 1) c.in-Some.next c.checked_add.ensures c.in-Some.is
+
 pub returns-clause-right : goal.returns-clause-right
 returns-clause-right g c =
     let F = functions_of (g.F.Functions.value c.args.functions.now) in

@@ -1,14 +1,14 @@
-use Rattle.std.proofs.Common.{subst, sym}
+use Rattle.std.proofs.Common.{refl, subst, sym}
 use Rattle.node_arena.specs.Arena.{Arena}
 use Rattle.node_outcomes.specs.Meaning.{functions_of, lists_none}
 use Rattle.node_outcomes.proofs.Maps.{no_binds}
 use Rattle.stabilizer.specs.Kept.{IsKept}
-use Rattle.stabilizer.specs.Stepping.{StepRefused}
+use Rattle.stabilizer.specs.Stepping.{of_main, of_change, StepRefused}
 use Rattle.stabilizer.proofs.Carrying.{taken_kept}
 use Rattle.stabilizer.proofs.ChangeSteps.{is_change, change_steps, change_falls, change_stops}
 use Rattle.stabilizer.proofs.Mains.{is_main}
 use Rattle.stabilizer.proofs.Raising.{if_refusal}
-use Rattle.stabilizer.proofs.Stepping.{steps, falls, step_refused, refused_kept}
+use Rattle.stabilizer.proofs.Stepping.{not_empty, takes_least, steps, falls, step_refused, refused_kept}
 use Rattle.stabilizer.proofs.stabilizer.Stabilizer.step.Goals as goal
 
 -- ---- a change
@@ -55,6 +55,16 @@ returns-in_ok-step_change-in-Change-clause-falls g c = λ more.
     c.in_ok-step_change-in-Change.ensures.quiet
     (subst (λ (a : Arena). IsKept a c.step_change.new.parts.work) c.step_change.ensures.arena c.step_change.ensures.kept)
 
+pub returns-in_ok-step_change-in-Change-clause-settled : goal.returns-in_ok-step_change-in-Change-clause-settled
+returns-in_ok-step_change-in-Change-clause-settled g c = λ more.
+    let p = c.in-Some.p in
+    of_change (takes_least c.args.parts.now.work c.pop_least.new.self p _ (is_change p c.in-Change.is) c.in-Some.ensures.was c.in-Some.ensures.least
+    c.pop_least.ensures.rest c.in-Some.ensures.removed) c.in_ok-step_change-in-Change.ensures.settled refl
+
+pub returns-in_ok-step_change-in-Change-clause-more : goal.returns-in_ok-step_change-in-Change-clause-more
+returns-in_ok-step_change-in-Change-clause-more g c = λ more. λ empty.
+    not_empty c.args.parts.now.work.graph.heap c.in-Some.p c.in-Some.ensures.was empty
+
 -- ---- a main
 
 pub step_main-requires-clause-kept : goal.step_main-requires-clause-kept
@@ -74,6 +84,16 @@ returns-in-Ok-clause-falls g c = λ more.
     falls (g.F.Functions.value c.args.functions.now) c.args.parts.now.arena c.args.parts.now.work c.step_main.new.parts.work c.pop_least.new.self
     p p.node (is_main p c.in-Main.is) (g.F.Functions.calls c.args.functions.now) (g.F.Functions.calls c.step_main.new.functions) c.requires.kept
     c.in-Some.ensures.was c.in-Some.ensures.least c.pop_least.ensures.rest c.in-Some.ensures.removed c.in-Ok.ensures.settled
+
+pub returns-in-Ok-clause-settled : goal.returns-in-Ok-clause-settled
+returns-in-Ok-clause-settled g c = λ more.
+    let p = c.in-Some.p in
+    of_main (takes_least c.args.parts.now.work c.pop_least.new.self p _ (is_main p c.in-Main.is) c.in-Some.ensures.was c.in-Some.ensures.least
+    c.pop_least.ensures.rest c.in-Some.ensures.removed) c.in-Ok.ensures.settled
+
+pub returns-in-Ok-clause-more : goal.returns-in-Ok-clause-more
+returns-in-Ok-clause-more g c = λ more. λ empty.
+    not_empty c.args.parts.now.work.graph.heap c.in-Some.p c.in-Some.ensures.was empty
 
 pub returns-in-Err-clause-refused : goal.returns-in-Err-clause-refused
 returns-in-Err-clause-refused g c =

@@ -3,7 +3,7 @@ use Rattle.std.proofs.lemmas.Result.{on_ok_weaker}
 use Rattle.inc_value.specs.declared.node.Point.{Point}
 use Rattle.inc_terms.specs.Code.{def_of}
 use Rattle.point_map.specs.Rows.{Changes}
-use Rattle.stabilizer.proofs.Placing.{one_point}
+use Rattle.stabilizer.proofs.Placing.{one_point, two_points}
 use Rattle.stabilizer.proofs.work.Work.add_node.Goals as goal
 
 pub returns-in-None-clause-added : goal.returns-in-None-clause-added
@@ -14,3 +14,10 @@ returns-in-None-clause-added c = on_ok_weaker c.add.result (λ added. (
       (subst (λ (p : Point). Changes c.args.self.now.graph.heights c.add.new.self.graph.heights p (Some c.height_over-height-in-None.result)) c.main_point.ensures added)
       c.requires.no_change.0,
 )) c.add.ensures.added
+
+pub returns-in-Some-clause-added : goal.returns-in-Some-clause-added
+returns-in-Some-clause-added c = on_ok_weaker c.add_pair.result (λ added. (
+  added.0,
+  two_points c.args.self.now.graph.heights c.add_pair.new.self.graph.heights c.args.node c.in-Some.subject (def_of c.args.def.now) added.0
+      (sym c.subject.ensures ∙ c.in-Some.is) added.1,
+)) c.add_pair.ensures.added

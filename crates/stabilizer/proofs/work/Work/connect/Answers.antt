@@ -22,7 +22,7 @@ returns-then-not-is_needed-clause-gone c f = (
   λ F z s calls rest due. lost_need F z s c.args.arena.now c.args.self.now c.try_link.new.self c.take_off_unconfirmed.new.self calls c.args.p c.args.q rest
       due c.in-Err.ensures.levelled (sym c.try_link.ensures.strict ∙ c.if-self.false) (levelled_need c.args.self.now c.try_link.new.self c.in-Err.ensures.levelled c.args.p c.requires.needed)
       (levelled_spared c.args.arena.now c.args.self.now c.try_link.new.self c.in-Err.ensures.levelled c.args.p c.requires.spared)
-      c.take_off_unconfirmed.ensures.taken c.stands.ensures (λ n. not_both c.is_needed.result c.if-not-is_needed.true (c.is_needed.ensures.1 n)),
+      c.take_off_unconfirmed.ensures.taken c.take_off_unconfirmed.ensures.kept.step (λ n. not_both c.is_needed.result c.if-not-is_needed.true (c.is_needed.ensures.1 n)),
   c.take_off_unconfirmed.ensures.strict,
   sym c.try_link.ensures.strict ∙ c.if-self.false,
 )
@@ -38,7 +38,7 @@ returns-in-Ok-try_link-clause-linked c t F z s calls rest due =
     due c.in-Err.ensures.levelled (sym c.try_link.ensures.strict ∙ c.if-self.false)
     (levelled_need c.args.self.now c.try_link.new.self c.in-Err.ensures.levelled c.args.p c.requires.needed)
     (levelled_spared c.args.arena.now c.args.self.now c.try_link.new.self c.in-Err.ensures.levelled c.args.p c.requires.spared)
-    c.take_off_unconfirmed.ensures.taken c.stands.ensures (c.is_needed.ensures.0 c.if-not-is_needed.false)
+    c.take_off_unconfirmed.ensures.taken c.take_off_unconfirmed.ensures.kept.step (c.is_needed.ensures.0 c.if-not-is_needed.false)
     c.try_link-in-Err.new.self c.in-Ok-try_link.ensures.linked
 
 pub returns-in-Ok-try_link-clause-row : goal.returns-in-Ok-try_link-clause-row
@@ -74,7 +74,7 @@ returns-clause-refused c F z s calls rest due =
     due c.in-Err.ensures.levelled (sym c.try_link.ensures.strict ∙ c.if-self.false)
     (levelled_need c.args.self.now c.try_link.new.self c.in-Err.ensures.levelled c.args.p c.requires.needed)
     (levelled_spared c.args.arena.now c.args.self.now c.try_link.new.self c.in-Err.ensures.levelled c.args.p c.requires.spared)
-    c.take_off_unconfirmed.ensures.taken c.stands.ensures (c.is_needed.ensures.0 c.if-not-is_needed.false)
+    c.take_off_unconfirmed.ensures.taken c.take_off_unconfirmed.ensures.kept.step (c.is_needed.ensures.0 c.if-not-is_needed.false)
     c.try_link-in-Err.new.self c.refusal-in-Err-try_link.result c.in-Err-try_link.ensures.levelled
     (told c.try_link-in-Err.new.self c.args.p c.args.q c.in-Err-try_link.fault c.refusal-in-Err-try_link.result
     (inl (c.try_link-in-Err.ensures.strict ∙ c.take_off_unconfirmed.ensures.strict)) c.in-Err-try_link.ensures.why c.refusal-in-Err-try_link.ensures)

@@ -9,29 +9,40 @@ use Rattle.stabilizer.specs.Wiring.{IsEnqueued}
 use Rattle.node_outcomes.specs.declared.row.Stage.TheVariants.{Static}
 use Rattle.stabilizer.proofs.Loosening.{loosened, off_none}
 use Rattle.stabilizer.proofs.work.Work.drop_right.Goals as goal
-use Rattle.stabilizer.proofs.work.Work.drop_right.Goals.{in-Some+then-reads, in-Some+else-reads, in_default}
 
-pub returns-clause-loosened : goal.returns-clause-loosened
-returns-clause-loosened c =
+pub returns-then-reads-clause-loosened : goal.returns-then-reads-clause-loosened
+returns-then-reads-clause-loosened c =
     let enq : IsEnqueued c.args.self.now c.enqueue.new.self (main c.args.node) =
     subst (λ (x : Point). IsEnqueued c.args.self.now c.enqueue.new.self x) c.main_point-p.ensures c.enqueue.ensures.enqueued in
     let rows : IsRewritten c.enqueue.new.self.rows c.set_stage.new.rows (main c.args.node) (with_stage Static) =
     subst (λ (x : Point). IsRewritten c.enqueue.new.self.rows c.set_stage.new.rows x (with_stage Static)) c.main_point-p.ensures c.set_stage.ensures in
-    elim c.match-right_side.branch [
-      | in-Some+then-reads w ↦ rw w.self-is (loosened c.args.self.now c.enqueue.new.self _ c.args.node (def_of c.args.def.now) (Some w.in-Some.target)
-          enq c.enqueue.ensures.rest rows refl (sym w.in-Some.is ∙ c.right_side.ensures)
-          (inl (subst (λ (x : Point). IsUnlinked c.enqueue.new.self.graph w.unlink.new.self x (main w.in-Some.target)) c.main_point-p.ensures
-          (subst (λ (y : Point). IsUnlinked c.enqueue.new.self.graph w.unlink.new.self c.main_point-p.result y) w.main_point-q.ensures w.unlink.ensures))))
-      | in-Some+else-reads w ↦ rw w.self-is (loosened c.args.self.now c.enqueue.new.self _ c.args.node (def_of c.args.def.now) (Some w.in-Some.target)
-          enq c.enqueue.ensures.rest rows refl (sym w.in-Some.is ∙ c.right_side.ensures)
-          (inr (
-            refl,
-            λ reads. absurd (
-                let r : Reads c.enqueue.new.self.graph.links c.main_point-p.result w.main_point-q.result =
-                subst (λ (x : Point). Reads c.enqueue.new.self.graph.links x w.main_point-q.result) (sym c.main_point-p.ensures)
-                (subst (λ (y : Point). Reads c.enqueue.new.self.graph.links (main c.args.node) y) (sym w.main_point-q.ensures) reads) in
-                let t = w.if-reads.ensures.1 r in cc),
-          )))
-      | in_default w ↦ rw w.self-is (loosened c.args.self.now c.enqueue.new.self _ c.args.node (def_of c.args.def.now) c.right_side.result
-          enq c.enqueue.ensures.rest rows refl c.right_side.ensures (off_none c.enqueue.new.self.graph c.args.node c.right_side.result w.in_default.not-Some))
-    ]
+    loosened c.args.self.now c.enqueue.new.self _ c.args.node (def_of c.args.def.now) (Some c.in-Some.target)
+    enq c.enqueue.ensures.rest rows refl (sym c.in-Some.is ∙ c.right_side.ensures)
+    (inl (subst (λ (x : Point). IsUnlinked c.enqueue.new.self.graph c.unlink.new.self x (main c.in-Some.target)) c.main_point-p.ensures
+    (subst (λ (y : Point). IsUnlinked c.enqueue.new.self.graph c.unlink.new.self c.main_point-p.result y) c.main_point-q.ensures c.unlink.ensures.unlinked)))
+
+pub returns-else-reads-clause-loosened : goal.returns-else-reads-clause-loosened
+returns-else-reads-clause-loosened c =
+    let enq : IsEnqueued c.args.self.now c.enqueue.new.self (main c.args.node) =
+    subst (λ (x : Point). IsEnqueued c.args.self.now c.enqueue.new.self x) c.main_point-p.ensures c.enqueue.ensures.enqueued in
+    let rows : IsRewritten c.enqueue.new.self.rows c.set_stage.new.rows (main c.args.node) (with_stage Static) =
+    subst (λ (x : Point). IsRewritten c.enqueue.new.self.rows c.set_stage.new.rows x (with_stage Static)) c.main_point-p.ensures c.set_stage.ensures in
+    loosened c.args.self.now c.enqueue.new.self _ c.args.node (def_of c.args.def.now) (Some c.in-Some.target)
+    enq c.enqueue.ensures.rest rows refl (sym c.in-Some.is ∙ c.right_side.ensures)
+    (inr (
+      refl,
+      λ reads. absurd (
+          let r : Reads c.enqueue.new.self.graph.links c.main_point-p.result c.main_point-q.result =
+          subst (λ (x : Point). Reads c.enqueue.new.self.graph.links x c.main_point-q.result) (sym c.main_point-p.ensures)
+          (subst (λ (y : Point). Reads c.enqueue.new.self.graph.links (main c.args.node) y) (sym c.main_point-q.ensures) reads) in
+          let t = c.if-reads.ensures.1 r in cc),
+    ))
+
+pub returns-in_default-clause-loosened : goal.returns-in_default-clause-loosened
+returns-in_default-clause-loosened c =
+    let enq : IsEnqueued c.args.self.now c.enqueue.new.self (main c.args.node) =
+    subst (λ (x : Point). IsEnqueued c.args.self.now c.enqueue.new.self x) c.main_point-p.ensures c.enqueue.ensures.enqueued in
+    let rows : IsRewritten c.enqueue.new.self.rows c.set_stage.new.rows (main c.args.node) (with_stage Static) =
+    subst (λ (x : Point). IsRewritten c.enqueue.new.self.rows c.set_stage.new.rows x (with_stage Static)) c.main_point-p.ensures c.set_stage.ensures in
+    loosened c.args.self.now c.enqueue.new.self _ c.args.node (def_of c.args.def.now) c.right_side.result
+    enq c.enqueue.ensures.rest rows refl c.right_side.ensures (off_none c.enqueue.new.self.graph c.args.node c.right_side.result c.in_default.not-Some)

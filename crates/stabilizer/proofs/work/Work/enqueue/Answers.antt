@@ -6,4 +6,4 @@ pub returns-then-not-was_settled-clause-enqueued : goal.returns-then-not-was_set
 returns-then-not-was_settled-clause-enqueued c =
     let old = c.args.self.now in
     inserted old (record old { graph = c.insert.new.self }) c.args.p c.insert.ensures.rest c.insert.ensures.inserted
-    c.stands.ensures c.requires.needed (sym c.was_settled.ensures ∙ c.if-not-was_settled.true)
+    c.requires.step c.requires.needed (sym c.was_settled.ensures ∙ c.if-not-was_settled.true)

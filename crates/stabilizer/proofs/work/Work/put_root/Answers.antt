@@ -82,7 +82,7 @@ returns-in-Err-clause-refused c =
     let levelled : IsLevelled c.args.self.now d.new.self = levelled_link c.args.self.now m.new.self d.new.self l.new.self c.args.p c.in_ok-opened.opened
     m.ensures.looks c.in_ok-opened.ensures.there c.in_ok-opened.ensures.opened m.ensures.others l.ensures.links c.in-Err.ensures.err
     (λ a. ap (λ (h : Rows _). is_some (at h a)) l.ensures.heights) (λ a. ap (λ (h : Rows _). is_some (at h a)) l.ensures.heap) d.ensures.closed
-    d.ensures.kept d.ensures.links d.ensures.roots d.ensures.heap d.ensures.rest c.stands.ensures in
+    d.ensures.kept d.ensures.links d.ensures.roots d.ensures.heap d.ensures.rest d.ensures.step in
     left_refuses c.args.arena.now c.args.self.now d.new.self _ levelled refl
 
 pub returns-in-Err-clause-kept : goal.returns-in-Err-clause-kept
@@ -93,5 +93,5 @@ returns-in-Err-clause-kept c =
     let levelled : IsLevelled c.args.self.now d.new.self = levelled_link c.args.self.now m.new.self d.new.self l.new.self c.args.p c.in_ok-opened.opened
     m.ensures.looks c.in_ok-opened.ensures.there c.in_ok-opened.ensures.opened m.ensures.others l.ensures.links c.in-Err.ensures.err
     (λ a. ap (λ (h : Rows _). is_some (at h a)) l.ensures.heights) (λ a. ap (λ (h : Rows _). is_some (at h a)) l.ensures.heap) d.ensures.closed
-    d.ensures.kept d.ensures.links d.ensures.roots d.ensures.heap d.ensures.rest c.stands.ensures in
+    d.ensures.kept d.ensures.links d.ensures.roots d.ensures.heap d.ensures.rest d.ensures.step in
     levelled_kept c.args.self.now d.new.self levelled c.args.arena.now c.requires.kept

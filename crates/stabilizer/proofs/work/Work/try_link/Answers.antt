@@ -24,7 +24,7 @@ pub returns-in-Ok-link-clause-linked : goal.returns-in-Ok-link-clause-linked
 returns-in-Ok-link-clause-linked c =
     let m = c.make_room in
     let l = c.in-Ok-link.ensures in
-    let reached : IsReached m.new.self.graph c.link.new.self c.args.q = record { needed = l.needed; points = c.link.ensures.heap; step = c.stands.ensures } in
+    let reached : IsReached m.new.self.graph c.link.new.self c.args.q = record { needed = l.needed; points = c.link.ensures.heap; step = c.link.ensures.in_step } in
     put_on c.args.self.now m.new.self c.wake.new.self c.link.new.self c.args.p c.args.q c.in-Ok-link.newly m.ensures.looks reached l.linked c.link.ensures.roots
     l.newly c.wake.ensures.woken c.wake.ensures.unchanged c.args.arena.now c.requires.kept c.requires.target
     ((m.ensures.looks.needed c.args.p).1 c.requires.needed)
@@ -33,7 +33,7 @@ pub returns-in-Ok-link-clause-needed : goal.returns-in-Ok-link-clause-needed
 returns-in-Ok-link-clause-needed c =
     let m = c.make_room in
     let l = c.in-Ok-link.ensures in
-    let reached : IsReached m.new.self.graph c.link.new.self c.args.q = record { needed = l.needed; points = c.link.ensures.heap; step = c.stands.ensures } in (
+    let reached : IsReached m.new.self.graph c.link.new.self c.args.q = record { needed = l.needed; points = c.link.ensures.heap; step = c.link.ensures.in_step } in (
       now_needed c.args.self.now m.new.self c.wake.new.self c.link.new.self c.args.p c.args.q c.in-Ok-link.newly m.ensures.looks reached l.linked
           c.link.ensures.roots l.newly c.wake.ensures.woken c.wake.ensures.unchanged c.args.p c.requires.needed,
       kid_needed c.args.self.now m.new.self c.wake.new.self c.link.new.self c.args.p c.args.q c.in-Ok-link.newly m.ensures.looks reached l.linked
@@ -44,7 +44,7 @@ pub returns-in-Ok-link-clause-rows : goal.returns-in-Ok-link-clause-rows
 returns-in-Ok-link-clause-rows c =
     let m = c.make_room in
     let l = c.in-Ok-link.ensures in
-    let reached : IsReached m.new.self.graph c.link.new.self c.args.q = record { needed = l.needed; points = c.link.ensures.heap; step = c.stands.ensures } in
+    let reached : IsReached m.new.self.graph c.link.new.self c.args.q = record { needed = l.needed; points = c.link.ensures.heap; step = c.link.ensures.in_step } in
     connected_others c.args.self.now m.new.self c.wake.new.self c.link.new.self c.args.p c.args.q c.in-Ok-link.newly m.ensures.looks reached l.linked
     c.link.ensures.roots l.newly c.wake.ensures.woken c.wake.ensures.unchanged
 
@@ -52,7 +52,7 @@ pub returns-in-Ok-link-clause-places : goal.returns-in-Ok-link-clause-places
 returns-in-Ok-link-clause-places c =
     let m = c.make_room in
     let l = c.in-Ok-link.ensures in
-    let reached : IsReached m.new.self.graph c.link.new.self c.args.q = record { needed = l.needed; points = c.link.ensures.heap; step = c.stands.ensures } in
+    let reached : IsReached m.new.self.graph c.link.new.self c.args.q = record { needed = l.needed; points = c.link.ensures.heap; step = c.link.ensures.in_step } in
     put_on_places c.args.self.now m.new.self c.wake.new.self c.link.new.self c.args.p c.args.q c.in-Ok-link.newly m.ensures.looks reached l.linked
     c.link.ensures.roots l.newly c.wake.ensures.woken c.wake.ensures.unchanged
 
@@ -60,7 +60,7 @@ pub returns-in-Ok-link-clause-pushed : goal.returns-in-Ok-link-clause-pushed
 returns-in-Ok-link-clause-pushed c =
     let m = c.make_room in
     let l = c.in-Ok-link.ensures in
-    let reached : IsReached m.new.self.graph c.link.new.self c.args.q = record { needed = l.needed; points = c.link.ensures.heap; step = c.stands.ensures } in
+    let reached : IsReached m.new.self.graph c.link.new.self c.args.q = record { needed = l.needed; points = c.link.ensures.heap; step = c.link.ensures.in_step } in
     put_on_grows c.args.self.now m.new.self c.wake.new.self c.link.new.self c.args.p c.args.q c.in-Ok-link.newly m.ensures.looks reached l.linked
     c.link.ensures.roots l.newly c.wake.ensures.woken c.wake.ensures.unchanged c.requires.kept.step c.wake.ensures.step
 
@@ -68,7 +68,7 @@ pub returns-in-Ok-link-clause-kept : goal.returns-in-Ok-link-clause-kept
 returns-in-Ok-link-clause-kept c =
     let m = c.make_room in
     let l = c.in-Ok-link.ensures in
-    let reached : IsReached m.new.self.graph c.link.new.self c.args.q = record { needed = l.needed; points = c.link.ensures.heap; step = c.stands.ensures } in
+    let reached : IsReached m.new.self.graph c.link.new.self c.args.q = record { needed = l.needed; points = c.link.ensures.heap; step = c.link.ensures.in_step } in
     let links = connected_links c.args.self.now m.new.self c.wake.new.self c.link.new.self c.args.p c.args.q c.in-Ok-link.newly m.ensures.looks reached l.linked
     c.link.ensures.roots l.newly c.wake.ensures.woken c.wake.ensures.unchanged c.requires.there in
     grown_kept c.args.self.now c.wake.new.self c.args.q
@@ -82,7 +82,7 @@ returns-in-Err-link-clause-levelled c =
     let d = c.close in
     levelled_link c.args.self.now m.new.self d.new.self l.new.self c.args.q c.in-Ok.opened m.ensures.looks c.in-Ok.ensures.there c.in-Ok.ensures.opened
     m.ensures.others c.in-Err-link.ensures.err l.ensures.roots l.ensures.points l.ensures.heap d.ensures.closed d.ensures.kept d.ensures.links d.ensures.roots
-    d.ensures.heap d.ensures.rest c.stands-in-Err-link.ensures
+    d.ensures.heap d.ensures.rest d.ensures.step
 
 pub returns-in-Err-link-clause-kept : goal.returns-in-Err-link-clause-kept
 returns-in-Err-link-clause-kept c =
@@ -92,7 +92,7 @@ returns-in-Err-link-clause-kept c =
     let levelled : IsLevelled c.args.self.now d.new.self =
     levelled_link c.args.self.now m.new.self d.new.self l.new.self c.args.q c.in-Ok.opened m.ensures.looks c.in-Ok.ensures.there c.in-Ok.ensures.opened
     m.ensures.others c.in-Err-link.ensures.err l.ensures.roots l.ensures.points l.ensures.heap d.ensures.closed d.ensures.kept d.ensures.links d.ensures.roots
-    d.ensures.heap d.ensures.rest c.stands-in-Err-link.ensures in
+    d.ensures.heap d.ensures.rest d.ensures.step in
     levelled_kept c.args.self.now d.new.self levelled c.args.arena.now c.requires.kept
 
 pub returns-in-Err-link-clause-why : goal.returns-in-Err-link-clause-why

@@ -1,0 +1,101 @@
+-- How rows of points are seen.
+use Rattle.std.proofs.Common.{◌≡◌, ◌⊎◌, inl, inr, ℕ, ◌+◌, ◌<◌, Bool, true, false, List, Option, None, Some, refl, ap, ◌∙◌, arith}
+use Rattle.std.proofs.lemmas.Bool.{eqb-true, eq-eqb, lt-ltb}
+use Rattle.inc_value.specs.declared.node.NodeId.{NodeId}
+use Rattle.inc_value.specs.declared.node.Point.{Point}
+use Rattle.inc_terms.specs.Depend.{main, change}
+use Rattle.map_nodes.specs.declared.cutoff.Cutoff.{Cutoff}
+use Rattle.map_nodes.specs.declared.cutoff.Cutoff.TheVariants.{Equal, Never}
+use Rattle.link_table.specs.Links.{Links, times}
+use Rattle.necessary_graph.specs.Part as part
+use Rattle.necessity.specs.Need.{Roots, root_times}
+use Rattle.node_outcomes.specs.Computing.{seen_of}
+use Rattle.node_outcomes.specs.Row.{is_never, never_in, settled_in, outcome_in, cutoff_in}
+use Rattle.node_outcomes.specs.declared.row.Progress.{Progress}
+use Rattle.point_map.specs.Rows.{at}
+use Rattle.stabilizer.specs.Round.{last_of, cutoff_at}
+use Rattle.stabilizer.specs.declared.parts.Parts.{Parts}
+use Rattle.stabilizer.specs.declared.refused.Refused.{Refused}
+use Rattle.graph.specs.Effects.{KeepsBeside}
+use Rattle.graph.specs.Standing.{Standing, IsNeeded, settled_before}
+use Rattle.graph.specs.declared.observer.Observer.{Observer}
+
+-- ---- cutoffs
+
+-- a cutoff, by whether it is Never
+abbrev cutoff_by : Bool → Cutoff
+cutoff_by true = Never
+cutoff_by false = Equal
+
+by_never : (c : Cutoff) → c ≡ cutoff_by (is_never c)
+by_never Equal = refl
+by_never Never = refl
+
+pub cutoff_is : (x : Option Progress) → cutoff_in x ≡ cutoff_by (never_in x)
+cutoff_is None = refl
+cutoff_is (Some k) = by_never k.cutoff
+
+pub never_is : (x : Option Progress) → is_never (cutoff_in x) ≡ never_in x
+never_is None = refl
+never_is (Some k) = refl
+
+pub cutoff_never : (x : Option Progress) → never_in x ≡ true → cutoff_in x ≡ Never
+cutoff_never x e = cutoff_is x ∙ ap cutoff_by e
+
+-- a cutoff that stays or is Equal now is Equal where it was
+pub equal_still : (now was : Cutoff) → (now ≡ was) ⊎ (now ≡ Equal) → was ≡ Equal → now ≡ Equal
+equal_still now was (inl same) e = same ∙ e
+equal_still now was (inr equal) e = equal
+
+-- ---- the last round
+
+-- what was settled in a round was so before the next
+pub settled_once : (round : ℕ) (x : Option Progress) → 0 < round → settled_in round x ≡ true → settled_before (round + 1) x ≡ true
+settled_once round None numbered e = absurd (cc)
+settled_once round (Some k) numbered e =
+    let is = eqb-true k.settled round e in
+    rw (lt-ltb 0 k.settled (omega (arith, is, numbered)), eq-eqb (k.settled + 1) (round + 1) (omega (arith, is))) refl
+
+-- ---- a graph over its parts
+
+abbrev pub seen_as : {F : Type 0} → F → Parts → List Observer → ℕ → Option Refused → Standing F
+seen_as functions parts observers rooted refused = record {
+  functions = functions;
+  nodes = parts.arena;
+  observers = observers;
+  rooted = rooted;
+  ran = parts.ran.items;
+  refused = refused;
+  work = parts.work;
+}
+
+module _ {F : Type 0} (functions : F) (parts : Parts) (observers : List Observer) (rooted : ℕ) (refused : Option Refused) where
+  -- by the parts
+  pub needed_in : (p : Point) → IsNeeded (seen_as functions parts observers rooted refused) p → part.Needed parts.work.graph p
+  needed_in p need = record { root = need.root; is_root = need.is_root; leads = need.leads }
+
+  -- and back
+  pub needed_out : (p : Point) → part.Needed parts.work.graph p → IsNeeded (seen_as functions parts observers rooted refused) p
+  needed_out p need = record { root = need.root; is_root = need.is_root; leads = need.leads }
+
+-- ---- what stays beside nodes
+
+module _ {F : Type 0} (functions : F) (old new : Parts) (observers : List Observer) (rooted : ℕ) (refused : Option Refused) where
+  pub beside_as : (Of : NodeId → Type 0) → new.ran ≡ old.ran → new.work.graph.links ≡ old.work.graph.links
+      → new.work.graph.roots ≡ old.work.graph.roots → ((p : Point) → Of p.node → at new.work.rows p ≡ at old.work.rows p)
+      → ((n : NodeId) → (cutoff_at new.work n ≡ cutoff_at old.work n) ⊎ (cutoff_at new.work n ≡ Equal))
+      → KeepsBeside Of (seen_as functions old observers rooted refused) (seen_as functions new observers rooted refused)
+  beside_as Of ran links roots rows fewer = record {
+    functions = refl;
+    observers = refl;
+    rooted = refl;
+    refused = refl;
+    ran = ap (λ v. v.items) ran;
+    links = λ p q. ap (λ (l : Links). times l p q) links;
+    roots = λ p. ap (λ (r : Roots). root_times r p) roots;
+    shown = λ n of. ap seen_of (rows (main n) of);
+    chosen = λ n of. ap outcome_in (rows (change n) of);
+    last = λ n of. ap last_of (rows (main n) of);
+    cutoff = λ n of. ap cutoff_in (rows (main n) of);
+    no_more_cutoffs = λ n. equal_still (cutoff_at new.work n) (cutoff_at old.work n) (fewer n);
+  }

@@ -1,0 +1,151 @@
+-- What is so of a graph is so of it without its functions.
+use Rattle.std.proofs.Common.{inl, inr, ℕ, Bool, List, [], ◌∷◌, Option}
+use Rattle.inc_value.specs.declared.function.FnRef.{FnRef}
+use Rattle.inc_value.specs.declared.node.NodeId.{NodeId}
+use Rattle.inc_value.specs.declared.node.Point.{Point}
+use Rattle.inc_terms.specs.Depend.{main, none_died}
+use Rattle.inc_terms.specs.Graph.{Graph}
+use Rattle.inc_terms.specs.Need.{Beside, Observed, Met, from_root, from_held}
+use Rattle.inc_terms.specs.Term.{Functions}
+use Rattle.graph.specs.Sound.{IsWhole, IsSound}
+use Rattle.graph.specs.Stabilizes.{StoodBeside, IsMet, WasCalled, Stabilizes, IsListed, IsLawful, HasCalledMet, AllButLast, IsTried, LeavesTried, IsRefusedFor}
+use Rattle.graph.specs.Standing.{Standing, graph, in_use, IsNeeded}
+use Rattle.graph.specs.declared.fault.Kept.{Kept}
+use Rattle.script_graph.specs.Kept.{without_functions}
+use Rattle.stabilizer.specs.declared.refused.Refused.{Refused}
+use Rattle.stabilizer.specs.declared.refused.Refused.TheVariants as refused
+
+-- more that was held, more is met
+pub met_more : (M : Functions) (G : Graph) (died : NodeId → Option NodeId) (observed : List NodeId) (held more : Point → Type 0)
+    → ((p : Point) → held p → more p) → (p : Point) → Met M G died observed held p → Met M G died observed more p
+met_more M G died observed held more all p (from_root root on) = from_root root on
+met_more M G died observed held more all p (from_held {h} was row stands on) = from_held (all h was) row stands on
+
+all_but_last_more : {P Q : Point → Type 0} → ((p : Point) → P p → Q p) → (points : List Point) → AllButLast P points → AllButLast Q points
+all_but_last_more more [] all = tt
+all_but_last_more more (p ∷ []) all = tt
+all_but_last_more more (p ∷ q ∷ rest) all = (more p all.0, all_but_last_more more (q ∷ rest) all.1)
+
+module _ {A : Type 0} where
+  -- ---- what it keeps
+
+  whole_without : (known : FnRef → Bool) (s : Standing A) → IsWhole known s → IsWhole known (without_functions s)
+  whole_without known s h = record { roots = h.roots; fit = h.fit; given = h.given; shown = h.shown }
+
+  pub sound_without : (known : FnRef → Bool) (s : Standing A) → IsSound known s → IsSound known (without_functions s)
+  sound_without known s h = record {
+    few = h.few;
+    earlier = h.earlier;
+    nodes = h.nodes;
+    flat = h.flat;
+    whole = λ unbroken. whole_without known s (h.whole unbroken);
+  }
+
+  -- ---- what is needed and met
+
+  needed_without : (s : Standing A) (p : Point) → IsNeeded s p → IsNeeded (without_functions s) p
+  needed_without s p h = record { root = h.root; is_root = h.is_root; leads = h.leads }
+
+  needed_with : (s : Standing A) (p : Point) → IsNeeded (without_functions s) p → IsNeeded s p
+  needed_with s p h = record { root = h.root; is_root = h.is_root; leads = h.leads }
+
+  stood_with : (before : Beside) (s : Standing A) (observers : List Observed) → StoodBeside before (without_functions s) observers
+      → StoodBeside before s observers
+  stood_with before s observers h = record { held = λ p need. h.held p (needed_without s p need); last = h.last; never = h.never }
+
+  module _ (M : Functions) where
+    met_without : (s : Standing A) (p : Point) → IsMet M s p → IsMet M (without_functions s) p
+    met_without s p met = met_more M (graph s) none_died (in_use s.observers) (IsNeeded s) (IsNeeded (without_functions s)) (needed_without s) p met
+
+    -- ---- an accepted stabilize
+
+    called_without : (old new : Standing A) (n : NodeId) → WasCalled M old new n → WasCalled M (without_functions old) (without_functions new) n
+    called_without old new n h = record {
+      row = h.row;
+      kids = h.kids;
+      values = h.values;
+      result = h.result;
+      is_row = h.is_row;
+      takes = h.takes;
+      gives = h.gives;
+      reason = h.reason;
+      is_last = h.is_last;
+      answers = h.answers;
+      met = met_without old (main n) h.met;
+    }
+
+    pub stabilizes_without : (old new : Standing A) → Stabilizes M old new → Stabilizes M (without_functions old) (without_functions new)
+    stabilizes_without old new done = record {
+      was = done.was;
+      unbroken = done.unbroken;
+      nodes = done.nodes;
+      observers = done.observers;
+      rooted = done.rooted;
+      shows = done.shows;
+      roots = done.roots;
+      needs = λ p. (λ need. (done.needs p).0 (needed_with new p need), λ observed. needed_without new p ((done.needs p).1 observed));
+      sees = done.sees;
+      chose = done.chose;
+      acyclic = done.acyclic;
+      shallow = done.shallow;
+      links = λ p q need. done.links p q (needed_with new p need);
+      recalls = λ n r kids values need. done.recalls n r kids values (needed_with new (main n) need);
+      kept = λ n not. elim (done.kept n not) [ inl same ↦ inl same | inr c ↦ inr (called_without old new n c.0, c.1) ];
+      cutoff = done.cutoff;
+      once = done.once;
+      called = λ n among. called_without old new n (done.called n among);
+      costs = done.costs;
+      work = λ before observers stood. done.work before observers (stood_with before old observers stood);
+    }
+
+    -- ---- a refused one
+
+    listed_without : (s : Standing A) (points : List Point) → IsListed M s points → IsListed M (without_functions s) points
+    listed_without s points h = record { walk = h.walk; met = λ p starts. met_without s p (h.met p starts) }
+
+    pub lawful_without : (s : Standing A) (met : Refused) → IsLawful M s met → IsLawful M (without_functions s) met
+    lawful_without s (refused.Height points) h = (listed_without s points.items h.0, h.1, h.2)
+    lawful_without s (refused.Cycle points) h = (listed_without s points.items h.0, h.1)
+    lawful_without s refused.Full h = h
+    lawful_without s refused.Memory h = h
+
+    pub few_without : (s : Standing A) (before after : ℕ) → HasCalledMet M s before after → HasCalledMet M (without_functions s) before after
+    few_without s before after h = record {
+      nodes = h.nodes;
+      once = h.once;
+      callers = h.callers;
+      count = h.count;
+      met = λ n among. met_without s (main n) (h.met n among);
+    }
+
+  tried_without : (s : Standing A) (points : List Point) → IsTried s points → IsTried (without_functions s) points
+  tried_without s points h = record {
+    reader = h.reader;
+    kid = h.kid;
+    linked = h.linked;
+    needed = all_but_last_more (needed_without s) points h.needed;
+    right = h.right;
+  }
+
+  leaves_without : (s : Standing A) (met : Refused) → LeavesTried s met → LeavesTried (without_functions s) met
+  leaves_without s (refused.Height points) h = tried_without s points.items h
+  leaves_without s (refused.Cycle points) h = tried_without s points.items h
+  leaves_without s refused.Full h = h
+  leaves_without s refused.Memory h = h
+
+  pub refused_without : (M : Functions) (old new : Standing A) (cause : Kept) → IsRefusedFor M old new cause
+      → IsRefusedFor M (without_functions old) (without_functions new) cause
+  refused_without M old new cause done = record {
+    was = done.was;
+    nodes = done.nodes;
+    observers = done.observers;
+    rooted = done.rooted;
+    ran = done.ran;
+    cutoff = done.cutoff;
+    shows = done.shows;
+    met = done.met;
+    broken = done.broken;
+    is_cause = done.is_cause;
+    lawful = lawful_without M old done.met done.lawful;
+    tried = leaves_without new done.met done.tried;
+  }
