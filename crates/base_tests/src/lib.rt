@@ -16,6 +16,8 @@ mod nested_scopes;
 #[cfg(test)]
 mod point_maps;
 #[cfg(test)]
+mod rows_of_lists;
+#[cfg(test)]
 mod streams;
 #[cfg(test)]
 mod values;

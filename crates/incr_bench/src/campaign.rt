@@ -1,4 +1,6 @@
 //! A graph by chance, compared with plain evaluation after each stabilize.
+ghost use Rattle.std.specs.Prelude.{◌≡◌, ◌≤◌, IfOk};
+
 use crate::clock::{begin, since};
 use crate::generator::Generator;
 use crate::levels::{fits, passes_of};
@@ -87,7 +89,9 @@ fn shown(alloc: Global, live: &Live, watched: &[Watch]) -> Result<Vec<i64>, Faul
 
 impl Campaign {
     /// Makes a graph of so many nodes, where there are none, some of them observed. It is not yet stabilized.
-    pub fn new(alloc: Global, live: &mut Live, size: usize) -> Result<Campaign, Fault> {
+    pub fn new(alloc: Global, live: &mut Live, size: usize) -> Result<Campaign, Fault>
+        ensures uncalled { live.new.engine ≡ live.old.engine }
+    {
         let mut campaign = Campaign {
             alloc,
             generator: Generator::new(size as u64),
@@ -113,13 +117,17 @@ impl Campaign {
     }
 
     /// Makes the nodes, and observes some of them.
-    fn fill_and_watch(&mut self, live: &mut Live, size: usize) -> Result<(), Fault> {
+    fn fill_and_watch(&mut self, live: &mut Live, size: usize) -> Result<(), Fault>
+        ensures uncalled { live.new.engine ≡ live.old.engine }
+    {
         self.fill(live, size)?;
         self.watch_some(live, size / 8 + 1)
     }
 
     /// Makes a node, beside its definition.
-    fn add(&mut self, live: &mut Live, definition: Definition) -> Result<(), Fault> {
+    fn add(&mut self, live: &mut Live, definition: Definition) -> Result<(), Fault>
+        ensures uncalled { live.new.engine ≡ live.old.engine }
+    {
         let place = self.definitions.len();
         live.add(definition)?;
         append(&mut self.definitions, definition)?;
@@ -167,7 +175,9 @@ impl Campaign {
 
     /// A join over a variable that refers, by chance, under a chain of negations: of two such chains only one fits over the
     /// other.
-    fn chain(&mut self, live: &mut Live) -> Result<(), Fault> {
+    fn chain(&mut self, live: &mut Live) -> Result<(), Fault>
+        ensures uncalled { live.new.engine ≡ live.old.engine }
+    {
         let reference = any_of(&mut self.generator, &self.references);
         self.add(live, Definition::Join(reference))?;
         for _ in 0..LONG_CHAIN {
@@ -180,7 +190,9 @@ impl Campaign {
     }
 
     /// Makes the nodes.
-    fn fill(&mut self, live: &mut Live, size: usize) -> Result<(), Fault> {
+    fn fill(&mut self, live: &mut Live, size: usize) -> Result<(), Fault>
+        ensures uncalled { live.new.engine ≡ live.old.engine }
+    {
         for _ in 0..self.variables {
             let definition = self.variable();
             self.add(live, definition)?;
@@ -197,7 +209,9 @@ impl Campaign {
     }
 
     /// Observes a node by chance.
-    fn watch(&mut self, live: &mut Live) -> Result<(), Fault> {
+    fn watch(&mut self, live: &mut Live) -> Result<(), Fault>
+        ensures uncalled { live.new.engine ≡ live.old.engine }
+    {
         if self.definitions.is_empty() {
             return Ok(());
         }
@@ -210,7 +224,9 @@ impl Campaign {
     }
 
     /// Observes so many nodes by chance.
-    fn watch_some(&mut self, live: &mut Live, count: usize) -> Result<(), Fault> {
+    fn watch_some(&mut self, live: &mut Live, count: usize) -> Result<(), Fault>
+        ensures uncalled { live.new.engine ≡ live.old.engine }
+    {
         for _ in 0..count {
             self.watch(live)?;
         }
@@ -218,7 +234,9 @@ impl Campaign {
     }
 
     /// Ends an observer by chance, if there is one.
-    fn end(&mut self, live: &mut Live) -> Result<(), Fault> {
+    fn end(&mut self, live: &mut Live) -> Result<(), Fault>
+        ensures uncalled { live.new.engine ≡ live.old.engine }
+    {
         if self.watched.is_empty() {
             return Ok(());
         }
@@ -257,7 +275,9 @@ impl Campaign {
     }
 
     /// Gives the graph what the variables at these places are now.
-    fn tell(&self, live: &mut Live, places: &[usize]) -> Result<(), Fault> {
+    fn tell(&self, live: &mut Live, places: &[usize]) -> Result<(), Fault>
+        ensures uncalled { live.new.engine ≡ live.old.engine }
+    {
         for place in places {
             if let Some(definition) = self.definitions.get(*place) {
                 live.change(*place, *definition)?;
@@ -267,7 +287,9 @@ impl Campaign {
     }
 
     /// Changes some variables by chance, unless a circle or too long a chain would come of it.
-    fn set_some(&mut self, live: &mut Live, count: usize) -> Result<(), Fault> {
+    fn set_some(&mut self, live: &mut Live, count: usize) -> Result<(), Fault>
+        ensures uncalled { live.new.engine ≡ live.old.engine }
+    {
         let before = copy(self.alloc, &self.definitions)?;
         let mut places = Vec::new(self.alloc);
         for _ in 0..count {
@@ -282,7 +304,9 @@ impl Campaign {
     }
 
     /// One to three changes of variables, and at times an observer made or ended.
-    fn change(&mut self, live: &mut Live) -> Result<(), Fault> {
+    fn change(&mut self, live: &mut Live) -> Result<(), Fault>
+        ensures uncalled { live.new.engine ≡ live.old.engine }
+    {
         let count = 1 + self.generator.below(3);
         self.set_some(live, count)?;
         match self.generator.below(4) {
@@ -309,7 +333,9 @@ impl Campaign {
     }
 
     /// One round.
-    fn round(&mut self, live: &mut Live) -> Result<(), Fault> {
+    fn round(&mut self, live: &mut Live) -> Result<(), Fault>
+        ensures calls_grow { live.old.engine ≤ live.new.engine }
+    {
         self.change(live)?;
         live.stabilize()?;
         self.stabilizes = self.stabilizes.saturating_add(1);
@@ -317,7 +343,9 @@ impl Campaign {
     }
 
     /// So many rounds.
-    fn run(&mut self, live: &mut Live, rounds: u64) -> Result<(), Fault> {
+    fn run(&mut self, live: &mut Live, rounds: u64) -> Result<(), Fault>
+        ensures calls_grow { live.old.engine ≤ live.new.engine }
+    {
         for _ in 0..rounds {
             self.round(live)?;
         }
@@ -338,7 +366,13 @@ impl Campaign {
         live: &mut Live,
         clock: &C,
         rounds: u64,
-    ) -> Result<Tally, Fault> {
+    ) -> Result<Tally, Fault>
+        ensures calls_grow { live.old.engine ≤ live.new.engine }
+        ensures calls { IfOk result (λ tally. tally.calls ≡ live.new.engine) }
+        ensures stabilizes { IfOk result (λ tally. tally.stabilizes ≡ self.new.stabilizes) }
+        ensures comparisons { IfOk result (λ tally. tally.comparisons ≡ self.new.comparisons) }
+        ensures disagreements { IfOk result (λ tally. tally.disagreements ≡ self.new.disagreements) }
+    {
         let start = begin(clock);
         self.run(live, rounds)?;
         let running = since(clock, start);

@@ -1,4 +1,6 @@
 //! Times in nanoseconds.
+ghost use Rattle.std.specs.Prelude.{◌≡◌, None};
+
 use std::time::{Clock, Duration, Instant};
 
 /// The time that the clock shows, if it can be read.
@@ -14,7 +16,9 @@ fn nanoseconds(time: Duration) -> u64 {
 }
 
 /// The nanoseconds since a time; 0 where the clock can't be read.
-pub fn since<C: Clock>(clock: &C, start: Option<Instant>) -> u64 {
+pub fn since<C: Clock>(clock: &C, start: Option<Instant>) -> u64
+    ensures not_begun { start ≡ None → result ≡ 0 }
+{
     match (start, begin(clock)) {
         (Some(start), Some(end)) => nanoseconds(end.duration_since(start)),
         _ => 0,

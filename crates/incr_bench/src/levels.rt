@@ -1,4 +1,6 @@
 //! Whether a graph by chance can be brought up to date: its links make no circle, and no chain that is too long.
+ghost use Rattle.std.specs.Prelude.{◌≡◌, ◌≤◌, length, IfOk};
+
 use plain_evaluation::{Definition, at, evaluate};
 use std::alloc::{AllocError, Global};
 
@@ -14,7 +16,9 @@ fn target(all: &[Definition], reference: usize) -> usize {
 }
 
 /// How many passes over the nodes find what each is worth: one more than there are joins of nodes that were made later.
-pub fn passes_of(all: &[Definition]) -> usize {
+pub fn passes_of(all: &[Definition]) -> usize
+    ensures some { 1 ≤ result }
+{
     let mut passes = 1usize;
     for place in 0..all.len() {
         if let Definition::Join(reference) = all[place] {
@@ -55,7 +59,9 @@ fn height(levels: &[i64], values: &[i64], all: &[Definition], definition: Defini
 }
 
 /// Finds the heights anew, in place. The answer is whether each was found before.
-fn settle(levels: &mut [i64], values: &[i64], all: &[Definition]) -> bool {
+fn settle(levels: &mut [i64], values: &[i64], all: &[Definition]) -> bool
+    ensures { length levels.new ≡ length levels.old }
+{
     let mut same = true;
     for place in 0..all.len() {
         let found = height(levels, values, all, all[place]);
@@ -68,7 +74,9 @@ fn settle(levels: &mut [i64], values: &[i64], all: &[Definition]) -> bool {
 }
 
 /// So many heights of 0.
-fn zeros(alloc: Global, count: usize) -> Result<Vec<i64>, AllocError> {
+fn zeros(alloc: Global, count: usize) -> Result<Vec<i64>, AllocError>
+    ensures { IfOk result (λ levels. length levels.items ≡ count) }
+{
     let mut levels = Vec::new(alloc);
     for _ in 0..count {
         levels.push(0)?;

@@ -1,5 +1,5 @@
 //! A graph with the nodes and observers that were made.
-ghost use Rattle.std.specs.Prelude.{◌≡◌, ◌≤◌, length};
+ghost use Rattle.std.specs.Prelude.{◌≡◌, ◌≤◌, ◌+◌, [], length, OnOk};
 
 use crate::lists::append;
 use bench_engine::{Engine, Fault};
@@ -37,7 +37,11 @@ fn observer_at(observers: &[ObsId], place: usize) -> ObsId {
 
 impl Live {
     /// A graph without nodes.
-    pub fn new(alloc: Global) -> Live {
+    pub fn new(alloc: Global) -> Live
+        ensures uncalled { result.engine ≡ 0 }
+        ensures empty { result.nodes.items ≡ [] }
+        ensures unobserved { result.observers.items ≡ [] }
+    {
         Live {
             engine: Engine::new(alloc),
             nodes: Vec::new(alloc),
@@ -65,28 +69,40 @@ impl Live {
     }
 
     /// Makes a variable with its first value.
-    pub fn var(&mut self, value: i64) -> Result<(), Fault> {
+    pub fn var(&mut self, value: i64) -> Result<(), Fault>
+        ensures grows { OnOk result (length self.new.nodes.items ≡ length self.old.nodes.items + 1) }
+        ensures uncalled { self.new.engine ≡ self.old.engine }
+    {
         let node = self.engine.var(value)?;
         append(&mut self.nodes, node)?;
         Ok(())
     }
 
     /// Makes a variable that holds a truth.
-    pub fn truth(&mut self, holds: bool) -> Result<(), Fault> {
+    pub fn truth(&mut self, holds: bool) -> Result<(), Fault>
+        ensures grows { OnOk result (length self.new.nodes.items ≡ length self.old.nodes.items + 1) }
+        ensures uncalled { self.new.engine ≡ self.old.engine }
+    {
         let node = self.engine.truth(holds)?;
         append(&mut self.nodes, node)?;
         Ok(())
     }
 
     /// Makes a variable that refers to a node.
-    pub fn reference(&mut self, target: usize) -> Result<(), Fault> {
+    pub fn reference(&mut self, target: usize) -> Result<(), Fault>
+        ensures grows { OnOk result (length self.new.nodes.items ≡ length self.old.nodes.items + 1) }
+        ensures uncalled { self.new.engine ≡ self.old.engine }
+    {
         let node = self.engine.reference(node_at(&self.nodes, target))?;
         append(&mut self.nodes, node)?;
         Ok(())
     }
 
     /// Makes a node that reads the first of two nodes where the test holds, else the second.
-    pub fn choose(&mut self, test: usize, yes: usize, no: usize) -> Result<(), Fault> {
+    pub fn choose(&mut self, test: usize, yes: usize, no: usize) -> Result<(), Fault>
+        ensures grows { OnOk result (length self.new.nodes.items ≡ length self.old.nodes.items + 1) }
+        ensures uncalled { self.new.engine ≡ self.old.engine }
+    {
         let node = self.engine.choose(
             node_at(&self.nodes, test),
             node_at(&self.nodes, yes),
@@ -97,39 +113,57 @@ impl Live {
     }
 
     /// Makes a node that reads the node to which another refers.
-    pub fn join(&mut self, reference: usize) -> Result<(), Fault> {
+    pub fn join(&mut self, reference: usize) -> Result<(), Fault>
+        ensures grows { OnOk result (length self.new.nodes.items ≡ length self.old.nodes.items + 1) }
+        ensures uncalled { self.new.engine ≡ self.old.engine }
+    {
         let node = self.engine.join(node_at(&self.nodes, reference))?;
         append(&mut self.nodes, node)?;
         Ok(())
     }
 
     /// Makes a node that applies a function to nodes.
-    fn map(&mut self, function: Function, kids: &[NodeId]) -> Result<(), Fault> {
+    fn map(&mut self, function: Function, kids: &[NodeId]) -> Result<(), Fault>
+        ensures grows { OnOk result (length self.new.nodes.items ≡ length self.old.nodes.items + 1) }
+        ensures uncalled { self.new.engine ≡ self.old.engine }
+    {
         let node = self.engine.map(function, kids)?;
         append(&mut self.nodes, node)?;
         Ok(())
     }
 
     /// Makes the negation of a node.
-    pub fn neg(&mut self, kid: usize) -> Result<(), Fault> {
+    pub fn neg(&mut self, kid: usize) -> Result<(), Fault>
+        ensures grows { OnOk result (length self.new.nodes.items ≡ length self.old.nodes.items + 1) }
+        ensures uncalled { self.new.engine ≡ self.old.engine }
+    {
         let kids = [node_at(&self.nodes, kid)];
         self.map(Function::Neg, &kids)
     }
 
     /// Makes the sum of two nodes.
-    pub fn sum(&mut self, left: usize, right: usize) -> Result<(), Fault> {
+    pub fn sum(&mut self, left: usize, right: usize) -> Result<(), Fault>
+        ensures grows { OnOk result (length self.new.nodes.items ≡ length self.old.nodes.items + 1) }
+        ensures uncalled { self.new.engine ≡ self.old.engine }
+    {
         let kids = [node_at(&self.nodes, left), node_at(&self.nodes, right)];
         self.map(Function::Add, &kids)
     }
 
     /// Makes the comparison of two nodes.
-    pub fn less(&mut self, left: usize, right: usize) -> Result<(), Fault> {
+    pub fn less(&mut self, left: usize, right: usize) -> Result<(), Fault>
+        ensures grows { OnOk result (length self.new.nodes.items ≡ length self.old.nodes.items + 1) }
+        ensures uncalled { self.new.engine ≡ self.old.engine }
+    {
         let kids = [node_at(&self.nodes, left), node_at(&self.nodes, right)];
         self.map(Function::Lt, &kids)
     }
 
     /// Makes the choice between two nodes.
-    pub fn pick(&mut self, test: usize, first: usize, second: usize) -> Result<(), Fault> {
+    pub fn pick(&mut self, test: usize, first: usize, second: usize) -> Result<(), Fault>
+        ensures grows { OnOk result (length self.new.nodes.items ≡ length self.old.nodes.items + 1) }
+        ensures uncalled { self.new.engine ≡ self.old.engine }
+    {
         let kids = [
             node_at(&self.nodes, test),
             node_at(&self.nodes, first),
@@ -139,14 +173,20 @@ impl Live {
     }
 
     /// Makes the sum of all nodes that were made so far, as one fold.
-    pub fn sum_all(&mut self) -> Result<(), Fault> {
+    pub fn sum_all(&mut self) -> Result<(), Fault>
+        ensures grows { OnOk result (length self.new.nodes.items ≡ length self.old.nodes.items + 1) }
+        ensures uncalled { self.new.engine ≡ self.old.engine }
+    {
         let node = self.engine.sum(&self.nodes)?;
         append(&mut self.nodes, node)?;
         Ok(())
     }
 
     /// Makes what the definition says.
-    pub fn add(&mut self, definition: Definition) -> Result<(), Fault> {
+    pub fn add(&mut self, definition: Definition) -> Result<(), Fault>
+        ensures grows { OnOk result (length self.new.nodes.items ≡ length self.old.nodes.items + 1) }
+        ensures uncalled { self.new.engine ≡ self.old.engine }
+    {
         match definition {
             Definition::Var(value) => self.var(value),
             Definition::Truth(holds) => self.truth(holds),
@@ -163,6 +203,8 @@ impl Live {
     /// Observes a node.
     pub fn observe(&mut self, place: usize) -> Result<(), Fault>
         ensures uncalled { self.new.engine ≡ self.old.engine }
+        ensures same_nodes { self.new.nodes.items ≡ self.old.nodes.items }
+        ensures grows { OnOk result (length self.new.observers.items ≡ length self.old.observers.items + 1) }
     {
         let observer = self.engine.observe(node_at(&self.nodes, place))?;
         append(&mut self.observers, observer)?;
@@ -172,6 +214,7 @@ impl Live {
     /// Ends an observer.
     pub fn unobserve(&mut self, place: usize) -> Result<(), Fault>
         ensures uncalled { self.new.engine ≡ self.old.engine }
+        ensures same_nodes { self.new.nodes.items ≡ self.old.nodes.items }
     {
         self.engine.unobserve(observer_at(&self.observers, place))
     }
@@ -179,6 +222,7 @@ impl Live {
     /// Gives a variable another value.
     pub fn set(&mut self, place: usize, value: i64) -> Result<(), Fault>
         ensures uncalled { self.new.engine ≡ self.old.engine }
+        ensures same_nodes { self.new.nodes.items ≡ self.old.nodes.items }
     {
         self.engine.set(node_at(&self.nodes, place), value)
     }
@@ -186,6 +230,7 @@ impl Live {
     /// Gives a variable another truth.
     pub fn set_truth(&mut self, place: usize, holds: bool) -> Result<(), Fault>
         ensures uncalled { self.new.engine ≡ self.old.engine }
+        ensures same_nodes { self.new.nodes.items ≡ self.old.nodes.items }
     {
         self.engine.set_truth(node_at(&self.nodes, place), holds)
     }
@@ -193,13 +238,17 @@ impl Live {
     /// Has a variable refer to another node.
     pub fn refer(&mut self, place: usize, target: usize) -> Result<(), Fault>
         ensures uncalled { self.new.engine ≡ self.old.engine }
+        ensures same_nodes { self.new.nodes.items ≡ self.old.nodes.items }
     {
         self.engine
             .refer(node_at(&self.nodes, place), node_at(&self.nodes, target))
     }
 
     /// Gives a variable what the definition says. Others aren't variables.
-    pub fn change(&mut self, place: usize, definition: Definition) -> Result<(), Fault> {
+    pub fn change(&mut self, place: usize, definition: Definition) -> Result<(), Fault>
+        ensures uncalled { self.new.engine ≡ self.old.engine }
+        ensures same_nodes { self.new.nodes.items ≡ self.old.nodes.items }
+    {
         match definition {
             Definition::Var(value) => self.set(place, value),
             Definition::Truth(holds) => self.set_truth(place, holds),
@@ -211,6 +260,7 @@ impl Live {
     /// Has a node tell its readers of each outcome, an equal one too.
     pub fn tell_all(&mut self, place: usize) -> Result<(), Fault>
         ensures uncalled { self.new.engine ≡ self.old.engine }
+        ensures same_nodes { self.new.nodes.items ≡ self.old.nodes.items }
     {
         self.engine.tell_all(node_at(&self.nodes, place))
     }
@@ -218,6 +268,7 @@ impl Live {
     /// Brings what is observed up to date.
     pub fn stabilize(&mut self) -> Result<(), Fault>
         ensures calls_grow { self.old.engine ≤ self.new.engine }
+        ensures same_nodes { self.new.nodes.items ≡ self.old.nodes.items }
     {
         self.engine.stabilize()
     }

@@ -1,4 +1,5 @@
 //! Observers that are made and ended.
+ghost use Rattle.std.specs.Prelude.{◌≡◌, ◌≤◌, ◌+◌, length, IfOk, OnOk};
 
 use crate::clock::{begin, since};
 use crate::generator::Generator;
@@ -20,7 +21,9 @@ pub struct Ends {
 }
 
 /// The numbers below a count.
-fn numbers(alloc: Global, count: usize) -> Result<Vec<usize>, AllocError> {
+fn numbers(alloc: Global, count: usize) -> Result<Vec<usize>, AllocError>
+    ensures { IfOk result (λ all. length all.items ≡ count) }
+{
     let mut all = Vec::new(alloc);
     for i in 0..count {
         all.push(i)?;
@@ -29,7 +32,9 @@ fn numbers(alloc: Global, count: usize) -> Result<Vec<usize>, AllocError> {
 }
 
 /// Puts the items into another order, by chance.
-fn shuffle(items: &mut [usize]) {
+fn shuffle(items: &mut [usize])
+    ensures { length items.new ≡ length items.old }
+{
     let mut generator = Generator::new(1);
     for i in 0..items.len() {
         let other = generator.below(i + 1);
@@ -40,7 +45,11 @@ fn shuffle(items: &mut [usize]) {
 }
 
 /// Makes one variable under so many negations, not observed. The answer is the order in which their observers end.
-pub fn build(alloc: Global, live: &mut Live, size: usize) -> Result<Vec<usize>, Fault> {
+pub fn build(alloc: Global, live: &mut Live, size: usize) -> Result<Vec<usize>, Fault>
+    ensures uncalled { live.new.engine ≡ live.old.engine }
+    ensures order { IfOk result (λ order. length order.items ≡ size) }
+    ensures grows { OnOk result (length live.new.nodes.items ≡ length live.old.nodes.items + (size + 1)) }
+{
     star(live, size)?;
     let mut order = numbers(alloc, size)?;
     shuffle(&mut order);
@@ -48,21 +57,27 @@ pub fn build(alloc: Global, live: &mut Live, size: usize) -> Result<Vec<usize>, 
 }
 
 /// Observes so many negations. The answer is the time.
-fn observe<C: Clock>(live: &mut Live, clock: &C, size: usize) -> Result<u64, Fault> {
+fn observe<C: Clock>(live: &mut Live, clock: &C, size: usize) -> Result<u64, Fault>
+    ensures uncalled { live.new.engine ≡ live.old.engine }
+{
     let start = begin(clock);
     observe_all(live, 1, size)?;
     Ok(since(clock, start))
 }
 
 /// Brings what is observed up to date. The answer is the time.
-fn stabilize<C: Clock>(live: &mut Live, clock: &C) -> Result<u64, Fault> {
+fn stabilize<C: Clock>(live: &mut Live, clock: &C) -> Result<u64, Fault>
+    ensures calls_grow { live.old.engine ≤ live.new.engine }
+{
     let start = begin(clock);
     live.stabilize()?;
     Ok(since(clock, start))
 }
 
 /// Ends each observer, in the order. The answer is the time.
-fn end<C: Clock>(live: &mut Live, clock: &C, order: &[usize]) -> Result<u64, Fault> {
+fn end<C: Clock>(live: &mut Live, clock: &C, order: &[usize]) -> Result<u64, Fault>
+    ensures uncalled { live.new.engine ≡ live.old.engine }
+{
     let start = begin(clock);
     for place in order {
         live.unobserve(*place)?;
@@ -71,19 +86,20 @@ fn end<C: Clock>(live: &mut Live, clock: &C, order: &[usize]) -> Result<u64, Fau
 }
 
 /// Changes the variable, which is needed no more, and stabilizes. The answer is how many functions were called for it.
-fn change_unneeded(live: &mut Live) -> Result<u64, Fault> {
+fn change_unneeded(live: &mut Live) -> Result<u64, Fault>
+    ensures { IfOk result (λ called. live.old.engine + called ≡ live.new.engine) }
+{
     let before = live.calls();
     change(live, 0, 2)?;
     Ok(live.calls().saturating_sub(before))
 }
 
 /// Ends each observer and changes the variable.
-fn finish<C: Clock>(
-    live: &mut Live,
-    clock: &C,
-    order: &[usize],
-    ends: Ends,
-) -> Result<Ends, Fault> {
+fn finish<C: Clock>(live: &mut Live, clock: &C, order: &[usize], ends: Ends) -> Result<Ends, Fault>
+    ensures building { IfOk result (λ found. found.building ≡ ends.building) }
+    ensures calls { IfOk result (λ found. found.calls ≡ ends.calls) }
+    ensures after { IfOk result (λ found. live.old.engine + found.after ≡ live.new.engine) }
+{
     let ending = end(live, clock, order)?;
     let after = change_unneeded(live)?;
     Ok(Ends {
@@ -99,7 +115,10 @@ pub fn measure<C: Clock>(
     clock: &C,
     order: &[usize],
     building: u64,
-) -> Result<Ends, Fault> {
+) -> Result<Ends, Fault>
+    ensures building { IfOk result (λ ends. ends.building ≡ building) }
+    ensures calls { IfOk result (λ ends. ends.calls + ends.after ≡ live.new.engine) }
+{
     let observing = observe(live, clock, order.len())?;
     let stabilizing = stabilize(live, clock)?;
     let ends = Ends {

@@ -1,5 +1,5 @@
 //! Graphs of the shapes that are changed in rounds.
-ghost use Rattle.std.specs.Prelude.{◌≤◌, ◌<◌};
+ghost use Rattle.std.specs.Prelude.{◌≡◌, ◌≤◌, ◌<◌, ◌+◌, length, IfOk, OnOk};
 
 use crate::clock::{begin, since};
 use crate::job::Shape;
@@ -43,7 +43,9 @@ pub struct Steady {
 }
 
 /// One variable under a chain of negations, of which the last is observed.
-fn chain(live: &mut Live, size: usize) -> Result<(), Fault> {
+fn chain(live: &mut Live, size: usize) -> Result<(), Fault>
+    ensures uncalled { live.new.engine ≡ live.old.engine }
+{
     live.var(1)?;
     for i in 0..size {
         live.neg(i)?;
@@ -52,7 +54,10 @@ fn chain(live: &mut Live, size: usize) -> Result<(), Fault> {
 }
 
 /// Negations of the first node.
-fn negations(live: &mut Live, size: usize) -> Result<(), Fault> {
+fn negations(live: &mut Live, size: usize) -> Result<(), Fault>
+    ensures uncalled { live.new.engine ≡ live.old.engine }
+    ensures grows { OnOk result (length live.new.nodes.items ≡ length live.old.nodes.items + size) }
+{
     for _ in 0..size {
         live.neg(0)?;
     }
@@ -60,7 +65,10 @@ fn negations(live: &mut Live, size: usize) -> Result<(), Fault> {
 }
 
 /// Observes so many nodes, from a place on.
-pub fn observe_all(live: &mut Live, start: usize, size: usize) -> Result<(), Fault> {
+pub fn observe_all(live: &mut Live, start: usize, size: usize) -> Result<(), Fault>
+    ensures uncalled { live.new.engine ≡ live.old.engine }
+    ensures same_nodes { live.new.nodes.items ≡ live.old.nodes.items }
+{
     for i in 0..size {
         live.observe(start.saturating_add(i))?;
     }
@@ -68,19 +76,27 @@ pub fn observe_all(live: &mut Live, start: usize, size: usize) -> Result<(), Fau
 }
 
 /// One variable under negations.
-pub fn star(live: &mut Live, size: usize) -> Result<(), Fault> {
+pub fn star(live: &mut Live, size: usize) -> Result<(), Fault>
+    ensures uncalled { live.new.engine ≡ live.old.engine }
+    ensures grows { OnOk result (length live.new.nodes.items ≡ length live.old.nodes.items + (size + 1)) }
+{
     live.var(1)?;
     negations(live, size)
 }
 
 /// One variable under negations, all observed.
-fn fan(live: &mut Live, size: usize) -> Result<(), Fault> {
+fn fan(live: &mut Live, size: usize) -> Result<(), Fault>
+    ensures uncalled { live.new.engine ≡ live.old.engine }
+{
     star(live, size)?;
     observe_all(live, 1, size)
 }
 
 /// Variables.
-fn variables(live: &mut Live, size: usize) -> Result<(), Fault> {
+fn variables(live: &mut Live, size: usize) -> Result<(), Fault>
+    ensures uncalled { live.new.engine ≡ live.old.engine }
+    ensures grows { OnOk result (length live.new.nodes.items ≡ length live.old.nodes.items + size) }
+{
     for _ in 0..size {
         live.var(-1)?;
     }
@@ -90,6 +106,7 @@ fn variables(live: &mut Live, size: usize) -> Result<(), Fault> {
 /// Sums of the nodes, pairwise, until one is left.
 fn sums(live: &mut Live, size: usize) -> Result<(), Fault>
     requires { size ≤ 1000000 }
+    ensures uncalled { live.new.engine ≡ live.old.engine }
 {
     for k in 1..size {
         live.sum(2 * (k - 1), 2 * k - 1)?;
@@ -101,6 +118,7 @@ fn sums(live: &mut Live, size: usize) -> Result<(), Fault>
 fn tree(live: &mut Live, size: usize) -> Result<(), Fault>
     requires small { size ≤ 1000000 }
     requires some { 0 < size }
+    ensures uncalled { live.new.engine ≡ live.old.engine }
 {
     variables(live, size)?;
     sums(live, size)?;
@@ -108,14 +126,18 @@ fn tree(live: &mut Live, size: usize) -> Result<(), Fault>
 }
 
 /// Variables that are summed by one fold, which is observed.
-fn folded(live: &mut Live, size: usize) -> Result<(), Fault> {
+fn folded(live: &mut Live, size: usize) -> Result<(), Fault>
+    ensures uncalled { live.new.engine ≡ live.old.engine }
+{
     variables(live, size)?;
     live.sum_all()?;
     live.observe(size)
 }
 
 /// A variable that is compared with 0, two numbers, and the outcome of the comparison: four variables and node 4.
-fn comparison(live: &mut Live) -> Result<(), Fault> {
+fn comparison(live: &mut Live) -> Result<(), Fault>
+    ensures uncalled { live.new.engine ≡ live.old.engine }
+{
     live.var(1)?;
     live.var(0)?;
     live.var(10)?;
@@ -124,7 +146,9 @@ fn comparison(live: &mut Live) -> Result<(), Fault> {
 }
 
 /// Readers of the comparison.
-fn readers(live: &mut Live, size: usize) -> Result<(), Fault> {
+fn readers(live: &mut Live, size: usize) -> Result<(), Fault>
+    ensures uncalled { live.new.engine ≡ live.old.engine }
+{
     for _ in 0..size {
         live.pick(4, 2, 3)?;
     }
@@ -132,20 +156,26 @@ fn readers(live: &mut Live, size: usize) -> Result<(), Fault> {
 }
 
 /// A comparison that stays as it is, with readers behind it, all observed.
-fn cut(live: &mut Live, size: usize) -> Result<(), Fault> {
+fn cut(live: &mut Live, size: usize) -> Result<(), Fault>
+    ensures uncalled { live.new.engine ≡ live.old.engine }
+{
     comparison(live)?;
     readers(live, size)?;
     observe_all(live, 5, size)
 }
 
 /// The same, but the comparison tells its readers of each outcome.
-fn never(live: &mut Live, size: usize) -> Result<(), Fault> {
+fn never(live: &mut Live, size: usize) -> Result<(), Fault>
+    ensures uncalled { live.new.engine ≡ live.old.engine }
+{
     cut(live, size)?;
     live.tell_all(4)
 }
 
 /// A variable and its negation, which is observed in every second pair.
-fn pair(live: &mut Live, i: usize) -> Result<(), Fault> {
+fn pair(live: &mut Live, i: usize) -> Result<(), Fault>
+    ensures uncalled { live.new.engine ≡ live.old.engine }
+{
     let place = live.len();
     live.var(7)?;
     live.neg(place)?;
@@ -157,7 +187,9 @@ fn pair(live: &mut Live, i: usize) -> Result<(), Fault> {
 }
 
 /// Nodes at rest: variables with their negations.
-fn rest(live: &mut Live, size: usize) -> Result<(), Fault> {
+fn rest(live: &mut Live, size: usize) -> Result<(), Fault>
+    ensures uncalled { live.new.engine ≡ live.old.engine }
+{
     for i in 0..size / 2 {
         pair(live, i)?;
     }
@@ -165,13 +197,17 @@ fn rest(live: &mut Live, size: usize) -> Result<(), Fault> {
 }
 
 /// A chain that changes, beside nodes at rest.
-fn idle(live: &mut Live, size: usize) -> Result<(), Fault> {
+fn idle(live: &mut Live, size: usize) -> Result<(), Fault>
+    ensures uncalled { live.new.engine ≡ live.old.engine }
+{
     chain(live, IDLE_CHAIN)?;
     rest(live, size)
 }
 
 /// A chain of negations of a node.
-fn chain_over(live: &mut Live, kid: usize, size: usize) -> Result<(), Fault> {
+fn chain_over(live: &mut Live, kid: usize, size: usize) -> Result<(), Fault>
+    ensures uncalled { live.new.engine ≡ live.old.engine }
+{
     live.neg(kid)?;
     for _ in 1..size {
         live.neg(live.len().saturating_sub(1))?;
@@ -182,6 +218,7 @@ fn chain_over(live: &mut Live, kid: usize, size: usize) -> Result<(), Fault> {
 /// A truth and a number, both variables, and an `if` over two chains of negations of the number, which is observed.
 fn flip(live: &mut Live, size: usize) -> Result<(), Fault>
     requires { size ≤ 1000000 }
+    ensures uncalled { live.new.engine ≡ live.old.engine }
 {
     live.truth(true)?;
     live.var(1)?;
@@ -192,7 +229,9 @@ fn flip(live: &mut Live, size: usize) -> Result<(), Fault>
 }
 
 /// The same, beside nodes at rest.
-fn aside(live: &mut Live, size: usize) -> Result<(), Fault> {
+fn aside(live: &mut Live, size: usize) -> Result<(), Fault>
+    ensures uncalled { live.new.engine ≡ live.old.engine }
+{
     flip(live, IDLE_CHAIN)?;
     rest(live, size)
 }
@@ -200,6 +239,7 @@ fn aside(live: &mut Live, size: usize) -> Result<(), Fault> {
 /// Variables, one that refers to the first of them, and a join over it, which is observed.
 fn switch(live: &mut Live, size: usize) -> Result<(), Fault>
     requires { size ≤ 1000000 }
+    ensures uncalled { live.new.engine ≡ live.old.engine }
 {
     variables(live, size)?;
     live.reference(0)?;
@@ -211,6 +251,7 @@ fn switch(live: &mut Live, size: usize) -> Result<(), Fault>
 fn fill(live: &mut Live, shape: Shape, size: usize) -> Result<(), Fault>
     requires small { size ≤ 1000000 }
     requires some { 0 < size }
+    ensures uncalled { live.new.engine ≡ live.old.engine }
 {
     match shape {
         Shape::Chain => chain(live, size),
@@ -259,13 +300,19 @@ fn fresh(round: u64) -> i64 {
 }
 
 /// Changes a variable and stabilizes.
-pub fn change(live: &mut Live, place: usize, value: i64) -> Result<(), Fault> {
+pub fn change(live: &mut Live, place: usize, value: i64) -> Result<(), Fault>
+    ensures calls_grow { live.old.engine ≤ live.new.engine }
+    ensures same_nodes { live.new.nodes.items ≡ live.old.nodes.items }
+{
     live.set(place, value)?;
     live.stabilize()
 }
 
 /// Chooses the other chain and stabilizes.
-fn flipped(live: &mut Live, round: u64) -> Result<(), Fault> {
+fn flipped(live: &mut Live, round: u64) -> Result<(), Fault>
+    ensures calls_grow { live.old.engine ≤ live.new.engine }
+    ensures same_nodes { live.new.nodes.items ≡ live.old.nodes.items }
+{
     live.set_truth(0, round % 2 == 1)?;
     live.stabilize()
 }
@@ -275,6 +322,7 @@ impl Steady {
     pub fn new(live: &mut Live, shape: Shape, size: usize) -> Result<Steady, Fault>
         requires small { size ≤ 1000000 }
         requires some { 0 < size }
+        ensures calls_grow { live.old.engine ≤ live.new.engine }
     {
         fill(live, shape, size)?;
         live.stabilize()?;
@@ -285,7 +333,9 @@ impl Steady {
     }
 
     /// One round.
-    fn round(self, live: &mut Live, round: u64) -> Result<(), Fault> {
+    fn round(self, live: &mut Live, round: u64) -> Result<(), Fault>
+        ensures calls_grow { live.old.engine ≤ live.new.engine }
+    {
         match self.act {
             Act::Turn(variables) => change(live, turn(round, variables), fresh(round)),
             Act::Flip => flipped(live, round),
@@ -301,7 +351,9 @@ impl Steady {
     }
 
     /// So many rounds.
-    fn run(self, live: &mut Live, rounds: u64) -> Result<(), Fault> {
+    fn run(self, live: &mut Live, rounds: u64) -> Result<(), Fault>
+        ensures calls_grow { live.old.engine ≤ live.new.engine }
+    {
         for round in 0..rounds {
             self.round(live, round)?;
         }
@@ -315,7 +367,10 @@ impl Steady {
         clock: &C,
         rounds: u64,
         building: u64,
-    ) -> Result<Rounds, Fault> {
+    ) -> Result<Rounds, Fault>
+        ensures building { IfOk result (λ rounds. rounds.building ≡ building) }
+        ensures calls { IfOk result (λ rounds. live.old.engine + rounds.calls ≡ live.new.engine) }
+    {
         let before = live.calls();
         let start = begin(clock);
         self.run(live, rounds)?;
