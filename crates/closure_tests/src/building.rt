@@ -3,8 +3,9 @@ ghost use Rattle.std.specs.Prelude.{◌≡◌, [], IfSome, IsTrue};
 ghost use Rattle.inc_value.specs.Ty.{IsBase};
 ghost use Rattle.inc_value.specs.Value.{type_of};
 ghost use Rattle.node_arena.specs.Building.{building_in};
-ghost use Rattle.node_arena.specs.Meanings.{KeepsKnown};
+ghost use Rattle.node_arena.specs.Meanings.{SameKnown};
 ghost use Rattle.node_arena.specs.RightSide.{IsRoot, SameSides};
+ghost use Rattle.node_arena.specs.Sound.{IsSound};
 ghost use Rattle.closure_tests.specs.Sides.{TakesFirst};
 
 use inc_terms::{Def, Nodes};
@@ -44,8 +45,10 @@ pub fn bind_and_build<F: Functions>(
     requires known { IsTrue (F.known functions.old f) }
     requires lists_none { (F.right functions.old f).ids ≡ [] }
     requires base { IsBase (type_of value.now) }
+    requires arena { IsSound arena.old }
     ensures sound { F.is_sound functions.new }
-    ensures keeps_known { KeepsKnown (F.known functions.old) (F.known functions.new) }
+    ensures arena { IsSound arena.new }
+    ensures same_known { SameKnown (F.known functions.old) (F.known functions.new) }
     ensures same_sides { SameSides (F.right functions.old) (F.right functions.new) }
     ensures root { IfSome result (λ b. IsRoot (building_in b.bind arena.new) captures.now b.root
         ((F.right functions.old f).term value.now) f.sig.gives) }
@@ -56,7 +59,6 @@ pub fn bind_and_build<F: Functions>(
     let Ok(nodes) = Nodes::from_slice(alloc, captures) else {
         return None;
     };
-    arena.is_sound();
     let def = Def::Bind {
         left,
         function: f,

@@ -1,7 +1,8 @@
 //! Whether the table builds what it lists, read back from the arena.
-ghost use Rattle.std.specs.Prelude.{◌≡◌, [], IsTrue};
-ghost use Rattle.node_arena.specs.Meanings.{KeepsKnown};
+ghost use Rattle.std.specs.Prelude.{◌≡◌, [], IsTrue, OnOk};
+ghost use Rattle.node_arena.specs.Meanings.{SameKnown};
 ghost use Rattle.node_arena.specs.RightSide.{SameSides};
+ghost use Rattle.node_arena.specs.Sound.{IsSound};
 
 use crate::building::{Bound, bind_and_build};
 use inc_terms::Def;
@@ -28,7 +29,9 @@ struct Variables {
 }
 
 /// Adds the variables: the captures are 7, true and a reference to the 7.
-fn add_variables(arena: &mut Arena) -> Result<Variables, AddFault> {
+fn add_variables(arena: &mut Arena) -> Result<Variables, AddFault>
+    ensures arena { OnOk result (IsSound arena.new) }
+{
     let left = arena.add(Def::Var(Value::Int(1)), Ty::Int, None)?;
     let x = arena.add(Def::Var(Value::Int(7)), Ty::Int, None)?;
     let c = arena.add(Def::Var(Value::Bool(true)), Ty::Bool, None)?;
@@ -98,8 +101,10 @@ fn builds<F: Functions>(
     requires sound { F.is_sound functions.old }
     requires known { IsTrue (F.known functions.old named.now.table) }
     requires lists_none { (F.right functions.old named.now.table).ids ≡ [] }
+    requires arena { IsSound arena.old }
     ensures sound { F.is_sound functions.new }
-    ensures keeps_known { KeepsKnown (F.known functions.old) (F.known functions.new) }
+    ensures arena { IsSound arena.new }
+    ensures same_known { SameKnown (F.known functions.old) (F.known functions.new) }
     ensures same_sides { SameSides (F.right functions.old) (F.right functions.new) }
 {
     let Variables { left, x, c, h } = *variables;
@@ -133,8 +138,10 @@ fn builds_each<F: Functions>(
     requires sound { F.is_sound functions.old }
     requires known { IsTrue (F.known functions.old named.now.table) }
     requires lists_none { (F.right functions.old named.now.table).ids ≡ [] }
+    requires arena { IsSound arena.old }
     ensures sound { F.is_sound functions.new }
-    ensures keeps_known { KeepsKnown (F.known functions.old) (F.known functions.new) }
+    ensures arena { IsSound arena.new }
+    ensures same_known { SameKnown (F.known functions.old) (F.known functions.new) }
 {
     for number in 1..=6 {
         if !builds(alloc, functions, arena, named, variables, number) {
@@ -173,8 +180,10 @@ fn builds_negation<F: Functions>(
     requires sound { F.is_sound functions.old }
     requires known { IsTrue (F.known functions.old named.now.of_left) }
     requires lists_none { (F.right functions.old named.now.of_left).ids ≡ [] }
+    requires arena { IsSound arena.old }
     ensures sound { F.is_sound functions.new }
-    ensures keeps_known { KeepsKnown (F.known functions.old) (F.known functions.new) }
+    ensures arena { IsSound arena.new }
+    ensures same_known { SameKnown (F.known functions.old) (F.known functions.new) }
     ensures same_sides { SameSides (F.right functions.old) (F.right functions.new) }
 {
     let value = Value::Int(7);
@@ -201,7 +210,7 @@ pub fn builds_as_listed<F: Functions>(alloc: Global, functions: &mut F, named: &
     requires of_left_known { IsTrue (F.known functions.old named.now.of_left) }
     requires of_left_lists_none { (F.right functions.old named.now.of_left).ids ≡ [] }
     ensures sound { F.is_sound functions.new }
-    ensures keeps_known { KeepsKnown (F.known functions.old) (F.known functions.new) }
+    ensures same_known { SameKnown (F.known functions.old) (F.known functions.new) }
 {
     let mut arena = Arena::new(alloc);
     let listed = match add_variables(&mut arena) {

@@ -1,10 +1,8 @@
 -- A node's cutoff is set.
-use Rattle.std.proofs.Common.{◌≡◌, inl, inr, ℕ, Bool, List, Option, None, Some, refl, sym, ap, subst, ◌∙◌}
+use Rattle.std.proofs.Common.{◌≡◌, inl, inr, ℕ, List, Option, None, Some, refl, sym, ap, subst, ◌∙◌}
 use Rattle.std.specs.Prelude.{is_some, IsSome, option_map}
-use Rattle.inc_value.specs.declared.function.FnRef.{FnRef}
 use Rattle.inc_value.specs.declared.node.NodeId.{NodeId}
 use Rattle.inc_value.specs.declared.node.Point.{Point}
-use Rattle.inc_value.specs.declared.value.Value.{Value}
 use Rattle.inc_terms.specs.Depend.{main, change}
 use Rattle.inc_terms.specs.Graph.{Row}
 use Rattle.inc_terms.specs.Within.{Given}
@@ -13,11 +11,10 @@ use Rattle.point_map.specs.Rows.{at}
 use Rattle.link_table.specs.Links.{times}
 use Rattle.necessity.specs.Need.{root_times}
 use Rattle.node_arena.specs.Arena.{Arena, row_at}
-use Rattle.node_arena.specs.Graph.{AllCallFit}
 use Rattle.stabilize_round.proofs.Points.{same_or_other}
 use Rattle.node_outcomes.specs.Computing.{seen_of, seen}
 use Rattle.stabilizer.specs.Kept.{IsKept}
-use Rattle.node_outcomes.specs.Meaning.{functions_of, lists_none, maps_of}
+use Rattle.node_outcomes.specs.Meaning.{Meaning}
 use Rattle.stabilizer.specs.Round.{IsReady, last_of}
 use Rattle.node_outcomes.specs.Row.{IsRewritten, with_cutoff, outcome_in, cutoff_in}
 use Rattle.stabilizer.specs.declared.parts.Parts.{Parts}
@@ -63,18 +60,17 @@ module _ (old new : Parts) (id : NodeId) (c : Cutoff) (set : IsRewritten old.wor
   arena_as : new.arena ≡ old.arena
   arena_as = ap (λ (p : Parts). p.arena) rest
 
-  pub sound_cut : (known : FnRef → Bool) (value : FnRef → List Value → Value) (observers : List Observer) (rooted : ℕ) (refused : Option Refused)
-      → FitsInside known value old observers rooted refused → refused ≡ None
-      → (IsReady (functions_of value) old.arena old.work → IsReady (functions_of value) new.arena new.work)
-      → FitsInside known value new observers rooted refused
-  sound_cut known value observers rooted refused sound still ready = record {
+  pub sound_cut : (M : Meaning) (observers : List Observer) (rooted : ℕ) (refused : Option Refused)
+      → FitsInside M old observers rooted refused → refused ≡ None
+      → (IsReady M old.arena old.work → IsReady M new.arena new.work)
+      → FitsInside M new observers rooted refused
+  sound_cut M observers rooted refused sound still ready = record {
     few = sound.few;
     earlier = sound.earlier;
     kept = (ready (sound.unbroken still).ready).kept;
     unbroken = λ whole. let can = sound.unbroken whole in record {
       ready = ready can.ready;
       roots = λ p. ap (λ (x : Parts). root_times x.work.graph.roots p) rest ∙ can.roots p;
-      fit = subst (λ (a : Arena). AllCallFit (maps_of known) lists_none a) (sym arena_as) can.fit;
       given = λ n among. subst (λ (a : Arena). Given a.given n) (sym arena_as) (can.given n among);
       shown = λ n among. subst IsSome (sym (seen_same (main n))) (can.shown n among);
     };

@@ -1,6 +1,6 @@
 -- Faults of the crates below, told apart.
 use Rattle.std.proofs.Common.{◌≡◌, Ok, Err, refl, sym, ap, subst, ◌∙◌}
-use Rattle.std.specs.Prelude.{Result, IfOk, ◌↔◌}
+use Rattle.std.specs.Prelude.{Result, IfOk, OnOk, ◌↔◌}
 use Rattle.inc_value.specs.declared.node.NodeId.{NodeId}
 use Rattle.graph.specs.Fault.{of_add, of_set}
 use Rattle.graph.specs.declared.fault.GraphFault.{GraphFault}
@@ -60,6 +60,10 @@ add_passed (Err e) q s f m only is both unbroken = (
 )
 
 -- what such an answer says of a new id
+pub ok_passes : {T : Type 0} (P : Type 0) (r : Result T SetFault) (q : Result T GraphFault) → Passes r q → OnOk r P → OnOk q P
+ok_passes P (Ok v) q is p = subst (λ (x : Result _ GraphFault). OnOk x P) (sym is) p
+ok_passes P (Err e) q is p = subst (λ (x : Result _ GraphFault). OnOk x P) (sym is) p
+
 pub id_passes : (P : NodeId → Type 0) (r : Result NodeId AddFault) (q : Result NodeId GraphFault) → AddPasses r q → IfOk r P → IfOk q P
 id_passes P (Ok id) q is p = subst (λ (x : Result NodeId GraphFault). IfOk x P) (sym is) p
 id_passes P (Err e) q is p = subst (λ (x : Result NodeId GraphFault). IfOk x P) (sym is) p

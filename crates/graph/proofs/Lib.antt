@@ -9,3 +9,4 @@ pub mod Rounding
 pub mod Unobserving
 pub mod TakingBack
 pub mod Cutting
+pub mod Still

@@ -1,15 +1,15 @@
 -- A round of the parts, told of the graph.
-use Rattle.std.proofs.Common.{◌≡◌, inl, inr, ℕ, ◌+◌, ◌<◌, true, List, [], ◌∷◌, length, Option, None, Some, refl, sym, ap, subst, ◌∙◌}
+use Rattle.std.proofs.Common.{◌≡◌, inl, inr, ℕ, ◌+◌, ◌<◌, true, List, [], ◌∷◌, length, Option, None, Some, refl, sym, ap, subst, ◌∙◌, arith}
 use Rattle.inc_value.specs.declared.node.NodeId.{NodeId}
 use Rattle.inc_value.specs.declared.node.Point.{Point}
 use Rattle.inc_value.specs.Choice.{here}
-use Rattle.inc_terms.specs.Depend.{main, none_died}
-use Rattle.inc_terms.specs.Evaluate.{NodeGives}
+use Rattle.inc_terms.specs.Depend.{main}
 use Rattle.inc_terms.specs.Graph.{Graph}
 use Rattle.inc_terms.specs.Need.{Beside, Observed, Met, from_root, from_held}
 use Rattle.inc_terms.specs.Term.{Functions}
 use Rattle.necessary_graph.specs.Part as part
-use Rattle.node_arena.specs.Arena.{Arena}
+use Rattle.node_arena.specs.Arena.{Arena, row_at}
+use Rattle.stabilize_round.specs.Laws.{GraphStays}
 use Rattle.node_arena.specs.Graph.{graph_of}
 use Rattle.point_map.specs.Rows.{at}
 use Rattle.stabilizer.specs.Round as round
@@ -17,9 +17,10 @@ use Rattle.stabilizer.specs.declared.parts.Parts.{Parts}
 use Rattle.stabilizer.specs.declared.refused.Refused.{Refused}
 use Rattle.stabilizer.specs.declared.refused.Refused.TheVariants.{Height, Cycle, Full, Memory}
 use Rattle.graph.specs.Fault.{kept_of}
-use Rattle.graph.specs.Stabilizes.{ComesBack, AllButLast, StoodBeside, WasForced, WasCalled, Stabilizes, IsListed, IsLawful, HasCalledMet, IsTried, LeavesTried}
+use Rattle.graph.specs.Stabilizes.{ComesBack, AllButLast, StoodBeside, WasForced, WasCalledIn, Stabilizes, StabilizesIn, IsListedIn, IsLawfulIn, HasCalledMetIn, IsTried, LeavesTried}
+use Rattle.graph.specs.Stabilizes.{left_by, died_by}
 use Rattle.graph.specs.Stabilizes.{IsRefusedFor}
-use Rattle.graph.specs.Standing.{Standing, IsNeeded, in_use, settled_last}
+use Rattle.graph.specs.Standing.{Standing, graph, IsNeeded, in_use, settled_last}
 use Rattle.graph.specs.declared.fault.Kept.{Kept}
 use Rattle.graph.specs.declared.observer.Observer.{Observer}
 use Rattle.graph.proofs.Observing.{looked_among}
@@ -47,15 +48,26 @@ comes_back points c = record {
   long = c.long;
 }
 
+-- nodes that are the same stay
+nodes_stay : (old new : Arena) → new ≡ old → GraphStays old.given new.given (graph_of old) (graph_of new)
+nodes_stay old new same = record {
+  given = rw same (omega arith);
+  clock = refl;
+  frozen = λ n given. refl;
+  lists = λ n given. refl;
+  rows = λ n given. inl (ap (λ (a : Arena). row_at a n) same);
+}
+
 -- ---- what was before the round
 
-module _ {F : Type 0} (M : Functions) (functions : F) (parts : Parts) (observers : List Observer) (rooted : ℕ) (refused : Option Refused) where
+module _ {F : Type 0} (M : Functions) (G : Graph) (died : NodeId → Option NodeId) (functions : F) (parts : Parts) (observers : List Observer) (rooted : ℕ)
+    (refused : Option Refused) where
   abbrev before : Standing F
   before = seen_as functions parts observers rooted refused
 
-  pub met_in : (p : Point) → Met M (graph_of parts.arena) none_died (in_use observers) (λ (q : Point). part.Needed parts.work.graph q) p
-      → Met M (graph_of parts.arena) none_died (in_use observers) (IsNeeded before) p
-  met_in p met = met_more M (graph_of parts.arena) none_died (in_use observers) (λ (q : Point). part.Needed parts.work.graph q) (IsNeeded before)
+  pub met_in : (p : Point) → Met M G died (in_use observers) (λ (q : Point). part.Needed parts.work.graph q) p
+      → Met M G died (in_use observers) (IsNeeded before) p
+  met_in p met = met_more M G died (in_use observers) (λ (q : Point). part.Needed parts.work.graph q) (IsNeeded before)
       (needed_out functions parts observers rooted refused) p met
 
   pub stood_in : (beside : Beside) (observed : List Observed) → StoodBeside beside before observed → round.StoodBeside beside parts.work observed
@@ -65,16 +77,16 @@ module _ {F : Type 0} (M : Functions) (functions : F) (parts : Parts) (observers
     never = λ n. stood.never n ∙ never_is (at parts.work.rows (main n));
   }
 
-  listed_in : (points : List Point) → round.IsListed M parts.arena parts.work (in_use observers) points → IsListed M before points
+  listed_in : (points : List Point) → round.IsListedIn M G died parts.work (in_use observers) points → IsListedIn M G died before points
   listed_in points l = record { walk = l.walk; met = λ p starts. met_in p (l.met p starts) }
 
-  pub lawful_in : (e : Refused) → round.IsLawful M parts.arena parts.work (in_use observers) e → IsLawful M before e
+  pub lawful_in : (e : Refused) → round.IsLawfulIn M G died parts.work (in_use observers) e → IsLawfulIn M G died before e
   lawful_in (Height points) l = (listed_in points.items l.0, l.1, l.2)
   lawful_in (Cycle points) l = (listed_in points.items l.0, comes_back points.items l.1)
   lawful_in Full l = l
   lawful_in Memory l = l
 
-  pub few_in : (calls after : ℕ) → round.HasCalledMet M parts.arena parts.work (in_use observers) calls after → HasCalledMet M before calls after
+  pub few_in : (calls after : ℕ) → round.HasCalledMetIn M G died parts.work (in_use observers) calls after → HasCalledMetIn M G died before calls after
   few_in calls after h = record {
     nodes = h.few.nodes;
     once = h.few.once;
@@ -93,8 +105,8 @@ module _ {F : Type 0} (M : Functions) (functions functions' : F) (old new : Part
   abbrev now : Standing F
   now = seen_as functions' new observers all refused
 
-  module _ (numbered : 0 < old.work.round) (next : new.work.round ≡ old.work.round + 1) where
-    forced_in : (kids : List NodeId) → round.WasForced old.work new.work kids → WasForced M was now kids
+  module _ (G : Graph) (died : NodeId → Option NodeId) (numbered : 0 < old.work.round) (next : new.work.round ≡ old.work.round + 1) where
+    forced_in : (kids : List NodeId) → round.WasForced old.work new.work kids → WasForced was now kids
     forced_in kids (k, among, never, settled) = (
       k,
       among,
@@ -104,7 +116,7 @@ module _ {F : Type 0} (M : Functions) (functions functions' : F) (old new : Part
           (settled_once old.work.round (at new.work.rows (main k)) numbered settled)),
     )
 
-    called_in : (n : NodeId) → round.WasCalled M old.arena old.work new.work (in_use observers) n → WasCalled M was now n
+    called_in : (n : NodeId) → round.WasCalledIn M G died old.work new.work (in_use observers) n → WasCalledIn M G died was now n
     called_in n w = record {
       row = w.row;
       kids = w.nodes;
@@ -116,21 +128,19 @@ module _ {F : Type 0} (M : Functions) (functions functions' : F) (old new : Part
       reason = elim w.reason [ inl other ↦ inl other | inr forced ↦ inr (forced_in w.nodes forced) ];
       is_last = w.is_last;
       answers = w.answers;
-      met = met_in M functions old observers rooted refused (main n) w.met;
+      met = met_in M G died functions old observers rooted refused (main n) w.met;
     }
 
-    pub accepted : new.arena ≡ old.arena → round.IsUpToDate M old.arena old.work new.work (in_use observers) new.ran.items → Stabilizes M was now
-    accepted arena right = record {
+    pub accepted_in : (after : Graph) → new.arena ≡ old.arena
+        → round.IsUpToDateIn M G died after old.work new.work (in_use observers) new.ran.items → StabilizesIn M G died after was now
+    accepted_in after arena right = record {
       was = still;
       unbroken = still;
+      stays = nodes_stay old.arena new.arena arena;
       nodes = arena;
       observers = refl;
       rooted = are_all;
-      shows = λ o n is. let s = right.sees n (n, inl (looked_among observers o.0 n is), here) in (
-        s.0,
-        s.1,
-        subst (λ (a : Arena). NodeGives M (graph_of a) n s.0) (sym arena) s.2,
-      );
+      shows = λ o n is. let s = right.sees n (n, inl (looked_among observers o.0 n is), here) in (s.0, s.1, s.2);
       roots = right.rooted;
       needs = λ p. (
         (λ need. (right.needs p).0 (needed_in functions' new observers all refused p need)),
@@ -147,8 +157,13 @@ module _ {F : Type 0} (M : Functions) (functions functions' : F) (old new : Part
       cutoff = right.cutoffs;
       once = right.once;
       called = λ n among. called_in n (right.called n among);
-      work = λ beside observed stood. right.work beside observed (stood_in M functions old observers rooted refused beside observed stood);
+      work = λ beside observed stood. right.work beside observed (stood_in M G died functions old observers rooted refused beside observed stood);
     }
+
+  pub accepted : 0 < old.work.round → new.work.round ≡ old.work.round + 1 → new.arena ≡ old.arena → round.IsUpToDate M old new (in_use observers)
+      → Stabilizes M was now
+  accepted numbered next arena right =
+      accepted_in (left_by was now) (died_by was now) numbered next (graph now) arena right
 
 -- ---- a refused round
 
@@ -175,11 +190,12 @@ module _ {F : Type 0} (M : Functions) (functions functions' : F) (old new : Part
     (still : refused ≡ None) where
   pub refused_in : (met : Refused) (cause : Kept) → kept_of met ≡ cause → new.arena ≡ old.arena → new.ran ≡ old.ran
       → ((n : NodeId) → round.cutoff_at new.work n ≡ round.cutoff_at old.work n)
-      → ((n : NodeId) → round.ShowsStill M old.arena old.work new.work n)
-      → round.IsLawful M old.arena old.work (in_use observers) met → round.LeavesTried new.arena new.work met
+      → ((n : NodeId) → round.ShowsStill M old new n)
+      → round.IsLawful M old new (in_use observers) met → round.LeavesTried new.arena new.work met
       → IsRefusedFor M (seen_as functions old observers rooted refused) (seen_as functions' new observers rooted (Some met)) cause
   refused_in met cause is arena ran cutoffs shows lawful tried = record {
     was = still;
+    stays = nodes_stay old.arena new.arena arena;
     nodes = arena;
     observers = refl;
     rooted = refl;
@@ -189,6 +205,6 @@ module _ {F : Type 0} (M : Functions) (functions functions' : F) (old new : Part
     met = met;
     broken = refl;
     is_cause = is;
-    lawful = lawful_in M functions old observers rooted refused met lawful;
+    lawful = lawful_in M (round.left_by old new) (round.died_by old new) functions old observers rooted refused met lawful;
     tried = tried_in functions' new observers rooted met met tried;
   }

@@ -1,52 +1,46 @@
 -- What every graph keeps, over calls between stabilizes.
-use Rattle.std.proofs.Common.{◌≡◌, ℕ, ◌≤◌, Bool, List, take, Option, sym, subst, ◌∙◌, arith}
+use Rattle.std.proofs.Common.{◌≡◌, ℕ, ◌≤◌, List, take, Option, sym, subst, ◌∙◌, arith}
 use Rattle.std.specs.Prelude.{IsSome}
-use Rattle.inc_value.specs.declared.function.FnRef.{FnRef}
 use Rattle.inc_value.specs.declared.node.NodeId.{NodeId}
 use Rattle.inc_value.specs.declared.node.Point.{Point}
-use Rattle.inc_value.specs.declared.value.Value.{Value}
 use Rattle.inc_value.specs.Choice.{Among}
 use Rattle.inc_terms.specs.Depend.{main}
 use Rattle.point_map.specs.Rows.{at}
 use Rattle.necessity.specs.Need.{root_times}
-use Rattle.node_arena.specs.Graph.{AllCallFit}
 use Rattle.node_outcomes.specs.Computing.{seen_of}
-use Rattle.node_outcomes.specs.Meaning.{functions_of, lists_none, maps_of}
+use Rattle.node_outcomes.specs.Meaning.{Meaning}
 use Rattle.stabilizer.specs.Round.{IsReady}
 use Rattle.node_outcomes.specs.declared.row.Progress.{Progress}
 use Rattle.stabilizer.specs.declared.parts.Parts.{Parts}
 use Rattle.stabilizer.specs.declared.refused.Refused.{Refused}
-use Rattle.node_arena.specs.Sound as arena
 use Rattle.graph.specs.Sound.{IsSound}
 use Rattle.graph.specs.Standing.{in_use}
 use Rattle.graph.proofs.Seeing.{seen_as}
 use Rattle.graph.specs.Inside.{CanStabilize, FitsInside}
 use Rattle.graph.specs.declared.observer.Observer.{Observer}
 
-module _ (known : FnRef → Bool) (value : FnRef → List Value → Value) (old new : Parts) (observers : List Observer) (rooted : ℕ)
-    (can : CanStabilize known value old observers rooted) where
+module _ (M : Meaning) (old new : Parts) (observers : List Observer) (rooted : ℕ)
+    (can : CanStabilize M old observers rooted) where
   -- roots, what is shown of rooted nodes and ids that were given stay
-  pub can_still : IsReady (functions_of value) new.arena new.work
+  pub can_still : IsReady M new.arena new.work
       → ((p : Point) → root_times new.work.graph.roots p ≡ root_times old.work.graph.roots p)
-      → AllCallFit (maps_of known) lists_none new.arena → (old.arena.given ≤ new.arena.given)
+      → (old.arena.given ≤ new.arena.given)
       → ((n : NodeId) → Among n (in_use (take rooted observers)) → at new.work.rows (main n) ≡ at old.work.rows (main n))
-      → CanStabilize known value new observers rooted
-  can_still ready roots fit given rows = record {
+      → CanStabilize M new observers rooted
+  can_still ready roots given rows = record {
     ready = ready;
     roots = λ p. roots p ∙ can.roots p;
-    fit = fit;
     given = λ n among. let g = can.given n among in omega (arith, g, given);
     shown = λ n among. subst (λ (k : Option Progress). IsSome (seen_of k)) (sym (rows n among)) (can.shown n among);
   }
 
 -- what callers are told of it
-pub sound_of : {F : Type 0} (functions : F) (known : FnRef → Bool) (value : FnRef → List Value → Value) (parts : Parts) (observers : List Observer)
-    (rooted : ℕ) (refused : Option Refused) → FitsInside known value parts observers rooted refused → arena.IsSound parts.arena
-    → IsSound known (seen_as functions parts observers rooted refused)
-sound_of functions known value parts observers rooted refused fits sound = record {
+pub sound_of : {F : Type 0} (functions : F) (M : Meaning) (parts : Parts) (observers : List Observer) (rooted : ℕ) (refused : Option Refused)
+    → FitsInside M parts observers rooted refused → IsSound M (seen_as functions parts observers rooted refused)
+sound_of functions M parts observers rooted refused fits = record {
   few = fits.few;
   earlier = fits.earlier;
-  nodes = sound;
-  flat = fits.kept.flat;
-  whole = λ whole. let can = fits.unbroken whole in record { roots = can.roots; fit = can.fit; given = can.given; shown = can.shown };
+  nodes = fits.kept.sound;
+  flat = fits.kept.today.flat;
+  whole = λ whole. let can = fits.unbroken whole in record { roots = can.roots; fit = can.ready.fit; given = can.given; shown = can.shown };
 }

@@ -1,26 +1,23 @@
 -- What a round gave, over other lists of the same nodes.
-use Rattle.std.proofs.Common.{◌≡◌, inl, inr, ℕ, ◌≤◌, Bool, List, ◌++◌, length, map, take, drop, Option, None, Some, Ok, Err, refl, sym, ap, subst, ◌∙◌}
+use Rattle.std.proofs.Common.{◌≡◌, inl, inr, ℕ, ◌≤◌, List, ◌++◌, length, map, take, drop, Option, None, Some, Ok, Err, refl, sym, ap, subst, ◌∙◌}
 use Rattle.std.specs.Prelude.{Result, OnOk, OnErr, IfErr, IsSome}
 use Rattle.std.proofs.Math.Seq.{take-length}
-use Rattle.inc_value.specs.declared.function.FnRef.{FnRef}
 use Rattle.inc_value.specs.declared.outcome.Outcome.{Outcome}
-use Rattle.inc_value.specs.declared.value.Value.{Value}
 use Rattle.inc_value.specs.declared.node.NodeId.{NodeId}
 use Rattle.inc_value.specs.declared.node.Point.{Point}
 use Rattle.inc_value.specs.Choice.{Among, here}
-use Rattle.inc_terms.specs.Depend.{main, change, none_died}
+use Rattle.inc_terms.specs.Depend.{main, change}
 use Rattle.inc_terms.specs.Graph.{Graph}
 use Rattle.inc_terms.specs.Need.{IsRoot, Needed, Met, from_root, from_held}
 use Rattle.inc_terms.specs.Term.{Functions}
 use Rattle.inc_terms.specs.Within.{Given}
 use Rattle.necessary_graph.specs.Part as part
-use Rattle.node_arena.specs.Arena.{Arena, row_at}
-use Rattle.node_arena.specs.Graph.{graph_of}
-use Rattle.node_arena.specs.Meanings.{KeepsKnown}
+use Rattle.node_arena.specs.Arena.{Arena}
 use Rattle.stabilize_round.specs.State.{count}
 use Rattle.node_outcomes.specs.Computing.{seen}
-use Rattle.node_outcomes.specs.Meaning.{functions_of}
-use Rattle.stabilizer.specs.Round.{AreRooted, IsReady, IsUpToDate, WasCalled, IsLawful, IsListed, HasCalledMet}
+use Rattle.node_outcomes.specs.Meaning.{Meaning}
+use Rattle.stabilizer.specs.Round.{AreRooted, IsReady, IsUpToDate, IsUpToDateIn, WasCalledIn, IsLawful, IsLawfulIn, IsListedIn, HasCalledMet, HasCalledMetIn}
+use Rattle.stabilizer.specs.Round.{graph_in, left_by, died_by}
 use Rattle.stabilizer.specs.declared.parts.Parts.{Parts}
 use Rattle.stabilizer.specs.declared.refused.Refused.{Refused}
 use Rattle.stabilizer.specs.declared.refused.Refused.TheVariants.{Height, Cycle, Full, Memory}
@@ -29,7 +26,6 @@ use Rattle.graph.specs.Inside.{CanStabilize}
 use Rattle.graph.specs.Standing.{in_use}
 use Rattle.graph.specs.declared.observer.Observer.{Observer}
 use Rattle.graph.proofs.Observing.{in_use_split, among_swapped, among_right, count_swapped}
-use Rattle.graph.proofs.Sounding.{rows_fit}
 
 module _ (F : Functions) (G : Graph) (died : NodeId → Option NodeId) (xs ys : List NodeId) (same : (n : NodeId) → Among n xs → Among n ys) where
   root_as : (n : NodeId) → IsRoot G xs n → IsRoot G ys n
@@ -43,9 +39,9 @@ module _ (F : Functions) (G : Graph) (died : NodeId → Option NodeId) (xs ys : 
   met_as held p (from_root {n} root reach) = from_root (root_as n root) reach
   met_as held p (from_held h row stands reach) = from_held h row stands reach
 
-module _ (F : Functions) (arena : Arena) (old : Work) (xs ys : List NodeId) (to : (n : NodeId) → Among n xs → Among n ys)
+module _ (F : Functions) (G : Graph) (died : NodeId → Option NodeId) (old : Work) (xs ys : List NodeId) (to : (n : NodeId) → Among n xs → Among n ys)
     (back : (n : NodeId) → Among n ys → Among n xs) where
-  pub called_as : (new : Work) (n : NodeId) → WasCalled F arena old new xs n → WasCalled F arena old new ys n
+  pub called_as : (new : Work) (n : NodeId) → WasCalledIn F G died old new xs n → WasCalledIn F G died old new ys n
   called_as new n w = record {
     row = w.row;
     nodes = w.nodes;
@@ -57,21 +53,21 @@ module _ (F : Functions) (arena : Arena) (old : Work) (xs ys : List NodeId) (to 
     gives = w.gives;
     reason = w.reason;
     is_last = w.is_last;
-    met = met_as F (graph_of arena) none_died xs ys to (λ (p : Point). part.Needed old.graph p) (main n) w.met;
+    met = met_as F G died xs ys to (λ (p : Point). part.Needed old.graph p) (main n) w.met;
   }
 
-  pub up_to_date_as : (new : Work) (ran : List NodeId) → ((p : Point) → count p (map main xs) ≡ count p (map main ys))
-      → IsUpToDate F arena old new xs ran → IsUpToDate F arena old new ys ran
-  up_to_date_as new ran counts u = record {
+  pub up_to_date_as : (after : Graph) (new : Work) (ran : List NodeId) → ((p : Point) → count p (map main xs) ≡ count p (map main ys))
+      → IsUpToDateIn F G died after old new xs ran → IsUpToDateIn F G died after old new ys ran
+  up_to_date_as after new ran counts u = record {
     rooted = λ p. u.rooted p ∙ counts p;
     needs = λ p. (
-      (λ n. needed_as F (graph_of arena) none_died xs ys to p ((u.needs p).0 n)),
-      (λ n. (u.needs p).1 (needed_as F (graph_of arena) none_died ys xs back p n)),
+      (λ n. needed_as F after died xs ys to p ((u.needs p).0 n)),
+      (λ n. (u.needs p).1 (needed_as F after died ys xs back p n)),
     );
-    sees = λ n need. u.sees n (needed_as F (graph_of arena) none_died ys xs back (main n) need);
-    chose = λ n m r row subject need. u.chose n m r row subject (needed_as F (graph_of arena) none_died ys xs back (change n) need);
-    acyclic = λ p need. u.acyclic p (needed_as F (graph_of arena) none_died ys xs back p need);
-    shallow = λ p need. u.shallow p (needed_as F (graph_of arena) none_died ys xs back p need);
+    sees = λ n need. u.sees n (needed_as F G died ys xs back (main n) need);
+    chose = λ n m r row subject need. u.chose n m r row subject (needed_as F G died ys xs back (change n) need);
+    acyclic = λ p need. u.acyclic p (needed_as F G died ys xs back p need);
+    shallow = λ p need. u.shallow p (needed_as F G died ys xs back p need);
     links = u.links;
     recalls = u.recalls;
     kept = λ n not. elim (u.kept n not) [ inl e ↦ inl e | inr c ↦ inr (called_as new n c.0, c.1) ];
@@ -82,19 +78,19 @@ module _ (F : Functions) (arena : Arena) (old : Work) (xs ys : List NodeId) (to 
     work = λ before observers stood all. u.work before observers stood (λ n among. all n (to n among));
   }
 
-  pub few_as : (before after : ℕ) → HasCalledMet F arena old xs before after → HasCalledMet F arena old ys before after
+  pub few_as : (before after : ℕ) → HasCalledMetIn F G died old xs before after → HasCalledMetIn F G died old ys before after
   few_as before after h = record {
     few = h.few;
-    met = λ n among. met_as F (graph_of arena) none_died xs ys to (λ (p : Point). part.Needed old.graph p) (main n) (h.met n among);
+    met = λ n among. met_as F G died xs ys to (λ (p : Point). part.Needed old.graph p) (main n) (h.met n among);
   }
 
-  listed_as : (points : List Point) → IsListed F arena old xs points → IsListed F arena old ys points
+  listed_as : (points : List Point) → IsListedIn F G died old xs points → IsListedIn F G died old ys points
   listed_as points l = record {
     walk = l.walk;
-    met = λ p starts. met_as F (graph_of arena) none_died xs ys to (λ (q : Point). part.Needed old.graph q) p (l.met p starts);
+    met = λ p starts. met_as F G died xs ys to (λ (q : Point). part.Needed old.graph q) p (l.met p starts);
   }
 
-  pub lawful_as : (e : Refused) → IsLawful F arena old xs e → IsLawful F arena old ys e
+  pub lawful_as : (e : Refused) → IsLawfulIn F G died old xs e → IsLawfulIn F G died old ys e
   lawful_as (Height points) l = (listed_as points.items l.0, l.1, l.2)
   lawful_as (Cycle points) l = (listed_as points.items l.0, l.1)
   lawful_as Full l = l
@@ -120,8 +116,8 @@ err_as (Err e) f a = f a
 
 -- ---- a round over observers
 
-module _ (known known' : FnRef → Bool) (value value' : FnRef → List Value → Value) (old new : Parts) (os : List Observer) (rooted : ℕ)
-    (can : CanStabilize known value old os rooted) (within : rooted ≤ length os) where
+module _ (M : Meaning) (old new : Parts) (os : List Observer) (rooted : ℕ)
+    (can : CanStabilize M old os rooted) (within : rooted ≤ length os) where
   abbrev front : List NodeId
   front = in_use (take rooted os)
 
@@ -142,34 +138,32 @@ module _ (known known' : FnRef → Bool) (value value' : FnRef → List Value �
   rest_given n h = can.given n (subst (Among n) (in_use_split os rooted) (among_right n front rest h))
 
   pub all_right : ((observed : List NodeId) → AreRooted old.work observed
-      → IsUpToDate (functions_of value) old.arena old.work new.work (rest ++ observed) new.ran.items)
-      → IsUpToDate (functions_of value) old.arena old.work new.work (in_use os) new.ran.items
-  all_right right = up_to_date_as (functions_of value) old.arena old.work (rest ++ front) (in_use os) to_all from_all new.work new.ran.items counts_all
+      → IsUpToDate M.functions old new (rest ++ observed))
+      → IsUpToDate M.functions old new (in_use os)
+  all_right right = up_to_date_as M.functions (left_by old new) (died_by old new) old.work (rest ++ front) (in_use os) to_all from_all (graph_in new) new.work new.ran.items counts_all
       (right front can.roots)
 
   pub all_lawful : (e : Refused) → ((observed : List NodeId) → AreRooted old.work observed
-      → IsLawful (functions_of value) old.arena old.work (rest ++ observed) e)
-      → IsLawful (functions_of value) old.arena old.work (in_use os) e
-  all_lawful e lawful = lawful_as (functions_of value) old.arena old.work (rest ++ front) (in_use os) to_all from_all e (lawful front can.roots)
+      → IsLawful M.functions old new (rest ++ observed) e)
+      → IsLawful M.functions old new (in_use os) e
+  all_lawful e lawful = lawful_as M.functions (left_by old new) (died_by old new) old.work (rest ++ front) (in_use os) to_all from_all e (lawful front can.roots)
 
   pub all_few : (before after : ℕ) → ((observed : List NodeId) → AreRooted old.work observed
-      → HasCalledMet (functions_of value) old.arena old.work (rest ++ observed) before after)
-      → HasCalledMet (functions_of value) old.arena old.work (in_use os) before after
-  all_few before after few = few_as (functions_of value) old.arena old.work (rest ++ front) (in_use os) to_all from_all before after (few front can.roots)
+      → HasCalledMet M.functions old new (rest ++ observed) before after)
+      → HasCalledMet M.functions old new (in_use os) before after
+  all_few before after few = few_as M.functions (left_by old new) (died_by old new) old.work (rest ++ front) (in_use os) to_all from_all before after (few front can.roots)
 
   shows_some : (x : Option Outcome) (o : Outcome) → x ≡ Some o → IsSome x
   shows_some None o e = absurd cc
   shows_some (Some y) o e = refl
 
-  pub can_again : new.arena ≡ old.arena → KeepsKnown known known' → IsReady (functions_of value') new.arena new.work
-      → IsUpToDate (functions_of value) old.arena old.work new.work (in_use os) new.ran.items
-      → CanStabilize known' value' new os (length os)
-  can_again arena keeps ready right =
+  pub can_again : (M' : Meaning) → new.arena ≡ old.arena → IsReady M' new.arena new.work → IsUpToDate M.functions old new (in_use os)
+      → CanStabilize M' new os (length os)
+  can_again M' arena ready right =
       let whole : take (length os) os ≡ os = take-length os in
       record {
         ready = ready;
         roots = subst (λ (xs : List Observer). AreRooted new.work (in_use xs)) (sym whole) right.rooted;
-        fit = rows_fit known known' old.arena new.arena keeps (λ n. ap (λ (a : Arena). row_at a n) arena) can.fit;
         given = λ n among. subst (λ (a : Arena). Given a.given n) (sym arena) (can.given n among);
         shown = λ n among.
             let s = right.sees n (n, inl (subst (λ (xs : List Observer). Among n (in_use xs)) whole among), here) in

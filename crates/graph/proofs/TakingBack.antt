@@ -1,21 +1,17 @@
 -- Nodes that are taken back aren't needed.
-use Rattle.std.proofs.Common.{◌≡◌, ◌⊎◌, inl, inr, ℕ, zero, suc, ◌<◌, ◌≤◌, Bool, List, map, take, Option, None, sym, ap, ◌∙◌, arith}
-use Rattle.std.proofs.lemmas.Option.{none-some}
-use Rattle.inc_value.specs.declared.function.FnRef.{FnRef}
-use Rattle.inc_value.specs.declared.value.Value.{Value}
+use Rattle.std.proofs.Common.{◌≡◌, ◌⊎◌, inl, inr, ℕ, zero, suc, ◌<◌, ◌≤◌, List, map, take, Option, None, ap, arith}
 use Rattle.inc_value.specs.declared.node.NodeId.{NodeId}
 use Rattle.inc_value.specs.declared.node.Point.{Point}
 use Rattle.inc_value.specs.Choice.{Among, here}
 use Rattle.inc_terms.specs.Depend.{main}
 use Rattle.necessary_graph.specs.Part.{NecessaryPart, Needed}
 use Rattle.necessity.specs.Need.{Roots, root_times}
-use Rattle.node_arena.specs.Graph.{AllCallFit}
 use Rattle.point_map.specs.Rows.{at}
 use Rattle.node_arena.specs.Arena.{row_at}
 use Rattle.stabilize_round.specs.State.{count}
 use Rattle.stabilize_round.proofs.Points.{among_count}
 use Rattle.stabilizer.specs.Round.{IsReady, AreRooted}
-use Rattle.node_outcomes.specs.Meaning.{functions_of, lists_none, maps_of}
+use Rattle.node_outcomes.specs.Meaning.{Meaning}
 use Rattle.stabilizer.specs.declared.parts.Parts.{Parts}
 use Rattle.stabilizer.specs.declared.refused.Refused.{Refused}
 use Rattle.stabilizer.specs.declared.work.Work.{Work}
@@ -24,8 +20,6 @@ use Rattle.graph.specs.Standing.{Standing, IsNeeded, in_use}
 use Rattle.graph.specs.Inside.{FitsInside}
 use Rattle.graph.specs.declared.observer.Observer.{Observer}
 use Rattle.graph.proofs.Sound.{can_still}
-use Rattle.node_outcomes.proofs.Maps.{calls_fit_as}
-use Rattle.graph.proofs.Sounding.{itself}
 use Rattle.graph.proofs.Unobserving.{mains_among}
 use Rattle.graph.proofs.Needing.{needed_root, needed_linked, needed_has}
 
@@ -48,27 +42,21 @@ at_or_past n zero = inr (omega arith)
 at_or_past zero (suc count) = inl (omega arith)
 at_or_past (suc n) (suc count) = elim (at_or_past n count) [ inl h ↦ inl (omega (arith, h)) | inr h ↦ inr (omega (arith, h)) ]
 
-module _ (known : FnRef → Bool) (value : FnRef → List Value → Value) (old new : Parts) (observers : List Observer) (rooted : ℕ)
-    (refused : Option Refused) (sound : FitsInside known value old observers rooted refused) (count : ℕ)
+module _ (M : Meaning) (old new : Parts) (observers : List Observer) (rooted : ℕ)
+    (refused : Option Refused) (sound : FitsInside M old observers rooted refused) (count : ℕ)
     (older : (n : NodeId) → n.gen_ < count → row_at new.arena n ≡ row_at old.arena n)
     (dropped : (n : NodeId) → count ≤ n.gen_ → row_at new.arena n ≡ None) where
-  fits_back : AllCallFit (maps_of known) lists_none old.arena → AllCallFit (maps_of known) lists_none new.arena
-  fits_back fit n r is = elim (at_or_past n.gen_ count) [
-    | inl h ↦ calls_fit_as (maps_of known) (maps_of known) (itself (maps_of known)) old.arena.given new.arena.given r.def (fit n r (sym (older n h) ∙ is))
-    | inr h ↦ absurd (none-some r (sym (dropped n h) ∙ is))
-  ]
-
-  pub sound_back : refused ≡ None → (IsReady (functions_of value) old.arena old.work → IsReady (functions_of value) new.arena new.work)
+  pub sound_back : refused ≡ None → (IsReady M old.arena old.work → IsReady M new.arena new.work)
       → new.work.graph.roots ≡ old.work.graph.roots → new.arena.given ≡ old.arena.given
       → ((n : NodeId) → n.gen_ < count → at new.work.rows (main n) ≡ at old.work.rows (main n))
       → ((p : Point) → Needed old.work.graph p → p.node.gen_ < count)
-      → FitsInside known value new observers rooted refused
+      → FitsInside M new observers rooted refused
   sound_back still ready roots given rows low = record {
     few = sound.few;
     earlier = sound.earlier;
     kept = (ready (sound.unbroken still).ready).kept;
     unbroken = λ whole. let can = sound.unbroken whole in
-        can_still known value old new observers rooted can (ready can.ready) (λ p. ap (λ (r : Roots). root_times r p) roots) (fits_back can.fit)
+        can_still M old new observers rooted can (ready can.ready) (λ p. ap (λ (r : Roots). root_times r p) roots)
         (omega (arith, given)) (λ n among. rows n (young_roots old.work (in_use (take rooted observers)) count can.roots low n among));
   }
 

@@ -1,12 +1,10 @@
 -- What every graph keeps, where observers are made and ended.
-use Rattle.std.proofs.Common.{◌≡◌, inl, inr, ℕ, zero, suc, ◌-◌, ◌^◌, ◌<◌, ◌≤◌, Bool, true, List, [], ◌∷◌, ◌++◌, length, take, map, Option, None, Some, refl, sym, ap, subst, ◌∙◌, arith, length-append}
+use Rattle.std.proofs.Common.{◌≡◌, inl, inr, ℕ, zero, suc, ◌-◌, ◌^◌, ◌<◌, ◌≤◌, true, List, [], ◌∷◌, ◌++◌, length, take, map, Option, None, Some, refl, sym, ap, subst, ◌∙◌, arith, length-append}
 use Rattle.std.specs.Prelude.{slice_get, slice_set, IsSome, is_some}
 use Rattle.std.proofs.lemmas.List.{take-append-le}
-use Rattle.inc_value.specs.declared.function.FnRef.{FnRef}
 use Rattle.inc_value.specs.declared.node.NodeId.{NodeId}
 use Rattle.inc_value.specs.declared.node.Point.{Point}
 use Rattle.inc_value.specs.declared.outcome.Outcome.TheVariants.{Invalid}
-use Rattle.inc_value.specs.declared.value.Value.{Value}
 use Rattle.inc_value.specs.Choice.{Among}
 use Rattle.inc_terms.specs.Depend.{main}
 use Rattle.inc_terms.specs.Within.{Given}
@@ -16,8 +14,7 @@ use Rattle.stabilize_round.proofs.Points.{among_count, same_or_other}
 use Rattle.node_outcomes.specs.Row.{outcome_in}
 use Rattle.node_outcomes.specs.Computing.{seen_of}
 use Rattle.node_arena.specs.Arena.{Arena}
-use Rattle.node_arena.specs.Graph.{AllCallFit}
-use Rattle.node_outcomes.specs.Meaning.{functions_of, lists_none, maps_of}
+use Rattle.node_outcomes.specs.Meaning.{Meaning}
 use Rattle.stabilizer.specs.Round.{IsReady, AreRooted}
 use Rattle.node_outcomes.specs.declared.row.Progress.{Progress}
 use Rattle.stabilizer.specs.declared.parts.Parts.{Parts}
@@ -30,11 +27,11 @@ use Rattle.graph.proofs.Observing.{IsLeftOut, ended, left_out, left_is_among, fr
 abbrev pub observing : NodeId → Observer
 observing node = record { node = node; in_use = true }
 
-module _ (known : FnRef → Bool) (value : FnRef → List Value → Value) (parts : Parts) (observers : List Observer) (rooted : ℕ)
-    (refused : Option Refused) (sound : FitsInside known value parts observers rooted refused) (node : NodeId) where
+module _ (M : Meaning) (parts : Parts) (observers : List Observer) (rooted : ℕ)
+    (refused : Option Refused) (sound : FitsInside M parts observers rooted refused) (node : NodeId) where
   -- an observer more
   pub sound_observed : (length observers < 2 ^ 32 - 1) → Given parts.arena.given node
-      → FitsInside known value parts (observers ++ observing node ∷ []) rooted refused
+      → FitsInside M parts (observers ++ observing node ∷ []) rooted refused
   sound_observed few given = record {
     few = let l = length-append observers (observing node ∷ []) in omega (arith, l, few);
     earlier = let l = length-append observers (observing node ∷ []) in omega (arith, l, sound.earlier);
@@ -44,7 +41,6 @@ module _ (known : FnRef → Bool) (value : FnRef → List Value → Value) (part
         record {
           ready = can.ready;
           roots = subst (λ (os : List Observer). AreRooted parts.work (in_use os)) (sym front) can.roots;
-          fit = can.fit;
           given = λ n among. elim (among_either n (in_use observers) (node ∷ []) (subst (Among n) (in_use_append observers (observing node ∷ [])) among)) [
             | inl k ↦ can.given n k
             | inr k ↦ elim k [ inl e ↦ subst (Given parts.arena.given) (sym e) given | inr none ↦ absurd none ]
@@ -78,11 +74,11 @@ is_root parts observers rooted node roots among =
     let c = among_count (main node) (map main (in_use (take rooted observers))) (mains_among node (in_use (take rooted observers)) among) in
     omega (arith, r, c)
 
-module _ (known : FnRef → Bool) (value : FnRef → List Value → Value) (old new : Parts) (observers : List Observer) (rooted place : ℕ)
-    (refused : Option Refused) (sound : FitsInside known value old observers rooted refused) (node : NodeId)
+module _ (M : Meaning) (old new : Parts) (observers : List Observer) (rooted place : ℕ)
+    (refused : Option Refused) (sound : FitsInside M old observers rooted refused) (node : NodeId)
     (is : looked_at (slice_get observers place) ≡ Some node) where
   -- an observer fewer that wasn't there at the last round
-  pub sound_unmade : rooted ≤ place → FitsInside known value old (slice_set observers place (ended node)) rooted refused
+  pub sound_unmade : rooted ≤ place → FitsInside M old (slice_set observers place (ended node)) rooted refused
   sound_unmade later = record {
     few = let l = set_length observers place (ended node) in omega (arith, l, sound.few);
     earlier = let l = set_length observers place (ended node) in omega (arith, l, sound.earlier);
@@ -92,7 +88,6 @@ module _ (known : FnRef → Bool) (value : FnRef → List Value → Value) (old 
         record {
           ready = can.ready;
           roots = subst (λ (os : List Observer). AreRooted old.work (in_use os)) (sym front) can.roots;
-          fit = can.fit;
           given = λ n among. can.given n (left_is_among node n (in_use observers) (in_use (slice_set observers place (ended node)))
               (left_out observers place node is) among);
           shown = λ n among. can.shown n (subst (λ (os : List Observer). Among n (in_use os)) front among);
@@ -100,10 +95,10 @@ module _ (known : FnRef → Bool) (value : FnRef → List Value → Value) (old 
   }
 
   -- one fewer that was, whose root came off
-  pub sound_ended : refused ≡ None → place < rooted → (IsReady (functions_of value) old.arena old.work → IsReady (functions_of value) new.arena new.work)
+  pub sound_ended : refused ≡ None → place < rooted → (IsReady M old.arena old.work → IsReady M new.arena new.work)
       → ((before after : List NodeId) → AreRooted old.work (before ++ node ∷ after) → AreRooted new.work (before ++ after))
       → new.arena ≡ old.arena → new.work.rows ≡ old.work.rows
-      → FitsInside known value new (slice_set observers place (ended node)) rooted refused
+      → FitsInside M new (slice_set observers place (ended node)) rooted refused
   sound_ended still below ready roots arena rows = record {
     few = let l = set_length observers place (ended node) in omega (arith, l, sound.few);
     earlier = let l = set_length observers place (ended node) in omega (arith, l, sound.earlier);
@@ -113,7 +108,6 @@ module _ (known : FnRef → Bool) (value : FnRef → List Value → Value) (old 
         record {
           ready = ready can.ready;
           roots = subst (AreRooted new.work) (sym out.now) (roots out.front out.back (subst (AreRooted old.work) out.was can.roots));
-          fit = subst (λ (a : Arena). AllCallFit (maps_of known) lists_none a) (sym arena) can.fit;
           given = λ n among. subst (λ (a : Arena). Given a.given n) (sym arena)
               (can.given n (left_is_among node n (in_use observers) (in_use (slice_set observers place (ended node)))
               (left_out observers place node is) among));

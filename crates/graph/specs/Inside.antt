@@ -1,66 +1,60 @@
 -- What every graph keeps, of its inside: the parts of a stabilizer, and observers.
-use Rattle.std.specs.Prelude.{◌≡◌, ◌≤◌, ◌-◌, ◌^◌, ◌+◌, ℕ, Bool, List, take, length, Option, None, IsSome}
-use Rattle.inc_value.specs.declared.function.FnRef.{FnRef}
+use Rattle.std.specs.Prelude.{◌≡◌, ◌≤◌, ◌-◌, ◌^◌, ◌+◌, ℕ, List, take, length, Option, None, IsSome}
 use Rattle.inc_value.specs.declared.node.NodeId.{NodeId}
-use Rattle.inc_value.specs.declared.value.Value.{Value}
 use Rattle.inc_value.specs.Choice.{Among}
 use Rattle.inc_terms.specs.Depend.{main}
 use Rattle.inc_terms.specs.Term.{Functions}
 use Rattle.inc_terms.specs.Within.{Given}
-use Rattle.node_arena.specs.Graph.{AllCallFit, graph_of}
 use Rattle.node_outcomes.specs.Computing.{seen}
-use Rattle.node_outcomes.specs.Meaning.{functions_of, lists_none, maps_of}
+use Rattle.node_outcomes.specs.Meaning.{Meaning}
 use Rattle.stabilize_round.specs.Calling.{costs_of}
 use Rattle.stabilizer.specs.Kept.{IsKept}
-use Rattle.stabilizer.specs.Round.{IsReady, AreRooted, IsUpToDate, IsLawful, LeavesTried, HasCalledMet, ShowsStill, cutoff_at}
+use Rattle.stabilizer.specs.Round.{IsReady, AreRooted, IsUpToDate, IsLawful, LeavesTried, HasCalledMet, ShowsStill, cutoff_at, left_by}
 use Rattle.stabilizer.specs.declared.parts.Parts.{Parts}
 use Rattle.stabilizer.specs.declared.refused.Refused.{Refused}
 use Rattle.graph.specs.Standing.{in_use}
 use Rattle.graph.specs.declared.observer.Observer.{Observer}
 
--- an unbroken graph: a round may begin, by the values of its functions; need begins at the observers that were there at the last one; all functions
--- of its nodes are known maps; observers look at given nodes; and those that were there at the last round show an outcome
-pub record CanStabilize (known : FnRef → Bool) (value : FnRef → List Value → Value) (parts : Parts) (observers : List Observer) (rooted : ℕ)
-    : Type 0 where
-  pub ready : IsReady (functions_of value) parts.arena parts.work
+-- an unbroken graph: a round of its functions may begin; need begins at the observers that were there at the last one; observers look at given nodes; and
+-- those that were there at the last round show an outcome
+pub record CanStabilize (M : Meaning) (parts : Parts) (observers : List Observer) (rooted : ℕ) : Type 0 where
+  pub ready : IsReady M parts.arena parts.work
   pub roots : AreRooted parts.work (in_use (take rooted observers))
-  pub fit : AllCallFit (maps_of known) lists_none parts.arena
   pub given : (n : NodeId) → Among n (in_use observers) → Given parts.arena.given n
   pub shown : (n : NodeId) → Among n (in_use (take rooted observers)) → IsSome (seen parts.work.rows (main n))
 
 -- what every graph keeps: its parts fit together, also where a stabilize was refused
-pub record FitsInside (known : FnRef → Bool) (value : FnRef → List Value → Value) (parts : Parts) (observers : List Observer) (rooted : ℕ)
-    (refused : Option Refused) : Type 0 where
+pub record FitsInside (M : Meaning) (parts : Parts) (observers : List Observer) (rooted : ℕ) (refused : Option Refused) : Type 0 where
   pub few : length observers ≤ 2 ^ 32 - 1
   pub earlier : rooted ≤ length observers
   pub kept : IsKept parts.arena parts.work
-  pub unbroken : refused ≡ None → CanStabilize known value parts observers rooted
+  pub unbroken : refused ≡ None → CanStabilize M parts observers rooted
 
 -- ---- what a round does to the parts
 
 -- it was accepted, where these nodes are observed: all that they need is up to date
 abbrev pub BringsUpToDate : Functions → Parts → Parts → List NodeId → Type 0
-BringsUpToDate F old new observed = IsUpToDate F old.arena old.work new.work observed new.ran.items
+BringsUpToDate F old new observed = IsUpToDate F old new observed
 
 -- the calls that the nodes take whose functions it called
 abbrev pub calls_in : Parts → Parts → ℕ
-calls_in old new = costs_of (graph_of old.arena) new.ran.items
+calls_in old new = costs_of (left_by old new) new.ran.items
 
 -- the next round has the next number
 abbrev pub IsNextRound : Parts → Parts → Type 0
 IsNextRound old new = new.work.round ≡ old.work.round + 1
 
 -- it was refused lawfully, where these nodes are observed
-abbrev pub IsRefusedLawfully : Functions → Parts → List NodeId → Refused → Type 0
-IsRefusedLawfully F old observed e = IsLawful F old.arena old.work observed e
+abbrev pub IsRefusedLawfully : Functions → Parts → Parts → List NodeId → Refused → Type 0
+IsRefusedLawfully F old new observed e = IsLawful F old new observed e
 
 -- what a refusal lists was tried on what the parts have now
 abbrev pub WasTried : Parts → Refused → Type 0
 WasTried new e = LeavesTried new.arena new.work e
 
 -- a refused one called each of some live maps and folds once at most, all of them met where these nodes are observed
-abbrev pub CalledMet : Functions → Parts → List NodeId → ℕ → ℕ → Type 0
-CalledMet F old observed before after = HasCalledMet F old.arena old.work observed before after
+abbrev pub CalledMet : Functions → Parts → Parts → List NodeId → ℕ → ℕ → Type 0
+CalledMet F old new observed before after = HasCalledMet F old new observed before after
 
 -- the parts fit together
 abbrev pub FitTogether : Parts → Type 0
@@ -68,7 +62,7 @@ FitTogether parts = IsKept parts.arena parts.work
 
 -- each node shows what it did, or what it gives
 abbrev pub AllShowStill : Functions → Parts → Parts → Type 0
-AllShowStill F old new = (n : NodeId) → ShowsStill F old.arena old.work new.work n
+AllShowStill F old new = (n : NodeId) → ShowsStill F old new n
 
 -- cutoffs stay, and so do nodes, and who was called last
 abbrev pub KeepsCutoffs : Parts → Parts → Type 0

@@ -1,27 +1,26 @@
 -- What every graph keeps.
-use Rattle.std.specs.Prelude.{◌≤◌, ◌-◌, ◌^◌, Bool, length, IsSome}
-use Rattle.inc_value.specs.declared.function.FnRef.{FnRef}
+use Rattle.std.specs.Prelude.{◌≤◌, ◌-◌, ◌^◌, length, IsSome}
 use Rattle.inc_value.specs.declared.node.NodeId.{NodeId}
 use Rattle.inc_value.specs.Choice.{Among}
 use Rattle.inc_terms.specs.Within.{Given}
 use Rattle.node_arena.specs.Graph.{AllCallFit, NoScopes}
 use Rattle.node_arena.specs.Sound as arena
-use Rattle.node_outcomes.specs.Meaning.{lists_none, maps_of}
+use Rattle.node_outcomes.specs.Meaning.{Meaning}
 use Rattle.graph.specs.Standing.{Standing, shown_of, in_use, rooted_nodes, AreRooted, IsUnbroken}
 
 module _ {F : Type 0} where
   -- an unbroken graph: need begins at the observers that were there at the last stabilize, and their nodes show an outcome; all functions of its nodes are
-  -- known maps; observers look at given nodes
-  pub record IsWhole (known : FnRef → Bool) (s : Standing F) : Type 0 where
+  -- known, and list given nodes; observers look at given nodes
+  pub record IsWhole (M : Meaning) (s : Standing F) : Type 0 where
     pub roots : AreRooted s (rooted_nodes s)
-    pub fit : AllCallFit (maps_of known) lists_none s.nodes
+    pub fit : AllCallFit M.known M.ids s.nodes
     pub given : (n : NodeId) → Among n (in_use s.observers) → Given s.nodes.given n
     pub shown : (n : NodeId) → Among n (rooted_nodes s) → IsSome (shown_of s n)
 
   -- what every graph keeps. No node stands in a scope yet
-  pub record IsSound (known : FnRef → Bool) (s : Standing F) : Type 0 where
+  pub record IsSound (M : Meaning) (s : Standing F) : Type 0 where
     pub few : length s.observers ≤ 2 ^ 32 - 1
     pub earlier : s.rooted ≤ length s.observers
     pub nodes : arena.IsSound s.nodes
     pub flat : NoScopes s.nodes
-    pub whole : IsUnbroken s → IsWhole known s
+    pub whole : IsUnbroken s → IsWhole M s

@@ -1,5 +1,5 @@
 -- What a stabilize does.
-use Rattle.std.specs.Prelude.{◌≡◌, ◌⊎◌, ◌↔◌, ◌++◌, ◌<◌, ◌≤◌, ℕ, true, List, [], ◌∷◌, length, Some}
+use Rattle.std.specs.Prelude.{◌≡◌, ◌⊎◌, ◌↔◌, ◌++◌, ◌<◌, ◌≤◌, ℕ, true, List, [], ◌∷◌, length, Option, Some}
 use Rattle.inc_value.specs.Choice.{Among, NoRepeats}
 use Rattle.inc_value.specs.Walk.{IsWalk, IsDeep, IsOnCycle}
 use Rattle.inc_value.specs.declared.node.NodeId.{NodeId}
@@ -8,10 +8,10 @@ use Rattle.inc_value.specs.declared.node.Part.TheVariants.{Main}
 use Rattle.inc_value.specs.declared.node.Point.{Point}
 use Rattle.inc_value.specs.declared.outcome.Outcome.{Outcome}
 use Rattle.inc_value.specs.declared.value.Value.{Value}
-use Rattle.inc_terms.specs.Depend.{Depends, main, change, subject_of, none_died}
+use Rattle.inc_terms.specs.Depend.{Depends, main, change, subject_of, died_in}
 use Rattle.inc_terms.specs.Evaluate.{NodeGives, GiveAll}
-use Rattle.inc_terms.specs.Graph.{Row}
-use Rattle.inc_terms.specs.Need.{Beside, Observed, nodes_of, Held, Needed, Met}
+use Rattle.inc_terms.specs.Graph.{Graph, Row}
+use Rattle.inc_terms.specs.Need.{Beside, Observed, nodes_of, Held, Needed, Met, left_by_call}
 use Rattle.inc_terms.specs.Plan.{targets}
 use Rattle.inc_terms.specs.Term.{Functions}
 use Rattle.inc_terms.specs.Work.{WithinWork, taken_by}
@@ -23,6 +23,7 @@ use Rattle.node_outcomes.specs.Row.{is_never}
 use Rattle.stabilize_round.specs.Calling.{IsAnswer, cost_at, costs_of}
 use Rattle.stabilize_round.specs.Calls.{arguments_of}
 use Rattle.stabilize_round.specs.Counts.{RoseAtMost}
+use Rattle.stabilize_round.specs.Laws.{GraphStays}
 use Rattle.stabilize_round.specs.State.{Call}
 use Rattle.stabilizer.specs.declared.refused.Refused.{Refused}
 use Rattle.stabilizer.specs.declared.refused.Refused.TheVariants.{Height, Cycle, Full, Memory}
@@ -54,94 +55,94 @@ module _ {F : Type 0} where
     pub last : (n : NodeId) → before.last n ≡ arguments_of (called_last s n)
     pub never : (n : NodeId) → before.never n ≡ is_never (cutoff_of s n)
 
-  module _ (M : Functions) where
-    -- a point is met by a stabilize of the graph: reached, by what depends on what, from an observer in use or from what was needed
-    abbrev pub IsMet : Standing F → Point → Type 0
-    IsMet s p = Met M (graph s) none_died (in_use s.observers) (IsNeeded s) p
+  -- a child of cutoff Never was settled in the stabilize: the function was called even on the values of its last call
+  abbrev pub WasForced : Standing F → Standing F → List NodeId → Type 0
+  WasForced old new kids = (k : NodeId) × Among k kids × (cutoff_of old k ≡ Never) × (is_settled new (main k) ≡ true)
 
-    -- it is needed once the observers in use have their roots
-    abbrev pub IsObserved : Standing F → Point → Type 0
-    IsObserved s p = Needed M (graph s) none_died (in_use s.observers) p
+  -- ---- over the graph that a stabilize left, and those who died in it
 
-    -- one point depends on another
-    abbrev pub DependsIn : Standing F → Point → Point → Type 0
-    DependsIn s p q = Depends M (graph s) none_died p q
+  module _ (M : Functions) (G : Graph) (died : NodeId → Option NodeId) where
+    -- it is needed once these observers have their roots
+    abbrev pub IsObservedIn : Standing F → Point → Type 0
+    IsObservedIn s p = Needed M G died (in_use s.observers) p
+
+    -- a point is met by a stabilize: reached, by what depends on what, from an observer in use or from what was needed before
+    abbrev pub IsMetIn : Standing F → Point → Type 0
+    IsMetIn s p = Met M G died (in_use s.observers) (IsNeeded s) p
 
     -- ---- accepted
 
-    -- a child of cutoff Never was settled in the stabilize: the function was called even on the values of its last call
-    abbrev pub WasForced : Standing F → Standing F → List NodeId → Type 0
-    WasForced old new kids = (k : NodeId) × Among k kids × (cutoff_of old k ≡ Never) × (is_settled new (main k) ≡ true)
-
     -- a node's function was called: the node is met, its children give these values, on which it wasn't called last unless it was forced, and now it was
-    pub record WasCalled (old new : Standing F) (n : NodeId) : Type 0 where
+    pub record WasCalledIn (old new : Standing F) (n : NodeId) : Type 0 where
       pub row : Row
       pub kids : List NodeId
       pub values : List Value
       pub result : Value
-      pub is_row : row_at old.nodes n ≡ Some row
-      pub takes : taken_by (graph old) n row.def ≡ Some kids
-      pub gives : GiveAll M (graph old) kids values
+      pub is_row : G.row n ≡ Some row
+      pub takes : taken_by G n row.def ≡ Some kids
+      pub gives : GiveAll M G kids values
       pub reason : ((c : Call) → called_last old n ≡ Some c → c.arguments ≡ values → ⊥) ⊎ WasForced old new kids
       pub is_last : called_last new n ≡ Some (record { arguments = values; result = result })
       pub answers : IsAnswer M row.def values result
-      pub met : IsMet old (main n)
+      pub met : IsMetIn old (main n)
 
-    -- an accepted stabilize: each observer in use shows what its node gives, evaluated from scratch; nodes and observers stay; and what is needed,
-    -- linked and called is right. The last call of a node that wasn't called stays, but for a fold of no nodes, which keeps that it was computed on none
-    pub record Stabilizes (old new : Standing F) : Type 0 where
+    -- an accepted stabilize: each observer in use shows what its node gives, evaluated from scratch; observers stay, and of nodes what a round leaves; and
+    -- what is needed, linked and called is right: need, links and last calls are those of the graph after it. The last call of a node that wasn't called
+    -- stays, but for a fold of no nodes, which keeps that it was computed on none. No node of today dies or is built, so the nodes are the same
+    pub record StabilizesIn (after : Graph) (old new : Standing F) : Type 0 where
       pub was : IsUnbroken old
       pub unbroken : IsUnbroken new
+      pub stays : GraphStays old.nodes.given new.nodes.given (graph old) (graph new)
       pub nodes : new.nodes ≡ old.nodes
       pub observers : new.observers ≡ old.observers
       pub rooted : new.rooted ≡ length new.observers
-      pub shows : (o : ObsId) (n : NodeId) → node_at new.observers o ≡ Some n → (x : Outcome) × (shown_of new n ≡ Some x) × NodeGives M (graph new) n x
+      pub shows : (o : ObsId) (n : NodeId) → node_at new.observers o ≡ Some n → (x : Outcome) × (shown_of new n ≡ Some x) × NodeGives M G n x
       pub roots : AreRooted new (in_use old.observers)
-      pub needs : (p : Point) → IsNeeded new p ↔ IsObserved old p
-      pub sees : (n : NodeId) → IsObserved old (main n) → (x : Outcome) × (shown_of new n ≡ Some x) × NodeGives M (graph old) n x
-      pub chose : (n m : NodeId) (r : Row) → row_at old.nodes n ≡ Some r → subject_of r.def ≡ Some m → IsObserved old (change n)
-          → (x : Outcome) × (chosen_by new n ≡ Some x) × NodeGives M (graph old) m x
-      pub acyclic : (p : Point) → IsObserved old p → IsOnCycle (DependsIn old) p → ⊥
-      pub shallow : (p : Point) → IsObserved old p → IsDeep (DependsIn old) p → ⊥
-      pub links : (p q : Point) → IsNeeded new p → IsLinked new p q ↔ DependsIn old p q
+      pub needs : (p : Point) → IsNeeded new p ↔ Needed M after died (in_use old.observers) p
+      pub sees : (n : NodeId) → IsObservedIn old (main n) → (x : Outcome) × (shown_of new n ≡ Some x) × NodeGives M G n x
+      pub chose : (n m : NodeId) (r : Row) → G.row n ≡ Some r → subject_of r.def ≡ Some m → IsObservedIn old (change n)
+          → (x : Outcome) × (chosen_by new n ≡ Some x) × NodeGives M G m x
+      pub acyclic : (p : Point) → IsObservedIn old p → IsOnCycle (Depends M G died) p → ⊥
+      pub shallow : (p : Point) → IsObservedIn old p → IsDeep (Depends M G died) p → ⊥
+      pub links : (p q : Point) → IsNeeded new p → IsLinked new p q ↔ Depends M after died p q
       pub recalls : (n : NodeId) (r : Row) (kids : List NodeId) (values : List Value) → IsNeeded new (main n)
-          → row_at old.nodes n ≡ Some r → taken_by (graph old) n r.def ≡ Some kids → GiveAll M (graph old) kids values
+          → after.row n ≡ Some r → taken_by after n r.def ≡ Some kids → GiveAll M after kids values
           → (c : Call) × (called_last new n ≡ Some c) × (c.arguments ≡ values)
       pub kept : (n : NodeId) → (Among n new.ran → ⊥)
-          → (called_last new n ≡ called_last old n) ⊎ (WasCalled old new n × (cost_at (graph old) n ≡ 0))
+          → (called_last new n ≡ called_last old n) ⊎ (WasCalledIn old new n × (cost_at G n ≡ 0))
       pub cutoff : (n : NodeId) → cutoff_of new n ≡ cutoff_of old n
       pub once : NoRepeats new.ran
-      pub called : (n : NodeId) → Among n new.ran → WasCalled old new n
-      pub costs : (n : NodeId) → Among n new.ran → 0 < cost_at (graph old) n
+      pub called : (n : NodeId) → Among n new.ran → WasCalledIn old new n
+      pub costs : (n : NodeId) → Among n new.ran → 0 < cost_at G n
       pub work : (before : Beside) (observers : List Observed) → StoodBeside before old observers
           → ((n : NodeId) → Among n (in_use old.observers) → Among n (nodes_of observers))
-          → (calls : ℕ) → calls ≤ costs_of (graph old) new.ran → WithinWork M (graph old) none_died observers before calls
+          → (calls : ℕ) → calls ≤ costs_of G new.ran → WithinWork M G died observers before calls
 
     -- ---- refused
 
     -- each point depends on the next, and the first is met
-    pub record IsListed (s : Standing F) (points : List Point) : Type 0 where
-      pub walk : IsWalk (DependsIn s) points
-      pub met : (p : Point) → StartsAt points p → IsMet s p
+    pub record IsListedIn (s : Standing F) (points : List Point) : Type 0 where
+      pub walk : IsWalk (Depends M G died) points
+      pub met : (p : Point) → StartsAt points p → IsMetIn s p
 
     -- what a refusal says: a chain of 130 points, no two the same, or a walk that comes back to where it began and passes no other point twice
-    abbrev pub IsLawful : Standing F → Refused → Type 0
-    IsLawful s (Height points) = IsListed s points.items × (length points.items ≡ 130) × NoRepeats points.items
-    IsLawful s (Cycle points) = IsListed s points.items × ComesBack points.items
-    IsLawful s Full = ⊥
-    IsLawful s Memory = Unit {0}
+    abbrev pub IsLawfulIn : Standing F → Refused → Type 0
+    IsLawfulIn s (Height points) = IsListedIn s points.items × (length points.items ≡ 130) × NoRepeats points.items
+    IsLawfulIn s (Cycle points) = IsListedIn s points.items × ComesBack points.items
+    IsLawfulIn s Full = ⊥
+    IsLawfulIn s Memory = Unit {0}
 
     -- what is shown of a node is what was before, or what it gives
-    abbrev pub ShowsStill : Standing F → Standing F → NodeId → Type 0
-    ShowsStill old new n = (shown_of new n ≡ shown_of old n) ⊎ ((x : Outcome) × (shown_of new n ≡ Some x) × NodeGives M (graph old) n x)
+    abbrev pub ShowsStillIn : Standing F → Standing F → NodeId → Type 0
+    ShowsStillIn old new n = (shown_of new n ≡ shown_of old n) ⊎ ((x : Outcome) × (shown_of new n ≡ Some x) × NodeGives M G n x)
 
     -- at most the calls were made that it takes to compute each of some live maps and folds once, all of them met
-    pub record HasCalledMet (s : Standing F) (before after : ℕ) : Type 0 where
+    pub record HasCalledMetIn (s : Standing F) (before after : ℕ) : Type 0 where
       pub nodes : List NodeId
       pub once : NoRepeats nodes
-      pub callers : (n : NodeId) → Among n nodes → IsCallerAt s.nodes n
-      pub count : RoseAtMost before (costs_of (graph s) nodes) after
-      pub met : (n : NodeId) → Among n nodes → IsMet s (main n)
+      pub callers : (n : NodeId) → Among n nodes → IsCallerAt G n
+      pub count : RoseAtMost before (costs_of G nodes) after
+      pub met : (n : NodeId) → Among n nodes → IsMetIn s (main n)
 
   -- the points are linked each to the next, with one link more
   abbrev pub IsLinkedWith : Standing F → Point → Point → Point → Point → Type 0
@@ -164,18 +165,39 @@ module _ {F : Type 0} where
   LeavesTried s Full = ⊥
   LeavesTried s Memory = Unit {0}
 
-  -- a refused stabilize: the graph is broken, with what was met, which is so in the graph, and was tried on what was confirmed; nodes, observers and cutoffs
-  -- stay, and what is shown of a node is what was before, or what it gives
-  pub record IsRefusedFor (M : Functions) (old new : Standing F) (cause : Kept) : Type 0 where
+  -- a refused stabilize: the graph is broken, with what was met, which is so in the graph, and was tried on what was confirmed; observers and cutoffs stay,
+  -- and of nodes what a round leaves; what is shown of a node is what was before, or what it gives. No node of today dies or is built
+  pub record IsRefusedIn (M : Functions) (G : Graph) (died : NodeId → Option NodeId) (old new : Standing F) (cause : Kept) : Type 0 where
     pub was : IsUnbroken old
+    pub stays : GraphStays old.nodes.given new.nodes.given (graph old) (graph new)
     pub nodes : new.nodes ≡ old.nodes
     pub observers : new.observers ≡ old.observers
     pub rooted : new.rooted ≡ old.rooted
     pub ran : new.ran ≡ old.ran
     pub cutoff : (n : NodeId) → cutoff_of new n ≡ cutoff_of old n
-    pub shows : (n : NodeId) → ShowsStill M old new n
+    pub shows : (n : NodeId) → ShowsStillIn M G died old new n
     pub met : Refused
     pub broken : new.refused ≡ Some met
     pub is_cause : kept_of met ≡ cause
-    pub lawful : IsLawful M old met
+    pub lawful : IsLawfulIn M G died old met
     pub tried : LeavesTried new met
+
+  -- ---- of a stabilize from one standing to another
+
+  -- the graph that it left, as it read it: a freeze that got its value still follows its child
+  abbrev pub left_by : Standing F → Standing F → Graph
+  left_by old new = left_by_call (graph old) (graph new)
+
+  -- the scope in which a node stood that died in it
+  abbrev pub died_by : Standing F → Standing F → NodeId → Option NodeId
+  died_by old new = died_in (graph old) (graph new)
+
+  module _ (M : Functions) (old new : Standing F) where
+    abbrev pub Stabilizes : Type 0
+    Stabilizes = StabilizesIn M (left_by old new) (died_by old new) (graph new) old new
+
+    abbrev pub IsRefusedFor : Kept → Type 0
+    IsRefusedFor cause = IsRefusedIn M (left_by old new) (died_by old new) old new cause
+
+    abbrev pub HasCalledMet : ℕ → ℕ → Type 0
+    HasCalledMet before after = HasCalledMetIn M (left_by old new) (died_by old new) old before after

@@ -4,6 +4,7 @@ ghost use Rattle.inc_value.specs.declared.node.NodeId.{NodeId};
 ghost use Rattle.node_arena.specs.Arena.{row_at, live, IsLive};
 ghost use Rattle.inc_value.specs.declared.node.Point.{Point};
 ghost use Rattle.map_nodes.specs.declared.cutoff.Cutoff.TheVariants.{Equal};
+ghost use Rattle.node_outcomes.specs.Meaning.{meaning_of};
 ghost use Rattle.graph.specs.Sound.{IsSound};
 ghost use Rattle.graph.specs.Standing.{IsUnbroken, IsBroken, called_last, cutoff_of, times_linked, times_rooted};
 ghost use Rattle.graph.specs.declared.fault.Kept.{Kept as ACause};
@@ -58,9 +59,10 @@ impl<F: Functions> Model for Graph<F> {
     ghost use Rattle.std.specs.Prelude.{◌≡◌};
     ghost use Rattle.inc_value.specs.declared.outcome.Outcome.TheVariants.{Invalid};
     ghost use Rattle.graph.specs.Inside.{FitsInside};
+    ghost use Rattle.node_outcomes.specs.Meaning.{meaning_of};
 
     ghost invariant = { λ g. (g.invalid ≡ Invalid)
-        × FitsInside (F.known g.functions) (F.value g.functions) g.parts g.observers.items g.rooted g.refused
+        × FitsInside (meaning_of F.Functions g.functions) g.parts g.observers.items g.rooted g.refused
         × F.is_sound g.functions };
 }
 
@@ -141,10 +143,10 @@ impl<F: Functions> Graph<F> {
 
     /// What is kept fits together: a fact for a caller's proof. Nothing runs.
     pub fn keeps_sound(&self)
-        ensures sound { IsSound (F.known self.entry.now.functions) self.entry.now }
+        ensures sound { IsSound (meaning_of F.Functions self.entry.now.functions) self.entry.now }
         ensures functions { F.is_sound self.entry.now.functions }
     {
-        self.parts.arena().is_sound();
+        let _ = &self.parts;
     }
 
     /// What broke the graph, if it is broken.

@@ -4,8 +4,9 @@ ghost use Rattle.inc_value.specs.Choice.{Among};
 ghost use Rattle.inc_value.specs.declared.function.FnKind.TheVariants.{Map, Rhs};
 ghost use Rattle.inc_terms.specs.Within.{Given};
 ghost use Rattle.node_arena.specs.Listing.{Listed};
-ghost use Rattle.node_arena.specs.Meanings.{KeepsKnown};
+ghost use Rattle.node_arena.specs.Meanings.{SameKnown};
 ghost use Rattle.node_arena.specs.RightSide.{IsEmpty, SameSides};
+ghost use Rattle.node_arena.specs.Sound.{IsSound};
 ghost use Rattle.node_arena.specs.Typing.{Fits};
 ghost use Rattle.script_functions.specs.Bodies.{side_of};
 
@@ -76,10 +77,11 @@ fn add_bind(
     function: FnRef,
     captured: NodeId,
 ) -> Option<NodeId>
+    requires arena { IsSound arena.old }
+    ensures arena { IsSound arena.new }
     ensures given { IfSome result (Given arena.new.given) }
     ensures empty { IfSome result (IsEmpty arena.new) }
 {
-    arena.is_sound();
     let def = Def::Bind {
         left,
         function,
@@ -140,8 +142,10 @@ fn build(
     requires sig { function.now.sig ≡ record { takes = Ty.Int ∷ Ty.Int ∷ []; gives = Ty.Int } }
     requires ids { (x : Listed) → Among x (⟦<ScriptFns<StdLib> as Functions>⟧.right functions.old function.now).ids
         → x ≡ record { node = listed; ty = Ty.Int } }
+    requires arena { IsSound arena.old }
     ensures sound { ⟦<ScriptFns<StdLib> as Functions>⟧.is_sound functions.new }
-    ensures keeps_known { KeepsKnown (⟦<ScriptFns<StdLib> as Functions>⟧.known functions.old)
+    ensures arena { IsSound arena.new }
+    ensures same_known { SameKnown (⟦<ScriptFns<StdLib> as Functions>⟧.known functions.old)
         (⟦<ScriptFns<StdLib> as Functions>⟧.known functions.new) }
     ensures same_sides { SameSides (⟦<ScriptFns<StdLib> as Functions>⟧.right functions.old)
         (⟦<ScriptFns<StdLib> as Functions>⟧.right functions.new) }

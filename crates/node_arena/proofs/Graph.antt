@@ -11,8 +11,9 @@ use Rattle.inc_terms.specs.Graph as graph
 use Rattle.inc_terms.specs.Graph.{Row, Def}
 use Rattle.inc_terms.specs.Rebuild.{Keeping}
 use Rattle.inc_terms.specs.Within.{DefWithin, ValueWithin, Given, Fit}
+use Rattle.inc_terms.proofs.Meanings.{keeping_names}
 use Rattle.node_arena.specs.Arena.{Arena, row_at}
-use Rattle.node_arena.specs.Graph.{graph_of, AllCallFit, CallsFit, StillFit}
+use Rattle.node_arena.specs.Graph.{graph_of, AllCallFit, CallsFit, NamesAreGiven, StillFit}
 use Rattle.node_arena.specs.Meanings.{KeepsKnown, MapsNameNoNode}
 use Rattle.node_arena.specs.Sound.{IsSound}
 use Rattle.node_arena.proofs.Rows.{same_or_not, same_id}
@@ -45,6 +46,11 @@ keeping a sound known ids fit = record {
   lists = λ n. tt;
 }
 
+pub names_are_given : NamesAreGiven
+names_are_given a known ids sound fit =
+    let keeps = keeping a sound known ids fit in
+    (keeps, keeping_names known ids a.given (graph_of a) keeps)
+
 -- ---- functions that fit still do
 
 module _ (Q Q' : FnKind → FnRef → Type 0) (q : (k : FnKind) (f : FnRef) → Q k f → Q' k f) where
@@ -66,6 +72,12 @@ module _ (Q Q' : FnKind → FnRef → Type 0) (q : (k : FnKind) (f : FnRef) → 
 fit_more : (count count' : ℕ) (known known' : FnRef → Bool) (ids : FnRef → List NodeId) → count ≤ count' → KeepsKnown known known'
     → (k : FnKind) (f : FnRef) → Fit count known ids k f → Fit count' known' ids k f
 fit_more count count' known known' ids le keeps k f h = ((keeps f h.0.0, h.0.1), λ n among. let g = h.1 n among in omega (arith, g, le))
+
+-- what fits still does when more ids were given
+pub calls_later : (count count' : ℕ) (known : FnRef → Bool) (ids : FnRef → List NodeId) → count ≤ count' → (def : Def) → CallsFit count known ids def
+    → CallsFit count' known ids def
+calls_later count count' known ids le def fits =
+    calls_more (Fit count known ids) (Fit count' known ids) (fit_more count count' known known ids le (λ f h. h)) def fits
 
 pub id_or_other : (n m : NodeId) → (n ≡ m) ⊎ (n ≢ m)
 id_or_other n m = elim (same_or_not n.slot m.slot) [

@@ -1,5 +1,5 @@
 mod First
-mod Graph
+pub mod Graph
 mod Order
 mod Rows
 mod Sound

@@ -11,6 +11,7 @@ use Rattle.inc_terms.specs.Within.{Given, DefWithin}
 use Rattle.node_arena.specs.declared.arena.AddFault.{AddFault}
 use Rattle.node_arena.specs.declared.arena.AddFault.TheVariants as fault
 use Rattle.node_arena.specs.Arena.{Arena, row_at, live, IsFull, NamesGiven, Changes}
+use Rattle.node_arena.specs.Sound.{IsSound}
 use Rattle.node_arena.specs.Typing.{Makes, IsAddable}
 
 -- the nodes, and the bind in whose scope new ones stand
@@ -38,7 +39,8 @@ pub record TellsFault (a : Arena) (def : Def) (t : Ty) (answer : Result NodeId A
   pub wrong_type : NamesGiven a.given def → ¬ Makes a def t → IsErrOf answer fault.WrongType
   pub full : NamesGiven a.given def → Makes a def t → IsFull a → IsErrOf answer fault.Full
 
--- the id, which is the next, has such a row in the scope, and every id that was given keeps its row, or has none as before
+-- the id, which is the next, has such a row in the scope, and every id that was given keeps its row, or has none as before;
+-- the nodes are as every arena keeps them
 pub record Adds (old new : Building) (id : NodeId) (def : Def) (t : Ty) : Type 0 where
   pub number : id.gen_ ≡ old.arena.given
   pub changes : Changes old.arena new.arena id (Some (record { def = def; ty = t; scope = Some old.scope }))
@@ -46,6 +48,7 @@ pub record Adds (old new : Building) (id : NodeId) (def : Def) (t : Ty) : Type 0
   pub live : live new.arena ≡ live old.arena + 1
   pub given : new.arena.given ≡ old.arena.given + 1
   pub scope : new.scope ≡ old.scope
+  pub sound : IsSound new.arena
 
 -- ---- what is built for one right side
 

@@ -3,9 +3,11 @@ use Rattle.std.specs.Prelude.{◌≡◌, ◌≤◌, ℕ, pos, Bool, List, [], Op
 use Rattle.inc_value.specs.declared.function.FnRef.{FnRef}
 use Rattle.inc_value.specs.declared.node.NodeId.{NodeId}
 use Rattle.inc_terms.specs.Graph.{Graph, Row, Def}
-use Rattle.inc_terms.specs.Within.{DefWithin, Fit}
+use Rattle.inc_terms.specs.Rebuild.{Keeping, Names}
+use Rattle.inc_terms.specs.Within.{DefWithin, Given, Fit}
 use Rattle.node_arena.specs.Arena.{Arena, row_at, Changes}
 use Rattle.node_arena.specs.Meanings.{KeepsKnown}
+use Rattle.node_arena.specs.Sound.{IsSound}
 
 -- the graph of the nodes. No bind is built, the clock stands at 0, no freeze keeps a value, and no expert has a list
 abbrev pub graph_of : Arena → Graph
@@ -25,6 +27,12 @@ StillFit =
     (known known' : FnRef → Bool) (ids : FnRef → List NodeId) (old new : Arena) (id : NodeId) (row : Option Row)
     → KeepsKnown known known' → Changes old new id row → old.given ≤ new.given
     → IfSome row (λ (r : Row). CallsFit new.given known' ids r.def) → AllCallFit known ids old → AllCallFit known' ids new
+
+-- a sound arena whose live nodes call known functions, which list given nodes alone, keeps enough that its graph names given nodes and such functions alone
+abbrev pub NamesAreGiven : Type 0
+NamesAreGiven =
+    (a : Arena) (known : FnRef → Bool) (ids : FnRef → List NodeId) → IsSound a → AllCallFit known ids a
+    → Keeping (Given a.given) (Fit a.given known ids) (graph_of a) × Names (Given a.given) (Fit a.given known ids) (graph_of a)
 
 -- no node stands in a scope
 abbrev pub NoScopes : Arena → Type 0

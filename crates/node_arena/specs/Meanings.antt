@@ -13,6 +13,10 @@ use Rattle.inc_terms.specs.Within.{KnownAs, ValueWithin}
 abbrev pub KeepsKnown : (FnRef → Bool) → (FnRef → Bool) → Type 0
 KeepsKnown old new = (f : FnRef) → IsTrue (old f) → IsTrue (new f)
 
+-- just the functions are known that were
+abbrev pub SameKnown : (FnRef → Bool) → (FnRef → Bool) → Type 0
+SameKnown old new = (f : FnRef) → new f ≡ old f
+
 -- a name stands for the function that it stood for before
 abbrev pub SameNames : (List ℕ → Option FnRef) → (List ℕ → Option FnRef) → Type 0
 SameNames old new = (name : List ℕ) → new name ≡ old name

@@ -7,7 +7,6 @@ ghost use Rattle.node_arena.specs.Arena.{row_of, row_at, live, IsLive, IsFull, C
 ghost use Rattle.node_arena.specs.Sound.{IsSound, IsFirstSince};
 ghost use Rattle.node_arena.specs.Typing.{Makes, IsAddable};
 
-mod graph;
 mod order;
 mod typing;
 mod variable;
@@ -84,6 +83,7 @@ impl Arena {
         ensures empty { (n : NodeId) → row_at result n ≡ None }
         ensures live { live result ≡ 0 }
         ensures given { result.given ≡ 0 }
+        ensures sound { IsSound result }
     {
         Arena {
             nodes: Slab::new(alloc),
@@ -158,6 +158,7 @@ impl Arena {
         ensures keeps { (n : NodeId) → Given self.old.given n → row_at self.new n ≡ row_at self.old n }
         ensures live { OnOk result (live self.new ≡ live self.old + 1) }
         ensures given { OnOk result (self.new.given ≡ self.old.given + 1) }
+        ensures sound { OnOk result (IsSound self.new) }
         ensures unknown { IsErrOf result AddFault.Unknown ↔ ¬ NamesGiven self.old.given (def_of def) }
         ensures wrong_type { IsErrOf result AddFault.WrongType
             ↔ (NamesGiven self.old.given (def_of def) × ¬ Makes self.old (def_of def) ty) }
@@ -200,6 +201,7 @@ impl Arena {
         ensures keeps { (n : NodeId) → Given self.old.given n → row_at self.new n ≡ row_at self.old n }
         ensures live { OnOk result (live self.new ≡ live self.old + 1) }
         ensures given { OnOk result (self.new.given ≡ self.old.given + 1) }
+        ensures sound { OnOk result (IsSound self.new) }
         ensures err { OnErr result (self.new ≡ self.old) }
     {
         // The slab uses free slots first, so the slot is below; its contract doesn't say so.
@@ -225,6 +227,7 @@ impl Arena {
         ensures dropped { Changes self.old self.new id None }
         ensures live { live self.new + 1 ≡ live self.old }
         ensures given { self.new.given ≡ self.old.given }
+        ensures sound { IsSound self.new }
     {
         self.nodes.remove(id.slot);
     }
@@ -239,12 +242,5 @@ impl Arena {
     {
         let order = self.order.as_slice();
         first_live(self, order, start_of(order, count))
-    }
-
-    /// A law: each arena is sound.
-    pub fn is_sound(&self)
-        ensures { IsSound self.now }
-    {
-        let _ = &self.given;
     }
 }

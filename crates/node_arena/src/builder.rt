@@ -4,8 +4,8 @@ ghost use Rattle.inc_value.specs.Value.{type_of};
 ghost use Rattle.inc_terms.specs.Code.{def_of};
 ghost use Rattle.inc_terms.specs.Graph.{Const, Map, Fold, If, Join, Bind};
 ghost use Rattle.inc_terms.specs.Within.{Given};
-ghost use Rattle.node_arena.specs.Building.{building_in, Answers, TellsFault, Adds};
 ghost use Rattle.node_arena.specs.Sound.{IsSound};
+ghost use Rattle.node_arena.specs.Building.{building_in, Answers, TellsFault, Adds};
 
 use crate::{AddFault, Arena};
 use inc_terms::{Def, Nodes};
@@ -48,7 +48,8 @@ impl Builder {
 
     /// The arena, with what was added.
     pub fn finish(self) -> Arena
-        ensures { result ≡ self.arena }
+        ensures arena { result ≡ self.arena }
+        ensures sound { IsSound result }
     {
         self.arena
     }
@@ -58,14 +59,6 @@ impl Builder {
         ensures { result ≡ self.now.arena.given }
     {
         self.arena.given()
-    }
-
-    /// A law: the arena is sound, and the scope's bind was given.
-    pub fn is_sound(&self)
-        ensures sound { IsSound self.now.arena }
-        ensures scope { Given self.now.arena.given self.now.scope }
-    {
-        self.arena.is_sound();
     }
 
     /// Adds a node that always has the value. What is looked at comes in the order of the faults, want

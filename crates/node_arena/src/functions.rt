@@ -15,7 +15,7 @@ pub trait Functions: Drop {
     ghost use Rattle.inc_value.specs.declared.function.FnKind.TheVariants.{Map, Rhs};
     ghost use Rattle.inc_value.specs.declared.value.Value.{Value};
     ghost use Rattle.inc_value.specs.Counts.{raised, raised_on_err};
-    ghost use Rattle.node_arena.specs.Meanings.{SameNames, KeepsKnown, SameValues, HaveMapSigs};
+    ghost use Rattle.node_arena.specs.Meanings.{SameNames, KeepsKnown, SameKnown, SameValues, HaveMapSigs};
     ghost use Rattle.node_arena.specs.Meanings.{GiveTypes, GiveProper, GiveNoReference};
     ghost use Rattle.node_arena.specs.Arena.{IsFull};
     ghost use Rattle.node_arena.specs.Building.{Grows};
@@ -82,7 +82,7 @@ pub trait Functions: Drop {
         ensures { result ≡ known self.now f };
 
     /// What the map gives for the arguments. Each call is counted, also one that finds no memory
-    /// for the value. Names and values stay, and no function is forgotten.
+    /// for the value. Names and meanings stay, and the same functions are known.
     fn apply(&mut self, alloc: Global, f: FnRef, args: &[Value]) -> Result<Value, AllocError>
         requires sound { is_sound self.old }
         requires known { IsTrue (known self.old f) }
@@ -98,7 +98,7 @@ pub trait Functions: Drop {
         ensures wants { wants self.new ≡ raised_on_err result (wants self.old) }
 
         ensures same_names { SameNames (named self.old) (named self.new) }
-        ensures keeps_known { KeepsKnown (known self.old) (known self.new) }
+        ensures same_known { SameKnown (known self.old) (known self.new) }
         ensures same_values { SameValues (value self.old) (value self.new) }
         ensures same_sides { SameSides (right self.old) (right self.new) }
         ensures tally { tally self.new ≡ tally self.old };
@@ -108,7 +108,7 @@ pub trait Functions: Drop {
     /// captures put in. Ids that were given keep their rows; new nodes, also those that a refused call
     /// leaves, stand in the scope, call functions that this one lists, and are few enough. It is
     /// refused as full only where no further node can be added. Each call is counted, also one that is
-    /// refused, and so are the ids given. Names and meanings stay, and no function is forgotten.
+    /// refused, and so are the ids given. Names and meanings stay, and the same functions are known.
     fn build(
         &mut self,
         alloc: Global,
@@ -132,7 +132,7 @@ pub trait Functions: Drop {
         ensures wants { wants self.new ≡ wants self.old }
 
         ensures same_names { SameNames (named self.old) (named self.new) }
-        ensures keeps_known { KeepsKnown (known self.old) (known self.new) }
+        ensures same_known { SameKnown (known self.old) (known self.new) }
         ensures same_values { SameValues (value self.old) (value self.new) }
         ensures same_sides { SameSides (right self.old) (right self.new) };
 

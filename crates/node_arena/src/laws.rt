@@ -1,10 +1,16 @@
 //! Laws of functions and of what they build. Each function does nothing: its contract is the law. A
 //! function is fit in an arena where each node that it lists was given there, and is of the type listed
 //! or dead.
-ghost use Rattle.node_arena.specs.Graph.{StillFit};
+ghost use Rattle.node_arena.specs.Graph.{NamesAreGiven, StillFit};
 ghost use Rattle.node_arena.specs.Meanings.{MapsNameNoNode};
 ghost use Rattle.node_arena.specs.RightSideLaws.{SidesAreLawful, FitListsGiven, FitLasts, BuildingFits};
 ghost use Rattle.node_arena.specs.RightSideLaws.{SameRowsUnfold, NewInScope, KilledAndBuilt};
+
+/// A sound arena whose live nodes call known functions, which list given nodes alone, keeps enough that
+/// its graph names given nodes and such functions alone.
+pub fn names_are_given()
+    ensures { NamesAreGiven }
+{}
 
 /// Where the functions of live nodes are known and list given nodes alone, so it is after a node is
 /// dropped, after one is added whose functions are and do, and when more functions are known.

@@ -13,7 +13,7 @@ pub trait Library: Drop {
     ghost use Rattle.inc_value.specs.declared.function.FnKind.TheVariants.{Map};
     ghost use Rattle.inc_value.specs.declared.value.Value.{Value};
     ghost use Rattle.inc_value.specs.Counts.{raised, raised_on_err};
-    ghost use Rattle.node_arena.specs.Meanings.{SameNames, KeepsKnown, SameValues, HaveMapSigs};
+    ghost use Rattle.node_arena.specs.Meanings.{SameNames, SameKnown, SameValues, HaveMapSigs};
     ghost use Rattle.node_arena.specs.Meanings.{GiveTypes, GiveProper, GiveNoReference};
 
     // the function that a name stands for
@@ -40,7 +40,7 @@ pub trait Library: Drop {
         ensures { result ≡ known self.now f };
 
     /// What the function gives for the arguments. Each call is counted, also one that finds no
-    /// memory for the value. Names and values stay, and no function is forgotten.
+    /// memory for the value. Names and values stay, and the same functions are known.
     fn apply(&mut self, alloc: Global, f: FnRef, args: &[Value]) -> Result<Value, AllocError>
         requires known { IsTrue (known self.old f) }
         requires kind { f.id.kind ≡ Map }
@@ -54,7 +54,7 @@ pub trait Library: Drop {
         ensures wants { wants self.new ≡ raised_on_err result (wants self.old) }
 
         ensures same_names { SameNames (named self.old) (named self.new) }
-        ensures keeps_known { KeepsKnown (known self.old) (known self.new) }
+        ensures same_known { SameKnown (known self.old) (known self.new) }
         ensures same_values { SameValues (value self.old) (value self.new) };
 
     // a name stands for a map of the library

@@ -4,7 +4,8 @@ ghost use Rattle.inc_value.specs.declared.function.FnKind.TheVariants.{Rhs};
 ghost use Rattle.inc_terms.specs.Within.{Given};
 ghost use Rattle.node_arena.specs.Arena.{IsFull};
 ghost use Rattle.node_arena.specs.Building.{building_in, Grows};
-ghost use Rattle.node_arena.specs.Meanings.{SameNames, KeepsKnown, SameValues};
+ghost use Rattle.node_arena.specs.Meanings.{SameNames, SameKnown, SameValues};
+ghost use Rattle.node_arena.specs.Sound.{IsSound};
 ghost use Rattle.node_arena.specs.RightSide.{MayBuild, IsRoot, SameSides, one_built};
 
 use crate::{Arena, BuildFault, Builder, Functions};
@@ -33,6 +34,7 @@ impl Arena {
         requires kind { f.id.kind ≡ Rhs }
         requires ready { MayBuild (building_in scope self.old) f.sig (F.right functions.old f) left.now captures.now }
         ensures sound { F.is_sound functions.new }
+        ensures arena { IsSound self.new }
         ensures grows { Grows (F.right functions.old f).uses (building_in scope self.old) (building_in scope self.new)
             (F.right functions.old f).size }
         ensures root { IfOk result (λ n. IsRoot (building_in scope self.new) captures.now n
@@ -42,7 +44,7 @@ impl Arena {
         ensures calls { F.calls functions.new ≡ F.calls functions.old }
         ensures wants { F.wants functions.new ≡ F.wants functions.old }
         ensures same_names { SameNames (F.named functions.old) (F.named functions.new) }
-        ensures keeps_known { KeepsKnown (F.known functions.old) (F.known functions.new) }
+        ensures same_known { SameKnown (F.known functions.old) (F.known functions.new) }
         ensures same_values { SameValues (F.value functions.old) (F.value functions.new) }
         ensures same_sides { SameSides (F.right functions.old) (F.right functions.new) }
     {

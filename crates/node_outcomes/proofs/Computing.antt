@@ -22,6 +22,7 @@ use Rattle.inc_terms.specs.declared.def.Def.TheVariants as form
 use Rattle.inc_terms.specs.Code.{def_of}
 use Rattle.inc_terms.specs.Depend.{main, change, subject_of, right_of}
 use Rattle.inc_terms.specs.Evaluate.{Gathered, Unknown, SomeInvalid, Values, joined, given, with_value}
+use Rattle.inc_terms.specs.Term.{Functions}
 use Rattle.inc_terms.specs.Graph.{Graph, Row, Def, Const, Var, Map, Fold, kids}
 use Rattle.inc_terms.specs.Work.{cost_of}
 use Rattle.inc_terms.specs.Local.{own, see_right}
@@ -30,48 +31,22 @@ use Rattle.node_arena.specs.Arena.{Arena, row_at, NamesGiven}
 use Rattle.node_arena.specs.Graph.{graph_of, AllCallFit, CallsFit}
 use Rattle.node_arena.specs.Meanings.{HaveMapSigs}
 use Rattle.node_arena.specs.Sound.{IsSound}
-use Rattle.node_arena.specs.declared.functions.Functions.{Ghosts}
 use Rattle.node_arena.specs.Typing.{Fits, Makes, MapMakes, FoldMakes, FoldTakes}
 use Rattle.inc_terms.specs.Work.{taken_by}
 use Rattle.stabilize_round.specs.Calling.{IsAnswer, cost_at, row_cost, or_none}
 use Rattle.stabilize_round.specs.Counts.{RoseBy, RoseAtMost}
 use Rattle.stabilize_round.specs.Moves.{calls_of}
 use Rattle.stabilize_round.specs.State.{Call}
-use Rattle.node_outcomes.specs.Computing.{seen, seen_of, seen_together, value_shown, ShowsValue, IsForcedBy, CallsSeen, Noted, KeepsTypes, KeepsFunctions, IsOfType, LooksAtSeen, has_part}
+use Rattle.node_outcomes.specs.Computing.{seen, seen_of, seen_together, value_shown, ShowsValue, IsForcedBy, CallsSeen, Noted, KeepsTypes, IsOfType, LooksAtSeen, has_part}
 use Rattle.node_outcomes.specs.Computing.{ran_then, IsCalled, Calls, IsKnown, AllShow, LastWas, FoldFits, KeepsAllButCount, ComputesCall, CallComputes, Computes, NotComputed, Ends}
 use Rattle.node_outcomes.specs.Choosing.{no_graph, right_in}
-use Rattle.node_outcomes.specs.Meaning.{functions_of, lists_none, maps_of}
 use Rattle.node_outcomes.specs.Row.{IsRewritten, with_last, value_of, value_in, outcome_in}
 use Rattle.node_outcomes.specs.declared.row.Progress.{Progress}
-use Rattle.node_outcomes.proofs.Maps.{maps_have_sigs}
 use Rattle.node_outcomes.proofs.Pairs.{IsPair, ShowsRight, gives_own_right, right_shows}
 
 some_is : {A : Type 0} (x : Option A) → IsSome x → (a : A) × (x ≡ Some a)
 some_is None h = cc
 some_is (Some a) h = (a, refl)
-
--- where nothing is called all is kept
-pub nothing_called : {F More : Type 0} (keeper : Ghosts F More) (functions : F) → keeper.is_sound functions → KeepsFunctions keeper functions functions
-nothing_called keeper functions sound = record {
-  sound = sound;
-  names = λ name. refl;
-  known = λ f h. h;
-  values = λ f xs. refl;
-  sides = λ f. refl;
-  tally = refl;
-}
-
--- what was kept of functions, and is kept on, is kept
-pub functions_on : {F More : Type 0} (keeper : Ghosts F More) (first mid last : F)
-    → KeepsFunctions keeper first mid → KeepsFunctions keeper mid last → KeepsFunctions keeper first last
-functions_on keeper first mid last h k = record {
-  sound = k.sound;
-  names = λ name. k.names name ∙ h.names name;
-  known = λ f t. k.known f (h.known f t);
-  values = λ f xs. k.values f xs ∙ h.values f xs;
-  sides = λ f. k.sides f ∙ h.sides f;
-  tally = k.tally ∙ h.tally;
-}
 
 -- ---- what is seen, and which value is shown
 
@@ -219,8 +194,8 @@ relisted : (G : Graph) (n : NodeId) (rows : Rows Progress) (def : Def) (nodes ot
 relisted G n rows def nodes others values mine its e =
     ap (seen_together rows) (same_Some nodes others (sym mine ∙ its)) ∙ e
 
-module _ (value : FnRef → List Value → Value) (answer : List Value → Value) (t : Ty) (round : ℕ) (old : Noted) (n : NodeId) (def : Def)
-    (nodes : List NodeId) (cost : ℕ) (takes : (G : Graph) → taken_by G n def ≡ Some nodes) (is_answer : (values : List Value) → IsAnswer (functions_of value) def values (answer values))
+module _ (F : Functions) (answer : List Value → Value) (t : Ty) (round : ℕ) (old : Noted) (n : NodeId) (def : Def)
+    (nodes : List NodeId) (cost : ℕ) (takes : (G : Graph) → taken_by G n def ≡ Some nodes) (is_answer : (values : List Value) → IsAnswer F def values (answer values))
     (there : Holds old.rows (main n)) where
   abbrev kept : Progress
   kept = (some_is (at old.rows (main n)) there).0
@@ -229,7 +204,7 @@ module _ (value : FnRef → List Value → Value) (answer : List Value → Value
   is_kept = (some_is (at old.rows (main n)) there).1
 
   -- a child shows no value
-  invalid_computes : (AllShow old.rows nodes → ⊥) → ComputesCall value answer t round old old n def nodes Invalid cost
+  invalid_computes : (AllShow old.rows nodes → ⊥) → ComputesCall F answer t round old old n def nodes Invalid cost
   invalid_computes some = record {
     kept = kept;
     is_kept = is_kept;
@@ -248,7 +223,7 @@ module _ (value : FnRef → List Value → Value) (answer : List Value → Value
 
   -- the children show what the function was last called on
   last_computes : (call : Call) (v : Value) → LastWas old.rows n call → AllZip (ShowsValue old.rows) nodes call.arguments → v ≡ call.result
-      → (IsForcedBy round old.rows nodes → ⊥) → ComputesCall value answer t round old old n def nodes (Val v) cost
+      → (IsForcedBy round old.rows nodes → ⊥) → ComputesCall F answer t round old old n def nodes (Val v) cost
   last_computes call v was shown is free = record {
     kept = kept;
     is_kept = is_kept;
@@ -283,7 +258,7 @@ module _ (value : FnRef → List Value → Value) (answer : List Value → Value
     gives answers = ap (given answer) together ∙ (let e = answers call is_last in cc)
 
   -- the function need not be called
-  pub known_computes : (o : Outcome) → IsKnown round old.rows n nodes (Some o) → ComputesCall value answer t round old old n def nodes o cost
+  pub known_computes : (o : Outcome) → IsKnown round old.rows n nodes (Some o) → ComputesCall F answer t round old old n def nodes o cost
   known_computes Invalid some = invalid_computes some
   known_computes (Val v) h = last_computes h.0 v h.1 h.2 h.3 h.4
 
@@ -295,7 +270,7 @@ module _ (value : FnRef → List Value → Value) (answer : List Value → Value
 
   -- the function was called
   called_computes : (new : Noted) (o : Outcome) → IsKnown round old.rows n nodes None → IsCalled answer t old new n now_shown o cost
-      → ComputesCall value answer t round old new n def nodes o cost
+      → ComputesCall F answer t round old new n def nodes o cost
   called_computes new o unknown called = record {
     kept = kept;
     is_kept = is_kept;
@@ -324,7 +299,7 @@ module _ (value : FnRef → List Value → Value) (answer : List Value → Value
 
   -- so the calls' end is
   pub ends_computes : {E : Type 0} (new : Noted) (result : Result Outcome E) → IsKnown round old.rows n nodes None
-      → Calls answer t old new n now_shown cost result → CallComputes value answer t round old new n def nodes cost result
+      → Calls answer t old new n now_shown cost result → CallComputes F answer t round old new n def nodes cost result
   ends_computes new (Ok o) unknown called = called_computes new o unknown called
   ends_computes new (Err e) unknown m = m
 
@@ -405,7 +380,7 @@ pub holds_value : (d : declared.Def) (v w : Value) → w ≡ v → (d ≡ form.C
 holds_value d v w same (inl h) = inl (ap def_of h ∙ ap Const (sym same))
 holds_value d v w same (inr h) = inr (ap def_of h ∙ ap Var (sym same))
 
-module _ (value : FnRef → List Value → Value) (arena : Arena) (round : ℕ) (old : Noted) (n : NodeId) (row : Row) (kept : KeepsTypes arena old.rows)
+module _ (F : Functions) (arena : Arena) (round : ℕ) (old : Noted) (n : NodeId) (row : Row) (kept : KeepsTypes arena old.rows)
     (sound : IsSound arena) (is_row : row_at arena n ≡ Some row) where
   there : Holds old.rows (main n)
   there = kept.rows (main n) ∙ has_main (row_at arena n) ∙ ap is_some is_row
@@ -420,12 +395,12 @@ module _ (value : FnRef → List Value → Value) (arena : Arena) (round : ℕ) 
   same_row r e = same_Some row r (sym is_row ∙ e)
 
   abbrev gives_own : Def → Option Outcome
-  gives_own d = own (functions_of value) (graph_of arena) (seen old.rows) n d
+  gives_own d = own F (graph_of arena) (seen old.rows) n d
 
   -- a node none of whose functions is called
   uncalled_computes : (o : Outcome) → taken_by (graph_of arena) n row.def ≡ None
       → (LooksAtSeen old.rows (graph_of arena) n row.def → gives_own row.def ≡ Some o) → ((v : Value) → o ≡ Val v → IsOfType arena v row.ty)
-      → Computes value arena round old old n o
+      → Computes F arena round old old n o
   uncalled_computes o none gives typed = record {
     last = progress.last;
     called = false;
@@ -445,7 +420,7 @@ module _ (value : FnRef → List Value → Value) (arena : Arena) (round : ℕ) 
   }
 
   -- what holds a value gives it
-  pub holder_computes : (v : Value) → (row.def ≡ Const v) ⊎ (row.def ≡ Var v) → Computes value arena round old old n (Val v)
+  pub holder_computes : (v : Value) → (row.def ≡ Const v) ⊎ (row.def ≡ Var v) → Computes F arena round old old n (Val v)
   holder_computes v holds = uncalled_computes (Val v) (none_taken holds) (λ looks. gives holds)
       (λ w e. let value_is : v ≡ w = cc in subst (λ (x : Value). IsOfType arena x row.ty) value_is (typed holds))
     where
@@ -487,7 +462,7 @@ module _ (value : FnRef → List Value → Value) (arena : Arena) (round : ℕ) 
         → gives_own (def_of d) ≡ Some o
     gives_right o shows looks =
         let changes_outcome : outcome_in (at old.rows (change n)) ≡ changed.outcome = ap outcome_in is_changed in
-        pair.gives_right (functions_of value) (graph_of arena) (seen old.rows) n
+        pair.gives_right F (graph_of arena) (seen old.rows) n
         ∙ ap (λ (x : Option Outcome). with_value x (λ (v : Value). see_right (seen old.rows) (right_of (graph_of arena) n (def_of d) (Val v))))
         (ap seen_of is_changed)
         ∙ gives_own_right old.rows (graph_of arena) n refl d o changed.outcome (subst IsSome changes_outcome (looks.choice pair.subject))
@@ -501,7 +476,7 @@ module _ (value : FnRef → List Value → Value) (arena : Arena) (round : ℕ) 
         shown_of_type arena old.rows kept right.node row.ty v its.1 (seen_is_shown (at old.rows (main right.node)) v right.shows)
 
     -- a node of two points gives what the right side shows that its change chose
-    pub pair_computes : (o : Outcome) → ShowsRight old.rows (right_in old.rows n (def_of d)) o → Computes value arena round old old n o
+    pub pair_computes : (o : Outcome) → ShowsRight old.rows (right_in old.rows n (def_of d)) o → Computes F arena round old old n o
     pair_computes o shows = uncalled_computes o (ap (taken_by (graph_of arena) n) is_def ∙ pair.none_taken (graph_of arena) n)
         (λ looks. subst (λ (x : Def). LooksAtSeen old.rows (graph_of arena) n x → gives_own x ≡ Some o) (sym is_def) (gives_right o shows) looks)
         (λ v e. right_typed v (subst (λ (x : Outcome). ShowsRight old.rows (right_in old.rows n (def_of d)) x) e shows))
@@ -509,7 +484,7 @@ module _ (value : FnRef → List Value → Value) (arena : Arena) (round : ℕ) 
     -- so it ends that copies what a right side shows
     pub pair_ends : {E : Type 0} (m : NodeId) (result : Result Outcome E) → right_in old.rows n (def_of d) ≡ Some m
         → IfOk result (λ (o : Outcome). (seen old.rows (main m) ≡ Some o) ⊎ ((seen old.rows (main m) ≡ None) × (o ≡ Invalid)))
-        → Ends value arena round old old n result
+        → Ends F arena round old old n result
     pair_ends m (Ok o) is shows = pair_computes o (subst (λ (x : Option NodeId). ShowsRight old.rows x o) (sym is) shows)
     pair_ends m (Err e) is h = record { rows = λ p. refl; ran = refl; count = inl refl }
 
@@ -525,11 +500,11 @@ module _ (value : FnRef → List Value → Value) (arena : Arena) (round : ℕ) 
     map_gives = map_makes.gives
 
     -- a known map gives a base type
-    pub map_base : (known : FnRef → Bool) → HaveMapSigs known → AllCallFit (maps_of known) lists_none arena → IsBase f.sig.gives
-    map_base known sigs fit =
-        let calls : CallsFit arena.given (maps_of known) lists_none (Map f nodes) =
-        subst (CallsFit arena.given (maps_of known) lists_none) is_map (fit n row is_row) in
-        (maps_have_sigs known sigs f calls.0.0.0 calls.0.0.1).2
+    pub map_base : (known : FnRef → Bool) (ids : FnRef → List NodeId) → HaveMapSigs known → AllCallFit known ids arena → IsBase f.sig.gives
+    map_base known ids sigs fit =
+        let calls : CallsFit arena.given known ids (Map f nodes) =
+        subst (CallsFit arena.given known ids) is_map (fit n row is_row) in
+        (sigs f calls.0.0.0 calls.0.0.1).2
 
   module _ (f : FnRef) (from : Value) (nodes : List NodeId) (is_fold : row.def ≡ Fold f from nodes) where
     fold_makes : FoldMakes arena f from nodes row.ty
@@ -544,24 +519,24 @@ module _ (value : FnRef → List Value → Value) (arena : Arena) (round : ℕ) 
     fold_gives = fold_makes.gives
 
     -- a known function that is folded gives a base type
-    pub fold_base : (known : FnRef → Bool) → HaveMapSigs known → AllCallFit (maps_of known) lists_none arena → IsBase f.sig.gives
-    fold_base known sigs fit =
-        let calls : CallsFit arena.given (maps_of known) lists_none (Fold f from nodes) =
-        subst (CallsFit arena.given (maps_of known) lists_none) is_fold (fit n row is_row) in
-        (maps_have_sigs known sigs f calls.0.0.0 calls.0.0.1).2
+    pub fold_base : (known : FnRef → Bool) (ids : FnRef → List NodeId) → HaveMapSigs known → AllCallFit known ids arena → IsBase f.sig.gives
+    fold_base known ids sigs fit =
+        let calls : CallsFit arena.given known ids (Fold f from nodes) =
+        subst (CallsFit arena.given known ids) is_fold (fit n row is_row) in
+        (sigs f calls.0.0.0 calls.0.0.1).2
 
   abbrev G : Graph
   G = graph_of arena
 
   module _ (answer : List Value → Value) (t : Ty) (def : Def) (nodes : List NodeId) (cost : ℕ) (is_def : row.def ≡ def) (takes : taken_by G n def ≡ Some nodes)
-      (from_answer : (values : List Value) (w : Value) → IsAnswer (functions_of value) def values w → w ≡ answer values)
+      (from_answer : (values : List Value) (w : Value) → IsAnswer F def values w → w ≡ answer values)
       (own_is : gives_own def ≡ given answer (seen_together old.rows nodes)) (kids_are : kids def ≡ nodes) (cost_is : or_none (cost_of G n def) ≡ cost)
       (type : t ≡ row.ty) (base : IsBase t) where
     cost_here : cost ≡ cost_at G n
     cost_here = sym cost_is ∙ sym (ap (λ (d : Def). or_none (cost_of G n d)) is_def) ∙ sym (ap (λ (x : Option Row). row_cost G n x) is_row)
 
     -- a live node was computed
-    call_computes : (new : Noted) (o : Outcome) → ComputesCall value answer t round old new n def nodes o cost → Computes value arena round old new n o
+    call_computes : (new : Noted) (o : Outcome) → ComputesCall F answer t round old new n def nodes o cost → Computes F arena round old new n o
     call_computes new o m = record {
       last = m.last;
       called = m.called;
@@ -570,9 +545,9 @@ module _ (value : FnRef → List Value → Value) (arena : Arena) (round : ℕ) 
         is_row = is_row;
         kept = m.kept;
         is_kept = m.is_kept;
-        calls = subst (λ (d : Def). CallsSeen value G n round old.rows d m.kept.last m.last m.called) (sym is_def) (m.calls G);
+        calls = subst (λ (d : Def). CallsSeen F G n round old.rows d m.kept.last m.last m.called) (sym is_def) (m.calls G);
         own = λ answers looks. subst (λ (d : Def). gives_own d ≡ Some o) (sym is_def)
-            (own_is ∙ m.gives (λ c is. from_answer c.arguments c.result (subst (λ (d : Def). IsAnswer (functions_of value) d c.arguments c.result) is_def
+            (own_is ∙ m.gives (λ c is. from_answer c.arguments c.result (subst (λ (d : Def). IsAnswer F d c.arguments c.result) is_def
             (answers n row nodes m.kept c is_row (ap (taken_by G n) is_def ∙ takes) m.is_kept is)))
             (subst (λ (ns : List NodeId). seen_together old.rows ns ≡ Unknown → ⊥) (ap kids is_def ∙ kids_are) looks.kids));
       };
@@ -600,7 +575,7 @@ module _ (value : FnRef → List Value → Value) (arena : Arena) (round : ℕ) 
     }
 
     -- so it ends
-    pub call_ends : {E : Type 0} (new : Noted) (result : Result Outcome E) → CallComputes value answer t round old new n def nodes cost result
-        → Ends value arena round old new n result
+    pub call_ends : {E : Type 0} (new : Noted) (result : Result Outcome E) → CallComputes F answer t round old new n def nodes cost result
+        → Ends F arena round old new n result
     call_ends new (Ok o) m = call_computes new o m
     call_ends new (Err e) m = call_fails new m

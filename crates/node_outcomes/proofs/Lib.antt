@@ -1,4 +1,4 @@
-pub mod Maps
+pub mod Keeping
 pub mod Folding
 pub mod Rewriting
 pub mod Pairs

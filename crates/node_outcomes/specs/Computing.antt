@@ -16,15 +16,12 @@ use Rattle.inc_terms.specs.Depend.{main, change, subject_of, right_of}
 use Rattle.inc_terms.specs.Evaluate.{Gathered, Unknown, Values, gathered, given}
 use Rattle.inc_terms.specs.Graph.{Graph, Row, Def, kids}
 use Rattle.inc_terms.specs.Local.{by_sight, own}
-use Rattle.inc_terms.specs.Term.{refs}
+use Rattle.inc_terms.specs.Term.{Functions, refs}
 use Rattle.inc_terms.specs.Within.{Given, ValueWithin}
 use Rattle.point_map.specs.Rows.{Rows, at}
 use Rattle.node_arena.specs.Arena.{Arena, row_at}
 use Rattle.node_arena.specs.Graph.{graph_of}
 use Rattle.node_arena.specs.Typing.{Fits, HasType}
-use Rattle.node_arena.specs.Meanings.{SameNames, KeepsKnown, SameValues}
-use Rattle.node_arena.specs.RightSide.{SameSides}
-use Rattle.node_arena.specs.declared.functions.Functions.{Ghosts}
 use Rattle.inc_terms.specs.Work.{taken_by}
 use Rattle.stabilize_round.specs.Calling.{IsAnswer, cost_at}
 use Rattle.stabilize_round.specs.Counts.{RoseBy, RoseAtMost}
@@ -33,7 +30,6 @@ use Rattle.stabilize_round.specs.State.{Call}
 use Rattle.inc_value.specs.Value.{type_of}
 use Rattle.inc_value.specs.declared.outcome.Outcome.TheVariants.{Val}
 use Rattle.point_map.specs.Rows.{KeepsRows}
-use Rattle.node_outcomes.specs.Meaning.{functions_of}
 use Rattle.node_outcomes.specs.Row.{IsRewritten, with_call, with_last, value_in, passes_in, outcome_in}
 use Rattle.node_outcomes.specs.declared.row.Progress.{Progress}
 
@@ -59,10 +55,10 @@ abbrev pub seen_together : Rows Progress → List NodeId → Gathered
 seen_together rows nodes = gathered (by_sight (seen rows)) (refs nodes)
 
 -- what is kept of calls is what the functions give
-abbrev pub KeepsAnswers : (FnRef → List Value → Value) → Arena → Rows Progress → Type 0
-KeepsAnswers value arena rows =
+abbrev pub KeepsAnswers : Functions → Arena → Rows Progress → Type 0
+KeepsAnswers F arena rows =
     (n : NodeId) (r : Row) (nodes : List NodeId) (k : Progress) (c : Call) → row_at arena n ≡ Some r → taken_by (graph_of arena) n r.def ≡ Some nodes
-    → at rows (main n) ≡ Some k → k.last ≡ Some c → IsAnswer (functions_of value) r.def c.arguments c.result
+    → at rows (main n) ≡ Some k → k.last ≡ Some c → IsAnswer F r.def c.arguments c.result
 
 -- one of the nodes has cutoff Never and was settled in the round, as a test
 abbrev pub forced_by : ℕ → Rows Progress → List NodeId → Bool
@@ -78,14 +74,14 @@ abbrev pub IsForcedBy : ℕ → Rows Progress → List NodeId → Type 0
 IsForcedBy round rows nodes = forced_by round rows nodes ≡ true
 
 -- what a node's function was last called on after the node was computed: it was called, on other values than before or as it was forced, or that stays
-abbrev pub CallsSeen : (FnRef → List Value → Value) → Graph → NodeId → ℕ → Rows Progress → Def → Option Call → Option Call → Bool → Type 0
-CallsSeen value G n round rows def last last' false = (last' ≡ last)
+abbrev pub CallsSeen : Functions → Graph → NodeId → ℕ → Rows Progress → Def → Option Call → Option Call → Bool → Type 0
+CallsSeen F G n round rows def last last' false = (last' ≡ last)
     × ((nodes : List NodeId) (values : List Value) → taken_by G n def ≡ Some nodes → seen_together rows nodes ≡ Values values
     → (c : Call) × (last ≡ Some c) × (c.arguments ≡ values) × (IsForcedBy round rows nodes → ⊥))
-CallsSeen value G n round rows def last last' true =
+CallsSeen F G n round rows def last last' true =
     (nodes : List NodeId) × (values : List Value) × (result : Value) × (taken_by G n def ≡ Some nodes) × (seen_together rows nodes ≡ Values values)
     × (((c : Call) → last ≡ Some c → c.arguments ≡ values → ⊥) ⊎ IsForcedBy round rows nodes) × (last' ≡ Some (record { arguments = values; result = result }))
-    × IsAnswer (functions_of value) def values result
+    × IsAnswer F def values result
 
 -- something is seen of all that a main's own function looks at: its children, or its own change and the right side that this chose
 pub record LooksAtSeen (rows : Rows Progress) (G : Graph) (n : NodeId) (def : Def) : Type 0 where
@@ -94,22 +90,22 @@ pub record LooksAtSeen (rows : Rows Progress) (G : Graph) (n : NodeId) (def : De
   pub right : (m : NodeId) (o : Outcome) → outcome_in (at rows (change n)) ≡ Some o → right_of G n def o ≡ Some m → IsSome (seen rows (main m))
 
 -- a live node was computed: its outcome is its own function of what is seen, where something is seen of all that it looks at
-pub record IsComputed (value : FnRef → List Value → Value) (arena : Arena) (round : ℕ) (rows : Rows Progress) (n : NodeId) (o : Outcome)
+pub record IsComputed (F : Functions) (arena : Arena) (round : ℕ) (rows : Rows Progress) (n : NodeId) (o : Outcome)
     (last' : Option Call) (called : Bool) : Type 0 where
   pub row : Row
   pub is_row : row_at arena n ≡ Some row
   pub kept : Progress
   pub is_kept : at rows (main n) ≡ Some kept
-  pub calls : CallsSeen value (graph_of arena) n round rows row.def kept.last last' called
-  pub own : KeepsAnswers value arena rows → LooksAtSeen rows (graph_of arena) n row.def
-      → own (functions_of value) (graph_of arena) (seen rows) n row.def ≡ Some o
+  pub calls : CallsSeen F (graph_of arena) n round rows row.def kept.last last' called
+  pub own : KeepsAnswers F arena rows → LooksAtSeen rows (graph_of arena) n row.def
+      → own F (graph_of arena) (seen rows) n row.def ≡ Some o
 
 -- a live node whose function is called on its children's values
-pub record IsCallerAt (arena : Arena) (n : NodeId) : Type 0 where
+pub record IsCallerAt (G : Graph) (n : NodeId) : Type 0 where
   pub row : Row
   pub nodes : List NodeId
-  pub is_row : row_at arena n ≡ Some row
-  pub takes : taken_by (graph_of arena) n row.def ≡ Some nodes
+  pub is_row : G.row n ≡ Some row
+  pub takes : taken_by G n row.def ≡ Some nodes
 
 -- what computing a node may change: what is kept of points, the nodes whose functions were called in the round, and the count of calls
 pub record Noted : Type 0 where
@@ -147,10 +143,10 @@ ran_then zero ran n = ran
 ran_then (suc k) ran n = ran ++ n ∷ []
 
 -- a live node was computed: what its function was last called on is kept, the node is listed where a call was made, and the count of calls rose so
-pub record Computes (value : FnRef → List Value → Value) (arena : Arena) (round : ℕ) (old new : Noted) (n : NodeId) (o : Outcome) : Type 0 where
+pub record Computes (F : Functions) (arena : Arena) (round : ℕ) (old new : Noted) (n : NodeId) (o : Outcome) : Type 0 where
   pub last : Option Call
   pub called : Bool
-  pub computed : IsComputed value arena round old.rows n o last called
+  pub computed : IsComputed F arena round old.rows n o last called
   pub row : IsRewritten old.rows new.rows (main n) (with_last last)
   pub ran : new.ran ≡ ran_then (calls_of called (cost_at (graph_of arena) n)) old.ran n
   pub count : RoseBy old.calls (calls_of called (cost_at (graph_of arena) n)) new.calls
@@ -159,7 +155,7 @@ pub record Computes (value : FnRef → List Value → Value) (arena : Arena) (ro
 
 -- calls of a node's function, some of those that it takes
 pub record HasCalledSome (arena : Arena) (n : NodeId) (before after : ℕ) : Type 0 where
-  pub caller : IsCallerAt arena n
+  pub caller : IsCallerAt (graph_of arena) n
   pub count : RoseAtMost before (cost_at (graph_of arena) n) after
 
 -- without memory nothing is kept of it; some of the calls that it takes may have been made
@@ -169,19 +165,9 @@ pub record NotComputed (arena : Arena) (old new : Noted) (n : NodeId) : Type 0 w
   pub count : (new.calls ≡ old.calls) ⊎ HasCalledSome arena n old.calls new.calls
 
 -- how computing a node ends: it is computed, or there was no memory
-abbrev pub Ends : (FnRef → List Value → Value) → Arena → ℕ → Noted → Noted → NodeId → {E : Type 0} → Result Outcome E → Type 0
-Ends value arena round old new n (Ok o) = Computes value arena round old new n o
-Ends value arena round old new n (Err e) = NotComputed arena old new n
-
--- the keeper is still sound. Names stand for the functions that they stood for, known functions stay known, maps give what they gave, and right sides
--- are made as they were. Nothing more was built or taken
-pub record KeepsFunctions {F More : Type 0} (keeper : Ghosts F More) (old new : F) : Type 0 where
-  pub sound : keeper.is_sound new
-  pub names : SameNames (keeper.named old) (keeper.named new)
-  pub known : KeepsKnown (keeper.known old) (keeper.known new)
-  pub values : SameValues (keeper.value old) (keeper.value new)
-  pub sides : SameSides (keeper.right old) (keeper.right new)
-  pub tally : keeper.tally new ≡ keeper.tally old
+abbrev pub Ends : Functions → Arena → ℕ → Noted → Noted → NodeId → {E : Type 0} → Result Outcome E → Type 0
+Ends F arena round old new n (Ok o) = Computes F arena round old new n o
+Ends F arena round old new n (Err e) = NotComputed arena old new n
 
 -- ---- the parts of it
 
@@ -229,13 +215,13 @@ IsKnown round rows n nodes None =
     AllShow rows nodes × (((c : Call) → LastWas rows n c → AllZip (ShowsValue rows) nodes c.arguments → ⊥) ⊎ IsForcedBy round rows nodes)
 
 -- a node was computed of what is seen of its children: a value that it gives is what its function gave when it was last called, then or now
-pub record ComputesCall (value : FnRef → List Value → Value) (answer : List Value → Value) (t : Ty) (round : ℕ) (old new : Noted) (n : NodeId) (def : Def)
+pub record ComputesCall (F : Functions) (answer : List Value → Value) (t : Ty) (round : ℕ) (old new : Noted) (n : NodeId) (def : Def)
     (nodes : List NodeId) (o : Outcome) (cost : ℕ) : Type 0 where
   pub kept : Progress
   pub is_kept : at old.rows (main n) ≡ Some kept
   pub last : Option Call
   pub called : Bool
-  pub calls : (G : Graph) → CallsSeen value G n round old.rows def kept.last last called
+  pub calls : (G : Graph) → CallsSeen F G n round old.rows def kept.last last called
   pub gives : ((c : Call) → kept.last ≡ Some c → c.result ≡ answer c.arguments) → (seen_together old.rows nodes ≡ Unknown → ⊥)
       → given answer (seen_together old.rows nodes) ≡ Some o
   pub row : IsRewritten old.rows new.rows (main n) (with_last last)
@@ -245,7 +231,7 @@ pub record ComputesCall (value : FnRef → List Value → Value) (answer : List 
   pub answer_typed : (c : Call) → last ≡ Some c → (kept.last ≡ Some c) ⊎ (type_of c.result ≡ t)
 
 -- how computing a node of what is seen of its children ends: it is computed, or there was no memory
-abbrev pub CallComputes : (FnRef → List Value → Value) → (List Value → Value) → Ty → ℕ → Noted → Noted → NodeId → Def → List NodeId → ℕ
+abbrev pub CallComputes : Functions → (List Value → Value) → Ty → ℕ → Noted → Noted → NodeId → Def → List NodeId → ℕ
     → {E : Type 0} → Result Outcome E → Type 0
-CallComputes value answer t round old new n def nodes cost (Ok o) = ComputesCall value answer t round old new n def nodes o cost
-CallComputes value answer t round old new n def nodes cost (Err e) = KeepsAllButCount old new cost
+CallComputes F answer t round old new n def nodes cost (Ok o) = ComputesCall F answer t round old new n def nodes o cost
+CallComputes F answer t round old new n def nodes cost (Err e) = KeepsAllButCount old new cost

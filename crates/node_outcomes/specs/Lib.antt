@@ -1,4 +1,5 @@
 pub mod Meaning
+pub mod Today
 pub mod LastCall
 pub mod Row
 pub mod Choosing

@@ -1,25 +1,34 @@
--- What the maps of a graph mean, as functions of the engine's definitions.
-use Rattle.std.specs.Prelude.{Bool, true, false, ◌&&◌, List, []}
-use Rattle.inc_value.specs.declared.function.FnKind.{FnKind}
-use Rattle.inc_value.specs.declared.function.FnKind.TheVariants as kind
+-- What a keeper's functions mean, as the engine's definitions take it.
+use Rattle.std.specs.Prelude.{◌≡◌, Bool, List}
 use Rattle.inc_value.specs.declared.function.FnRef.{FnRef}
 use Rattle.inc_value.specs.declared.node.NodeId.{NodeId}
-use Rattle.inc_value.specs.declared.value.Value.{Value}
-use Rattle.inc_terms.specs.Term.{Functions, Const}
+use Rattle.inc_terms.specs.Term.{Functions}
+use Rattle.node_arena.specs.Meanings.{SameNames, SameKnown, SameValues}
+use Rattle.node_arena.specs.RightSide.{SameSides}
+use Rattle.node_arena.specs.RightSideLaws.{meaning, ids_of}
+use Rattle.node_arena.specs.declared.functions.Functions.{Ghosts}
 
--- the functions whose maps have these values. No node of today is a bind, so no term is ever asked for
-abbrev pub functions_of : (FnRef → List Value → Value) → Functions
-functions_of value = record { value = value; term = λ f v. Const v }
+-- functions, which of them are known, and the nodes that each of them lists
+pub record Meaning : Type 0 where
+  pub functions : Functions
+  pub known : FnRef → Bool
+  pub ids : FnRef → List NodeId
 
--- no function lists a node: maps never do
-abbrev pub lists_none : FnRef → List NodeId
-lists_none f = []
+module _ {F More : Type 0} (keeper : Ghosts F More) where
+  -- what a keeper's functions give
+  abbrev pub functions_of : F → Functions
+  functions_of s = meaning (keeper.value s) (keeper.right s)
 
--- the kind is that of maps
-abbrev pub is_map : FnKind → Bool
-is_map kind.Map = true
-is_map kind.Rhs = false
+  -- what they mean
+  abbrev pub meaning_of : F → Meaning
+  meaning_of s = record { functions = functions_of s; known = keeper.known s; ids = ids_of (keeper.right s) }
 
--- the maps among the known functions. A node that calls these alone is no bind
-abbrev pub maps_of : (FnRef → Bool) → FnRef → Bool
-maps_of known f = known f && is_map f.id.kind
+  -- the keeper is still sound. Names stand for the functions that they stood for, the same functions are known, maps give what they gave, and right
+  -- sides are made as they were. Nothing more was built or taken
+  pub record KeepsFunctions (old new : F) : Type 0 where
+    pub sound : keeper.is_sound new
+    pub names : SameNames (keeper.named old) (keeper.named new)
+    pub known : SameKnown (keeper.known old) (keeper.known new)
+    pub values : SameValues (keeper.value old) (keeper.value new)
+    pub sides : SameSides (keeper.right old) (keeper.right new)
+    pub tally : keeper.tally new ≡ keeper.tally old

@@ -6,7 +6,8 @@ ghost use Rattle.inc_terms.specs.Depend.{main};
 ghost use Rattle.inc_terms.specs.Evaluate.{folded};
 ghost use Rattle.point_map.specs.Rows.{Holds};
 ghost use Rattle.stabilize_round.specs.Counts.{RoseBy, RoseAtMost};
-ghost use Rattle.node_outcomes.specs.Computing.{AllShow, Calls, FoldFits, KeepsFunctions, noted, value_shown};
+ghost use Rattle.node_outcomes.specs.Computing.{AllShow, Calls, FoldFits, noted, value_shown};
+ghost use Rattle.node_outcomes.specs.Meaning.{KeepsFunctions};
 
 use crate::row::{Progress, keep_fold, keep_map, main_point};
 use crate::sight::{value_of, values_shown};

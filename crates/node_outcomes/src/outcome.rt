@@ -8,9 +8,12 @@ ghost use Rattle.inc_terms.specs.Graph.{Map, Fold};
 ghost use Rattle.point_map.specs.Rows.{Holds};
 ghost use Rattle.node_arena.specs.Arena.{IsLive};
 ghost use Rattle.node_arena.specs.Graph.{AllCallFit};
-ghost use Rattle.node_outcomes.specs.Computing.{CallComputes, Ends, IsKnown, KeepsFunctions, KeepsTypes};
+ghost use Rattle.node_arena.specs.RightSideLaws.{ids_of};
+ghost use Rattle.node_arena.specs.Sound.{IsSound};
+ghost use Rattle.node_outcomes.specs.Computing.{CallComputes, Ends, IsKnown, KeepsTypes};
 ghost use Rattle.node_outcomes.specs.Computing.{FoldFits, ShowsValue, noted};
-ghost use Rattle.node_outcomes.specs.Meaning.{lists_none, maps_of};
+ghost use Rattle.node_outcomes.specs.Meaning.{functions_of, KeepsFunctions};
+ghost use Rattle.node_outcomes.specs.Today.{NoBinds};
 
 use crate::call::{call_fold, call_map};
 use crate::choosing::right_side;
@@ -24,8 +27,8 @@ use std::alloc::{AllocError, Global};
 
 /// What a node gives. A map's or a fold's function is called unless it was last called on the same
 /// values of its children, none of which has cutoff Never and was settled in this round. A node of two
-/// points gives what the right side shows that its change chose, and Invalid where it chose none. All functions of
-/// nodes are known maps, so no node is a bind.
+/// points gives what the right side shows that its change chose, and Invalid where it chose none. No node is
+/// a bind.
 pub fn compute<F: Functions>(
     alloc: Global,
     arena: &Arena,
@@ -38,13 +41,14 @@ pub fn compute<F: Functions>(
     requires types { KeepsTypes arena.now rows.old }
     requires live { IsLive arena.now node }
     requires sound { F.is_sound functions.old }
-    requires fit { AllCallFit (maps_of (F.known functions.old)) lists_none arena.now }
-    ensures computed { Ends (F.value functions.old) arena.now round
+    requires fit { AllCallFit (F.known functions.old) (ids_of (F.right functions.old)) arena.now }
+    requires arena { IsSound arena.now }
+    requires no_binds { NoBinds arena.now }
+    ensures computed { Ends (functions_of F.Functions functions.old) arena.now round
         (noted rows.old ran.old.items (F.calls functions.old))
         (noted rows.new ran.new.items (F.calls functions.new)) node result }
     ensures functions { KeepsFunctions F.Functions functions.old functions.new }
 {
-    arena.is_sound();
     let row = arena.get(node).unwrap();
     match &row.def {
         Def::Const(value) | Def::Var(value) => match value.copy(alloc) {
@@ -90,7 +94,7 @@ fn compute_map<F: Functions>(
     requires kind { f.now.id.kind ≡ FnKind.Map }
     requires fit { (values : List Value) → AllZip (ShowsValue rows.old) kids.now values
         → HaveTypes values f.now.sig.takes }
-    ensures computed { CallComputes (F.value functions.old) (F.value functions.old f.now) f.now.sig.gives round
+    ensures computed { CallComputes (functions_of F.Functions functions.old) (F.value functions.old f.now) f.now.sig.gives round
         (noted rows.old ran.old.items (F.calls functions.old))
         (noted rows.new ran.new.items (F.calls functions.new)) node (Map f.now kids.now) kids.now 1 result }
     ensures functions { KeepsFunctions F.Functions functions.old functions.new }
@@ -120,7 +124,7 @@ fn compute_fold<F: Functions>(
     requires kind { f.now.id.kind ≡ FnKind.Map }
     requires fit { (values : List Value) → AllZip (ShowsValue rows.old) kids.now values
         → FoldFits f.now initial.now values }
-    ensures computed { CallComputes (F.value functions.old) (folded (F.value functions.old f.now) initial.now)
+    ensures computed { CallComputes (functions_of F.Functions functions.old) (folded (F.value functions.old f.now) initial.now)
         f.now.sig.gives round (noted rows.old ran.old.items (F.calls functions.old))
         (noted rows.new ran.new.items (F.calls functions.new)) node (Fold f.now initial.now kids.now) kids.now
         (length kids.now) result }

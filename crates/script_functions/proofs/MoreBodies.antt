@@ -15,7 +15,7 @@ use Rattle.inc_value.specs.declared.ty.Ty.TheVariants as ty
 use Rattle.inc_value.specs.declared.value.Value.{Value}
 use Rattle.node_arena.specs.Building.{Use}
 use Rattle.node_arena.specs.Listing.{Listed}
-use Rattle.node_arena.specs.Meanings.{KeepsKnown}
+use Rattle.node_arena.specs.Meanings.{KeepsKnown, SameKnown}
 use Rattle.node_arena.specs.RightSide.{RightSide, no_side, AreUsable, IsLawful, IsUsable, KeepsMeanings, Means}
 use Rattle.script_functions.specs.Keeping.{Maker, same_signature, by_kind, has_types}
 use Rattle.script_functions.specs.Keeping.{is_known, side_made, side_in, AreSound, brought}
@@ -62,21 +62,17 @@ old_or_last [] x y (suc n) is = absurd cc
 old_or_last (z ∷ zs) x y zero is = inl is
 old_or_last (z ∷ zs) x y (suc n) is = old_or_last zs x y n is
 
--- ---- more maps
+-- ---- the same maps
 
-module _ (maps maps' : FnRef → Bool) (keeps : KeepsKnown maps maps') (sides : List Maker) where
-  more_at : (k : FnKind) (f : FnRef) (b : Bool) → by_kind k (maps f) b ≡ true → by_kind k (maps' f) b ≡ true
-  more_at kind.Map f b h = keeps f h
-  more_at kind.Rhs f b h = h
+module _ (maps maps' : FnRef → Bool) (same : SameKnown maps maps') (sides : List Maker) where
+  pub same_maps : SameKnown (is_known maps sides) (is_known maps' sides)
+  same_maps f = ap (λ (b : Bool). by_kind f.id.kind b (has_types (slice_get sides f.id.number) f.sig)) (same f)
 
-  pub more_maps : KeepsKnown (is_known maps sides) (is_known maps' sides)
-  more_maps f h = more_at f.id.kind f (has_types (slice_get sides f.id.number) f.sig) h
-
-  pub more_maps_sound : AreSound maps sides → AreSound maps' sides
-  more_maps_sound sound = record {
+  pub same_maps_sound : AreSound maps sides → AreSound maps' sides
+  same_maps_sound sound = record {
     lawful = sound.lawful;
     usable = λ i m is u among. (let h = sound.usable i m is u among in
-        record { is_known = more_maps u.function h.is_known; within = h.within; size = h.size });
+        record { is_known = subst IsTrue (sym (same_maps u.function)) h.is_known; within = h.within; size = h.size });
   }
 
 -- ---- one more function of right sides

@@ -144,6 +144,7 @@ module _ (body : spec.Body) (start : Building) (left : Value) (captures : List N
         types = way.types ++ x.ty ∷ [];
         taken = way.taken + size;
         grows = grows;
+        sound = noted.adds.sound;
         made_so_far = rw noted.noted (record {
           read = zip_more (Reads b' captures) made way.terms noted.id _ so_far.read reads;
           fit = zip_more (Fits b'.arena) made way.types noted.id x.ty so_far.fit fits;
@@ -205,6 +206,7 @@ module _ (body : spec.Body) (start : Building) (left : Value) (captures : List N
         taken = 0 + 1;
         grows = grown_more uses start start b 0 (grown_none uses start) noted.id (graph.Const left) (type_of left) adds
             (value_any left) 1 (omega arith);
+        sound = adds.sound;
         made_so_far = rw (noted.noted, f.2) (record {
           read = (record { given = given_added start b noted.id _ _ adds; unfolds = in_added start b noted.id _ _ adds }, tt);
           fit = (rw (← f.3.type) (fits_added start b noted.id _ _ adds), tt);

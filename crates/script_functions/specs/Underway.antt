@@ -11,6 +11,7 @@ use Rattle.inc_terms.specs.Unfold.{Unfolds}
 use Rattle.inc_terms.specs.Within.{Given}
 use Rattle.node_arena.specs.Building.{Building, Adds, Use, Grows}
 use Rattle.node_arena.specs.Graph.{graph_of}
+use Rattle.node_arena.specs.Sound.{IsSound}
 use Rattle.node_arena.specs.Typing.{Fits}
 use Rattle.script_functions.specs.Bodies.{Body, captured, line_types, all_terms, size_of}
 use Rattle.script_functions.specs.Lines.{AreTyped, sizes, terms_after, uses_of}
@@ -37,13 +38,14 @@ pub record IsNoted (old new : Building) (made made' : List NodeId) (def : Def) (
   pub adds : Adds old new id def t
   pub noted : made' ≡ made ++ id ∷ []
 
--- the lines before those that are left were built: together they are all of the body's
+-- the lines before those that are left were built: together they are all of the body's; the nodes are as every arena keeps them
 pub record IsUnderWay (start b : Building) (body : Body) (left : Value) (captures made : List NodeId)
     (todo : List TypedLine) : Type 0 where
   pub terms : List Term
   pub types : List Ty
   pub taken : ℕ
   pub grows : Grows (uses_of body.draft.lines) start b taken
+  pub sound : IsSound b.arena
   pub made_so_far : AreMade b captures made terms types
   pub typed : AreTyped body.draft.listed (captured body.draft.sig.takes) types todo
   pub called : (u : Use) → Among u (uses_of todo) → Among u (uses_of body.draft.lines)

@@ -248,7 +248,6 @@ fn build_lines(
     let mut made = Vec::new(alloc);
     add_left(alloc, left, &mut made, builder)?;
     for row in lines {
-        builder.is_sound();
         add_next(alloc, draft.listed(), captures, &mut made, row, builder)?;
     }
     Ok(made)

@@ -1,5 +1,5 @@
 -- A stabilize that was accepted is one of the script.
-use Rattle.std.proofs.Common.{◌≡◌, inl, ℕ, ◌+◌, suc, Bool, List, [], ◌∷◌, map, Option, None, Some, refl, ap, sym, subst, ◌∙◌, arith, slice_get}
+use Rattle.std.proofs.Common.{◌≡◌, inl, ℕ, ◌+◌, suc, List, [], ◌∷◌, map, Option, None, Some, refl, ap, sym, subst, ◌∙◌, arith, slice_get}
 use Rattle.inc_value.specs.Choice.{and_then}
 use Rattle.inc_value.specs.declared.function.FnRef.{FnRef}
 use Rattle.inc_value.specs.declared.node.NodeId.{NodeId}
@@ -7,19 +7,19 @@ use Rattle.inc_value.specs.declared.node.ObsId.{ObsId}
 use Rattle.inc_value.specs.declared.node.Point.{Point}
 use Rattle.inc_value.specs.declared.value.Value.{Value as GraphValue}
 use Rattle.inc_terms.specs.Depend.{Depends, none_died}
-use Rattle.inc_terms.specs.Evaluate.{NodeGives}
 use Rattle.inc_terms.specs.Local.{Exact}
 use Rattle.inc_terms.specs.Term.{Functions}
 use Rattle.inc_terms.specs.Within.{Given}
+use Rattle.node_outcomes.specs.Meaning.{Meaning}
 use Rattle.graph.specs.Sound.{IsSound, IsWhole}
-use Rattle.graph.specs.Stabilizes.{Stabilizes as GraphStabilizes, IsObserved}
+use Rattle.graph.proofs.Still.{Stabilizes as GraphStabilizes, IsObserved}
 use Rattle.graph.specs.Standing.{Standing, graph, in_use, node_at, AreRooted}
 use Rattle.graph.specs.declared.observer.Observer.{Observer as Looking}
 use Rattle.node_arena.specs.Arena.{Arena, row_at}
 use Rattle.node_arena.specs.Graph.{graph_of, NoScopes}
 use Rattle.stabilize_round.specs.Calling.{costs_of}
 use Rattle.stabilize_round.specs.Counts.{RoseBy}
-use Rattle.node_outcomes.specs.Meaning.{functions_of}
+use Rattle.script_graph.specs.Today.{maps_alone}
 use Rattle.script_model.specs.Blocked.{InTheWay, on_cycle, too_deep}
 use Rattle.script_model.specs.Check.{is_among}
 use Rattle.script_model.specs.Formula.{State, Entry, Body, Formula, Observer, Meanings, meanings_of, Literal, Name, Apply, Fold, Variable, Computed}
@@ -81,9 +81,9 @@ entries_become F before s after plain = all_become F before s after 0 s.entries
 
 -- ---- the stabilize
 
-module _ (named : List ℕ → Option FnRef) (value : FnRef → List GraphValue → GraphValue) (known : FnRef → Bool) (m : Moment) (k : Kept)
+module _ (named : List ℕ → Option FnRef) (value : FnRef → List GraphValue → GraphValue) (W : Meaning) (m : Moment) (k : Kept)
     (g : Standing (Unit {0})) (called calls : ℕ) (stands : Stands (meanings_of named value) k m) (unbroken : m.broken ≡ None)
-    (sound : IsSound known k.graph)
+    (sound : IsSound W k.graph)
     (done : GraphStabilizes (graph_functions (meanings_of named value)) k.graph g)
     (rose : RoseBy called (costs_of (graph k.graph) g.ran) calls) where
   abbrev F : Meanings
@@ -116,7 +116,7 @@ module _ (named : List ℕ → Option FnRef) (value : FnRef → List GraphValue 
   holds : Holds F k m
   holds = stands.matches.holds unbroken
 
-  whole : IsWhole known k.graph
+  whole : IsWhole W k.graph
   whole = sound.whole done.was
 
   no_scopes : NoScopes nodes_now
@@ -149,9 +149,9 @@ module _ (named : List ℕ → Option FnRef) (value : FnRef → List GraphValue 
   -- ---- calls
 
   due : WithinWork F before s (costs_of (graph_of nodes_now) ran)
-  due = due_is_covered named value known m k stands unbroken sound whole (costs_of (graph_of nodes_now) ran)
-      (done.work (side_of k.graph) (observed_by k.graph) (stood named value known m k stands unbroken sound whole)
-      (observed_among named value known m k stands unbroken sound whole) (costs_of (graph_of nodes_now) ran) (omega arith))
+  due = due_is_covered named value W m k stands unbroken sound whole (costs_of (graph_of nodes_now) ran)
+      (done.work (side_of k.graph) (observed_by k.graph) (stood named value W m k stands unbroken sound whole)
+      (observed_among named value W m k stands unbroken sound whole) (costs_of (graph_of nodes_now) ran) (omega arith))
 
   -- ---- observers
 
@@ -161,9 +161,7 @@ module _ (named : List ℕ → Option FnRef) (value : FnRef → List GraphValue 
       let looks : node_at g.observers o ≡ Some (node_in k.nodes y.target) =
       subst (λ (os : List Looking). node_at os o ≡ Some (node_in k.nodes y.target)) (sym done.observers) w.looks in
       let q = done.shows o (node_in k.nodes y.target) looks in
-      let gives : NodeGives (graph_functions F) (graph_of nodes_now) (node_in k.nodes y.target) q.0 =
-      subst (λ (a : Arena). NodeGives (graph_functions F) (graph_of a) (node_in k.nodes y.target) q.0) done.nodes q.2 in
-      let p = names_agree x (represented_fits named value s k holds.represents) y.target q.0 gives in (
+      let p = names_agree x (represented_fits named value s k holds.represents) y.target q.0 q.2 in (
         p.0,
         record {
           gives = p.2;
@@ -272,15 +270,15 @@ module _ (named : List ℕ → Option FnRef) (value : FnRef → List GraphValue 
 
 module _ {A : Type 0} where
   -- a stabilize of a session's graph that was accepted is one of its script
-  pub session_accepted : (named : List ℕ → Option FnRef) (value : FnRef → List GraphValue → GraphValue) (known : FnRef → Bool) (k : Kept)
+  pub session_accepted : (named : List ℕ → Option FnRef) (value : FnRef → List GraphValue → GraphValue) (W : Meaning) (k : Kept)
       (old new : Standing A) (called calls : ℕ) → k.graph ≡ without_functions old → k.broken ≡ None
-      → IsSound known old → GraphStabilizes (functions_of (seen_value value)) old new
+      → IsSound W old → GraphStabilizes (maps_alone (seen_value value)) old new
       → RoseBy called (costs_of (graph old) new.ran) calls → (m : Moment) → Stands (meanings_of named value) k m
       → IsAccepted (meanings_of named value) m (record k { accepted = k.accepted + 1; graph = without_functions new }) called calls
-  session_accepted named value known k old new called calls same unbroken sound done rose m stands =
-      accepted_stands named value known m k (without_functions new) called calls stands (stands.matches.broken ∙ unbroken)
-      (subst (λ (h : Standing (Unit {0})). IsSound known h) (sym same) (sound_without known old sound))
+  session_accepted named value W k old new called calls same unbroken sound done rose m stands =
+      accepted_stands named value W m k (without_functions new) called calls stands (stands.matches.broken ∙ unbroken)
+      (subst (λ (h : Standing (Unit {0})). IsSound W h) (sym same) (sound_without W old sound))
       (subst (λ (h : Standing (Unit {0})). GraphStabilizes (graph_functions (meanings_of named value)) h (without_functions new)) (sym same)
       (subst (λ (M : Functions). GraphStabilizes M (without_functions old) (without_functions new)) (sym (functions_are named value))
-      (stabilizes_without (functions_of (seen_value value)) old new done)))
+      (stabilizes_without (maps_alone (seen_value value)) old new done)))
       (subst (λ (h : Standing (Unit {0})). RoseBy called (costs_of (graph h) new.ran) calls) (sym same) rose)

@@ -8,7 +8,7 @@ use Rattle.inc_terms.specs.Graph.{Graph, Row, Def}
 use Rattle.inc_terms.specs.Term.{Functions}
 use Rattle.inc_terms.specs.Work.{cost_of}
 use Rattle.graph.specs.Standing.{Standing, graph}
-use Rattle.graph.specs.Stabilizes.{HasCalledMet}
+use Rattle.graph.proofs.Still.{HasCalledMet}
 use Rattle.node_arena.specs.Arena.{Arena}
 use Rattle.script_model.specs.Formula.{State}
 use Rattle.script_model.specs.Run.{most_calls}

@@ -1,8 +1,10 @@
 -- A stabilize that was refused for a cycle is one of the script, and a plain script has none.
-use Rattle.std.proofs.Common.{◌≡◌, ◌⊎◌, inl, inr, ℕ, zero, suc, ◌<◌, Bool, true, List, [], ◌∷◌, ◌++◌, length, Option, None, Some, option_map, refl, ap, sym, subst, ◌∙◌, arith, slice_get}
+use Rattle.std.proofs.Common.{◌≡◌, ◌⊎◌, inl, inr, ℕ, zero, suc, ◌<◌, true, List, [], ◌∷◌, ◌++◌, length, Option, None, Some, option_map, refl, ap, sym, subst, ◌∙◌, arith, slice_get}
 use Rattle.std.proofs.lemmas.Option.{slice_get_within, slice_get-map}
+use Rattle.node_outcomes.specs.Meaning.{Meaning}
 use Rattle.graph.specs.Sound.{IsSound, IsWhole}
-use Rattle.graph.specs.Stabilizes.{IsRefusedFor, HasCalledMet, IsListed, IsLawful, ComesBack}
+use Rattle.graph.specs.Stabilizes.{ComesBack}
+use Rattle.graph.proofs.Still.{IsRefusedFor, HasCalledMet, IsListed, IsLawful}
 use Rattle.graph.specs.Standing.{Standing}
 use Rattle.graph.specs.Fault.{kept_of}
 use Rattle.graph.specs.declared.fault.Kept.TheVariants as fault
@@ -15,7 +17,7 @@ use Rattle.inc_value.specs.declared.value.Value.{Value as GraphValue}
 use Rattle.inc_terms.specs.Depend.{main}
 use Rattle.inc_terms.specs.Term.{Functions}
 use Rattle.node_arena.specs.Graph.{graph_of}
-use Rattle.node_outcomes.specs.Meaning.{functions_of}
+use Rattle.script_graph.specs.Today.{maps_alone}
 use Rattle.script_model.specs.Blocked.{NameReads, EachReads, LastIs, IsCycle, OnCycle}
 use Rattle.script_model.specs.Check.{Declared, declared_of, target_of_body}
 use Rattle.script_model.specs.Formula as script
@@ -202,9 +204,9 @@ first_on_cycle F s n (a ∷ names) cycle = (a, cycle.0.0, reach_last F s n a nam
 
 -- ---- the stabilize
 
-module _ (named : List ℕ → Option FnRef) (value : FnRef → List GraphValue → GraphValue) (known : FnRef → Bool) (m : Moment) (k : Kept)
-    (stands : Stands (meanings_of named value) k m) (unbroken : m.broken ≡ None) (sound : IsSound known k.graph)
-    (whole : IsWhole known k.graph) where
+module _ (named : List ℕ → Option FnRef) (value : FnRef → List GraphValue → GraphValue) (W : Meaning) (m : Moment) (k : Kept)
+    (stands : Stands (meanings_of named value) k m) (unbroken : m.broken ≡ None) (sound : IsSound W k.graph)
+    (whole : IsWhole W k.graph) where
   abbrev F : Meanings
   F = meanings_of named value
 
@@ -220,7 +222,7 @@ module _ (named : List ℕ → Option FnRef) (value : FnRef → List GraphValue 
       → Passes (beside F s k) p (q ∷ rest) names → (first : ℕ) × (more : List ℕ) × (names ≡ first ∷ more) × IsCycle F s (first ∷ (more ++ first ∷ []))
       × Every (λ n. Met F m.settled s (Named n)) names
   passed_cycle p q rest names listed back passes =
-      let covered = meeting_is_covered named value known m k stands unbroken sound whole p (listed.met p refl) in
+      let covered = meeting_is_covered named value W m k stands unbroken sound whole p (listed.met p refl) in
       cycles_are_named (beside F s k) (represented_fits named value s k holds.represents) stands.keep stands.valid.1
       (nodes_apart F s k holds.represents) (parts_apart F s k holds.represents) m.settled (valid_grabs F m.settled stands.valid.0)
       holds.settled.still.formulas p q rest names covered listed.walk
@@ -278,13 +280,13 @@ module _ (named : List ℕ → Option FnRef) (value : FnRef → List GraphValue 
 
 -- ---- over a graph with its functions
 
-module _ {A : Type 0} (named : List ℕ → Option FnRef) (value : FnRef → List GraphValue → GraphValue) (known : FnRef → Bool) (k : Kept)
-    (old new : Standing A) (same : k.graph ≡ without_functions old) (unbroken : k.broken ≡ None) (sound : IsSound known old)
-    (done : IsRefusedFor (functions_of (seen_value value)) old new fault.Cycle) (m : Moment) (stands : Stands (meanings_of named value) k m) where
-  kept_sound : IsSound known k.graph
-  kept_sound = subst (λ (h : Standing (Unit {0})). IsSound known h) (sym same) (sound_without known old sound)
+module _ {A : Type 0} (named : List ℕ → Option FnRef) (value : FnRef → List GraphValue → GraphValue) (W : Meaning) (k : Kept)
+    (old new : Standing A) (same : k.graph ≡ without_functions old) (unbroken : k.broken ≡ None) (sound : IsSound W old)
+    (done : IsRefusedFor (maps_alone (seen_value value)) old new fault.Cycle) (m : Moment) (stands : Stands (meanings_of named value) k m) where
+  kept_sound : IsSound W k.graph
+  kept_sound = subst (λ (h : Standing (Unit {0})). IsSound W h) (sym same) (sound_without W old sound)
 
-  kept_whole : IsWhole known k.graph
+  kept_whole : IsWhole W k.graph
   kept_whole = kept_sound.whole (ap (λ (h : Standing (Unit {0})). h.refused) same ∙ done.was)
 
   kept_lawful : IsLawful (graph_functions (meanings_of named value)) k.graph done.met
@@ -294,15 +296,15 @@ module _ {A : Type 0} (named : List ℕ → Option FnRef) (value : FnRef → Lis
 
   -- a stabilize of a session's graph that was refused for a cycle is one of its script
   pub session_circular : (targets : List ℕ) (called calls : ℕ) → CyclePasses k new.refused targets
-      → HasCalledMet (functions_of (seen_value value)) old called calls → (first : ℕ) × (more : List ℕ) × (targets ≡ first ∷ more)
+      → HasCalledMet (maps_alone (seen_value value)) old called calls → (first : ℕ) × (more : List ℕ) × (targets ≡ first ∷ more)
       × IsCircular (meanings_of named value) m (record k { broken = Some 20; graph = without_functions new }) (first ∷ (more ++ first ∷ [])) called calls
   session_circular targets called calls passes few =
-      circular_met named value known m k stands (stands.matches.broken ∙ unbroken) kept_sound kept_whole (without_functions new) called calls
-      (subst (λ (h : Standing (Unit {0})). HasCalledMet (functions_of (seen_value value)) h called calls) (sym same)
-      (few_without (functions_of (seen_value value)) old called calls few)) new.refused done.met targets done.broken done.is_cause
+      circular_met named value W m k stands (stands.matches.broken ∙ unbroken) kept_sound kept_whole (without_functions new) called calls
+      (subst (λ (h : Standing (Unit {0})). HasCalledMet (maps_alone (seen_value value)) h called calls) (sym same)
+      (few_without (maps_alone (seen_value value)) old called calls few)) new.refused done.met targets done.broken done.is_cause
       kept_lawful passes
 
   -- and where the script is plain there is none
   pub session_no_cycle : ⊥
   session_no_cycle =
-      no_cycle named value known m k stands (stands.matches.broken ∙ unbroken) kept_sound kept_whole done.met kept_lawful done.is_cause
+      no_cycle named value W m k stands (stands.matches.broken ∙ unbroken) kept_sound kept_whole done.met kept_lawful done.is_cause

@@ -4,7 +4,7 @@ use Rattle.inc_value.specs.declared.function.FnRef.{FnRef}
 use Rattle.inc_value.specs.declared.value.Value.{Value as GraphValue}
 use Rattle.inc_terms.specs.Term.{Functions}
 use Rattle.graph.specs.Standing.{Standing}
-use Rattle.graph.specs.Stabilizes.{IsRefusedFor, HasCalledMet, IsLawful}
+use Rattle.graph.proofs.Still.{IsRefusedFor, HasCalledMet, IsLawful}
 use Rattle.graph.specs.Fault.{kept_of}
 use Rattle.graph.specs.declared.fault.Kept.TheVariants as fault
 use Rattle.script_model.specs.Formula.{Meanings}
@@ -14,7 +14,7 @@ use Rattle.script_graph.specs.Stabilizing.{IsCutShort}
 use Rattle.script_graph.specs.State.{MatchesMoment}
 use Rattle.script_graph.proofs.Calling.{few_calls}
 use Rattle.script_graph.proofs.Without.{few_without}
-use Rattle.node_outcomes.specs.Meaning.{functions_of}
+use Rattle.script_graph.specs.Today.{maps_alone}
 use Rattle.stabilizer.specs.declared.refused.Refused.{Refused}
 use Rattle.stabilizer.specs.declared.refused.Refused.TheVariants as refused
 
@@ -59,6 +59,6 @@ module _ {A : Type 0} where
       (subst (λ (h : Standing (Unit {0})). HasCalledMet M h called calls) (sym same) (few_without M old called calls few))
 
   -- no graph of a session is refused so
-  pub never_for_full : (value : FnRef → List GraphValue → GraphValue) (old new : Standing A) → IsRefusedFor (functions_of value) old new fault.Full → ⊥
+  pub never_for_full : (value : FnRef → List GraphValue → GraphValue) (old new : Standing A) → IsRefusedFor (maps_alone value) old new fault.Full → ⊥
   never_for_full value old new done =
-      not_full (functions_of value) old done.met done.lawful done.is_cause
+      not_full (maps_alone value) old done.met done.lawful done.is_cause

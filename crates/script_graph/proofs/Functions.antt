@@ -10,7 +10,7 @@ use Rattle.node_arena.specs.Meanings.{SameNames, SameValues}
 use Rattle.script_model.specs.Formula.{Meanings, meanings_of}
 use Rattle.script_model.specs.Values.{Value, Int, Bool, Text, Reference, type_of, to_engine, from_engine, unnamed, unreferred, seen_value}
 use Rattle.script_graph.specs.Represents.{graph_functions}
-use Rattle.node_outcomes.specs.Meaning.{functions_of}
+use Rattle.script_graph.specs.Today.{maps_alone}
 use Rattle.transfer.specs.Both.{graph_value}
 
 -- ---- values there and back
@@ -63,8 +63,8 @@ module _ (named : List ℕ → Option FnRef) (value : FnRef → List GraphValue 
       ∙ ap (λ (xs : List GraphValue). unreferred (value f xs)) (hidden_all ws)
 
   -- the graph's functions give what those of the library give, for values whose nodes they don't see
-  pub functions_are : graph_functions (meanings_of named value) ≡ functions_of (seen_value value)
-  functions_are = ap functions_of (fun_ext (λ f. fun_ext (λ ws. value_same f ws)))
+  pub functions_are : graph_functions (meanings_of named value) ≡ maps_alone (seen_value value)
+  functions_are = ap maps_alone (fun_ext (λ f. fun_ext (λ ws. value_same f ws)))
 
   -- they give what those of the script give
   pub functions_fit : (nodes : ℕ → NodeId) (f : FnRef) (vs : List Value)

@@ -13,7 +13,7 @@ use Rattle.inc_terms.specs.Local.{PartExact, Exact, shown_of as shown_as}
 use Rattle.inc_terms.specs.Term.{Functions}
 use Rattle.inc_terms.specs.Work.{cost_of, predicate_cost, predicate_kids}
 use Rattle.graph.specs.Standing.{Standing, graph, in_use, shown_of, called_last}
-use Rattle.graph.specs.Stabilizes.{Stabilizes, IsObserved}
+use Rattle.graph.proofs.Still.{Stabilizes, IsObserved}
 use Rattle.node_arena.specs.Arena.{Arena, row_at}
 use Rattle.node_arena.specs.Graph.{NoScopes}
 use Rattle.script_model.specs.Formula.{State, Meanings}

@@ -1,5 +1,5 @@
 -- What a session keeps of the last accepted stabilize is what the laws of calls ask for.
-use Rattle.std.proofs.Common.{◌≡◌, ◌⊎◌, inl, inr, ℕ, zero, suc, ◌<◌, ◌≤◌, Bool, true, List, [], ◌∷◌, map, length, Option, None, Some, IsSome, refl, ap, sym, subst, ◌∙◌, arith, slice_get}
+use Rattle.std.proofs.Common.{◌≡◌, ◌⊎◌, inl, inr, ℕ, zero, suc, ◌<◌, ◌≤◌, true, List, [], ◌∷◌, map, length, Option, None, Some, IsSome, refl, ap, sym, subst, ◌∙◌, arith, slice_get}
 use Rattle.inc_value.specs.Choice.{Among, Every, and_then}
 use Rattle.inc_value.specs.declared.function.FnRef.{FnRef}
 use Rattle.inc_value.specs.declared.node.NodeId.{NodeId}
@@ -10,8 +10,10 @@ use Rattle.inc_terms.specs.Depend.{none_died}
 use Rattle.inc_terms.specs.Need.{Observing, Freezing, nodes_of, Held, Met as GraphMet}
 use Rattle.inc_terms.specs.Work.{WithinWork as GraphWork}
 use Rattle.inc_terms.proofs.Plan.{among_left, among_map}
+use Rattle.node_outcomes.specs.Meaning.{Meaning}
 use Rattle.graph.specs.Sound.{IsSound, IsWhole}
-use Rattle.graph.specs.Stabilizes.{StoodBeside, IsMet}
+use Rattle.graph.specs.Stabilizes.{StoodBeside}
+use Rattle.graph.proofs.Still.{IsMet}
 use Rattle.graph.specs.Standing.{in_use, node_at, IsNeeded, cutoff_of}
 use Rattle.map_nodes.specs.declared.cutoff.Cutoff.{Cutoff}
 use Rattle.map_nodes.specs.declared.cutoff.Cutoff.TheVariants.{Equal, Never}
@@ -130,9 +132,9 @@ not_never : (c : Cutoff) → c ≡ Equal → is_never c ≡ true → ⊥
 not_never Equal e never = cc
 not_never Never e never = cc
 
-module _ (named : List ℕ → Option FnRef) (value : FnRef → List GraphValue → GraphValue) (known : FnRef → Bool) (m : Moment) (k : Kept)
-    (stands : Stands (meanings_of named value) k m) (unbroken : m.broken ≡ None) (sound : IsSound known k.graph)
-    (whole : IsWhole known k.graph) where
+module _ (named : List ℕ → Option FnRef) (value : FnRef → List GraphValue → GraphValue) (W : Meaning) (m : Moment) (k : Kept)
+    (stands : Stands (meanings_of named value) k m) (unbroken : m.broken ≡ None) (sound : IsSound W k.graph)
+    (whole : IsWhole W k.graph) where
   abbrev F : Meanings
   F = meanings_of named value
 

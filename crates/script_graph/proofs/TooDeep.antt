@@ -1,8 +1,9 @@
 -- A stabilize that was refused for depth is one of the script.
-use Rattle.std.proofs.Common.{◌≡◌, ◌⊎◌, inl, inr, ℕ, ◌<◌, Bool, true, List, [], ◌∷◌, length, Option, None, Some, refl, ap, sym, subst, ◌∙◌, arith}
+use Rattle.std.proofs.Common.{◌≡◌, ◌⊎◌, inl, inr, ℕ, ◌<◌, true, List, [], ◌∷◌, length, Option, None, Some, refl, ap, sym, subst, ◌∙◌, arith}
 use Rattle.std.proofs.lemmas.Option.{slice_get_within}
+use Rattle.node_outcomes.specs.Meaning.{Meaning}
 use Rattle.graph.specs.Sound.{IsSound, IsWhole}
-use Rattle.graph.specs.Stabilizes.{IsRefusedFor, HasCalledMet, IsListed, IsLawful}
+use Rattle.graph.proofs.Still.{IsRefusedFor, HasCalledMet, IsListed, IsLawful}
 use Rattle.graph.specs.Standing.{Standing}
 use Rattle.graph.specs.Fault.{kept_of}
 use Rattle.graph.specs.declared.fault.Kept.TheVariants as fault
@@ -30,7 +31,7 @@ use Rattle.script_graph.proofs.Owner.{IsTooDeepAt, deep_owner, told_node}
 use Rattle.script_graph.proofs.Owning.{aged_item}
 use Rattle.script_graph.proofs.Remembering.{meeting_is_covered}
 use Rattle.script_graph.proofs.Without.{sound_without, few_without, refused_without}
-use Rattle.node_outcomes.specs.Meaning.{functions_of}
+use Rattle.script_graph.specs.Today.{maps_alone}
 use Rattle.stabilizer.specs.declared.refused.Refused.{Refused}
 use Rattle.stabilizer.specs.declared.refused.Refused.TheVariants as refused
 use Rattle.transfer.specs.Both.{Both}
@@ -78,9 +79,9 @@ holds_owner target (Place owner path) e = e
 
 -- ---- the stabilize
 
-module _ (named : List ℕ → Option FnRef) (value : FnRef → List GraphValue → GraphValue) (known : FnRef → Bool) (m : Moment) (k : Kept)
-    (stands : Stands (meanings_of named value) k m) (unbroken : m.broken ≡ None) (sound : IsSound known k.graph)
-    (whole : IsWhole known k.graph) where
+module _ (named : List ℕ → Option FnRef) (value : FnRef → List GraphValue → GraphValue) (W : Meaning) (m : Moment) (k : Kept)
+    (stands : Stands (meanings_of named value) k m) (unbroken : m.broken ≡ None) (sound : IsSound W k.graph)
+    (whole : IsWhole W k.graph) where
   abbrev F : Meanings
   F = meanings_of named value
 
@@ -113,7 +114,7 @@ module _ (named : List ℕ → Option FnRef) (value : FnRef → List GraphValue 
       → NoRepeats points → (p : Point) → StartsAt points p → IsTooDeepAt x before p.node
   listed_is_deep [] listed long once p starts = absurd starts
   listed_is_deep (q ∷ rest) listed long once p starts =
-      let covered = meeting_is_covered named value known m k stands unbroken sound whole q (listed.met q refl) in
+      let covered = meeting_is_covered named value W m k stands unbroken sound whole q (listed.met q refl) in
       let i = deep_has_item x fits stands.keep stands.valid.1 before grabs_before holds.settled.still.formulas grabs_stay q rest covered
       (omega (arith, long)) listed.walk once in
       let at = told_node x sound.flat holds.represents.plain q i.0 i.2 in
@@ -174,37 +175,37 @@ chain_begins M g (Some (refused.Height points)) (refused.Height others) e cause 
 chain_begins M g (Some met) r e cause lawful = absurd (cc)
 
 module _ {A : Type 0} where
-  module _ (named : List ℕ → Option FnRef) (value : FnRef → List GraphValue → GraphValue) (known : FnRef → Bool) (k : Kept) (old new : Standing A)
+  module _ (named : List ℕ → Option FnRef) (value : FnRef → List GraphValue → GraphValue) (W : Meaning) (k : Kept) (old new : Standing A)
       (same : k.graph ≡ without_functions old) (unbroken : k.broken ≡ None)
-      (sound : IsSound known old)
-      (done : IsRefusedFor (functions_of (seen_value value)) old new fault.Height) where
-    kept_sound : IsSound known k.graph
-    kept_sound = subst (λ (h : Standing (Unit {0})). IsSound known h) (sym same) (sound_without known old sound)
+      (sound : IsSound W old)
+      (done : IsRefusedFor (maps_alone (seen_value value)) old new fault.Height) where
+    kept_sound : IsSound W k.graph
+    kept_sound = subst (λ (h : Standing (Unit {0})). IsSound W h) (sym same) (sound_without W old sound)
 
-    kept_whole : IsWhole known k.graph
+    kept_whole : IsWhole W k.graph
     kept_whole = kept_sound.whole (ap (λ (h : Standing (Unit {0})). h.refused) same ∙ done.was)
 
     kept_done : IsRefusedFor (graph_functions (meanings_of named value)) k.graph (without_functions new) fault.Height
     kept_done =
         subst (λ (h : Standing (Unit {0})). IsRefusedFor (graph_functions (meanings_of named value)) h (without_functions new) fault.Height) (sym same)
         (subst (λ (M : Functions). IsRefusedFor M (without_functions old) (without_functions new) fault.Height) (sym (functions_are named value))
-        (refused_without (functions_of (seen_value value)) old new fault.Height done))
+        (refused_without (maps_alone (seen_value value)) old new fault.Height done))
 
     begins : (p : Point) × ChainBegins new.refused p
-    begins = chain_begins (functions_of (seen_value value)) old new.refused done.met done.broken done.is_cause done.lawful
+    begins = chain_begins (maps_alone (seen_value value)) old new.refused done.met done.broken done.is_cause done.lawful
 
     -- some declaration's node isn't older than the first of the chain
     pub session_not_all_older : ((p : Point) → ChainBegins new.refused p → AllOlder k.nodes p.node) → (m : Moment)
         → Stands (meanings_of named value) k m → ⊥
-    session_not_all_older all m stands = not_all_older named value known m k stands (stands.matches.broken ∙ unbroken) kept_sound kept_whole
+    session_not_all_older all m stands = not_all_older named value W m k stands (stands.matches.broken ∙ unbroken) kept_sound kept_whole
         (without_functions new) kept_done begins.0 begins.1 (all begins.0 begins.1)
 
     -- a stabilize of a session's graph that was refused for depth is one of its script
     pub session_too_deep : (target called calls : ℕ) → ((p : Point) → ChainBegins new.refused p → IsFirstNotOlder k.nodes p.node target)
-        → HasCalledMet (functions_of (seen_value value)) old called calls → (m : Moment) → Stands (meanings_of named value) k m
+        → HasCalledMet (maps_alone (seen_value value)) old called calls → (m : Moment) → Stands (meanings_of named value) k m
         → IsTooDeep (meanings_of named value) m (record k { broken = Some 21; graph = without_functions new }) target called calls
     session_too_deep target called calls first few m stands =
-        too_deep_stands named value known m k stands (stands.matches.broken ∙ unbroken) kept_sound kept_whole (without_functions new) kept_done begins.0 begins.1
+        too_deep_stands named value W m k stands (stands.matches.broken ∙ unbroken) kept_sound kept_whole (without_functions new) kept_done begins.0 begins.1
         target called calls (first begins.0 begins.1)
-        (subst (λ (h : Standing (Unit {0})). HasCalledMet (functions_of (seen_value value)) h called calls) (sym same)
-        (few_without (functions_of (seen_value value)) old called calls few))
+        (subst (λ (h : Standing (Unit {0})). HasCalledMet (maps_alone (seen_value value)) h called calls) (sym same)
+        (few_without (maps_alone (seen_value value)) old called calls few))

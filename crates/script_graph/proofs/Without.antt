@@ -1,14 +1,15 @@
 -- What is so of a graph is so of it without its functions.
-use Rattle.std.proofs.Common.{inl, inr, ℕ, Bool, List, [], ◌∷◌, Option}
-use Rattle.inc_value.specs.declared.function.FnRef.{FnRef}
+use Rattle.std.proofs.Common.{inl, inr, ℕ, List, [], ◌∷◌, Option}
 use Rattle.inc_value.specs.declared.node.NodeId.{NodeId}
 use Rattle.inc_value.specs.declared.node.Point.{Point}
 use Rattle.inc_terms.specs.Depend.{main, none_died}
 use Rattle.inc_terms.specs.Graph.{Graph}
 use Rattle.inc_terms.specs.Need.{Beside, Observed, Met, from_root, from_held}
 use Rattle.inc_terms.specs.Term.{Functions}
+use Rattle.node_outcomes.specs.Meaning.{Meaning}
 use Rattle.graph.specs.Sound.{IsWhole, IsSound}
-use Rattle.graph.specs.Stabilizes.{StoodBeside, IsMet, WasCalled, Stabilizes, IsListed, IsLawful, HasCalledMet, AllButLast, IsTried, LeavesTried, IsRefusedFor}
+use Rattle.graph.specs.Stabilizes.{StoodBeside, AllButLast, IsTried, LeavesTried}
+use Rattle.graph.proofs.Still.{IsMet, WasCalled, Stabilizes, IsListed, IsLawful, HasCalledMet, IsRefusedFor}
 use Rattle.graph.specs.Standing.{Standing, graph, in_use, IsNeeded}
 use Rattle.graph.specs.declared.fault.Kept.{Kept}
 use Rattle.script_graph.specs.Kept.{without_functions}
@@ -29,16 +30,16 @@ all_but_last_more more (p ∷ q ∷ rest) all = (more p all.0, all_but_last_more
 module _ {A : Type 0} where
   -- ---- what it keeps
 
-  whole_without : (known : FnRef → Bool) (s : Standing A) → IsWhole known s → IsWhole known (without_functions s)
-  whole_without known s h = record { roots = h.roots; fit = h.fit; given = h.given; shown = h.shown }
+  whole_without : (W : Meaning) (s : Standing A) → IsWhole W s → IsWhole W (without_functions s)
+  whole_without W s h = record { roots = h.roots; fit = h.fit; given = h.given; shown = h.shown }
 
-  pub sound_without : (known : FnRef → Bool) (s : Standing A) → IsSound known s → IsSound known (without_functions s)
-  sound_without known s h = record {
+  pub sound_without : (W : Meaning) (s : Standing A) → IsSound W s → IsSound W (without_functions s)
+  sound_without W s h = record {
     few = h.few;
     earlier = h.earlier;
     nodes = h.nodes;
     flat = h.flat;
-    whole = λ unbroken. whole_without known s (h.whole unbroken);
+    whole = λ unbroken. whole_without W s (h.whole unbroken);
   }
 
   -- ---- what is needed and met
@@ -78,6 +79,7 @@ module _ {A : Type 0} where
     stabilizes_without old new done = record {
       was = done.was;
       unbroken = done.unbroken;
+      stays = done.stays;
       nodes = done.nodes;
       observers = done.observers;
       rooted = done.rooted;
@@ -137,6 +139,7 @@ module _ {A : Type 0} where
       → IsRefusedFor M (without_functions old) (without_functions new) cause
   refused_without M old new cause done = record {
     was = done.was;
+    stays = done.stays;
     nodes = done.nodes;
     observers = done.observers;
     rooted = done.rooted;

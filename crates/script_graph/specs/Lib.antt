@@ -1,3 +1,4 @@
+pub mod Today
 pub mod Growing
 pub mod Kept
 pub mod Plain

@@ -20,13 +20,13 @@ use Rattle.script_model.specs.Values.{Outcome, Val, Invalid, type_of, to_engine,
 use Rattle.inc_value.specs.Ty.{IsBase}
 use Rattle.script_graph.specs.Kept.{Kept, arena_of, node_in}
 use Rattle.script_graph.specs.Plain.{AllPlain}
-use Rattle.node_outcomes.specs.Meaning.{functions_of}
+use Rattle.script_graph.specs.Today.{maps_alone}
 use Rattle.transfer.specs.Both.{Both, graph_outcome}
 use Rattle.transfer.specs.Shows.{Declares}
 
 -- what a graph's functions give, by those of the script
 abbrev pub graph_functions : Meanings → Functions
-graph_functions F = functions_of (λ f values. to_engine (F.value f (map from_engine values)))
+graph_functions F = maps_alone (λ f values. to_engine (F.value f (map from_engine values)))
 
 -- a state of a script beside the nodes of an arena, with the node of each declaration
 abbrev pub besides : Meanings → State → List NodeId → Arena → Both

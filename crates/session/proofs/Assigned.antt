@@ -1,5 +1,5 @@
 -- The node that is set.
-use Rattle.std.proofs.Common.{◌≡◌, ℕ, refl, sym, subst}
+use Rattle.std.proofs.Common.{◌≡◌, ℕ, sym, subst}
 use Rattle.formula_lang.specs.Fits.{AssignmentFits}
 use Rattle.inc_value.specs.Value.{type_of}
 use Rattle.inc_value.specs.declared.node.NodeId.{NodeId}

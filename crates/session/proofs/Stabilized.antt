@@ -1,22 +1,37 @@
 -- What is kept of a script once a stabilize ended, and the faults that don't come.
-use Rattle.std.proofs.Common.{◌≡◌, Bool, ℕ, ◌+◌, ◌≤◌, List, Option, None, Some, IsSome, Result, Err, IsErrOf, IsTrue, refl, ap, sym, subst, ◌∙◌}
+use Rattle.std.proofs.Common.{◌≡◌, Bool, ℕ, ◌+◌, ◌≤◌, List, [], ◌∷◌, arith, Option, None, Some, IsSome, Result, Err, IsErrOf, IsTrue, refl, ap, sym, subst, ◌∙◌}
 use Rattle.graph.specs.Fault.{kept_of}
-use Rattle.graph.specs.Stabilizes.{Stabilizes, IsRefusedFor}
-use Rattle.graph.specs.Standing.{Standing, IsUnbroken, node_at}
+use Rattle.graph.specs.Stabilizes.{Stabilizes, IsRefusedFor, HasCalledMet, left_by}
+use Rattle.graph.proofs.Still as still
+use Rattle.graph.proofs.Still.{still_stabilizes, still_refused, still_called, from_graphs}
+use Rattle.graph.specs.Standing.{Standing, graph, IsUnbroken, node_at}
 use Rattle.graph.specs.declared.fault.Kept.{Kept as Cause}
 use Rattle.graph.specs.declared.fault.Kept.TheVariants as cause
 use Rattle.graph.specs.declared.fault.StabilizeFault.{StabilizeFault}
 use Rattle.graph.specs.declared.fault.StabilizeFault.TheVariants as fault
 use Rattle.graph.specs.declared.observer.Observer.{Observer as Looking}
 use Rattle.inc_terms.specs.Term.{Functions}
+use Rattle.inc_value.specs.declared.function.FnKind.{FnKind}
+use Rattle.inc_value.specs.declared.function.FnKind.TheVariants as kind
 use Rattle.inc_value.specs.declared.function.FnKind.TheVariants.{Map}
+use Rattle.inc_value.specs.declared.value.Value.{Value as GraphValue}
 use Rattle.inc_value.specs.declared.function.FnRef.{FnRef}
 use Rattle.inc_value.specs.declared.node.NodeId.{NodeId}
 use Rattle.inc_value.specs.declared.node.Point.{Point}
 use Rattle.node_arena.specs.Arena.{Arena, live}
-use Rattle.node_arena.specs.Meanings.{KeepsKnown}
+use Rattle.node_arena.specs.Graph.{graph_of}
+use Rattle.node_arena.specs.RightSide.{RightSide, no_side}
+use Rattle.node_arena.specs.RightSideLaws.{meaning}
+use Rattle.stabilize_round.specs.Calling.{costs_of}
+use Rattle.stabilize_round.specs.Counts.{RoseBy}
+use Rattle.script_model.specs.Values.{seen_value}
+use Rattle.script_graph.specs.Today.{maps_alone}
+use Rattle.session.specs.Today.{HasNoBodies}
+use Rattle.std.proofs.Math.Path.{fun_ext}
+use Rattle.node_arena.specs.Meanings.{KeepsKnown, SameKnown}
 use Rattle.script_graph.specs.Kept.{Kept, HasNode, IsSound, arena_of, without_functions}
-use Rattle.script_functions.specs.Keeping.{Maker, is_known}
+use Rattle.script_functions.specs.Bodies.{Body}
+use Rattle.script_functions.specs.Keeping.{Maker, is_known, makers, by_kind, side_in}
 use Rattle.script_functions.specs.KeepingLaws.{map_known, known_map}
 use Rattle.script_graph.specs.Stabilizing.{ChainBegins, IsFirstNotOlder, AllOlder}
 use Rattle.stabilizer.specs.declared.refused.Refused.{Refused}
@@ -83,6 +98,41 @@ module _ (met : Option Refused) (nodes others : List NodeId) (same : others ≡ 
 
 -- a library that knows maps alone still knows what it knew, where the keeper of a script's functions does
 pub library_still_knows : (maps maps' : FnRef → Bool) (sides sides' : List Maker) → ((f : FnRef) → IsTrue (maps f) → f.id.kind ≡ Map)
-    → KeepsKnown (is_known maps sides) (is_known maps' sides') → KeepsKnown maps maps'
+    → SameKnown (is_known maps sides) (is_known maps' sides') → KeepsKnown maps maps'
 library_still_knows maps maps' sides sides' alone keeps f h =
-    map_known maps' sides' f (keeps f (known_map maps sides f h (alone f h))) (alone f h)
+    map_known maps' sides' f (subst IsTrue (sym (keeps f)) (known_map maps sides f h (alone f h))) (alone f h)
+
+-- ---- no bodies are kept, so what graphs promise of their functions they promise of the library's alone
+
+none_made : (k : FnKind) → by_kind k no_side no_side ≡ no_side
+none_made kind.Map = refl
+none_made kind.Rhs = refl
+
+alone : (value : FnRef → List GraphValue → GraphValue) (bodies : List Body) → HasNoBodies bodies
+    → meaning (seen_value value) (side_in (makers bodies)) ≡ maps_alone (seen_value value)
+alone value [] none = ap (λ (r : FnRef → RightSide). meaning (seen_value value) r) (fun_ext (λ f. none_made f.id.kind))
+alone value (b ∷ bs) none = absurd (omega (arith, none))
+
+module _ {A : Type 0} (value : FnRef → List GraphValue → GraphValue) (bodies : List Body) (none : HasNoBodies bodies) (old new : Standing A) where
+  abbrev kept_functions : Functions
+  kept_functions = meaning (seen_value value) (side_in (makers bodies))
+
+  abbrev its_functions : Functions
+  its_functions = maps_alone (seen_value value)
+
+  pub alone_stabilizes : Stabilizes kept_functions old new → still.Stabilizes its_functions old new
+  alone_stabilizes done = still_stabilizes its_functions old new (subst (λ (F : Functions). Stabilizes F old new) (alone value bodies none) done)
+
+  pub alone_refused : (why : Cause) → IsRefusedFor kept_functions old new why → still.IsRefusedFor its_functions old new why
+  alone_refused why done = still_refused its_functions old new why (subst (λ (F : Functions). IsRefusedFor F old new why) (alone value bodies none) done)
+
+  pub alone_called : new.nodes ≡ old.nodes → (before after : ℕ) → HasCalledMet kept_functions old new before after
+      → still.HasCalledMet its_functions old before after
+  alone_called nodes before after few = still_called its_functions old new nodes before after
+      (subst (λ (F : Functions). HasCalledMet F old new before after) (alone value bodies none) few)
+
+-- what was called in it
+pub costs_still : {A : Type 0} (old new : Standing A) → new.nodes ≡ old.nodes → (ran : List NodeId) (before after : ℕ)
+    → RoseBy before (costs_of (left_by old new) ran) after → RoseBy before (costs_of (graph old) ran) after
+costs_still old new nodes ran before after rose =
+    from_graphs (λ G died later. RoseBy before (costs_of G ran) after) (graph old) (graph new) (ap graph_of nodes) rose

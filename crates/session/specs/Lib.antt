@@ -1,3 +1,4 @@
+pub mod Today
 pub mod Answered
 pub mod Carried
 pub mod RefusalView

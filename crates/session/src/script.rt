@@ -38,6 +38,7 @@ pub(crate) struct Script<L: Library> {
 impl<L: Library> Model for Script<L> {
     ghost use Rattle.script_graph.specs.Kept as kept;
     ghost use Rattle.script_graph.specs.Kept.{IsSound, without_functions};
+    ghost use Rattle.session.specs.Today.{HasNoBodies};
 
     ghost Value = { kept.Script L };
 
@@ -54,7 +55,7 @@ impl<L: Library> Model for Script<L> {
       };
     } };
 
-    ghost invariant = { λ s. IsSound (record {
+    ghost invariant = { λ s. (IsSound (record {
       names = s.names;
       nodes = s.nodes.items;
       observers = s.observers.items;
@@ -62,7 +63,7 @@ impl<L: Library> Model for Script<L> {
       accepted = s.accepted;
       broken = s.broken;
       graph = without_functions s.graph;
-    }) };
+    })) × HasNoBodies s.graph.functions.bodies.items };
 }
 
 impl<L: Library> Script<L> {

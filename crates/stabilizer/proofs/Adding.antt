@@ -17,6 +17,8 @@ use Rattle.node_arena.specs.Arena.{Arena, row_at}
 use Rattle.node_outcomes.specs.Computing.{has_part}
 use Rattle.stabilize_round.proofs.Points.{node_or_other}
 use Rattle.stabilizer.specs.Between.{Stays, KeepsWork, out_of}
+use Rattle.node_arena.specs.Sound.{IsSound}
+use Rattle.stabilizer.specs.Today.{IsNoBind}
 use Rattle.stabilizer.specs.Kept.{IsKept}
 use Rattle.stabilizer.specs.Places.{ChangesNode, for_parts, pairs_with}
 use Rattle.stabilizer.specs.Wiring.{KeepsRound}
@@ -51,7 +53,8 @@ pub live_given : (arena : Arena) (work : Work) → IsKept arena work → (n : No
 live_given arena work kept n r e = let k = row_of arena work kept n r e in kept.given (main n) (kept.there (main n) (ap is_some k.1))
 
 module _ (before arena : Arena) (old work : Work) (id : NodeId) (row : Row) (heights : Part → ℕ) (kept : IsKept before old) (gen : id.gen_ ≡ before.given)
-    (added : nodes.Changes before arena id (Some row)) (top : row.scope ≡ None) (given : arena.given ≡ before.given + 1)
+    (added : nodes.Changes before arena id (Some row)) (top : row.scope ≡ None) (no_bind : IsNoBind row.def) (sound : IsSound arena)
+    (given : arena.given ≡ before.given + 1)
     (rows : ChangesNode old.rows work.rows id (for_parts row.def (λ part. unsettled)))
     (points : ChangesNode old.graph.heights work.graph.heights id (for_parts row.def heights))
     (pairs : work.pairs.items ≡ pairs_with row.def old.pairs.items id)
@@ -111,10 +114,17 @@ module _ (before arena : Arena) (old work : Work) (id : NodeId) (row : Row) (hei
     ];
     links = λ p q l. row_stays p (kept.links p q (subst (λ (x : Links). Reads x p q) links l));
     heap = λ p h. row_stays p (kept.heap p (ap is_some (sym (heap p)) ∙ h));
-    flat = λ n r e. elim (node_or_other n id) [
-      | inl is ↦ sym (ap (λ (x : Row). x.scope) (row_is n r is e)) ∙ top
-      | inr ne ↦ kept.flat n r (row_was n r ne e)
-    ];
+    sound = sound;
+    today = record {
+      flat = λ n r e. elim (node_or_other n id) [
+        | inl is ↦ sym (ap (λ (x : Row). x.scope) (row_is n r is e)) ∙ top
+        | inr ne ↦ kept.today.flat n r (row_was n r ne e)
+      ];
+      no_binds = λ n r e l f caps is. elim (node_or_other n id) [
+        | inl here ↦ no_bind l f caps (ap (λ (x : Row). x.def) (row_is n r here e) ∙ is)
+        | inr ne ↦ kept.today.no_binds n r (row_was n r ne e) l f caps is
+      ];
+    };
     outcomes = λ n r k v e is shows. elim (node_or_other n id) [
       | inl same ↦ absurd (none-some _ (ap (λ (x : Progress). x.outcome) (is_unsettled (main n) k same is) ∙ shows))
       | inr ne ↦ typed_still before arena more types v r.ty
@@ -189,7 +199,8 @@ module _ (arena : Arena) (old work : Work) (kept : IsKept arena old) (same : Kee
     given = λ p h. kept.given p (ap is_some (sym (same.points p)) ∙ h);
     links = λ p q l. ap is_some (same.rows p) ∙ kept.links p q (subst (λ (x : Links). Reads x p q) same.links l);
     heap = λ p h. ap is_some (same.rows p) ∙ kept.heap p (ap is_some (sym (same.heap p)) ∙ h);
-    flat = kept.flat;
+    sound = kept.sound;
+    today = kept.today;
     outcomes = λ n r k v e is shows. kept.outcomes n r k v e (sym (same.rows (main n)) ∙ is) shows;
     rights = λ n m r k o e is shows right. kept.rights n m r k o e (sym (same.rows (change n)) ∙ is) shows right;
     calls = λ n r k c e is last. kept.calls n r k c e (sym (same.rows (main n)) ∙ is) last;

@@ -209,14 +209,14 @@ module _ (arena : Arena) (n : NodeId) (r : Row) (old : Work) (rows : Rows Progre
       plan = λ b.
           let all : count b (plan_at s.graph s.out s.died (main n) (s.graph.row n) machine.Full) ≡ count b (change n ∷ owed) =
           ap (λ (x : Option Row). count b (plan_at s.graph s.out s.died (main n) x machine.Full)) row_is
-          ∙ rw (no_links r.scope (kept.flat n r row), own_alone n (subject_of r.def) (kids_of s.graph n r.def) was.two, targets_are_owed) refl in
+          ∙ rw (no_links r.scope (kept.today.flat n r row), own_alone n (subject_of r.def) (kids_of s.graph n r.def) was.two, targets_are_owed) refl in
           let before : count b (planned s (main n)) ≡ count b (change n ∷ []) =
           ap (λ (x : machine.Stage). count b (plan_at s.graph s.out s.died (main n) (s.graph.row n) x)) is_static
           ∙ (ap (λ (x : Option Row). count b (plan_at s.graph s.out s.died (main n) x machine.Static)) row_is
-          ∙ rw (no_links r.scope (kept.flat n r row), own_alone n (subject_of r.def) (kids_of s.graph n r.def) was.two) refl) in
+          ∙ rw (no_links r.scope (kept.today.flat n r row), own_alone n (subject_of r.def) (kids_of s.graph n r.def) was.two) refl) in
           omega (arith, all, before);
       lower = λ e. let b = is_static in cc;
-      gates = λ stage r' b e scope. absurd (none-some b (sym (kept.flat n r' (sym (ap (λ (G : Graph). G.row n) on.graph) ∙ e)) ∙ scope));
+      gates = λ stage r' b e scope. absurd (none-some b (sym (kept.today.flat n r' (sym (ap (λ (G : Graph). G.row n) on.graph) ∙ e)) ∙ scope));
       rights = λ e m r' q row' among. t.taken;
     }
 
@@ -239,11 +239,11 @@ module _ (arena : Arena) (n : NodeId) (r : Row) (old : Work) (rows : Rows Progre
     right_due m e = record {
       holds = full_inv;
       stands = subst (λ (x : Option NodeId). Stands arena mid calls (Some (hand (main n) (map main (at_most_one x)))) full) e on_full;
-      depends = right_confirmed F z full full_inv (main n) (main m) r row_is (λ b scope. absurd (none-some b (sym (kept.flat n r row) ∙ scope)))
+      depends = right_confirmed F z full full_inv (main n) (main m) r row_is (λ b scope. absurd (none-some b (sym (kept.today.flat n r row) ∙ scope)))
           (on.settled (change n) ∙ was.own)
           (subst (λ (xs : List Point). Among (main m) xs) (sym (targets_are_owed ∙ ap (λ (x : Option NodeId). map main (at_most_one x)) e)) (inl refl));
       confirmed = record {
-        gate = λ r' b e' scope. absurd (none-some b (sym (kept.flat n r' (sym (ap (λ (G : Graph). G.row n) on.graph) ∙ e')) ∙ scope));
+        gate = λ r' b e' scope. absurd (none-some b (sym (kept.today.flat n r' (sym (ap (λ (G : Graph). G.row n) on.graph) ∙ e')) ∙ scope));
         right = λ r' e' m' among. t.taken;
       };
       unlinked = full_unlinked;

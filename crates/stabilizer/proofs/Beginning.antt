@@ -1,21 +1,29 @@
 -- A round begins: at the count of calls of now, with the last calls that the rows keep.
-use Rattle.std.proofs.Common.{◌≡◌, inl, inr, ℕ, true, List, Option, None, Some, refl, sym, ap, ◌∙◌, false}
+use Rattle.std.proofs.Common.{◌≡◌, ◌<◌, ◌≤◌, arith, subst, inl, inr, ℕ, true, Option, None, Some, refl, sym, ap, ◌∙◌, false}
 use Rattle.std.specs.Prelude.{is_some, ◌↔◌}
-use Rattle.std.proofs.Math.Path.{fun_ext}
-use Rattle.inc_value.specs.declared.function.FnRef.{FnRef}
 use Rattle.inc_value.specs.declared.node.NodeId.{NodeId}
 use Rattle.inc_value.specs.declared.node.Part.TheVariants.{Main}
 use Rattle.inc_value.specs.declared.node.Point.{Point}
-use Rattle.inc_value.specs.declared.value.Value.{Value}
 use Rattle.inc_terms.specs.Depend.{main}
-use Rattle.inc_terms.specs.Graph.{Row}
+use Rattle.inc_terms.specs.Graph.{Graph, Row}
 use Rattle.inc_terms.specs.Local.{shown}
 use Rattle.inc_terms.specs.Term.{Functions}
 use Rattle.point_map.specs.Rows.{at}
 use Rattle.necessary_graph.specs.Part.{Needed}
 use Rattle.node_arena.specs.Arena.{Arena, row_at}
-use Rattle.node_arena.specs.Meanings.{SameValues}
 use Rattle.stabilize_round.proofs.Freezing.{other_rests}
+use Rattle.std.proofs.lemmas.Option.{none-some}
+use Rattle.inc_terms.specs.Need.{Keeps}
+use Rattle.inc_terms.specs.Rebuild.{Names}
+use Rattle.inc_terms.specs.Within.{Given, Fit}
+use Rattle.necessary_graph.proofs.Reaching.{root_needed}
+use Rattle.node_arena.specs.Graph.{graph_of}
+use Rattle.node_arena.proofs.Graph.{names_are_given}
+use Rattle.node_outcomes.specs.Meaning.{Meaning}
+use Rattle.stabilize_round.specs.Ids.{IsStartOf, AllGiven}
+use Rattle.stabilize_round.proofs.Entry.{entry_holds}
+use Rattle.stabilizer.specs.Began.{IsRoundOf}
+use Rattle.node_outcomes.specs.declared.row.Progress.{Progress}
 use Rattle.stabilizer.proofs.Agreeing.{no_freeze}
 use Rattle.stabilize_round.specs.Invariant.{Recalls}
 use Rattle.stabilize_round.specs.Machine.{Entry}
@@ -26,10 +34,6 @@ use Rattle.stabilizer.specs.Round.{IsReady, last_of, last_call, never_at}
 use Rattle.node_outcomes.specs.Row.{never_in}
 use Rattle.stabilizer.specs.Stands.{Stands}
 use Rattle.stabilizer.specs.declared.work.Work.{Work}
-
--- functions with the same values mean the same
-pub same_meaning : (v w : FnRef → List Value → Value) → SameValues v w → w ≡ v
-same_meaning v w same = fun_ext (λ f. fun_ext (λ xs. same f xs))
 
 -- what there is in one is there in the other
 pub there_as : {A B : Type 0} (x : Option A) (y : Option B) (b : B) → is_some x ≡ is_some y → y ≡ Some b → (a : A) × (x ≡ Some a)
@@ -56,7 +60,15 @@ pub record Begun (F : Functions) (arena : Arena) (work : Work) (count : ℕ) : T
   pub stale : (n : NodeId) → start.stale n ≡ false
   pub held : (p : Point) → (start.held p ≡ true) ↔ Needed work.graph p
 
-module _ (F : Functions) (arena : Arena) (work : Work) (ready : IsReady F arena work) (count : ℕ) where
+-- and it is one of these functions
+pub record BegunOf (M : Meaning) (arena : Arena) (work : Work) (count : ℕ) : Type 0 where
+  pub begun : Begun M.functions arena work count
+  pub round : IsRoundOf M begun.start begun.state
+
+module _ (M : Meaning) (arena : Arena) (work : Work) (ready : IsReady M arena work) (count : ℕ) where
+  abbrev F : Functions
+  F = M.functions
+
   abbrev old : State
   old = ready.state
 
@@ -64,7 +76,14 @@ module _ (F : Functions) (arena : Arena) (work : Work) (ready : IsReady F arena 
   state = record old { calls = count; last = last_call work; never = never_at work }
 
   abbrev start : Start
-  start = record ready.start { calls = count; last = last_call work; held = old.needed; never = never_at work }
+  start = record ready.start {
+    known = M.known;
+    ids = M.ids;
+    calls = count;
+    last = last_call work;
+    held = old.needed;
+    never = never_at work;
+  }
 
   -- of a live node the state knew this last call
   last_known : (n : NodeId) (r : Row) → old.graph.row n ≡ Some r → last_call work n ≡ old.last n
@@ -136,15 +155,76 @@ module _ (F : Functions) (arena : Arena) (work : Work) (ready : IsReady F arena 
     answers = λ n r kids c row def e. ready.entry.answers n r kids c row def (sym (last_known n r row) ∙ e);
   }
 
-  pub begun : Begun F arena work count
-  begun = record {
-    start = start;
-    state = state;
-    stands = stands;
-    entry = entry;
-    calls = refl;
-    last = λ n. refl;
-    never = λ n. refl;
-    stale = λ n. ready.entry.stale n ∙ ready.stands.stale n;
-    held = ready.stands.needed;
+  -- ---- all that the round speaks of was given
+
+  row_none : (n : NodeId) → arena.given ≤ n.gen_ → at work.rows (main n) ≡ None
+  row_none n le = by_row (row_at arena n) refl
+    where
+      no_place : (x : Option Progress) → is_some x ≡ false → x ≡ None
+      no_place None e = refl
+      no_place (Some k) e = absurd (cc)
+
+      by_row : (x : Option Row) → row_at arena n ≡ x → at work.rows (main n) ≡ None
+      by_row None e = no_place (at work.rows (main n)) (main_there arena work ready.kept n ∙ ap is_some e)
+      by_row (Some r) e = absurd (let g = ready.kept.sound.given n (ap is_some e) in omega (arith, g, le))
+
+  needed_given : (p : Point) → Needed work.graph p → Given arena.given p.node
+  needed_given p need = ready.kept.given p (ready.kept.step.there p need)
+
+  root_given : (p : Point) → 0 < state.root p → Given arena.given p.node
+  root_given p h = needed_given p (root_needed work.graph p (subst (λ (k : ℕ). 0 < k) (ready.stands.root p) h))
+
+  keeps : Keeps (Given arena.given) (graph_of arena) state.died
+  keeps = record {
+    roots = λ b w m given built root. absurd (none-some w built);
+    scopes = λ n b given died. absurd (none-some b (sym (ready.stands.died n) ∙ died));
+    freezes = λ n r kid f row is. absurd (no_freeze arena n r kid f row is);
+  }
+
+  begins : IsStartOf M.known M.ids arena.given start
+  begins = record {
+    knows = refl;
+    names = refl;
+    held = λ p h. needed_given p ((ready.stands.needed p).0 h);
+    last = λ n le. ap last_of (row_none n le);
+    never = λ n le. ap never_in (row_none n le);
+    stale = λ n le. ready.entry.stale n ∙ ready.stands.stale n;
+  }
+
+  as_given : (p : Point) → Given arena.given p.node → Given old.given p.node
+  as_given p h = let e = ready.stands.given in omega (arith, e, h)
+
+  not_given : (n : NodeId) → old.given ≤ n.gen_ → arena.given ≤ n.gen_
+  not_given n le = let e = ready.stands.given in omega (arith, e, le)
+
+  given : AllGiven F start state
+  given = record {
+    laws = ready.laws;
+    names = subst (λ (G : Graph). Names (Given old.given) (Fit old.given M.known M.ids) G) (sym ready.stands.graph)
+        (subst (λ (k : ℕ). Names (Given k) (Fit k M.known M.ids) (graph_of arena)) (sym ready.stands.given)
+        (names_are_given arena M.known M.ids ready.kept.sound ready.fit).1);
+    keeps = subst (λ (G : Graph). Keeps (Given old.given) G old.died) (sym ready.stands.graph)
+        (subst (λ (k : ℕ). Keeps (Given k) (graph_of arena) old.died) (sym ready.stands.given) keeps);
+    needed = λ p h. as_given p (needed_given p ((ready.stands.needed p).0 h));
+    rooted = λ p h. as_given p (root_given p h);
+    last = λ n le. ap last_of (row_none n (not_given n le));
+    never = λ n le. ap never_in (row_none n (not_given n le));
+    stale = λ n le. ready.stands.stale n;
+    start = subst (λ (k : ℕ). IsStartOf M.known M.ids k start) (sym ready.stands.given) begins;
+  }
+
+  pub begun_of : BegunOf M arena work count
+  begun_of = record {
+    begun = record {
+      start = start;
+      state = state;
+      stands = stands;
+      entry = entry;
+      calls = refl;
+      last = λ n. refl;
+      never = λ n. refl;
+      stale = λ n. ready.entry.stale n ∙ ready.stands.stale n;
+      held = ready.stands.needed;
+    };
+    round = record { holds = entry_holds F start state entry; given = given; knows = refl; names = refl };
   }

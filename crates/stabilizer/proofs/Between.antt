@@ -14,6 +14,7 @@ use Rattle.inc_terms.specs.Graph.{Graph, Row}
 use Rattle.inc_terms.specs.Local.{shown, shown_of, Agrees, IsBuilt}
 use Rattle.inc_terms.specs.Plan.{gate_of, plan}
 use Rattle.inc_terms.specs.Term.{Functions}
+use Rattle.inc_terms.specs.Within.{FunctionLaws}
 use Rattle.inc_terms.specs.Work.{taken_by}
 use Rattle.inc_terms.proofs.Plan.{among_left, among_right}
 use Rattle.inc_terms.proofs.Seeing.{looks}
@@ -24,7 +25,8 @@ use Rattle.height_order.specs.Levels.{level}
 use Rattle.necessary_graph.specs.Part.{NecessaryPart, Needed}
 use Rattle.necessary_graph.proofs.Reaching.{root_needed, read_needed, needed_more}
 use Rattle.node_arena.specs.Arena.{Arena, row_at}
-use Rattle.node_arena.specs.Graph.{graph_of}
+use Rattle.node_arena.specs.Graph.{AllCallFit, graph_of}
+use Rattle.node_outcomes.specs.Meaning.{Meaning}
 use Rattle.node_outcomes.specs.Computing.{has_part}
 use Rattle.node_outcomes.specs.Row.{outcome_in, settled_in, stage_of, never_in}
 use Rattle.stabilize_round.specs.State as machine
@@ -121,7 +123,10 @@ is_full code.Bare e = absurd (cc)
 is_full code.Static e = absurd (cc)
 is_full code.Full e = refl
 
-module _ (F : Functions) (arena : Arena) (work : Work) (ready : IsReady F arena work) where
+module _ (M : Meaning) (arena : Arena) (work : Work) (ready : IsReady M arena work) where
+  abbrev F : Functions
+  F = M.functions
+
   abbrev s : State
   s = ready.state
 
@@ -236,19 +241,19 @@ state_of need arena work = record {
   stale = λ n. false;
 }
 
-abbrev start_of : (Point → Bool) → Work → Start
-start_of need work = record {
+abbrev start_of : Meaning → (Point → Bool) → Work → Start
+start_of M need work = record {
   held = need;
   last = last_call work;
   calls = 0;
-  known = λ f. false;
-  ids = λ f. [];
+  known = M.known;
+  ids = M.ids;
   never = λ n. never_in (at work.rows (main n));
   stale = λ n. false;
 }
 
-module _ (F : Functions) (arena : Arena) (work : Work) (b : IsBetween F arena work) (need : Point → Bool)
-    (exact : (p : Point) → (need p ≡ true) ↔ Needed work.graph p) where
+module _ (M : Meaning) (arena : Arena) (work : Work) (laws : FunctionLaws M.functions M.known M.ids) (fit : AllCallFit M.known M.ids arena)
+    (b : IsBetween M.functions arena work) (need : Point → Bool) (exact : (p : Point) → (need p ≡ true) ↔ Needed work.graph p) where
   abbrev now : State
   now = state_of need arena work
 
@@ -291,7 +296,7 @@ module _ (F : Functions) (arena : Arena) (work : Work) (b : IsBetween F arena wo
     given = refl;
   }
 
-  entry_then : Begins F (start_of need work) now
+  entry_then : Begins M.functions (start_of M need work) now
   entry_then = record {
     web = record {
       from = λ p q l. (exact p).1 (b.kept.step.readers p q l);
@@ -309,7 +314,7 @@ module _ (F : Functions) (arena : Arena) (work : Work) (b : IsBetween F arena wo
     links = λ p q t. let e = links_then p q ((exact p).0 t) in omega arith;
     full = λ p r row t. stage_then p ((exact p).0 t);
     bare = λ p t e. absurd (let f : now.stage p ≡ machine.Full = stage_then p ((exact p).0 t) in let h = sym f ∙ e in cc);
-    scoped = λ n r c row sc. absurd (none-some c (sym (b.kept.flat n r row) ∙ sc));
+    scoped = λ n r c row sc. absurd (none-some c (sym (b.kept.today.flat n r row) ∙ sc));
     rooted = λ n r l f captures w row def built. absurd (none-some w built);
     built = b.built;
     fresh = λ p r row t. elim (b.fresh p r ((exact p).0 t) row) [ inl h ↦ inl h | inr f ↦ inr (f.0, f.1, λ part. refl) ];
@@ -331,10 +336,12 @@ module _ (F : Functions) (arena : Arena) (work : Work) (b : IsBetween F arena wo
         b.answers n r nodes k.0 c row def k.1 (sym (ap last_of k.1) ∙ last);
   }
 
-  ready_with : IsReady F arena work
+  ready_with : IsReady M arena work
   ready_with = record {
     kept = b.kept;
-    start = start_of need work;
+    laws = laws;
+    fit = fit;
+    start = start_of M need work;
     state = now;
     stands = stands_then;
     entry = entry_then;
@@ -343,8 +350,9 @@ module _ (F : Functions) (arena : Arena) (work : Work) (b : IsBetween F arena wo
     ran = b.ran;
   }
 
-pub between_is_ready : (F : Functions) (arena : Arena) (work : Work) → IsBetween F arena work → IsReady F arena work
-between_is_ready F arena work b = ready_with F arena work b (is_needed work.graph) (decides_needed work.graph b.kept.step)
+pub between_is_ready : (M : Meaning) (arena : Arena) (work : Work) → FunctionLaws M.functions M.known M.ids → AllCallFit M.known M.ids arena
+    → IsBetween M.functions arena work → IsReady M arena work
+between_is_ready M arena work laws fit b = ready_with M arena work laws fit b (is_needed work.graph) (decides_needed work.graph b.kept.step)
 
 -- the same worklist has the same points
 pub same_todo : (old new : Work) → new.todo ≡ old.todo → new.todo.items ≡ old.todo.items
@@ -452,7 +460,7 @@ module _ (F : Functions) (before arena : Arena) (old work : Work) (b : IsBetween
     ran = stays.round.ran ∙ b.ran;
   }
 
-pub ready_stays : (F : Functions) (before arena : Arena) (old work : Work) → IsReady F before old → IsKept arena work → Stays before arena old work
-    → IsReady F arena work
-ready_stays F before arena old work ready kept stays =
-    between_is_ready F arena work (between_stays F before arena old work (ready_is_between F before old ready) kept stays)
+pub ready_stays : (M : Meaning) (before arena : Arena) (old work : Work) → IsReady M before old → AllCallFit M.known M.ids arena → IsKept arena work
+    → Stays before arena old work → IsReady M arena work
+ready_stays M before arena old work ready fit kept stays =
+    between_is_ready M arena work ready.laws fit (between_stays M.functions before arena old work (ready_is_between M before old ready) kept stays)

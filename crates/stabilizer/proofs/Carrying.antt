@@ -64,7 +64,8 @@ module _ (arena : Arena) (old new : Work) (kept : IsKept arena old) (rows : (p :
     given = λ p h. kept.given p (there_before p h);
     links = λ p q r. now p (kept.links p q (subst (λ (l : Links). Reads l p q) same.links r));
     heap = λ p h. now p (heap p h);
-    flat = kept.flat;
+    sound = kept.sound;
+    today = kept.today;
     outcomes = outcomes;
     rights = rights;
     calls = calls;

@@ -31,7 +31,7 @@ use Rattle.stabilize_round.proofs.Parts.{bool_cases}
 use Rattle.stabilize_round.proofs.Points.{at_same}
 use Rattle.stabilize_round.proofs.Steps.{joined, off_moves, wired_moves}
 use Rattle.node_outcomes.specs.Choosing.{right_in}
-use Rattle.node_outcomes.proofs.Maps.{NoBinds}
+use Rattle.node_outcomes.specs.Meaning.{Meaning}
 use Rattle.node_outcomes.specs.Row.{IsRewritten, with_outcome, stage_in, stage_of}
 use Rattle.stabilizer.specs.Kept.{IsKept}
 use Rattle.stabilizer.specs.Stands.{Stands}
@@ -98,7 +98,7 @@ is_quiet arena work calls s st idle p = elim (bool_cases (s.todo p)) [
 ]
 
 module _ (arena : Arena) (old : Work) (g : NecessaryPart) (p : Point) (n : NodeId) (same : p ≡ change n) (calls : ℕ) (kept : IsKept arena old)
-    (no_binds : NoBinds arena) (was : Holds old.graph.heap p) (low : IsLowest old.graph.heap (level old.graph.heights p)) (rest : g ≡ record old.graph { heap = g.heap })
+    (was : Holds old.graph.heap p) (low : IsLowest old.graph.heap (level old.graph.heights p)) (rest : g ≡ record old.graph { heap = g.heap })
     (c : Changes old.graph.heap g.heap p None) (idle : old.todo.items ≡ []) where
   was_own : Holds old.graph.heap (change n)
   was_own = subst (λ (x : Point). Holds old.graph.heap x) same was
@@ -158,14 +158,14 @@ module _ (arena : Arena) (old : Work) (g : NecessaryPart) (p : Point) (n : NodeI
     woken = todo' ready arena readied.work turned calls readied.stands n m.given readied.there readied.run
 
     move_is : StepChange F ready n m.given woken
-    move_is = change_step ready arena readied.work turned calls readied.stands n m.given readied.there readied.run F z ready_inv ready_quiet kept.flat no_binds
+    move_is = change_step ready arena readied.work turned calls readied.stands n m.given readied.there readied.run F z ready_inv ready_quiet kept.today.flat kept.today.no_binds
         m.row m.subject m.is_row m.is_subject readied.least ready_seen readied.right
 
     abbrev after : State
     after = changed ready n m.given woken
 
     pub in_turn : IsTurnedIn F z after arena turned calls n
-    in_turn = turned_in ready arena readied.work turned calls readied.stands n m.given readied.there readied.run F z ready_inv ready_quiet kept.flat no_binds
+    in_turn = turned_in ready arena readied.work turned calls readied.stands n m.given readied.there readied.run F z ready_inv ready_quiet kept.today.flat kept.today.no_binds
         m.row m.subject m.is_row m.is_subject readied.least ready_seen readied.right
 
     abbrev it_settles : Move F z ready after
@@ -263,7 +263,10 @@ module _ (arena : Arena) (old : Work) (g : NecessaryPart) (p : Point) (n : NodeI
       ]
 
   -- so it is from each state that the parts stand for
-  module _ (F : Functions) (new : Work) (k : ChangeIsSettled arena (record old { graph = g }) new n) (ends : new.todo.items ≡ []) where
+  module _ (M : Meaning) (new : Work) (k : ChangeIsSettled arena (record old { graph = g }) new n) (ends : new.todo.items ≡ []) where
+    abbrev F : Functions
+    F = M.functions
+
     module _ (z : Start) (s : State) (inv : Invariant F z s) (quiet : Quiet s) (st : Stands arena old calls None s) where
       first : IsTurnedIn F z (after k.turned k.turns F z s inv quiet st) arena k.turned calls n
       first = in_turn k.turned k.turns F z s inv quiet st
@@ -281,8 +284,9 @@ module _ (arena : Arena) (old : Work) (g : NecessaryPart) (p : Point) (n : NodeI
       pub fallen : (points : List Point) (nodes : List NodeId) → Among (change n) points → Among n nodes → Falls s wired.0 points nodes
       fallen = falls_by k.turned k.turns F z s inv quiet st k.attached new k.full attached.0 wired.0 attached.1 attached.2 wired.1 wired.2 ends
 
-    pub change_steps : Steps F arena old new calls calls
-    change_steps z s inv quiet st =
+    pub change_steps : Steps M arena old new calls calls
+    change_steps z s begun quiet st =
+        let inv = begun.holds in
         let u = attached z s inv quiet st in
         let v = wired z s inv quiet st in
         (v.0, step_made k.turned k.turns F z s inv quiet st k.attached new k.full u.0 v.0 u.1 u.2 v.1 v.2 ends, v.2)
@@ -290,17 +294,21 @@ module _ (arena : Arena) (old : Work) (g : NecessaryPart) (p : Point) (n : NodeI
   -- ---- a link was refused
 
   -- of its right side
-  pub unattached_stops : (F : Functions) (turned new : Work) (e : Refused) → ChangeIsTurned arena (record old { graph = g }) turned n
-      → AttachRefused arena turned new n e → StepRefused F arena old new calls calls e
-  unattached_stops F turned new e m refused z s inv quiet st =
+  pub unattached_stops : (M : Meaning) (turned new : Work) (e : Refused) → ChangeIsTurned arena (record old { graph = g }) turned n
+      → AttachRefused arena turned new n e → StepRefused M arena old new calls calls e
+  unattached_stops M turned new e m refused z s begun quiet st =
+      let F = M.functions in
+      let inv = begun.holds in
       let x = after turned m F z s inv quiet st in
       let a = refused F z x calls (in_turn turned m F z s inv quiet st) in
       wiring {t = a.0} {left = a.1} (joined (Move F z) s x a.0 (after_moves turned m F z s inv quiet st) (wired_moves F z x a.0 a.2)) a.3 refl a.4
 
   -- of what is newly needed
-  pub unwired_stops : (F : Functions) (turned mid new : Work) (e : Refused) → ChangeIsTurned arena (record old { graph = g }) turned n
-      → Attaches arena turned mid n → WireRefused arena mid new None e → StepRefused F arena old new calls calls e
-  unwired_stops F turned mid new e m attaches refused z s inv quiet st =
+  pub unwired_stops : (M : Meaning) (turned mid new : Work) (e : Refused) → ChangeIsTurned arena (record old { graph = g }) turned n
+      → Attaches arena turned mid n → WireRefused arena mid new None e → StepRefused M arena old new calls calls e
+  unwired_stops M turned mid new e m attaches refused z s begun quiet st =
+      let F = M.functions in
+      let inv = begun.holds in
       let x = after turned m F z s inv quiet st in
       let turn = in_turn turned m F z s inv quiet st in
       let u = attaches F z x calls turn in
@@ -309,21 +317,22 @@ module _ (arena : Arena) (old : Work) (g : NecessaryPart) (p : Point) (n : NodeI
       (wired_moves F z x a.0 (wired_then F z x u.0 a.0 u.1 a.2))) a.3 refl a.4
 
   -- less is left
-  pub change_falls : (F : Functions) (new : Work) → ChangeIsSettled arena (record old { graph = g }) new n → new.todo.items ≡ [] → IsKept arena new
-      → StepFalls F arena old new calls
-  change_falls F new k ends kept' z s inv quiet st points nodes covers =
-      let v = wired F new k ends z s inv quiet st in
+  pub change_falls : (M : Meaning) (new : Work) → ChangeIsSettled arena (record old { graph = g }) new n → new.todo.items ≡ [] → IsKept arena new
+      → StepFalls M arena old new calls
+  change_falls M new k ends kept' z s begun quiet st points nodes covers =
+      let inv = begun.holds in
+      let v = wired M new k ends z s inv quiet st in
       less_left arena old new calls calls s v.0 kept kept' st v.2 points nodes
-      (fallen F new k ends z s inv quiet st points nodes (covers.points_of (change n) row_own) (covers.nodes_of (change n) row_own))
+      (fallen M new k ends z s inv quiet st points nodes (covers.points_of (change n) row_own) (covers.nodes_of (change n) row_own))
     where
       row_own : Holds old.rows (change n)
       row_own = kept.heap (change n) was_own
 
   -- a step of a change that is refused
-  pub change_stops : (F : Functions) (new : Work) (e : Refused) → ChangeIsLeft arena (record old { graph = g }) new n e → StepRefused F arena old new calls calls e
-  change_stops F new e (unattached {turned} m refused) = unattached_stops F turned new e m refused
-  change_stops F new e (unwired {turned} {attached = mid} m attaches refused) = unwired_stops F turned mid new e m attaches refused
-  change_stops F new e (as_it_was rows only put heap memory) = λ z s inv quiet st. as_it_was
+  pub change_stops : (M : Meaning) (new : Work) (e : Refused) → ChangeIsLeft arena (record old { graph = g }) new n e → StepRefused M arena old new calls calls e
+  change_stops M new e (unattached {turned} m refused) = unattached_stops M turned new e m refused
+  change_stops M new e (unwired {turned} {attached = mid} m attaches refused) = unwired_stops M turned mid new e m attaches refused
+  change_stops M new e (as_it_was rows only put heap memory) = λ z s begun quiet st. as_it_was
       (subst (λ (x : Work). Stands arena x calls None s) (sym only)
       (refused_stands arena old (record old { graph = g }) g new.graph p n calls calls kept was rest c
       (record { rows = λ a. refl; graph = refl; todo = refl; ran = refl; strict = refl; round = refl; count = inl refl }) heap

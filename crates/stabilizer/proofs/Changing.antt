@@ -29,7 +29,7 @@ use Rattle.stabilize_round.proofs.Machine.{moves_keep}
 use Rattle.stabilize_round.proofs.Main.{main_change}
 use Rattle.stabilize_round.proofs.Points.{same_or_other, at_same, at_other}
 use Rattle.node_outcomes.specs.Row.{IsRewritten, with_outcome, settled_in, stage_of}
-use Rattle.node_outcomes.proofs.Maps.{NoBinds}
+use Rattle.node_outcomes.specs.Today.{NoBinds}
 use Rattle.stabilizer.specs.Stands.{Stands, hand}
 use Rattle.stabilizer.specs.Wiring.{KeepsGraph, KeepsRound, IsTurnedIn}
 use Rattle.node_outcomes.specs.declared.row.Progress.{Progress}

@@ -18,7 +18,8 @@ use Rattle.stabilize_round.specs.Calling.{cost_at, costs_of}
 use Rattle.stabilize_round.proofs.Calling.{kids_taken, cost_of_taken}
 use Rattle.stabilize_round.specs.Calls.{arguments_of}
 use Rattle.stabilize_round.specs.State.{Call}
-use Rattle.stabilizer.specs.Round.{last_call, WasCalled, StoodBeside}
+use Rattle.stabilizer.specs.Round.{last_call, StoodBeside}
+use Rattle.stabilizer.proofs.Still.{WasCalled}
 use Rattle.stabilizer.specs.declared.work.Work.{Work}
 
 -- what stands in no scope stands

@@ -7,7 +7,7 @@ use Rattle.inc_value.specs.declared.node.Part.TheVariants.{Main}
 use Rattle.inc_value.specs.declared.node.Point.{Point}
 use Rattle.inc_terms.specs.Depend.{main}
 use Rattle.inc_terms.specs.Graph.{Def}
-use Rattle.inc_terms.specs.Term.{Functions}
+use Rattle.node_outcomes.specs.Meaning.{Meaning}
 use Rattle.map_nodes.specs.declared.cutoff.Cutoff.{Cutoff}
 use Rattle.point_map.specs.Rows.{Rows, at, KeepsRows}
 use Rattle.node_arena.specs.Arena.{Arena}
@@ -73,7 +73,7 @@ module _ (arena : Arena) (old : Work) (rows : Rows Progress) (id : NodeId) (c : 
     | inr ne ↦ ap (settled_in old.round) (w.others p (λ h. ne (sym h)))
   ]
 
-  module _ (F : Functions) (ready : IsReady F arena old) where
+  module _ (M : Meaning) (ready : IsReady M arena old) where
     abbrev state : State
     state = record ready.state { never = never_at new }
 
@@ -103,7 +103,7 @@ module _ (arena : Arena) (old : Work) (rows : Rows Progress) (id : NodeId) (c : 
       given = ready.stands.given;
     }
 
-    entry : Entry F start state
+    entry : Entry M.functions start state
     entry = record {
       web = record {
         from = ready.entry.web.from;
@@ -138,9 +138,11 @@ module _ (arena : Arena) (old : Work) (rows : Rows Progress) (id : NodeId) (c : 
       answers = ready.entry.answers;
     }
 
-    pub cut_ready : IsReady F arena new
+    pub cut_ready : IsReady M arena new
     cut_ready = record {
       kept = cut_kept;
+      laws = ready.laws;
+      fit = ready.fit;
       start = start;
       state = state;
       stands = stands;

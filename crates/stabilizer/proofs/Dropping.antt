@@ -8,7 +8,6 @@ use Rattle.inc_value.specs.declared.node.Point.{Point}
 use Rattle.inc_value.specs.Choice.{Among}
 use Rattle.inc_terms.specs.Depend.{main, change}
 use Rattle.inc_terms.specs.Graph.{Row}
-use Rattle.inc_terms.specs.Term.{Functions}
 use Rattle.point_map.specs.Rows.{Rows, at, Holds}
 use Rattle.link_table.specs.Links.{Links, times, Reads}
 use Rattle.necessary_graph.specs.Part.{Needed, IsInStep}
@@ -18,6 +17,8 @@ use Rattle.node_outcomes.specs.Computing.{has_part}
 use Rattle.node_outcomes.specs.Row.{cutoff_in, outcome_in}
 use Rattle.stabilize_round.proofs.Points.{node_or_other}
 use Rattle.stabilizer.specs.Between.{Stays, HasDropped}
+use Rattle.node_arena.specs.Sound.{IsSound}
+use Rattle.node_outcomes.specs.Meaning.{Meaning}
 use Rattle.stabilizer.specs.Kept.{IsKept}
 use Rattle.stabilizer.specs.Places.{ChangesNode}
 use Rattle.map_nodes.specs.declared.cutoff.Cutoff.TheVariants.{Equal}
@@ -35,7 +36,7 @@ module _ (before arena : Arena) (old work : Work) (id : NodeId) (kept : IsKept b
     (dropped : nodes.Changes before arena id None) (given : arena.given ≡ before.given)
     (rows : ChangesNode old.rows work.rows id (λ part. None)) (points : ChangesNode old.graph.heights work.graph.heights id (λ part. None))
     (links : work.graph.links ≡ old.graph.links) (roots : work.graph.roots ≡ old.graph.roots) (heap : work.graph.heap ≡ old.graph.heap)
-    (step : IsInStep work.graph) (round : KeepsRound old work) (todo : work.todo.items ≡ old.todo.items) (pairs : work.pairs ≡ old.pairs) where
+    (step : IsInStep work.graph) (round : KeepsRound old work) (todo : work.todo.items ≡ old.todo.items) (pairs : work.pairs ≡ old.pairs) (sound : IsSound arena) where
   need_before : (p : Point) → Needed work.graph p → Needed old.graph p
   need_before p n = need_same work.graph old.graph (sym links) (sym roots) p n
 
@@ -97,7 +98,11 @@ module _ (before arena : Arena) (old work : Work) (id : NodeId) (kept : IsKept b
         row_stays p (needed_other p (kept.step.readers p q l')) (kept.links p q l');
     heap = λ p h. let h' : Holds old.graph.heap p = ap is_some (sym (same_heap p)) ∙ h in
         row_stays p (needed_other p (in_heap_needed p h')) (kept.heap p h');
-    flat = λ n r e. kept.flat n r (was_row n r e);
+    sound = sound;
+    today = record {
+      flat = λ n r e. kept.today.flat n r (was_row n r e);
+      no_binds = λ n r e. kept.today.no_binds n r (was_row n r e);
+    };
     outcomes = λ n r k v e is shows. typed_still before arena more types v r.ty
         (kept.outcomes n r k v (was_row n r e) (was_kept (main n) k (node_left n r e) is) shows);
     rights = λ n m r k o e is shows right. right_still before arena more types m r.ty
@@ -130,7 +135,7 @@ module _ (before arena : Arena) (old work : Work) (id : NodeId) (kept : IsKept b
 module _ (before arena arena' : Arena) (old work work' : Work) (count : ℕ) (id : NodeId) (so_far : HasDropped before arena old work count)
     (since : count ≤ id.gen_) (dropped : nodes.Changes arena arena' id None) (given : arena'.given ≡ arena.given)
     (rows : ChangesNode work.rows work'.rows id (λ part. None)) (links : work'.graph.links ≡ work.graph.links) (roots : work'.graph.roots ≡ work.graph.roots)
-    (heap : work'.graph.heap ≡ work.graph.heap) (kept : IsKept arena' work') (ready : (F : Functions) → IsReady F arena work → IsReady F arena' work') where
+    (heap : work'.graph.heap ≡ work.graph.heap) (kept : IsKept arena' work') (ready : (M : Meaning) → IsReady M arena work → IsReady M arena' work') where
   younger : (n : NodeId) → n.gen_ < count → n ≢ id
   younger n h is = let e = ap (λ (x : NodeId). x.gen_) is in absurd (omega (arith, e, h, since))
 
@@ -151,7 +156,7 @@ module _ (before arena arena' : Arena) (old work work' : Work) (count : ℕ) (id
     roots = roots ∙ so_far.roots;
     heap = heap ∙ so_far.heap;
     kept = kept;
-    ready = λ F r. ready F (so_far.ready F r);
+    ready = λ M r. ready M (so_far.ready M r);
   }
 
 -- ---- dead nodes are listed no more
@@ -167,7 +172,8 @@ module _ (arena : Arena) (old : Work) (work : Work) (kept : IsKept arena old) (r
     given = kept.given;
     links = kept.links;
     heap = kept.heap;
-    flat = kept.flat;
+    sound = kept.sound;
+    today = kept.today;
     outcomes = kept.outcomes;
     rights = kept.rights;
     calls = kept.calls;
@@ -189,5 +195,5 @@ module _ (arena : Arena) (old : Work) (work : Work) (kept : IsKept arena old) (r
     todo = refl;
   }
 
-  pub forgotten_ready : (F : Functions) → IsReady F arena old → IsReady F arena work
-  forgotten_ready F ready = ready_stays F arena arena old work ready forgotten_kept (subst (Stays arena arena old) (sym rest) forgotten_stays)
+  pub forgotten_ready : (M : Meaning) → IsReady M arena old → IsReady M arena work
+  forgotten_ready M ready = ready_stays M arena arena old work ready ready.fit forgotten_kept (subst (Stays arena arena old) (sym rest) forgotten_stays)

@@ -9,7 +9,10 @@ use Rattle.inc_terms.specs.Term.{Functions}
 use Rattle.point_map.specs.Rows.{Rows, at, Holds}
 use Rattle.link_table.specs.Links.{times, Reads}
 use Rattle.necessary_graph.specs.Part.{IsInStep}
+use Rattle.inc_terms.specs.Within.{FunctionLaws}
 use Rattle.node_arena.specs.Arena.{Arena, row_at}
+use Rattle.node_arena.specs.Sound.{IsSound}
+use Rattle.node_outcomes.specs.Meaning.{Meaning}
 use Rattle.node_outcomes.specs.Computing.{has_part}
 use Rattle.stabilizer.specs.Between.{IsBetween}
 use Rattle.stabilizer.specs.Kept.{IsKept}
@@ -18,7 +21,7 @@ use Rattle.node_outcomes.specs.Row.{settled_in}
 use Rattle.stabilizer.specs.declared.work.Work.{Work}
 use Rattle.stabilizer.proofs.Between.{between_is_ready}
 
-module _ (arena : Arena) (work : Work) (step : IsInStep work.graph) (nodes : (n : NodeId) → row_at arena n ≡ None)
+module _ (arena : Arena) (work : Work) (sound : IsSound arena) (step : IsInStep work.graph) (nodes : (n : NodeId) → row_at arena n ≡ None)
     (rows : (p : Point) → at work.rows p ≡ None) (points : (p : Point) → at work.graph.heights p ≡ None)
     (links : (p q : Point) → times work.graph.links p q ≡ 0) (heap : (p : Point) → at work.graph.heap p ≡ None)
     (todo : work.todo.items ≡ []) (ran : work.ran.items ≡ []) (strict : work.strict ≡ false) (round : work.round ≡ 1) where
@@ -37,7 +40,11 @@ module _ (arena : Arena) (work : Work) (step : IsInStep work.graph) (nodes : (n 
     given = λ p h. holds_none work.graph.heights p (points p) h;
     links = λ p q l. links_none p q l;
     heap = λ p h. holds_none work.graph.heap p (heap p) h;
-    flat = λ n r e. absurd (none-some r (sym (nodes n) ∙ e));
+    sound = sound;
+    today = record {
+      flat = λ n r e. absurd (none-some r (sym (nodes n) ∙ e));
+      no_binds = λ n r e. absurd (none-some r (sym (nodes n) ∙ e));
+    };
     outcomes = λ n r k v e is shows. absurd (none-some r (sym (nodes n) ∙ e));
     rights = λ n m r k o e is shows right. absurd (none-some r (sym (nodes n) ∙ e));
     calls = λ n r k c e is last. absurd (none-some r (sym (nodes n) ∙ e));
@@ -60,5 +67,5 @@ module _ (arena : Arena) (work : Work) (step : IsInStep work.graph) (nodes : (n 
     ran = ran;
   }
 
-  pub empty_ready : (F : Functions) → IsReady F arena work
-  empty_ready F = between_is_ready F arena work (empty_between F)
+  pub empty_ready : (M : Meaning) → FunctionLaws M.functions M.known M.ids → IsReady M arena work
+  empty_ready M laws = between_is_ready M arena work laws (λ n r e. absurd (none-some r (sym (nodes n) ∙ e))) (empty_between M.functions)

@@ -1,5 +1,5 @@
 -- A round ends: what is needed is up to date, and another round may begin.
-use Rattle.std.proofs.Common.{◌≡◌, ◌⊎◌, inl, inr, ℕ, suc, ◌<◌, ◌≤◌, ◌+◌, ◌++◌, true, false, List, [], ◌∷◌, map, Option, None, Some, refl, sym, ap, subst, ◌∙◌, arith}
+use Rattle.std.proofs.Common.{◌≡◌, ◌⊎◌, inl, inr, ℕ, suc, Bool, ◌<◌, ◌≤◌, ◌+◌, ◌++◌, true, false, List, [], ◌∷◌, map, Option, None, Some, refl, sym, ap, subst, ◌∙◌, arith}
 use Rattle.std.specs.Prelude.{is_some, ◌↔◌, ◌==◌, reverse}
 use Rattle.std.proofs.Math.Path.{fun_ext}
 use Rattle.std.proofs.lemmas.Grind.{common_steps}
@@ -30,12 +30,15 @@ use Rattle.link_table.specs.Links.{Reads}
 use Rattle.necessary_graph.specs.Part as part
 use Rattle.recompute_heap.specs.Agree.{IsEmpty}
 use Rattle.node_arena.specs.Arena.{Arena, row_at}
-use Rattle.node_arena.specs.Graph.{graph_of}
+use Rattle.inc_value.specs.declared.function.FnRef.{FnRef}
+use Rattle.inc_terms.specs.Within.{FunctionLaws}
+use Rattle.node_arena.specs.Graph.{AllCallFit, graph_of}
 use Rattle.stabilize_round.specs.Calling as reason
 use Rattle.stabilize_round.specs.Calling.{Reason, cost_at, costs_of}
 use Rattle.stabilize_round.specs.Freezing.{fires_at}
 use Rattle.stabilize_round.proofs.Freezing.{other_rests}
-use Rattle.stabilizer.specs.Round.{WasForced, IsReady, AreRooted, last_of, last_call, cutoff_at, WasCalled, IsUpToDate}
+use Rattle.stabilizer.specs.Round.{WasForced, IsReady, AreRooted, last_of, last_call, cutoff_at}
+use Rattle.stabilizer.proofs.Still.{WasCalled, IsUpToDate}
 use Rattle.inc_terms.specs.Work.{taken_by}
 use Rattle.stabilize_round.specs.Counts.{RoseBy}
 use Rattle.stabilize_round.proofs.Planned.{reads_taken}
@@ -317,7 +320,8 @@ module _ (F : Functions) (arena : Arena) (old mid : Work) (before after : ℕ) (
       given = kept.given;
       links = kept.links;
       heap = kept.heap;
-      flat = kept.flat;
+      sound = kept.sound;
+      today = kept.today;
       outcomes = kept.outcomes;
       rights = kept.rights;
       calls = kept.calls;
@@ -348,9 +352,12 @@ module _ (F : Functions) (arena : Arena) (old mid : Work) (before after : ℕ) (
       given = stands.given;
     }
 
-    pub ready_again : IsReady F arena new
-    ready_again = subst (λ (w : Work). IsReady F arena w) is_next (record {
+    pub ready_again : (known : FnRef → Bool) (ids : FnRef → List NodeId) → FunctionLaws F known ids → AllCallFit known ids arena
+        → IsReady (record { functions = F; known = known; ids = ids }) arena new
+    ready_again known ids laws fit = subst (λ (w : Work). IsReady (record { functions = F; known = known; ids = ids }) arena w) is_next (record {
       kept = keeps;
+      laws = laws;
+      fit = fit;
       start = start_after begun.start last;
       state = rested last;
       stands = stands_next;
@@ -493,7 +500,7 @@ module _ (F : Functions) (arena : Arena) (old mid : Work) (before after : ℕ) (
       once = once;
       called = called;
       costs = costs;
-      work = λ beside observers stood are_on calls few. within F arena kept.flat old mid observed (root_observed arena observed) beside observers stood are_on
+      work = λ beside observers stood are_on calls few. within F arena kept.today.flat old mid observed (root_observed arena observed) beside observers stood are_on
           mid.ran.items once called calls few;
     }
 

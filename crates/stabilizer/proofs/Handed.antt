@@ -72,10 +72,10 @@ reads_due F z s arena work calls p q rest r links row reads among kept inv on un
     record {
       holds = inv;
       stands = on;
-      depends = fixed {r = r} row_is (subst (StandsIn F s.graph) (sym (kept.flat p.node r row)) (top_holds F s.graph))
+      depends = fixed {r = r} row_is (subst (StandsIn F s.graph) (sym (kept.today.flat p.node r row)) (top_holds F s.graph))
           (subst (λ (xs : List Point). Among q xs) (sym (reads.fixed s.graph)) among);
       confirmed = record {
-        gate = λ r' b e scope. absurd (none-some b (sym (kept.flat p.node r' (sym (ap (λ (G : Graph). G.row p.node) on.graph) ∙ e)) ∙ scope));
+        gate = λ r' b e scope. absurd (none-some b (sym (kept.today.flat p.node r' (sym (ap (λ (G : Graph). G.row p.node) on.graph) ∙ e)) ∙ scope));
         right = λ r' e m among'. absurd (nowhere (subst (λ (xs : List Point). Among q xs)
             (ap (λ (x : Row). targets s.graph p.node x.def (s.out (change p.node))) (same r' (sym e ∙ row_is))
             ∙ reads.no_right s.graph (s.out (change p.node)) m) among'));

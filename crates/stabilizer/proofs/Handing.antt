@@ -136,13 +136,13 @@ module _ (arena : Arena) (p : Point) (r : Row) (row : row_at arena p.node ≡ So
         plan = λ b.
             let all : count b (plan_at s.graph s.out s.died p (s.graph.row p.node) machine.Full) ≡ count b links =
             ap (λ (x : Option Row). count b (plan_at s.graph s.out s.died p x machine.Full)) row_is
-            ∙ ap (count b) (plan_is s.graph s.out (kept.flat p.node r row)) in
+            ∙ ap (count b) (plan_is s.graph s.out (kept.today.flat p.node r row)) in
             let before : count b (planned s p) ≡ 0 =
             ap (λ (x : machine.Stage). count b (plan_at s.graph s.out s.died p (s.graph.row p.node) x)) is_bare
             ∙ ap (λ (x : Option Row). count b (plan_at s.graph s.out s.died p x machine.Bare)) row_is in
             omega (arith, all, before);
         lower = λ e. let b = is_bare in cc;
-        gates = λ stage r' b e scope. absurd (none-some b (sym (kept.flat p.node r' (sym (ap (λ (G : Graph). G.row p.node) on.graph) ∙ e)) ∙ scope));
+        gates = λ stage r' b e scope. absurd (none-some b (sym (kept.today.flat p.node r' (sym (ap (λ (G : Graph). G.row p.node) on.graph) ∙ e)) ∙ scope));
         rights = λ full m r' q e among. absurd (nowhere q (subst (λ (xs : List Point). Among q xs)
             (ap (λ (x : Row). targets s.graph p.node x.def (s.out (change p.node))) (the_row r' (sym e ∙ row_is))
             ∙ reads.no_right s.graph (s.out (change p.node)) m) among));

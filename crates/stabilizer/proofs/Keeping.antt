@@ -120,7 +120,8 @@ module _ (arena : Arena) (old new : Work) (kept : IsKept arena old) (c : Carries
     given = λ p h. elim (c.opened p h) [ inl k ↦ kept.given p k | inr k ↦ k.1 ];
     links = λ p q r. now p (c.links p q r);
     heap = λ p h. now p (c.heap p h);
-    flat = kept.flat;
+    sound = kept.sound;
+    today = kept.today;
     outcomes = λ n r k v row e o. (c.fit (main n) k e).outcome r v refl row o;
     rights = λ n m r k o row e out right. (c.fit (change n) k e).right r m o refl row out right;
     calls = λ n r k l row e h. (c.fit (main n) k e).call r l refl row h;

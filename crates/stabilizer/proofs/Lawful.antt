@@ -21,18 +21,20 @@ use Rattle.stabilize_round.specs.State.{State}
 use Rattle.stabilize_round.specs.StepLaws.{LinkedOr}
 use Rattle.stabilize_round.proofs.Confirmed.{listed_are_met}
 use Rattle.stabilize_round.proofs.Entry.{entry_holds}
-use Rattle.stabilize_round.proofs.Machine.{moves_keep}
 use Rattle.stabilize_round.proofs.Meanings.{round_keeps}
 use Rattle.stabilize_round.proofs.Points.{count_among}
 use Rattle.stabilize_round.proofs.Steps.{joined}
 use Rattle.stabilizer.specs.Refusing.{RefusedBy, TellsWhy, no_memory, by_link}
-use Rattle.stabilizer.specs.Round.{IsReady, AreRooted, OnlyRoots, IsListed, IsLawful, SettleRefused}
+use Rattle.stabilizer.specs.Round.{IsReady, AreRooted, OnlyRoots, SettleRefused}
+use Rattle.stabilizer.proofs.Still.{IsListed, IsLawful}
 use Rattle.stabilizer.specs.Stands.{Hand, Stands}
 use Rattle.stabilizer.specs.Wiring.{PutsRoots, RootRefused}
 use Rattle.stabilizer.specs.declared.refused.Refused.{Refused}
 use Rattle.stabilizer.specs.declared.refused.Refused.TheVariants.{Height, Cycle, Full, Memory}
 use Rattle.stabilizer.specs.declared.work.Work.{Work}
-use Rattle.stabilizer.proofs.Beginning.{Begun, begun}
+use Rattle.stabilizer.proofs.Beginning.{Begun, begun_of}
+use Rattle.stabilizer.proofs.Began.{round_on}
+use Rattle.node_outcomes.specs.Meaning.{Meaning}
 use Rattle.stabilizer.proofs.Ending.{as_graph, among_main}
 use Rattle.stabilizer.proofs.Once.{once_as}
 
@@ -133,22 +135,24 @@ lawful F arena old new before between b left t run stands nodes observed only ro
     by_refused F arena old new before between b left t run stands nodes observed only rooted p q need tried e why
 
 -- a root or its links were refused
-pub roots_lawful : (F : Functions) (arena : Arena) (old new : Work) (before : ℕ) → IsReady F arena old → (nodes observed : List NodeId)
+pub roots_lawful : (M : Meaning) (arena : Arena) (old new : Work) (before : ℕ) → IsReady M arena old → (nodes observed : List NodeId)
     → OnlyRoots old.graph.roots new.graph.roots (map main nodes) → AreRooted old observed → (e : Refused) → RootRefused arena old new e
-    → IsLawful F arena old (nodes ++ observed) e
-roots_lawful F arena old new before ready nodes observed only rooted e refused =
-    let b = begun F arena old ready before in
+    → IsLawful M.functions arena old (nodes ++ observed) e
+roots_lawful M arena old new before ready nodes observed only rooted e refused =
+    let F = M.functions in
+    let b = (begun_of M arena old ready before).begun in
     let k = refused F b.start b.state before (entry_holds F b.start b.state b.entry) b.stands in
     lawful F arena old new before before b k.1 k.0 k.2 k.3 nodes observed only rooted e k.4
 
 -- a step was refused
-pub steps_lawful : (F : Functions) (arena : Arena) (old mid new : Work) (before after : ℕ) → IsReady F arena old → PutsRoots arena old mid
+pub steps_lawful : (M : Meaning) (arena : Arena) (old mid new : Work) (before after : ℕ) → IsReady M arena old → PutsRoots arena old mid
     → (nodes observed : List NodeId) → OnlyRoots old.graph.roots mid.graph.roots (map main nodes) → KeepsRoots mid.graph.roots new.graph.roots
-    → AreRooted old observed → (e : Refused) → SettleRefused F arena mid new before after e → IsLawful F arena old (nodes ++ observed) e
-steps_lawful F arena old mid new before after ready put nodes observed only same rooted e refused =
-    let b = begun F arena old ready before in
-    let holds = entry_holds F b.start b.state b.entry in
-    let m = put F b.start b.state before holds b.stands in
-    let k = refused b.start m.0 (moves_keep F b.start b.state m.0 m.1 holds) m.2 in
+    → AreRooted old observed → (e : Refused) → SettleRefused M arena mid new before after e → IsLawful M.functions arena old (nodes ++ observed) e
+steps_lawful M arena old mid new before after ready put nodes observed only same rooted e refused =
+    let F = M.functions in
+    let begins = begun_of M arena old ready before in
+    let b = begins.begun in
+    let m = put F b.start b.state before begins.round.holds b.stands in
+    let k = refused b.start m.0 (round_on M b.start b.state m.0 m.1 begins.round) m.2 in
     lawful F arena old new before k.between b k.left k.state (joined (Move F b.start) b.state m.0 k.state m.1 k.moves) k.stands nodes observed
     (λ p h. only p (subst (λ (n : ℕ). 0 < n) (same p) h)) rooted e k.told

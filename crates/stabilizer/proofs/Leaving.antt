@@ -257,7 +257,8 @@ module _ (arena : Arena) (old new : Work) (p : Point) (popped : IsPopped old new
     given = rw popped.graph k.given;
     links = rw (popped.graph, popped.rows) k.links;
     heap = rw (popped.graph, popped.rows) k.heap;
-    flat = k.flat;
+    sound = k.sound;
+    today = k.today;
     outcomes = rw popped.rows k.outcomes;
     rights = rw popped.rows k.rights;
     calls = rw popped.rows k.calls;

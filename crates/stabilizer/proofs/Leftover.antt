@@ -29,12 +29,15 @@ use Rattle.stabilize_round.proofs.Entry.{entry_holds}
 use Rattle.stabilize_round.proofs.Machine.{moves_keep}
 use Rattle.stabilize_round.proofs.Steps.{joined}
 use Rattle.stabilizer.specs.Kept.{IsKept}
-use Rattle.stabilizer.specs.Round.{IsReady, AreRooted, OnlyRoots, HasCalledMet, SettleRefused, ShowsStill, cutoff_at}
+use Rattle.stabilizer.specs.Round.{IsReady, AreRooted, OnlyRoots, SettleRefused, cutoff_at}
+use Rattle.stabilizer.proofs.Still.{HasCalledMet, ShowsStill}
 use Rattle.stabilizer.specs.Stands.{Hand, Stands}
 use Rattle.stabilizer.specs.Wiring.{PutsRoots, RootRefused}
 use Rattle.stabilizer.specs.declared.refused.Refused.{Refused}
 use Rattle.stabilizer.specs.declared.work.Work.{Work}
-use Rattle.stabilizer.proofs.Beginning.{Begun, begun, main_there}
+use Rattle.stabilizer.proofs.Beginning.{Begun, BegunOf, begun_of, main_there}
+use Rattle.stabilizer.proofs.Began.{round_on}
+use Rattle.node_outcomes.specs.Meaning.{Meaning}
 use Rattle.stabilizer.proofs.Ending.{as_graph, cutoff_case, seen_case}
 use Rattle.stabilizer.proofs.Lawful.{met_as}
 use Rattle.stabilizer.proofs.Remaining.{moves_out}
@@ -120,47 +123,55 @@ only_still : (old mid new : Roots) (ps : List Point) → OnlyRoots old mid ps �
 only_still old mid new ps only same p h = only p (subst (λ (n : ℕ). 0 < n) (same p) h)
 
 -- a root or its links were refused
-pub roots_cutoffs : (F : Functions) (arena : Arena) (old new : Work) (before : ℕ) → IsReady F arena old → IsKept arena new → (e : Refused)
+pub roots_cutoffs : (M : Meaning) (arena : Arena) (old new : Work) (before : ℕ) → IsReady M arena old → IsKept arena new → (e : Refused)
     → RootRefused arena old new e → (n : NodeId) → cutoff_at new n ≡ cutoff_at old n
-roots_cutoffs F arena old new before ready kept e refused =
-    let b = begun F arena old ready before in
+roots_cutoffs M arena old new before ready kept e refused =
+    let F = M.functions in
+    let b = (begun_of M arena old ready before).begun in
     let k = refused F b.start b.state before (entry_holds F b.start b.state b.entry) b.stands in
     cutoffs_still F arena old new before before b k.1 k.0 k.2 k.3 ready.kept kept
 
-pub roots_show : (F : Functions) (arena : Arena) (old new : Work) (before : ℕ) → IsReady F arena old → IsKept arena new → (e : Refused)
-    → RootRefused arena old new e → (n : NodeId) → ShowsStill F arena old new n
-roots_show F arena old new before ready kept e refused =
-    let b = begun F arena old ready before in
+pub roots_show : (M : Meaning) (arena : Arena) (old new : Work) (before : ℕ) → IsReady M arena old → IsKept arena new → (e : Refused)
+    → RootRefused arena old new e → (n : NodeId) → ShowsStill M.functions arena old new n
+roots_show M arena old new before ready kept e refused =
+    let F = M.functions in
+    let b = (begun_of M arena old ready before).begun in
     let k = refused F b.start b.state before (entry_holds F b.start b.state b.entry) b.stands in
     shows_still F arena old new before before b k.1 k.0 k.2 k.3 ready.kept kept
 
-module _ (F : Functions) (arena : Arena) (old mid new : Work) (before after : ℕ) (ready : IsReady F arena old) (put : PutsRoots arena old mid) (e : Refused)
-    (refused : SettleRefused F arena mid new before after e) where
-  b : Begun F arena old before
-  b = begun F arena old ready before
+module _ (M : Meaning) (arena : Arena) (old mid new : Work) (before after : ℕ) (ready : IsReady M arena old) (put : PutsRoots arena old mid) (e : Refused)
+    (refused : SettleRefused M arena mid new before after e) where
+  abbrev F : Functions
+  F = M.functions
+
+  begins : BegunOf M arena old before
+  begins = begun_of M arena old ready before
+
+  abbrev b : Begun F arena old before
+  b = begins.begun
 
   inv : Invariant F b.start b.state
-  inv = entry_holds F b.start b.state b.entry
+  inv = begins.round.holds
 
   -- a step was refused
   pub steps_cutoffs : IsKept arena new → (n : NodeId) → cutoff_at new n ≡ cutoff_at old n
   steps_cutoffs kept =
       let m = put F b.start b.state before inv b.stands in
-      let k = refused b.start m.0 (moves_keep F b.start b.state m.0 m.1 inv) m.2 in
+      let k = refused b.start m.0 (round_on M b.start b.state m.0 m.1 begins.round) m.2 in
       cutoffs_still F arena old new before k.between b k.left k.state (joined (Move F b.start) b.state m.0 k.state m.1 k.moves) k.stands ready.kept kept
 
-  pub steps_show : IsKept arena new → (n : NodeId) → ShowsStill F arena old new n
+  pub steps_show : IsKept arena new → (n : NodeId) → ShowsStill M.functions arena old new n
   steps_show kept =
       let m = put F b.start b.state before inv b.stands in
-      let k = refused b.start m.0 (moves_keep F b.start b.state m.0 m.1 inv) m.2 in
+      let k = refused b.start m.0 (round_on M b.start b.state m.0 m.1 begins.round) m.2 in
       shows_still F arena old new before k.between b k.left k.state (joined (Move F b.start) b.state m.0 k.state m.1 k.moves) k.stands ready.kept kept
 
   -- and some of a least point's calls may have been made
   pub steps_called : (nodes observed : List NodeId) → OnlyRoots old.graph.roots mid.graph.roots (map main nodes) → KeepsRoots mid.graph.roots new.graph.roots
-      → AreRooted old observed → HasCalledMet F arena old (nodes ++ observed) before after
+      → AreRooted old observed → HasCalledMet M.functions arena old (nodes ++ observed) before after
   steps_called nodes observed only same rooted =
       let m = put F b.start b.state before inv b.stands in
-      let k = refused b.start m.0 (moves_keep F b.start b.state m.0 m.1 inv) m.2 in
+      let k = refused b.start m.0 (round_on M b.start b.state m.0 m.1 begins.round) m.2 in
       let run = joined (Move F b.start) b.state m.0 k.state m.1 k.moves in
       let graph = k.stands.graph in
       let stays = only_still old.graph.roots mid.graph.roots new.graph.roots (map main nodes) only same in

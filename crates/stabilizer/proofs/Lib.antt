@@ -15,7 +15,10 @@ pub mod Once
 pub mod Mains
 pub mod Sight
 pub mod Stepping
+pub mod Began
+pub mod Fitting
 pub mod Beginning
+pub mod Still
 pub mod Counting
 pub mod Ending
 pub mod Rounding

@@ -143,7 +143,8 @@ module _ (arena : Arena) (old first new : Work) (n : NodeId) (right : Option Nod
     given = λ p h. kept.given p (sym (same_heights p) ∙ h);
     links = λ p q l. there p ∙ kept.links p q (let f = k.fewer p q in omega (arith, l, f));
     heap = λ p h. there p ∙ heap_before kept own mine p h;
-    flat = kept.flat;
+    sound = kept.sound;
+    today = kept.today;
     outcomes = λ i r x v row e o. let b = row_was (main i) x e in kept.outcomes i r b.0 v row b.1 (sym b.2.outcome ∙ o);
     rights = λ i m r x o row e out right. let b = row_was (change i) x e in kept.rights i m r b.0 o row b.1 (sym b.2.outcome ∙ out) right;
     calls = λ i r x c row e l. let b = row_was (main i) x e in kept.calls i r b.0 c row b.1 (sym b.2.last ∙ l);

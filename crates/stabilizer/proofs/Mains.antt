@@ -1,13 +1,12 @@
 -- A main is computed and settled, or left as it was.
-use Rattle.std.proofs.Common.{◌≡◌, ◌≢◌, ◌⊎◌, inl, inr, ℕ, true, List, Option, None, Some, sym, ap, subst, ◌∙◌, arith}
+use Rattle.std.proofs.Common.{◌≡◌, ◌≢◌, ◌⊎◌, inl, inr, ℕ, true, Option, None, Some, sym, ap, subst, ◌∙◌, arith}
 use Rattle.std.specs.Prelude.{option_map}
-use Rattle.inc_value.specs.declared.function.FnRef.{FnRef}
 use Rattle.inc_value.specs.declared.node.NodeId.{NodeId}
 use Rattle.inc_value.specs.declared.node.Part.{Part}
 use Rattle.inc_value.specs.declared.node.Part.TheVariants.{Main}
 use Rattle.inc_value.specs.declared.node.Point.{Point}
 use Rattle.inc_value.specs.declared.outcome.Outcome.{Outcome}
-use Rattle.inc_value.specs.declared.value.Value.{Value}
+use Rattle.inc_terms.specs.Term.{Functions}
 use Rattle.inc_terms.specs.Depend.{main}
 use Rattle.map_nodes.specs.declared.cutoff.Cutoff.{Cutoff}
 use Rattle.map_nodes.specs.declared.cutoff.Cutoff.TheVariants.{Equal, Never}
@@ -44,9 +43,9 @@ pub record KeepsRest (old new : Work) : Type 0 where
   pub round : new.round ≡ old.round
   pub pairs : new.pairs ≡ old.pairs
 
-module _ (value : FnRef → List Value → Value) (arena : Arena) (old mid new : Work) (n : NodeId) (p : Point) (same : p ≡ main n) (o : Outcome) (before after : ℕ)
+module _ (F : Functions) (arena : Arena) (old mid new : Work) (n : NodeId) (p : Point) (same : p ≡ main n) (o : Outcome) (before after : ℕ)
     (kept : IsKept arena old) (taken : at old.graph.heap (main n) ≡ None)
-    (rest : KeepsRest old mid) (c : Computes value arena old.round (noted old.rows old.ran.items before) (noted mid.rows mid.ran.items after) n o)
+    (rest : KeepsRest old mid) (c : Computes F arena old.round (noted old.rows old.ran.items before) (noted mid.rows mid.ran.items after) n o)
     (rewritten : IsRewritten mid.rows new.rows p (with_outcome o mid.round)) (graph : KeepsGraph mid.graph new.graph)
     (tells : IsTold mid new p o) (round : KeepsRound mid new) (todo : new.todo ≡ mid.todo) where
   rows : IsRewritten mid.rows new.rows (main n) (with_outcome o mid.round)
@@ -130,7 +129,7 @@ module _ (value : FnRef → List Value → Value) (arena : Arena) (old mid new :
       unstopped (inl other) s = other (ap (λ (x : Progress). x.outcome) (its s) ∙ s.2.1)
       unstopped (inr never) s = equal_stops c.computed.kept.cutoff (ap (λ (x : Progress). x.cutoff) (its s) ∙ s.2.0) never
 
-  pub main_settled : MainIsSettled value arena old new n before after
+  pub main_settled : MainIsSettled F arena old new n before after
   main_settled = record {
     outcome = o;
     last = c.last;

@@ -145,7 +145,8 @@ module _ (old new : Work) (p : Point) (st : Stage) (w : IsRewritten old.rows new
     given = λ a h. k.given a (subst (λ (g : NecessaryPart). Holds g.heights a) graph h);
     links = λ a b l. there a ∙ k.links a b (subst (λ (g : NecessaryPart). Reads g.links a b) graph l);
     heap = λ a h. there a ∙ k.heap a (subst (λ (g : NecessaryPart). Holds g.heap a) graph h);
-    flat = k.flat;
+    sound = k.sound;
+    today = k.today;
     outcomes = λ n r x v row e o. let b = row_before old.rows new.rows p st w (main n) x e in k.outcomes n r b.row v row b.was (sym b.outcome ∙ o);
     rights = λ n m r x o row e out. let b = row_before old.rows new.rows p st w (change n) x e in k.rights n m r b.row o row b.was (sym b.outcome ∙ out);
     calls = λ n r x c row e l. let b = row_before old.rows new.rows p st w (main n) x e in k.calls n r b.row c row b.was (sym b.last ∙ l);
@@ -274,7 +275,7 @@ module _ (arena : Arena) (n : NodeId) (r : Row) (row : row_at arena n ≡ Some r
   is_bare = let k = staged_row (at old.rows (main n)) code.Bare bare in on.stage (main n) k.0 k.1 ∙ ap stage_of k.2
 
   no_gate : r.scope ≡ None
-  no_gate = kept.flat n r row
+  no_gate = kept.today.flat n r row
 
   pub waits : Raise s (main n) machine.Static (change n ∷ [])
   waits = record {
@@ -289,7 +290,7 @@ module _ (arena : Arena) (n : NodeId) (r : Row) (row : row_at arena n ≡ Some r
         ∙ ap (λ (x : Option Row). count b (plan_at s.graph s.out s.died (main n) x machine.Bare)) row_is in
         omega (arith, all, before);
     lower = λ e. let b = is_bare in cc;
-    gates = λ stage r' b e scope. absurd (none-some b (sym (kept.flat n r' (sym (ap (λ (G : Graph). G.row n) on.graph) ∙ e)) ∙ scope));
+    gates = λ stage r' b e scope. absurd (none-some b (sym (kept.today.flat n r' (sym (ap (λ (G : Graph). G.row n) on.graph) ∙ e)) ∙ scope));
     rights = λ e m r' q row' among. absurd (let x = e in cc);
   }
 
@@ -299,7 +300,7 @@ module _ (arena : Arena) (n : NodeId) (r : Row) (row : row_at arena n ≡ Some r
 
   pub own_confirmed : IsConfirmed s (main n) (change n)
   own_confirmed = record {
-    gate = λ r' b e scope. absurd (none-some b (sym (kept.flat n r' (sym (ap (λ (G : Graph). G.row n) on.graph) ∙ e)) ∙ scope));
+    gate = λ r' b e scope. absurd (none-some b (sym (kept.today.flat n r' (sym (ap (λ (G : Graph). G.row n) on.graph) ∙ e)) ∙ scope));
     right = λ r' e m among. absurd (no_change s.graph n r'.def (s.out (change n)) n among);
   }
 
@@ -328,7 +329,8 @@ module _ (arena : Arena) (n : NodeId) (r : Row) (row : row_at arena n ≡ Some r
       | inl e ↦ subst (λ (x : Point). Holds old.rows x) e (own_row k)
       | inr ne ↦ k.heap a (sym (ap is_some (marked.others a (λ e. ne (sym e)))) ∙ h)
     ]);
-    flat = k.flat;
+    sound = k.sound;
+    today = k.today;
     outcomes = λ i x w v at_row e. k.outcomes i x w v at_row (sym (ap (λ (m : Rows Progress). at m (main i)) same_rows) ∙ e);
     rights = λ i j x w o at_row e. k.rights i j x w o at_row (sym (ap (λ (m : Rows Progress). at m (change i)) same_rows) ∙ e);
     calls = λ i x w c at_row e. k.calls i x w c at_row (sym (ap (λ (m : Rows Progress). at m (main i)) same_rows) ∙ e);

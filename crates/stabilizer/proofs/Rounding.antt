@@ -3,10 +3,8 @@ use Rattle.std.proofs.Common.{◌≡◌, ◌≢◌, ◌⊎◌, inl, inr, ℕ, �
 use Rattle.std.specs.Prelude.{Result, Ok, Err, OnErr, IfErr, is_some}
 use Rattle.std.specs.Result.{IsErrAnd}
 use Rattle.std.proofs.lemmas.List.{take_more, map-append, take-append-drop}
-use Rattle.inc_value.specs.declared.function.FnRef.{FnRef}
 use Rattle.inc_value.specs.declared.node.NodeId.{NodeId}
 use Rattle.inc_value.specs.declared.node.Point.{Point}
-use Rattle.inc_value.specs.declared.value.Value.{Value}
 use Rattle.inc_value.specs.Choice.{Among, here}
 use Rattle.inc_terms.specs.Depend.{main}
 use Rattle.inc_terms.specs.Term.{Functions}
@@ -17,7 +15,6 @@ use Rattle.recompute_heap.specs.Agree.{IsEmpty}
 use Rattle.necessity.specs.Need.{Roots, root_times, KeepsRoots, OneRootMore}
 use Rattle.node_arena.specs.Arena.{Arena}
 use Rattle.node_arena.specs.Graph.{graph_of}
-use Rattle.node_arena.specs.Meanings.{SameValues}
 use Rattle.stabilize_round.specs.Calling.{costs_of}
 use Rattle.stabilize_round.specs.Counts.{RoseBy}
 use Rattle.node_outcomes.specs.Computing.{HasCalledSome}
@@ -25,13 +22,13 @@ use Rattle.stabilize_round.specs.Invariant.{Invariant}
 use Rattle.stabilize_round.specs.Machine.{Move, Moves}
 use Rattle.stabilize_round.specs.Moves.{Quiet}
 use Rattle.stabilize_round.specs.State.{State, count}
-use Rattle.stabilize_round.proofs.Entry.{entry_holds}
 use Rattle.stabilize_round.proofs.Machine.{moves_keep}
 use Rattle.stabilize_round.proofs.Points.{same_or_other, one_same, one_other, count_append, count_among}
 use Rattle.stabilize_round.proofs.Steps.{joined, step_moves}
 use Rattle.stabilizer.specs.Kept.{IsKept}
-use Rattle.node_outcomes.specs.Meaning.{functions_of}
-use Rattle.stabilizer.specs.Round.{IsReady, AreRooted, IsUpToDate, IsInRound, RootsMore, OnlyRoots, Settles, Pauses, SettleRefused}
+use Rattle.node_outcomes.specs.Meaning.{Meaning}
+use Rattle.stabilizer.specs.Round.{IsReady, AreRooted, IsInRound, RootsMore, OnlyRoots, Settles, Pauses, SettleRefused}
+use Rattle.stabilizer.proofs.Still.{IsUpToDate}
 use Rattle.stabilizer.specs.Stands.{Stands}
 use Rattle.stabilizer.specs.Stepping.{Steps, StepRefused, StepStops, as_it_was, wiring, StepFalls, CoversAll, left_to_settle}
 use Rattle.stabilizer.specs.Wiring.{PutsRoots, RootRefused, KeepsPlaces}
@@ -39,7 +36,8 @@ use Rattle.stabilizer.specs.Refusing.{TellsWhy, no_memory}
 use Rattle.node_outcomes.specs.declared.row.Progress.{Progress}
 use Rattle.stabilizer.specs.declared.refused.Refused.{Refused}
 use Rattle.stabilizer.specs.declared.work.Work.{Work}
-use Rattle.stabilizer.proofs.Beginning.{Begun, begun, same_meaning}
+use Rattle.stabilizer.proofs.Began.{round_on}
+use Rattle.stabilizer.proofs.Beginning.{Begun, BegunOf, begun_of}
 use Rattle.stabilizer.proofs.Ending.{quiet_of, counted, ready_again, right_again}
 
 -- what holds anyhow holds on an error
@@ -142,23 +140,27 @@ put_refused arena old mid new e first next F z s calls inv st =
 
 -- ---- steps
 
-pub none_settled : (F : Functions) (arena : Arena) (work : Work) (calls : ℕ) → Settles F arena work work calls calls
-none_settled F arena work calls z s inv st = (s, here, st)
+pub none_settled : (M : Meaning) (arena : Arena) (work : Work) (calls : ℕ) → Settles M arena work work calls calls
+none_settled M arena work calls z s begun st = (s, here, st)
 
-pub settles_more : (F : Functions) (arena : Arena) (old mid new : Work) (before between after : ℕ) → Settles F arena old mid before between
-    → mid.todo.items ≡ [] → Steps F arena mid new between after → Settles F arena old new before after
-settles_more F arena old mid new before between after first idle next z s inv st =
-    let m = first z s inv st in
-    let k = next z m.0 (moves_keep F z s m.0 m.1 inv) (quiet_of arena mid between m.0 m.2 idle) m.2 in
+pub settles_more : (M : Meaning) (arena : Arena) (old mid new : Work) (before between after : ℕ) → Settles M arena old mid before between
+    → mid.todo.items ≡ [] → Steps M arena mid new between after → Settles M arena old new before after
+settles_more M arena old mid new before between after first idle next z s begun st =
+    let F = M.functions in
+    let m = first z s begun st in
+    let k = next z m.0 (round_on M z s m.0 m.1 begun) (quiet_of arena mid between m.0 m.2 idle) m.2 in
     (k.0, joined (Move F z) s m.0 k.0 m.1 (step_moves F z m.0 k.0 k.1), k.2)
 
-pub settle_stops : (F : Functions) (arena : Arena) (old mid new : Work) (before between after : ℕ) (e : Refused) → Settles F arena old mid before between
-    → mid.todo.items ≡ [] → StepRefused F arena mid new between after e → SettleRefused F arena old new before after e
-settle_stops F arena old mid new before between after e first idle next z s inv st =
-    let m = first z s inv st in
+pub settle_stops : (M : Meaning) (arena : Arena) (old mid new : Work) (before between after : ℕ) (e : Refused) → Settles M arena old mid before between
+    → mid.todo.items ≡ [] → StepRefused M arena mid new between after e → SettleRefused M arena old new before after e
+settle_stops M arena old mid new before between after e first idle next z s begun st =
+    let m = first z s begun st in
     let quiet = quiet_of arena mid between m.0 m.2 idle in
-    by m.0 m.1 m.2.calls quiet (next z m.0 (moves_keep F z s m.0 m.1 inv) quiet m.2)
+    by m.0 m.1 m.2.calls quiet (next z m.0 (round_on M z s m.0 m.1 begun) quiet m.2)
   where
+    F : Functions
+    F = M.functions
+
     by : (u : State) → Moves F z s u → u.calls ≡ between → Quiet u → StepStops F z u arena new between after e → Pauses F z s arena new after e
     by u run calls quiet (as_it_was stands count is) = record {
       state = u;
@@ -224,60 +226,60 @@ covers first now there = record { points_of = points_of; nodes_of = λ p h. node
         there_now (Some k) e = (k, refl)
 
 -- the steps so far settled points
-pub record AreSettled (F : Functions) (arena : Arena) (old now : Work) (before between : ℕ) : Type 0 where
+pub record AreSettled (M : Meaning) (arena : Arena) (old now : Work) (before between : ℕ) : Type 0 where
   pub kept : IsKept arena now
   pub quiet : now.todo.items ≡ []
-  pub settled : Settles F arena old now before between
+  pub settled : Settles M arena old now before between
   pub roots : KeepsRoots old.graph.roots now.graph.roots
   pub round : now.round ≡ old.round
   pub there : (p : Point) → is_some (at now.rows p) ≡ is_some (at old.rows p)
 
-pub no_step : (F : Functions) (arena : Arena) (old : Work) (before : ℕ) → IsKept arena old → old.todo.items ≡ [] → AreSettled F arena old old before before
-no_step F arena old before kept quiet = record {
+pub no_step : (M : Meaning) (arena : Arena) (old : Work) (before : ℕ) → IsKept arena old → old.todo.items ≡ [] → AreSettled M arena old old before before
+no_step M arena old before kept quiet = record {
   kept = kept;
   quiet = quiet;
-  settled = none_settled F arena old before;
+  settled = none_settled M arena old before;
   roots = λ p. refl;
   round = refl;
   there = λ p. refl;
 }
 
 -- a step of functions that mean the same, over the same arena
-module _ (v w : FnRef → List Value → Value) (same : SameValues v w) (arena a : Arena) (is : a ≡ arena) where
-  as_meant : (P : Functions → Arena → Type 0) → P (functions_of w) a → P (functions_of v) arena
+module _ (M N : Meaning) (same : N ≡ M) (arena a : Arena) (is : a ≡ arena) where
+  as_meant : (P : Meaning → Arena → Type 0) → P N a → P M arena
   as_meant P h =
-      subst (λ (x : Arena). P (functions_of v) x) is (subst (λ (u : FnRef → List Value → Value). P (functions_of u) a) (same_meaning v w same) h)
+      subst (λ (x : Arena). P M x) is (subst (λ (L : Meaning). P L a) same h)
 
   -- one step more
-  pub next_step : (b : Arena) (old mid new : Work) (before between after : ℕ) → AreSettled (functions_of v) arena old mid before between → b ≡ a
-      → IsKept b new → new.todo.items ≡ [] → Steps (functions_of w) a mid new between after → KeepsPlaces mid new
-      → AreSettled (functions_of v) arena old new before after
+  pub next_step : (b : Arena) (old mid new : Work) (before between after : ℕ) → AreSettled M arena old mid before between → b ≡ a
+      → IsKept b new → new.todo.items ≡ [] → Steps N a mid new between after → KeepsPlaces mid new
+      → AreSettled M arena old new before after
   next_step b old mid new before between after so e kept quiet steps places = record {
     kept = subst (λ (x : Arena). IsKept x new) (e ∙ is) kept;
     quiet = quiet;
-    settled = settles_more (functions_of v) arena old mid new before between after so.settled so.quiet
-        (as_meant (λ F x. Steps F x mid new between after) steps);
+    settled = settles_more M arena old mid new before between after so.settled so.quiet
+        (as_meant (λ L x. Steps L x mid new between after) steps);
     roots = λ p. places.roots p ∙ so.roots p;
     round = places.round ∙ so.round;
     there = λ p. places.rows p ∙ so.there p;
   }
 
   -- it leaves less
-  pub less_left : (old mid new : Work) (before between : ℕ) → IsInRound (functions_of v) arena old before
-      → AreSettled (functions_of v) arena old mid before between → StepFalls (functions_of w) a mid new between
+  pub less_left : (old mid new : Work) (before between : ℕ) → IsInRound M arena old before
+      → AreSettled M arena old mid before between → StepFalls N a mid new between
       → left_to_settle new (points_at old.rows.places) (nodes_at old.rows.places) < left_to_settle mid (points_at old.rows.places) (nodes_at old.rows.places)
   less_left old mid new before between begins so falls =
-      let m = so.settled begins.start begins.state begins.holds begins.stands in
-      as_meant (λ F x. StepFalls F x mid new between) falls begins.start m.0
-      (moves_keep (functions_of v) begins.start begins.state m.0 m.1 begins.holds) (quiet_of arena mid between m.0 m.2 so.quiet) m.2
+      let m = so.settled begins.start begins.state begins.round begins.stands in
+      as_meant (λ L x. StepFalls L x mid new between) falls begins.start m.0
+      (round_on M begins.start begins.state m.0 m.1 begins.round) (quiet_of arena mid between m.0 m.2 so.quiet) m.2
       (points_at old.rows.places) (nodes_at old.rows.places) (covers old mid so.there)
 
   -- one is refused
-  pub step_stops : (old mid new : Work) (before between after : ℕ) (e : Refused) → AreSettled (functions_of v) arena old mid before between
-      → StepRefused (functions_of w) a mid new between after e → SettleRefused (functions_of v) arena old new before after e
+  pub step_stops : (old mid new : Work) (before between after : ℕ) (e : Refused) → AreSettled M arena old mid before between
+      → StepRefused N a mid new between after e → SettleRefused M arena old new before after e
   step_stops old mid new before between after e so refused =
-      settle_stops (functions_of v) arena old mid new before between after e so.settled so.quiet
-      (as_meant (λ F x. StepRefused F x mid new between after e) refused)
+      settle_stops M arena old mid new before between after e so.settled so.quiet
+      (as_meant (λ L x. StepRefused L x mid new between after e) refused)
 
 -- ---- a whole round
 
@@ -286,25 +288,31 @@ pub exit_is : {A E : Type 0} (r : Result A E) (e : E) (P : E → Type 0) → IsE
 exit_is (Ok x) e P is h = absurd is
 exit_is (Err x) e P is h = rw is h
 
-module _ (F : Functions) (arena : Arena) (old rooted : Work) (before : ℕ) (ready : IsReady F arena old) (put : PutsRoots arena old rooted) where
+module _ (M : Meaning) (arena : Arena) (old rooted : Work) (before : ℕ) (ready : IsReady M arena old) (put : PutsRoots arena old rooted) where
+  abbrev F : Functions
+  F = M.functions
+
+  begins : BegunOf M arena old before
+  begins = begun_of M arena old ready before
+
   abbrev first : Begun F arena old before
-  first = begun F arena old ready before
+  first = begins.begun
 
   inv : Invariant F first.start first.state
-  inv = entry_holds F first.start first.state first.entry
+  inv = begins.round.holds
 
-  pub in_round : IsInRound F arena rooted before
+  pub in_round : IsInRound M arena rooted before
   in_round =
       let w = put F first.start first.state before inv first.stands in
-      record { start = first.start; state = w.0; holds = moves_keep F first.start first.state w.0 w.1 inv; stands = w.2 }
+      record { start = first.start; state = w.0; round = round_on M first.start first.state w.0 w.1 begins.round; stands = w.2 }
 
   -- a round that ended
-  module _ (settled : Work) (after : ℕ) (steps : Settles F arena rooted settled before after) (kept : IsKept arena settled)
+  module _ (settled : Work) (after : ℕ) (steps : Settles M arena rooted settled before after) (kept : IsKept arena settled)
       (idle : settled.todo.items ≡ []) (empty : IsEmpty settled.graph.heap) where
     last : (t : State) × Moves F first.start first.state t × Stands arena settled after None t
     last =
         let w = put F first.start first.state before inv first.stands in
-        let k = steps first.start w.0 (moves_keep F first.start first.state w.0 w.1 inv) w.2 in
+        let k = steps first.start w.0 (round_on M first.start first.state w.0 w.1 begins.round) w.2 in
         (k.0, joined (Move F first.start) first.state w.0 k.0 w.1 k.1, k.2)
 
     pub round_counts : RoseBy before (costs_of (graph_of arena) settled.ran.items) after
@@ -312,9 +320,9 @@ module _ (F : Functions) (arena : Arena) (old rooted : Work) (before : ℕ) (rea
 
     module _ (new : Work) (graph : new.graph ≡ settled.graph) (rows : new.rows ≡ settled.rows) (pairs : new.pairs ≡ settled.pairs)
         (todo : new.todo ≡ settled.todo) (ran : new.ran.items ≡ []) (strict : new.strict ≡ false) (round : new.round ≡ settled.round + 1) where
-      pub round_readies : IsReady F arena new
+      pub round_readies : IsReady M arena new
       round_readies = ready_again F arena old settled before after ready.kept first kept last.0 last.1 last.2 idle empty new graph rows pairs todo ran
-          strict round
+          strict round M.known M.ids ready.laws ready.fit
 
       module _ (same_round : settled.round ≡ old.round) (nodes observed : List NodeId) (roots : KeepsRoots rooted.graph.roots settled.graph.roots)
           (more : RootsMore old.graph.roots rooted.graph.roots (map main nodes)) (looks : AreRooted old observed) where

@@ -21,6 +21,7 @@ use Rattle.link_table.specs.Links.{Links, times, Reads}
 use Rattle.necessary_graph.specs.Part.{Needed, IsInStep}
 use Rattle.node_arena.specs.Arena.{Arena, row_at, IsSet, IsVariable, with_value}
 use Rattle.node_arena.specs.Graph.{graph_of}
+use Rattle.node_arena.specs.Sound.{IsSound}
 use Rattle.node_arena.specs.Typing.{Fits}
 use Rattle.node_outcomes.specs.Computing.{has_part, IsOfType}
 use Rattle.stabilize_round.proofs.Points.{node_or_other}
@@ -63,7 +64,7 @@ record Before (before : Arena) (id n : NodeId) (v : Value) (r : Row) : Type 0 wh
 module _ (before arena : Arena) (old work : Work) (id : NodeId) (v : Value) (kept : IsKept before old) (set : IsSet before arena id v)
     (not_other : (IsVariable before id → ⊥) → ⊥) (given : arena.given ≡ before.given) (rows : work.rows ≡ old.rows)
     (marked : IsMarked old.graph work.graph (main id)) (step : IsInStep work.graph) (round : KeepsRound old work)
-    (todo : work.todo.items ≡ old.todo.items) (pairs : work.pairs ≡ old.pairs) where
+    (todo : work.todo.items ≡ old.todo.items) (pairs : work.pairs ≡ old.pairs) (sound : IsSound arena) where
   row_was : (n : NodeId) (r : Row) → row_at arena n ≡ Some r → Before before id n v r
   row_was n r e = elim (node_or_other n id) [
     | inl is ↦
@@ -130,7 +131,14 @@ module _ (before arena : Arena) (old work : Work) (id : NodeId) (v : Value) (kep
       | inl is ↦ rw is (kept.rows (main id) ∙ ap (λ (x : Option Row). has_part x Main) set.there)
       | inr ne ↦ kept.heap p (sym (ap is_some (marked.others p ne)) ∙ h)
     ];
-    flat = λ n r e. let w = row_was n r e in sym w.scope ∙ kept.flat n w.was w.is_was;
+    sound = sound;
+    today = record {
+      flat = λ n r e. let w = row_was n r e in sym w.scope ∙ kept.today.flat n w.was w.is_was;
+      no_binds = λ n r e l f caps is. let w = row_was n r e in elim w.same [
+        | inl same ↦ kept.today.no_binds n w.was w.is_was l f caps (ap (λ (x : Row). x.def) same ∙ is)
+        | inr h ↦ absurd (let d = sym (ap (λ (x : Row). x.def) h.is_now) ∙ is in cc)
+      ];
+    };
     outcomes = λ n r k o e is shows. let w = row_was n r e in
         subst (IsOfType arena o) w.type
         (typed_still before arena more types o w.was.ty (kept.outcomes n w.was k o w.is_was (sym (same_rows (main n)) ∙ is) shows));

@@ -2,7 +2,6 @@
 use Rattle.std.proofs.Common.{◌≡◌, inl, inr, ℕ, Bool, true, false, List, [], ◌∷◌, map, Option, None, Some, refl, sym, ap, subst, ◌∙◌}
 use Rattle.std.specs.Prelude.{is_some, IsSome, slice_index_or, ◌==◌, ◌&&◌, if◌then◌else◌}
 use Rattle.std.proofs.lemmas.Option.{none-some}
-use Rattle.inc_value.specs.declared.function.FnRef.{FnRef}
 use Rattle.inc_value.specs.declared.node.NodeId.{NodeId}
 use Rattle.inc_value.specs.declared.node.Part.TheVariants.{Main, Change}
 use Rattle.inc_value.specs.declared.node.Point.{Point}
@@ -33,7 +32,6 @@ use Rattle.stabilize_round.specs.Calling as why
 use Rattle.stabilize_round.specs.Calling.{Reason, other, made_stale}
 use Rattle.node_outcomes.specs.Computing.{IsForced, IsForcedBy, CallsSeen, KeepsAnswers, LooksAtSeen, seen, seen_of, seen_together, has_part}
 use Rattle.stabilizer.specs.Kept.{IsKept}
-use Rattle.node_outcomes.specs.Meaning.{functions_of}
 use Rattle.node_outcomes.specs.Row.{is_never, never_in, settled_in, passes_in, outcome_in}
 use Rattle.stabilizer.specs.Stands.{Stands}
 use Rattle.node_outcomes.specs.declared.row.Progress.{Progress}
@@ -196,8 +194,8 @@ module _ (s : State) (arena : Arena) (work : Work) (calls : ℕ) (kept : IsKept 
       → own F (graph_of arena) (shown s.graph s.out) n x ≡ own F (graph_of arena) (seen work.rows) n x) (sym d.1) (by_form F n d.0) (sees_change n r live)
 
   -- what a call gave is kept
-  pub keeps_answers : (value : FnRef → List Value → Value) (z : Start) → Invariant (functions_of value) z s → KeepsAnswers value arena work.rows
-  keeps_answers value z inv n r ns k c live def row last = inv.accounts.answers n r ns c (row_is n ∙ live)
+  pub keeps_answers : (F : Functions) (z : Start) → Invariant F z s → KeepsAnswers F arena work.rows
+  keeps_answers F z inv n r ns k c live def row last = inv.accounts.answers n r ns c (row_is n ∙ live)
       (subst (λ (G : Graph). taken_by G n r.def ≡ Some ns) (sym st.graph) def) (st.last n k row ∙ last)
 
   by_exact : (F : Functions) (m : NodeId) → Exact F s.graph s.out (main m) → (x : Option Row) → s.graph.row m ≡ x
@@ -319,14 +317,14 @@ module _ (s : State) (arena : Arena) (work : Work) (calls : ℕ) (kept : IsKept 
   no_reason n ns values (made_stale marked) c is same free = let x = st.stale n in absurd (cc)
 
   -- a call that was seen is a call
-  pub calls_are : (value : FnRef → List Value → Value) (n : NodeId) (def : Def) (k : Progress) (last' : Option Call) (called : Bool)
-      → at work.rows (main n) ≡ Some k → CallsSeen value s.graph n work.round work.rows def k.last last' called → Calls (functions_of value) s n def last' called
-  calls_are value n def k last' false row c = (
+  pub calls_are : (F : Functions) (n : NodeId) (def : Def) (k : Progress) (last' : Option Call) (called : Bool)
+      → at work.rows (main n) ≡ Some k → CallsSeen F s.graph n work.round work.rows def k.last last' called → Calls F s n def last' called
+  calls_are F n def k last' false row c = (
     c.0 ∙ sym (st.last n k row),
     λ ns values e g.
         let x = c.1 ns values e (sym (sees_together ns) ∙ g) in (x.0, st.last n k row ∙ x.1, x.2, λ f. no_reason n ns values f (x.0) (st.last n k row ∙ x.1) x.2 (λ a. x.3 (forced_seen ns a))),
   )
-  calls_are value n def k last' true row (ns, values, result, takes, show, reason, is_last, answers) = (
+  calls_are F n def k last' true row (ns, values, result, takes, show, reason, is_last, answers) = (
     ns,
     values,
     result,

@@ -1,11 +1,9 @@
 -- A step of the stabilizer is a step of the machine.
 use Rattle.std.proofs.Common.{◌≡◌, ◌≢◌, ◌⊎◌, inl, inr, ℕ, zero, suc, ◌<◌, ◌≤◌, true, false, List, Option, None, Some, refl, sym, ap, subst, ◌∙◌, arith}
 use Rattle.std.specs.Prelude.{is_some, reverse, not, ◌==◌}
-use Rattle.inc_value.specs.declared.function.FnRef.{FnRef}
 use Rattle.inc_value.specs.declared.node.NodeId.{NodeId}
 use Rattle.inc_value.specs.declared.node.Point.{Point}
 use Rattle.inc_value.specs.declared.outcome.Outcome.{Outcome}
-use Rattle.inc_value.specs.declared.value.Value.{Value}
 use Rattle.inc_value.specs.Choice.{here, Among}
 use Rattle.inc_terms.specs.Depend.{main}
 use Rattle.inc_terms.specs.Term.{Functions}
@@ -30,7 +28,7 @@ use Rattle.stabilize_round.specs.Steps.{Step, plainly}
 use Rattle.stabilize_round.proofs.Counts.{fewer_than}
 use Rattle.stabilize_round.proofs.Parts.{bool_cases}
 use Rattle.stabilizer.specs.Kept.{IsKept}
-use Rattle.node_outcomes.specs.Meaning.{functions_of}
+use Rattle.node_outcomes.specs.Meaning.{Meaning}
 use Rattle.node_outcomes.specs.Row.{settled_in}
 use Rattle.stabilizer.specs.Settling.{IsSettled}
 use Rattle.stabilizer.specs.Stands.{Stands}
@@ -99,24 +97,27 @@ module _ (s : State) (arena : Arena) (old : Work) (calls : ℕ) (kept : IsKept a
     least = λ q h. let l = above q (at old.graph.heap q) refl (sym (st.heap q) ∙ h) in let a = st.height p in let b = st.height q in omega arith;
   }
 
-module _ (value : FnRef → List Value → Value) (arena : Arena) (old new : Work) (g : NecessaryPart) (p : Point) (n : NodeId) (same : p ≡ main n)
+module _ (M : Meaning) (arena : Arena) (old new : Work) (g : NecessaryPart) (p : Point) (n : NodeId) (same : p ≡ main n)
     (before after : ℕ) (kept : IsKept arena old) (was : Holds old.graph.heap p) (low : IsLowest old.graph.heap (level old.graph.heights p))
     (rest : g ≡ record old.graph { heap = g.heap }) (c : Changes old.graph.heap g.heap p None)
-    (m : MainIsSettled value arena (record old { graph = g }) new n before after) where
+    (m : MainIsSettled M.functions arena (record old { graph = g }) new n before after) where
   abbrev F : Functions
-  F = functions_of value
+  F = M.functions
 
   pub w : IsSettled old new n m.outcome m.last (calls_of m.called (cost_at (graph_of arena) n))
   w = settled_before old new g p n m.outcome m.last (calls_of m.called (cost_at (graph_of arena) n)) same (heap_graph arena old g rest) c m.settled
 
-  pub steps : Steps F arena old new before after
-  steps z s inv quiet st = (
+  pub steps : Steps M arena old new before after
+  steps z s begun quiet st = (
     t,
     made,
     settled_stands s arena old new before after n m.outcome m.last m.called st w
         (λ a. (needed_before old.graph new.graph w.graph a, needed_now old.graph new.graph w.graph a)),
   )
     where
+      inv : Invariant F z s
+      inv = begun.holds
+
       least : IsLeast s (main n)
       least = subst (IsLeast s) same (is_least s arena old before kept st p was low)
 
@@ -132,10 +133,10 @@ module _ (value : FnRef → List Value → Value) (arena : Arena) (old new : Wor
         is_row = row_is s arena old before kept st n ∙ m.computed.is_row;
         taken = least;
         own = own_sees s arena old before kept st F n m.computed.row m.computed.is_row
-            ∙ m.computed.own (keeps_answers s arena old before kept st value z inv)
+            ∙ m.computed.own (keeps_answers s arena old before kept st F z inv)
             (looks s arena old before kept st F z inv quiet n least m.computed.row m.computed.is_row);
-        calls = calls_are s arena old before kept st value n m.computed.row.def m.computed.kept m.last m.called m.computed.is_kept
-            (subst (λ (G : Graph). CallsSeen value G n old.round old.rows m.computed.row.def m.computed.kept.last m.last m.called) (sym st.graph) m.computed.calls);
+        calls = calls_are s arena old before kept st F n m.computed.row.def m.computed.kept m.last m.called m.computed.is_kept
+            (subst (λ (G : Graph). CallsSeen F G n old.round old.rows m.computed.row.def m.computed.kept.last m.last m.called) (sym st.graph) m.computed.calls);
         count = subst (λ (H : Graph). RoseBy s.calls (calls_of m.called (cost_at H n)) after) (sym st.graph)
             (subst (λ (k : ℕ). RoseBy k (calls_of m.called (cost_at (graph_of arena) n)) after) (sym st.calls) m.count);
         heap = settled_enqueues s arena old new before after n m.outcome m.last m.called st w
@@ -189,9 +190,9 @@ module _ (value : FnRef → List Value → Value) (arena : Arena) (old new : Wor
       ]
 
   -- less is left
-  pub falls : StepFalls F arena old new before
-  falls z s inv quiet st points nodes covers = less_unsettled old new points nodes w.strict
-      (fewer z s inv st points (covers.points_of (main n) (ap is_some w.was)))
+  pub falls : StepFalls M arena old new before
+  falls z s begun quiet st points nodes covers = less_unsettled old new points nodes w.strict
+      (fewer z s begun.holds st points (covers.points_of (main n) (ap is_some w.was)))
 
 -- ---- a step that is refused
 
@@ -249,9 +250,9 @@ module _ (arena : Arena) (old mid : Work) (g g' : NecessaryPart) (p : Point) (n 
     given = st.given;
   }
 
-  pub step_refused : p ≡ main n → (F : Functions) (e : Refused) → e ≡ Memory → IsLowest old.graph.heap (level old.graph.heights p)
-      → StepRefused F arena old back before after e
-  step_refused same F e memory low z s inv quiet st = as_it_was (refused_stands s st)
+  pub step_refused : p ≡ main n → (M : Meaning) (e : Refused) → e ≡ Memory → IsLowest old.graph.heap (level old.graph.heights p)
+      → StepRefused M arena old back before after e
+  step_refused same M e memory low z s begun quiet st = as_it_was (refused_stands s st)
       (elim left.count [
         | inl same_count ↦ inl same_count
         | inr k ↦ inr (n, subst (IsLeast s) same (is_least s arena old before kept st p was low), k)

@@ -197,7 +197,7 @@ module _ (arena : Arena) (old last new : Work) (so : AreTaken arena old last (le
 
       strict : (t : State) → Stands arena last calls (hand_now last.graph held) t → Strict (made_strict t)
       strict t k = record {
-        gates = λ e p r b row need scope stage. absurd (none-some b (sym (kept.flat p.node r (node_row p.node r row)) ∙ scope));
+        gates = λ e p r b row need scope stage. absurd (none-some b (sym (kept.today.flat p.node r (node_row p.node r row)) ∙ scope));
         rights = λ e n r p row need full among. confirmed n r p (node_row n r row) need full among;
       }
         where

@@ -27,7 +27,9 @@ use Rattle.stabilizer.specs.declared.refused.Refused.TheVariants.{Height, Cycle,
 use Rattle.stabilizer.specs.declared.work.Work.{Work}
 use Rattle.stabilize_round.proofs.Entry.{entry_holds}
 use Rattle.stabilize_round.proofs.Machine.{moves_keep}
-use Rattle.stabilizer.proofs.Beginning.{begun}
+use Rattle.stabilizer.proofs.Beginning.{begun_of}
+use Rattle.stabilizer.proofs.Began.{round_on}
+use Rattle.node_outcomes.specs.Meaning.{Meaning}
 
 module _ (F : Functions) (z : Start) (t : State) (holds : Invariant F z t) (arena : Arena) (work : Work) (calls : ℕ) (left : Option Hand)
     (stands : Stands arena work calls left t) (step : IsInStep work.graph) where
@@ -80,21 +82,23 @@ leaves_tried F z t holds arena work calls left stands step e (by_link {p} {q} {r
     tried_by F z t holds arena work calls (Some (hand p (q ∷ rest))) stands step p q need confirmed e why
 
 -- a root or its links were refused
-pub roots_tried : (F : Functions) (arena : Arena) (old new : Work) (before : ℕ) → IsReady F arena old → IsInStep new.graph → (e : Refused)
+pub roots_tried : (M : Meaning) (arena : Arena) (old new : Work) (before : ℕ) → IsReady M arena old → IsInStep new.graph → (e : Refused)
     → RootRefused arena old new e → LeavesTried arena new e
-roots_tried F arena old new before ready step e refused =
-    let b = begun F arena old ready before in
+roots_tried M arena old new before ready step e refused =
+    let F = M.functions in
+    let b = (begun_of M arena old ready before).begun in
     let holds = entry_holds F b.start b.state b.entry in
     let k = refused F b.start b.state before holds b.stands in
     leaves_tried F b.start k.0 (moves_keep F b.start b.state k.0 k.2 holds) arena new before k.1 k.3 step e k.4
 
 -- a step was refused
-pub steps_tried : (F : Functions) (arena : Arena) (old mid new : Work) (before after : ℕ) → IsReady F arena old → PutsRoots arena old mid
-    → IsInStep new.graph → (e : Refused) → SettleRefused F arena mid new before after e → LeavesTried arena new e
-steps_tried F arena old mid new before after ready put step e refused =
-    let b = begun F arena old ready before in
-    let holds = entry_holds F b.start b.state b.entry in
-    let m = put F b.start b.state before holds b.stands in
-    let inv = moves_keep F b.start b.state m.0 m.1 holds in
-    let k = refused b.start m.0 inv m.2 in
-    leaves_tried F b.start k.state (moves_keep F b.start m.0 k.state k.moves inv) arena new k.between k.left k.stands step e k.told
+pub steps_tried : (M : Meaning) (arena : Arena) (old mid new : Work) (before after : ℕ) → IsReady M arena old → PutsRoots arena old mid
+    → IsInStep new.graph → (e : Refused) → SettleRefused M arena mid new before after e → LeavesTried arena new e
+steps_tried M arena old mid new before after ready put step e refused =
+    let F = M.functions in
+    let begins = begun_of M arena old ready before in
+    let b = begins.begun in
+    let m = put F b.start b.state before begins.round.holds b.stands in
+    let round = round_on M b.start b.state m.0 m.1 begins.round in
+    let k = refused b.start m.0 round m.2 in
+    leaves_tried F b.start k.state (moves_keep F b.start m.0 k.state k.moves round.holds) arena new k.between k.left k.stands step e k.told

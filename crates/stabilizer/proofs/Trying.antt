@@ -73,7 +73,8 @@ module _ (old new : Work) (l : IsLevelled old new) where
     given = λ p h. k.given p (sym (l.heights p) ∙ h);
     links = λ p q r. ap is_some (l.rows p) ∙ k.links p q (let e = l.links p q in omega (arith, e, r));
     heap = λ p h. ap is_some (l.rows p) ∙ k.heap p (sym (l.heap p) ∙ h);
-    flat = k.flat;
+    sound = k.sound;
+    today = k.today;
     outcomes = λ n r w v row e. k.outcomes n r w v row (sym (l.rows (main n)) ∙ e);
     rights = λ n m r w o row e. k.rights n m r w o row (sym (l.rows (change n)) ∙ e);
     calls = λ n r w c row e. k.calls n r w c row (sym (l.rows (main n)) ∙ e);
@@ -199,7 +200,8 @@ module _ (old new : Work) (q : Point) (grown : IsGrown old new q) (arena : Arena
     given = by_heights (λ (a : Point). Given arena.given a.node) target.given k.given;
     links = λ p p' r. grown.held p ∙ elim (grown.links p p' r) [ inl before ↦ k.links p p' before | inr row ↦ row ];
     heap = λ p h. grown.held p ∙ elim (grown.heap p h) [ inl before ↦ k.heap p before | inr row ↦ row ];
-    flat = k.flat;
+    sound = k.sound;
+    today = k.today;
     outcomes = λ n r w v row e o. let b = grown.rows (main n) w e in k.outcomes n r b.row v row b.was (sym b.outcome ∙ o);
     rights = λ n m r w o row e out. let b = grown.rows (change n) w e in k.rights n m r b.row o row b.was (sym b.outcome ∙ out);
     calls = λ n r w c row e o. let b = grown.rows (main n) w e in k.calls n r b.row c row b.was (sym b.last ∙ o);

@@ -72,7 +72,8 @@ module _ (arena : Arena) (old : Work) (g : NecessaryPart) (id : NodeId) (kept : 
     given = λ p h. kept.given p (ap is_some (sym (same_heights p)) ∙ h);
     links = λ p q l. kept.links p q (let f = off.sweep.fewer p q in omega (arith, f, l));
     heap = λ p h. kept.heap p (was_in p h);
-    flat = kept.flat;
+    sound = kept.sound;
+    today = kept.today;
     outcomes = kept.outcomes;
     rights = kept.rights;
     calls = kept.calls;

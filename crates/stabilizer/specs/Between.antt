@@ -18,6 +18,7 @@ use Rattle.inc_terms.specs.Work.{taken_by}
 use Rattle.stabilize_round.specs.State.{Call, count}
 use Rattle.stabilize_round.specs.Invariant.{Recalls}
 use Rattle.node_outcomes.specs.Computing.{KeepsAnswers}
+use Rattle.node_outcomes.specs.Meaning.{Meaning}
 use Rattle.stabilizer.specs.Kept.{IsKept}
 use Rattle.map_nodes.specs.declared.cutoff.Cutoff.TheVariants.{Equal}
 use Rattle.stabilizer.specs.Round.{IsReady, last_call, cutoff_at}
@@ -42,7 +43,7 @@ pub record IsBetween (F : Functions) (arena : Arena) (work : Work) : Type 0 wher
       → Holds work.graph.heap p ⊎ (Agrees F (graph_of arena) (out_of work) p
       × Recalls (graph_of arena) (shown (graph_of arena) (out_of work)) (last_call work) p)
   pub built : (n : NodeId) (r : Row) (o : Outcome) → row_at arena n ≡ Some r → out_of work (change n) ≡ Some o → IsBuilt F (graph_of arena) n r.def o
-  pub answers : KeepsAnswers F.value arena work.rows
+  pub answers : KeepsAnswers F arena work.rows
   pub unsettled : (p : Point) → settled_in work.round (at work.rows p) ≡ false
   pub numbered : 0 < work.round
   pub strict : work.strict ≡ false
@@ -87,4 +88,4 @@ pub record HasDropped (before arena : Arena) (old work : Work) (count : ℕ) : T
   pub roots : work.graph.roots ≡ old.graph.roots
   pub heap : work.graph.heap ≡ old.graph.heap
   pub kept : IsKept arena work
-  pub ready : (F : Functions) → IsReady F before old → IsReady F arena work
+  pub ready : (M : Meaning) → IsReady M before old → IsReady M arena work

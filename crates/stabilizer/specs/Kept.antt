@@ -14,15 +14,17 @@ use Rattle.point_map.specs.Rows.{at, Holds}
 use Rattle.link_table.specs.Links.{Reads}
 use Rattle.necessary_graph.specs.Part.{IsInStep}
 use Rattle.node_arena.specs.Arena.{Arena, row_at}
-use Rattle.node_arena.specs.Graph.{NoScopes, graph_of}
+use Rattle.node_arena.specs.Graph.{graph_of}
+use Rattle.node_arena.specs.Sound.{IsSound}
 use Rattle.node_arena.specs.Typing.{Fits}
 use Rattle.stabilize_round.specs.State.{Call}
 use Rattle.node_outcomes.specs.Computing.{has_part, IsOfType}
 use Rattle.node_outcomes.specs.declared.row.Progress.{Progress}
+use Rattle.stabilizer.specs.Today.{IsToday}
 use Rattle.stabilizer.specs.declared.work.Work.{Work}
 
 -- the points of live nodes are what has rows, and they are there; what else is there is a main of a given node; what has links or is in the heap has a
--- row; no node stands in a scope; outcomes and results of calls have their nodes' types, and so have right sides; what was settled was so in no later
+-- row; the nodes are as every arena keeps them, and those of today; outcomes and results of calls have their nodes' types, and so have right sides; what was settled was so in no later
 -- round; nodes of two points are listed
 pub record IsKept (arena : Arena) (work : Work) : Type 0 where
   pub step : IsInStep work.graph
@@ -32,7 +34,8 @@ pub record IsKept (arena : Arena) (work : Work) : Type 0 where
   pub given : (p : Point) → Holds work.graph.heights p → Given arena.given p.node
   pub links : (p q : Point) → Reads work.graph.links p q → Holds work.rows p
   pub heap : (p : Point) → Holds work.graph.heap p → Holds work.rows p
-  pub flat : NoScopes arena
+  pub sound : IsSound arena
+  pub today : IsToday arena
   pub outcomes : (n : NodeId) (r : Row) (k : Progress) (v : Value) → row_at arena n ≡ Some r → at work.rows (main n) ≡ Some k
       → k.outcome ≡ Some (Val v) → IsOfType arena v r.ty
   pub rights : (n m : NodeId) (r : Row) (k : Progress) (o : Outcome) → row_at arena n ≡ Some r → at work.rows (change n) ≡ Some k

@@ -1,4 +1,6 @@
 pub mod Stands
+pub mod Began
+pub mod Today
 pub mod Kept
 pub mod Places
 pub mod Deciding

@@ -7,32 +7,35 @@ use Rattle.inc_value.specs.declared.outcome.Outcome.{Outcome}
 use Rattle.inc_value.specs.declared.value.Value.{Value}
 use Rattle.inc_value.specs.Choice.{Among, NoRepeats}
 use Rattle.inc_value.specs.Walk.{IsWalk, IsDeep, IsOnCycle}
-use Rattle.inc_terms.specs.Depend.{Depends, main, change, subject_of, none_died}
+use Rattle.inc_terms.specs.Depend.{Depends, main, change, subject_of, died_in}
 use Rattle.inc_terms.specs.Evaluate.{NodeGives, GiveAll}
-use Rattle.inc_terms.specs.Graph.{Row}
+use Rattle.inc_terms.specs.Graph.{Graph, Row}
 use Rattle.inc_terms.specs.Plan.{targets}
-use Rattle.inc_terms.specs.Need.{Beside, Observed, nodes_of, Held, Needed, Met}
+use Rattle.inc_terms.specs.Need.{Beside, Observed, nodes_of, Held, Needed, Met, left_by_call}
 use Rattle.inc_terms.specs.Term.{Functions}
+use Rattle.inc_terms.specs.Within.{FunctionLaws}
 use Rattle.inc_terms.specs.Work.{WithinWork}
 use Rattle.map_nodes.specs.declared.cutoff.Cutoff.{Cutoff}
 use Rattle.link_table.specs.Links.{Reads}
 use Rattle.necessary_graph.specs.Part as part
 use Rattle.necessity.specs.Need.{Roots, root_times}
 use Rattle.node_arena.specs.Arena.{Arena, row_at}
-use Rattle.node_arena.specs.Graph.{graph_of}
+use Rattle.node_arena.specs.Graph.{AllCallFit, graph_of}
 use Rattle.point_map.specs.Rows.{at}
 use Rattle.stabilize_round.specs.Calls.{arguments_of}
 use Rattle.inc_terms.specs.Work.{taken_by}
 use Rattle.stabilize_round.specs.Calling.{IsAnswer, cost_at, costs_of}
 use Rattle.stabilize_round.specs.Counts.{RoseAtMost}
-use Rattle.stabilize_round.specs.Invariant.{Invariant}
 use Rattle.stabilize_round.specs.Machine.{Entry, Moves}
 use Rattle.stabilize_round.specs.Moves.{Quiet, IsLeast}
 use Rattle.stabilize_round.specs.State.{State, Start, Call, count}
 use Rattle.node_outcomes.specs.Computing.{seen, IsCallerAt, HasCalledSome}
 use Rattle.height_order.specs.Chains.{ReadsWith, StartsAt, EndsAt}
+use Rattle.stabilizer.specs.declared.parts.Parts.{Parts}
 use Rattle.stabilizer.specs.declared.refused.Refused.{Refused}
 use Rattle.stabilizer.specs.declared.refused.Refused.TheVariants.{Height, Cycle, Full, Memory}
+use Rattle.node_outcomes.specs.Meaning.{Meaning}
+use Rattle.stabilizer.specs.Began.{IsRoundOf}
 use Rattle.stabilizer.specs.Kept.{IsKept}
 use Rattle.node_outcomes.specs.Row.{cutoff_in, is_never, settled_in, outcome_in}
 use Rattle.stabilizer.specs.Refusing.{TellsWhy}
@@ -40,13 +43,16 @@ use Rattle.stabilizer.specs.Stands.{Stands, Hand}
 use Rattle.node_outcomes.specs.declared.row.Progress.{Progress}
 use Rattle.stabilizer.specs.declared.work.Work.{Work}
 
--- a round may begin: the parts stand for a state in which rounds begin, and its number isn't that of what was never settled
-pub record IsReady (F : Functions) (arena : Arena) (work : Work) : Type 0 where
+-- a round of these functions may begin: they promise what the laws of graphs ask, and those of nodes are known and list given nodes; the parts stand for a
+-- state in which rounds begin, and its number isn't that of what was never settled
+pub record IsReady (M : Meaning) (arena : Arena) (work : Work) : Type 0 where
   pub kept : IsKept arena work
+  pub laws : FunctionLaws M.functions M.known M.ids
+  pub fit : AllCallFit M.known M.ids arena
   pub start : Start
   pub state : State
   pub stands : Stands arena work state.calls None state
-  pub entry : Entry F start state
+  pub entry : Entry M.functions start state
   pub numbered : 0 < work.round
   pub todo : work.todo.items ≡ []
   pub ran : work.ran.items ≡ []
@@ -72,60 +78,29 @@ cutoff_at work n = cutoff_in (at work.rows (main n))
 abbrev pub never_at : Work → NodeId → Bool
 never_at work n = is_never (cutoff_at work n)
 
+-- ---- what a round did, over the graph that it left and those who died in it
+
+-- the nodes of parts as a graph
+abbrev pub graph_in : Parts → Graph
+graph_in parts = graph_of parts.arena
+
+-- the graph that a call leaves, as its round read it: a freeze that got its value still follows its child
+abbrev pub left_by : Parts → Parts → Graph
+left_by old new = left_by_call (graph_in old) (graph_in new)
+
+-- the scope in which a node stood that died in a call
+abbrev pub died_by : Parts → Parts → NodeId → Option NodeId
+died_by old new = died_in (graph_in old) (graph_in new)
+
 -- a child of cutoff Never was settled in the round that began so: the function was called even on the values of its last call
 abbrev pub WasForced : Work → Work → List NodeId → Type 0
 WasForced old new nodes = (k : NodeId) × Among k nodes × (never_at old k ≡ true) × (settled_in old.round (at new.rows (main k)) ≡ true)
-
--- a node's function was called: it is met, its children give these values, of which it wasn't the last call before unless it was forced, and it is now
-pub record WasCalled (F : Functions) (arena : Arena) (old new : Work) (observed : List NodeId) (n : NodeId) : Type 0 where
-  pub row : Row
-  pub nodes : List NodeId
-  pub values : List Value
-  pub result : Value
-  pub is_row : row_at arena n ≡ Some row
-  pub takes : taken_by (graph_of arena) n row.def ≡ Some nodes
-  pub gives : GiveAll F (graph_of arena) nodes values
-  pub reason : ((c : Call) → last_call old n ≡ Some c → c.arguments ≡ values → ⊥) ⊎ WasForced old new nodes
-  pub is_last : last_call new n ≡ Some (record { arguments = values; result = result })
-  pub answers : IsAnswer F row.def values result
-  pub met : Met F (graph_of arena) none_died observed (λ (p : Point). part.Needed old.graph p) (main n)
 
 -- what is kept beside a graph: what is needed is held for these observers, each node's last arguments are kept, and who has cutoff Never
 pub record StoodBeside (before : Beside) (work : Work) (observers : List Observed) : Type 0 where
   pub held : (p : Point) → part.Needed work.graph p → Held before observers p
   pub last : (n : NodeId) → before.last n ≡ arguments_of (last_call work n)
   pub never : (n : NodeId) → before.never n ≡ never_at work n
-
--- after a round that was accepted, with these nodes observed. The last call of a node whose function wasn't called stays, but for a node that takes no
--- call: a fold of no nodes keeps that it was computed on none
-pub record IsUpToDate (F : Functions) (arena : Arena) (old new : Work) (observed : List NodeId) (ran : List NodeId) : Type 0 where
-  pub rooted : AreRooted new observed
-  pub needs : (p : Point) → part.Needed new.graph p ↔ Needed F (graph_of arena) none_died observed p
-  pub sees : (n : NodeId) → Needed F (graph_of arena) none_died observed (main n)
-      → (o : Outcome) × (seen new.rows (main n) ≡ Some o) × NodeGives F (graph_of arena) n o
-  pub chose : (n m : NodeId) (r : Row) → row_at arena n ≡ Some r → subject_of r.def ≡ Some m
-      → Needed F (graph_of arena) none_died observed (change n)
-      → (o : Outcome) × (outcome_in (at new.rows (change n)) ≡ Some o) × NodeGives F (graph_of arena) m o
-  pub acyclic : (p : Point) → Needed F (graph_of arena) none_died observed p → IsOnCycle (Depends F (graph_of arena) none_died) p → ⊥
-  pub shallow : (p : Point) → Needed F (graph_of arena) none_died observed p → IsDeep (Depends F (graph_of arena) none_died) p → ⊥
-  pub links : (p q : Point) → part.Needed new.graph p → Reads new.graph.links p q ↔ Depends F (graph_of arena) none_died p q
-  pub recalls : (n : NodeId) (r : Row) (nodes : List NodeId) (values : List Value) → part.Needed new.graph (main n)
-      → row_at arena n ≡ Some r → taken_by (graph_of arena) n r.def ≡ Some nodes → GiveAll F (graph_of arena) nodes values
-      → (c : Call) × (last_call new n ≡ Some c) × (c.arguments ≡ values)
-  pub kept : (n : NodeId) → (Among n ran → ⊥)
-      → (last_call new n ≡ last_call old n) ⊎ (WasCalled F arena old new observed n × (cost_at (graph_of arena) n ≡ 0))
-  pub cutoffs : (n : NodeId) → cutoff_at new n ≡ cutoff_at old n
-  pub once : NoRepeats ran
-  pub called : (n : NodeId) → Among n ran → WasCalled F arena old new observed n
-  pub costs : (n : NodeId) → Among n ran → 0 < cost_at (graph_of arena) n
-  pub work : (before : Beside) (observers : List Observed) → StoodBeside before old observers
-      → ((n : NodeId) → Among n observed → Among n (nodes_of observers))
-      → (calls : ℕ) → calls ≤ costs_of (graph_of arena) ran → WithinWork F (graph_of arena) none_died observers before calls
-
--- each point is linked to the next in the graph, and the first is met
-pub record IsListed (F : Functions) (arena : Arena) (old : Work) (observed : List NodeId) (points : List Point) : Type 0 where
-  pub walk : IsWalk (Depends F (graph_of arena) none_died) points
-  pub met : (p : Point) → StartsAt points p → Met F (graph_of arena) none_died observed (λ (q : Point). part.Needed old.graph q) p
 
 -- the points come back to where they begin, over one link at least
 pub record ComesBack (points : List Point) : Type 0 where
@@ -137,13 +112,91 @@ pub record ComesBack (points : List Point) : Type 0 where
   pub once : NoRepeats front
   pub long : 2 ≤ length points
 
--- what a refusal says: a chain of 130 points, no two the same, or a walk that comes back to where it began and passes no other point twice
-abbrev pub IsLawful : Functions → Arena → Work → List NodeId → Refused → Type 0
-IsLawful F arena old observed (Height points) =
-    IsListed F arena old observed points.items × (length points.items ≡ 130) × NoRepeats points.items
-IsLawful F arena old observed (Cycle points) = IsListed F arena old observed points.items × ComesBack points.items
-IsLawful F arena old observed Full = ⊥
-IsLawful F arena old observed Memory = Unit {0}
+-- a round that was refused made at most the calls that it takes to compute each of some live maps and folds once
+pub record HasCalledFew (G : Graph) (before after : ℕ) : Type 0 where
+  pub nodes : List NodeId
+  pub once : NoRepeats nodes
+  pub callers : (n : NodeId) → Among n nodes → IsCallerAt G n
+  pub count : RoseAtMost before (costs_of G nodes) after
+
+module _ (F : Functions) (G : Graph) (died : NodeId → Option NodeId) where
+  -- a point is met by a round: reached from where these nodes are observed, or from what was needed before
+  abbrev pub IsMetIn : Work → List NodeId → Point → Type 0
+  IsMetIn old observed p = Met F G died observed (λ (q : Point). part.Needed old.graph q) p
+
+  -- a node's function was called: it is met, its children give these values, of which it wasn't the last call before unless it was forced, and it is now
+  pub record WasCalledIn (old new : Work) (observed : List NodeId) (n : NodeId) : Type 0 where
+    pub row : Row
+    pub nodes : List NodeId
+    pub values : List Value
+    pub result : Value
+    pub is_row : G.row n ≡ Some row
+    pub takes : taken_by G n row.def ≡ Some nodes
+    pub gives : GiveAll F G nodes values
+    pub reason : ((c : Call) → last_call old n ≡ Some c → c.arguments ≡ values → ⊥) ⊎ WasForced old new nodes
+    pub is_last : last_call new n ≡ Some (record { arguments = values; result = result })
+    pub answers : IsAnswer F row.def values result
+    pub met : IsMetIn old observed (main n)
+
+  -- after a round that was accepted, with these nodes observed; need, links and last calls are those of the graph after it. The last call of a node whose
+  -- function wasn't called stays, but for a node that takes no call: a fold of no nodes keeps that it was computed on none
+  pub record IsUpToDateIn (after : Graph) (old new : Work) (observed : List NodeId) (ran : List NodeId) : Type 0 where
+    pub rooted : AreRooted new observed
+    pub needs : (p : Point) → part.Needed new.graph p ↔ Needed F after died observed p
+    pub sees : (n : NodeId) → Needed F G died observed (main n) → (o : Outcome) × (seen new.rows (main n) ≡ Some o) × NodeGives F G n o
+    pub chose : (n m : NodeId) (r : Row) → G.row n ≡ Some r → subject_of r.def ≡ Some m → Needed F G died observed (change n)
+        → (o : Outcome) × (outcome_in (at new.rows (change n)) ≡ Some o) × NodeGives F G m o
+    pub acyclic : (p : Point) → Needed F G died observed p → IsOnCycle (Depends F G died) p → ⊥
+    pub shallow : (p : Point) → Needed F G died observed p → IsDeep (Depends F G died) p → ⊥
+    pub links : (p q : Point) → part.Needed new.graph p → Reads new.graph.links p q ↔ Depends F after died p q
+    pub recalls : (n : NodeId) (r : Row) (nodes : List NodeId) (values : List Value) → part.Needed new.graph (main n)
+        → after.row n ≡ Some r → taken_by after n r.def ≡ Some nodes → GiveAll F after nodes values
+        → (c : Call) × (last_call new n ≡ Some c) × (c.arguments ≡ values)
+    pub kept : (n : NodeId) → (Among n ran → ⊥) → (last_call new n ≡ last_call old n) ⊎ (WasCalledIn old new observed n × (cost_at G n ≡ 0))
+    pub cutoffs : (n : NodeId) → cutoff_at new n ≡ cutoff_at old n
+    pub once : NoRepeats ran
+    pub called : (n : NodeId) → Among n ran → WasCalledIn old new observed n
+    pub costs : (n : NodeId) → Among n ran → 0 < cost_at G n
+    pub work : (before : Beside) (observers : List Observed) → StoodBeside before old observers
+        → ((n : NodeId) → Among n observed → Among n (nodes_of observers))
+        → (calls : ℕ) → calls ≤ costs_of G ran → WithinWork F G died observers before calls
+
+  -- each point depends on the next, and the first is met
+  pub record IsListedIn (old : Work) (observed : List NodeId) (points : List Point) : Type 0 where
+    pub walk : IsWalk (Depends F G died) points
+    pub met : (p : Point) → StartsAt points p → IsMetIn old observed p
+
+  -- what a refusal says: a chain of 130 points, no two the same, or a walk that comes back to where it began and passes no other point twice
+  abbrev pub IsLawfulIn : Work → List NodeId → Refused → Type 0
+  IsLawfulIn old observed (Height points) = IsListedIn old observed points.items × (length points.items ≡ 130) × NoRepeats points.items
+  IsLawfulIn old observed (Cycle points) = IsListedIn old observed points.items × ComesBack points.items
+  IsLawfulIn old observed Full = ⊥
+  IsLawfulIn old observed Memory = Unit {0}
+
+  -- a refused round made few calls, and each of these nodes is met, where these are observed
+  pub record HasCalledMetIn (old : Work) (observed : List NodeId) (before after : ℕ) : Type 0 where
+    pub few : HasCalledFew G before after
+    pub met : (n : NodeId) → Among n few.nodes → IsMetIn old observed (main n)
+
+  -- what is shown of a node is what was before, or what it gives
+  abbrev pub ShowsStillIn : Work → Work → NodeId → Type 0
+  ShowsStillIn old new n = (seen new.rows (main n) ≡ seen old.rows (main n)) ⊎ ((o : Outcome) × (seen new.rows (main n) ≡ Some o) × NodeGives F G n o)
+
+-- so it is of a round from these parts to those
+module _ (F : Functions) (old new : Parts) where
+  abbrev pub IsUpToDate : List NodeId → Type 0
+  IsUpToDate observed = IsUpToDateIn F (left_by old new) (died_by old new) (graph_in new) old.work new.work observed new.ran.items
+
+  abbrev pub IsLawful : List NodeId → Refused → Type 0
+  IsLawful observed e = IsLawfulIn F (left_by old new) (died_by old new) old.work observed e
+
+  abbrev pub HasCalledMet : List NodeId → ℕ → ℕ → Type 0
+  HasCalledMet observed before after = HasCalledMetIn F (left_by old new) (died_by old new) old.work observed before after
+
+  abbrev pub ShowsStill : NodeId → Type 0
+  ShowsStill n = ShowsStillIn F (left_by old new) (died_by old new) old.work new.work n
+
+-- ---- what a refused round tried
 
 -- each of the points but the last
 abbrev pub AllButLast : (Point → Type 0) → List Point → Type 0
@@ -169,23 +222,6 @@ LeavesTried arena work (Cycle points) = IsTried arena work points.items
 LeavesTried arena work Full = ⊥
 LeavesTried arena work Memory = Unit {0}
 
--- a round that was refused made at most the calls that it takes to compute each of some live maps and folds once
-pub record HasCalledFew (arena : Arena) (before after : ℕ) : Type 0 where
-  pub nodes : List NodeId
-  pub once : NoRepeats nodes
-  pub callers : (n : NodeId) → Among n nodes → IsCallerAt arena n
-  pub count : RoseAtMost before (costs_of (graph_of arena) nodes) after
-
--- moreover each of these nodes is met, where these are observed
-pub record HasCalledMet (F : Functions) (arena : Arena) (old : Work) (observed : List NodeId) (before after : ℕ) : Type 0 where
-  pub few : HasCalledFew arena before after
-  pub met : (n : NodeId) → Among n few.nodes → Met F (graph_of arena) none_died observed (λ (p : Point). part.Needed old.graph p) (main n)
-
--- what is shown of a node is what was before, or what it gives
-abbrev pub ShowsStill : Functions → Arena → Work → Work → NodeId → Type 0
-ShowsStill F arena old new n =
-    (seen new.rows (main n) ≡ seen old.rows (main n)) ⊎ ((o : Outcome) × (seen new.rows (main n) ≡ Some o) × NodeGives F (graph_of arena) n o)
-
 -- ---- the parts of a round
 
 -- these points are roots, each as often more as it is listed
@@ -196,17 +232,18 @@ RootsMore old new points = (p : Point) → root_times new p ≡ root_times old p
 abbrev pub OnlyRoots : Roots → Roots → List Point → Type 0
 OnlyRoots old new points = (p : Point) → 0 < root_times new p → (0 < root_times old p) ⊎ Among p points
 
--- the parts stand for a state of a round, with the count of calls
-pub record IsInRound (F : Functions) (arena : Arena) (work : Work) (calls : ℕ) : Type 0 where
+-- the parts stand for a state of a round of these functions, with the count of calls
+pub record IsInRound (M : Meaning) (arena : Arena) (work : Work) (calls : ℕ) : Type 0 where
   pub start : Start
   pub state : State
-  pub holds : Invariant F start state
+  pub round : IsRoundOf M start state
   pub stands : Stands arena work calls None state
 
 -- from each state that the parts stand for, with the count of calls, moves lead to one that they stand for then
-abbrev pub Settles : Functions → Arena → Work → Work → ℕ → ℕ → Type 0
-Settles F arena old new before after =
-    (z : Start) (s : State) → Invariant F z s → Stands arena old before None s → (t : State) × Moves F z s t × Stands arena new after None t
+abbrev pub Settles : Meaning → Arena → Work → Work → ℕ → ℕ → Type 0
+Settles M arena old new before after =
+    (z : Start) (s : State) → IsRoundOf M z s → Stands arena old before None s
+    → (t : State) × Moves M.functions z s t × Stands arena new after None t
 
 -- where steps stop: in a state that moves lead to; some of the calls of a least point's function may have been made
 pub record Pauses (F : Functions) (z : Start) (s : State) (arena : Arena) (new : Work) (after : ℕ) (e : Refused) : Type 0 where
@@ -219,6 +256,6 @@ pub record Pauses (F : Functions) (z : Start) (s : State) (arena : Arena) (new :
   pub told : TellsWhy F state new left e
 
 -- from each state that the parts stood for, with the count of calls, steps stop so
-abbrev pub SettleRefused : Functions → Arena → Work → Work → ℕ → ℕ → Refused → Type 0
-SettleRefused F arena old new before after e =
-    (z : Start) (s : State) → Invariant F z s → Stands arena old before None s → Pauses F z s arena new after e
+abbrev pub SettleRefused : Meaning → Arena → Work → Work → ℕ → ℕ → Refused → Type 0
+SettleRefused M arena old new before after e =
+    (z : Start) (s : State) → IsRoundOf M z s → Stands arena old before None s → Pauses M.functions z s arena new after e

@@ -1,10 +1,8 @@
 -- What a step does.
 use Rattle.std.specs.Prelude.{◌≡◌, ◌⊎◌, ◌<◌, ◌+◌, ◌*◌, ℕ, Bool, cond, not, ◌&&◌, List, length, Option, None, Some, is_some}
-use Rattle.inc_value.specs.declared.function.FnRef.{FnRef}
 use Rattle.inc_value.specs.declared.node.NodeId.{NodeId}
 use Rattle.inc_value.specs.declared.node.Point.{Point}
 use Rattle.inc_value.specs.declared.outcome.Outcome.{Outcome}
-use Rattle.inc_value.specs.declared.value.Value.{Value}
 use Rattle.inc_value.specs.Choice.{Among}
 use Rattle.inc_terms.specs.Depend.{main, change, subject_of}
 use Rattle.inc_terms.specs.Graph.{Row}
@@ -16,12 +14,13 @@ use Rattle.node_arena.specs.Arena.{Arena, row_at}
 use Rattle.node_arena.specs.Graph.{graph_of}
 use Rattle.stabilize_round.specs.Calling.{cost_at}
 use Rattle.stabilize_round.specs.Counts.{RoseBy, number_of}
-use Rattle.stabilize_round.specs.Invariant.{Invariant}
 use Rattle.stabilize_round.specs.Moves.{Quiet, IsLeast, calls_of}
 use Rattle.stabilize_round.specs.Machine.{Moves}
 use Rattle.stabilize_round.specs.State.{State, Start, Call}
 use Rattle.stabilize_round.specs.Steps.{Step}
 use Rattle.node_outcomes.specs.Computing.{IsComputed, HasCalledSome, seen}
+use Rattle.node_outcomes.specs.Meaning.{Meaning}
+use Rattle.stabilizer.specs.Began.{IsRoundOf}
 use Rattle.stabilizer.specs.Deciding.{is_needed}
 use Rattle.stabilizer.specs.Growing.{Covers}
 use Rattle.stabilizer.specs.Refusing.{TellsWhy}
@@ -37,11 +36,11 @@ use Rattle.stabilizer.specs.declared.refused.Refused.TheVariants.{Memory}
 use Rattle.stabilizer.specs.declared.work.Work.{Work}
 
 -- a live main was computed, and settled on its outcome
-pub record MainIsSettled (value : FnRef → List Value → Value) (arena : Arena) (old new : Work) (n : NodeId) (before after : ℕ) : Type 0 where
+pub record MainIsSettled (F : Functions) (arena : Arena) (old new : Work) (n : NodeId) (before after : ℕ) : Type 0 where
   pub outcome : Outcome
   pub last : Option Call
   pub called : Bool
-  pub computed : IsComputed value arena old.round old.rows n outcome last called
+  pub computed : IsComputed F arena old.round old.rows n outcome last called
   pub settled : IsSettled old new n outcome last (calls_of called (cost_at (graph_of arena) n))
   pub count : RoseBy before (calls_of called (cost_at (graph_of arena) n)) after
 
@@ -91,17 +90,17 @@ pub record TakesLeast (old taken : Work) (p : Point) : Type 0 where
   pub rest : taken ≡ record old { graph = taken.graph }
 
 -- a least point left the heap and was settled: a main was computed, or a change that calls no function turned
-pub data SettlesLeast (value : FnRef → List Value → Value) (arena : Arena) (old new : Work) (before after : ℕ) : Type 0 where
-  of_main : {n : NodeId} {taken : Work} → TakesLeast old taken (main n) → MainIsSettled value arena taken new n before after
-      → SettlesLeast value arena old new before after
+pub data SettlesLeast (F : Functions) (arena : Arena) (old new : Work) (before after : ℕ) : Type 0 where
+  of_main : {n : NodeId} {taken : Work} → TakesLeast old taken (main n) → MainIsSettled F arena taken new n before after
+      → SettlesLeast F arena old new before after
   of_change : {n : NodeId} {taken : Work} → TakesLeast old taken (change n) → ChangeIsSettled arena taken new n → after ≡ before
-      → SettlesLeast value arena old new before after
+      → SettlesLeast F arena old new before after
 
 -- from each state that the parts stand for, with the count of calls, a step leads to one that they stand for then
-abbrev pub Steps : Functions → Arena → Work → Work → ℕ → ℕ → Type 0
-Steps F arena old new before after =
-    (z : Start) (s : State) → Invariant F z s → Quiet s → Stands arena old before None s
-    → (t : State) × Step F z s t × Stands arena new after None t
+abbrev pub Steps : Meaning → Arena → Work → Work → ℕ → ℕ → Type 0
+Steps M arena old new before after =
+    (z : Start) (s : State) → IsRoundOf M z s → Quiet s → Stands arena old before None s
+    → (t : State) × Step M.functions z s t × Stands arena new after None t
 
 -- where a step stops that is refused: as it was, but for some of the calls of a least point's function; or where points get their links, of which one was
 -- refused, or had no memory
@@ -112,9 +111,9 @@ pub data StepStops (F : Functions) (z : Start) (s : State) (arena : Arena) (new 
       → StepStops F z s arena new before after e
 
 -- so it is from each state that the parts stand for
-abbrev pub StepRefused : Functions → Arena → Work → Work → ℕ → ℕ → Refused → Type 0
-StepRefused F arena old new before after e =
-    (z : Start) (s : State) → Invariant F z s → Quiet s → Stands arena old before None s → StepStops F z s arena new before after e
+abbrev pub StepRefused : Meaning → Arena → Work → Work → ℕ → ℕ → Refused → Type 0
+StepRefused M arena old new before after e =
+    (z : Start) (s : State) → IsRoundOf M z s → Quiet s → Stands arena old before None s → StepStops M.functions z s arena new before after e
 
 -- ---- what is left of a round
 
@@ -143,7 +142,7 @@ pub record CoversAll (work : Work) (points : List Point) (nodes : List NodeId) :
   pub nodes_of : (p : Point) → Holds work.rows p → Among p.node nodes
 
 -- less is left after a step, where the parts stand for some state of a round
-abbrev pub StepFalls : Functions → Arena → Work → Work → ℕ → Type 0
-StepFalls F arena old new before =
-    (z : Start) (s : State) → Invariant F z s → Quiet s → Stands arena old before None s → (points : List Point) (nodes : List NodeId)
+abbrev pub StepFalls : Meaning → Arena → Work → Work → ℕ → Type 0
+StepFalls M arena old new before =
+    (z : Start) (s : State) → IsRoundOf M z s → Quiet s → Stands arena old before None s → (points : List Point) (nodes : List NodeId)
     → CoversAll old points nodes → left_to_settle new points nodes < left_to_settle old points nodes

@@ -6,20 +6,22 @@ ghost use Rattle.inc_value.specs.declared.node.Part.{Part};
 ghost use Rattle.inc_value.specs.declared.node.Point.{Point};
 ghost use Rattle.inc_terms.specs.Code.{def_of};
 ghost use Rattle.inc_terms.specs.Depend.{main};
-ghost use Rattle.inc_terms.specs.Term.{Functions};
-ghost use Rattle.inc_terms.specs.Within.{Given, ValueWithin};
+ghost use Rattle.inc_terms.specs.Within.{FunctionLaws, Given, ValueWithin};
 ghost use Rattle.point_map.specs.Rows.{at, Holds, KeepsRows};
 ghost use Rattle.link_table.specs.Links.{times};
 ghost use Rattle.necessity.specs.Need.{IsRoot, OneRootMore};
 ghost use Rattle.necessary_graph.specs.Part.{web, Needed};
 ghost use Rattle.necessary_graph.specs.Sweep.{IsUnrooted};
 ghost use Rattle.node_arena.specs.Arena.{row_at, live, IsLive, Changes, NamesGiven, IsFull, IsVariable, IsSet};
+ghost use Rattle.node_arena.specs.Graph.{CallsFit};
 ghost use Rattle.node_arena.specs.Typing.{Makes, FitsNode};
+ghost use Rattle.node_outcomes.specs.Meaning.{Meaning};
 ghost use Rattle.node_outcomes.specs.Row.{IsRewritten, outcome_in, with_cutoff};
 ghost use Rattle.stabilizer.specs.Between.{KeepsWork};
 ghost use Rattle.stabilizer.specs.Kept.{IsKept};
 ghost use Rattle.stabilizer.specs.Places.{ChangesNode, for_parts};
 ghost use Rattle.stabilizer.specs.Round.{IsReady, AreRooted, cutoff_at};
+ghost use Rattle.stabilizer.specs.Today.{IsNoBind};
 
 use crate::work::Work;
 use inc_terms::Def;
@@ -42,7 +44,7 @@ pub struct Parts {
 impl Parts {
     /// No nodes. This takes no memory.
     pub fn new(alloc: Global) -> Parts
-        ensures ready { (F : Functions) → IsReady F result.arena result.work }
+        ensures ready { (M : Meaning) → FunctionLaws M.functions M.known M.ids → IsReady M result.arena result.work }
         ensures empty { (n : NodeId) → row_at result.arena n ≡ None }
         ensures live { live result.arena ≡ 0 }
         ensures given { result.arena.given ≡ 0 }
@@ -70,6 +72,7 @@ impl Parts {
     /// looked at comes in the order of the faults. A refused call leaves all nodes and all that is kept of them.
     pub fn add(&mut self, def: Def, ty: Ty) -> Result<NodeId, AddFault>
         requires kept { IsKept self.old.arena self.old.work }
+        requires today { IsNoBind (def_of def) }
         ensures id { IfOk result (λ id. id.gen_ ≡ self.old.arena.given) }
         ensures slot { IfOk result (λ id. id.slot < 1048576) }
         ensures fresh { IfOk result (λ id. row_at self.old.arena id ≡ None) }
@@ -101,8 +104,10 @@ impl Parts {
         ensures heap { KeepsRows self.old.work.graph.heap self.new.work.graph.heap }
         ensures ran { self.new.ran ≡ self.old.ran }
         ensures kept { IsKept self.new.arena self.new.work }
-        ensures ready { (F : Functions) → IsReady F self.old.arena self.old.work
-            → IsReady F self.new.arena self.new.work }
+        ensures ready { OnOk result ((M : Meaning) → CallsFit self.old.arena.given M.known M.ids (def_of def)
+            → IsReady M self.old.arena self.old.work → IsReady M self.new.arena self.new.work) }
+        ensures err_ready { OnErr result ((M : Meaning) → IsReady M self.old.arena self.old.work
+            → IsReady M self.new.arena self.new.work) }
     {
         if let Err(fault) = self.arena.admits(&def, ty) {
             drop(def);
@@ -155,8 +160,8 @@ impl Parts {
         ensures roots { self.new.work.graph.roots ≡ self.old.work.graph.roots }
         ensures ran { self.new.ran ≡ self.old.ran }
         ensures kept { IsKept self.new.arena self.new.work }
-        ensures ready { (F : Functions) → IsReady F self.old.arena self.old.work
-            → IsReady F self.new.arena self.new.work }
+        ensures ready { (M : Meaning) → IsReady M self.old.arena self.old.work
+            → IsReady M self.new.arena self.new.work }
     {
         self.arena.set_var(id, value)?;
         self.work.schedule(main_point(id));
@@ -171,8 +176,8 @@ impl Parts {
         ensures rest { self.new ≡ record self.old { work = record self.old.work { rows = self.new.work.rows } } }
         ensures dead { at self.old.work.rows (main id) ≡ None → self.new ≡ self.old }
         ensures kept { IsKept self.new.arena self.new.work }
-        ensures ready { (F : Functions) → IsReady F self.old.arena self.old.work
-            → IsReady F self.new.arena self.new.work }
+        ensures ready { (M : Meaning) → IsReady M self.old.arena self.old.work
+            → IsReady M self.new.arena self.new.work }
     {
         let p = main_point(id);
         if self.work.rows.holds(p) {
@@ -193,8 +198,8 @@ impl Parts {
         ensures rows { self.new.work.rows ≡ self.old.work.rows }
         ensures ran { self.new.ran ≡ self.old.ran }
         ensures kept { IsKept self.new.arena self.new.work }
-        ensures ready { (F : Functions) → IsReady F self.old.arena self.old.work
-            → IsReady F self.new.arena self.new.work }
+        ensures ready { (M : Meaning) → IsReady M self.old.arena self.old.work
+            → IsReady M self.new.arena self.new.work }
     {
         self.work.graph.root_off(main_point(id));
     }
@@ -216,8 +221,8 @@ impl Parts {
         ensures heap { self.new.work.graph.heap ≡ self.old.work.graph.heap }
         ensures ran { self.new.ran ≡ self.old.ran }
         ensures kept { IsKept self.new.arena self.new.work }
-        ensures ready { (F : Functions) → IsReady F self.old.arena self.old.work
-            → IsReady F self.new.arena self.new.work }
+        ensures ready { (M : Meaning) → IsReady M self.old.arena self.old.work
+            → IsReady M self.new.arena self.new.work }
     {
         while let Some(id) = self.arena.first_since(count) {
             self.drop_node(id);
@@ -239,8 +244,8 @@ impl Parts {
         ensures heap { self.new.work.graph.heap ≡ self.old.work.graph.heap }
         ensures ran { self.new.ran ≡ self.old.ran }
         ensures kept { IsKept self.new.arena self.new.work }
-        ensures ready { (F : Functions) → IsReady F self.old.arena self.old.work
-            → IsReady F self.new.arena self.new.work }
+        ensures ready { (M : Meaning) → IsReady M self.old.arena self.old.work
+            → IsReady M self.new.arena self.new.work }
     {
         self.arena.drop_node(id);
         self.work.drop_node(id);

@@ -10,11 +10,12 @@ ghost use Rattle.stabilize_round.specs.Counts.{RoseBy};
 ghost use Rattle.necessity.specs.Need.{KeepsRoots};
 ghost use Rattle.recompute_heap.specs.Agree.{IsEmpty};
 ghost use Rattle.necessary_graph.specs.Part.{Needed};
-ghost use Rattle.node_arena.specs.Graph.{graph_of, AllCallFit};
+ghost use Rattle.node_arena.specs.Graph.{AllCallFit};
 ghost use Rattle.stabilizer.specs.Kept.{IsKept};
-ghost use Rattle.node_outcomes.specs.Meaning.{functions_of, lists_none, maps_of};
-ghost use Rattle.node_outcomes.specs.Computing.{KeepsFunctions};
-ghost use Rattle.stabilizer.specs.Round.{IsReady, AreRooted, IsUpToDate, IsLawful, LeavesTried, HasCalledMet, ShowsStill, cutoff_at};
+ghost use Rattle.node_arena.specs.RightSideLaws.{ids_of};
+ghost use Rattle.node_outcomes.specs.Meaning.{functions_of, meaning_of, KeepsFunctions};
+ghost use Rattle.stabilizer.specs.Round.{IsReady, AreRooted, IsUpToDate, IsLawful, LeavesTried, HasCalledMet, ShowsStill};
+ghost use Rattle.stabilizer.specs.Round.{cutoff_at, left_by};
 ghost use Rattle.stabilizer.specs.Round.{IsInRound, RootsMore, OnlyRoots, Settles, SettleRefused};
 ghost use Rattle.stabilizer.specs.Stepping.{MainIsSettled, MainIsLeft, ChangeIsSettled, ChangeIsLeft, SettlesLeast};
 ghost use Rattle.stabilizer.specs.Stepping.{Steps, StepRefused, StepFalls};
@@ -38,21 +39,21 @@ impl Stabilizer {
         requires kept { IsKept parts.old.arena parts.old.work }
         requires quiet { parts.old.work.todo.items ≡ [] }
         requires sound { F.is_sound functions.old }
-        requires fit { AllCallFit (maps_of (F.known functions.old)) lists_none parts.old.arena }
-        ensures stepped { IfOk result (λ more. IsTrue more → Steps (functions_of (F.value functions.old))
+        requires fit { AllCallFit (F.known functions.old) (ids_of (F.right functions.old)) parts.old.arena }
+        ensures stepped { IfOk result (λ more. IsTrue more → Steps (meaning_of F.Functions functions.old)
             parts.old.arena parts.old.work parts.new.work (F.calls functions.old) (F.calls functions.new)) }
-        ensures settled { IfOk result (λ more. IsTrue more → SettlesLeast (F.value functions.old) parts.old.arena
+        ensures settled { IfOk result (λ more. IsTrue more → SettlesLeast (functions_of F.Functions functions.old) parts.old.arena
             parts.old.work parts.new.work (F.calls functions.old) (F.calls functions.new)) }
         ensures more { IfOk result (λ more. IsTrue more → ¬ IsEmpty parts.old.work.graph.heap) }
         ensures empty { IfOk result (λ more. IsFalse more → IsEmpty parts.old.work.graph.heap) }
         ensures unchanged { IfOk result (λ more. IsFalse more → parts.new ≡ parts.old) }
         ensures uncalled { IfOk result (λ more. IsFalse more → F.calls functions.new ≡ F.calls functions.old) }
-        ensures refused { IfErr result (StepRefused (functions_of (F.value functions.old)) parts.old.arena parts.old.work
+        ensures refused { IfErr result (StepRefused (meaning_of F.Functions functions.old) parts.old.arena parts.old.work
             parts.new.work (F.calls functions.old) (F.calls functions.new)) }
         ensures arena { parts.new.arena ≡ parts.old.arena }
         ensures kept { IsKept parts.new.arena parts.new.work }
         ensures quiet { OnOk result (parts.new.work.todo.items ≡ []) }
-        ensures falls { IfOk result (λ more. IsTrue more → StepFalls (functions_of (F.value functions.old))
+        ensures falls { IfOk result (λ more. IsTrue more → StepFalls (meaning_of F.Functions functions.old)
             parts.old.arena parts.old.work parts.new.work (F.calls functions.old)) }
         ensures places { KeepsPlaces parts.old.work parts.new.work }
         ensures roots { KeepsRoots parts.old.work.graph.roots parts.new.work.graph.roots }
@@ -84,28 +85,25 @@ impl Stabilizer {
         functions: &mut F,
         roots: &[NodeId],
     ) -> Result<(), Refused>
-        requires ready { IsReady (functions_of (F.value functions.old)) parts.old.arena parts.old.work }
+        requires ready { IsReady (meaning_of F.Functions functions.old) parts.old.arena parts.old.work }
         requires sound { F.is_sound functions.old }
-        requires fit { AllCallFit (maps_of (F.known functions.old)) lists_none parts.old.arena }
         requires given { All (Given parts.old.arena.given) roots.now }
         ensures right { OnOk result ((observed : List NodeId) → AreRooted parts.old.work observed
-            → IsUpToDate (functions_of (F.value functions.old)) parts.old.arena parts.old.work parts.new.work
-            (roots.now ++ observed) parts.new.ran.items) }
+            → IsUpToDate (functions_of F.Functions functions.old) parts.old parts.new (roots.now ++ observed)) }
         ensures calls { OnOk result (RoseBy (F.calls functions.old)
-            (costs_of (graph_of parts.old.arena) parts.new.ran.items) (F.calls functions.new)) }
-        ensures ready { OnOk result (IsReady (functions_of (F.value functions.new)) parts.new.arena parts.new.work) }
+            (costs_of (left_by parts.old parts.new) parts.new.ran.items) (F.calls functions.new)) }
+        ensures ready { OnOk result (IsReady (meaning_of F.Functions functions.new) parts.new.arena parts.new.work) }
         ensures round { OnOk result (parts.new.work.round ≡ parts.old.work.round + 1) }
         ensures lawful { IfErr result (λ e. (observed : List NodeId) → AreRooted parts.old.work observed
-            → IsLawful (functions_of (F.value functions.old)) parts.old.arena parts.old.work
-            (roots.now ++ observed) e) }
+            → IsLawful (functions_of F.Functions functions.old) parts.old parts.new (roots.now ++ observed) e) }
         ensures tried { IfErr result (LeavesTried parts.new.arena parts.new.work) }
         ensures few { OnErr result ((observed : List NodeId) → AreRooted parts.old.work observed
-            → HasCalledMet (functions_of (F.value functions.old)) parts.old.arena parts.old.work (roots.now ++ observed)
+            → HasCalledMet (functions_of F.Functions functions.old) parts.old parts.new (roots.now ++ observed)
             (F.calls functions.old) (F.calls functions.new)) }
         ensures kept { OnErr result (IsKept parts.new.arena parts.new.work) }
         ensures cutoffs { OnErr result ((n : NodeId) → cutoff_at parts.new.work n ≡ cutoff_at parts.old.work n) }
         ensures shows { OnErr result ((n : NodeId)
-            → ShowsStill (functions_of (F.value functions.old)) parts.old.arena parts.old.work parts.new.work n) }
+            → ShowsStill (functions_of F.Functions functions.old) parts.old parts.new n) }
         ensures ran { OnErr result (parts.new.ran ≡ parts.old.ran) }
         ensures arena { parts.new.arena ≡ parts.old.arena }
         ensures functions { KeepsFunctions F.Functions functions.old functions.new }
@@ -145,13 +143,13 @@ fn settle_all<F: Functions>(parts: &mut Parts, functions: &mut F) -> Result<(), 
     requires kept { IsKept parts.old.arena parts.old.work }
     requires quiet { parts.old.work.todo.items ≡ [] }
     requires sound { F.is_sound functions.old }
-    requires fit { AllCallFit (maps_of (F.known functions.old)) lists_none parts.old.arena }
-    requires in_round { IsInRound (functions_of (F.value functions.old)) parts.old.arena parts.old.work
+    requires fit { AllCallFit (F.known functions.old) (ids_of (F.right functions.old)) parts.old.arena }
+    requires in_round { IsInRound (meaning_of F.Functions functions.old) parts.old.arena parts.old.work
         (F.calls functions.old) }
-    ensures settled { OnOk result (Settles (functions_of (F.value functions.old)) parts.old.arena
+    ensures settled { OnOk result (Settles (meaning_of F.Functions functions.old) parts.old.arena
         parts.old.work parts.new.work (F.calls functions.old) (F.calls functions.new)) }
     ensures empty { OnOk result (IsEmpty parts.new.work.graph.heap) }
-    ensures refused { IfErr result (SettleRefused (functions_of (F.value functions.old)) parts.old.arena parts.old.work
+    ensures refused { IfErr result (SettleRefused (meaning_of F.Functions functions.old) parts.old.arena parts.old.work
         parts.new.work (F.calls functions.old) (F.calls functions.new)) }
     ensures arena { parts.new.arena ≡ parts.old.arena }
     ensures kept { IsKept parts.new.arena parts.new.work }
@@ -175,8 +173,8 @@ fn step_main<F: Functions>(
     requires row { Holds parts.old.work.rows (main node) }
     requires taken { at parts.old.work.graph.heap (main node) ≡ None }
     requires sound { F.is_sound functions.old }
-    requires fit { AllCallFit (maps_of (F.known functions.old)) lists_none parts.old.arena }
-    ensures settled { OnOk result (MainIsSettled (F.value functions.old) parts.old.arena parts.old.work parts.new.work
+    requires fit { AllCallFit (F.known functions.old) (ids_of (F.right functions.old)) parts.old.arena }
+    ensures settled { OnOk result (MainIsSettled (functions_of F.Functions functions.old) parts.old.arena parts.old.work parts.new.work
         node (F.calls functions.old) (F.calls functions.new)) }
     ensures refused { OnErr result (MainIsLeft parts.old.arena parts.old.work parts.new.work node
         (F.calls functions.old) (F.calls functions.new)) }
@@ -220,7 +218,6 @@ fn step_change(parts: &mut Parts, node: NodeId) -> Result<(), Refused>
     ensures quiet { OnOk result (parts.new.work.todo.items ≡ []) }
     ensures places { KeepsPlaces parts.old.work parts.new.work }
 {
-    parts.arena.is_sound();
     let Some(row) = parts.arena.get(node) else {
         return Ok(());
     };

@@ -87,7 +87,6 @@ impl Work {
         ensures kept { IsKept arena.now self.new }
         ensures pushed { OnOk result (Grows self.old self.new) }
     {
-        arena.is_sound();
         let Some(row) = arena.get(p.node) else {
             return Ok(());
         };

@@ -180,7 +180,6 @@ impl<F: Functions> Graph<F> {
             }
         }
         let added = self.parts.add(def, ty);
-        self.parts.arena().is_sound();
         match added {
             Ok(id) => Ok(id),
             Err(fault) => Err(add_fault(fault)),

@@ -1,16 +1,15 @@
 //! One call that brings what is observed up to date.
 ghost use Rattle.std.specs.Prelude.{◌≡◌, ◌↔◌, Some, OnOk, OnErr, IfErr, IsErrOf, length, ◌≤◌};
 ghost use Rattle.inc_value.specs.declared.node.NodeId.{NodeId};
-ghost use Rattle.node_arena.specs.Meanings.{SameNames, KeepsKnown, SameValues};
+ghost use Rattle.node_arena.specs.Meanings.{SameNames, SameKnown, SameValues};
 ghost use Rattle.node_arena.specs.RightSide.{SameSides};
 ghost use Rattle.stabilize_round.specs.Calling.{costs_of};
 ghost use Rattle.stabilize_round.specs.Counts.{RoseBy};
-ghost use Rattle.node_outcomes.specs.Computing.{KeepsFunctions};
-ghost use Rattle.node_outcomes.specs.Meaning.{functions_of};
+ghost use Rattle.node_outcomes.specs.Meaning.{functions_of, meaning_of, KeepsFunctions};
 ghost use Rattle.graph.specs.Inside.{CanStabilize, BringsUpToDate, calls_in, IsNextRound, IsRefusedLawfully, WasTried};
 ghost use Rattle.graph.specs.Inside.{CalledMet, FitTogether, AllShowStill, KeepsCutoffs, KeepsNodes, KeepsCalled};
-ghost use Rattle.graph.specs.Standing.{IsBroken, graph, in_use};
-ghost use Rattle.graph.specs.Stabilizes.{Stabilizes, IsRefusedFor, HasCalledMet};
+ghost use Rattle.graph.specs.Standing.{IsBroken, in_use};
+ghost use Rattle.graph.specs.Stabilizes.{Stabilizes, IsRefusedFor, HasCalledMet, left_by};
 ghost use Rattle.graph.specs.declared.fault.Kept.{Kept as ACause};
 
 use super::Graph;
@@ -34,18 +33,18 @@ impl<F: Functions> Graph<F> {
     /// `functions` and `into_functions` is refused.
     pub fn stabilize(&mut self) -> Result<(), StabilizeFault>
         ensures broken { (cause : ACause) → IsErrOf result (StabilizeFault.Broken cause) ↔ IsBroken self.old cause }
-        ensures brought { OnOk result (Stabilizes (functions_of (F.value self.old.functions)) self.old self.new) }
-        ensures calls { OnOk result (RoseBy (F.calls self.old.functions) (costs_of (graph self.old) self.new.ran)
+        ensures brought { OnOk result (Stabilizes (functions_of F.Functions self.old.functions) self.old self.new) }
+        ensures calls { OnOk result (RoseBy (F.calls self.old.functions) (costs_of (left_by self.old self.new) self.new.ran)
             (F.calls self.new.functions)) }
         ensures refused { (cause : ACause) → IsErrOf result (StabilizeFault.Refused cause)
-            → IsRefusedFor (functions_of (F.value self.old.functions)) self.old self.new cause }
+            → IsRefusedFor (functions_of F.Functions self.old.functions) self.old self.new cause }
         ensures few { (cause : ACause) → IsErrOf result (StabilizeFault.Refused cause)
-            → HasCalledMet (functions_of (F.value self.old.functions)) self.old
+            → HasCalledMet (functions_of F.Functions self.old.functions) self.old self.new
             (F.calls self.old.functions) (F.calls self.new.functions) }
         ensures calls_grow { F.calls self.old.functions ≤ F.calls self.new.functions }
         ensures unchanged { (cause : ACause) → IsErrOf result (StabilizeFault.Broken cause) → self.new ≡ self.old }
         ensures names { SameNames (F.named self.old.functions) (F.named self.new.functions) }
-        ensures known { KeepsKnown (F.known self.old.functions) (F.known self.new.functions) }
+        ensures known { SameKnown (F.known self.old.functions) (F.known self.new.functions) }
         ensures values { SameValues (F.value self.old.functions) (F.value self.new.functions) }
         ensures sides { SameSides (F.right self.old.functions) (F.right self.new.functions) }
         ensures tally { F.tally self.new.functions ≡ F.tally self.old.functions }
@@ -92,18 +91,18 @@ fn run<F: Functions>(
 ) -> Result<(), Refused>
     requires within { rooted ≤ length observers.now }
     requires sound { F.is_sound functions.old }
-    requires can { CanStabilize (F.known functions.old) (F.value functions.old) parts.old observers.now rooted }
-    ensures right { OnOk result (BringsUpToDate (functions_of (F.value functions.old)) parts.old parts.new (in_use observers.now)) }
+    requires can { CanStabilize (meaning_of F.Functions functions.old) parts.old observers.now rooted }
+    ensures right { OnOk result (BringsUpToDate (functions_of F.Functions functions.old) parts.old parts.new (in_use observers.now)) }
     ensures calls { OnOk result (RoseBy (F.calls functions.old) (calls_in parts.old parts.new) (F.calls functions.new)) }
-    ensures can { OnOk result (CanStabilize (F.known functions.new) (F.value functions.new) parts.new observers.now
+    ensures can { OnOk result (CanStabilize (meaning_of F.Functions functions.new) parts.new observers.now
         (length observers.now)) }
     ensures round { OnOk result (IsNextRound parts.old parts.new) }
-    ensures lawful { IfErr result (IsRefusedLawfully (functions_of (F.value functions.old)) parts.old (in_use observers.now)) }
+    ensures lawful { IfErr result (IsRefusedLawfully (functions_of F.Functions functions.old) parts.old parts.new (in_use observers.now)) }
     ensures tried { IfErr result (WasTried parts.new) }
-    ensures few { OnErr result (CalledMet (functions_of (F.value functions.old)) parts.old (in_use observers.now)
+    ensures few { OnErr result (CalledMet (functions_of F.Functions functions.old) parts.old parts.new (in_use observers.now)
         (F.calls functions.old) (F.calls functions.new)) }
     ensures kept { OnErr result (FitTogether parts.new) }
-    ensures shows { OnErr result (AllShowStill (functions_of (F.value functions.old)) parts.old parts.new) }
+    ensures shows { OnErr result (AllShowStill (functions_of F.Functions functions.old) parts.old parts.new) }
     ensures cutoffs { OnErr result (KeepsCutoffs parts.old parts.new) }
     ensures ran { OnErr result (KeepsCalled parts.old parts.new) }
     ensures arena { KeepsNodes parts.old parts.new }

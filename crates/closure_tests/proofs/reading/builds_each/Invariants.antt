@@ -1,5 +1,6 @@
 use Rattle.std.proofs.Common.{◌≡◌, [], IsTrue}
-use Rattle.node_arena.specs.Meanings.{KeepsKnown}
+use Rattle.node_arena.specs.Meanings.{SameKnown}
+use Rattle.node_arena.specs.Sound.{IsSound}
 use Rattle.closure_tests.proofs.reading.builds_each.Given as goal
 
 -- the table's function stays known, and lists no nodes
@@ -8,7 +9,8 @@ invariant-loop-number g l =
     let F = g.F.Functions in
     record {
       sound : F.is_sound l.functions;
-      keeps : KeepsKnown (F.known l.fn.functions) (F.known l.functions);
+      arena : IsSound l.arena;
+      keeps : SameKnown (F.known l.fn.functions) (F.known l.functions);
       known : IsTrue (F.known l.functions l.named.table);
       lists_none : (F.right l.functions l.named.table).ids ≡ [];
     }

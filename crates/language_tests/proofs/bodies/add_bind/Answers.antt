@@ -16,6 +16,6 @@ returns-in-Ok-clause-empty c n r is scope =
     (let at_bind = sym (ap (λ (m : NodeId). row_at c.add.new.self m) same) ∙ is in
     let own : None ≡ r.scope = ap scope_of (sym c.in-Ok.ensures.added.changed ∙ at_bind) in
     absurd (cc (own, scope)))) in
-    let before = c.is_sound.ensures.scopes n r c.in-Ok.bind (sym (c.in-Ok.ensures.added.others n other) ∙ is) scope in
+    let before = c.requires.arena.scopes n r c.in-Ok.bind (sym (c.in-Ok.ensures.added.others n other) ∙ is) scope in
     let number = c.in-Ok.ensures.id in
     omega (arith, before, number)

@@ -1,7 +1,7 @@
 use Rattle.std.proofs.Common.{sym, ◌∙◌}
 use Rattle.stabilize_round.proofs.Counts.{rose_on}
 use Rattle.node_outcomes.proofs.Folding.{folded_take, of_two}
-use Rattle.node_outcomes.proofs.Computing.{functions_on}
+use Rattle.node_outcomes.proofs.Keeping.{functions_on}
 use Rattle.node_outcomes.proofs.call.fold.Goals as goal
 
 pub loop-value-preserved : goal.loop-value-preserved

@@ -2,7 +2,7 @@ use Rattle.std.proofs.Common.{◌≡◌, take}
 use Rattle.inc_value.specs.Value.{type_of}
 use Rattle.inc_terms.specs.Evaluate.{folded}
 use Rattle.stabilize_round.specs.Counts.{RoseBy}
-use Rattle.node_outcomes.specs.Computing.{KeepsFunctions}
+use Rattle.node_outcomes.specs.Meaning.{KeepsFunctions}
 use Rattle.node_outcomes.proofs.call.fold.Given as goal
 
 -- what the values so far gave, by a call for each

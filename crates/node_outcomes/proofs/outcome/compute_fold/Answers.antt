@@ -3,6 +3,7 @@ use Rattle.std.specs.List.{filter_map}
 use Rattle.inc_terms.specs.Evaluate.{folded}
 use Rattle.inc_terms.specs.Graph.{Fold}
 use Rattle.node_outcomes.specs.Computing.{value_shown, Calls, FoldFits, IsKnown, noted}
+use Rattle.node_outcomes.specs.Meaning.{functions_of}
 use Rattle.node_outcomes.proofs.Computing.{known_computes, ends_computes, all_fit, all_shown}
 use Rattle.node_outcomes.proofs.outcome.compute_fold.Goals as goal
 
@@ -15,18 +16,18 @@ call_fold-requires-clause-fit g c =
 
 pub returns-in-Ok-Some-clause-computed : goal.returns-in-Ok-Some-clause-computed
 returns-in-Ok-Some-clause-computed g c =
-    let value = g.F.Functions.value c.args.functions.now in
+    let F = functions_of g.F.Functions c.args.functions.now in
     let f = c.args.f.now in
     let from = c.args.initial.now in
     let kids = c.args.kids.now in
-    known_computes value (folded (value f) from) f.sig.gives c.args.round
+    known_computes F (folded (F.value f) from) f.sig.gives c.args.round
     (noted c.args.rows.now c.args.ran.now.items (g.F.Functions.calls c.args.functions.now))
     c.args.node (Fold f from kids) kids (length kids) (λ G. refl) (λ values. refl) c.requires.there c.in-Ok-Some.outcome
     (subst (λ o. IsKnown c.args.round c.args.rows.now c.args.node kids o) c.in-Ok-Some.field-0-is c.in-Ok-Some.ensures)
 
 pub returns-in-Ok-None-clause-computed : goal.returns-in-Ok-None-clause-computed
 returns-in-Ok-None-clause-computed g c =
-    let value = g.F.Functions.value c.args.functions.now in
+    let F = functions_of g.F.Functions c.args.functions.now in
     let f = c.args.f.now in
     let from = c.args.initial.now in
     let rows = c.args.rows.now in
@@ -34,7 +35,7 @@ returns-in-Ok-None-clause-computed g c =
     let old = noted rows c.args.ran.now.items (g.F.Functions.calls c.args.functions.now) in
     let new = noted c.call_fold.new.rows c.call_fold.new.ran.items (g.F.Functions.calls c.call_fold.new.functions) in
     let known : IsKnown c.args.round rows c.args.node kids None = subst (λ o. IsKnown c.args.round rows c.args.node kids o) c.in-Ok-None.field-0-is c.in-Ok-None.ensures in
-    ends_computes value (folded (value f) from) f.sig.gives c.args.round old c.args.node (Fold f from kids) kids (length kids) (λ G. refl)
+    ends_computes F (folded (F.value f) from) f.sig.gives c.args.round old c.args.node (Fold f from kids) kids (length kids) (λ G. refl)
     (λ values. refl) c.requires.there new c.call_fold.result known
-    (subst (λ (k : ℕ). Calls (folded (value f) from) f.sig.gives old new c.args.node (filter_map (value_shown rows) kids) k c.call_fold.result)
+    (subst (λ (k : ℕ). Calls (folded (F.value f) from) f.sig.gives old new c.args.node (filter_map (value_shown rows) kids) k c.call_fold.result)
     (all_shown rows kids known.0) c.call_fold.ensures.called)

@@ -2,6 +2,7 @@ use Rattle.std.proofs.Common.{None, refl, subst}
 use Rattle.inc_value.specs.Value.{HaveTypes}
 use Rattle.inc_terms.specs.Graph.{Map}
 use Rattle.node_outcomes.specs.Computing.{IsKnown, noted}
+use Rattle.node_outcomes.specs.Meaning.{functions_of}
 use Rattle.node_outcomes.proofs.Computing.{known_computes, ends_computes, all_fit}
 use Rattle.node_outcomes.proofs.outcome.compute_map.Goals as goal
 
@@ -14,19 +15,19 @@ call_map-requires-clause-fit g c =
 
 pub returns-in-Ok-Some-clause-computed : goal.returns-in-Ok-Some-clause-computed
 returns-in-Ok-Some-clause-computed g c =
-    let value = g.F.Functions.value c.args.functions.now in
+    let F = functions_of g.F.Functions c.args.functions.now in
     let f = c.args.f.now in
     let kids = c.args.kids.now in
-    known_computes value (value f) f.sig.gives c.args.round (noted c.args.rows.now c.args.ran.now.items (g.F.Functions.calls c.args.functions.now))
+    known_computes F (F.value f) f.sig.gives c.args.round (noted c.args.rows.now c.args.ran.now.items (g.F.Functions.calls c.args.functions.now))
     c.args.node (Map f kids) kids 1 (λ G. refl) (λ values. refl) c.requires.there c.in-Ok-Some.outcome
     (subst (λ o. IsKnown c.args.round c.args.rows.now c.args.node kids o) c.in-Ok-Some.field-0-is c.in-Ok-Some.ensures)
 
 pub returns-in-Ok-None-clause-computed : goal.returns-in-Ok-None-clause-computed
 returns-in-Ok-None-clause-computed g c =
-    let value = g.F.Functions.value c.args.functions.now in
+    let F = functions_of g.F.Functions c.args.functions.now in
     let f = c.args.f.now in
     let kids = c.args.kids.now in
-    ends_computes value (value f) f.sig.gives c.args.round (noted c.args.rows.now c.args.ran.now.items (g.F.Functions.calls c.args.functions.now))
+    ends_computes F (F.value f) f.sig.gives c.args.round (noted c.args.rows.now c.args.ran.now.items (g.F.Functions.calls c.args.functions.now))
     c.args.node (Map f kids) kids 1 (λ G. refl) (λ values. refl) c.requires.there
     (noted c.call_map.new.rows c.call_map.new.ran.items (g.F.Functions.calls c.call_map.new.functions)) c.call_map.result
     (subst (λ o. IsKnown c.args.round c.args.rows.now c.args.node kids o) c.in-Ok-None.field-0-is c.in-Ok-None.ensures) c.call_map.ensures.called

@@ -34,7 +34,7 @@ loop-row-preserved c =
     let l = c.loop-row in
     one_more_at a.body.now a.builder.now a.left.now a.captures.now c.requires.ready
     c.lines-lines.result.now l.row-index c.row-item.result (omega arith) c.row-item.is l.builder l.made.items l.invariant
-    c.add_next.new.builder c.add_next.new.made.items c.is_sound.ensures.sound
+    c.add_next.new.builder c.add_next.new.made.items l.invariant.sound
     (rw (c.listed.ensures, c.draft-draft.ensures.value) at c.in_ok-add_next.ensures.noted)
 
 pub returns-in_err-add_next-clause-grows : goal.returns-in_err-add_next-clause-grows

@@ -1,9 +1,8 @@
 use Rattle.std.proofs.Common.{refl, sym, subst, ◌∙◌}
 use Rattle.node_arena.specs.Arena.{Arena}
 use Rattle.node_arena.specs.Graph.{AllCallFit}
-use Rattle.node_outcomes.proofs.Computing.{functions_on, nothing_called}
-use Rattle.node_outcomes.proofs.Maps.{maps_still_fit}
-use Rattle.node_outcomes.specs.Meaning.{functions_of, lists_none, maps_of}
+use Rattle.node_outcomes.proofs.Keeping.{functions_on, nothing_called, still_means}
+use Rattle.node_outcomes.specs.Meaning.{Meaning, meaning_of}
 use Rattle.stabilizer.specs.Round.{SettleRefused}
 use Rattle.stabilizer.proofs.Rounding.{exit_is, no_step, next_step, less_left, step_stops}
 use Rattle.stabilizer.proofs.stabilizer.settle_all.Goals as goal
@@ -12,22 +11,23 @@ pub loop-init : goal.loop-init
 loop-init g c = record {
   arena = refl;
   ran = refl;
-  so = no_step (functions_of (g.F.Functions.value c.args.functions.now)) c.args.parts.now.arena c.args.parts.now.work
+  so = no_step (meaning_of g.F.Functions c.args.functions.now) c.args.parts.now.arena c.args.parts.now.work
       (g.F.Functions.calls c.args.functions.now) c.requires.kept c.requires.quiet;
   functions = nothing_called g.F.Functions c.args.functions.now c.requires.sound;
 }
 
 pub step-requires-clause-fit : goal.step-requires-clause-fit
 step-requires-clause-fit g c =
-    let known = g.F.Functions.known c.loop.functions in
-    subst (λ (a : Arena). AllCallFit (maps_of known) lists_none a) (sym c.loop.invariant.arena)
-    (maps_still_fit (g.F.Functions.known c.args.functions.now) known c.args.parts.now.arena c.loop.invariant.functions.known c.requires.fit)
+    let M = meaning_of g.F.Functions c.args.functions.now in
+    subst (λ (L : Meaning). AllCallFit L.known L.ids c.loop.parts.arena) (sym (still_means g.F.Functions _ _ c.loop.invariant.functions))
+    (subst (λ (a : Arena). AllCallFit M.known M.ids a) (sym c.loop.invariant.arena) c.requires.fit)
 
 pub loop-preserved : goal.loop-preserved
 loop-preserved g c = record {
   arena = c.step.ensures.arena ∙ c.loop.invariant.arena;
   ran = c.step.ensures.ran ∙ c.loop.invariant.ran;
-  so = next_step (g.F.Functions.value c.args.functions.now) (g.F.Functions.value c.loop.functions) c.loop.invariant.functions.values c.args.parts.now.arena
+  so = next_step (meaning_of g.F.Functions c.args.functions.now) (meaning_of g.F.Functions c.loop.functions)
+      (still_means g.F.Functions _ _ c.loop.invariant.functions) c.args.parts.now.arena
       c.loop.parts.arena c.loop.invariant.arena c.step.new.parts.arena c.args.parts.now.work c.loop.parts.work c.step.new.parts.work
       (g.F.Functions.calls c.args.functions.now) (g.F.Functions.calls c.loop.functions) (g.F.Functions.calls c.step.new.functions)
       c.loop.invariant.so c.step.ensures.arena c.step.ensures.kept c.in_ok-step.ensures.quiet
@@ -37,18 +37,20 @@ loop-preserved g c = record {
 
 pub loop-smaller : goal.loop-smaller
 loop-smaller g c =
-    less_left (g.F.Functions.value c.args.functions.now) (g.F.Functions.value c.loop.functions) c.loop.invariant.functions.values c.args.parts.now.arena
+    less_left (meaning_of g.F.Functions c.args.functions.now) (meaning_of g.F.Functions c.loop.functions)
+    (still_means g.F.Functions _ _ c.loop.invariant.functions) c.args.parts.now.arena
     c.loop.parts.arena c.loop.invariant.arena c.args.parts.now.work c.loop.parts.work c.step.new.parts.work (g.F.Functions.calls c.args.functions.now)
     (g.F.Functions.calls c.loop.functions) c.requires.in_round c.loop.invariant.so (c.in_ok-step.ensures.falls c.if-branch.true)
 
 pub returns-in_err-step-clause-refused : goal.returns-in_err-step-clause-refused
 returns-in_err-step-clause-refused g c =
     let e = c.in_err-step.field-0.0 in
-    let F = functions_of (g.F.Functions.value c.args.functions.now) in
+    let M = meaning_of g.F.Functions c.args.functions.now in
     exit_is c.from_residual.result e
-    (SettleRefused F c.args.parts.now.arena c.args.parts.now.work c.step.new.parts.work (g.F.Functions.calls c.args.functions.now)
+    (SettleRefused M c.args.parts.now.arena c.args.parts.now.work c.step.new.parts.work (g.F.Functions.calls c.args.functions.now)
     (g.F.Functions.calls c.step.new.functions)) c.from_residual.ensures.1
-    (step_stops (g.F.Functions.value c.args.functions.now) (g.F.Functions.value c.loop.functions) c.loop.invariant.functions.values c.args.parts.now.arena
+    (step_stops (meaning_of g.F.Functions c.args.functions.now) (meaning_of g.F.Functions c.loop.functions)
+    (still_means g.F.Functions _ _ c.loop.invariant.functions) c.args.parts.now.arena
     c.loop.parts.arena c.loop.invariant.arena c.args.parts.now.work c.loop.parts.work c.step.new.parts.work
     (g.F.Functions.calls c.args.functions.now) (g.F.Functions.calls c.loop.functions) (g.F.Functions.calls c.step.new.functions) e c.loop.invariant.so
     c.in_err-step.ensures.refused)

@@ -56,7 +56,7 @@ attach_right-requires-clause-kept c =
     let sub : subject_of r.def ≡ Some m = sym c.subject.ensures ∙ c.in-Some-subject.is in
     let t : HasTurned old turned n (right_in old.rows n r.def) given =
     record { mid = c.turn.ensures.mid; turned = c.turn.ensures.turned; rows = c.turn.ensures.rows; rest = c.turn.ensures.rest } in
-    turned_kept arena old turned n r m (right_in old.rows n r.def) given c.requires.kept live t c.is_sound.ensures sub c.in-Ok.ensures
+    turned_kept arena old turned n r m (right_in old.rows n r.def) given c.requires.kept live t c.requires.kept.sound sub c.in-Ok.ensures
 
 pub returns-in_err-attach_right-clause-refused : goal.returns-in_err-attach_right-clause-refused
 returns-in_err-attach_right-clause-refused c =

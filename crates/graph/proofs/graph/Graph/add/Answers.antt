@@ -7,7 +7,7 @@ use Rattle.inc_terms.specs.Depend.{main}
 use Rattle.necessity.specs.Need.{Roots, root_times}
 use Rattle.inc_terms.specs.Within.{Given}
 use Rattle.graph.proofs.Seeing.{beside_as}
-use Rattle.graph.proofs.Sounding.{AddAnswers, adds_of, sound_still, answer_fits, answer_given}
+use Rattle.graph.proofs.Sounding.{AddAnswers, adds_of, sound_still, answer_ready, answer_given, known_no_bind}
 use Rattle.graph.proofs.graph.Graph.add.Goals as goal
 use Rattle.graph.proofs.graph.Graph.add.Goals.{in-Ok-added, in-Err-added}
 
@@ -17,11 +17,12 @@ invariant_of-self g c = (
   (let a = c.add-added.ensures in
       let answers : AddAnswers c.self.inside.parts.arena c.add-added.new.self.arena (def_of c.args.def) c.args.ty c.add-added.result
       = record { added = a.added; given = a.given; err = a.err; fresh = a.id; unknown = a.unknown.1 } in
-      let sound = rw c.arena.ensures at c.is_sound.ensures in
+      let f = c.self.inside.functions in
       let known = rw (← c.self.view_is) at c.requires.known in
-      sound_still _ _ c.self.inside.parts c.add-added.new.self c.self.inside.observers.items c.self.inside.rooted c.self.inside.refused c.self.invariant.1
-      (rw (← c.self.view_is) at c.in-Ok.ensures.unbroken) (a.ready _) (λ p. ap (λ (r : Roots). root_times r p) a.roots)
-      (answer_fits _ _ _ (def_of c.args.def) c.args.ty c.add-added.result answers known sound)
+      sound_still _ c.self.inside.parts c.add-added.new.self c.self.inside.observers.items c.self.inside.rooted c.self.inside.refused c.self.invariant.1
+      (rw (← c.self.view_is) at c.in-Ok.ensures.unbroken) (answer_ready (g.F.Functions.known f) (g.F.Functions.value f) (g.F.Functions.right f)
+      (g.met.F.Functions.sides f c.self.invariant.2) c.self.inside.parts c.add-added.new.self (def_of c.args.def) c.args.ty c.add-added.result answers known a.kept a.ready a.err_ready)
+      (λ p. ap (λ (r : Roots). root_times r p) a.roots)
       (answer_given _ _ (def_of c.args.def) c.args.ty c.add-added.result answers) (λ n given. a.rows (main n) given)),
   c.self.invariant.2,
 )
@@ -46,3 +47,6 @@ returns-clause-added g c =
     c.self.inside.refused (Given c.self.inside.parts.arena.given) a.ran a.links a.roots a.rows (λ n. inl (a.cutoffs n)) in
     rw (← c.self.view_is) (id_passes _ c.add-added.result c.match-added.result passes
     (adds_of _ _ (def_of c.args.def) c.args.ty c.add-added.result _ refl refl refl answers a.row beside))
+
+pub add-added-requires-clause-today : goal.add-added-requires-clause-today
+add-added-requires-clause-today g c = known_no_bind (g.F.Functions.known c.self.inside.functions) (def_of c.args.def) (rw (← c.self.view_is) at c.requires.known)

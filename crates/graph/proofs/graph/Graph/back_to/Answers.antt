@@ -16,7 +16,7 @@ invariant_of-self g c = (
   (let whole = rw (← c.self.view_is) at c.in_ok-check.ensures.unbroken in
       let low = (rw (← c.self.view_is) at c.requires.unneeded) whole in
       let b = c.back_to.ensures in
-      sound_back _ _ c.self.inside.parts c.back_to.new.self c.self.inside.observers.items c.self.inside.rooted c.self.inside.refused c.self.invariant.1
+      sound_back _ c.self.inside.parts c.back_to.new.self c.self.inside.observers.items c.self.inside.rooted c.self.inside.refused c.self.invariant.1
       c.args.mark.given b.older b.dropped whole (b.ready _) b.roots b.given (λ n older. b.rows (main n) older)
       (λ p need. low p (needed_out c.self.inside.functions c.self.inside.parts c.self.inside.observers.items c.self.inside.rooted
       c.self.inside.refused p need))),

@@ -1,7 +1,7 @@
+use Rattle.node_outcomes.specs.Meaning.{meaning_of}
 use Rattle.graph.proofs.Sound.{sound_of}
 use Rattle.graph.proofs.graph.Graph.keeps_sound.Goals as goal
 
 pub returns-clause-sound : goal.returns-clause-sound
-returns-clause-sound g c = rw (← c.self.view_is) (sound_of c.self.inside.functions (g.F.Functions.known c.self.inside.functions)
-    (g.F.Functions.value c.self.inside.functions) c.self.inside.parts c.self.inside.observers.items c.self.inside.rooted c.self.inside.refused
-    c.self.invariant.1 (rw c.arena.ensures at c.is_sound.ensures))
+returns-clause-sound g c = rw (← c.self.view_is) (sound_of c.self.inside.functions (meaning_of g.F.Functions c.self.inside.functions)
+    c.self.inside.parts c.self.inside.observers.items c.self.inside.rooted c.self.inside.refused c.self.invariant.1)

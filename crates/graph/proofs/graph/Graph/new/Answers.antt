@@ -1,25 +1,27 @@
-use Rattle.std.proofs.Common.{List, None, refl, sym, subst, ◌∙◌, arith}
-use Rattle.std.proofs.lemmas.Option.{none-some}
-use Rattle.node_outcomes.specs.Meaning.{functions_of}
+use Rattle.std.proofs.Common.{List, None, refl, sym, subst, arith}
+use Rattle.inc_terms.specs.Within.{FunctionLaws}
+use Rattle.node_arena.proofs.RightSides.{sides_are_lawful}
+use Rattle.node_outcomes.specs.Meaning.{Meaning, meaning_of}
 use Rattle.graph.specs.Inside.{FitsInside}
 use Rattle.graph.specs.declared.observer.Observer.{Observer}
 use Rattle.graph.proofs.graph.Graph.new.Goals as goal
 
 pub invariant_of-result : goal.invariant_of-result
-invariant_of-result g c = (
-  refl,
-  subst (λ (os : List Observer). FitsInside (g.F.Functions.known c.args.functions) (g.F.Functions.value c.args.functions)
-      c.new.result os 0 None) (sym c.new-2.ensures.items) (record {
+invariant_of-result g c =
+    let M : Meaning = meaning_of g.F.Functions c.args.functions in
+    let laws : FunctionLaws M.functions M.known M.ids = sides_are_lawful _ _ _ (g.met.F.Functions.no_reference c.args.functions c.requires.sound)
+    (g.met.F.Functions.sides c.args.functions c.requires.sound) in (
+      refl,
+      subst (λ (os : List Observer). FitsInside M c.new.result os 0 None) (sym c.new-2.ensures.items) (record {
         few = omega arith;
         earlier = omega arith;
-        kept = (c.new.ensures.ready (functions_of (g.F.Functions.value c.args.functions))).kept;
+        kept = (c.new.ensures.ready M laws).kept;
         unbroken = λ whole. record {
-          ready = c.new.ensures.ready _;
+          ready = c.new.ensures.ready M laws;
           roots = c.new.ensures.roots;
-          fit = λ n r is. absurd (none-some r (sym (c.new.ensures.empty n) ∙ is));
           given = λ n among. absurd among;
           shown = λ n among. absurd among;
         };
       }),
-  c.requires.sound,
-)
+      c.requires.sound,
+    )

@@ -5,7 +5,7 @@ pub invariant_of-self : goal.invariant_of-self
 invariant_of-self g c = (
   c.self.invariant.0,
   (let a = c.set_cutoff.ensures in
-      sound_cut c.self.inside.parts c.set_cutoff.new.self c.args.node c.args.cutoff a.cutoff a.rest _ _ c.self.inside.observers.items
+      sound_cut c.self.inside.parts c.set_cutoff.new.self c.args.node c.args.cutoff a.cutoff a.rest _ c.self.inside.observers.items
       c.self.inside.rooted c.self.inside.refused c.self.invariant.1 (rw (← c.self.view_is) at c.in_ok-check.ensures.unbroken) (a.ready _)),
   c.self.invariant.2,
 )

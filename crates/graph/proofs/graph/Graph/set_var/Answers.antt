@@ -1,12 +1,16 @@
-use Rattle.std.proofs.Common.{Err, refl, sym, ap, subst, ◌∙◌, arith}
+use Rattle.std.proofs.Common.{inl, Err, refl, sym, ap, subst, ◌∙◌, arith}
 use Rattle.necessity.specs.Need.{Roots, root_times}
 use Rattle.node_arena.specs.declared.arena.variable.SetFault.TheVariants as set
 use Rattle.point_map.specs.Rows.{Rows, at}
 use Rattle.inc_terms.specs.Depend.{main}
 use Rattle.node_outcomes.specs.declared.row.Progress.{Progress}
 use Rattle.graph.specs.declared.fault.GraphFault.TheVariants as fault
-use Rattle.graph.proofs.Faulting.{Passes, passed, set_unknown, set_not_var, set_wrong_type}
-use Rattle.graph.proofs.Sounding.{sound_still, set_fits, on_err}
+use Rattle.graph.proofs.Stabilizing.{on_ok}
+use Rattle.graph.proofs.Faulting.{Passes, passed, ok_passes, set_unknown, set_not_var, set_wrong_type}
+use Rattle.inc_terms.specs.Within.{Given}
+use Rattle.node_outcomes.specs.Row.{cutoff_in}
+use Rattle.graph.proofs.Seeing.{beside_as}
+use Rattle.graph.proofs.Sounding.{sound_still}
 use Rattle.graph.proofs.graph.Graph.set_var.Goals as goal
 use Rattle.graph.proofs.graph.Graph.set_var.Goals.{in-Ok-set_var, in-Err-set_var}
 
@@ -35,9 +39,21 @@ pub invariant_of-self : goal.invariant_of-self
 invariant_of-self g c = (
   c.self.invariant.0,
   (let a = c.set_var.ensures in
-      sound_still _ _ c.self.inside.parts c.set_var.new.self c.self.inside.observers.items c.self.inside.rooted c.self.inside.refused c.self.invariant.1
+      sound_still _ c.self.inside.parts c.set_var.new.self c.self.inside.observers.items c.self.inside.rooted c.self.inside.refused c.self.invariant.1
       (rw (← c.self.view_is) at c.in-Ok.ensures.unbroken) (a.ready _) (λ p. ap (λ (r : Roots). root_times r p) a.roots)
-      (set_fits _ _ _ c.args.node c.args.value c.set_var.result a.set (on_err c.self.inside.parts c.set_var.new.self c.set_var.result a.err))
       (omega (arith, a.given)) (λ n given. ap (λ (m : Rows Progress). at m (main n)) a.rows)),
   c.self.invariant.2,
 )
+
+pub returns-clause-set : goal.returns-clause-set
+returns-clause-set g c =
+    let a = c.set_var.ensures in
+    let beside = beside_as c.self.inside.functions c.self.inside.parts c.set_var.new.self c.self.inside.observers.items c.self.inside.rooted
+    c.self.inside.refused (Given c.self.inside.parts.arena.given) a.ran a.links a.roots (λ p given. ap (λ (m : Rows Progress). at m p) a.rows)
+    (λ n. inl (ap (λ (m : Rows Progress). cutoff_in (at m (main n))) a.rows)) in
+    let passes : Passes c.set_var.result c.match-set_var.result = elim c.match-set_var.branch [
+      | in-Ok-set_var w ↦ subst (λ r. Passes r c.match-set_var.result) (sym w.in-Ok-set_var.is) w.result-is
+      | in-Err-set_var w ↦ subst (λ r. Passes r c.match-set_var.result) (sym w.in-Err-set_var.is) (w.result-is ∙ ap Err w.set_fault.ensures)
+    ] in
+    rw (← c.self.view_is) (ok_passes _ c.set_var.result c.match-set_var.result passes
+    (on_ok c.set_var.result (λ set. record { beside = beside; given = a.given; set = set }) a.set))

@@ -5,6 +5,7 @@ use Rattle.node_outcomes.specs.Computing.{seen_of}
 use Rattle.stabilizer.specs.Round.{last_of}
 use Rattle.node_outcomes.specs.Row.{outcome_in, cutoff_in}
 use Rattle.node_outcomes.specs.declared.row.Progress.{Progress}
+use Rattle.node_outcomes.specs.Meaning.{meaning_of}
 use Rattle.graph.specs.Inside.{FitsInside}
 use Rattle.graph.specs.declared.observer.Observer.{Observer}
 use Rattle.graph.proofs.Observing.{front_among}
@@ -23,9 +24,9 @@ invariant_of-self g c = (
   c.self.invariant.0,
   (let is = rw c.deref.ensures.value at (sym c.node_at.ensures ∙ c.in-Some.is) in
       let u = c.unroot.ensures in
-      subst (λ (os : List Observer). FitsInside (g.F.Functions.known c.self.inside.functions) (g.F.Functions.value c.self.inside.functions)
+      subst (λ (os : List Observer). FitsInside (meaning_of g.F.Functions c.self.inside.functions)
       c.unroot.new.self os c.self.inside.rooted c.self.inside.refused) (sym c.end.ensures)
-      (sound_ended _ _ c.self.inside.parts c.unroot.new.self c.self.inside.observers.items c.self.inside.rooted c.args.observer.0
+      (sound_ended _ c.self.inside.parts c.unroot.new.self c.self.inside.observers.items c.self.inside.rooted c.args.observer.0
       c.self.inside.refused c.self.invariant.1 c.in-Some.node is (rw (← c.self.view_is) at c.in_ok-check.ensures.unbroken) c.if-place-self.true (u.ready _) u.rooted u.arena u.rows)),
   c.self.invariant.2,
 )
@@ -34,9 +35,9 @@ pub invariant_of-self-else-place-self : goal.invariant_of-self-else-place-self
 invariant_of-self-else-place-self g c = (
   c.self.invariant.0,
   (let is = rw c.deref.ensures.value at (sym c.node_at.ensures ∙ c.in-Some.is) in
-      subst (λ (os : List Observer). FitsInside (g.F.Functions.known c.self.inside.functions) (g.F.Functions.value c.self.inside.functions)
+      subst (λ (os : List Observer). FitsInside (meaning_of g.F.Functions c.self.inside.functions)
       c.self.inside.parts os c.self.inside.rooted c.self.inside.refused) (sym c.end.ensures)
-      (sound_unmade _ _ c.self.inside.parts c.self.inside.parts c.self.inside.observers.items c.self.inside.rooted c.args.observer.0
+      (sound_unmade _ c.self.inside.parts c.self.inside.parts c.self.inside.observers.items c.self.inside.rooted c.args.observer.0
       c.self.inside.refused c.self.invariant.1 c.in-Some.node is c.if-place-self.false)),
   c.self.invariant.2,
 )

@@ -1,10 +1,11 @@
-use Rattle.std.proofs.Common.{List, subst, ◌∙◌}
+use Rattle.std.proofs.Common.{List, refl, subst, ◌∙◌}
 use Rattle.inc_value.specs.declared.node.NodeId.{NodeId}
 use Rattle.inc_value.specs.Choice.{Among}
 use Rattle.inc_terms.specs.Within.{Given}
-use Rattle.node_outcomes.specs.Meaning.{functions_of}
+use Rattle.node_outcomes.specs.Meaning.{functions_of, meaning_of}
 use Rattle.stabilizer.proofs.Leftover.{none_called}
 use Rattle.stabilizer.proofs.Rounding.{on_err}
+use Rattle.stabilizer.proofs.Still.{as_called}
 use Rattle.graph.specs.Standing.{in_use}
 use Rattle.graph.proofs.Observing.{all_of}
 use Rattle.graph.proofs.Stabilizing.{on_ok, err_as, on_both, if_err, rest_given, all_right, all_lawful, all_few, can_again}
@@ -14,42 +15,43 @@ pub run-requires-clause-given : goal.run-requires-clause-given
 run-requires-clause-given g c =
     let e = c.deref.ensures.value ∙ c.in_ok-roots.ensures in
     all_of (Given c.args.parts.now.arena.given) c.deref.result.now
-    (λ n among. rest_given (g.F.Functions.known c.args.functions.now) (g.F.Functions.known c.args.functions.now)
-    (g.F.Functions.value c.args.functions.now) (g.F.Functions.value c.args.functions.now) c.args.parts.now c.args.parts.now c.args.observers.now c.args.rooted c.requires.can c.requires.within n
+    (λ n among. rest_given (meaning_of g.F.Functions c.args.functions.now) c.args.parts.now c.args.parts.now c.args.observers.now c.args.rooted c.requires.can c.requires.within n
     (subst (λ (ns : List NodeId). Among n ns) e among))
 
 pub returns-clause-right : goal.returns-clause-right
 returns-clause-right g c =
     let e = c.deref.ensures.value ∙ c.in_ok-roots.ensures in
     let right = rw e at c.run.ensures.right in
-    on_ok c.run.result (all_right (g.F.Functions.known c.args.functions.now) (g.F.Functions.known c.run.new.functions) (g.F.Functions.value c.args.functions.now) (g.F.Functions.value c.run.new.functions)
+    on_ok c.run.result (all_right (meaning_of g.F.Functions c.args.functions.now)
     c.args.parts.now c.run.new.parts c.args.observers.now c.args.rooted c.requires.can c.requires.within) right
 
 pub returns-clause-can : goal.returns-clause-can
 returns-clause-can g c =
     on_both c.run.result
-    (λ right ready. can_again (g.F.Functions.known c.args.functions.now) (g.F.Functions.known c.run.new.functions) (g.F.Functions.value c.args.functions.now) (g.F.Functions.value c.run.new.functions)
+    (λ right ready. can_again (meaning_of g.F.Functions c.args.functions.now)
     c.args.parts.now c.run.new.parts c.args.observers.now c.args.rooted c.requires.can c.requires.within
-    c.run.ensures.arena c.run.ensures.functions.known ready right)
+    (meaning_of g.F.Functions c.run.new.functions) c.run.ensures.arena ready right)
     (returns-clause-right g c) c.run.ensures.ready
 
 pub returns-clause-lawful : goal.returns-clause-lawful
 returns-clause-lawful g c =
     let e = c.deref.ensures.value ∙ c.in_ok-roots.ensures in
     let lawful = rw e at c.run.ensures.lawful in
-    if_err c.run.result (all_lawful (g.F.Functions.known c.args.functions.now) (g.F.Functions.known c.run.new.functions) (g.F.Functions.value c.args.functions.now) (g.F.Functions.value c.run.new.functions)
+    if_err c.run.result (all_lawful (meaning_of g.F.Functions c.args.functions.now)
     c.args.parts.now c.run.new.parts c.args.observers.now c.args.rooted c.requires.can c.requires.within) lawful
 
 pub returns-clause-few : goal.returns-clause-few
 returns-clause-few g c =
     let e = c.deref.ensures.value ∙ c.in_ok-roots.ensures in
     let few = rw e at c.run.ensures.few in
-    err_as c.run.result (all_few (g.F.Functions.known c.args.functions.now) (g.F.Functions.known c.run.new.functions) (g.F.Functions.value c.args.functions.now) (g.F.Functions.value c.run.new.functions)
+    err_as c.run.result (all_few (meaning_of g.F.Functions c.args.functions.now)
     c.args.parts.now c.run.new.parts c.args.observers.now c.args.rooted c.requires.can c.requires.within
     (g.F.Functions.calls c.args.functions.now) (g.F.Functions.calls c.run.new.functions)) few
 
 pub returns-in_err-roots-clause-few : goal.returns-in_err-roots-clause-few
 returns-in_err-roots-clause-few g c =
+    let F = functions_of g.F.Functions c.args.functions.now in
+    let calls = g.F.Functions.calls c.args.functions.now in
     on_err c.from_residual.result
-    (none_called (functions_of (g.F.Functions.value c.args.functions.now)) c.args.parts.now.arena c.args.parts.now.work
-    (in_use c.args.observers.now) (g.F.Functions.calls c.args.functions.now))
+    (as_called F c.args.parts.now c.args.parts.now refl (in_use c.args.observers.now) calls calls
+    (none_called F c.args.parts.now.arena c.args.parts.now.work (in_use c.args.observers.now) calls))

@@ -10,3 +10,6 @@ invariant_of-self c =
     let a' : Arena = record { slots = c.remove.new.self.slots; given = c.self.inside.given } in
     let updates = c.remove.ensures.updates in
     kept_dropped a a' c.self.inside.order.items c.self.invariant (shrunk a a' c.args.id.slot updates.others updates.changed) refl c.remove.ensures.len
+
+pub returns-clause-sound : goal.returns-clause-sound
+returns-clause-sound c = (invariant_of-self c).sound

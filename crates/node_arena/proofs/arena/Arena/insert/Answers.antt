@@ -51,3 +51,6 @@ returns-clause-added c =
     let entry : Entry = record { gen_ = c.self.inside.given; row = c.args.row } in
     rw (← c.self.view_is) (grown_changes a a' c.in_ok-slot.slot updates.others entry c.in_ok-slot.ensures.was_vacant updates.changed c.args.id
     (c.if-id-next.false ∙ (c.vacant_key-next.ensures.value ∙ sym c.in_ok-slot.ensures.key)) c.if-id-self.false)
+
+pub returns-clause-sound : goal.returns-clause-sound
+returns-clause-sound c = (invariant_of-self-2 c).sound

@@ -33,3 +33,6 @@ returns-clause-set c =
     let set = is_set a c.args.id e e' c.args.value refl refl there (subst (λ (x : Arena). IsVariable x c.args.id) still c.requires.variable) updates.changed updates.others in
     let a' : Arena = record { slots = slice_set a.slots c.args.id.slot (Some e'); given = a.given } in
     subst (λ (x : Arena). IsSet x a' c.args.id c.args.value) c.self.view_is set
+
+pub returns-clause-sound : goal.returns-clause-sound
+returns-clause-sound c = (invariant_of-self c).sound

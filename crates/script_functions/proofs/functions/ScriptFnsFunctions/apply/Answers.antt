@@ -1,6 +1,6 @@
 use Rattle.std.proofs.Common.{◌≡◌, IfOk, subst}
 use Rattle.script_functions.specs.KeepingLaws.{map_known}
-use Rattle.script_functions.proofs.MoreBodies.{more_maps, more_maps_sound}
+use Rattle.script_functions.proofs.MoreBodies.{same_maps, same_maps_sound}
 use Rattle.script_functions.specs.UnnamedLaws.{same_given}
 use Rattle.script_functions.proofs.functions.ScriptFnsFunctions.apply.Goals as goal
 
@@ -18,7 +18,7 @@ returns-clause-value g c =
     subst (λ w. IfOk c.apply.result (λ v. v ≡ w)) same c.apply.ensures.value
 
 pub returns-clause-sound : goal.returns-clause-sound
-returns-clause-sound g c = more_maps_sound _ _ c.apply.ensures.keeps_known _ c.requires.sound
+returns-clause-sound g c = same_maps_sound _ _ c.apply.ensures.same_known _ c.requires.sound
 
-pub returns-clause-keeps_known : goal.returns-clause-keeps_known
-returns-clause-keeps_known g c = more_maps _ _ c.apply.ensures.keeps_known _
+pub returns-clause-same_known : goal.returns-clause-same_known
+returns-clause-same_known g c = same_maps _ _ c.apply.ensures.same_known _

@@ -9,16 +9,18 @@ use Rattle.script_graph.proofs.Functions.{same_meanings}
 use Rattle.script_graph.proofs.TooDeep.{session_too_deep, session_not_all_older}
 use Rattle.script_model.specs.Formula.{meanings_of}
 use Rattle.script_model.specs.Values.{seen_value}
-use Rattle.node_outcomes.specs.Meaning.{functions_of}
 use Rattle.session.proofs.Observed.{not_broken}
 use Rattle.session.proofs.Stabilized.{library_still_knows, accepted_sound, refused_sound, refused_for, memory_met, first_of, none_of}
+use Rattle.session.proofs.Stabilized.{alone_stabilizes, alone_refused, alone_called, costs_still}
 use Rattle.session.proofs.script.Script.stabilize.Goals as goal
 
 -- ---- accepted
 
 pub invariant_of-self : goal.invariant_of-self
-invariant_of-self g c =
-    accepted_sound _ _ c.self.invariant c.self.inside.graph c.stabilize.new.self refl c.in-Ok.ensures.brought _
+invariant_of-self g c = (
+  accepted_sound _ _ c.self.invariant.0 c.self.inside.graph c.stabilize.new.self refl c.in-Ok.ensures.brought _,
+  ap (λ t. t.taken) c.stabilize.ensures.tally ∙ c.self.invariant.1,
+)
 
 pub returns-in-Ok : goal.returns-in-Ok
 returns-in-Ok g c =
@@ -28,7 +30,10 @@ returns-in-Ok g c =
     rw (← c.self.view_is) (record {
       accepted = λ is m stands.
           session_accepted (g.L.Library.named l) (g.L.Library.value l) _ _ c.self.inside.graph new (g.L.Library.calls l)
-          (g.L.Library.calls new.functions.library) refl unbroken c.keeps_sound.ensures.sound c.in-Ok.ensures.brought c.in-Ok.ensures.calls m stands;
+          (g.L.Library.calls new.functions.library) refl unbroken c.keeps_sound.ensures.sound
+          (alone_stabilizes (g.L.Library.value l) c.self.inside.graph.functions.bodies.items c.self.invariant.1 c.self.inside.graph new c.in-Ok.ensures.brought)
+          (costs_still c.self.inside.graph new c.in-Ok.ensures.brought.nodes new.ran (g.L.Library.calls l) (g.L.Library.calls new.functions.library)
+          c.in-Ok.ensures.calls) m stands;
       too_deep = λ target is. absurd (cc);
       target = λ target is. absurd (cc);
       cut_short = tt;
@@ -48,8 +53,10 @@ pub invariant_of-self-in-Some : goal.invariant_of-self-in-Some
 invariant_of-self-in-Some g c =
     let h = c.in-Err-Refused-Height in
     let for = refused_for h.is h.field-0-is h.field-0-0-is in
-    let done = c.stabilize.ensures.refused cause.Height for in
-    refused_sound _ _ c.self.invariant c.self.inside.graph c.stabilize.new.self refl cause.Height done _
+    let done = c.stabilize.ensures.refused cause.Height for in (
+      refused_sound _ _ c.self.invariant.0 c.self.inside.graph c.stabilize.new.self refl cause.Height done _,
+      ap (λ t. t.taken) c.stabilize.ensures.tally ∙ c.self.invariant.1,
+    )
 
 pub returns-in-Some : goal.returns-in-Some
 returns-in-Some g c =
@@ -64,12 +71,13 @@ returns-in-Some g c =
       too_deep = λ target is m stands.
           let same : c.in-Some.target ≡ target = cc in
           session_too_deep (g.L.Library.named l) (g.L.Library.value l) _ _ c.self.inside.graph new refl unbroken
-          c.keeps_sound.ensures.sound done target (g.L.Library.calls l) (g.L.Library.calls new.functions.library)
+          c.keeps_sound.ensures.sound (alone_refused (g.L.Library.value l) c.self.inside.graph.functions.bodies.items c.self.invariant.1 c.self.inside.graph new cause.Height done) target (g.L.Library.calls l) (g.L.Library.calls new.functions.library)
           (first_of new.refused c.self.inside.nodes.items c.deref.result.now c.deref.ensures.value c.in-Some.target target same
-          c.in-Some.ensures.found) (c.stabilize.ensures.few cause.Height for) m stands;
+          c.in-Some.ensures.found) (alone_called (g.L.Library.value l) c.self.inside.graph.functions.bodies.items c.self.invariant.1 c.self.inside.graph new done.nodes (g.L.Library.calls l)
+          (g.L.Library.calls new.functions.library) (c.stabilize.ensures.few cause.Height for)) m stands;
       target = λ target is.
           let same : c.in-Some.target ≡ target = cc in
-          let many = c.self.invariant.one_node_each in
+          let many = c.self.invariant.0.one_node_each in
           let within = rw c.deref.ensures.value at c.in-Some.ensures.within in
           omega (arith, same, many, within);
       cut_short = tt;
@@ -89,8 +97,10 @@ pub invariant_of-self-in-None : goal.invariant_of-self-in-None
 invariant_of-self-in-None g c =
     let h = c.in-Err-Refused-Height in
     let for = refused_for h.is h.field-0-is h.field-0-0-is in
-    let done = c.stabilize.ensures.refused cause.Height for in
-    refused_sound _ _ c.self.invariant c.self.inside.graph c.stabilize.new.self refl cause.Height done _
+    let done = c.stabilize.ensures.refused cause.Height for in (
+      refused_sound _ _ c.self.invariant.0 c.self.inside.graph c.stabilize.new.self refl cause.Height done _,
+      ap (λ t. t.taken) c.stabilize.ensures.tally ∙ c.self.invariant.1,
+    )
 
 pub returns-in-None : goal.returns-in-None
 returns-in-None g c =
@@ -106,10 +116,11 @@ returns-in-None g c =
       target = tt;
       cut_short = λ m stands.
           session_cut_short (meanings_of (g.L.Library.named l) (g.L.Library.value l)) _ c.self.inside.graph new (g.L.Library.calls l)
-          (g.L.Library.calls new.functions.library) refl unbroken (c.stabilize.ensures.few cause.Height for) m stands.matches;
+          (g.L.Library.calls new.functions.library) refl unbroken (alone_called (g.L.Library.value l) c.self.inside.graph.functions.bodies.items c.self.invariant.1 c.self.inside.graph new done.nodes (g.L.Library.calls l)
+          (g.L.Library.calls new.functions.library) (c.stabilize.ensures.few cause.Height for)) m stands.matches;
       for_memory = λ m stands. absurd (
           session_not_all_older (g.L.Library.named l) (g.L.Library.value l) _ _ c.self.inside.graph new refl unbroken
-          c.keeps_sound.ensures.sound done
+          c.keeps_sound.ensures.sound (alone_refused (g.L.Library.value l) c.self.inside.graph.functions.bodies.items c.self.invariant.1 c.self.inside.graph new cause.Height done)
           (none_of new.refused c.self.inside.nodes.items c.deref.result.now c.deref.ensures.value c.in-None.ensures.none) m stands);
       count = omega arith;
       names = refl;
@@ -126,8 +137,10 @@ pub invariant_of-self-in-Err-Refused-Memory : goal.invariant_of-self-in-Err-Refu
 invariant_of-self-in-Err-Refused-Memory g c =
     let h = c.in-Err-Refused-Memory in
     let for = refused_for h.is h.field-0-is h.field-0-0-is in
-    let done = c.stabilize.ensures.refused cause.Memory for in
-    refused_sound _ _ c.self.invariant c.self.inside.graph c.stabilize.new.self refl cause.Memory done _
+    let done = c.stabilize.ensures.refused cause.Memory for in (
+      refused_sound _ _ c.self.invariant.0 c.self.inside.graph c.stabilize.new.self refl cause.Memory done _,
+      ap (λ t. t.taken) c.stabilize.ensures.tally ∙ c.self.invariant.1,
+    )
 
 pub returns-in-Err-Refused-Memory : goal.returns-in-Err-Refused-Memory
 returns-in-Err-Refused-Memory g c =
@@ -143,8 +156,9 @@ returns-in-Err-Refused-Memory g c =
       target = tt;
       cut_short = λ m stands.
           session_cut_short (meanings_of (g.L.Library.named l) (g.L.Library.value l)) _ c.self.inside.graph new (g.L.Library.calls l)
-          (g.L.Library.calls new.functions.library) refl unbroken (c.stabilize.ensures.few cause.Memory for) m stands.matches;
-      for_memory = λ m stands. memory_met (functions_of (seen_value (g.L.Library.value l))) c.self.inside.graph new done;
+          (g.L.Library.calls new.functions.library) refl unbroken (alone_called (g.L.Library.value l) c.self.inside.graph.functions.bodies.items c.self.invariant.1 c.self.inside.graph new done.nodes (g.L.Library.calls l)
+          (g.L.Library.calls new.functions.library) (c.stabilize.ensures.few cause.Memory for)) m stands.matches;
+      for_memory = λ m stands. memory_met _ c.self.inside.graph new done;
       count = omega arith;
       names = refl;
       given = ap (λ (a : Arena). a.given) done.nodes;
@@ -160,8 +174,10 @@ pub invariant_of-self-in-Err-Refused-Cycle : goal.invariant_of-self-in-Err-Refus
 invariant_of-self-in-Err-Refused-Cycle g c =
     let h = c.in-Err-Refused-Cycle in
     let for = refused_for h.is h.field-0-is h.field-0-0-is in
-    let done = c.stabilize.ensures.refused cause.Cycle for in
-    refused_sound _ _ c.self.invariant c.self.inside.graph c.stabilize.new.self refl cause.Cycle done _
+    let done = c.stabilize.ensures.refused cause.Cycle for in (
+      refused_sound _ _ c.self.invariant.0 c.self.inside.graph c.stabilize.new.self refl cause.Cycle done _,
+      ap (λ t. t.taken) c.stabilize.ensures.tally ∙ c.self.invariant.1,
+    )
 
 pub returns-in-Err-Refused-Cycle : goal.returns-in-Err-Refused-Cycle
 returns-in-Err-Refused-Cycle g c =
@@ -177,10 +193,11 @@ returns-in-Err-Refused-Cycle g c =
       target = tt;
       cut_short = λ m stands.
           session_cut_short (meanings_of (g.L.Library.named l) (g.L.Library.value l)) _ c.self.inside.graph new (g.L.Library.calls l)
-          (g.L.Library.calls new.functions.library) refl unbroken (c.stabilize.ensures.few cause.Cycle for) m stands.matches;
+          (g.L.Library.calls new.functions.library) refl unbroken (alone_called (g.L.Library.value l) c.self.inside.graph.functions.bodies.items c.self.invariant.1 c.self.inside.graph new done.nodes (g.L.Library.calls l)
+          (g.L.Library.calls new.functions.library) (c.stabilize.ensures.few cause.Cycle for)) m stands.matches;
       for_memory = λ m stands. absurd (
           session_no_cycle (g.L.Library.named l) (g.L.Library.value l) _ _ c.self.inside.graph new refl unbroken
-          c.keeps_sound.ensures.sound done m stands);
+          c.keeps_sound.ensures.sound (alone_refused (g.L.Library.value l) c.self.inside.graph.functions.bodies.items c.self.invariant.1 c.self.inside.graph new cause.Cycle done) m stands);
       count = omega arith;
       names = refl;
       given = ap (λ (a : Arena). a.given) done.nodes;
@@ -198,12 +215,13 @@ unreachable-requires g c =
     let for = refused_for h.is h.field-0-is h.field-0-0-is in
     let done = c.stabilize.ensures.refused cause.Full for in
     let l = c.self.inside.graph.functions.library in
-    never_for_full (seen_value (g.L.Library.value l)) c.self.inside.graph c.stabilize.new.self done
+    never_for_full (seen_value (g.L.Library.value l)) c.self.inside.graph c.stabilize.new.self
+    (alone_refused (g.L.Library.value l) c.self.inside.graph.functions.bodies.items c.self.invariant.1 c.self.inside.graph c.stabilize.new.self cause.Full done)
 
 pub unreachable-requires-in-Err-Broken : goal.unreachable-requires-in-Err-Broken
 unreachable-requires-in-Err-Broken g c =
     let h = c.in-Err-Broken in
     let unbroken = rw (← c.self.view_is) at c.requires.unbroken in
     let broken = c.stabilize.ensures.broken h.field-0-0 in
-    not_broken c.self.inside.graph (c.self.invariant.unbroken unbroken) h.field-0-0
+    not_broken c.self.inside.graph (c.self.invariant.0.unbroken unbroken) h.field-0-0
     (broken.0 (h.is ∙ ap (λ (f : StabilizeFault). Err f) h.field-0-is))

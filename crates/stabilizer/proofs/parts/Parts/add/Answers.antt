@@ -13,6 +13,7 @@ use Rattle.stabilizer.specs.Round.{IsReady}
 use Rattle.stabilizer.specs.declared.work.Work.{Work}
 use Rattle.stabilizer.proofs.Adding.{no_row, added_kept, added_stays, back_kept, back_stays, dropped_again}
 use Rattle.stabilizer.proofs.Between.{ready_stays, same_todo}
+use Rattle.stabilizer.proofs.Fitting.{added_fit}
 use Rattle.stabilizer.proofs.Cutting.{rows_cutoffs, added_cutoffs}
 use Rattle.stabilizer.proofs.Placing.{unsettled, pair_stays}
 use Rattle.stabilizer.proofs.parts.Parts.add.Goals as goal
@@ -38,8 +39,8 @@ module _ (c : goal.After-drop-in-Err-added) where
 pub returns-in-Err-added-clause-kept : goal.returns-in-Err-added-clause-kept
 returns-in-Err-added-clause-kept c = kept_as_before c
 
-pub returns-in-Err-added-clause-ready : goal.returns-in-Err-added-clause-ready
-returns-in-Err-added-clause-ready c F ready = ready_stays F _ _ _ _ ready (kept_as_before c)
+pub returns-in-Err-added-clause-err_ready : goal.returns-in-Err-added-clause-err_ready
+returns-in-Err-added-clause-err_ready c M ready = ready_stays M _ _ _ _ ready ready.fit (kept_as_before c)
     (back_stays c.args.self.now.arena c.args.self.now.work c.add_node-added.new.self (same c))
 
 -- ---- its points were added
@@ -54,20 +55,22 @@ module _ (c : goal.In-Ok-insert) where
   kept : IsKept c.insert.new.self work
   kept = let a = c.in-Ok.ensures in
       added_kept c.args.self.now.arena c.insert.new.self old work c.next_id-id.result _ a.added.0 c.requires.kept c.next_id-id.ensures.generation
-      c.in-Ok-insert.ensures.added refl c.in-Ok-insert.ensures.given a.rows a.added.1 a.pairs a.links a.roots a.heap c.add_node-added.ensures.step a.round
+      c.in-Ok-insert.ensures.added refl c.requires.today c.in-Ok-insert.ensures.sound c.in-Ok-insert.ensures.given a.rows a.added.1 a.pairs a.links a.roots a.heap c.add_node-added.ensures.step a.round
       (same_todo old work a.todo)
 
   stays : Stays c.args.self.now.arena c.insert.new.self old work
   stays = let a = c.in-Ok.ensures in
       added_stays c.args.self.now.arena c.insert.new.self old work c.next_id-id.result _ a.added.0 c.requires.kept c.next_id-id.ensures.generation
-      c.in-Ok-insert.ensures.added refl c.in-Ok-insert.ensures.given a.rows a.added.1 a.pairs a.links a.roots a.heap c.add_node-added.ensures.step a.round
+      c.in-Ok-insert.ensures.added refl c.requires.today c.in-Ok-insert.ensures.sound c.in-Ok-insert.ensures.given a.rows a.added.1 a.pairs a.links a.roots a.heap c.add_node-added.ensures.step a.round
       (same_todo old work a.todo)
 
 pub returns-in-Ok-insert-clause-kept : goal.returns-in-Ok-insert-clause-kept
 returns-in-Ok-insert-clause-kept c = kept c
 
 pub returns-in-Ok-insert-clause-ready : goal.returns-in-Ok-insert-clause-ready
-returns-in-Ok-insert-clause-ready c F ready = ready_stays F _ _ _ _ ready (kept c) (stays c)
+returns-in-Ok-insert-clause-ready c M calls ready = ready_stays M _ _ _ _ ready
+    (added_fit M c.args.self.now.arena c.insert.new.self c.next_id-id.result ready.fit _ c.in-Ok-insert.ensures.added c.in-Ok-insert.ensures.given calls)
+    (kept c) (stays c)
 
 pub returns-in-Ok-insert-clause-cutoffs : goal.returns-in-Ok-insert-clause-cutoffs
 returns-in-Ok-insert-clause-cutoffs c = added_cutoffs (old c) (work c) c.next_id-id.result (def_of c.args.def)
@@ -130,6 +133,6 @@ returns-in-Err-insert-clause-cutoffs c = rows_cutoffs (before c) (last c) (forgo
 pub returns-in-Err-insert-clause-kept : goal.returns-in-Err-insert-clause-kept
 returns-in-Err-insert-clause-kept c = subst (λ (a : Arena). IsKept a (last c)) (sym (arena_is c)) (still_kept c)
 
-pub returns-in-Err-insert-clause-ready : goal.returns-in-Err-insert-clause-ready
-returns-in-Err-insert-clause-ready c F ready = subst (λ (a : Arena). IsReady F a (last c)) (sym (arena_is c))
-    (ready_stays F _ _ _ _ ready (still_kept c) (back_stays c.args.self.now.arena (before c) (last c) (forgotten c)))
+pub returns-in-Err-insert-clause-err_ready : goal.returns-in-Err-insert-clause-err_ready
+returns-in-Err-insert-clause-err_ready c M ready = subst (λ (a : Arena). IsReady M a (last c)) (sym (arena_is c))
+    (ready_stays M _ _ _ _ ready ready.fit (still_kept c) (back_stays c.args.self.now.arena (before c) (last c) (forgotten c)))

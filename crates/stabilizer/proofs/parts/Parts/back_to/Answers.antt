@@ -26,5 +26,5 @@ returns-clause-kept c = forgotten_kept c.loop-id.self.arena c.loop-id.self.work 
     c.forget_since.ensures.rest (listed c)
 
 pub returns-clause-ready : goal.returns-clause-ready
-returns-clause-ready c F ready = forgotten_ready c.loop-id.self.arena c.loop-id.self.work c.forget_since.new.self c.loop-id.invariant.so_far.kept
-    c.forget_since.ensures.rest (listed c) F (c.loop-id.invariant.so_far.ready F ready)
+returns-clause-ready c M ready = forgotten_ready c.loop-id.self.arena c.loop-id.self.work c.forget_since.new.self c.loop-id.invariant.so_far.kept
+    c.forget_since.ensures.rest (listed c) M (c.loop-id.invariant.so_far.ready M ready)

@@ -11,7 +11,7 @@ returns-then-holds-clause-kept c =
     c.set_cutoff.ensures)
 
 pub returns-then-holds-clause-ready : goal.returns-then-holds-clause-ready
-returns-then-holds-clause-ready c F ready =
+returns-then-holds-clause-ready c M ready =
     cut_ready c.args.self.now.arena c.args.self.now.work c.set_cutoff.new.rows c.args.id c.args.cutoff c.requires.kept
     (subst (λ (p : Point). IsRewritten c.args.self.now.work.rows c.set_cutoff.new.rows p (with_cutoff c.args.cutoff)) c.main_point-p.ensures
-    c.set_cutoff.ensures) F ready
+    c.set_cutoff.ensures) M ready

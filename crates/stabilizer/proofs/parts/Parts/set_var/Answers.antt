@@ -9,6 +9,7 @@ use Rattle.stabilizer.specs.Kept.{IsKept}
 use Rattle.stabilizer.specs.Round.{IsReady}
 use Rattle.stabilizer.specs.declared.work.Work.{Work}
 use Rattle.stabilizer.proofs.Between.{ready_stays}
+use Rattle.stabilizer.proofs.Fitting.{set_fit}
 use Rattle.stabilizer.proofs.Setting.{set_kept, set_stays}
 use Rattle.stabilizer.proofs.parts.Parts.set_var.Goals as goal
 
@@ -30,15 +31,17 @@ module _ (c : goal.After-schedule) where
 
   kept : IsKept c.set_var.new.self work
   kept = set_kept c.args.self.now.arena c.set_var.new.self c.args.self.now.work work c.args.id c.args.value c.requires.kept c.in_ok-set_var.ensures.set
-      not_other c.in_ok-set_var.ensures.given refl marked c.schedule.ensures.step round refl refl
+      not_other c.in_ok-set_var.ensures.given refl marked c.schedule.ensures.step round refl refl c.set_var.ensures.sound
 
   stays : Stays c.args.self.now.arena c.set_var.new.self c.args.self.now.work work
   stays = set_stays c.args.self.now.arena c.set_var.new.self c.args.self.now.work work c.args.id c.args.value c.requires.kept c.in_ok-set_var.ensures.set
-      not_other c.in_ok-set_var.ensures.given refl marked c.schedule.ensures.step round refl refl
+      not_other c.in_ok-set_var.ensures.given refl marked c.schedule.ensures.step round refl refl c.set_var.ensures.sound
 
 pub returns-clause-kept : goal.returns-clause-kept
 returns-clause-kept c = subst (λ (w : Work). IsKept c.set_var.new.self w) (sym c.schedule.ensures.rest) (kept c)
 
 pub returns-clause-ready : goal.returns-clause-ready
-returns-clause-ready c F ready =
-    subst (λ (w : Work). IsReady F c.set_var.new.self w) (sym c.schedule.ensures.rest) (ready_stays F _ _ _ _ ready (kept c) (stays c))
+returns-clause-ready c M ready =
+    subst (λ (w : Work). IsReady M c.set_var.new.self w) (sym c.schedule.ensures.rest) (ready_stays M _ _ _ _ ready
+    (set_fit M c.args.self.now.arena c.set_var.new.self c.args.id ready.fit c.args.value c.in_ok-set_var.ensures.set c.in_ok-set_var.ensures.given)
+    (kept c) (stays c))

@@ -19,6 +19,6 @@ returns-clause-kept c =
     unrooted_kept c.args.self.now.arena c.args.self.now.work c.root_off.new.self c.args.id c.requires.kept (off c) c.root_off.ensures.in_step
 
 pub returns-clause-ready : goal.returns-clause-ready
-returns-clause-ready c F ready = ready_stays F _ _ _ _ ready
+returns-clause-ready c M ready = ready_stays M _ _ _ _ ready ready.fit
     (unrooted_kept c.args.self.now.arena c.args.self.now.work c.root_off.new.self c.args.id c.requires.kept (off c) c.root_off.ensures.in_step)
     (unrooted_stays c.args.self.now.arena c.args.self.now.work c.root_off.new.self c.args.id c.requires.kept (off c))

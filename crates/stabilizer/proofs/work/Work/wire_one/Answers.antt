@@ -34,7 +34,7 @@ returns-in-Change-None-clause-wired c =
 
 pub connect_each-requires-clause-given : goal.connect_each-requires-clause-given
 connect_each-requires-clause-given c k among =
-    kid_is_given c.args.arena.now.given c.in-Some.row.now.def (c.is_sound.ensures.names c.args.p.node (row_of c.in-Some.row.now) (sym c.in-Some.ensures)) k
+    kid_is_given c.args.arena.now.given c.in-Some.row.now.def (c.requires.kept.sound.names c.args.p.node (row_of c.in-Some.row.now) (sym c.in-Some.ensures)) k
     (subst (λ (xs : List NodeId). Among k xs) c.kids.ensures among)
 
 pub connect_each-requires-clause-kept : goal.connect_each-requires-clause-kept

@@ -1,0 +1,33 @@
+-- What calls leave of a keeper's functions.
+use Rattle.std.proofs.Common.{◌≡◌, refl, ◌∙◌}
+use Rattle.std.proofs.Math.Path.{fun_ext}
+use Rattle.node_arena.specs.declared.functions.Functions.{Ghosts}
+use Rattle.node_outcomes.specs.Meaning.{KeepsFunctions, meaning_of}
+
+module _ {F More : Type 0} (keeper : Ghosts F More) where
+  -- where nothing is called all is kept
+  pub nothing_called : (functions : F) → keeper.is_sound functions → KeepsFunctions keeper functions functions
+  nothing_called functions sound = record {
+    sound = sound;
+    names = λ name. refl;
+    known = λ f. refl;
+    values = λ f xs. refl;
+    sides = λ f. refl;
+    tally = refl;
+  }
+
+  -- what was kept of functions, and is kept on, is kept
+  pub functions_on : (first mid last : F) → KeepsFunctions keeper first mid → KeepsFunctions keeper mid last → KeepsFunctions keeper first last
+  functions_on first mid last h k = record {
+    sound = k.sound;
+    names = λ name. k.names name ∙ h.names name;
+    known = λ f. k.known f ∙ h.known f;
+    values = λ f xs. k.values f xs ∙ h.values f xs;
+    sides = λ f. k.sides f ∙ h.sides f;
+    tally = k.tally ∙ h.tally;
+  }
+
+  -- kept functions mean what they meant
+  pub still_means : (old new : F) → KeepsFunctions keeper old new → meaning_of keeper new ≡ meaning_of keeper old
+  still_means old new k =
+      rw (fun_ext (λ f. k.known f), fun_ext (λ f. fun_ext (λ xs. k.values f xs)), fun_ext (λ f. k.sides f)) refl
