@@ -1,10 +1,9 @@
 //! Streams of the system's kind that fail in mid-stream.
 
-use script_io::{
-    Sink, Source, StdSink, StdSource, last_line_ends_at_end, lines_end_at_newlines, write_whole,
-};
+use script_io::{Sink, Source, last_line_ends_at_end, lines_end_at_newlines, write_whole};
 use std::alloc::Global;
 use std::io;
+use std_streams::{StdSink, StdSource};
 
 /// A writer that takes a byte a call, and fails one of its calls.
 #[derive(Drop)]

@@ -1,4 +1,5 @@
 mod Counts
 mod Course
+mod Laws
 mod Steps
 pub mod Turns

@@ -3,7 +3,7 @@ use Rattle.std.specs.Vec.Iter.{into_iter_items, into_iter_len}
 use Rattle.std.proofs.lemmas.Iterator.Adapters.{YieldsList-from_vec}
 use Rattle.std.proofs.lemmas.List.{map-id}
 use Rattle.std.proofs.lemmas.Iterator.Consumers.{YieldsList-end}
-use Rattle.script_io.proofs.command_line.words_of.Goals as goal
+use Rattle.std_streams.proofs.command_words.words_of.Goals as goal
 
 pub returns : goal.returns
 returns c =

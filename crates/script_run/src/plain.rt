@@ -1,8 +1,6 @@
 //! Runs that write nothing but transcripts.
-ghost use Rattle.std.specs.Prelude.{[], refl};
-
+use crate::report::Report;
 use node_arena::Library;
-use script_run::Report;
 use session::Session;
 use std::alloc::AllocError;
 
@@ -11,7 +9,10 @@ use std::alloc::AllocError;
 pub struct Plain;
 
 impl<L: Library> Report<L> for Plain {
-    ghost behind = { λ _ _ _. [] };
+    ghost use Rattle.std.specs.Prelude.{refl};
+    ghost use Rattle.script_run.specs.Laws.{plain};
+
+    ghost behind = { plain };
 
     ghost noted = { λ _ _ _. Unit {0} };
 
