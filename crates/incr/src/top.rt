@@ -4,7 +4,7 @@ ghost use Rattle.script_io.specs.CommandLine.{AsksFor, IsTopStatus};
 ghost use Rattle.script_io.specs.declared.command_line.Asked.TheVariants as for_;
 ghost use Rattle.script_model.specs.Formula.{meanings_of};
 ghost use Rattle.script_run.specs.Programs.{DoesAsked, around};
-ghost use Rattle.script_run.specs.Laws.{plain};
+ghost use Rattle.script_run.specs.Plain.{plain};
 ghost use Rattle.incr.specs.Usage.{usage_line};
 
 use node_arena::Library;

@@ -1,11 +1,11 @@
 -- Laws of runs in progress.
-use Rattle.std.proofs.Common.{if◌then◌else◌, ◌≡◌, ◌≢◌, ◌⊎◌, inl, inr, ℕ, ◌+◌, ◌≤◌, Bool, true, false, ◌||◌, List, [], ◌∷◌, ◌++◌, length, take, Option, IfSome, refl, sym, ◌∙◌, ap, subst, append-nil, arith, ◌<◌}
+use Rattle.std.proofs.Common.{if◌then◌else◌, ◌≡◌, ◌≢◌, ℕ, ◌+◌, ◌≤◌, Bool, true, false, ◌||◌, List, [], ◌∷◌, ◌++◌, length, take, Option, IfSome, refl, sym, ◌∙◌, ap, subst, append-nil, arith, ◌<◌}
 use Rattle.std.proofs.KnownBytes.{Appends-trans, Appends-nil}
 use Rattle.std.proofs.lemmas.Grind.{flat_map-append}
 use Rattle.std.proofs.lemmas.List.{map-append}
 use Rattle.std.proofs.lemmas.List.Folds.{list_any-append}
 use Rattle.std.specs.Io.KnownBytes.{Consumes, Appends}
-use Rattle.std.specs.List.{flat_map, list_any}
+use Rattle.std.specs.List.{list_any}
 use Rattle.script_io.proofs.Reading.{ReadSoFar-start, ReadSoFar-more, AreFirst-so_far, AreAll-so_far, BreakAtFault-so_far, BreakAt-so_far}
 use Rattle.script_io.specs.Lines.{HasNoNewline, EndsLine, IsEnd, IsLimit, IsFault, Reader, ahead, fresh}
 use Rattle.script_io.specs.Reading.{ReadSoFar}

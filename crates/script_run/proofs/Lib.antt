@@ -1,5 +1,5 @@
 mod Counts
 mod Course
-mod Laws
 mod Steps
+mod Sums
 pub mod Turns

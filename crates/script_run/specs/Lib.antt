@@ -1,5 +1,5 @@
 pub mod Counts
-pub mod Laws
+pub mod Plain
 pub mod Programs
 pub mod Progress
 pub mod Running

@@ -1,6 +1,6 @@
 //! Laws of the counts, and of what is written.
 ghost use Rattle.script_run.specs.Counts.{CountsAddUp};
-ghost use Rattle.script_run.specs.Laws.{CountsAreWithinWork, PlainWritesTranscripts};
+ghost use Rattle.script_run.specs.Plain.{CountsAreWithinWork, PlainWritesTranscripts};
 
 /// The counts of the turns add up to the rise of the library's count. The call does nothing.
 pub fn counts_add_up()

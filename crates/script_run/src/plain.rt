@@ -10,7 +10,7 @@ pub struct Plain;
 
 impl<L: Library> Report<L> for Plain {
     ghost use Rattle.std.specs.Prelude.{refl};
-    ghost use Rattle.script_run.specs.Laws.{plain};
+    ghost use Rattle.script_run.specs.Plain.{plain};
 
     ghost behind = { plain };
 

@@ -1,4 +1,4 @@
-use Rattle.script_run.proofs.Laws.{told_is_printed, told_is_transcript}
+use Rattle.script_run.proofs.Sums.{told_is_printed, told_is_transcript}
 use Rattle.script_run.proofs.laws.plain_writes_transcripts.Goals as goal
 
 pub returns : goal.returns

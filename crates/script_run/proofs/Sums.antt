@@ -3,7 +3,7 @@ use Rattle.std.proofs.Common.{◌≡◌, ℕ, ◌+◌, ◌≤◌, List, [], ◌�
 use Rattle.std.proofs.lemmas.List.Sums.{sum_by-append}
 use Rattle.script_model.specs.Run.{Turn, bytes_of, transcript, work_of}
 use Rattle.script_run.specs.Counts.{Counted, AreCounts, turns_of}
-use Rattle.script_run.specs.Laws.{plain}
+use Rattle.script_run.specs.Plain.{plain}
 use Rattle.script_run.specs.Telling.{told_of, all_told}
 
 -- no more calls are counted than are due
