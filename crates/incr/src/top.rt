@@ -1,7 +1,7 @@
 //! What the program does with the words of its command line.
 ghost use Rattle.std.specs.Prelude.{◌≡◌};
 ghost use Rattle.script_io.specs.CommandLine.{AsksFor, IsTopStatus};
-ghost use Rattle.script_io.specs.declared.command_line.Asked.TheVariants as for_;
+ghost use Rattle.script_io.specs.declared.command_line.Asked.TheVariants as asked;
 ghost use Rattle.script_model.specs.Formula.{meanings_of};
 ghost use Rattle.script_run.specs.Programs.{DoesAsked, around};
 ghost use Rattle.script_run.specs.Plain.{plain};
@@ -28,9 +28,9 @@ pub fn top<S: Source, K: Sink, L: Library>(
     ensures done { DoesAsked (λ l. meanings_of (L.named l) (L.value l)) L.known L.calls plain words.now.items usage_line
         (around lib (S.left src.old) (S.faults src.old) (K.written out.old) (K.faults out.old))
         (around result.1 (S.left src.new) (S.faults src.new) (K.written out.new) (K.faults out.new)) result.0 }
-    ensures unread { AsksFor words.now.items for_.Nothing → src.new ≡ src.old }
+    ensures unread { AsksFor words.now.items asked.Nothing → src.new ≡ src.old }
     ensures statuses { IsTopStatus result.0 }
-    ensures refused_words { result.0 ≡ 2 → AsksFor words.now.items for_.Nothing }
+    ensures refused_words { result.0 ≡ 2 → AsksFor words.now.items asked.Nothing }
 {
     script_run::top(alloc, words, USAGE, src, out, lib, &mut Plain)
 }

@@ -1,7 +1,7 @@
 //! The words of the command line, and what they ask for.
 ghost use Rattle.std.specs.Prelude.{◌≡◌};
 ghost use Rattle.script_io.specs.CommandLine.{AsksFor, IsTopStatus};
-ghost use Rattle.script_io.specs.declared.command_line.Asked.TheVariants as for_;
+ghost use Rattle.script_io.specs.declared.command_line.Asked.TheVariants as asked;
 ghost use Rattle.script_model.specs.Formula.{meanings_of};
 ghost use Rattle.script_run.specs.Programs.{DoesAsked, around};
 
@@ -30,9 +30,9 @@ pub fn top<S: Source, K: Sink, L: Library, R: Report<L>>(
     ensures done { DoesAsked (λ l. meanings_of (L.named l) (L.value l)) L.known L.calls R.behind words.now usage.now
         (around lib (S.left src.old) (S.faults src.old) (K.written out.old) (K.faults out.old))
         (around result.1 (S.left src.new) (S.faults src.new) (K.written out.new) (K.faults out.new)) result.0 }
-    ensures unread { AsksFor words.now for_.Nothing → src.new ≡ src.old }
+    ensures unread { AsksFor words.now asked.Nothing → src.new ≡ src.old }
     ensures statuses { IsTopStatus result.0 }
-    ensures refused_words { result.0 ≡ 2 → AsksFor words.now for_.Nothing }
+    ensures refused_words { result.0 ≡ 2 → AsksFor words.now asked.Nothing }
 {
     match asked_by(words) {
         Asked::Run => drive(alloc, src, out, lib, report, LONGEST_SCRIPT),

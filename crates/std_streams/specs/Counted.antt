@@ -40,15 +40,17 @@ pub record IsFailed (old new : Calls) : Type 0 where
   pub made : new.made ≡ raised old.made
   pub failed : new.failed ≡ raised old.failed
 
--- why a call of a sink fails: its write failed; or that took nothing of a piece that isn't empty; or its flush failed. None was tried again.
+-- why a call of a sink fails: its write failed; or that took nothing of a piece that isn't empty; or its flush failed. None was
+-- tried again.
 pub data Fails {W : Type 0} (contents : W → Option (List ℕ)) (piece : List ℕ) (old new : Writing W) : Type 0 where
   at_write : IsFailed old.writes new.writes → new.flushes ≡ old.flushes → Fails contents piece old new
-  at_nothing : 0 < length piece → IsMade old.writes new.writes → new.flushes ≡ old.flushes → Appends (contents old.inner) (contents new.inner) []
-      → Fails contents piece old new
+  at_nothing : 0 < length piece → IsMade old.writes new.writes → new.flushes ≡ old.flushes
+      → Appends (contents old.inner) (contents new.inner) [] → Fails contents piece old new
   at_flush : IsMade old.writes new.writes → IsFailed old.flushes new.flushes → Fails contents piece old new
 
 -- what a call of a sink makes of its writer: one write and one flush, neither of which failed, or its fault is one of theirs
-pub record WritesOnce {W : Type 0} (contents : W → Option (List ℕ)) (piece : List ℕ) (old new : Writing W) (result : Result ℕ Failed) : Type 0 where
+pub record WritesOnce {W : Type 0} (contents : W → Option (List ℕ)) (piece : List ℕ) (old new : Writing W) (result : Result ℕ Failed)
+    : Type 0 where
   pub write : OnOk result (IsMade old.writes new.writes)
   pub flush : OnOk result (IsMade old.flushes new.flushes)
   pub fails : OnErr result (Fails contents piece old new)

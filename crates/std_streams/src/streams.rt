@@ -108,7 +108,7 @@ impl<W: Write> Sink for StdSink<W> {
         ensures cause { HasCause self.old.faults self.new.faults result }
         ensures faults { self.new.faults ≡ raised_on_err result self.old.faults }
 
-        // The writer is asked for one write and one flush, and the call fails exactly where one of these does or nothing was taken.
+        // One write and one flush are made, and the call fails exactly where one of these does or nothing was taken.
         ensures once { WritesOnce W.contents buf.now self.old.writer self.new.writer result }
 
         // The writer was given just the bytes that are counted, and by a failed call a front of the piece.
