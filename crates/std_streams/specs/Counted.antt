@@ -1,5 +1,5 @@
 -- Calls that are counted, and what one call of a sink over a counted writer asks of it.
-use Rattle.std.specs.Prelude.{◌≡◌, ◌⊎◌, ℕ, ◌<◌, ◌≤◌, List, [], length, Option, Result, OnOk, OnErr}
+use Rattle.std.specs.Prelude.{◌≡◌, ℕ, ◌<◌, ◌≤◌, List, [], length, Option, Result, OnOk, OnErr}
 use Rattle.std.specs.Io.KnownBytes.{Appends}
 use Rattle.inc_value.specs.Counts.{raised, raised_on_err}
 use Rattle.script_io.specs.declared.source.Failed.{Failed}
