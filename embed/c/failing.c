@@ -1,16 +1,17 @@
 #include "failing.h"
 
-static long from, until, asked;
+static long from, asked;
+static unsigned marked;
 static int watched;
 
 void *__real_malloc(size_t size);
 void *__real_calloc(size_t count, size_t size);
 void *__real_realloc(void *block, size_t size);
 
-void failing_from(long first, long many) {
+void failing_from(long first, unsigned which) {
     asked = 0;
     from = first;
-    until = first + many;
+    marked = which;
 }
 
 void failing_watch(int on) { watched = on; }
@@ -19,8 +20,8 @@ long failing_asked(void) { return asked; }
 
 int failing_fails(void) {
     if (!watched) return 0;
-    long number = asked++;
-    return from <= number && number < until;
+    long place = asked++ - from;
+    return place >= 0 && place < 32 && (marked >> place & 1);
 }
 
 void *__wrap_malloc(size_t size) { return failing_fails() ? 0 : __real_malloc(size); }

@@ -3,8 +3,11 @@
 #define FAILING_H
 #include <stddef.h>
 
-/* Counts allocations from 0 anew: that of the number `first` fails, and as many as make `many` in all. */
-void failing_from(long first, long many);
+/* Counts allocations from 0 anew: that of the number `first` + k is to fail where the bit k of `which` is set. */
+void failing_from(long first, unsigned which);
+
+/* The greatest `which` with which a client tries all odd ones: up to five allocations behind one another fail, or don't. */
+enum { FAILING_MOST = 31 };
 
 /* Only while this is on are allocations counted, and do they fail. */
 void failing_watch(int on);

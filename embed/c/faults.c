@@ -62,10 +62,10 @@ int main(int argc, char **argv) {
     FILE *file = argc == 2 ? fopen(argv[1], "rb") : 0;
     if (!file || fread(script, 1, sizeof script - 1, file) == 0) return 2;
     fclose(file);
-    for (long many = 1; many <= 4; many++) {
+    for (unsigned which = 1; which <= FAILING_MOST; which += 2) {
         long first = 0;
         do {
-            failing_from(first, many);
+            failing_from(first, which);
             if (!run(script)) return 1;
         } while (first++ < failing_asked());
     }

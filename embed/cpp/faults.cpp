@@ -48,10 +48,10 @@ int main(int argc, char **argv) {
     whole << file.rdbuf();
     const std::string script = whole.str();
     if (script.empty()) return 2;
-    for (long many = 1; many <= 4; many++) {
+    for (unsigned which = 1; which <= FAILING_MOST; which += 2) {
         long first = 0;
         do {
-            failing_from(first, many);
+            failing_from(first, which);
             run(script);
         } while (first++ < failing_asked());
     }

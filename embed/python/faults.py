@@ -16,6 +16,7 @@ except ImportError:
 
 FAILING = ctypes.PyDLL(incr._LIBRARY._name)
 WANTS = (MemoryError, ctypes.ArgumentError, SystemError)
+FAILING_MOST = 31
 MOST_ALLOCATIONS = 60
 
 
@@ -102,7 +103,8 @@ def transcript(way, lines, watch):
             try:
                 told += run(session, lines, watch) if way is run else way(session, lines[session.lines], watch)
             except WANTS:
-                told += session.last + session.rest() if session.lines > taken else b""
+                if session.lines > taken and watch is not by_library:
+                    told += session.last + session.rest()
         return told + session.rest() + b"--\n"
 
 
@@ -112,10 +114,10 @@ def main(way, name):
     way = {"give": give, "line": tell, "run": run}[way]
     out = sys.stdout.buffer
     incr.ctypes = FailingCtypes()
-    for many in (1, 2, 3, 4):
+    for which in range(1, FAILING_MOST + 1, 2):
         first = 0
         while True:
-            FAILING.failing_from(ctypes.c_long(first), ctypes.c_long(many))
+            FAILING.failing_from(ctypes.c_long(first), ctypes.c_uint(which))
             out.write(transcript(way, lines, by_library))
             if first >= FAILING.failing_asked():
                 break

@@ -5,13 +5,15 @@ mod incr;
 use incr::{Fault, Session};
 use std::error::Error;
 use std::io::{BufWriter, Write, stdout};
-use std::os::raw::{c_int, c_long};
+use std::os::raw::{c_int, c_long, c_uint};
 
 unsafe extern "C" {
-    fn failing_from(first: c_long, many: c_long);
+    fn failing_from(first: c_long, which: c_uint);
     fn failing_watch(on: c_int);
     fn failing_asked() -> c_long;
 }
+
+const FAILING_MOST: c_uint = 31;
 
 /// Lets allocations fail in the call.
 fn watched<T>(call: impl FnOnce() -> T) -> T {
@@ -51,10 +53,10 @@ fn run(script: &str, out: &mut impl Write) -> Result<(), Box<dyn Error>> {
 fn main() -> Result<(), Box<dyn Error>> {
     let script = std::fs::read_to_string(std::env::args_os().nth(1).ok_or("no script")?)?;
     let mut out = BufWriter::new(stdout().lock());
-    for many in 1..=4 {
+    for which in (1..=FAILING_MOST).step_by(2) {
         for first in 0.. {
             // SAFETY: as in `watched`.
-            unsafe { failing_from(first, many) };
+            unsafe { failing_from(first, which) };
             run(&script, &mut out)?;
             // SAFETY: as in `watched`.
             if first >= unsafe { failing_asked() } {
