@@ -6,9 +6,9 @@
     tools/glossary.sh WORD            those of this name, whole; where there is none, those with the word in their name or comment
     tools/glossary.sh --check         says which names README.md and docs/ have in backticks that aren't found in the sources
 
-The check passes a name that stands outside of comments in a source, and a file or folder that is there; a call behind its type's name
-has to be a function where the type is named. In the tables of docs/theorems.md each clause has to be one of the call beside it, and each
-definition one of specs/. The last line is `N passed, M failed`, and the status is 1 where one failed or nothing was found.
+The check passes a word that stands in a source outside of Rattle's comments, and a file or folder that is there; of `Type::name` the code of
+one crate has to have both. In the tables of docs/theorems.md each clause has to be one of the call beside it, and each definition one of
+specs/. The last line is `N passed, M failed`, and the status is 1 where one failed or nothing was found.
 """
 
 import re
@@ -19,11 +19,11 @@ ROOT = Path(__file__).resolve().parent.parent
 THEOREMS = ROOT / "docs/theorems.md"
 COLUMNS = ("crate", "call", "clause", "definitions")
 
-# Names in backticks that are of the world outside, and where from.
+# Words in backticks that are of the world outside, and where from.
 OUTSIDE = {
-    "the kit and its language": "rt doc version ci antt omega arith const assert let drop swap_remove Result Drop Send Sync Vec NAME",
-    "the system": "malloc realloc free memcpy memmove memset callgrind valgrind gcc",
-    "other libraries": "incremental_intf ml react QProperty src",
+    "the kit": "rt rattle-kit-13b logic dac8208d650f15bf",
+    "examples": "mine.c mine.cpp mine.rs mine.py -Iembed -Iembed/cpp _p",
+    "other libraries": "react QProperty swap_remove",
 }
 
 
@@ -138,11 +138,12 @@ def without_comments(path, text):
     return text
 
 
+CODE = (".rt", ".c", ".h", ".hpp", ".cpp", ".rs", ".py")
 CLAUSE = re.compile(r"\b(?:ensures|requires)\*? +(?:(\w+) +)?\{")
 
 
 class Sources:
-    """What stands in the sources: words, names of files and folders, the clauses of each function, and the words of each crate's code."""
+    """What stands in the sources: words, names of files and folders, clauses of functions, and the words of the code of a crate or folder."""
 
     def __init__(self, definitions):
         self.paths, self.clauses, self.code = set(), {}, {}
@@ -160,8 +161,9 @@ class Sources:
                 continue
             words = set(re.findall(r"\w+", text))
             self.words |= words
+            if path.suffix in CODE:
+                self.code.setdefault(place.parts[:2], set()).update(words)
             if path.suffix == ".rt":
-                self.code.setdefault(place.parts[1], set()).update(words)
                 self.take_clauses(place.parts[1], text)
 
     def take_clauses(self, crate, text):
@@ -171,17 +173,17 @@ class Sources:
             clauses.update(clause[1] or "" for clause in CLAUSE.finditer(part))
 
     def has_path(self, word):
-        return word.rstrip("/") in self.paths or re.match(r"(\./)?(embed/|crates/\w+/)?out/", word)
+        return word.rstrip("/") in self.paths or re.match(r"(embed/|crates/\w+/)?out/", word)
 
     def has_member(self, owner, member):
-        """Whether a crate names the type and has such a function or variant."""
+        """Whether the code of one crate or folder has both names."""
         return any({owner, member} <= words for words in self.code.values())
 
     def has(self, span):
         """Whether what stands in backticks is of the sources: files and folders, and words."""
         for word in span.split():
-            word = word.strip("(),;:").replace("./", "", 1) if word.startswith("./") else word.strip("(),;:")
-            if self.has_path(word):
+            word = re.sub(r"^(\.{1,2}/)+", "", word.strip("(),;:"))
+            if word in self.words or self.has_path(word):
                 continue
             if IS_PATH.fullmatch(word):
                 return False
@@ -198,10 +200,12 @@ IS_PLACE = re.compile(r"[A-Z]|[A-Z][A-Z_]+")
 
 
 def spans_of(text):
-    """What stands in backticks, but for blocks of lines, with the number of the line."""
-    blocks = re.sub(r"(?ms)^```.*?^```$", lambda block: "\n" * block[0].count("\n"), text)
-    for number, line in enumerate(blocks.split("\n"), 1):
-        for span in re.findall(r"`([^`]+)`", line):
+    """What stands in backticks, and of blocks of lines what is a path of the repository, with the number of the line."""
+    is_block = False
+    for number, line in enumerate(text.split("\n"), 1):
+        if line.startswith("```"):
+            is_block = not is_block
+        for span in re.findall(r"(?:\.ci|crates|docs|embed|examples|tools)/[\w./-]*" if is_block else r"`([^`]+)`", line):
             yield number, span
 
 
