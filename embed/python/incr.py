@@ -109,7 +109,10 @@ class Session:
         return self._take(text), self._hand_out()
 
     def line(self, text):
-        """Gives the session a line, and answers what it prints, without the newline at its end; raises `Refused` where it is refused."""
+        """Gives the session a line, and answers what it prints, without the newline at its end; raises `Refused` where it is refused.
+
+        What waited comes in front, each line with its newline.
+        """
         how = self._take(text.encode() if isinstance(text, str) else bytes(text))
         told = self._hand_out().decode("ascii")
         if told.endswith("\n"):
@@ -151,7 +154,8 @@ class Session:
         """Gives the session a line, and answers how it was taken. What it prints waits."""
         self._check()
         self.last = b""
-        self._keep()
+        if self._count.value:
+            self._keep()
         lines = self.lines + 1
         how = _LIBRARY.incr_line(self._at, text, len(text), self._room, len(self._room), self._counted)
         if how >= 0:
