@@ -1,7 +1,8 @@
 #!/bin/sh
 # Builds the clients of embed/ whose compilers are there and runs them: their price screens and every example must print the
-# transcript that the program prints, and calls at their edges must answer what incr.h says. It tells what it skips. The last line
-# is `N passed, M failed`, and the status is 1 where one failed.
+# transcript that the program prints, calls at their edges must answer what incr.h says, and where one allocation after another
+# fails nothing that was printed may be lost. It tells what it skips. The last line is `N passed, M failed`, and the status is 1
+# where one failed.
 cd "$(dirname "$0")/.." || exit 1
 room=$(mktemp -d) || exit 1
 trap 'rm -rf "$room"' EXIT
@@ -46,6 +47,18 @@ edges() {
     status=$?
     [ $status -eq 0 ] || cat "$room/written"
     judge "$*" $status
+}
+
+# faults WORD..: a client that prints what a script printed in many runs, in each of which other allocations failed.
+faults() {
+    timeout 60 "$@" embed/faults.incr >"$room/written" 2>"$room/log"
+    status=$?
+    [ $status -eq 0 ] || tail -n 5 "$room/log"
+    judge "$* embed/faults.incr" $status
+    awk -f embed/allowed.awk embed/faults.out "$room/written" >"$room/log" 2>&1
+    status=$?
+    [ $status -eq 0 ] || cat "$room/log"
+    judge "what $* lost" $status
 }
 
 # is_current ARCHIVE: it is newer than every source, definition and proof of the crates below it.
@@ -96,12 +109,16 @@ if [ $status -eq 0 ] && makes out/libincr.a; then
         if makes c; then
             screens embed/out/screen_c
             edges embed/out/edges
+            faults embed/out/faults_c
         fi
         if [ -z "$python" ]; then
             echo "embed: skipped: Python: there is no python3"
-        elif makes out/libincr.so; then
+        elif makes python; then
             screens "$python" embed/python/screen.py
             edges "$python" embed/python/edges.py
+            for way in give line run; do
+                faults env INCR_LIBRARY=embed/out/failing "$python" embed/python/faults.py "$way"
+            done
         fi
     fi
     if [ -z "$cxx" ]; then
@@ -109,11 +126,15 @@ if [ $status -eq 0 ] && makes out/libincr.a; then
     elif makes cpp; then
         screens embed/out/screen_cpp
         edges embed/out/screen_cpp threads
+        if [ -n "$cc" ] && makes out/faults_cpp; then
+            faults embed/out/faults_cpp
+        fi
     fi
     if [ -z "$rustc" ] || [ -z "$cc" ]; then
         echo "embed: skipped: Rust: there is no rustc, or no C compiler that links for it"
     elif makes rust; then
         screens embed/out/screen_rs
+        faults embed/out/faults_rs
     fi
 fi
 

@@ -1,7 +1,7 @@
 #!/bin/sh
-# Runs the built programs as the system does: over every example, on other words, into a full sink, from a folder, and line
-# by line. What they write must be right byte for byte, and so must the status. The last line is `N passed, M failed`, and
-# the status is 1 where one failed or a program isn't built.
+# Runs the built programs as the system does: over every example, on other words, into a full sink, from a folder, line by
+# line, with little memory, and over more bytes than a script may have. What they write must be right byte for byte, and so
+# must the status. The last line is `N passed, M failed`, and the status is 1 where one failed or a program isn't built.
 cd "$(dirname "$0")/.." || exit 1
 room=$(mktemp -d) || exit 1
 trap 'rm -rf "$room"' EXIT
@@ -51,6 +51,32 @@ answers() {
     rm "$room/asked" "$room/answered"
 }
 
+# starves PROGRAM: with 32 megabytes of memory, over a script that takes more: whole lines from the front of the answers.
+starves() {
+    (ulimit -v 32768 && exec timeout 10 "crates/$1/out/$1" run) <"$room/large.incr" >"$room/written" 2>/dev/null
+    status=$?
+    head -n "$(wc -l <"$room/written")" "$room/large.out" >"$room/wanted"
+    judge "$1 run: without memory" "$status" 5 "$room/written" "$room/wanted"
+    if [ ! -s "$room/written" ] || [ "$(wc -l <"$room/written")" -ge 40000 ]; then
+        echo "programs: $1 run: without memory: not a front of the answers"
+        failed=$((failed + 1))
+    fi
+}
+
+# exceeds PROGRAM: one byte more than a script may have, all of one line.
+exceeds() {
+    head -c 1073741825 /dev/zero | timeout 60 "crates/$1/out/$1" run >"$room/written" 2>/dev/null
+    judge "$1 run: a byte too many" $? 6 "$room/written" "$room/nothing"
+}
+
+# measures STATUS WANTED [WORD..]: the third program, whose times go nowhere.
+measures() {
+    status=$1 wanted=$2
+    shift 2
+    timeout 10 crates/incr_bench/out/incr_bench "$@" >"$room/written" 2>/dev/null
+    judge "incr_bench $*" $? "$status" "$room/written" "$wanted"
+}
+
 # status_of WRITTEN: 1 where a line was refused, else 0.
 status_of() {
     if grep -q '^refused [0-9]' "$1"; then echo 1; else echo 0; fi
@@ -83,6 +109,10 @@ awk 'BEGIN {
 printf 'ok\nok\nok\nstable 1\no = 2000\nok\nstable 2\no = 6000\n' >"$room/incr.long"
 printf 'ok\nok\nok\nstable 1\ncalls 2000\no = 2000\nok\nstable 2\ncalls 2000\no = 6000\n' >"$room/incr_profile.long"
 
+# texts of a thousand bytes, of which 32 megabytes hold some
+awk 'BEGIN { for (i = 0; i < 40000; i++) printf "var x%d text \"%01000d\"\n", i, i }' >"$room/large.incr"
+yes ok | head -n 40000 >"$room/large.out"
+
 for program in incr incr_profile; do
     if [ ! -x "crates/$program/out/$program" ]; then
         echo "programs: crates/$program/out/$program is missing: rt ci builds it"
@@ -101,6 +131,8 @@ for program in incr incr_profile; do
     fills "$program" examples/first.incr run
     fills "$program" examples/first.incr
     answers "$program"
+    starves "$program"
+    exceeds "$program"
     for script in examples/*.incr; do
         case $program in
         incr) wanted=${script%.incr}.out ;;
@@ -114,6 +146,22 @@ for program in incr incr_profile; do
         fi
     done
 done
+
+if [ -x crates/incr_bench/out/incr_bench ]; then
+    echo 'usage: incr_bench chain|fan|tree|fold|cut|never|idle|flip|flipx|aside|switch|random SIZE ROUNDS | incr_bench needs SIZE' >"$room/bench.usage"
+    measures 0 crates/incr_bench/stdout random 220 200
+    measures 2 "$room/bench.usage" random 220
+    measures 2 "$room/bench.usage" chain 129 1
+    timeout 10 crates/incr_bench/out/incr_bench chain 3 1 >/dev/full 2>/dev/null
+    judge "incr_bench chain 3 1 > /dev/full" $? 4
+    timeout 10 crates/incr_bench/out/incr_bench chain 3 1 2>/dev/full >/dev/null
+    judge "incr_bench chain 3 1 2> /dev/full" $? 4
+    (ulimit -v 32768 && exec timeout 10 crates/incr_bench/out/incr_bench fan 500000 1) >"$room/written" 2>/dev/null
+    judge "incr_bench fan 500000 1: without memory" $? 5 "$room/written" "$room/nothing"
+else
+    echo "programs: crates/incr_bench/out/incr_bench is missing: rt ci builds it"
+    failed=$((failed + 1))
+fi
 
 echo "$passed passed, $failed failed"
 [ "$failed" -eq 0 ]

@@ -23,22 +23,34 @@ static const char *const AFTER_A_TICK[] = {"stabilize", "show acme", "show bolt"
 static uint8_t *room;
 static size_t room_length = 16;
 
-/* Gives the session a line, and prints what it prints. Whether the session goes on. */
-static int take(incr_slot *session, const char *text, size_t length) {
-    size_t count;
-    int32_t how = incr_line(session, (const uint8_t *)text, length, room, room_length, &count);
-    if (how < 0) {
-        fprintf(stderr, "screen: the session answers %d\n", (int)how);
-        return 0;
-    }
+/* Prints what was handed out, `count` bytes where they fit into the room; else they are fetched, or wait for want of memory. */
+static int print(incr_slot *session, size_t count) {
     if (count > room_length) {
         uint8_t *more = realloc(room, count);
-        if (!more) return 0;
+        if (!more) return 1;
         room = more;
         room_length = count;
         incr_rest(session, room, room_length, &count);
     }
     return fwrite(room, 1, count, stdout) == count;
+}
+
+/* Gives the session a line, and prints what is handed out, whatever the answer. Whether the session goes on. */
+static int take(incr_slot *session, const char *text, size_t length) {
+    size_t count;
+    int32_t how = incr_line(session, (const uint8_t *)text, length, room, room_length, &count);
+    int well = print(session, count);
+    if (how < 0) fprintf(stderr, "screen: the session answers %d\n", (int)how);
+    return well && how >= 0;
+}
+
+/* Prints what still waits. Whether nothing does then. */
+static int finish(incr_slot *session) {
+    size_t count;
+    incr_rest(session, 0, 0, &count);
+    int well = print(session, count);
+    incr_rest(session, 0, 0, &count);
+    return well && count == 0;
 }
 
 static int show_prices(incr_slot *session) {
@@ -84,6 +96,7 @@ int main(int argc, char **argv) {
     room = malloc(room_length);
     int well = room && incr_open(&session) == INCR_DONE;
     if (well) well = argc > 1 ? run_script(&session, argv[1]) : show_prices(&session);
+    if (!finish(&session)) well = 0;
     incr_close(&session);
     free(room);
     return well && fflush(stdout) == 0 ? 0 : 1;

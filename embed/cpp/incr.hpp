@@ -10,10 +10,12 @@
 
 namespace incr {
 
-// How a line was taken: its number as in incr.h, and what was to be read.
+// How a line was taken: its number as in incr.h; what was printed and not handed out before; and how many bytes wait beside these,
+// since there was no memory for them: the next answer, or `rest`, hands them out.
 struct answer {
     int32_t how;
     std::string printed;
+    size_t waiting;
     bool refused() const { return how >= INCR_REFUSED; }
 };
 
@@ -27,36 +29,71 @@ public:
     session() {
         if (incr_open(&slot_) != INCR_DONE) throw std::bad_alloc();
     }
-    session(session &&other) noexcept : slot_(std::exchange(other.slot_, incr_slot INCR_EMPTY)) {}
+    session(session &&other) noexcept : slot_(std::exchange(other.slot_, incr_slot INCR_EMPTY)), held_(std::move(other.held_)) {
+        other.held_.clear();
+    }
     session &operator=(session &&other) noexcept {
         std::swap(slot_, other.slot_);
+        held_.swap(other.held_);
         return *this;
     }
     session(const session &) = delete;
     session &operator=(const session &) = delete;
     ~session() { incr_close(&slot_); }
 
-    // Gives the session its next line. Nothing is lost where this throws std::bad_alloc: the next line hands out what was to be read.
+    // Gives the session its next line. Where this throws std::bad_alloc the line wasn't taken, as by INCR_NO_MEMORY. Nothing that was
+    // printed is lost: what isn't handed out waits.
     answer line(std::string_view text) {
-        answer to{0, std::string(64, '\0')};
+        const size_t before = held_.size();
+        held_.resize(before + least_room);
         size_t count = 0;
-        to.how = incr_line(&slot_, reinterpret_cast<const uint8_t *>(text.data()), text.size(), bytes(to.printed), to.printed.size(), &count);
-        if (count > to.printed.size()) {
-            to.printed.resize(count);
-            incr_rest(&slot_, bytes(to.printed), count, &count);
-        }
-        to.printed.resize(count);
-        if (to.how == INCR_NO_MEMORY) throw std::bad_alloc();
-        if (to.how < 0) throw ended(to.how == INCR_TOO_MANY ? "the session takes no more lines" : "there is no session");
-        return to;
+        const int32_t how = incr_line(&slot_, reinterpret_cast<const uint8_t *>(text.data()), text.size(), room(before), least_room, &count);
+        const size_t waiting = hold(before, least_room, count);
+        if (how == INCR_NO_MEMORY) throw std::bad_alloc();
+        if (how < 0) throw ended(how == INCR_TOO_MANY ? "the session takes no more lines" : "there is no session");
+        return answer{how, hand_out(), waiting};
     }
 
-    // Ends the session, and says whether there was one.
-    bool close() { return incr_close(&slot_) == INCR_DONE; }
+    // Hands out what waits: all of it, or it throws std::bad_alloc and all of it waits still.
+    std::string rest() {
+        size_t count = 0;
+        incr_rest(&slot_, nullptr, 0, &count);
+        if (hold(held_.size(), 0, count) > 0) throw std::bad_alloc();
+        return hand_out();
+    }
+
+    // Ends the session, with what waits, and says whether there was one.
+    bool close() {
+        held_.clear();
+        return incr_close(&slot_) == INCR_DONE;
+    }
 
 private:
-    static uint8_t *bytes(std::string &text) { return reinterpret_cast<uint8_t *>(text.data()); }
+    static constexpr size_t least_room = 64;
+
+    uint8_t *room(size_t from) { return reinterpret_cast<uint8_t *>(held_.data()) + from; }
+
+    // Holds `count` bytes behind the first `before`: they stand there already where `given` is enough for them, and are fetched else. How
+    // many wait, as there was no memory for them.
+    size_t hold(size_t before, size_t given, size_t count) {
+        if (count <= given) {
+            held_.resize(before + count);
+            return 0;
+        }
+        held_.resize(before);
+        try {
+            held_.resize(before + count);
+        } catch (const std::bad_alloc &) {
+            return count;
+        }
+        incr_rest(&slot_, room(before), count, &count);
+        return 0;
+    }
+
+    std::string hand_out() { return std::exchange(held_, std::string()); }
+
     incr_slot slot_ = INCR_EMPTY;
+    std::string held_; // what was read from the session and not handed out
 };
 
 } // namespace incr

@@ -70,6 +70,7 @@ int main(int argc, char **argv) {
     }
     if (argc > 1) run_script(session, argv[1]);
     else show_prices(session);
+    std::cout << session.rest(); // (what waited for want of memory)
     const bool closed = session.close() && !session.close();
     return closed && std::cout.flush() ? 0 : 1;
 }

@@ -44,6 +44,8 @@ with incr.Session() as session:
     is_so("and told whole, past the first room", session.line("show t") == 't = "%s"' % text)
     is_so("a script has its transcript", session.run(b"show o\n\nshow none\n") == b"o = 7\nrefused 11\n")
     is_so("an empty script has none", session.run(b"") == b"" and session.run(b"\n") == b"")
+    is_so("each line was counted that was taken", session.lines == 15)
+    is_so("nothing waits", session.rest() == b"")
     caught = []
 
     def elsewhere():

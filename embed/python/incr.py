@@ -7,6 +7,8 @@
         session.line("stabilize")
         print(session.line("show o"))               # o = 7
 
+Nothing that was printed is lost for want of memory: it waits in the session, and the next answer, or `rest`, hands it out.
+
 The shared library is libincr.so in the folder that INCR_LIBRARY names, beside this file, or in ../out.
 """
 
@@ -24,7 +26,10 @@ class IncrError(Exception):
 
 
 class Refused(IncrError):
-    """The session refused a line, with this number, and stays as it was; `printed` is what the line printed."""
+    """The session refused a line, with this number; `printed` is what was printed.
+
+    The session stays as it was, but where the line is a stabilize: that one breaks it, and each command behind it is refused with 22.
+    """
 
     def __init__(self, number, printed):
         super().__init__("refused %d" % number)
@@ -36,7 +41,10 @@ class Closed(IncrError):
 
 
 class NoMemory(IncrError, MemoryError):
-    """There was no memory for the session, or for a line."""
+    """The library found no memory for the session, or for a line, which printed nothing.
+
+    The line may be given again: it changed nothing, but where it is a stabilize, which may have been carried out or broke the session.
+    """
 
 
 class TooManyLines(IncrError):
@@ -75,10 +83,19 @@ _LIBRARY = _library()
 
 
 class Session:
-    """A session: a script in the making. It is used by the thread that made it, and closed at the end of a `with`."""
+    """A session: a script in the making. It is used by the thread that made it, and closed at the end of a `with`.
+
+    `lines` is how many lines it has taken. A call may raise since Python itself finds no memory: by a MemoryError that isn't NoMemory, or
+    what is made of one, as ctypes.ArgumentError. Then `lines` tells whether the line was taken; if it was, what didn't arrive of what was
+    printed is `last`, the bytes that the call was about to hand out, and then `rest()`.
+    """
+
+    # What was printed and not handed out stands in `_pieces`, and behind these are `_count` bytes: in `_room` where they fit, else
+    # in the library. Where an allocation fails between two steps each byte is still in one of these places, or in `last`.
 
     def __init__(self):
-        self._slot, self._count = _Slot(), ctypes.c_size_t()
+        self.lines, self.last = 0, b""
+        self._slot, self._count, self._pieces = _Slot(), ctypes.c_size_t(), []
         self._at, self._counted = ctypes.byref(self._slot), ctypes.byref(self._count)
         self._room, self._thread = ctypes.create_string_buffer(256), threading.get_ident()
         if _LIBRARY.incr_open(self._at) != 1:
@@ -87,27 +104,17 @@ class Session:
     def give(self, text):
         """Gives the session a line of bytes, without its newline: how it was taken, as in incr.h, and the bytes that it prints.
 
-        Nothing is lost where this raises MemoryError: the next line hands out what was to be read.
+        What waited comes in front of them.
         """
-        self._check()
-        room = self._room
-        how = _LIBRARY.incr_line(self._at, text, len(text), room, len(room), self._counted)
-        count = self._count.value
-        if count > len(room):
-            room = self._room = ctypes.create_string_buffer(count)
-            _LIBRARY.incr_rest(self._at, room, len(room), self._counted)
-        if how >= 0:
-            return how, ctypes.string_at(room, count)
-        if how == NO_SESSION:
-            raise Closed("the session was closed")
-        if how == TOO_MANY:
-            raise TooManyLines("the session takes no more lines")
-        raise NoMemory("no memory for a line")
+        return self._take(text), self._hand_out()
 
     def line(self, text):
-        """Gives the session a line, and answers what it prints, without the newline at its end; raises `Refused` where it is refused."""
-        how, printed = self.give(text.encode() if isinstance(text, str) else bytes(text))
-        told = printed.decode("ascii")
+        """Gives the session a line, and answers what it prints, without the newline at its end; raises `Refused` where it is refused.
+
+        What waited comes in front, each line with its newline.
+        """
+        how = self._take(text.encode() if isinstance(text, str) else bytes(text))
+        told = self._hand_out().decode("ascii")
         if told.endswith("\n"):
             told = told[:-1]
         if how >= REFUSED:
@@ -115,21 +122,68 @@ class Session:
         return told
 
     def run(self, script):
-        """Gives the session each line of a script of bytes, and answers its transcript, refusals too."""
+        """Gives the session each line of a script of bytes, and answers its transcript, refusals too.
+
+        Where a line raises, what was printed before it waits, and `lines` tells how many were taken.
+        """
         lines = script.split(b"\n")
         if not lines[-1]:
             lines.pop()
-        return b"".join([self.give(line)[1] for line in lines])
+        for line in lines:
+            self._take(line)
+        return self._hand_out()
+
+    def rest(self):
+        """The bytes that wait: what was printed and not handed out, where memory was wanting or a line of `run` raised."""
+        self._check()
+        return self._hand_out()
 
     def close(self):
-        """Ends the session. A second close does nothing."""
+        """Ends the session, and lets go of what waits. A second close does nothing."""
         if self._slot.live:
             self._check()
             _LIBRARY.incr_close(self._at)
+        self._pieces.clear()
+        self._count.value = 0
 
     @property
     def closed(self):
         return self._slot.live == 0
+
+    def _take(self, text):
+        """Gives the session a line, and answers how it was taken. What it prints waits."""
+        self._check()
+        self.last = b""
+        if self._count.value:
+            self._keep()
+        lines = self.lines + 1
+        how = _LIBRARY.incr_line(self._at, text, len(text), self._room, len(self._room), self._counted)
+        if how >= 0:
+            self.lines = lines
+            return how
+        if how == NO_SESSION:
+            raise Closed("the session was closed")
+        if how == TOO_MANY:
+            raise TooManyLines("the session takes no more lines")
+        raise NoMemory("no memory for a line")
+
+    def _keep(self):
+        """Puts what waits in the library or in the room behind the pieces."""
+        count = self._count.value
+        if count > len(self._room):
+            room = ctypes.create_string_buffer(count)
+            _LIBRARY.incr_rest(self._at, room, count, self._counted)
+            self._room = room
+        if count:
+            self._pieces.append(ctypes.string_at(self._room, count))
+            self._count.value = 0
+
+    def _hand_out(self):
+        """All that waits, which waits no more."""
+        self._keep()
+        self.last = b"".join(self._pieces)
+        self._pieces.clear()
+        return self.last
 
     def _check(self):
         if threading.get_ident() != self._thread:

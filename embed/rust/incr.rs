@@ -1,5 +1,8 @@
 //! Sessions of Garovymba for Rust: a safe type round a slot. It needs libincr.a, and nothing else.
 
+// (a program that has this file as a module need not call all of it)
+#![allow(dead_code)]
+
 use std::fmt;
 use std::os::raw::c_void;
 use std::ptr::null_mut;
@@ -49,9 +52,14 @@ impl std::error::Error for Fault {}
 
 /// A session. The pointer in it keeps it on its thread: it is neither `Send` nor `Sync`, and it isn't `Clone`. Moving it moves the
 /// slot's bytes, which leaves one slot that is used.
+///
+/// Nothing that was printed is lost for want of memory: what isn't handed out waits, and the next answer, or `rest`, hands it out.
 pub struct Session {
     slot: Slot,
     room: Vec<u8>,
+    /// How many bytes at the front of the room were read from the session and not handed out.
+    held: usize,
+    waiting: usize,
 }
 
 impl Session {
@@ -59,23 +67,22 @@ impl Session {
         let mut slot = Slot { live: 0, at: null_mut() };
         // SAFETY: the slot is zeros, and nothing else refers to it.
         match unsafe { incr_open(&mut slot) } {
-            1 => Ok(Session { slot, room: vec![0; 64] }),
+            1 => Ok(Session { slot, room: Vec::new(), held: 0, waiting: 0 }),
             _ => Err(Fault::NoMemory),
         }
     }
 
-    /// Gives the session its next line, without its newline. The bytes are what it prints.
+    /// Gives the session its next line, without its newline. The bytes are what was printed and not handed out before; those for which
+    /// there is no memory wait. At `NoMemory` the line wasn't taken, as incr.h says.
     pub fn line(&mut self, text: &[u8]) -> Result<(Took, &[u8]), Fault> {
+        let given = self.room.len() - self.held;
         let mut count = 0;
-        let (at, room) = (self.room.as_mut_ptr(), self.room.len());
         // SAFETY: the slot has the session that `open` put there, text and room are as long as is said, and nothing else refers to
         // the slot, the room or the count.
-        let how = unsafe { incr_line(&mut self.slot, text.as_ptr(), text.len(), at, room, &mut count) };
-        if count > room {
-            self.room.resize(count, 0);
-            // SAFETY: as above.
-            unsafe { incr_rest(&mut self.slot, self.room.as_mut_ptr(), self.room.len(), &mut count) };
-        }
+        let how = unsafe {
+            incr_line(&mut self.slot, text.as_ptr(), text.len(), self.room.as_mut_ptr().add(self.held), given, &mut count)
+        };
+        self.hold(given, count);
         let took = match how {
             0 => Took::Blank,
             1 => Took::Accepted,
@@ -83,7 +90,43 @@ impl Session {
             refused @ 100..=355 => Took::Refused((refused - 100) as u8),
             _ => return Err(Fault::NoMemory),
         };
-        Ok((took, &self.room[..count]))
+        Ok((took, self.hand_out()))
+    }
+
+    /// How many bytes wait, since there was no memory for them when they were printed last.
+    pub fn waiting(&self) -> usize {
+        self.waiting
+    }
+
+    /// Hands out what waits: all of it, or at `NoMemory` all of it waits still.
+    pub fn rest(&mut self) -> Result<&[u8], Fault> {
+        self.hold(0, self.waiting);
+        if self.waiting > 0 {
+            return Err(Fault::NoMemory);
+        }
+        Ok(self.hand_out())
+    }
+
+    /// Holds `count` more bytes: they stand in the room already where what was given of it is enough for them, and are fetched else.
+    fn hold(&mut self, given: usize, count: usize) {
+        self.waiting = 0;
+        if count > given {
+            let length = self.held + count;
+            if length > self.room.len() && self.room.try_reserve(length - self.room.len()).is_err() {
+                self.waiting = count;
+                return;
+            }
+            self.room.resize(length.max(self.room.len()), 0);
+            let mut read = 0;
+            // SAFETY: as in `line`.
+            unsafe { incr_rest(&mut self.slot, self.room.as_mut_ptr().add(self.held), count, &mut read) };
+        }
+        self.held += count;
+    }
+
+    fn hand_out(&mut self) -> &[u8] {
+        let length = std::mem::take(&mut self.held);
+        &self.room[..length]
     }
 }
 

@@ -50,6 +50,7 @@ fn main() -> Result<(), Box<dyn Error>> {
                 out.write_all(session.line(line)?.1)?;
             }
         }
+        out.write_all(session.rest()?)?;
         return Ok(out.flush()?);
     }
     for line in DECLARATIONS {
@@ -63,5 +64,7 @@ fn main() -> Result<(), Box<dyn Error>> {
             out.write_all(session.line(line.as_bytes())?.1)?;
         }
     }
+    // (what waited for want of memory)
+    out.write_all(session.rest()?)?;
     Ok(out.flush()?)
 }

@@ -1,10 +1,9 @@
 //! Streams of the system's kind that fail in mid-stream.
 
-use script_io::{
-    Sink, Source, StdSink, StdSource, last_line_ends_at_end, lines_end_at_newlines, write_whole,
-};
+use script_io::{Sink, Source, last_line_ends_at_end, lines_end_at_newlines, write_whole};
 use std::alloc::Global;
 use std::io;
+use std_streams::{StdSink, StdSource};
 
 /// A writer that takes a byte a call, and fails one of its calls.
 #[derive(Drop)]
@@ -52,10 +51,11 @@ fn is_dripped(drip: &mut Drip, wanted: &str, calls: u8) -> bool {
         && is_whole == (wanted.len() == 3)
 }
 
-/// A stream that fails its second call, and a writer that takes nothing at the third.
+/// A stream that fails its second call, and a writer that takes nothing at the third. It counts its reads or writes, and its flushes.
 #[derive(Drop)]
 struct Flaky {
     calls: u8,
+    flushes: u8,
 }
 
 impl io::Read for Flaky {
@@ -78,6 +78,7 @@ impl io::Write for Flaky {
     }
 
     fn flush(&mut self) -> io::Result<()> {
+        self.flushes = self.flushes.saturating_add(1);
         if self.calls == 2 {
             return Err(io::Error::from(io::ErrorKind::Other));
         }
@@ -96,17 +97,25 @@ fn reads<S: Source>(source: &mut S, room: usize, wanted: Option<usize>) -> bool 
     source.read(&mut buf[..room.min(4)]).ok() == wanted
 }
 
-/// Whether a stream that fails its second call goes on.
-fn read_goes_on<S: Source>(source: &mut S) -> bool {
-    reads(source, 4, Some(1)) && reads(source, 4, None) && reads(source, 4, Some(1))
+/// Whether a stream that fails its second call goes on, and was read once in each call.
+fn read_goes_on(flaky: &mut Flaky) -> bool {
+    let mut source = StdSource::new(&mut *flaky);
+    let well = reads(&mut source, 4, Some(1))
+        && reads(&mut source, 4, None)
+        && reads(&mut source, 4, Some(1));
+    drop(source);
+    well && flaky.calls == 3
 }
 
-/// Whether a writer that fails two calls goes on.
-fn write_goes_on<K: Sink>(sink: &mut K) -> bool {
-    takes(sink, "ab", Some(2))
-        && takes(sink, "ab", None)
-        && takes(sink, "ab", None)
-        && takes(sink, "ab", Some(2))
+/// Whether a writer that fails two calls goes on, was written to once in each call, and flushed where it took something.
+fn write_goes_on(flaky: &mut Flaky) -> bool {
+    let mut sink = StdSink::new(&mut *flaky);
+    let well = takes(&mut sink, "ab", Some(2))
+        && takes(&mut sink, "ab", None)
+        && takes(&mut sink, "ab", None)
+        && takes(&mut sink, "ab", Some(2));
+    drop(sink);
+    well && flaky.calls == 4 && flaky.flushes == 3
 }
 
 /// Whether streams that fail a call go on behind it.
@@ -114,8 +123,8 @@ fn go_on(alloc: Global) -> bool {
     drips(alloc, 0, "abc", 3)
         && drips(alloc, 1, "", 1)
         && drips(alloc, 3, "ab", 3)
-        && read_goes_on(&mut StdSource::new(Flaky { calls: 0 }))
-        && write_goes_on(&mut StdSink::new(Flaky { calls: 0 }))
+        && read_goes_on(&mut Flaky { calls: 0, flushes: 0 })
+        && write_goes_on(&mut Flaky { calls: 0, flushes: 0 })
 }
 
 #[test]

@@ -1,17 +1,16 @@
 -- How a run ends that stops before its end.
-use Rattle.std.specs.Prelude.{◌≡◌, ◌⊎◌, ℕ}
+use Rattle.std.specs.Prelude.{ℕ}
 use Rattle.graph.specs.declared.fault.Kept.TheVariants as kept
 use Rattle.graph.specs.declared.fault.GraphFault.{GraphFault}
 use Rattle.graph.specs.declared.fault.GraphFault.TheVariants as graph
 use Rattle.graph.specs.declared.fault.StabilizeFault.{StabilizeFault}
 use Rattle.graph.specs.declared.fault.StabilizeFault.TheVariants as stabilize
 use Rattle.bench_engine.specs.declared.fault.Fault.{Fault}
-use Rattle.bench_engine.specs.declared.fault.Fault.TheVariants.{Refused, Written, Memory}
+use Rattle.bench_engine.specs.declared.fault.Fault.TheVariants.{Refused, Memory}
 
 -- the status that the program ends with
 abbrev pub status_of : Fault → ℕ
 status_of Refused = 1
-status_of Written = 4
 status_of Memory = 5
 
 -- why a call of a graph stops a run
@@ -25,7 +24,3 @@ abbrev pub of_stabilize : StabilizeFault → Fault
 of_stabilize (stabilize.Refused kept.Memory) = Memory
 of_stabilize (stabilize.Broken kept.Memory) = Memory
 of_stabilize _ = Refused
-
--- the status of a run: 0, or that of a fault
-abbrev pub IsRunStatus : ℕ → Type 0
-IsRunStatus n = (n ≡ 0) ⊎ ((fault : Fault) × (n ≡ status_of fault))

@@ -11,9 +11,6 @@ pub enum Fault {
     /// The graph refused what was asked of it.
     Refused,
 
-    /// What is told couldn't be written.
-    Written,
-
     /// No memory was found.
     Memory,
 }
@@ -27,7 +24,6 @@ impl Fault {
     {
         match self {
             Fault::Refused => 1,
-            Fault::Written => 4,
             Fault::Memory => 5,
         }
     }

@@ -2,14 +2,12 @@
 //! transcript to standard output.
 #![tactic(auto)]
 
-mod drive;
-mod plain;
 mod top;
 
-use script_io::{StdSink, StdSource, words};
 use std::alloc::AllocError;
 use std::process::ExitCode;
 use std_library::StdLib;
+use std_streams::{StdSink, StdSource, words};
 
 /// The status where no memory is found for what `main` makes itself.
 const NO_MEMORY: u8 = 5;

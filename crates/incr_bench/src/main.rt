@@ -16,10 +16,11 @@ mod shapes;
 
 use crate::job::asked;
 use crate::perform::perform;
-use bench_engine::Fault;
-use script_io::{StdSink, tell_usage, words};
+use bench_engine::{Fault, status};
+use script_io::tell_usage;
 use std::alloc::AllocError;
 use std::process::ExitCode;
+use std_streams::{StdSink, words};
 
 /// What is written where the words ask for nothing.
 const USAGE: &[u8] =
@@ -33,7 +34,10 @@ fn main(rt: HostRuntime) -> ExitCode {
     let mut out = StdSink::new(rt.stdout());
     let mut notes = StdSink::new(rt.stderr());
     match asked(&words) {
-        Some(job) => ExitCode::from(perform(rt.alloc(), &rt, job, &mut out, &mut notes)),
+        Some(job) => {
+            let verdict = perform(rt.alloc(), &rt, job, &mut out, &mut notes);
+            ExitCode::from(status(verdict))
+        }
         None => ExitCode::from(tell_usage(&mut out, USAGE)),
     }
 }

@@ -1,15 +1,17 @@
 //! Runs that are timed.
+ghost use Rattle.std.specs.Prelude.{◌≡◌};
+ghost use Rattle.bench_engine.specs.Verdicts.{SinksTell};
+ghost use Rattle.bench_engine.specs.declared.verdict.Verdict.TheVariants.{Unwritten};
 ghost use Rattle.incr_bench.specs.Jobs.{IsWithin};
-ghost use Rattle.bench_engine.specs.Status.{IsRunStatus};
 
 use crate::campaign::{Campaign, Tally};
 use crate::clock::{begin, since};
 use crate::job::{Job, Shape};
 use crate::live::Live;
 use crate::needs::{Ends, build, measure};
-use crate::report::{tell_ends, tell_rounds, tell_tally};
+use crate::report::{of_ends, of_rounds, of_tally};
 use crate::shapes::{Rounds, Steady};
-use bench_engine::Fault;
+use bench_engine::{Fault, Findings, Verdict, publish};
 use script_io::Sink;
 use std::alloc::Global;
 use std::time::Clock;
@@ -48,95 +50,59 @@ fn measure_ends<C: Clock>(
     measure(live, clock, &order, building)
 }
 
-/// Measures rounds, and tells them.
-fn rounds<C: Clock, K: Sink, N: Sink>(
+/// What the words ask for, over a graph without nodes.
+fn found_over<C: Clock>(
     alloc: Global,
     live: &mut Live,
     clock: &C,
     job: Job,
-    out: &mut K,
-    notes: &mut N,
-) -> Result<(), Fault>
-    requires { IsWithin job }
-{
-    let rounds = measure_rounds(live, clock, job)?;
-    tell_rounds(alloc, out, notes, job, rounds)
-}
-
-/// Measures a campaign, and tells it.
-fn tally<C: Clock, K: Sink, N: Sink>(
-    alloc: Global,
-    live: &mut Live,
-    clock: &C,
-    job: Job,
-    out: &mut K,
-    notes: &mut N,
-) -> Result<(), Fault> {
-    let tally = measure_tally(alloc, live, clock, job)?;
-    tell_tally(alloc, out, notes, job, tally)
-}
-
-/// Measures how observers are made and ended, and tells it.
-fn ends<C: Clock, K: Sink, N: Sink>(
-    alloc: Global,
-    live: &mut Live,
-    clock: &C,
-    job: Job,
-    out: &mut K,
-    notes: &mut N,
-) -> Result<(), Fault> {
-    let ends = measure_ends(alloc, live, clock, job)?;
-    tell_ends(alloc, out, notes, job, ends)
-}
-
-/// Does what the words ask for over a graph without nodes.
-fn run_over<C: Clock, K: Sink, N: Sink>(
-    alloc: Global,
-    live: &mut Live,
-    clock: &C,
-    job: Job,
-    out: &mut K,
-    notes: &mut N,
-) -> Result<(), Fault>
+) -> Result<Findings, Fault>
     requires { IsWithin job }
 {
     match job.shape {
-        Shape::Random => tally(alloc, live, clock, job, out, notes),
-        Shape::Needs => ends(alloc, live, clock, job, out, notes),
-        _ => rounds(alloc, live, clock, job, out, notes),
+        Shape::Random => {
+            let tally = measure_tally(alloc, live, clock, job)?;
+            Ok(of_tally(alloc, job, tally)?)
+        }
+        Shape::Needs => {
+            let ends = measure_ends(alloc, live, clock, job)?;
+            Ok(of_ends(alloc, job, ends)?)
+        }
+        _ => {
+            let rounds = measure_rounds(live, clock, job)?;
+            Ok(of_rounds(alloc, job, rounds)?)
+        }
     }
 }
 
-/// Does what the words ask for. A graph is owned here alone and ended by a call: a function that drops one has each of
+/// What the words ask for. A graph is owned here alone and ended by a call: a function that drops one has each of
 /// the graph's lists in its proof.
-fn run<C: Clock, K: Sink, N: Sink>(
-    alloc: Global,
-    clock: &C,
-    job: Job,
-    out: &mut K,
-    notes: &mut N,
-) -> Result<(), Fault>
+fn found<C: Clock>(alloc: Global, clock: &C, job: Job) -> Result<Findings, Fault>
     requires { IsWithin job }
 {
     let mut live = Live::new(alloc);
-    let done = run_over(alloc, &mut live, clock, job, out, notes);
+    let found = found_over(alloc, &mut live, clock, job);
     live.end();
-    done
+    found
 }
 
-/// Does what the words ask for. The answer is the status.
+/// Does what the words ask for. Nothing is written before all is found.
 pub fn perform<C: Clock, K: Sink, N: Sink>(
     alloc: Global,
     clock: &C,
     job: Job,
     out: &mut K,
     notes: &mut N,
-) -> u8
+) -> Verdict
     requires { IsWithin job }
-    ensures { IsRunStatus result }
+    ensures sinks { SinksTell (result ≡ Unwritten) (K.faults out.old) (K.faults out.new) (N.faults notes.old) (N.faults notes.new) }
 {
-    match run(alloc, clock, job, out, notes) {
-        Ok(()) => 0,
-        Err(fault) => fault.status(),
+    match found(alloc, clock, job) {
+        Ok(found) => {
+            let verdict = publish(&found, out, notes);
+            drop(found);
+            verdict
+        }
+        Err(fault) => Verdict::Stopped(fault),
     }
 }

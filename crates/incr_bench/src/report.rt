@@ -1,117 +1,129 @@
 //! What a run tells.
+ghost use Rattle.std.specs.Prelude.{◌≡◌, IfOk};
+
 use crate::campaign::Tally;
 use crate::job::Job;
 use crate::needs::Ends;
 use crate::shapes::Rounds;
-use bench_engine::Fault;
-use script_io::{Failed, Sink, write_whole};
-use std::alloc::Global;
-
-/// Writes a text.
-fn write<K: Sink>(out: &mut K, text: &str) -> Result<(), Fault> {
-    match write_whole(out, text.as_bytes()) {
-        Ok(()) => Ok(()),
-        Err(Failed) => Err(Fault::Written),
-    }
-}
+use bench_engine::Findings;
+use std::alloc::{AllocError, Global};
 
 /// Tells a number of a name.
-fn tell<K: Sink>(alloc: Global, out: &mut K, name: &str, number: u64) -> Result<(), Fault> {
+fn tell(alloc: Global, counts: &mut String, name: &str, number: u64) -> Result<(), AllocError> {
     let text = format!(in alloc; "{name} {number}\n")?;
-    write(out, text.as_str())
+    counts.push_str(text.as_str())
 }
 
 /// Tells the last value.
-fn tell_last<K: Sink>(alloc: Global, out: &mut K, value: i64) -> Result<(), Fault> {
+fn tell_last(alloc: Global, counts: &mut String, value: i64) -> Result<(), AllocError> {
     let text = format!(in alloc; "last {value}\n")?;
-    write(out, text.as_str())
+    counts.push_str(text.as_str())
 }
 
 /// Tells a time, and what of it falls to one of a count.
-fn tell_time<K: Sink>(
+fn tell_time(
     alloc: Global,
-    notes: &mut K,
+    times: &mut String,
     name: &str,
     time: u64,
     count: u64,
-) -> Result<(), Fault> {
+) -> Result<(), AllocError> {
     let each = if count == 0 { 0 } else { time / count };
     let text = format!(in alloc; "{name}: {time} ns, {each} ns for each of {count}\n")?;
-    write(notes, text.as_str())
+    times.push_str(text.as_str())
 }
 
 /// Tells the counts of rounds.
-fn tell_calls<K: Sink>(alloc: Global, out: &mut K, calls: u64, last: i64) -> Result<(), Fault> {
-    tell(alloc, out, "calls", calls)?;
-    tell_last(alloc, out, last)
+fn tell_calls(
+    alloc: Global,
+    counts: &mut String,
+    calls: u64,
+    last: i64,
+) -> Result<(), AllocError> {
+    tell(alloc, counts, "calls", calls)?;
+    tell_last(alloc, counts, last)
 }
 
 /// Tells the times of rounds: by nodes built, by rounds and by calls.
-fn tell_round_times<K: Sink>(
+fn tell_round_times(
     alloc: Global,
-    notes: &mut K,
+    times: &mut String,
     job: Job,
     rounds: Rounds,
-) -> Result<(), Fault> {
-    tell_time(alloc, notes, "built", rounds.building, job.size as u64)?;
-    tell_time(alloc, notes, "rounds", rounds.running, job.rounds)?;
-    tell_time(alloc, notes, "calls", rounds.running, rounds.calls)
+) -> Result<(), AllocError> {
+    tell_time(alloc, times, "built", rounds.building, job.size as u64)?;
+    tell_time(alloc, times, "rounds", rounds.running, job.rounds)?;
+    tell_time(alloc, times, "calls", rounds.running, rounds.calls)
 }
 
-/// Tells rounds.
-pub fn tell_rounds<K: Sink, N: Sink>(
-    alloc: Global,
-    out: &mut K,
-    notes: &mut N,
-    job: Job,
-    rounds: Rounds,
-) -> Result<(), Fault> {
-    tell_calls(alloc, out, rounds.calls, rounds.last)?;
-    tell_round_times(alloc, notes, job, rounds)
+/// What rounds found.
+pub fn of_rounds(alloc: Global, job: Job, rounds: Rounds) -> Result<Findings, AllocError>
+    ensures { IfOk result (λ found. found.disagreements ≡ 0) }
+{
+    let mut counts = String::new(alloc);
+    let mut times = String::new(alloc);
+    tell_calls(alloc, &mut counts, rounds.calls, rounds.last)?;
+    tell_round_times(alloc, &mut times, job, rounds)?;
+    Ok(Findings {
+        counts,
+        times,
+        disagreements: 0,
+    })
 }
 
 /// Tells what a campaign counted.
-fn tell_counts<K: Sink>(alloc: Global, out: &mut K, tally: Tally) -> Result<(), Fault> {
-    tell(alloc, out, "stabilizes", tally.stabilizes)?;
-    tell(alloc, out, "comparisons", tally.comparisons)?;
-    tell(alloc, out, "disagreements", tally.disagreements)
+fn tell_counts(alloc: Global, counts: &mut String, tally: Tally) -> Result<(), AllocError> {
+    tell(alloc, counts, "stabilizes", tally.stabilizes)?;
+    tell(alloc, counts, "comparisons", tally.comparisons)?;
+    tell(alloc, counts, "disagreements", tally.disagreements)
 }
 
-/// Tells a campaign.
-pub fn tell_tally<K: Sink, N: Sink>(
-    alloc: Global,
-    out: &mut K,
-    notes: &mut N,
-    job: Job,
-    tally: Tally,
-) -> Result<(), Fault> {
-    tell_calls(alloc, out, tally.calls, tally.last)?;
-    tell_counts(alloc, out, tally)?;
-    tell_time(alloc, notes, "rounds", tally.running, job.rounds)
+/// What a campaign found.
+pub fn of_tally(alloc: Global, job: Job, tally: Tally) -> Result<Findings, AllocError>
+    ensures { IfOk result (λ found. found.disagreements ≡ tally.disagreements) }
+{
+    let mut counts = String::new(alloc);
+    let mut times = String::new(alloc);
+    tell_calls(alloc, &mut counts, tally.calls, tally.last)?;
+    tell_counts(alloc, &mut counts, tally)?;
+    tell_time(alloc, &mut times, "rounds", tally.running, job.rounds)?;
+    Ok(Findings {
+        counts,
+        times,
+        disagreements: tally.disagreements,
+    })
 }
 
 /// Tells what was called where observers were made, and after they were ended.
-fn tell_end_calls<K: Sink>(alloc: Global, out: &mut K, ends: Ends) -> Result<(), Fault> {
-    tell(alloc, out, "calls", ends.calls)?;
-    tell(alloc, out, "calls after the end", ends.after)
+fn tell_end_calls(alloc: Global, counts: &mut String, ends: Ends) -> Result<(), AllocError> {
+    tell(alloc, counts, "calls", ends.calls)?;
+    tell(alloc, counts, "calls after the end", ends.after)
 }
 
-/// Tells how long it took to observe nodes and to stabilize.
-fn tell_making<K: Sink>(alloc: Global, notes: &mut K, size: u64, ends: Ends) -> Result<(), Fault> {
-    tell_time(alloc, notes, "built", ends.building, size)?;
-    tell_time(alloc, notes, "observed", ends.observing, size)?;
-    tell_time(alloc, notes, "stabilized", ends.stabilizing, size)
-}
-
-/// Tells how observers were made and ended.
-pub fn tell_ends<K: Sink, N: Sink>(
+/// Tells how long it took to observe nodes, to stabilize, and to end the observers.
+fn tell_end_times(
     alloc: Global,
-    out: &mut K,
-    notes: &mut N,
-    job: Job,
+    times: &mut String,
+    size: u64,
     ends: Ends,
-) -> Result<(), Fault> {
-    tell_end_calls(alloc, out, ends)?;
-    tell_making(alloc, notes, job.size as u64, ends)?;
-    tell_time(alloc, notes, "ended", ends.ending, job.size as u64)
+) -> Result<(), AllocError> {
+    tell_time(alloc, times, "built", ends.building, size)?;
+    tell_time(alloc, times, "observed", ends.observing, size)?;
+    tell_time(alloc, times, "stabilized", ends.stabilizing, size)?;
+    tell_time(alloc, times, "ended", ends.ending, size)
+}
+
+/// What was found where observers were made and ended.
+pub fn of_ends(alloc: Global, job: Job, ends: Ends) -> Result<Findings, AllocError>
+    ensures { IfOk result (λ found. found.disagreements ≡ 0) }
+{
+    let mut counts = String::new(alloc);
+    let mut times = String::new(alloc);
+    tell_end_calls(alloc, &mut counts, ends)?;
+    tell_end_times(alloc, &mut times, job.size as u64, ends)?;
+    Ok(Findings {
+        counts,
+        times,
+        disagreements: 0,
+    })
 }

@@ -4,13 +4,12 @@
 
 mod calls;
 mod counted;
-mod profile;
 mod top;
 
-use script_io::{StdSink, StdSource, words};
 use std::alloc::AllocError;
 use std::process::ExitCode;
 use std_library::StdLib;
+use std_streams::{StdSink, StdSource, words};
 
 /// The status where no memory is found for what `main` makes itself.
 const NO_MEMORY: u8 = 5;

@@ -3,8 +3,6 @@
 #![tactic(auto)]
 
 #[cfg(test)]
-mod plain;
-#[cfg(test)]
 mod runs;
 #[cfg(test)]
 mod scripts;

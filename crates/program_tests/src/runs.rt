@@ -1,8 +1,7 @@
 //! Runs of scripts from memory to memory.
 
-use crate::plain::Plain;
 use script_io::{MemSink, MemSource};
-use script_run::run;
+use script_run::{Plain, drive};
 use std::alloc::Global;
 use std_library::StdLib;
 
@@ -39,7 +38,7 @@ fn is_run(
     wanted: &Wanted<'_>,
 ) -> bool {
     let limit = limit.min(4_000_000);
-    let (status, library) = run(alloc, source, sink, StdLib::new(), &mut Plain, limit);
+    let (status, library) = drive(alloc, source, sink, StdLib::new(), &mut Plain, limit);
     status == wanted.status
         && library.calls() == wanted.calls
         && sink.written() == wanted.output.as_bytes()

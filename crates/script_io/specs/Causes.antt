@@ -11,3 +11,9 @@ pub record HasCause {T E : Type 0} (before now : ℕ) (result : Result T E) : Ty
   pub later : before ≤ now
   pub failed : OnErr result (Rose before now)
   pub unfailed : OnOk result (now ≡ before)
+
+-- a count of faults rose where one came, and stayed where none did
+pub record Tells (Came : Type 0) (before now : ℕ) : Type 0 where
+  pub later : before ≤ now
+  pub fault : Came → Rose before now
+  pub unfailed : (Came → ⊥) → now ≡ before

@@ -2,10 +2,17 @@
 use Rattle.std.specs.Prelude.{◌≡◌, ◌<◌, ◌⊎◌, ℕ, List, [], ◌∷◌, codes, length, take, Option}
 use Rattle.std.specs.Io.KnownBytes.{Appends}
 use Rattle.script_io.specs.Endings.{IsStatus}
+use Rattle.script_io.specs.declared.command_line.Asked.{Asked}
+use Rattle.script_io.specs.declared.command_line.Asked.TheVariants.{Run, Nothing}
 
 -- the words are the program's name and `run`
 abbrev pub IsRunWords : List (List ℕ) → Type 0
 IsRunWords words = (program : List ℕ) × (words ≡ program ∷ codes "run" ∷ [])
+
+-- the words ask for this
+abbrev pub AsksFor : List (List ℕ) → Asked → Type 0
+AsksFor words Run = IsRunWords words
+AsksFor words Nothing = IsRunWords words → ⊥
 
 -- a front of the usage line was written, but not all of it
 pub record IsUsageCut (usage : List ℕ) (before after : Option (List ℕ)) : Type 0 where

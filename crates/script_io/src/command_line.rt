@@ -1,38 +1,23 @@
 //! The words of the command line, and the usage line.
-ghost use Rattle.std.specs.Prelude.{◌≡◌, ◌≢◌, ◌↔◌, ◌≤◌, IsTrue, IfOk, map, string_bytes};
-ghost use Rattle.std.specs.Vec.Iter.{into_iter_items};
-ghost use Rattle.script_io.specs.Causes.{Rose};
-ghost use Rattle.script_io.specs.CommandLine.{IsRunWords, TellsUsage, IsTopStatus};
+ghost use Rattle.std.specs.Prelude.{◌≡◌, ◌↔◌, IsTrue};
+ghost use Rattle.script_io.specs.Causes.{Tells};
+ghost use Rattle.script_io.specs.CommandLine.{AsksFor, IsRunWords, TellsUsage};
 
 use crate::{Failed, Sink, Word, write_whole};
-use std::alloc::{AllocError, Global};
 use std::convert::AsStr;
-use std::env;
-use std::io::ErrorKind;
 
-/// The words that the system tells, one for one and in order.
-fn words_of(alloc: Global, args: env::Args) -> Result<Vec<Word>, AllocError>
-    ensures words { IfOk result (λ words. words.items ≡ map string_bytes (into_iter_items args)) }
-{
-    let mut words = Vec::new(alloc);
-    for arg in args {
-        words.push(Word::new(arg))?;
-    }
-    Ok(words)
-}
+/// What the words of the command line ask for.
+#[derive(Clone, Copy, PartialEq, Eq)]
+pub enum Asked {
+    /// A run of the source's script.
+    Run,
 
-/// The words of the command line, of which the first is the program's name. There are none where the
-/// system does not tell them, or one is not UTF-8.
-pub fn words(rt: &HostRuntime) -> Result<Vec<Word>, AllocError> {
-    match env::args(rt) {
-        Ok(args) => words_of(rt.alloc(), args),
-        Err(error) if error.kind() == ErrorKind::OutOfMemory => Err(AllocError),
-        Err(_) => Ok(Vec::new(rt.alloc())),
-    }
+    /// Nothing that the program does.
+    Nothing,
 }
 
 /// Whether the words are the program's name and `run`.
-pub fn is_run(words: &[Word]) -> bool
+fn is_run(words: &[Word]) -> bool
     ensures { IsTrue result ↔ IsRunWords words.now }
 {
     match words {
@@ -41,13 +26,21 @@ pub fn is_run(words: &[Word]) -> bool
     }
 }
 
+/// What the words of the command line ask for, of which the first is the program's name.
+pub fn asked_by(words: &[Word]) -> Asked
+    ensures { AsksFor words.now result }
+{
+    if is_run(words) {
+        Asked::Run
+    } else {
+        Asked::Nothing
+    }
+}
+
 /// Writes the usage line. The answer is the status: 2, or 4 where the sink fails.
 pub fn tell_usage<K: Sink>(out: &mut K, usage: &[u8]) -> u8
     ensures told { TellsUsage usage.now result (K.written out.old) (K.written out.new) }
-    ensures statuses { IsTopStatus result }
-    ensures later { K.faults out.old ≤ K.faults out.new }
-    ensures fault { result ≡ 4 → Rose (K.faults out.old) (K.faults out.new) }
-    ensures unfailed { result ≢ 4 → K.faults out.new ≡ K.faults out.old }
+    ensures sink { Tells (result ≡ 4) (K.faults out.old) (K.faults out.new) }
 {
     match write_whole(out, usage) {
         Ok(()) => 2,

@@ -1,11 +1,11 @@
 -- Laws of runs in progress.
-use Rattle.std.proofs.Common.{if◌then◌else◌, ◌≡◌, ◌≢◌, ◌⊎◌, inl, inr, ℕ, ◌+◌, ◌≤◌, Bool, true, false, ◌||◌, List, [], ◌∷◌, ◌++◌, length, take, Option, IfSome, refl, sym, ◌∙◌, ap, subst, append-nil, arith, ◌<◌}
+use Rattle.std.proofs.Common.{if◌then◌else◌, ◌≡◌, ◌≢◌, ℕ, ◌+◌, ◌≤◌, Bool, true, false, ◌||◌, List, [], ◌∷◌, ◌++◌, length, take, Option, IfSome, refl, sym, ◌∙◌, ap, subst, append-nil, arith, ◌<◌}
 use Rattle.std.proofs.KnownBytes.{Appends-trans, Appends-nil}
 use Rattle.std.proofs.lemmas.Grind.{flat_map-append}
 use Rattle.std.proofs.lemmas.List.{map-append}
 use Rattle.std.proofs.lemmas.List.Folds.{list_any-append}
 use Rattle.std.specs.Io.KnownBytes.{Consumes, Appends}
-use Rattle.std.specs.List.{flat_map, list_any}
+use Rattle.std.specs.List.{list_any}
 use Rattle.script_io.proofs.Reading.{ReadSoFar-start, ReadSoFar-more, AreFirst-so_far, AreAll-so_far, BreakAtFault-so_far, BreakAt-so_far}
 use Rattle.script_io.specs.Lines.{HasNoNewline, EndsLine, IsEnd, IsLimit, IsFault, Reader, ahead, fresh}
 use Rattle.script_io.specs.Reading.{ReadSoFar}
@@ -22,7 +22,7 @@ use Rattle.session.specs.Taken.{Says, Takes, Stops}
 use Rattle.script_run.proofs.Counts.{AreCounts-more}
 use Rattle.script_run.proofs.Turns.{turn_tells, turn_is_alike}
 use Rattle.script_run.specs.Counts.{Counted, turns_of}
-use Rattle.script_run.specs.Progress.{Point, Course, Progress}
+use Rattle.script_run.specs.Progress.{Point, CourseSoFar, Progress}
 use Rattle.script_run.specs.Running.{Outside, Ran, before_line, at_line, behind_turn}
 use Rattle.script_run.specs.Saying.{is_refusal_said}
 use Rattle.script_run.specs.Telling.{Behind, TellsRound, told_of, all_told}
@@ -78,16 +78,16 @@ pub record IsTaken (limit : ℕ) (old new : Reader) (before after : Option (List
 
 -- a line more of the bytes
 lines-more : (F : Meanings) (limit : ℕ) (before : Outside) (point new : Point) (counted : List Counted) (end : Moment) (line part : List ℕ)
-    → Course F limit before point counted end → IsTaken limit point.reader new.reader point.left new.left line part
+    → CourseSoFar F limit before point counted end → IsTaken limit point.reader new.reader point.left new.left line part
     → IfSome before.left (λ bytes. ReadSoFar limit bytes new.reader new.left (lines_read (turns_of counted) ++ line ∷ []))
 lines-more F limit before point new counted end line part c is =
     ReadSoFar-more limit before.left point.left new.left point.reader new.reader line part (lines_read (turns_of counted)) c.read is.bytes is.count is.within is.few is.clear is.ends
 
 -- what one line more leads to, but for what the sink is given
 Course-more : (F : Meanings) (limit : ℕ) (before : Outside) (point new : Point) (counted : List Counted) (end : Moment) (line part buffer appended : List ℕ) (how : Did)
-    → Course F limit before point counted end → (t : Takes F end line new.kept buffer appended point.calls new.calls how) → point.calls ≤ new.calls
+    → CourseSoFar F limit before point counted end → (t : Takes F end line new.kept buffer appended point.calls new.calls how) → point.calls ≤ new.calls
     → IsTaken limit point.reader new.reader point.left new.left line part
-    → new.refused ≡ (point.refused || is_refusal_said how) → Course F limit before new (counted ++ counted_turn t.turn point.calls new.calls ∷ []) t.turn.after
+    → new.refused ≡ (point.refused || is_refusal_said how) → CourseSoFar F limit before new (counted ++ counted_turn t.turn point.calls new.calls ∷ []) t.turn.after
 Course-more F limit before point new counted end line part buffer appended how c t later is said =
     let last = counted_turn t.turn point.calls new.calls in
     let turns = turns_of-more counted last in
@@ -135,7 +135,7 @@ Progress-more F behind limit before point new line part buffer appended whole ho
 -- ---- how a run ends
 
 -- the lines that were read, and no other one
-no-other : (F : Meanings) (limit : ℕ) (before : Outside) (point : Point) (counted : List Counted) (end : Moment) → Course F limit before point counted end
+no-other : (F : Meanings) (limit : ℕ) (before : Outside) (point : Point) (counted : List Counted) (end : Moment) → CourseSoFar F limit before point counted end
     → IfSome before.left (λ bytes. ReadSoFar limit bytes point.reader point.left (lines_read (turns_of counted) ++ []))
 no-other F limit before point counted end c =
     subst (λ ls. IfSome before.left (λ bytes. ReadSoFar limit bytes point.reader point.left ls)) (sym (append-nil (lines_read (turns_of counted)))) c.read
@@ -155,13 +155,15 @@ Ran-write_fault F behind limit before point new line part buffer appended whole 
     let same : whole ≡ told_of behind last = told t.turn.replies t.says (takes_round F p.end line point.kept new.kept buffer appended point.calls new.calls how p.course.stands t) ∙ ap (λ l. l ++ behind t.turn.replies point.calls new.calls) are in
     let c = Course-more F limit before point new p.counted p.end line part buffer appended how p.course t later is said in
     record {
-      counted = p.counted ++ last ∷ [];
-      end = t.turn.after;
-      chain = c.chain;
-      calls = new.calls;
-      counts = c.counts;
-      halted = [];
-      stopped = (refl, refl);
+      course = record {
+        counted = p.counted ++ last ∷ [];
+        end = t.turn.after;
+        chain = c.chain;
+        reached = new.calls;
+        counts = c.counts;
+        halted = [];
+        stopped = (refl, refl);
+      };
       read = AreFirst-so_far limit before.left new.left new.reader (lines_read (turns_of (p.counted ++ last ∷ [])) ++ []) (no-other F limit before new (p.counted ++ last ∷ []) t.turn.after c);
       written = record {
         earlier = p.counted;
@@ -191,13 +193,15 @@ pub Ran-no_memory : (F : Meanings) (behind : Behind) (limit : ℕ) (before : Out
 Ran-no_memory F behind limit before point new line part p stops later is =
     let s = stops p.end p.course.stands in
     record {
-      counted = p.counted;
-      end = p.end;
-      chain = p.course.chain;
-      calls = point.calls;
-      counts = p.course.counts;
-      halted = line ∷ [];
-      stopped = at_line line s.after s.due refl s.halts later s.within;
+      course = record {
+        counted = p.counted;
+        end = p.end;
+        chain = p.course.chain;
+        reached = point.calls;
+        counts = p.course.counts;
+        halted = line ∷ [];
+        stopped = at_line line s.after s.due refl s.halts later s.within;
+      };
       read = AreFirst-so_far limit before.left new.left new.reader (lines_read (turns_of p.counted) ++ line ∷ []) (lines-more F limit before point new p.counted p.end line part p.course is);
       written = p.written;
     }
@@ -212,14 +216,16 @@ Ran-no_memory_behind F behind limit before point new line part buffer appended h
     let t = takes p.end p.course.stands in
     let last = counted_turn t.turn point.calls new.calls in
     record {
-      counted = p.counted;
-      end = p.end;
-      chain = p.course.chain;
-      calls = point.calls;
-      counts = p.course.counts;
-      halted = line ∷ [];
-      stopped = behind_turn last (ap (λ l. l ∷ []) (sym t.over)) t.from t.is_turn (record { later = later; within = t.within }) refl refl
-          (wanted t.turn.replies t.says (takes_round F p.end line point.kept new.kept buffer appended point.calls new.calls how p.course.stands t));
+      course = record {
+        counted = p.counted;
+        end = p.end;
+        chain = p.course.chain;
+        reached = point.calls;
+        counts = p.course.counts;
+        halted = line ∷ [];
+        stopped = behind_turn last (ap (λ l. l ∷ []) (sym t.over)) t.from t.is_turn (record { later = later; within = t.within }) refl refl
+            (wanted t.turn.replies t.says (takes_round F p.end line point.kept new.kept buffer appended point.calls new.calls how p.course.stands t));
+      };
       read = AreFirst-so_far limit before.left new.left new.reader (lines_read (turns_of p.counted) ++ line ∷ []) (lines-more F limit before point new p.counted p.end line part p.course is);
       written = p.written;
     }
@@ -229,24 +235,28 @@ ended : (F : Meanings) (behind : Behind) (limit : ℕ) (before : Outside) (point
     → point.refused ≡ refused → Progress F behind limit before point → Consumes (ahead point.reader point.left) (ahead reader left) part → IsEnd reader (ahead reader left) part
     → Ran F behind (if refused then ending.Refused else ending.Accepted) limit before (record { left = left; written = point.written; calls = point.calls })
 ended F behind limit before point left reader part true is p bytes end = record {
-  counted = p.counted;
-  end = p.end;
-  chain = p.course.chain;
-  calls = point.calls;
-  counts = p.course.counts;
-  halted = [];
-  stopped = (refl, refl);
+  course = record {
+    counted = p.counted;
+    end = p.end;
+    chain = p.course.chain;
+    reached = point.calls;
+    counts = p.course.counts;
+    halted = [];
+    stopped = (refl, refl);
+  };
   read = AreAll-so_far limit before.left point.left left point.reader reader part (lines_read (turns_of p.counted) ++ []) (no-other F limit before point p.counted p.end p.course) bytes end;
   written = (p.written, p.course.refused ∙ is);
 }
 ended F behind limit before point left reader part false is p bytes end = record {
-  counted = p.counted;
-  end = p.end;
-  chain = p.course.chain;
-  calls = point.calls;
-  counts = p.course.counts;
-  halted = [];
-  stopped = (refl, refl);
+  course = record {
+    counted = p.counted;
+    end = p.end;
+    chain = p.course.chain;
+    reached = point.calls;
+    counts = p.course.counts;
+    halted = [];
+    stopped = (refl, refl);
+  };
   read = AreAll-so_far limit before.left point.left left point.reader reader part (lines_read (turns_of p.counted) ++ []) (no-other F limit before point p.counted p.end p.course) bytes end;
   written = (p.written, p.course.refused ∙ is);
 }
@@ -264,13 +274,15 @@ pub Ran-read_fault : (F : Meanings) (behind : Behind) (limit : ℕ) (before : Ou
     → reader.taken ≤ limit → length reader.held ≤ 4096 → IsFault reader part
     → Ran F behind ending.ReadFault limit before (record { left = left; written = point.written; calls = point.calls })
 Ran-read_fault F behind limit before point left reader part p bytes count within few is = record {
-  counted = p.counted;
-  end = p.end;
-  chain = p.course.chain;
-  calls = point.calls;
-  counts = p.course.counts;
-  halted = [];
-  stopped = (refl, refl);
+  course = record {
+    counted = p.counted;
+    end = p.end;
+    chain = p.course.chain;
+    reached = point.calls;
+    counts = p.course.counts;
+    halted = [];
+    stopped = (refl, refl);
+  };
   read = BreakAtFault-so_far limit before.left point.left left point.reader reader part (lines_read (turns_of p.counted) ++ []) (no-other F limit before point p.counted p.end p.course) bytes count within few is;
   written = p.written;
 }
@@ -281,13 +293,15 @@ pub Ran-limit : (F : Meanings) (behind : Behind) (limit : ℕ) (before : Outside
     → reader.taken ≤ limit → length reader.held ≤ 4096 → IsLimit reader limit part
     → Ran F behind ending.Limit limit before (record { left = left; written = point.written; calls = point.calls })
 Ran-limit F behind limit before point left reader part p bytes count within few is = record {
-  counted = p.counted;
-  end = p.end;
-  chain = p.course.chain;
-  calls = point.calls;
-  counts = p.course.counts;
-  halted = [];
-  stopped = (refl, refl);
+  course = record {
+    counted = p.counted;
+    end = p.end;
+    chain = p.course.chain;
+    reached = point.calls;
+    counts = p.course.counts;
+    halted = [];
+    stopped = (refl, refl);
+  };
   read = BreakAt-so_far limit before.left point.left left point.reader reader part (lines_read (turns_of p.counted) ++ []) (no-other F limit before point p.counted p.end p.course) bytes count within few is;
   written = p.written;
 }
@@ -309,13 +323,15 @@ Progress-start F behind limit before reader kept calls stands none same = record
 pub Ran-nothing : (F : Meanings) (behind : Behind) (limit : ℕ) (before : Outside) (calls : ℕ) → calls ≡ before.calls
     → Ran F behind ending.Memory limit before (record { left = before.left; written = before.written; calls = calls })
 Ran-nothing F behind limit before calls same = record {
-  counted = [];
-  end = first_moment;
-  chain = refl;
-  calls = before.calls;
-  counts = refl;
-  halted = [];
-  stopped = before_line refl same;
+  course = record {
+    counted = [];
+    end = first_moment;
+    chain = refl;
+    reached = before.calls;
+    counts = refl;
+    halted = [];
+    stopped = before_line refl same;
+  };
   read = AreFirst-so_far limit before.left before.left fresh [] (ReadSoFar-start limit before.left fresh refl);
   written = Appends-nil before.written;
 }

@@ -1,4 +1,5 @@
 mod Counts
 mod Course
 mod Steps
+mod Sums
 pub mod Turns

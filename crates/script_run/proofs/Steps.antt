@@ -1,26 +1,21 @@
 -- One line more of a run, and its end.
-use Rattle.std.proofs.Common.{if◌then◌else◌, ◌≡◌, ◌≢◌, ◌||◌, ℕ, ◌+◌, ◌≤◌, ◌<◌, Bool, true, false, List, [], ◌∷◌, ◌++◌, length, take, Option, Result, Ok, Err, IsTrue, refl, sym, ◌∙◌, ap, subst, arith}
-use Rattle.std.specs.Io.KnownBytes.{Appends}
-use Rattle.std.specs.Result.{OnErr, OnOk}
+use Rattle.std.proofs.Common.{if◌then◌else◌, ◌≡◌, ◌≢◌, ◌||◌, ℕ, ◌≤◌, ◌<◌, Bool, true, false, List, [], Option, Result, Ok, Err, IsTrue, refl, sym, ◌∙◌, ap, subst, arith}
 use Rattle.inc_value.specs.declared.function.FnRef.{FnRef}
-use Rattle.script_graph.specs.Kept.{Kept}
 use Rattle.script_graph.specs.State.{Stands}
-use Rattle.script_io.specs.Causes.{HasCause, Rose}
-use Rattle.script_io.specs.Lines.{Reader, fresh}
+use Rattle.script_io.specs.Causes.{Rose, Tells}
+use Rattle.script_io.specs.Lines.{fresh}
 use Rattle.script_io.specs.declared.ending.Ending.{Ending}
 use Rattle.script_io.specs.declared.ending.Ending.TheVariants as ending
 use Rattle.script_io.specs.declared.line_reader.Got.TheVariants as answer
 use Rattle.script_model.specs.Formula.{Meanings}
-use Rattle.script_model.specs.Step.{Moment, Reply, first_moment}
-use Rattle.session.specs.Taken.{Says, Stops, Takes}
-use Rattle.session.specs.declared.answer.Did.{Did}
-use Rattle.session.specs.declared.answer.Did.TheVariants as did
-use Rattle.script_run.proofs.Course.{IsTaken, Progress-more, Progress-start, Ran-no_memory, Ran-no_memory_behind, Ran-write_fault, or_true, refusal_told, stops_at_once}
+use Rattle.script_model.specs.Step.{first_moment}
+use Rattle.script_run.proofs.Course.{IsTaken, Progress-more, Progress-start, Ran-no_memory, Ran-no_memory_behind, Ran-write_fault}
+use Rattle.script_run.specs.Programs.{KeepsLibrary, around}
 use Rattle.script_run.specs.Progress.{Progress}
 use Rattle.script_run.specs.Running.{Outside, Ran}
 use Rattle.script_run.specs.Saying.{is_refusal_said}
-use Rattle.script_run.specs.Steps.{AnswersLine, Desk, EndsRun, IsPrinted, IsReady, KeepsLibrary, LineEnds, Place, RunsLines, TakesLine, Tells, all_written, cut_off, not_taken, not_told, outside_at, point_at}
-use Rattle.script_run.specs.Telling.{Behind, IsQuiet, TellsRound}
+use Rattle.script_run.specs.Steps.{AnswersLine, Desk, EndsRun, IsReady, LineEnds, Place, RunsLines, TakesLine, all_written, cut_off, not_taken, not_told, outside_at, point_at}
+use Rattle.script_run.specs.Telling.{Behind}
 
 -- ---- faults
 
@@ -277,9 +272,8 @@ module _ {L : Type 0} (meanings : L → Meanings) (known : L → FnRef → Bool)
     -- the session is new and the reader has read nothing, and the library is given back in the end
     pub runs_lines : (limit : ℕ) (lib given : L) (old new : Place L) (e : Ending) → old.desk.session.library ≡ lib → given ≡ new.desk.session.library
         → Stands (meanings lib) old.desk.session.kept first_moment → old.reader ≡ fresh → EndsRun meanings known calls behind limit false old new e
-        → RunsLines meanings known calls behind limit lib given (record { left = old.left; written = old.desk.written; calls = calls lib })
-        (record { left = new.left; written = new.desk.written; calls = calls given })
-        old.source_faults new.source_faults old.desk.sink_faults new.desk.sink_faults e
+        → RunsLines meanings known calls behind limit (around lib old.left old.source_faults old.desk.written old.desk.sink_faults)
+        (around given new.left new.source_faults new.desk.written new.desk.sink_faults) e
     runs_lines limit lib given old new e first last stands none run =
         let before : Outside = record { left = old.left; written = old.desk.written; calls = calls lib } in
         let same : meanings old.desk.session.library ≡ meanings lib = ap meanings first in

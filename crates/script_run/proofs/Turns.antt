@@ -1,12 +1,12 @@
 -- What a turn's replies tell: whether it was an accepted stabilize, and whether it was refused.
-use Rattle.std.proofs.Common.{◌≡◌, ℕ, ◌+◌, Bool, true, false, ◌||◌, List, [], ◌∷◌, Option, None, Some, map, refl, sym, ◌∙◌, ap, subst, arith}
+use Rattle.std.proofs.Common.{◌≡◌, ℕ, Bool, true, false, ◌||◌, List, [], ◌∷◌, Option, None, Some, map, refl, ◌∙◌, ap}
 use Rattle.std.specs.List.{list_any}
 use Rattle.script_model.specs.Check.{Command, Declare, Assign, Link, Unlink, Stale, Take, Observe, Unobserve, Watch, Show, Advance, Stabilize}
 use Rattle.script_model.specs.Formula.{Meanings, State}
 use Rattle.script_model.specs.Request.{Request, TooLong, Blank, Malformed, TooDeep, Asks}
 use Rattle.script_model.specs.Run.{Turn, IsTurn}
 use Rattle.script_model.specs.Settle.{Notice}
-use Rattle.script_model.specs.Step.{Moment, Reply, Done, Shown, Tells, Stable, Refused, Refusal, Verdict, Refuse, Settle, Act, Stabilizes, settles, by_cycle, by_height, Follows, Answers, effect, is_refusal, reply_to, shows, shown_by, verdict_of}
+use Rattle.script_model.specs.Step.{Moment, Reply, Tells, Refused, Refusal, Verdict, Refuse, Settle, Act, Stabilizes, settles, by_cycle, by_height, Follows, Answers, effect, is_refusal, reply_to, shows, shown_by, verdict_of}
 use Rattle.script_model.specs.Values.{Outcome}
 use Rattle.script_run.specs.Telling.{TellsRound, tells_stable}
 

@@ -1,4 +1,6 @@
 pub mod Counts
+pub mod Plain
+pub mod Programs
 pub mod Progress
 pub mod Running
 pub mod Saying

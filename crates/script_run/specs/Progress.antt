@@ -23,7 +23,7 @@ pub record Point : Type 0 where
   pub refused : Bool
 
 -- the turns lead to a moment that the session stands for, over the lines so far, and each has its counts
-pub record Course (F : Meanings) (limit : ℕ) (before : Outside) (point : Point) (counted : List Counted) (end : Moment) : Type 0 where
+pub record CourseSoFar (F : Meanings) (limit : ℕ) (before : Outside) (point : Point) (counted : List Counted) (end : Moment) : Type 0 where
   pub chain : Chain F first_moment (turns_of counted) end
   pub stands : Stands F point.kept end
   pub counts : AreCounts before.calls counted point.calls
@@ -34,5 +34,5 @@ pub record Course (F : Meanings) (limit : ℕ) (before : Outside) (point : Point
 pub record Progress (F : Meanings) (behind : Behind) (limit : ℕ) (before : Outside) (point : Point) : Type 0 where
   pub counted : List Counted
   pub end : Moment
-  pub course : Course F limit before point counted end
+  pub course : CourseSoFar F limit before point counted end
   pub written : Appends before.written point.written (all_told behind counted)

@@ -48,17 +48,22 @@ Writes behind Refused before after counted = Appends before after (all_told behi
 Writes behind WriteFault before after counted = IsCutInLast behind before after counted
 Writes behind ending before after counted = Appends before after (all_told behind counted)
 
--- one run of the model from the first moment on, each turn with its counts: over the lines that were read, with what was written of them
-pub record Ran (F : Meanings) (behind : Behind) (ending : Ending) (limit : ℕ) (before after : Outside) : Type 0 where
+-- a course of the model from the first moment on: its turns, each with its counts, from what the library had counted before the first one, and
+-- where it stopped
+pub record Course (F : Meanings) (behind : Behind) (ending : Ending) (called calls : ℕ) : Type 0 where
   pub counted : List Counted
   pub end : Moment
   pub chain : Chain F first_moment (turns_of counted) end
-  pub calls : ℕ
-  pub counts : AreCounts before.calls counted calls
+  pub reached : ℕ
+  pub counts : AreCounts called counted reached
   pub halted : List (List ℕ)
-  pub stopped : Stopped F behind ending end halted calls after.calls
-  pub read : IfSome before.left (λ bytes. Reads ending limit bytes after.left (lines_read (turns_of counted) ++ halted))
-  pub written : Writes behind ending before.written after.written counted
+  pub stopped : Stopped F behind ending end halted reached calls
+
+-- one run: a course over the lines that were read, of which that was written
+pub record Ran (F : Meanings) (behind : Behind) (ending : Ending) (limit : ℕ) (before after : Outside) : Type 0 where
+  pub course : Course F behind ending before.calls after.calls
+  pub read : IfSome before.left (λ bytes. Reads ending limit bytes after.left (lines_read (turns_of course.counted) ++ course.halted))
+  pub written : Writes behind ending before.written after.written course.counted
 
 -- the status tells how the run ended
 pub record RanTo (F : Meanings) (behind : Behind) (status limit : ℕ) (before after : Outside) : Type 0 where

@@ -1,10 +1,10 @@
 -- One line more of a run.
-use Rattle.std.specs.Prelude.{◌≡◌, ◌≢◌, ◌||◌, ◌<◌, ◌≤◌, ◌+◌, ◌^◌, ℕ, Bool, false, List, [], ◌++◌, length, take, Option, Result, Ok, Err, IfOk, IfErr, OnOk, IsTrue}
+use Rattle.std.specs.Prelude.{◌≡◌, ◌≢◌, ◌||◌, ◌<◌, ◌≤◌, ◌+◌, ◌^◌, ℕ, Bool, false, List, [], ◌++◌, length, take, Option, Result, Ok, Err, IfOk, IfErr, OnOk}
 use Rattle.std.specs.Io.KnownBytes.{Appends}
 use Rattle.inc_value.specs.declared.function.FnRef.{FnRef}
 use Rattle.script_graph.specs.Kept.{Kept}
 use Rattle.script_graph.specs.State.{Stands}
-use Rattle.script_io.specs.Causes.{Rose}
+use Rattle.script_io.specs.Causes.{Tells}
 use Rattle.script_io.specs.Lines.{Reader}
 use Rattle.script_io.specs.declared.ending.Ending.{Ending}
 use Rattle.script_io.specs.declared.ending.Ending.TheVariants.{Memory, ReadFault, WriteFault}
@@ -14,22 +14,10 @@ use Rattle.session.specs.Session.{Standing}
 use Rattle.session.specs.Taken.{Says, Stops, Takes}
 use Rattle.session.specs.declared.answer.Did.{Did}
 use Rattle.script_run.specs.Progress.{Point, Progress}
+use Rattle.script_run.specs.Programs.{Around, KeepsLibrary, outside_of}
 use Rattle.script_run.specs.Running.{Outside, Ran}
 use Rattle.script_run.specs.Saying.{is_refusal_said}
 use Rattle.script_run.specs.Telling.{Behind, TellsRound}
-
--- a count of faults rose where one came, and stayed where none did
-pub record Tells (Came : Type 0) (before now : ℕ) : Type 0 where
-  pub later : before ≤ now
-  pub fault : Came → Rose before now
-  pub unfailed : (Came → ⊥) → now ≡ before
-
--- over the libraries' meanings, the functions that they know and their counts of calls: functions mean what they meant, those that were
--- known are known, and the count did not fall
-pub record KeepsLibrary {L : Type 0} (meanings : L → Meanings) (known : L → FnRef → Bool) (calls : L → ℕ) (old new : L) : Type 0 where
-  pub functions : meanings new ≡ meanings old
-  pub known_still : (f : FnRef) → IsTrue (known old f) → IsTrue (known new f)
-  pub calls_grow : calls old ≤ calls new
 
 -- where a line is answered: the session, what the sink was given, where it tells it, how often the sink failed, and what is still to be written
 pub record Desk (L : Type 0) : Type 0 where
@@ -141,9 +129,8 @@ module _ {L : Type 0} (meanings : L → Meanings) (known : L → FnRef → Bool)
         → Ran (meanings old.desk.session.library) behind ending limit before (outside_at calls new)
 
   -- a run over a source, with its own session
-  pub record RunsLines (limit : ℕ) (old new : L) (before after : Outside) (read_faults reads_failed write_faults writes_failed : ℕ)
-      (ending : Ending) : Type 0 where
-    pub ran : Ran (meanings old) behind ending limit before after
-    pub library : KeepsLibrary meanings known calls old new
-    pub source : Tells (ending ≡ ReadFault) read_faults reads_failed
-    pub sink : Tells (ending ≡ WriteFault) write_faults writes_failed
+  pub record RunsLines (limit : ℕ) (old new : Around L) (ending : Ending) : Type 0 where
+    pub ran : Ran (meanings old.library) behind ending limit (outside_of calls old) (outside_of calls new)
+    pub library : KeepsLibrary meanings known calls old.library new.library
+    pub source : Tells (ending ≡ ReadFault) old.read_faults new.read_faults
+    pub sink : Tells (ending ≡ WriteFault) old.write_faults new.write_faults

@@ -1,10 +1,7 @@
 //! Runs over the lines of a source.
-ghost use Rattle.std.specs.Prelude.{◌≡◌, ◌≢◌, ◌⊎◌, ◌^◌, ◌<◌, ◌≤◌, false, [], length, IfSome, IsTrue};
-ghost use Rattle.inc_value.specs.declared.function.FnRef.{FnRef};
-ghost use Rattle.script_io.specs.Causes.{Rose};
-ghost use Rattle.script_io.specs.Endings.{IsStatus};
+ghost use Rattle.std.specs.Prelude.{◌≡◌, ◌^◌, ◌<◌, ◌≤◌, false, [], length};
 ghost use Rattle.script_model.specs.Formula.{meanings_of};
-ghost use Rattle.script_run.specs.Running.{RanTo};
+ghost use Rattle.script_run.specs.Programs.{around};
 ghost use Rattle.script_run.specs.Saying.{is_refusal_said};
 ghost use Rattle.script_run.specs.Telling.{Behind, IsQuiet};
 ghost use Rattle.script_run.specs.Steps.{AnswersLine, EndsRun, IsReady, RunsLines, TakesLine, desk_of, place_of};
@@ -135,7 +132,7 @@ fn take_lines<S: Source, K: Sink, L: Library, R: Report<L>>(
 }
 
 /// A run over the source, until it ends.
-fn run_lines<S: Source, K: Sink, L: Library, R: Report<L>>(
+pub fn run_lines<S: Source, K: Sink, L: Library, R: Report<L>>(
     alloc: Global,
     src: &mut S,
     out: &mut K,
@@ -144,10 +141,9 @@ fn run_lines<S: Source, K: Sink, L: Library, R: Report<L>>(
     limit: u64,
 ) -> (Ending, L)
     requires { limit ≤ 2 ^ 30 }
-    ensures { RunsLines (λ l. meanings_of (L.named l) (L.value l)) L.known L.calls R.behind limit lib result.1
-        (record { left = S.left src.old; written = K.written out.old; calls = L.calls lib })
-        (record { left = S.left src.new; written = K.written out.new; calls = L.calls result.1 })
-        (S.faults src.old) (S.faults src.new) (K.faults out.old) (K.faults out.new) result.0 }
+    ensures { RunsLines (λ l. meanings_of (L.named l) (L.value l)) L.known L.calls R.behind limit
+        (around lib (S.left src.old) (S.faults src.old) (K.written out.old) (K.faults out.old))
+        (around result.1 (S.left src.new) (S.faults src.new) (K.written out.new) (K.faults out.new)) result.0 }
 {
     let mut lines = match LineReader::new(alloc) {
         Ok(lines) => lines,
@@ -167,44 +163,4 @@ fn run_lines<S: Source, K: Sink, L: Library, R: Report<L>>(
     drop(lines);
     drop(buffer);
     (ending, session.into_library())
-}
-
-/// Runs the script of the source with the functions of the library, and writes what each line prints,
-/// with what the report tells of it. At most `limit` bytes are taken. Before each read that a line does
-/// not need, all of the lines before it is written. A failed read or write is not tried again. The
-/// answer is the status, and the library:
-///
-/// - 0, the input was read to its end, and no line was refused;
-/// - 1, the same, and a line was refused;
-/// - 3, the source failed;
-/// - 4, the sink failed;
-/// - 5, no memory was found;
-/// - 6, `limit` bytes were taken, and another one came.
-pub fn run<S: Source, K: Sink, L: Library, R: Report<L>>(
-    alloc: Global,
-    src: &mut S,
-    out: &mut K,
-    lib: L,
-    report: &mut R,
-    limit: u64,
-) -> (u8, L)
-    requires { limit ≤ 2 ^ 30 }
-    ensures ran { RanTo (meanings_of (L.named lib) (L.value lib)) R.behind result.0 limit
-        (record { left = S.left src.old; written = K.written out.old; calls = L.calls lib })
-        (record { left = S.left src.new; written = K.written out.new; calls = L.calls result.1 }) }
-    ensures statuses { IsStatus result.0 }
-    ensures limit_kept { (result.0 ≡ 0) ⊎ (result.0 ≡ 1) → IfSome (S.left src.old) (λ bytes. length bytes ≤ limit) }
-    ensures limit_passed { result.0 ≡ 6 → IfSome (S.left src.old) (λ bytes. limit < length bytes) }
-    ensures functions { meanings_of (L.named result.1) (L.value result.1) ≡ meanings_of (L.named lib) (L.value lib) }
-    ensures known { (g : FnRef) → IsTrue (L.known lib g) → IsTrue (L.known result.1 g) }
-    ensures calls_grow { L.calls lib ≤ L.calls result.1 }
-    ensures source_later { S.faults src.old ≤ S.faults src.new }
-    ensures source_fault { result.0 ≡ 3 → Rose (S.faults src.old) (S.faults src.new) }
-    ensures source_unfailed { result.0 ≢ 3 → S.faults src.new ≡ S.faults src.old }
-    ensures sink_later { K.faults out.old ≤ K.faults out.new }
-    ensures sink_fault { result.0 ≡ 4 → Rose (K.faults out.old) (K.faults out.new) }
-    ensures sink_unfailed { result.0 ≢ 4 → K.faults out.new ≡ K.faults out.old }
-{
-    let (ending, lib) = run_lines(alloc, src, out, lib, report, limit);
-    (ending.status(), lib)
 }

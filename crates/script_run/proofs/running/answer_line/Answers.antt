@@ -1,4 +1,4 @@
-use Rattle.std.proofs.Common.{refl, sym, ap, ◌∙◌, List, ℕ, subst}
+use Rattle.std.proofs.Common.{refl}
 use Rattle.script_run.specs.Steps.{all_written, cut_off, not_taken, not_told}
 use Rattle.script_run.proofs.Steps.{faulted, memory_unread, memory_unwritten, no_fault, on_unread, on_unwritten, write_unread}
 use Rattle.script_run.proofs.running.answer_line.Goals as goal

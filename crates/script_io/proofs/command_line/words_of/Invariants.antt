@@ -1,6 +1,0 @@
--- The words so far are those of the arguments so far.
-use Rattle.std.proofs.Common.{◌≡◌, map, string_bytes}
-use Rattle.script_io.proofs.command_line.words_of.Given as goal
-
-abbrev pub invariant-loop-arg : goal.invariant-loop-arg
-invariant-loop-arg l = l.words.items ≡ map string_bytes l.yielded

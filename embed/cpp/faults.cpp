@@ -1,0 +1,59 @@
+// As c/faults.c, by incr::session. What C++ allocates fails in its turn too.
+#include "incr.hpp"
+extern "C" {
+#include "failing.h"
+}
+#include <cstdlib>
+#include <fstream>
+#include <iostream>
+#include <optional>
+#include <sstream>
+
+void *operator new(size_t size) {
+    if (void *block = std::malloc(size)) return block;
+    throw std::bad_alloc();
+}
+void operator delete(void *block) noexcept { std::free(block); }
+void operator delete(void *block, size_t) noexcept { std::free(block); }
+
+// What the call gives, which is made again where it found no memory.
+template <class Call> static auto persistently(Call call) {
+    for (;;) {
+        failing_watch(1);
+        try {
+            auto given = call();
+            failing_watch(0);
+            return given;
+        } catch (const std::bad_alloc &) {
+            failing_watch(0);
+        }
+    }
+}
+
+static void run(const std::string &script) {
+    std::optional<incr::session> session;
+    persistently([&] { return session.emplace(), 0; });
+    for (size_t at = 0, end; (end = script.find('\n', at)) != std::string::npos; at = end + 1) {
+        const std::string_view text = std::string_view(script).substr(at, end - at);
+        std::cout << persistently([&] { return session->line(text); }).printed;
+    }
+    // (a session that is moved takes along what waits)
+    incr::session moved = std::move(*session);
+    std::cout << persistently([&] { return moved.rest(); }) << "--\n";
+}
+
+int main(int argc, char **argv) {
+    std::ifstream file(argc == 2 ? argv[1] : "", std::ios::binary);
+    std::stringstream whole;
+    whole << file.rdbuf();
+    const std::string script = whole.str();
+    if (script.empty()) return 2;
+    for (unsigned which = 1; which <= FAILING_MOST; which += 2) {
+        long first = 0;
+        do {
+            failing_from(first, which);
+            run(script);
+        } while (first++ < failing_asked());
+    }
+    return std::cout.flush() ? 0 : 1;
+}

@@ -1,0 +1,68 @@
+//! As c/faults.c, by `Session`. What Rust allocates fails in its turn too.
+
+mod incr;
+
+use incr::{Fault, Session};
+use std::error::Error;
+use std::io::{BufWriter, Write, stdout};
+use std::os::raw::{c_int, c_long, c_uint};
+
+unsafe extern "C" {
+    fn failing_from(first: c_long, which: c_uint);
+    fn failing_watch(on: c_int);
+    fn failing_asked() -> c_long;
+}
+
+const FAILING_MOST: c_uint = 31;
+
+/// Lets allocations fail in the call.
+fn watched<T>(call: impl FnOnce() -> T) -> T {
+    // SAFETY: the functions of failing.c write numbers of their own, and this program has one thread.
+    unsafe { failing_watch(1) };
+    let given = call();
+    // SAFETY: as above.
+    unsafe { failing_watch(0) };
+    given
+}
+
+fn run(script: &str, out: &mut impl Write) -> Result<(), Box<dyn Error>> {
+    let mut session = loop {
+        match watched(Session::open) {
+            Ok(session) => break session,
+            Err(Fault::NoMemory) => {}
+            Err(fault) => return Err(fault.into()),
+        }
+    };
+    for line in script.lines() {
+        loop {
+            match watched(|| session.line(line.as_bytes())) {
+                Ok((_, printed)) => break out.write_all(printed)?,
+                Err(Fault::NoMemory) => {}
+                Err(fault) => return Err(fault.into()),
+            }
+        }
+    }
+    // (what waits is told, and is handed out once there is memory)
+    let waiting = session.waiting();
+    let rest = session.rest()?;
+    assert!(waiting <= rest.len());
+    out.write_all(rest)?;
+    Ok(out.write_all(b"--\n")?)
+}
+
+fn main() -> Result<(), Box<dyn Error>> {
+    let script = std::fs::read_to_string(std::env::args_os().nth(1).ok_or("no script")?)?;
+    let mut out = BufWriter::new(stdout().lock());
+    for which in (1..=FAILING_MOST).step_by(2) {
+        for first in 0.. {
+            // SAFETY: as in `watched`.
+            unsafe { failing_from(first, which) };
+            run(&script, &mut out)?;
+            // SAFETY: as in `watched`.
+            if first >= unsafe { failing_asked() } {
+                break;
+            }
+        }
+    }
+    Ok(out.flush()?)
+}
