@@ -504,6 +504,7 @@ module _ (part : List Token → Read Tree) (finds : Finds Writes part) where
   word_found_at : (w : List ℕ) (rest : List Token) (y : Tree × List Token) → word_front part w rest ≡ Some y → Behind w rest y
   word_found_at w rest y e =
       by_test (is_name w) _ y _ (λ is e. named_found w rest y is e) (λ e.
+      at_word w (codes "freeze") rest y (freeze_found rest y) (λ e.
       at_word w (codes "if") rest y (if_found rest y) (λ e.
       at_word w (codes "bind") rest y (bind_found rest y) (λ e.
       at_word w (codes "join") rest y (join_found rest y) (λ e.
@@ -511,7 +512,6 @@ module _ (part : List Token → Read Tree) (finds : Finds Writes part) where
       at_word w (codes "at") rest y (timed_found (codes "at") grammar.At (λ time t w. (t, refl, w)) rest y) (λ e.
       at_word w (codes "now") rest y (now_found rest y) (λ e.
       at_word w (codes "steps") rest y (steps_found rest y) (λ e.
-      at_word w (codes "freeze") rest y (freeze_found rest y) (λ e.
       at_word w (codes "after") rest y (timed_found (codes "after") grammar.After (λ time t w. (t, refl, w)) rest y) (λ e.
       at_word w (codes "every") rest y (timed_found (codes "every") grammar.Every (λ time t w. (t, refl, w)) rest y) (λ e.
       written_found (Word w ∷ rest) y e) e) e) e) e) e) e) e) e) e) e) e

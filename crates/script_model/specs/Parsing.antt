@@ -147,21 +147,28 @@ module _ (part : List Token → Read Tree) where
   abbrev pub written_front : List Token → Read Tree
   written_front tokens = then_read (literal_front tokens) (λ literal rest. read (grammar.Literal literal) rest)
 
+  -- what the clock gives, by its first word, or else a literal
+  abbrev pub clock_front : List ℕ → List Token → Read Tree
+  clock_front w rest =
+      if bytes_eq w (codes "at") then then_read (time_front rest) (λ time left. read (grammar.At time) left)
+      else (if bytes_eq w (codes "now") then read grammar.Now rest
+      else (if bytes_eq w (codes "steps") then steps_front rest
+      else (if bytes_eq w (codes "after") then then_read (time_front rest) (λ time left. read (grammar.After time) left)
+      else (if bytes_eq w (codes "every") then then_read (time_front rest) (λ time left. read (grammar.Every time) left)
+      else written_front (Word w ∷ rest)))))
+
+  -- a formula that begins with a reserved word, but for a freeze
+  abbrev pub reserved_front : List ℕ → List Token → Read Tree
+  reserved_front w rest =
+      if bytes_eq w (codes "if") then if_front rest
+      else (if bytes_eq w (codes "bind") then bind_front rest
+      else (if bytes_eq w (codes "join") then join_front rest
+      else (if bytes_eq w (codes "fold") then fold_front rest else clock_front w rest)))
+
   -- the formula that begins with a word
   abbrev pub word_front : List ℕ → List Token → Read Tree
   word_front w rest =
-      if is_name w then named_front w rest
-      else (if bytes_eq w (codes "if") then if_front rest
-      else (if bytes_eq w (codes "bind") then bind_front rest
-      else (if bytes_eq w (codes "join") then join_front rest
-      else (if bytes_eq w (codes "fold") then fold_front rest
-      else (if bytes_eq w (codes "at") then then_read (time_front rest) (λ time left. read (grammar.At time) left)
-      else (if bytes_eq w (codes "now") then read grammar.Now rest
-      else (if bytes_eq w (codes "steps") then steps_front rest
-      else (if bytes_eq w (codes "freeze") then freeze_front rest
-      else (if bytes_eq w (codes "after") then then_read (time_front rest) (λ time left. read (grammar.After time) left)
-      else (if bytes_eq w (codes "every") then then_read (time_front rest) (λ time left. read (grammar.Every time) left)
-      else written_front (Word w ∷ rest)))))))))))
+      if is_name w then named_front w rest else (if bytes_eq w (codes "freeze") then freeze_front rest else reserved_front w rest)
 
   abbrev pub formula_front : List Token → Read Tree
   formula_front (Word w ∷ rest) = word_front w rest
@@ -195,23 +202,41 @@ expert_read tokens =
     and_then (name_front tokens) (λ n. whole (expect (is_word (codes "fold")) n.1 (λ rest. then_read (name_front rest) (λ function rest. expect (is_word (codes "from")) rest (λ rest.
     then_read (literal_front rest) (λ first rest. read (grammar.Expert n.0 function first) rest))))) (λ l. l))
 
--- by the word that a command begins with
-abbrev pub command_with : List ℕ → List Token → Option Line
-command_with w tokens =
-    if bytes_eq w (codes "var") then var_read tokens
-    else (if bytes_eq w (codes "set") then and_then (name_front tokens) (λ n. whole (literal_front n.1) (grammar.Set n.0))
-    else (if bytes_eq w (codes "let") then and_then (name_front tokens) (λ n. whole (formula_read (suc (tally n.1)) n.1) (grammar.Let n.0))
-    else (if bytes_eq w (codes "expert") then expert_read tokens
+abbrev pub set_read : List Token → Option Line
+set_read tokens = and_then (name_front tokens) (λ n. whole (literal_front n.1) (grammar.Set n.0))
+
+abbrev pub let_read : List Token → Option Line
+let_read tokens = and_then (name_front tokens) (λ n. whole (formula_read (suc (tally n.1)) n.1) (grammar.Let n.0))
+
+-- by the word that a command begins with: the clock and the stabilize
+abbrev pub turn_with : List ℕ → List Token → Option Line
+turn_with w tokens =
+    if bytes_eq w (codes "advance") then whole (time_front tokens) grammar.Advance
+    else (if bytes_eq w (codes "stabilize") then whole (read (codes "") tokens) (λ w. grammar.Stabilize) else None)
+
+-- so, or observers
+abbrev pub observer_with : List ℕ → List Token → Option Line
+observer_with w tokens =
+    if bytes_eq w (codes "observe") then two_names grammar.Observe tokens
+    else (if bytes_eq w (codes "unobserve") then one_name grammar.Unobserve tokens
+    else (if bytes_eq w (codes "watch") then one_name grammar.Watch tokens
+    else (if bytes_eq w (codes "show") then one_name grammar.Show tokens else turn_with w tokens)))
+
+-- so, or experts and grabs
+abbrev pub expert_with : List ℕ → List Token → Option Line
+expert_with w tokens =
+    if bytes_eq w (codes "expert") then expert_read tokens
     else (if bytes_eq w (codes "link") then two_names grammar.Link tokens
     else (if bytes_eq w (codes "unlink") then two_names grammar.Unlink tokens
     else (if bytes_eq w (codes "stale") then one_name grammar.Stale tokens
-    else (if bytes_eq w (codes "grab") then two_names grammar.Grab tokens
-    else (if bytes_eq w (codes "observe") then two_names grammar.Observe tokens
-    else (if bytes_eq w (codes "unobserve") then one_name grammar.Unobserve tokens
-    else (if bytes_eq w (codes "watch") then one_name grammar.Watch tokens
-    else (if bytes_eq w (codes "show") then one_name grammar.Show tokens
-    else (if bytes_eq w (codes "advance") then whole (time_front tokens) grammar.Advance
-    else (if bytes_eq w (codes "stabilize") then whole (read (codes "") tokens) (λ w. grammar.Stabilize) else None)))))))))))))
+    else (if bytes_eq w (codes "grab") then two_names grammar.Grab tokens else observer_with w tokens))))
+
+-- so, or variables and formulas
+abbrev pub command_with : List ℕ → List Token → Option Line
+command_with w tokens =
+    if bytes_eq w (codes "var") then var_read tokens
+    else (if bytes_eq w (codes "set") then set_read tokens
+    else (if bytes_eq w (codes "let") then let_read tokens else expert_with w tokens))
 
 -- the command that all of the tokens are
 abbrev pub command_read : List Token → Option Line
