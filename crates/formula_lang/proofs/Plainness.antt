@@ -1,5 +1,5 @@
 -- Lines of today's forms, and the rows of the table of refusals that never hold for them.
-use Rattle.std.proofs.Common.{◌≡◌, ℕ, None, Bool, true, false, ◌&&◌, List, [], ◌∷◌, ◌++◌, map, drop, refl, ap, subst, ◌∙◌, flat_map}
+use Rattle.std.proofs.Common.{◌≡◌, ℕ, None, Bool, true, false, ◌&&◌, List, [], ◌∷◌, ◌++◌, drop, refl, ap, ◌∙◌, flat_map}
 use Rattle.std.proofs.lemmas.Grind.{flat_map-append}
 use Rattle.std.specs.List.{list_any}
 use Rattle.script_model.specs.Check.{Names, NotWhole, NotBind, NotExpert, TimeTooLarge, TimesNotRising, SpanIsZero, BackInTime, has_falling_times, is_against, is_empty_interval, is_top_form, own_literals, own_times, read_names, mentioned, mentioned_in_all, own_functions, referred_names, spans_of, trees_in, trees_in_all, typed, typed_each, typed_top, body_as}

@@ -9,10 +9,10 @@ ghost use Rattle.formula_lang.specs.Verdict.{reason_view};
 ghost use Rattle.formula_lang.specs.Rows.{is_no_observer, is_no_variable, is_unknown, lacks};
 
 use crate::names::{Kind, Names};
-use line_parser::{Line, Name};
 use crate::typing::{
     declared_as, has_unknown_function, has_unknown_name, has_unknown_reference, is_declared,
 };
+use line_parser::{Line, Name};
 use node_arena::Library;
 
 /// Why a command is refused.
@@ -136,9 +136,8 @@ fn is_name_unknown(line: &Line, names: &Names) -> bool
         Line::Link { expert, name } | Line::Unlink { expert, name } => {
             !is_declared(names, expert) || !is_declared(names, name)
         }
-        Line::Stale { expert: name }
-        | Line::Grab { bind: name, .. }
-        | Line::Observe { name, .. } => !is_declared(names, name),
+        Line::Stale { expert: name } | Line::Grab { bind: name, .. } | Line::Observe { name, .. } =>
+            !is_declared(names, name),
         _ => false,
     }
 }

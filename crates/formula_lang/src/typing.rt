@@ -17,8 +17,8 @@ ghost use Rattle.formula_lang.specs.Typing.{named_formula, typed_view, typed_eac
 
 use crate::command::{Constant, Formula};
 use crate::names::{Declared, Names};
-use line_parser::{Literal, Name, Tree};
 use inc_value::{Base, FnRef, Ty};
+use line_parser::{Literal, Name, Tree};
 use node_arena::Library;
 use std::alloc::{AllocError, Global};
 

@@ -1,8 +1,8 @@
 -- Steps of reading, as the code takes them.
-use Rattle.std.proofs.Common.{◌≡◌, ℕ, zero, suc, ◌+◌, ◌-◌, ◌<◌, ◌≤◌, true, false, cond, if◌then◌else◌, codes, drop, map, Bool, List, [], ◌∷◌, ◌++◌, None, Some, option_map, refl, ap, sym, ◌∙◌, arith}
+use Rattle.std.proofs.Common.{◌≡◌, ℕ, zero, suc, ◌+◌, ◌-◌, ◌<◌, true, false, cond, if◌then◌else◌, codes, drop, map, Bool, List, [], ◌∷◌, ◌++◌, None, Some, option_map, refl, ◌∙◌, arith}
 use Rattle.std.proofs.lemmas.List.{map-append}
 use Rattle.inc_value.specs.Choice.{and_then}
-use Rattle.script_model.specs.Grammar.{Line, Expert, Tree, TimedLiteral}
+use Rattle.script_model.specs.Grammar.{Line, Expert}
 use Rattle.script_model.specs.Literals.{Literal}
 use Rattle.script_model.specs.Parsing.{Read, then_read, read, expect, is_sign, is_word, behind_element, list_front, any_front, or_read, tally, formula_read, step_front, name_front, one_name, two_names, whole, fold_head, expert_read}
 use Rattle.script_model.specs.Tokens.{Token, Open, Close, OpenBracket, CloseBracket, Comma, Colon, Equals, Ampersand, Punctuation}

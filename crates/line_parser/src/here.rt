@@ -58,7 +58,9 @@ fn is_plain(tree: &Tree) -> bool
         Tree::Name(_) => true,
         Tree::Call { arguments, .. } => are_plain(arguments),
         Tree::Fold {
-            first, elements, ..
+            first,
+            elements,
+            ..
         } => is_plain_literal(first) && are_plain(elements),
         Tree::If { .. }
         | Tree::Bind { .. }

@@ -56,7 +56,9 @@ pub enum Tree {
         body: Box<Tree>,
     },
     /// `join(FORMULA)`.
-    Join { child: Box<Tree> },
+    Join {
+        child: Box<Tree>,
+    },
     /// `fold NAME from LITERAL [..]`: a fold of a function from a first value over elements, of which
     /// there may be none.
     Fold {
@@ -90,11 +92,21 @@ pub enum Tree {
 #[derive(Drop)]
 pub enum Line {
     /// `var NAME TYPE LITERAL`.
-    Var { name: Name, ty: Ty, first: Literal },
+    Var {
+        name: Name,
+        ty: Ty,
+        first: Literal,
+    },
     /// `set NAME LITERAL`.
-    Set { name: Name, value: Literal },
+    Set {
+        name: Name,
+        value: Literal,
+    },
     /// `let NAME FORMULA`.
-    Let { name: Name, formula: Tree },
+    Let {
+        name: Name,
+        formula: Tree,
+    },
     /// `expert NAME fold NAME from LITERAL`.
     Expert {
         name: Name,
@@ -102,25 +114,49 @@ pub enum Line {
         first: Literal,
     },
     /// `link EXPERT NAME`.
-    Link { expert: Name, name: Name },
+    Link {
+        expert: Name,
+        name: Name,
+    },
     /// `unlink EXPERT NAME`.
-    Unlink { expert: Name, name: Name },
+    Unlink {
+        expert: Name,
+        name: Name,
+    },
     /// `stale EXPERT`.
-    Stale { expert: Name },
+    Stale {
+        expert: Name,
+    },
     /// `grab NAME BIND`.
-    Grab { name: Name, bind: Name },
+    Grab {
+        name: Name,
+        bind: Name,
+    },
     /// `observe OBSERVER NAME`.
-    Observe { observer: Name, name: Name },
+    Observe {
+        observer: Name,
+        name: Name,
+    },
     /// `unobserve OBSERVER`.
-    Unobserve { observer: Name },
+    Unobserve {
+        observer: Name,
+    },
     /// `watch OBSERVER`.
-    Watch { observer: Name },
+    Watch {
+        observer: Name,
+    },
     /// `show OBSERVER`.
-    Show { observer: Name },
+    Show {
+        observer: Name,
+    },
     /// `advance TIME`.
-    Advance { span: Time },
+    Advance {
+        span: Time,
+    },
     /// `advance-to TIME`.
-    AdvanceTo { time: Time },
+    AdvanceTo {
+        time: Time,
+    },
     /// `stabilize`.
     Stabilize,
 }

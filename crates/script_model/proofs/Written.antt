@@ -10,7 +10,6 @@ use Rattle.script_model.specs.Grammar.{Tree, Trees, TimedLiteral, Line, Call, If
 use Rattle.script_model.specs.Literals as literals
 use Rattle.script_model.specs.Literals.{Literal, Integer, Referred}
 use Rattle.script_model.specs.GrammarLaws.{OneWriting, OneLine, LinesAreShallow, LinesAreWellFormed, OneCommand, CommandsAreShallow, CommandsAreWellFormed, DeepLinesAreWellFormed}
-use Rattle.script_model.specs.Request.{IsCommand}
 use Rattle.script_model.specs.Parsing.{Read, trees_of, tally, time_front, type_front, literal_front, step_front, list_front, any_front, named_front, formula_front, formula_read, command_read}
 use Rattle.script_model.specs.Tokens.{Token, Word, Punctuation, Open, Close, OpenBracket, CloseBracket, Comma, Colon}
 use Rattle.script_model.proofs.TokenLaws.{one_spelling}

@@ -44,10 +44,7 @@ fn text_of(alloc: Global, content: &Content) -> Result<Option<Literal>, AllocErr
 }
 
 /// Reads the name behind an `&`, and so the reference.
-fn reference_of(
-    alloc: Global,
-    tokens: &mut Cursor<'_, '_>,
-) -> Result<Option<Literal>, AllocError>
+fn reference_of(alloc: Global, tokens: &mut Cursor<'_, '_>) -> Result<Option<Literal>, AllocError>
     ensures { IfOk result (λ found. option_map (λ literal. (literal_view literal, tokens.new)) found
         ≡ then_read (name_front tokens.old) (λ name left. read (Referred name) left)) }
 {
