@@ -318,6 +318,8 @@ def main():
     parser.add_argument("--profile", default=REPOSITORY / "crates/incr_profile/out/incr_profile",
                         help="default: incr_profile of this repository; an empty word for none")
     parser.add_argument("--through", type=int, default=3, help="the model's stage of the language (default 3)")
+    parser.add_argument("--written", type=int, help="the stage that the model's own scripts are written for (default: that of --through): "
+                        "lines of forms that come behind --through are to be refused with 1")
     parser.add_argument("--seed", type=int, default=1)
     parser.add_argument("--first", type=int, default=0, help="the number of the first script (default 0)")
     parser.add_argument("--count", type=int, default=600, help="how many scripts (default 600)")
@@ -328,7 +330,7 @@ def main():
     for number in range(options.first, options.first + options.count):
         chance = random.Random("%d/%d" % (options.seed, number))
         script = (Generator(chance).script, lambda: spoiled(chance),
-                  lambda: fuzz.script(options.seed, number, 60, options.through),
+                  lambda: fuzz.script(options.seed, number, 60, options.written or options.through),
                   lambda: {3: long_script, 7: long_texts}.get(number % 20, noise)(chance))[number % 4]()
         try:
             compare((options.program, options.profile), judge.judge, chance, script, options.through)

@@ -12,13 +12,14 @@ use Rattle.inc_value.specs.Choice.{and_then}
 use Rattle.script_model.specs.Formula as model
 use Rattle.script_model.specs.Formula.{Formula, Meanings, nothing_kept}
 use Rattle.script_model.specs.Grammar as grammar
-use Rattle.script_model.specs.Grammar.{Line, Tree, Trees, Call, Fold, End, More, is_plain, are_plain, is_plain_literal}
+use Rattle.script_model.specs.Grammar.{Line, Tree, Trees, Call, Fold, End, More}
+use Rattle.script_model.specs.Here.{is_base_type, is_here, is_plain, are_plain, is_plain_literal}
 use Rattle.script_model.specs.Literals as literals
 use Rattle.script_model.specs.Literals.{Literal, Integer}
 use Rattle.script_model.specs.Values.{Value, type_of}
 use Rattle.formula_lang.specs.Fits.{NameFits, FunctionFits, FormulaFits, ArgumentsFit, ElementsFit, FitsNames}
 use Rattle.formula_lang.specs.NamesView.{AreEarlier}
-use Rattle.formula_lang.proofs.Plainness.{both_true, is_plain_line, plain_top}
+use Rattle.formula_lang.proofs.Plainness.{both_true, plain_top}
 use Rattle.formula_lang.proofs.Table.{none_holds}
 
 -- ---- what tests say
@@ -265,11 +266,12 @@ module _ (F : Meanings) (known : FnRef → Bool) (names : Names) (earlier : AreE
       subst (FitsNames known names) (some_is (Observe observer d.target) c e)
       (record { fresh = unused; earlier = (name_fits names earlier name d is).earlier })
 
-  pub check_fits : (l : Line) (c : Command) → is_plain_line l ≡ true → first_that (Stands l) line_order ≡ None → command_of F names l ≡ Some c
+  pub check_fits : (l : Line) (c : Command) → is_here l ≡ true → first_that (Stands l) line_order ≡ None → command_of F names l ≡ Some c
       → FitsNames known names c
   check_fits (grammar.Var name t first) c plain none e =
       let taken = none_holds (Stands (grammar.Var name t first)) line_order NameTaken none (inl refl) in
-      var_fits name t first (literal_of_type names t first) c (fresh name taken) (λ v at. literal_fits names t first v plain at) e
+      var_fits name t first (literal_of_type names t first) c (fresh name taken)
+      (λ v at. literal_fits names t first v (both_true (is_base_type t) (is_plain_literal first) plain).1 at) e
   check_fits (grammar.Set name literal) c plain none e =
       let other = none_holds (Stands (grammar.Set name literal)) line_order NotVariable none (inr (inr (inr (inr (inr (inr (inl refl))))))) in
       let variable : is_variable (kind_of names name) ≡ true =

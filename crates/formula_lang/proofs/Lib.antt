@@ -1,9 +1,5 @@
-mod Commands
 mod Fitting
 mod Listing
-mod Numbers
-mod Plain
 mod Plainness
-mod Steps
 mod Table
 mod TypedArguments

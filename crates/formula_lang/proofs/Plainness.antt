@@ -1,69 +1,86 @@
 -- Lines of today's forms, and the rows of the table of refusals that never hold for them.
-use Rattle.std.proofs.Common.{◌≡◌, ℕ, Bool, true, false, ◌&&◌, List, [], ◌∷◌, ◌++◌, map, drop, refl, ap, subst, ◌∙◌, flat_map}
+use Rattle.std.proofs.Common.{◌≡◌, ℕ, None, Bool, true, false, ◌&&◌, List, [], ◌∷◌, ◌++◌, drop, refl, ap, ◌∙◌, flat_map}
+use Rattle.std.proofs.lemmas.Grind.{flat_map-append}
 use Rattle.std.specs.List.{list_any}
-use Rattle.script_model.specs.Check.{Names, NotWhole, NotBind, NotExpert, TimeTooLarge, TimesNotRising, SpanIsZero, BackInTime, has_falling_times, is_against, is_empty_interval, is_top_form, own_literals, own_times, read_names, mentioned, referred_names, spans_of, trees_in, trees_in_all, typed, typed_top, body_as}
+use Rattle.script_model.specs.Check.{Names, NotWhole, NotBind, NotExpert, TimeTooLarge, TimesNotRising, SpanIsZero, BackInTime, has_falling_times, is_against, is_empty_interval, is_top_form, own_literals, own_times, read_names, mentioned, mentioned_in_all, own_functions, referred_names, spans_of, trees_in, trees_in_all, typed, typed_each, typed_top, body_as}
 use Rattle.inc_value.specs.Choice.{Every, and_then}
 use Rattle.script_model.specs.Formula.{Computed, Meanings, nothing_kept}
 use Rattle.script_model.specs.Grammar as grammar
-use Rattle.script_model.specs.Grammar.{Line, Tree, Trees, Call, Fold, End, More, Var, Set, Let, Observe, Unobserve, Show, Stabilize, is_plain, are_plain, is_plain_literal}
+use Rattle.script_model.specs.Grammar.{Line, Tree, Trees, Call, Fold, End, More, Var, Set, Let, Observe, Unobserve, Show, Stabilize}
+use Rattle.script_model.specs.Here.{is_here, is_plain, are_plain, is_plain_literal}
 use Rattle.script_model.specs.Literals as literals
 use Rattle.script_model.specs.Literals.{Literal, Integer}
-use Rattle.script_model.specs.Parsing.{trees_of}
-use Rattle.formula_lang.specs.TreeView.{level_view, line_view, tree_view}
-use Rattle.formula_lang.specs.View.{literal_view}
-use Rattle.formula_lang.specs.declared.tree.Line as code_line
-use Rattle.formula_lang.specs.declared.tree.Line.TheVariants as line
-use Rattle.formula_lang.specs.declared.tree.Literal as code_literal
-use Rattle.formula_lang.specs.declared.tree.Literal.TheVariants as literal
-use Rattle.formula_lang.specs.declared.tree.Tree as code_tree
-use Rattle.formula_lang.specs.declared.tree.Tree.TheFolds.{fold-roll-Tree, ind-Tree, map-Tree}
-use Rattle.formula_lang.specs.declared.tree.Tree.TheOpen as level
-use Rattle.formula_lang.specs.declared.tree.Tree.TheOpen.{Tree-F}
+use Rattle.formula_lang.specs.Here.{functions_here, functions_here_in_all, names_here, names_here_in_all, typed_each_here, typed_here}
+use Rattle.line_parser.specs.TreeView.{frozen}
 
--- ---- the code's trees are of today's forms
+-- ---- tests
 
-literal_plain : (l : code_literal.Literal) → is_plain_literal (literal_view l) ≡ true
-literal_plain (literal.Integer z) = refl
-literal_plain (literal.Bool b) = refl
-literal_plain (literal.Text content) = refl
+pub both_true : (a b : Bool) → (a && b) ≡ true → (a ≡ true) × (b ≡ true)
+both_true true true is = (refl, refl)
+both_true true false is = absurd (cc)
+both_true false b is = absurd (cc)
 
-abbrev IsPlainView : code_tree.Tree → Type 0
-IsPlainView t = is_plain (tree_view t) ≡ true
+-- ---- freezes
 
-views_plain : (ts : List ((t : code_tree.Tree) × IsPlainView t)) → are_plain (trees_of (map tree_view (map (λ e. e.0) ts))) ≡ true
-views_plain [] = refl
-views_plain (t ∷ ts) = rw (t.1, views_plain ts) refl
+-- what is nothing of each freeze is nothing of freezes round one another
+none_frozen : {A : Type 0} (what : Tree → A) (none : A) → ((child : Tree) (name : List ℕ) → what (grammar.Freeze child name) ≡ none)
+    → (child : Tree) (name : List ℕ) (names : List (List ℕ)) → what (frozen child (name ∷ names)) ≡ none
+none_frozen what none h child name [] = h child name
+none_frozen what none h child name (next ∷ names) = none_frozen what none h (grammar.Freeze child name) next names
 
-level_plain : (y : Tree-F ((t : code_tree.Tree) × IsPlainView t)) → is_plain (level_view (map-Tree _ _ tree_view (map-Tree _ _ (λ e. e.0) y))) ≡ true
-level_plain (level.Literal l) = literal_plain l
-level_plain (level.Name name) = refl
-level_plain (level.Call function arguments) = views_plain arguments.items
-level_plain (level.Fold function first elements) = rw (literal_plain first, views_plain elements.items) refl
+pub no_names_frozen : (child : Tree) (name : List ℕ) (names : List (List ℕ)) → names_here (frozen child (name ∷ names)) ≡ []
+no_names_frozen = none_frozen names_here [] (λ child name. refl)
 
-pub view_plain : (t : code_tree.Tree) → IsPlainView t
-view_plain = ind-Tree IsPlainView (λ x y is.
-    let shown = subst (λ z. is_plain (level_view (map-Tree _ _ tree_view z)) ≡ true) is (level_plain y) in
-    rw (fold-roll-Tree Tree level_view x) shown)
+pub no_functions_frozen : (child : Tree) (name : List ℕ) (names : List (List ℕ)) → functions_here (frozen child (name ∷ names)) ≡ []
+no_functions_frozen = none_frozen functions_here [] (λ child name. refl)
 
--- a line of today's forms, of whatever type its variable is
-abbrev pub is_plain_line : Line → Bool
-is_plain_line (Var name t first) = is_plain_literal first
-is_plain_line (Set name value) = is_plain_literal value
-is_plain_line (Let name formula) = is_plain formula
-is_plain_line (Observe observer name) = true
-is_plain_line (Unobserve observer) = true
-is_plain_line (Show observer) = true
-is_plain_line Stabilize = true
-is_plain_line l = false
+pub not_typed_frozen : (F : Meanings) (declared : Names) (child : Tree) (name : List ℕ) (names : List (List ℕ))
+    → typed_here F declared (frozen child (name ∷ names)) ≡ None
+not_typed_frozen F declared = none_frozen (typed_here F declared) None (λ child name. refl)
 
-pub line_plain : (l : code_line.Line) → is_plain_line (line_view l) ≡ true
-line_plain (line.Var name t first) = literal_plain first
-line_plain (line.Set name value) = literal_plain value
-line_plain (line.Let name formula) = view_plain formula
-line_plain (line.Observe observer name) = refl
-line_plain line.Stabilize = refl
-line_plain (line.Unobserve observer) = refl
-line_plain (line.Show observer) = refl
+-- ---- what the code tells of a formula of today's forms
+
+mutual
+  pub mentions_here : (t : Tree) → is_plain t ≡ true → mentioned [] t ≡ names_here t
+  mentions_here (grammar.Literal l) h = refl
+  mentions_here (grammar.Name name) h = refl
+  mentions_here (Call function arguments) h = mention_here arguments h
+  mentions_here (Fold function first elements) h = mention_here elements (both_true (is_plain_literal first) (are_plain elements) h).1
+  mentions_here _ h = absurd (cc)
+
+  mention_here : (ts : Trees) → are_plain ts ≡ true → mentioned_in_all [] ts ≡ names_here_in_all ts
+  mention_here End h = refl
+  mention_here (More first rest) h =
+      let both = both_true (is_plain first) (are_plain rest) h in rw (mentions_here first both.0, mention_here rest both.1) refl
+
+mutual
+  pub calls_here : (t : Tree) → is_plain t ≡ true → flat_map own_functions (trees_in t) ≡ functions_here t
+  calls_here (grammar.Literal l) h = refl
+  calls_here (grammar.Name name) h = refl
+  calls_here (Call function arguments) h = ap (λ fs. function ∷ fs) (call_here arguments h)
+  calls_here (Fold function first elements) h =
+      ap (λ fs. function ∷ fs) (call_here elements (both_true (is_plain_literal first) (are_plain elements) h).1)
+  calls_here _ h = absurd (cc)
+
+  call_here : (ts : Trees) → are_plain ts ≡ true → flat_map own_functions (trees_in_all ts) ≡ functions_here_in_all ts
+  call_here End h = refl
+  call_here (More first rest) h =
+      let both = both_true (is_plain first) (are_plain rest) h in
+      flat_map-append own_functions (trees_in first) (trees_in_all rest) ∙ rw (calls_here first both.0, call_here rest both.1) refl
+
+module _ (F : Meanings) (names : Names) where
+  mutual
+    pub types_here : (t : Tree) → is_plain t ≡ true → typed F names [] t ≡ typed_here F names t
+    types_here (grammar.Literal l) h = refl
+    types_here (grammar.Name name) h = refl
+    types_here (Call function arguments) h = rw (type_here arguments h) refl
+    types_here (Fold function first elements) h = rw (type_here elements (both_true (is_plain_literal first) (are_plain elements) h).1) refl
+    types_here _ h = absurd (cc)
+
+    type_here : (ts : Trees) → are_plain ts ≡ true → typed_each F names [] ts ≡ typed_each_here F names ts
+    type_here End h = refl
+    type_here (More first rest) h =
+        let both = both_true (is_plain first) (are_plain rest) h in rw (types_here first both.0, type_here rest both.1) refl
 
 -- ---- the formulas in one
 
@@ -81,11 +98,6 @@ ArePlain trees = Every (λ t. is_plain_head t ≡ true) trees
 plain_append : (xs ys : List Tree) → ArePlain xs → ArePlain ys → ArePlain (xs ++ ys)
 plain_append [] ys p q = q
 plain_append (x ∷ xs) ys p q = (p.0, plain_append xs ys p.1 q)
-
-pub both_true : (a b : Bool) → (a && b) ≡ true → (a ≡ true) × (b ≡ true)
-both_true true true is = (refl, refl)
-both_true true false is = absurd (cc)
-both_true false b is = absurd (cc)
 
 mutual
   heads : (t : Tree) → is_plain t ≡ true → ArePlain (trees_in t)
@@ -173,8 +185,11 @@ nothing_behind [] = refl
 nothing_behind (x ∷ xs) = ap (λ ys. x ∷ ys) (nothing_behind xs)
 
 -- a formula of today's forms reads the names that it mentions
-pub reads_mentioned : (name : List ℕ) (t : Tree) → is_plain t ≡ true → read_names (Let name t) ≡ mentioned [] t
+reads_mentioned : (name : List ℕ) (t : Tree) → is_plain t ≡ true → read_names (Let name t) ≡ mentioned [] t
 reads_mentioned name t h = ap (λ ns. mentioned [] t ++ ns) (nothing_referred (trees_in t) (heads t h)) ∙ nothing_behind (mentioned [] t)
+
+pub reads_here : (name : List ℕ) (t : Tree) → is_plain t ≡ true → read_names (Let name t) ≡ names_here t
+reads_here name t h = reads_mentioned name t h ∙ mentions_here t h
 
 -- at the top of a `let` such a formula is one like others
 pub plain_top : (F : Meanings) (names : Names) (t : Tree) → is_plain t ≡ true
@@ -185,14 +200,18 @@ plain_top F names (Call function arguments) h = refl
 plain_top F names (Fold function first elements) h = refl
 plain_top F names _ h = absurd (cc)
 
+pub top_here : (F : Meanings) (names : Names) (t : Tree) → is_plain t ≡ true
+    → typed_top F names t ≡ and_then (typed_here F names t) (λ x. body_as (Computed x.formula nothing_kept) x.ty)
+top_here F names t h = plain_top F names t h ∙ rw (types_here F names t h) refl
+
 -- ---- the rows that never hold
 
 module _ (F : Meanings) (names : Names) where
-  pub not_whole : (l : Line) → is_plain_line l ≡ true → is_against F names l NotWhole ≡ false
+  pub not_whole : (l : Line) → is_here l ≡ true → is_against F names l NotWhole ≡ false
   not_whole (Let name t) h = never_inner is_top_form no_top (trees_in t) (heads t h)
   not_whole _ h = refl
 
-  pub not_bind : (l : Line) → is_plain_line l ≡ true → is_against F names l NotBind ≡ false
+  pub not_bind : (l : Line) → is_here l ≡ true → is_against F names l NotBind ≡ false
   not_bind (Var name t first) h = refl
   not_bind (Set name value) h = refl
   not_bind (Let name t) h = refl
@@ -202,7 +221,7 @@ module _ (F : Meanings) (names : Names) where
   not_bind Stabilize h = refl
   not_bind _ h = absurd (cc)
 
-  pub not_expert : (l : Line) → is_plain_line l ≡ true → is_against F names l NotExpert ≡ false
+  pub not_expert : (l : Line) → is_here l ≡ true → is_against F names l NotExpert ≡ false
   not_expert (Var name t first) h = refl
   not_expert (Set name value) h = refl
   not_expert (Let name t) h = refl
@@ -212,7 +231,7 @@ module _ (F : Meanings) (names : Names) where
   not_expert Stabilize h = refl
   not_expert _ h = absurd (cc)
 
-  pub no_large_time : (l : Line) → is_plain_line l ≡ true → is_against F names l TimeTooLarge ≡ false
+  pub no_large_time : (l : Line) → is_here l ≡ true → is_against F names l TimeTooLarge ≡ false
   no_large_time (Let name t) h = rw (nothing own_times no_times (trees_in t) (heads t h), no_span name t h) refl
   no_large_time (Var name t first) h = refl
   no_large_time (Set name value) h = refl
@@ -222,15 +241,15 @@ module _ (F : Meanings) (names : Names) where
   no_large_time Stabilize h = refl
   no_large_time _ h = absurd (cc)
 
-  pub times_rise : (l : Line) → is_plain_line l ≡ true → is_against F names l TimesNotRising ≡ false
+  pub times_rise : (l : Line) → is_here l ≡ true → is_against F names l TimesNotRising ≡ false
   times_rise (Let name t) h = never has_falling_times no_falling (trees_in t) (heads t h)
   times_rise _ h = refl
 
-  pub no_empty_interval : (l : Line) → is_plain_line l ≡ true → is_against F names l SpanIsZero ≡ false
+  pub no_empty_interval : (l : Line) → is_here l ≡ true → is_against F names l SpanIsZero ≡ false
   no_empty_interval (Let name t) h = never is_empty_interval no_interval (trees_in t) (heads t h)
   no_empty_interval _ h = refl
 
-  pub not_back : (l : Line) → is_plain_line l ≡ true → is_against F names l BackInTime ≡ false
+  pub not_back : (l : Line) → is_here l ≡ true → is_against F names l BackInTime ≡ false
   not_back (Var name t first) h = refl
   not_back (Set name value) h = refl
   not_back (Let name t) h = refl

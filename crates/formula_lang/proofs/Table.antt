@@ -5,10 +5,11 @@ use Rattle.script_model.specs.Check.{Names, Reason, NameTaken, ObserverTaken, Na
 use Rattle.inc_value.specs.Choice.{Among}
 use Rattle.script_model.specs.Formula.{Meanings}
 use Rattle.script_model.specs.Grammar.{Line}
+use Rattle.script_model.specs.Here.{is_here}
 use Rattle.formula_lang.specs.Verdict.{reason_view}
 use Rattle.formula_lang.specs.declared.refusal.Reason as code
 use Rattle.formula_lang.specs.declared.refusal.Reason.TheVariants as reason
-use Rattle.formula_lang.proofs.Plainness.{is_plain_line, not_whole, not_bind, not_expert, no_large_time, times_rise, no_empty_interval, not_back}
+use Rattle.formula_lang.proofs.Plainness.{not_whole, not_bind, not_expert, no_large_time, times_rise, no_empty_interval, not_back}
 
 -- the rows that can hold for a line of today's forms, in order
 abbrev pub rows_here : List Reason
@@ -25,7 +26,7 @@ skips : (h : Reason → Bool) → h NotWhole ≡ false → h NotBind ≡ false �
     → first_that h rows_here ≡ first_that h line_order
 skips h a b c d e f g = rw (a, b, c, d, e, f, g) refl
 
-pub table_same : (F : Meanings) (names : Names) (l : Line) → is_plain_line l ≡ true
+pub table_same : (F : Meanings) (names : Names) (l : Line) → is_here l ≡ true
     → first_that (is_against F names l) rows_here ≡ first_that (is_against F names l) line_order
 table_same F names l plain =
     skips (is_against F names l) (not_whole F names l plain) (not_bind F names l plain) (not_expert F names l plain)

@@ -1,10 +1,7 @@
 pub mod CommandView
 pub mod Fits
+pub mod Here
 pub mod NamesView
-pub mod Plain
-pub mod Reading
 pub mod Rows
-pub mod TreeView
 pub mod Typing
 pub mod Verdict
-pub mod View

@@ -1,20 +1,20 @@
 //! What commands come to by their names, functions and types.
-ghost use Rattle.std.specs.Prelude.{◌≡◌, ℕ, IfOk, IsErrOf, None, Some, option_map};
+ghost use Rattle.std.specs.Prelude.{◌≡◌, ℕ, true, IfOk, IsErrOf, None, Some, option_map};
 ghost use Rattle.script_model.specs.Check.{Names as AllNames, Reason as AReason, command_of, first_that, is_against, line_order, reason_number};
 ghost use Rattle.script_model.specs.Formula.{Meanings, meanings_of};
 ghost use Rattle.script_model.specs.Grammar.{Var, Set, Let, Observe, Show, Unobserve};
+ghost use Rattle.script_model.specs.Here.{is_here, is_plain};
 ghost use Rattle.formula_lang.specs.CommandView.{command_view};
 ghost use Rattle.formula_lang.specs.Fits.{FitsNames};
-ghost use Rattle.formula_lang.specs.TreeView.{line_view, tree_view};
-ghost use Rattle.formula_lang.specs.View.{literal_view};
+ghost use Rattle.line_parser.specs.TreeView.{line_view, tree_view};
+ghost use Rattle.line_parser.specs.View.{literal_view};
 
 use crate::command::{Command, Declaration};
-use crate::name::Name;
 use crate::names::Names;
 use crate::refusal::first_reason;
-use crate::tree::{Line, Literal, Tree};
-use crate::typing::{constant_of_literal, declared_as, is_same_type, type_of_literal, typed};
+use crate::typing::{declared_as, literal_of_type, typed};
 use inc_value::Ty;
+use line_parser::{Line, Literal, Name, Tree};
 use node_arena::Library;
 use std::alloc::{AllocError, Global};
 use thiserror::Error;
@@ -47,13 +47,14 @@ impl From<AllocError> for CheckFault {
 /// reason in the order of refusals that stands against the line. Each is looked at over the whole
 /// line before the next. Names, functions and types of what comes back fit together.
 ///
-/// `Memory` may come at any point.
+/// The line is of forms that are here. `Memory` may come at any point.
 pub fn check<L: Library>(
     alloc: Global,
     line: &Line,
     names: &Names,
     library: &L,
 ) -> Result<Command, CheckFault>
+    requires { is_here (line_view line.now) ≡ true }
     ensures allowed { IfOk result (λ c. let F = meanings_of (L.named library.now) (L.value library.now) in
         (first_that (is_against F names.entry.now (line_view line.now)) line_order ≡ None)
         × (command_of F names.entry.now (line_view line.now) ≡ Some (command_view c))) }
@@ -81,38 +82,41 @@ fn command_of<L: Library>(
     names: &Names,
     library: &L,
 ) -> Result<Option<Command>, AllocError>
+    requires { is_here (line_view line.now) ≡ true }
     ensures { IfOk result (λ c. option_map command_view c
         ≡ command_of (meanings_of (L.named library.now) (L.value library.now)) names.entry.now (line_view line.now)) }
 {
     match line {
-        Line::Var { name, ty, first } => variable(alloc, name, *ty, first),
+        Line::Var { name, ty, first } => variable(alloc, names, name, *ty, first),
         Line::Set { name, value } => assignment(alloc, names, name, value),
         Line::Let { name, formula } => definition(alloc, names, library, name, formula),
         Line::Observe { observer, name } => observation(alloc, names, observer, name),
         Line::Unobserve { observer } => ending(alloc, observer),
         Line::Stabilize => Ok(Some(Command::Stabilize)),
         Line::Show { observer } => showing(alloc, observer),
+        _ => unreachable!(),
     }
 }
 
 /// The declaration of a variable.
 fn variable(
     alloc: Global,
+    names: &Names,
     name: &Name,
     ty: Ty,
     first: &Literal,
 ) -> Result<Option<Command>, AllocError>
-    ensures { (F : Meanings) (names : AllNames)
-        → IfOk result (λ c. option_map command_view c ≡ command_of F names (Var name.now ty (literal_view first.now))) }
+    ensures { (F : Meanings) → IfOk result (λ c. option_map command_view c ≡ command_of F names.entry.now (Var name.now ty (literal_view first.now))) }
 {
-    if !is_same_type(type_of_literal(first), ty) {
-        return Ok(None);
+    let name = Name::new(alloc, name.bytes())?;
+    match literal_of_type(alloc, names, ty, first)? {
+        Some(first) => Ok(Some(Command::Declare {
+            name,
+            ty,
+            body: Declaration::Variable(first),
+        })),
+        None => Ok(None),
     }
-    Ok(Some(Command::Declare {
-        name: Name::new(alloc, name.bytes())?,
-        ty,
-        body: Declaration::Variable(constant_of_literal(alloc, first)?),
-    }))
 }
 
 /// The setting of a variable.
@@ -127,13 +131,13 @@ fn assignment(
     let Some(declared) = declared_as(names, name) else {
         return Ok(None);
     };
-    if !is_same_type(type_of_literal(value), declared.ty) {
-        return Ok(None);
+    match literal_of_type(alloc, names, declared.ty, value)? {
+        Some(value) => Ok(Some(Command::Assign {
+            target: declared.target,
+            value,
+        })),
+        None => Ok(None),
     }
-    Ok(Some(Command::Assign {
-        target: declared.target,
-        value: constant_of_literal(alloc, value)?,
-    }))
 }
 
 /// The declaration of a name for a formula.
@@ -144,6 +148,7 @@ fn definition<L: Library>(
     name: &Name,
     formula: &Tree,
 ) -> Result<Option<Command>, AllocError>
+    requires { is_plain (tree_view formula.now) ≡ true }
     ensures { IfOk result (λ c. option_map command_view c
         ≡ command_of (meanings_of (L.named library.now) (L.value library.now)) names.entry.now (Let name.now (tree_view formula.now))) }
 {

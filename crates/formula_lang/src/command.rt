@@ -4,8 +4,8 @@ ghost use Rattle.script_model.specs.Check.{target_of_body};
 ghost use Rattle.script_model.specs.Values.{to_engine};
 ghost use Rattle.formula_lang.specs.CommandView.{body_view, constant_view};
 
-use crate::name::Name;
 use inc_value::{Base, FnRef, NodeId, Text, Ty, Value};
+use line_parser::Name;
 use std::alloc::{AllocError, Global};
 
 /// A value as a command holds it.

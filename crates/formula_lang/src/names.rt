@@ -6,9 +6,9 @@ ghost use Rattle.script_model.specs.Check.{first_named, is_among};
 ghost use Rattle.inc_value.specs.Choice.{and_then};
 ghost use Rattle.formula_lang.specs.NamesView.{AreEarlier, declared_view, kind_view};
 
-use crate::name::Name;
 use inc_value::Ty;
 use indexmap::{IndexMap, IndexSet};
+use line_parser::Name;
 use std::alloc::{AllocError, Global};
 use std::marker::Model;
 

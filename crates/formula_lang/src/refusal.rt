@@ -1,16 +1,18 @@
 //! Why commands are refused: the rows that are looked at, in order.
-ghost use Rattle.std.specs.Prelude.{◌≡◌, is_none, map, option_map};
+ghost use Rattle.std.specs.Prelude.{◌≡◌, true, is_none, map, option_map};
 ghost use Rattle.std.specs.List.{list_any};
 ghost use Rattle.script_model.specs.Check.{command_of, first_that, functions_in, is_against, is_among, is_declared, is_variable, kind_of, line_order, new_names, new_observers, observers_of, read_names, reason_number, variables_of};
 ghost use Rattle.script_model.specs.Formula.{meanings_of};
-ghost use Rattle.formula_lang.specs.TreeView.{line_view};
+ghost use Rattle.script_model.specs.Here.{is_here};
+ghost use Rattle.line_parser.specs.TreeView.{line_view};
 ghost use Rattle.formula_lang.specs.Verdict.{reason_view};
 ghost use Rattle.formula_lang.specs.Rows.{is_no_observer, is_no_variable, is_unknown, lacks};
 
-use crate::name::Name;
 use crate::names::{Kind, Names};
-use crate::tree::Line;
-use crate::typing::{declared_as, has_unknown_function, has_unknown_name, is_declared};
+use crate::typing::{
+    declared_as, has_unknown_function, has_unknown_name, has_unknown_reference, is_declared,
+};
+use line_parser::{Line, Name};
 use node_arena::Library;
 
 /// Why a command is refused.
@@ -60,7 +62,8 @@ pub(crate) fn first_reason<L: Library>(
     library: &L,
     is_ill_typed: bool,
 ) -> Option<Reason>
-    requires { is_ill_typed ≡ is_none (command_of (meanings_of (L.named library.now) (L.value library.now)) names.now (line_view line.now)) }
+    requires here { is_here (line_view line.now) ≡ true }
+    requires typed { is_ill_typed ≡ is_none (command_of (meanings_of (L.named library.now) (L.value library.now)) names.now (line_view line.now)) }
     ensures { option_map reason_view result
         ≡ first_that (is_against (meanings_of (L.named library.now) (L.value library.now)) names.entry.now (line_view line.now)) line_order }
 {
@@ -80,7 +83,8 @@ fn is_against<L: Library>(
     is_ill_typed: bool,
     reason: Reason,
 ) -> bool
-    requires { is_ill_typed ≡ is_none (command_of (meanings_of (L.named library.now) (L.value library.now)) names.now (line_view line.now)) }
+    requires here { is_here (line_view line.now) ≡ true }
+    requires typed { is_ill_typed ≡ is_none (command_of (meanings_of (L.named library.now) (L.value library.now)) names.now (line_view line.now)) }
     ensures { result
         ≡ is_against (meanings_of (L.named library.now) (L.value library.now)) names.entry.now (line_view line.now) (reason_view reason) }
 {
@@ -100,7 +104,10 @@ fn is_name_taken(line: &Line, names: &Names) -> bool
     ensures { result ≡ list_any (is_declared names.entry.now) (new_names (line_view line.now)) }
 {
     match line {
-        Line::Var { name, .. } | Line::Let { name, .. } => is_declared(names, name),
+        Line::Var { name, .. }
+        | Line::Let { name, .. }
+        | Line::Expert { name, .. }
+        | Line::Grab { name, .. } => is_declared(names, name),
         _ => false,
     }
 }
@@ -117,11 +124,20 @@ fn is_observer_taken(line: &Line, names: &Names) -> bool
 
 /// Whether a name that is read isn't declared.
 fn is_name_unknown(line: &Line, names: &Names) -> bool
+    requires { is_here (line_view line.now) ≡ true }
     ensures { result ≡ list_any (is_unknown names.entry.now) (read_names (line_view line.now)) }
 {
     match line {
-        Line::Set { name, .. } | Line::Observe { name, .. } => !is_declared(names, name),
+        Line::Var { first, .. } | Line::Expert { first, .. } => has_unknown_reference(names, first),
+        Line::Set { name, value } => {
+            !is_declared(names, name) || has_unknown_reference(names, value)
+        }
         Line::Let { formula, .. } => has_unknown_name(names, formula),
+        Line::Link { expert, name } | Line::Unlink { expert, name } => {
+            !is_declared(names, expert) || !is_declared(names, name)
+        }
+        Line::Stale { expert: name } | Line::Grab { bind: name, .. } | Line::Observe { name, .. } =>
+            !is_declared(names, name),
         _ => false,
     }
 }
@@ -131,19 +147,21 @@ fn is_observer_unknown(line: &Line, names: &Names) -> bool
     ensures { result ≡ list_any (is_no_observer names.entry.now) (observers_of (line_view line.now)) }
 {
     match line {
-        Line::Unobserve { observer } | Line::Show { observer } => !names.is_in_use(
-            observer.bytes(),
-        ),
+        Line::Unobserve { observer } | Line::Watch { observer } | Line::Show { observer } => {
+            !names.is_in_use(observer.bytes())
+        }
         _ => false,
     }
 }
 
 /// Whether the library has no function of a name.
 fn is_function_unknown<L: Library>(line: &Line, library: &L) -> bool
+    requires { is_here (line_view line.now) ≡ true }
     ensures { result ≡ list_any (lacks (L.named library.now)) (functions_in (line_view line.now)) }
 {
     match line {
         Line::Let { formula, .. } => has_unknown_function(library, formula),
+        Line::Expert { function, .. } => library.find(function.bytes()).is_none(),
         _ => false,
     }
 }

@@ -1,22 +1,24 @@
 //! Names, functions and types of formulas.
-ghost use Rattle.std.specs.Prelude.{◌≡◌, ◌<◌, [], length, map, option_map, IfOk, IfSome};
-ghost use Rattle.std.specs.List.{flat_map, list_any};
-ghost use Rattle.script_model.specs.Check.{Names as AllNames, applied as applied_to, are_all, element_of, find_declared, folded, is_declared, mentioned, mentioned_in_all, own_functions, trees_in, trees_in_all, typed as formula_of, typed_each as formulas_of_each};
+ghost use Rattle.std.specs.Prelude.{◌≡◌, ◌<◌, length, map, option_map, IfOk, IfSome};
+ghost use Rattle.std.specs.List.{list_any};
+ghost use Rattle.script_model.specs.Check.{applied as applied_to, are_all, base_of, element_of, find_declared, folded, is_declared, literal_of_type, referred_names, typed_as, typed_literal};
+ghost use Rattle.formula_lang.specs.Here.{functions_here, functions_here_in_all, names_here, names_here_in_all, typed_each_here, typed_here};
+ghost use Rattle.script_model.specs.Literals.{Referred};
 ghost use Rattle.script_model.specs.Parsing.{trees_of};
 ghost use Rattle.script_model.specs.Formula.{Literal as Held, meanings_of};
+ghost use Rattle.inc_value.specs.Choice.{and_then};
 ghost use Rattle.inc_value.specs.Ty.{same_ty, same_types};
 ghost use Rattle.formula_lang.specs.CommandView.{constant_view};
 ghost use Rattle.formula_lang.specs.NamesView.{declared_view};
 ghost use Rattle.formula_lang.specs.Rows.{is_unknown, lacks};
-ghost use Rattle.formula_lang.specs.TreeView.{tree_view};
-ghost use Rattle.formula_lang.specs.View.{literal_view};
-ghost use Rattle.formula_lang.specs.Typing.{named_formula, type_of_literal, typed_view, typed_each_view, value_of_literal};
+ghost use Rattle.line_parser.specs.TreeView.{tree_view};
+ghost use Rattle.line_parser.specs.View.{literal_view};
+ghost use Rattle.formula_lang.specs.Typing.{named_formula, typed_view, typed_each_view};
 
 use crate::command::{Constant, Formula};
-use crate::name::Name;
 use crate::names::{Declared, Names};
-use crate::tree::{Literal, Tree};
-use inc_value::{FnRef, Ty};
+use inc_value::{Base, FnRef, Ty};
+use line_parser::{Literal, Name, Tree};
 use node_arena::Library;
 use std::alloc::{AllocError, Global};
 
@@ -50,23 +52,32 @@ pub(crate) fn is_declared(names: &Names, name: &Name) -> bool
     declared_as(names, name).is_some()
 }
 
-/// Whether a name that the formula reads isn't declared.
+/// Whether a name that the formula reads isn't declared. Like the next ones it is of forms that are here.
 #[cycle(names_of)]
 pub(crate) fn has_unknown_name(names: &Names, tree: &Tree) -> bool
-    ensures { result ≡ list_any (is_unknown names.entry.now) (mentioned [] (tree_view tree.now)) }
+    ensures { result ≡ list_any (is_unknown names.entry.now) (names_here (tree_view tree.now)) }
 {
     match tree {
         Tree::Literal(_) => false,
         Tree::Name(name) => !is_declared(names, name),
         Tree::Call { arguments, .. } => have_unknown_name(names, arguments),
         Tree::Fold { elements, .. } => have_unknown_name(names, elements),
+        Tree::If { .. }
+        | Tree::Bind { .. }
+        | Tree::Join { .. }
+        | Tree::At(_)
+        | Tree::Now
+        | Tree::Steps { .. }
+        | Tree::After(_)
+        | Tree::Every(_) => false,
+        Tree::Freeze { .. } => false,
     }
 }
 
 /// Whether a name that one of the formulas reads isn't declared.
 #[cycle(names_of)]
 fn have_unknown_name(names: &Names, trees: &[Tree]) -> bool
-    ensures { result ≡ list_any (is_unknown names.entry.now) (mentioned_in_all [] (trees_of (map tree_view trees.now))) }
+    ensures { result ≡ list_any (is_unknown names.entry.now) (names_here_in_all (trees_of (map tree_view trees.now))) }
 {
     for tree in trees {
         if has_unknown_name(names, tree) {
@@ -79,7 +90,7 @@ fn have_unknown_name(names: &Names, trees: &[Tree]) -> bool
 /// Whether the library lacks a function of the formula.
 #[cycle(functions_in)]
 pub(crate) fn has_unknown_function<L: Library>(library: &L, tree: &Tree) -> bool
-    ensures { result ≡ list_any (lacks (L.named library.now)) (flat_map own_functions (trees_in (tree_view tree.now))) }
+    ensures { result ≡ list_any (lacks (L.named library.now)) (functions_here (tree_view tree.now)) }
 {
     match tree {
         Tree::Literal(_) | Tree::Name(_) => false,
@@ -92,13 +103,22 @@ pub(crate) fn has_unknown_function<L: Library>(library: &L, tree: &Tree) -> bool
             elements,
             ..
         } => library.find(function.bytes()).is_none() || have_unknown_function(library, elements),
+        Tree::If { .. }
+        | Tree::Bind { .. }
+        | Tree::Join { .. }
+        | Tree::At(_)
+        | Tree::Now
+        | Tree::Steps { .. }
+        | Tree::After(_)
+        | Tree::Every(_) => false,
+        Tree::Freeze { .. } => false,
     }
 }
 
 /// Whether the library lacks a function of the formulas.
 #[cycle(functions_in)]
 fn have_unknown_function<L: Library>(library: &L, trees: &[Tree]) -> bool
-    ensures { result ≡ list_any (lacks (L.named library.now)) (flat_map own_functions (trees_in_all (trees_of (map tree_view trees.now)))) }
+    ensures { result ≡ list_any (lacks (L.named library.now)) (functions_here_in_all (trees_of (map tree_view trees.now))) }
 {
     for tree in trees {
         if has_unknown_function(library, tree) {
@@ -117,10 +137,10 @@ pub(crate) fn typed<L: Library>(
     tree: &Tree,
 ) -> Result<Option<TypedFormula>, AllocError>
     ensures { IfOk result (λ t. option_map typed_view t
-        ≡ formula_of (meanings_of (L.named library.now) (L.value library.now)) names.entry.now [] (tree_view tree.now)) }
+        ≡ typed_here (meanings_of (L.named library.now) (L.value library.now)) names.entry.now (tree_view tree.now)) }
 {
     match tree {
-        Tree::Literal(literal) => Ok(Some(typed_literal(alloc, literal)?)),
+        Tree::Literal(literal) => typed_literal(alloc, names, literal),
         Tree::Name(name) => Ok(typed_name(names, name)),
         Tree::Call {
             function,
@@ -145,8 +165,17 @@ pub(crate) fn typed<L: Library>(
             let Some(elements) = typed_each(alloc, names, library, elements)? else {
                 return Ok(None);
             };
-            folded(alloc, function, first, elements)
+            folded(alloc, names, function, first, elements)
         }
+        Tree::If { .. }
+        | Tree::Bind { .. }
+        | Tree::Join { .. }
+        | Tree::At(_)
+        | Tree::Now
+        | Tree::Steps { .. }
+        | Tree::After(_)
+        | Tree::Every(_) => Ok(None),
+        Tree::Freeze { .. } => Ok(None),
     }
 }
 
@@ -159,7 +188,7 @@ fn typed_each<L: Library>(
     trees: &[Tree],
 ) -> Result<Option<TypedFormulas>, AllocError>
     ensures { IfOk result (λ t. option_map typed_each_view t
-        ≡ formulas_of_each (meanings_of (L.named library.now) (L.value library.now)) names.entry.now [] (trees_of (map tree_view trees.now))) }
+        ≡ typed_each_here (meanings_of (L.named library.now) (L.value library.now)) names.entry.now (trees_of (map tree_view trees.now))) }
 {
     let mut formulas = Vec::new(alloc);
     let mut tys = Vec::new(alloc);
@@ -173,14 +202,25 @@ fn typed_each<L: Library>(
     Ok(Some(TypedFormulas { formulas, tys }))
 }
 
-/// A literal as a formula.
-fn typed_literal(alloc: Global, literal: &Literal) -> Result<TypedFormula, AllocError>
-    ensures { IfOk result (λ t. typed_view t ≡ record { formula = Held (value_of_literal literal.now); ty = type_of_literal literal.now }) }
+/// A literal as a formula, unless it refers to nothing of a base type.
+fn typed_literal(
+    alloc: Global,
+    names: &Names,
+    literal: &Literal,
+) -> Result<Option<TypedFormula>, AllocError>
+    ensures { IfOk result (λ t. option_map typed_view t
+        ≡ and_then (typed_literal names.entry.now (literal_view literal.now)) (λ v. typed_as (Held v.value) v.ty)) }
 {
-    Ok(TypedFormula {
-        formula: Formula::Literal(constant_of_literal(alloc, literal)?),
-        ty: type_of_literal(literal),
-    })
+    let Some(ty) = type_of_literal(names, literal) else {
+        return Ok(None);
+    };
+    match constant_of_literal(alloc, names, literal)? {
+        Some(constant) => Ok(Some(TypedFormula {
+            formula: Formula::Literal(constant),
+            ty,
+        })),
+        None => Ok(None),
+    }
 }
 
 /// A name as a formula, if it is declared.
@@ -214,28 +254,32 @@ fn applied(function: FnRef, arguments: TypedFormulas) -> Option<TypedFormula>
 /// that it gives, and each element that which it takes.
 fn folded(
     alloc: Global,
+    names: &Names,
     function: FnRef,
     first: &Literal,
     elements: TypedFormulas,
 ) -> Result<Option<TypedFormula>, AllocError>
-    ensures { (names : AllNames) → IfOk result (λ t. option_map typed_view t
-        ≡ folded names function (literal_view first.now) (typed_each_view elements)) }
+    ensures { IfOk result (λ t. option_map typed_view t
+        ≡ folded names.entry.now function (literal_view first.now) (typed_each_view elements)) }
 {
     let Some(element) = element_of(&function) else {
         return Ok(None);
     };
     let gives = function.sig.gives();
-    if !is_same_type(type_of_literal(first), gives) || !are_all(element, &elements.tys) {
+    if !are_all(element, &elements.tys) {
         return Ok(None);
     }
-    Ok(Some(TypedFormula {
-        formula: Formula::Fold {
-            function,
-            first: constant_of_literal(alloc, first)?,
-            elements: elements.formulas,
-        },
-        ty: gives,
-    }))
+    match literal_of_type(alloc, names, gives, first)? {
+        Some(first) => Ok(Some(TypedFormula {
+            formula: Formula::Fold {
+                function,
+                first,
+                elements: elements.formulas,
+            },
+            ty: gives,
+        })),
+        None => Ok(None),
+    }
 }
 
 /// The type of the elements that the function folds; none where it doesn't take what it gives and an element.
@@ -268,30 +312,84 @@ fn takes_types(function: &FnRef, tys: &[Ty]) -> bool
 }
 
 /// Whether both types are the same.
-pub(crate) fn is_same_type(left: Ty, right: Ty) -> bool
+fn is_same_type(left: Ty, right: Ty) -> bool
     ensures { result ≡ same_ty left right }
 {
     left == right
 }
 
-/// The constant that a literal is.
-pub(crate) fn constant_of_literal(alloc: Global, literal: &Literal) -> Result<Constant, AllocError>
-    ensures { IfOk result (λ c. constant_view c ≡ value_of_literal literal.now) }
+/// The base type that a type is.
+fn base_of(ty: Ty) -> Option<Base>
+    ensures { result ≡ base_of ty }
 {
-    Ok(match literal {
-        Literal::Integer(value) => Constant::Int(*value),
-        Literal::Bool(value) => Constant::Bool(*value),
-        Literal::Text(text) => Constant::Text(text.copy(alloc)?),
+    match ty {
+        Ty::Int => Some(Base::Int),
+        Ty::Bool => Some(Base::Bool),
+        Ty::Text => Some(Base::Text),
+        Ty::Node(_) => None,
+    }
+}
+
+/// The type of a literal, unless it refers to nothing of a base type.
+fn type_of_literal(names: &Names, literal: &Literal) -> Option<Ty>
+    ensures { result ≡ option_map (λ v. v.ty) (typed_literal names.entry.now (literal_view literal.now)) }
+{
+    match literal {
+        Literal::Integer(_) => Some(Ty::Int),
+        Literal::Bool(_) => Some(Ty::Bool),
+        Literal::Text(_) => Some(Ty::Text),
+        Literal::Reference(name) => Some(Ty::Node(base_of(declared_as(names, name)?.ty)?)),
+    }
+}
+
+/// The constant that a literal stands for, unless it refers to nothing of a base type.
+fn constant_of_literal(
+    alloc: Global,
+    names: &Names,
+    literal: &Literal,
+) -> Result<Option<Constant>, AllocError>
+    ensures { IfOk result (λ c. option_map constant_view c ≡ option_map (λ v. v.value) (typed_literal names.entry.now (literal_view literal.now))) }
+{
+    match literal {
+        Literal::Integer(value) => Ok(Some(Constant::Int(*value))),
+        Literal::Bool(value) => Ok(Some(Constant::Bool(*value))),
+        Literal::Text(text) => Ok(Some(Constant::Text(text.copy(alloc)?))),
+        Literal::Reference(name) => Ok(reference_to(names, name)),
+    }
+}
+
+/// The reference to what a name stands for, unless that has no base type.
+fn reference_to(names: &Names, name: &Name) -> Option<Constant>
+    ensures { option_map constant_view result ≡ option_map (λ v. v.value) (typed_literal names.entry.now (Referred name.now)) }
+{
+    let declared = declared_as(names, name)?;
+    Some(Constant::Reference {
+        target: declared.target,
+        base: base_of(declared.ty)?,
     })
 }
 
-/// The type of a literal.
-pub(crate) fn type_of_literal(literal: &Literal) -> Ty
-    ensures { result ≡ type_of_literal literal.now }
+/// The constant that a literal stands for, if it has the type.
+pub(crate) fn literal_of_type(
+    alloc: Global,
+    names: &Names,
+    ty: Ty,
+    literal: &Literal,
+) -> Result<Option<Constant>, AllocError>
+    ensures { IfOk result (λ c. option_map constant_view c ≡ literal_of_type names.entry.now ty (literal_view literal.now)) }
+{
+    match type_of_literal(names, literal) {
+        Some(found) if is_same_type(found, ty) => constant_of_literal(alloc, names, literal),
+        _ => Ok(None),
+    }
+}
+
+/// Whether a name that a literal refers to isn't declared.
+pub(crate) fn has_unknown_reference(names: &Names, literal: &Literal) -> bool
+    ensures { result ≡ list_any (is_unknown names.entry.now) (referred_names (literal_view literal.now)) }
 {
     match literal {
-        Literal::Integer(_) => Ty::Int,
-        Literal::Bool(_) => Ty::Bool,
-        Literal::Text(_) => Ty::Text,
+        Literal::Reference(name) => !is_declared(names, name),
+        Literal::Integer(_) | Literal::Bool(_) | Literal::Text(_) => false,
     }
 }

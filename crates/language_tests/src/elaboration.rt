@@ -4,7 +4,8 @@ ghost use Rattle.formula_lang.specs.CommandView.{command_view, formula_view};
 ghost use Rattle.formula_elab.specs.Names.{EveryName, EveryNameIn};
 
 use formula_elab::{Made, Make, Plan, elaborate};
-use formula_lang::{Command, Constant, Declaration, Formula, Name};
+use formula_lang::{Command, Constant, Declaration, Formula};
+use line_parser::Name;
 use inc_terms::Def;
 use inc_value::{FnRef, NodeId, Ty, Value};
 use std::alloc::{AllocError, Global};

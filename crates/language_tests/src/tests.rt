@@ -1,7 +1,8 @@
 //! Each byte alone and between others, lines that are longer than a session takes, each kind of token, folds and their
 //! faults.
-use formula_lang::{CheckFault, Kind, Names, ParseFault, check, parse};
+use formula_lang::{CheckFault, Kind, Names, check};
 use inc_value::Ty;
+use line_parser::{ParseFault, is_here, parse};
 use std::alloc::{AllocError, Global};
 use std_library::StdLib;
 
@@ -67,6 +68,15 @@ const LONG_LINES: &[(&str, &str, usize, &str, &str, Option<ParseFault>)] = &[
     ("let y ", "fold f from 0 [", 64, "x", "]", None),
     ("let y ", "fold f from 0 [", 65, "x", "]", LEVEL),
     ("let y ", "fold f from 0 [], ", 65, "x", "", FORM),
+    ("let y ", "if ", 64, "p", " then x else x", None),
+    ("let y ", "if ", 65, "p", " then x else x", LEVEL),
+    ("let y ", "bind v = ", 64, "x", " in v", None),
+    ("let y ", "bind v = ", 65, "x", " in v", LEVEL),
+    ("let y ", "join(", 64, "x", ")", None),
+    ("let y ", "join(", 65, "x", ")", LEVEL),
+    ("let y ", "freeze ", 100_000, "x", " when f", None),
+    ("let y ", "freeze ", 100_000, "x", "", FORM),
+    ("let y ", "freeze join(", 64, "x", ") when f", None),
     ("let y ", "g(fold f from 0 [", 32, "x", "])", None),
     ("let y ", "g(fold f from 0 [", 33, "x", "])", LEVEL),
 ];
@@ -113,7 +123,8 @@ const FOLDS: &[(&str, Option<ParseFault>)] = &[
     ("fold f in 0 [x]", FORM),
     ("fold f from [x]", FORM),
     ("fold f from y [x]", FORM),
-    ("fold f from &y [x]", FORM),
+    ("fold f from &y [x]", None),
+    ("fold f from &1 [x]", FORM),
     ("fold f from g(1) [x]", FORM),
     ("fold f from 5s [x]", FORM),
     ("fold f from 9223372036854775808 [x]", FORM),
@@ -287,7 +298,11 @@ fn declare_all(names: &mut Names) -> bool {
 fn refusal(alloc: Global, names: &Names, line: &[u8]) -> Option<CheckFault> {
     match parse(alloc, line) {
         Ok(parsed) => {
-            let fault = check(alloc, &parsed, names, &StdLib::new()).err();
+            let fault = if is_here(&parsed) {
+                check(alloc, &parsed, names, &StdLib::new()).err()
+            } else {
+                Some(CheckFault::Refusal(1))
+            };
             drop(parsed);
             fault
         }

@@ -1,8 +1,9 @@
 -- Every line asks for something: what its tokens are read as.
 use Rattle.std.proofs.Common.{◌≡◌, ℕ, ◌≤◌, Bool, true, false, cond, ltb, List, [], length, inl, inr, Option, None, Some, refl, arith}
 use Rattle.std.proofs.lemmas.Bool.{ltb-true, ltb-false}
-use Rattle.script_model.specs.Grammar.{Line, IsLine, WriteNothing, is_here}
+use Rattle.script_model.specs.Grammar.{Line, IsLine, WriteNothing}
 use Rattle.script_model.specs.GrammarLaws.{WhatIsReadIsWritten}
+use Rattle.script_model.specs.Here.{is_here}
 use Rattle.script_model.specs.Language.{without_return, is_blank}
 use Rattle.script_model.specs.Laws.{EveryLineAsks}
 use Rattle.script_model.specs.Parsing.{command_read}
@@ -43,31 +44,22 @@ request_read line = cond (ltb 4096 (length line)) TooLong (content_read (without
 -- ---- and that it does
 
 none_writes : (tokens : List Token) → command_read tokens ≡ None → WriteNothing tokens
-none_writes tokens is c writes here = let read = command_written c tokens writes in absurd (cc)
+none_writes tokens is c writes = let read = command_written c tokens writes in absurd (cc)
 
-other_writes : (tokens : List Token) (d : Line) → command_read tokens ≡ Some d → is_here d ≡ false → WriteNothing tokens
-other_writes tokens d is other c writes here = absurd (go d c is (command_written c tokens writes) other here)
-  where
-    go : (d c : Line) → command_read tokens ≡ Some d → command_read tokens ≡ Some c → is_here d ≡ false → is_here c ≡ true → ⊥
-    go d c e h other here = let same : d ≡ c = cc in let both = rw same at other in absurd (cc)
+read_line : (content : List ℕ) (tokens : List Token) (c : Line) → AreSpelled tokens content → is_too_deep 0 0 tokens ≡ false
+    → command_read tokens ≡ Some c → IsLine content c
+read_line content tokens c spelled shallow is = record { tokens = tokens; spelled = spelled; level = λ deep. absurd (cc); writes = command_found tokens c is }
 
-here_asks : (content : List ℕ) (tokens : List Token) (c : Line) (here : Bool) → is_here c ≡ here → is_blank content ≡ false
-    → AreSpelled tokens content → is_too_deep 0 0 tokens ≡ false
-    → command_read tokens ≡ Some c → ContentAsks content (command_or_not here c)
-here_asks content tokens c true here some spelled shallow is = (
-  some,
-  record {
-    line = record { tokens = tokens; spelled = spelled; level = λ deep. absurd (cc); writes = command_found tokens c is };
-    here = here;
-  },
-)
-here_asks content tokens c false here some spelled shallow is = (some, inr (tokens, spelled, (λ deep. absurd (cc)), other_writes tokens c is here))
+here_asks : (content : List ℕ) (c : Line) (here : Bool) → is_here c ≡ here → is_blank content ≡ false → IsLine content c
+    → ContentAsks content (command_or_not here c)
+here_asks content c true here some line = (some, record { line = line; here = here })
+here_asks content c false here some line = (some, inr (c, line, here))
 
 line_asks : (content : List ℕ) (tokens : List Token) (c : Option Line) → is_blank content ≡ false → AreSpelled tokens content
     → is_too_deep 0 0 tokens ≡ false
     → command_read tokens ≡ c → ContentAsks content (line_read c)
-line_asks content tokens None some spelled shallow is = (some, inr (tokens, spelled, (λ deep. absurd (cc)), none_writes tokens is))
-line_asks content tokens (Some c) some spelled shallow is = here_asks content tokens c (is_here c) refl some spelled shallow is
+line_asks content tokens None some spelled shallow is = (some, inl (inr (tokens, spelled, (λ deep. absurd (cc)), none_writes tokens is)))
+line_asks content tokens (Some c) some spelled shallow is = here_asks content c (is_here c) refl some (read_line content tokens c spelled shallow is)
 
 level_asks : (content : List ℕ) (tokens : List Token) (deep : Bool) → is_blank content ≡ false → AreSpelled tokens content
     → is_too_deep 0 0 tokens ≡ deep → ContentAsks content (level_read deep tokens)
@@ -76,7 +68,7 @@ level_asks content tokens false some spelled is = line_asks content tokens (comm
 
 tokens_ask : (content : List ℕ) (tokens : Option (List Token)) → is_blank content ≡ false → ReadsAs content [] tokens
     → ContentAsks content (tokens_read tokens)
-tokens_ask content None some reads = (some, inl reads)
+tokens_ask content None some reads = (some, inl (inl reads))
 tokens_ask content (Some tokens) some reads = level_asks content tokens (is_too_deep 0 0 tokens) some reads refl
 
 content_asks : (content : List ℕ) → ContentAsks content (content_read content)
@@ -122,7 +114,7 @@ is_line bytes c is = go (tokens_within (length bytes) bytes) refl is
     shallow : (tokens : List Token) (deep : Bool) → is_too_deep 0 0 tokens ≡ deep → AreSpelled tokens bytes
         → cond deep None (command_read tokens) ≡ Some c → IsLine bytes c
     shallow tokens true deep spells is = absurd (cc)
-    shallow tokens false deep spells is = record { tokens = tokens; spelled = spells; level = λ h. absurd (cc); writes = command_found tokens c is }
+    shallow tokens false deep spells is = read_line bytes tokens c spells deep is
 
     go : (found : Option (List Token)) → tokens_within (length bytes) bytes ≡ found → line_at found ≡ Some c → IsLine bytes c
     go None e is = absurd (cc)

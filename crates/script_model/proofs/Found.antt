@@ -14,7 +14,7 @@ use Rattle.script_model.specs.Literals as literals
 use Rattle.script_model.specs.Literals.{Literal, Integer, Referred}
 use Rattle.script_model.specs.Language.{is_name, integer_of, number_from}
 use Rattle.script_model.specs.Check.{type_of_base}
-use Rattle.script_model.specs.Parsing.{Read, then_read, read, expect, is_word, is_sign, name_front, time_front, base_named, base_front, type_front, literal_front, behind_element, list_front, tally, or_read, any_front, step_front, trees_of, named_front, written_front, word_front, formula_front, formula_read, if_front, bind_front, join_front, fold_front, steps_front, freeze_front, whole, one_name, two_names, var_read, expert_read, command_with, command_read}
+use Rattle.script_model.specs.Parsing.{Read, then_read, read, expect, is_word, is_sign, name_front, time_front, base_named, base_front, type_front, literal_front, behind_element, list_front, tally, or_read, any_front, step_front, trees_of, named_front, written_front, word_front, formula_front, formula_read, if_front, bind_front, join_front, fold_head, fold_front, steps_front, when_front, freeze_front, whole, one_name, two_names, var_read, expert_read, command_with, command_read}
 use Rattle.script_model.specs.Reading.{sign_of}
 use Rattle.script_model.specs.Tokens as token
 use Rattle.script_model.specs.Tokens.{Token, Sign, Word, Number, Text, Punctuation, Open, Close, OpenBracket, CloseBracket, Comma, Colon, Equals, Ampersand, sign_byte}
@@ -351,17 +351,35 @@ behind t left back rest e h = e ∙ ap (λ l. t ∷ l) h
 abbrev Behind : List ℕ → List Token → Tree × List Token → Type 0
 Behind w rest y = Begins Writes (Word w ∷ rest) y
 
+-- `NAME from LITERAL`
+abbrev WritesHead : List ℕ × Literal → List Token → Type 0
+WritesHead head tokens = (back : List Token) × (tokens ≡ Word head.0 ∷ Word (codes "from") ∷ back) × IsName head.0 × WritesLiteral head.1 back
+
+head_found : Finds WritesHead fold_head
+head_found tokens y e =
+    let name = then_read-found _ (name_front tokens) y e in
+    let named = name_found tokens name.0 name.1 in
+    let from = word_found _ (codes "from") name.0.1 y name.2 in
+    let first = then_read-found _ (literal_front from.0) y from.2 in
+    let literal = literal_found from.0 first.0 first.1 in
+    by_some (λ (z : (List ℕ × Literal) × List Token). Begins WritesHead tokens z) ((name.0.0, first.0.0), first.0.1) y first.2 (
+      Word name.0.0 ∷ Word (codes "from") ∷ literal.0,
+      behind (Word name.0.0) name.0.1 (Word (codes "from") ∷ literal.0) first.0.1 named.0
+          (behind (Word (codes "from")) from.0 literal.0 first.0.1 from.1 literal.1),
+      (literal.0, refl, named.1, literal.2),
+    )
+
 module _ (part : List Token → Read Tree) (finds : Finds Writes part) where
   if_found : (rest : List Token) (y : Tree × List Token) → if_front part rest ≡ Some y → Behind (codes "if") rest y
   if_found rest y e =
       let test = then_read-found _ (part rest) y e in
       let first = finds rest test.0 test.1 in
-      let then_ = word_found _ (codes "then") test.0.1 y test.2 in
-      let a = then_read-found _ (part then_.0) y then_.2 in
-      let second = finds then_.0 a.0 a.1 in
-      let else_ = word_found _ (codes "else") a.0.1 y a.2 in
-      let b = then_read-found _ (part else_.0) y else_.2 in
-      let third = finds else_.0 b.0 b.1 in
+      let a = then_read-found _ (expect (is_word (codes "then")) test.0.1 part) y test.2 in
+      let then_ = word_found part (codes "then") test.0.1 a.0 a.1 in
+      let second = finds then_.0 a.0 then_.2 in
+      let b = then_read-found _ (expect (is_word (codes "else")) a.0.1 part) y a.2 in
+      let else_ = word_found part (codes "else") a.0.1 b.0 b.1 in
+      let third = finds else_.0 b.0 else_.2 in
       by_some (λ (z : Tree × List Token). Behind (codes "if") rest z) (grammar.If test.0.0 a.0.0 b.0.0, b.0.1) y b.2 (
         Word (codes "if") ∷ (first.0 ++ Word (codes "then") ∷ (second.0 ++ Word (codes "else") ∷ third.0)),
         ap (λ l. Word (codes "if") ∷ l)
@@ -376,12 +394,12 @@ module _ (part : List Token → Read Tree) (finds : Finds Writes part) where
   bind_found rest y e =
       let name = then_read-found _ (name_front rest) y e in
       let named = name_found rest name.0 name.1 in
-      let equals = sign_found _ Equals name.0.1 y name.2 in
-      let left = then_read-found _ (part equals.0) y equals.2 in
-      let first = finds equals.0 left.0 left.1 in
-      let in_ = word_found _ (codes "in") left.0.1 y left.2 in
-      let body = then_read-found _ (part in_.0) y in_.2 in
-      let second = finds in_.0 body.0 body.1 in
+      let left = then_read-found _ (expect (is_sign 61) name.0.1 part) y name.2 in
+      let equals = sign_found part Equals name.0.1 left.0 left.1 in
+      let first = finds equals.0 left.0 equals.2 in
+      let body = then_read-found _ (expect (is_word (codes "in")) left.0.1 part) y left.2 in
+      let in_ = word_found part (codes "in") left.0.1 body.0 body.1 in
+      let second = finds in_.0 body.0 in_.2 in
       by_some (λ (z : Tree × List Token). Behind (codes "bind") rest z) (grammar.Bind name.0.0 left.0.0 body.0.0, body.0.1) y body.2 (
         Word (codes "bind") ∷ Word name.0.0 ∷ Punctuation Equals ∷ (first.0 ++ Word (codes "in") ∷ second.0),
         ap (λ l. Word (codes "bind") ∷ l)
@@ -408,35 +426,33 @@ module _ (part : List Token → Read Tree) (finds : Finds Writes part) where
 
   fold_found : (rest : List Token) (y : Tree × List Token) → fold_front part rest ≡ Some y → Behind (codes "fold") rest y
   fold_found rest y e =
-      let name = then_read-found _ (name_front rest) y e in
-      let named = name_found rest name.0 name.1 in
-      let from = word_found _ (codes "from") name.0.1 y name.2 in
-      let first = then_read-found _ (literal_front from.0) y from.2 in
-      let literal = literal_found from.0 first.0 first.1 in
-      let opened = sign_found _ OpenBracket first.0.1 y first.2 in
+      let head = then_read-found _ (fold_head rest) y e in
+      let h = head_found rest head.0 head.1 in
+      let split : rest ≡ Word head.0.0.0 ∷ Word (codes "from") ∷ (h.2.0 ++ head.0.1) = h.1 ∙ ap (λ l. l ++ head.0.1) h.2.1 in
+      let opened = sign_found _ OpenBracket head.0.1 y head.2 in
       let elements = then_read-found _ (any_front part 93 opened.0) y opened.2 in
       let inner = any_found Writes part CloseBracket finds opened.0 elements.0 elements.1 in
       by_some (λ (z : Tree × List Token). Behind (codes "fold") rest z)
-      (grammar.Fold name.0.0 first.0.0 (trees_of elements.0.0), elements.0.1) y elements.2 (
-        grammar.fold_tokens name.0.0 literal.0 inner.0,
+      (grammar.Fold head.0.0.0 head.0.0.1 (trees_of elements.0.0), elements.0.1) y elements.2 (
+        grammar.fold_tokens head.0.0.0 h.2.0 inner.0,
         ap (λ l. Word (codes "fold") ∷ l)
-            (behind (Word name.0.0) name.0.1 (Word (codes "from") ∷
-            (literal.0 ++ Punctuation OpenBracket ∷ (inner.0 ++ Punctuation CloseBracket ∷ []))) elements.0.1 named.0
-            (behind (Word (codes "from")) from.0 (literal.0 ++ Punctuation OpenBracket ∷
-            (inner.0 ++ Punctuation CloseBracket ∷ [])) elements.0.1 from.1
-            (joined literal.0 first.0.1 (Punctuation OpenBracket ∷ (inner.0 ++ Punctuation CloseBracket ∷ [])) elements.0.1 literal.1
+            (behind (Word head.0.0.0) (Word (codes "from") ∷ (h.2.0 ++ head.0.1)) (Word (codes "from") ∷
+            (h.2.0 ++ Punctuation OpenBracket ∷ (inner.0 ++ Punctuation CloseBracket ∷ []))) elements.0.1 split
+            (behind (Word (codes "from")) (h.2.0 ++ head.0.1) (h.2.0 ++ Punctuation OpenBracket ∷
+            (inner.0 ++ Punctuation CloseBracket ∷ [])) elements.0.1 refl
+            (joined h.2.0 head.0.1 (Punctuation OpenBracket ∷ (inner.0 ++ Punctuation CloseBracket ∷ [])) elements.0.1 refl
             (behind (Punctuation OpenBracket) opened.0 (inner.0 ++ Punctuation CloseBracket ∷ []) elements.0.1 opened.1
             (joined inner.0 (Punctuation CloseBracket ∷ elements.0.1) (Punctuation CloseBracket ∷ []) elements.0.1 inner.1 refl))))),
-        (literal.0, inner.0, refl, named.1, literal.2, any_is elements.0.0 inner.0 inner.2),
+        (h.2.0, inner.0, refl, h.2.2, h.2.3, any_is elements.0.0 inner.0 inner.2),
       )
 
   freeze_found : (rest : List Token) (y : Tree × List Token) → freeze_front part rest ≡ Some y → Behind (codes "freeze") rest y
   freeze_found rest y e =
       let child = then_read-found _ (part rest) y e in
       let first = finds rest child.0 child.1 in
-      let when = word_found _ (codes "when") child.0.1 y child.2 in
-      let name = then_read-found _ (name_front when.0) y when.2 in
-      let named = name_found when.0 name.0 name.1 in
+      let name = then_read-found _ (when_front child.0.1) y child.2 in
+      let when = word_found name_front (codes "when") child.0.1 name.0 name.1 in
+      let named = name_found when.0 name.0 when.2 in
       by_some (λ (z : Tree × List Token). Behind (codes "freeze") rest z) (grammar.Freeze child.0.0 name.0.0, name.0.1) y name.2 (
         Word (codes "freeze") ∷ (first.0 ++ Word (codes "when") ∷ Word name.0.0 ∷ []),
         ap (λ l. Word (codes "freeze") ∷ l)
@@ -468,7 +484,7 @@ module _ (part : List Token → Read Tree) (finds : Finds Writes part) where
       by_some (λ (z : Tree × List Token). Behind w rest z) (make found.0.0, found.0.1) y found.2
       (Word w ∷ time.0 ∷ [], ap (λ l. Word w ∷ l) time.1, writes found.0.0 time.0 time.2)
 
-  steps_found : (rest : List Token) (y : Tree × List Token) → steps_front part rest ≡ Some y → Behind (codes "steps") rest y
+  steps_found : (rest : List Token) (y : Tree × List Token) → steps_front rest ≡ Some y → Behind (codes "steps") rest y
   steps_found rest y e =
       let first = then_read-found _ (literal_front rest) y e in
       let literal = literal_found rest first.0 first.1 in
@@ -484,7 +500,7 @@ module _ (part : List Token → Read Tree) (finds : Finds Writes part) where
         (literal.0, inner.0, refl, literal.2, any_steps_are steps.0.0 inner.0 inner.2),
       )
 
-  written_found : (tokens : List Token) (y : Tree × List Token) → written_front part tokens ≡ Some y → Begins Writes tokens y
+  written_found : (tokens : List Token) (y : Tree × List Token) → written_front tokens ≡ Some y → Begins Writes tokens y
   written_found tokens y e =
       let found = then_read-found _ (literal_front tokens) y e in
       let literal = literal_found tokens found.0 found.1 in
@@ -504,6 +520,7 @@ module _ (part : List Token → Read Tree) (finds : Finds Writes part) where
   word_found_at : (w : List ℕ) (rest : List Token) (y : Tree × List Token) → word_front part w rest ≡ Some y → Behind w rest y
   word_found_at w rest y e =
       by_test (is_name w) _ y _ (λ is e. named_found w rest y is e) (λ e.
+      at_word w (codes "freeze") rest y (freeze_found rest y) (λ e.
       at_word w (codes "if") rest y (if_found rest y) (λ e.
       at_word w (codes "bind") rest y (bind_found rest y) (λ e.
       at_word w (codes "join") rest y (join_found rest y) (λ e.
@@ -511,7 +528,6 @@ module _ (part : List Token → Read Tree) (finds : Finds Writes part) where
       at_word w (codes "at") rest y (timed_found (codes "at") grammar.At (λ time t w. (t, refl, w)) rest y) (λ e.
       at_word w (codes "now") rest y (now_found rest y) (λ e.
       at_word w (codes "steps") rest y (steps_found rest y) (λ e.
-      at_word w (codes "freeze") rest y (freeze_found rest y) (λ e.
       at_word w (codes "after") rest y (timed_found (codes "after") grammar.After (λ time t w. (t, refl, w)) rest y) (λ e.
       at_word w (codes "every") rest y (timed_found (codes "every") grammar.Every (λ time t w. (t, refl, w)) rest y) (λ e.
       written_found (Word w ∷ rest) y e) e) e) e) e) e) e) e) e) e) e) e
@@ -585,28 +601,16 @@ expert_found : (tokens : List Token) (c : Line) → expert_read tokens ≡ Some 
 expert_found tokens c e =
     let name = and_then-found _ (name_front tokens) c e in
     let named = name_found tokens name.0 name.1 in
-    let made =
-    whole-found _
-    (expect (is_word (codes "fold")) name.0.1
-    (λ rest. then_read (name_front rest) (λ function rest. expect (is_word (codes "from")) rest
-    (λ rest. then_read (literal_front rest) (λ first rest. read (grammar.Expert name.0.0 function first) rest))))) c name.2 in
-    let fold = word_found _ (codes "fold") name.0.1 (made.0, []) made.1 in
-    let function = then_read-found _ (name_front fold.0) (made.0, []) fold.2 in
-    let called = name_found fold.0 function.0 function.1 in
-    let from = word_found _ (codes "from") function.0.1 (made.0, []) function.2 in
-    let valued = then_read-found _ (literal_front from.0) (made.0, []) from.2 in
-    let both = some_same (grammar.Expert name.0.0 function.0.0 valued.0.0, valued.0.1) (made.0, []) valued.2 in
-    let literal = literal_found from.0 valued.0 valued.1 in
-    let left : valued.0.1 ≡ [] = ap (λ (p : Line × List Token). p.1) both in
-    let line : grammar.Expert name.0.0 function.0.0 valued.0.0 ≡ made.0 = ap (λ (p : Line × List Token). p.0) both in
-    let alone = whole_of WritesLiteral valued.0.0 from.0 (literal.0, literal.1 ∙ ap (λ l. literal.0 ++ l) left, literal.2) in
-    by_line (grammar.Expert name.0.0 function.0.0 valued.0.0) c (Word (codes "expert") ∷ tokens) (line ∙ made.2) (
-      from.0,
+    let made = whole-found _ (expect (is_word (codes "fold")) name.0.1 fold_head) c name.2 in
+    let fold = word_found fold_head (codes "fold") name.0.1 (made.0, []) made.1 in
+    let head = whole_of WritesHead made.0 fold.0 (head_found fold.0 (made.0, []) fold.2) in
+    by_line (grammar.Expert name.0.0 made.0.0 made.0.1) c (Word (codes "expert") ∷ tokens) made.2 (
+      head.0,
       ap (λ l. Word (codes "expert") ∷ l)
-          (named.0 ∙ ap (λ l. Word name.0.0 ∷ l) (fold.1 ∙ ap (λ l. Word (codes "fold") ∷ l) (called.0 ∙ ap (λ l. Word function.0.0 ∷ l) from.1))),
+          (named.0 ∙ ap (λ l. Word name.0.0 ∷ l) (fold.1 ∙ ap (λ l. Word (codes "fold") ∷ l) head.1)),
       named.1,
-      called.1,
-      alone,
+      head.2,
+      head.3,
     )
 
 time_whole : (make : grammar.Time → Line) (tokens : List Token) (c : Line) → whole (time_front tokens) make ≡ Some c

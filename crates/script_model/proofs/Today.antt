@@ -6,7 +6,8 @@ use Rattle.script_model.specs.Check as check
 use Rattle.script_model.specs.Check.{Command, Names, Declared, TypedBody, TypedFormula, TypedFormulas, Reason, NotVariable, is_variable, is_against, kind_of, kind_of_body, declared_of, first_named, find_declared, target_of_body, element_of, literal_of_type, typed_literal, typed, typed_each, typed_top, applied, typed_as, body_as, command_of, names_of, first_that}
 use Rattle.script_model.specs.Formula.{Formula, Formulas, Kept, Body, Entry, State, Meanings, body_at, formula_of_body, Literal, Name, Apply, Fold, End, More, Variable, Computed, Bind, nothing_kept}
 use Rattle.script_model.specs.Grammar as grammar
-use Rattle.script_model.specs.Grammar.{Line, Tree, Trees, is_here, is_plain, are_plain, is_plain_literal}
+use Rattle.script_model.specs.Grammar.{Line, Tree, Trees}
+use Rattle.script_model.specs.Here.{is_here, is_plain, are_plain, is_plain_literal}
 use Rattle.script_model.specs.Laws.{PrintAlike, TodayHasNoCycle, RunsHoldTodays, HeightsAloneToday, MetIsNeededToday, OneTranscriptPastRefusalsToday, OneTranscriptToday, OneEndToday, forget_body, forget_all, forget}
 use Rattle.script_model.specs.Need.{Edge, Argument, Left, Item, Named, Place, bind_around, part_at, part_of, argument_at, formula_at, argument_places, part_reads, left_of, scope_reads, place_reads, name_reads, environment, Reads, Needed, Met, from_root, from_held}
 use Rattle.script_model.specs.Evaluate.{value_at}

@@ -14,7 +14,7 @@ use Rattle.script_model.specs.Evaluate.{Gives}
 use Rattle.script_model.specs.Formula as model
 use Rattle.script_model.specs.Formula.{Body, Entry, Observer, State, Meanings, start, Name, Variable, Computed, Freeze, After, Expert, Grab, nothing_kept}
 use Rattle.script_model.specs.Grammar as grammar
-use Rattle.script_model.specs.Grammar.{Line, Tree, is_here}
+use Rattle.script_model.specs.Grammar.{Line, Tree}
 use Rattle.script_model.specs.Laws.{IsUnbroken, GrabsNothing, PrintAlike, broken_after, OneTranscript, OneBeginning, OneTranscriptPastRefusals, OneEnd, forget_body, forget_entry, forget_all, forget, forget_moment}
 use Rattle.script_model.specs.Request.{Request, TooLong, Blank, Malformed, TooDeep, Asks, IsRequest}
 use Rattle.script_model.specs.Run.{Turn, IsTurn, IsRun, Chain, bytes_of, lines_read, transcript}

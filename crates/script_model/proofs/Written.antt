@@ -6,10 +6,10 @@ use Rattle.inc_value.specs.declared.ty.Base.TheVariants as base
 use Rattle.inc_value.specs.declared.ty.Ty.TheVariants as ty
 use Rattle.inc_value.specs.declared.ty.Ty.{Ty}
 use Rattle.script_model.specs.Grammar as grammar
-use Rattle.script_model.specs.Grammar.{Tree, Trees, TimedLiteral, Line, Call, If, Bind, Join, Fold, At, Now, Steps, Freeze, After, Every, End, More, WritesTime, WritesType, WritesLiteral, WritesSteps, WritesAnySteps, Writes, WritesEach, WritesAny, WritesLine, count_of, IsCommand}
+use Rattle.script_model.specs.Grammar.{Tree, Trees, TimedLiteral, Line, Call, If, Bind, Join, Fold, At, Now, Steps, Freeze, After, Every, End, More, WritesTime, WritesType, WritesLiteral, WritesSteps, WritesAnySteps, Writes, WritesEach, WritesAny, WritesLine, count_of, IsLine, IsTooDeep}
 use Rattle.script_model.specs.Literals as literals
 use Rattle.script_model.specs.Literals.{Literal, Integer, Referred}
-use Rattle.script_model.specs.GrammarLaws.{OneWriting, OneCommand, CommandsAreShallow, CommandsAreWellFormed, DeepLinesAreWellFormed}
+use Rattle.script_model.specs.GrammarLaws.{OneWriting, OneLine, LinesAreShallow, LinesAreWellFormed, OneCommand, CommandsAreShallow, CommandsAreWellFormed, DeepLinesAreWellFormed}
 use Rattle.script_model.specs.Parsing.{Read, trees_of, tally, time_front, type_front, literal_front, step_front, list_front, any_front, named_front, formula_front, formula_read, command_read}
 use Rattle.script_model.specs.Tokens.{Token, Word, Punctuation, Open, Close, OpenBracket, CloseBracket, Comma, Colon}
 use Rattle.script_model.proofs.TokenLaws.{one_spelling}
@@ -245,24 +245,36 @@ command_written grammar.Stabilize tokens w = rw w refl
 pub one_writing : OneWriting
 one_writing c d tokens v w = let first = command_written c tokens v in let second = command_written d tokens w in cc
 
+pub one_line : OneLine
+one_line bytes c d first second =
+    let same = one_spelling first.tokens second.tokens bytes first.spelled second.spelled in
+    one_writing c d second.tokens (rw (← same) first.writes) second.writes
+
+pub lines_are_shallow : LinesAreShallow
+lines_are_shallow bytes c h deep = let same = one_spelling h.tokens deep.tokens bytes h.spelled deep.spelled in h.level (rw same deep.level)
+
+pub lines_are_well_formed : LinesAreWellFormed
+lines_are_well_formed bytes c h (inl none) = none h.tokens h.spelled
+lines_are_well_formed bytes c h (inr other) =
+    let same = one_spelling h.tokens other.0 bytes h.spelled other.1 in other.3 c (rw (← same) h.writes)
+
 pub one_command : OneCommand
-one_command bytes c d first second =
-    let same = one_spelling first.line.tokens second.line.tokens bytes first.line.spelled second.line.spelled in
-    one_writing c d second.line.tokens (rw (← same) first.line.writes) second.line.writes
+one_command bytes c d first second = one_line bytes c d first.line second.line
 
 pub commands_are_shallow : CommandsAreShallow
-commands_are_shallow bytes c h deep =
-    let same = one_spelling h.line.tokens deep.tokens bytes h.line.spelled deep.spelled in
-    h.line.level (rw same deep.level)
+commands_are_shallow bytes c h deep = lines_are_shallow bytes c h.line deep
 
 pub commands_are_well_formed : CommandsAreWellFormed
-commands_are_well_formed bytes c h (inl none) = none h.line.tokens h.line.spelled
+commands_are_well_formed bytes c h (inl none) = lines_are_well_formed bytes c h.line none
 commands_are_well_formed bytes c h (inr other) =
-    let same = one_spelling h.line.tokens other.0 bytes h.line.spelled other.1 in
-    other.3 c (rw (← same) h.line.writes) h.here
+    let same : c ≡ other.0 = one_line bytes c other.0 h.line other.1 in
+    let here = rw same at h.here in
+    let missing = other.2 in
+    cc
 
 pub deep_lines_are_well_formed : DeepLinesAreWellFormed
-deep_lines_are_well_formed bytes h (inl none) = none h.tokens h.spelled
-deep_lines_are_well_formed bytes h (inr other) =
+deep_lines_are_well_formed bytes h (inl (inl none)) = none h.tokens h.spelled
+deep_lines_are_well_formed bytes h (inl (inr other)) =
     let same = one_spelling h.tokens other.0 bytes h.spelled other.1 in
     other.2 (rw (← same) h.level)
+deep_lines_are_well_formed bytes h (inr other) = lines_are_shallow bytes other.0 other.1 h

@@ -1,6 +1,6 @@
 -- The grammar of scripts: which tokens write which command.
 use Rattle.std.specs.Prelude as std
-use Rattle.std.specs.Prelude.{◌≡◌, ◌⊎◌, ℕ, ◌+◌, ◌*◌, ◌^◌, ◌≤◌, true, false, ◌&&◌, nat_lt, if◌then◌else◌, List, [], ◌∷◌, ◌++◌, length, codes, Option, None, Some, IsTrue}
+use Rattle.std.specs.Prelude.{◌≡◌, ◌⊎◌, ℕ, ◌+◌, ◌*◌, ◌^◌, ◌≤◌, true, false, nat_lt, if◌then◌else◌, List, [], ◌∷◌, ◌++◌, length, codes, Option, None, Some, IsTrue}
 use Rattle.inc_value.specs.declared.ty.Base.TheVariants as base
 use Rattle.inc_value.specs.declared.ty.Base.{Base}
 use Rattle.inc_value.specs.declared.ty.Ty.{Ty}
@@ -208,58 +208,14 @@ WritesLine (Advance span) tokens = (t : Token) × (tokens ≡ word (codes "advan
 WritesLine (AdvanceTo time) tokens = (t : Token) × (tokens ≡ token.AdvanceTo ∷ t ∷ []) × WritesTime time t
 WritesLine Stabilize tokens = tokens ≡ word (codes "stabilize") ∷ []
 
--- ---- the forms of today
+-- ---- what bytes are
 
--- A line of another form of the grammar is malformed until its form is added here: tests and joins, binds, the clock,
--- freezes and experts, each in one clause.
-
--- a base type
-abbrev pub is_base_type : Ty → std.Bool
-is_base_type (ty.Node base) = false
-is_base_type t = true
-
--- a literal that refers to no name
-abbrev pub is_plain_literal : literals.Literal → std.Bool
-is_plain_literal (literals.Referred name) = false
-is_plain_literal literal = true
-
-abbrev mutual
-  -- a formula of literals, names, functions and folds
-  pub is_plain : Tree → std.Bool
-  is_plain (Literal literal) = is_plain_literal literal
-  is_plain (Name name) = true
-  is_plain (Call function arguments) = are_plain arguments
-  is_plain (Fold function first elements) = is_plain_literal first && are_plain elements
-  is_plain tree = false
-
-  pub are_plain : Trees → std.Bool
-  are_plain End = true
-  are_plain (More first rest) = is_plain first && are_plain rest
-
--- a line of today's forms
-abbrev pub is_here : Line → std.Bool
-is_here (Var name t first) = is_base_type t && is_plain_literal first
-is_here (Set name value) = is_plain_literal value
-is_here (Let name formula) = is_plain formula
-is_here (Observe observer name) = true
-is_here (Unobserve observer) = true
-is_here (Show observer) = true
-is_here Stabilize = true
-is_here command = false
-
--- ---- what bytes ask for
-
--- the bytes are a line of the whole grammar
-pub record IsLine (bytes : List ℕ) (command : Line) : Type 0 where
+-- the bytes are a line of the grammar
+pub record IsLine (bytes : List ℕ) (line : Line) : Type 0 where
   pub tokens : List Token
   pub spelled : AreSpelled tokens bytes
   pub level : AreTooDeep tokens → ⊥
-  pub writes : WritesLine command tokens
-
--- the bytes are a command: a line of today's forms
-pub record IsCommand (bytes : List ℕ) (command : Line) : Type 0 where
-  pub line : IsLine bytes command
-  pub here : is_here command ≡ true
+  pub writes : WritesLine line tokens
 
 -- the bytes are tokens, nested too deep
 pub record IsTooDeep (bytes : List ℕ) : Type 0 where
@@ -267,12 +223,12 @@ pub record IsTooDeep (bytes : List ℕ) : Type 0 where
   pub spelled : AreSpelled tokens bytes
   pub level : AreTooDeep tokens
 
--- the tokens write no line of today's forms
+-- the tokens write no line
 abbrev pub WriteNothing : List Token → Type 0
-WriteNothing tokens = (command : Line) → WritesLine command tokens → is_here command ≡ true → ⊥
+WriteNothing tokens = (line : Line) → WritesLine line tokens → ⊥
 
--- the bytes are no tokens, or tokens that aren't too deep and write no command
-abbrev pub IsMalformed : List ℕ → Type 0
-IsMalformed bytes =
+-- the bytes are no tokens, or tokens that aren't too deep and write no line
+abbrev pub IsNoLine : List ℕ → Type 0
+IsNoLine bytes =
     ((tokens : List Token) → AreSpelled tokens bytes → ⊥)
     ⊎ ((tokens : List Token) × AreSpelled tokens bytes × (AreTooDeep tokens → ⊥) × WriteNothing tokens)

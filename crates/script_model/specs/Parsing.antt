@@ -111,57 +111,75 @@ abbrev pub trees_of : List Tree → Trees
 trees_of [] = grammar.End
 trees_of (t ∷ ts) = grammar.More t (trees_of ts)
 
+-- a literal as a formula
+abbrev pub written_front : List Token → Read Tree
+written_front tokens = then_read (literal_front tokens) (λ literal rest. read (grammar.Literal literal) rest)
+
+abbrev pub steps_front : List Token → Read Tree
+steps_front tokens =
+    then_read (literal_front tokens) (λ first rest. expect (is_sign 91) rest (λ rest. then_read (any_front step_front 93 rest) (λ steps rest. read (grammar.Steps first steps) rest)))
+
+-- what the clock gives, by its first word, or else a literal
+abbrev pub clock_front : List ℕ → List Token → Read Tree
+clock_front w rest =
+    if bytes_eq w (codes "at") then then_read (time_front rest) (λ time left. read (grammar.At time) left)
+    else (if bytes_eq w (codes "now") then read grammar.Now rest
+    else (if bytes_eq w (codes "steps") then steps_front rest
+    else (if bytes_eq w (codes "after") then then_read (time_front rest) (λ time left. read (grammar.After time) left)
+    else (if bytes_eq w (codes "every") then then_read (time_front rest) (λ time left. read (grammar.Every time) left)
+    else written_front (Word w ∷ rest)))))
+
+-- `NAME from LITERAL`: what a fold begins with
+abbrev pub fold_head : List Token → Read (List ℕ × Literal)
+fold_head tokens =
+    then_read (name_front tokens) (λ function rest. expect (is_word (codes "from")) rest (λ rest.
+    then_read (literal_front rest) (λ first rest. read (function, first) rest)))
+
+-- `when NAME`: what a freeze ends with
+abbrev pub when_front : List Token → Read (List ℕ)
+when_front tokens = expect (is_word (codes "when")) tokens name_front
+
 -- over what reads a formula: each form behind its first word
 module _ (part : List Token → Read Tree) where
   abbrev pub if_front : List Token → Read Tree
   if_front tokens =
-      then_read (part tokens) (λ test rest. expect (is_word (codes "then")) rest (λ rest. then_read (part rest) (λ a rest. expect (is_word (codes "else")) rest (λ rest.
-      then_read (part rest) (λ b rest. read (grammar.If test a b) rest)))))
+      then_read (part tokens) (λ test rest. then_read (expect (is_word (codes "then")) rest part) (λ a rest.
+      then_read (expect (is_word (codes "else")) rest part) (λ b rest. read (grammar.If test a b) rest)))
 
   abbrev pub bind_front : List Token → Read Tree
   bind_front tokens =
-      then_read (name_front tokens) (λ variable rest. expect (is_sign 61) rest (λ rest. then_read (part rest) (λ left rest. expect (is_word (codes "in")) rest (λ rest.
-      then_read (part rest) (λ body rest. read (grammar.Bind variable left body) rest)))))
+      then_read (name_front tokens) (λ variable rest. then_read (expect (is_sign 61) rest part) (λ left rest.
+      then_read (expect (is_word (codes "in")) rest part) (λ body rest. read (grammar.Bind variable left body) rest)))
 
   abbrev pub join_front : List Token → Read Tree
   join_front tokens = expect (is_sign 40) tokens (λ rest. then_read (part rest) (λ child rest. expect (is_sign 41) rest (λ rest. read (grammar.Join child) rest)))
 
   abbrev pub fold_front : List Token → Read Tree
   fold_front tokens =
-      then_read (name_front tokens) (λ function rest. expect (is_word (codes "from")) rest (λ rest. then_read (literal_front rest) (λ first rest. expect (is_sign 91) rest (λ rest.
-      then_read (any_front part 93 rest) (λ elements rest. read (grammar.Fold function first (trees_of elements)) rest)))))
-
-  abbrev pub steps_front : List Token → Read Tree
-  steps_front tokens =
-      then_read (literal_front tokens) (λ first rest. expect (is_sign 91) rest (λ rest. then_read (any_front step_front 93 rest) (λ steps rest. read (grammar.Steps first steps) rest)))
+      then_read (fold_head tokens) (λ head rest. expect (is_sign 91) rest (λ rest.
+      then_read (any_front part 93 rest) (λ elements rest. read (grammar.Fold head.0 head.1 (trees_of elements)) rest)))
 
   abbrev pub freeze_front : List Token → Read Tree
   freeze_front tokens =
-      then_read (part tokens) (λ child rest. expect (is_word (codes "when")) rest (λ rest. then_read (name_front rest) (λ predicate rest. read (grammar.Freeze child predicate) rest)))
+      then_read (part tokens) (λ child rest. then_read (when_front rest) (λ predicate rest. read (grammar.Freeze child predicate) rest))
 
   -- a name alone, or a function of one to nine formulas
   abbrev pub named_front : List ℕ → List Token → Read Tree
   named_front w (Punctuation Open ∷ rest) = then_read (list_front part 41 9 [] rest) (λ arguments left. read (grammar.Call w (trees_of arguments)) left)
   named_front w tokens = read (grammar.Name w) tokens
 
-  abbrev pub written_front : List Token → Read Tree
-  written_front tokens = then_read (literal_front tokens) (λ literal rest. read (grammar.Literal literal) rest)
+  -- a formula that begins with a reserved word, but for a freeze
+  abbrev pub reserved_front : List ℕ → List Token → Read Tree
+  reserved_front w rest =
+      if bytes_eq w (codes "if") then if_front rest
+      else (if bytes_eq w (codes "bind") then bind_front rest
+      else (if bytes_eq w (codes "join") then join_front rest
+      else (if bytes_eq w (codes "fold") then fold_front rest else clock_front w rest)))
 
   -- the formula that begins with a word
   abbrev pub word_front : List ℕ → List Token → Read Tree
   word_front w rest =
-      if is_name w then named_front w rest
-      else (if bytes_eq w (codes "if") then if_front rest
-      else (if bytes_eq w (codes "bind") then bind_front rest
-      else (if bytes_eq w (codes "join") then join_front rest
-      else (if bytes_eq w (codes "fold") then fold_front rest
-      else (if bytes_eq w (codes "at") then then_read (time_front rest) (λ time left. read (grammar.At time) left)
-      else (if bytes_eq w (codes "now") then read grammar.Now rest
-      else (if bytes_eq w (codes "steps") then steps_front rest
-      else (if bytes_eq w (codes "freeze") then freeze_front rest
-      else (if bytes_eq w (codes "after") then then_read (time_front rest) (λ time left. read (grammar.After time) left)
-      else (if bytes_eq w (codes "every") then then_read (time_front rest) (λ time left. read (grammar.Every time) left)
-      else written_front (Word w ∷ rest)))))))))))
+      if is_name w then named_front w rest else (if bytes_eq w (codes "freeze") then freeze_front rest else reserved_front w rest)
 
   abbrev pub formula_front : List Token → Read Tree
   formula_front (Word w ∷ rest) = word_front w rest
@@ -192,26 +210,43 @@ var_read tokens = and_then (name_front tokens) (λ n. and_then (type_front n.1) 
 
 abbrev pub expert_read : List Token → Option Line
 expert_read tokens =
-    and_then (name_front tokens) (λ n. whole (expect (is_word (codes "fold")) n.1 (λ rest. then_read (name_front rest) (λ function rest. expect (is_word (codes "from")) rest (λ rest.
-    then_read (literal_front rest) (λ first rest. read (grammar.Expert n.0 function first) rest))))) (λ l. l))
+    and_then (name_front tokens) (λ n. whole (expect (is_word (codes "fold")) n.1 fold_head) (λ head. grammar.Expert n.0 head.0 head.1))
 
--- by the word that a command begins with
-abbrev pub command_with : List ℕ → List Token → Option Line
-command_with w tokens =
-    if bytes_eq w (codes "var") then var_read tokens
-    else (if bytes_eq w (codes "set") then and_then (name_front tokens) (λ n. whole (literal_front n.1) (grammar.Set n.0))
-    else (if bytes_eq w (codes "let") then and_then (name_front tokens) (λ n. whole (formula_read (suc (tally n.1)) n.1) (grammar.Let n.0))
-    else (if bytes_eq w (codes "expert") then expert_read tokens
+abbrev pub set_read : List Token → Option Line
+set_read tokens = and_then (name_front tokens) (λ n. whole (literal_front n.1) (grammar.Set n.0))
+
+abbrev pub let_read : List Token → Option Line
+let_read tokens = and_then (name_front tokens) (λ n. whole (formula_read (suc (tally n.1)) n.1) (grammar.Let n.0))
+
+-- by the word that a command begins with: the clock and the stabilize
+abbrev pub turn_with : List ℕ → List Token → Option Line
+turn_with w tokens =
+    if bytes_eq w (codes "advance") then whole (time_front tokens) grammar.Advance
+    else (if bytes_eq w (codes "stabilize") then whole (read (codes "") tokens) (λ w. grammar.Stabilize) else None)
+
+-- so, or observers
+abbrev pub observer_with : List ℕ → List Token → Option Line
+observer_with w tokens =
+    if bytes_eq w (codes "observe") then two_names grammar.Observe tokens
+    else (if bytes_eq w (codes "unobserve") then one_name grammar.Unobserve tokens
+    else (if bytes_eq w (codes "watch") then one_name grammar.Watch tokens
+    else (if bytes_eq w (codes "show") then one_name grammar.Show tokens else turn_with w tokens)))
+
+-- so, or experts and grabs
+abbrev pub expert_with : List ℕ → List Token → Option Line
+expert_with w tokens =
+    if bytes_eq w (codes "expert") then expert_read tokens
     else (if bytes_eq w (codes "link") then two_names grammar.Link tokens
     else (if bytes_eq w (codes "unlink") then two_names grammar.Unlink tokens
     else (if bytes_eq w (codes "stale") then one_name grammar.Stale tokens
-    else (if bytes_eq w (codes "grab") then two_names grammar.Grab tokens
-    else (if bytes_eq w (codes "observe") then two_names grammar.Observe tokens
-    else (if bytes_eq w (codes "unobserve") then one_name grammar.Unobserve tokens
-    else (if bytes_eq w (codes "watch") then one_name grammar.Watch tokens
-    else (if bytes_eq w (codes "show") then one_name grammar.Show tokens
-    else (if bytes_eq w (codes "advance") then whole (time_front tokens) grammar.Advance
-    else (if bytes_eq w (codes "stabilize") then whole (read (codes "") tokens) (λ w. grammar.Stabilize) else None)))))))))))))
+    else (if bytes_eq w (codes "grab") then two_names grammar.Grab tokens else observer_with w tokens))))
+
+-- so, or variables and formulas
+abbrev pub command_with : List ℕ → List Token → Option Line
+command_with w tokens =
+    if bytes_eq w (codes "var") then var_read tokens
+    else (if bytes_eq w (codes "set") then set_read tokens
+    else (if bytes_eq w (codes "let") then let_read tokens else expert_with w tokens))
 
 -- the command that all of the tokens are
 abbrev pub command_read : List Token → Option Line

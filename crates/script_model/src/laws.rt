@@ -1,5 +1,5 @@
 //! Laws of the definitions. Each function does nothing: its contract is the law.
-ghost use Rattle.script_model.specs.GrammarLaws.{OneWriting, OneCommand, CommandsAreShallow, CommandsAreWellFormed, DeepLinesAreWellFormed, WhatIsReadIsWritten};
+ghost use Rattle.script_model.specs.GrammarLaws.{OneWriting, OneLine, LinesAreShallow, LinesAreWellFormed, OneCommand, CommandsAreShallow, CommandsAreWellFormed, DeepLinesAreWellFormed, WhatIsReadIsWritten};
 ghost use Rattle.script_model.specs.Laws.{NothingDueAfterSettling, EveryDepthAgrees, OneOutcome, RefusalsChangeNothing, RefusedStabilizesBreak, OneRequest, OneEffect, StartIsValid, StepsKeepValidity, LinesKeepValidity, HaltsKeepValidity, RunsAreValid, ValuesHaveTypes, DeclarationsHaveTypes, CallsAreTyped, VisitsCountCalls, NeededGives, GivenIsOnNoCycle, LibrariesKeepToTypes, EveryLineAsks, OnlyStabilizesCall, OneVisit, MeetsOnce, ReadsSuffice, OneTranscript, OneBeginning, OneTranscriptPastRefusals, OneEnd, UnblockedIsAccepted, BlockedIsRefused, TodayHasNoCycle, RunsHoldTodays, HeightsAloneToday, MetIsNeededToday, OneTranscriptPastRefusalsToday, OneTranscriptToday, OneEndToday};
 ghost use Rattle.script_model.specs.TokenLaws.{OneSpelling};
 ghost use Rattle.script_model.specs.Row.{SumIsShown, SumIsOneCall, BindIsShown, BindIsOneCall, NameIsOnCycle, GrabDies, ChainIsTooDeep, GrabStateIsValid};
@@ -44,6 +44,21 @@ pub fn one_writing()
     ensures { OneWriting }
 {}
 
+/// The bytes of a line are at most one line of the grammar.
+pub fn one_line()
+    ensures { OneLine }
+{}
+
+/// No line of the grammar is nested too deep.
+pub fn lines_are_shallow()
+    ensures { LinesAreShallow }
+{}
+
+/// No line of the grammar is none.
+pub fn lines_are_well_formed()
+    ensures { LinesAreWellFormed }
+{}
+
 /// The bytes of a line are at most one command.
 pub fn one_command()
     ensures { OneCommand }
@@ -75,7 +90,7 @@ pub fn what_is_read_is_written()
 {}
 
 /// Every line asks for something: it is too long, blank, malformed or nested too deep, or it is a
-/// command of today's forms.
+/// command of the forms that are here.
 pub fn every_line_asks()
     ensures { EveryLineAsks }
 {}

@@ -8,4 +8,5 @@ mod Following
 mod InTurn
 mod Keeping
 mod Observed
+mod Requests
 mod Stabilized

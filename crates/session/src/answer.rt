@@ -1,10 +1,11 @@
 //! What a line is answered with, and what it does.
-ghost use Rattle.std.specs.Prelude.{IsTrue, ◌≡◌, ◌<◌, ◌+◌, ◌-◌, ◌++◌, ◌^◌, None, Some, length, IfOk, OnOk, OnErr};
+ghost use Rattle.std.specs.Prelude.{IsTrue, true, ◌≡◌, ◌<◌, ◌+◌, ◌-◌, ◌++◌, ◌^◌, None, Some, length, IfOk, OnOk, OnErr};
 ghost use Rattle.formula_lang.specs.CommandView.{body_view, command_view, constant_view};
 ghost use Rattle.formula_lang.specs.Fits.{AssignmentFits, DeclarationFits, FitsNames, ObserverFits};
-ghost use Rattle.formula_lang.specs.TreeView.{line_view};
+ghost use Rattle.line_parser.specs.TreeView.{line_view};
 ghost use Rattle.script_model.specs.Check.{Assign, Declare, Observe, Show, Stabilize, Unobserve, is_among};
 ghost use Rattle.script_model.specs.Formula.{meanings_of};
+ghost use Rattle.script_model.specs.Here.{is_here};
 ghost use Rattle.script_model.specs.Request.{IsRequest};
 ghost use Rattle.script_model.specs.Values.{type_of};
 ghost use Rattle.session.specs.Answered.{Extends};
@@ -21,8 +22,9 @@ use crate::reply::{
 };
 use crate::request::{Request, read_request};
 use crate::script::{Script, Stabilized};
-use formula_lang::{CheckFault, Command, Constant, Declaration, Line, Names, check};
+use formula_lang::{CheckFault, Command, Constant, Declaration, Names, check};
 use inc_value::Ty;
+use line_parser::Line;
 use node_arena::Library;
 use std::alloc::{AllocError, Global};
 
@@ -76,14 +78,15 @@ fn answer_request<L: Library>(
     }
 }
 
-/// Carries out a line, or refuses it.
+/// Carries out a line of forms that are here, or refuses it.
 fn carry_out<L: Library>(
     alloc: Global,
     script: &mut Script<L>,
     line: &Line,
     out: &mut Vec<u8>,
 ) -> Result<Did, AllocError>
-    requires { HasRoom script.old.kept }
+    requires room { HasRoom script.old.kept }
+    requires here { is_here (line_view line.now) ≡ true }
     ensures { Treats (λ l. meanings_of (L.named l) (L.value l)) L.known L.calls (line_view line.now) script.old script.new
         out.old.items out.new.items result }
 {

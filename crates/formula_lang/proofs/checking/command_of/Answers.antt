@@ -2,8 +2,7 @@ use Rattle.script_model.specs.Formula.{meanings_of}
 use Rattle.formula_lang.proofs.checking.command_of.Goals as goal
 
 pub returns-in-Var : goal.returns-in-Var
-returns-in-Var g c = rw c.in-Var.is (c.variable.ensures
-    (meanings_of (g.L.Library.named c.args.library.now) (g.L.Library.value c.args.library.now)) c.args.names.now)
+returns-in-Var g c = rw c.in-Var.is (c.variable.ensures (meanings_of (g.L.Library.named c.args.library.now) (g.L.Library.value c.args.library.now)))
 
 pub returns-in-Set : goal.returns-in-Set
 returns-in-Set g c = rw c.in-Set.is (c.assignment.ensures (meanings_of (g.L.Library.named c.args.library.now) (g.L.Library.value c.args.library.now)))

@@ -1,7 +1,7 @@
 use Rattle.std.proofs.Common.{◌≡◌, map, drop}
 use Rattle.script_model.specs.Check.{first_that, is_against, line_order}
 use Rattle.script_model.specs.Formula.{meanings_of}
-use Rattle.formula_lang.specs.TreeView.{line_view}
+use Rattle.line_parser.specs.TreeView.{line_view}
 use Rattle.formula_lang.specs.Verdict.{reason_view}
 use Rattle.formula_lang.proofs.refusal.first_reason.Given as goal
 

@@ -1,7 +1,8 @@
-use Rattle.formula_lang.specs.TreeView.{tree_view}
-use Rattle.formula_lang.proofs.Plainness.{reads_mentioned, view_plain}
+use Rattle.line_parser.specs.TreeView.{tree_view}
+use Rattle.formula_lang.proofs.Plainness.{reads_here}
 use Rattle.formula_lang.proofs.refusal.is_name_unknown.Goals as goal
 
 pub returns-in-Let : goal.returns-in-Let
 returns-in-Let c =
-    rw (c.in-Let.is, reads_mentioned c.in-Let.name (tree_view c.in-Let.formula) (view_plain c.in-Let.formula)) c.has_unknown_name.ensures
+    let plain = rw c.in-Let.is at c.requires in
+    rw (c.in-Let.is, reads_here c.in-Let.name (tree_view c.in-Let.formula) plain) c.has_unknown_name.ensures

@@ -1,10 +1,11 @@
-use Rattle.std.proofs.Common.{◌≡◌, Some, sym, ap, ◌∙◌}
+use Rattle.std.proofs.Common.{◌≡◌, Some, sym, ap, refl, ◌∙◌}
 use Rattle.script_model.specs.Grammar.{Tree}
-use Rattle.formula_lang.specs.TreeView.{level_view, tree_view}
-use Rattle.formula_lang.specs.declared.tree.Tree.TheFolds.{fold-roll-Tree}
-use Rattle.formula_lang.specs.declared.tree.Tree.TheOpen as level
-use Rattle.formula_lang.specs.declared.tree.Tree.TheVariants.{rolls-Fold}
+use Rattle.line_parser.specs.TreeView.{level_view, tree_view}
+use Rattle.line_parser.specs.declared.tree.Tree.TheFolds.{fold-roll-Tree}
+use Rattle.line_parser.specs.declared.tree.Tree.TheOpen as level
+use Rattle.line_parser.specs.declared.tree.Tree.TheVariants.{rolls-Fold, rolls-Freeze}
 use Rattle.script_model.specs.Formula.{meanings_of}
+use Rattle.formula_lang.proofs.Plainness.{not_typed_frozen}
 use Rattle.formula_lang.proofs.TypedArguments.{step_done, all_done}
 use Rattle.formula_lang.proofs.typing.+formula.Goals as goal
 
@@ -31,4 +32,11 @@ typed-returns-in-Some-3 g t c =
     let found : F.named c.in-Fold.function ≡ Some c.in-Some-find.function =
     rw (← c.bytes-in-Fold.ensures) (sym c.find-in-Fold.ensures ∙ c.in-Some-find.is) in
     let each = rw (c.in-Some-3.is, c.deref-in-Fold.ensures.value) at c.in_ok-elements-in-Fold.ensures in
-    rw (c.in-Fold.is, written, found, ← each) (c.folded.ensures c.args.names.now)
+    rw (c.in-Fold.is, written, found, ← each) c.folded.ensures
+
+pub typed-returns-in-Freeze : goal.typed-returns-in-Freeze
+typed-returns-in-Freeze g t c =
+    let f = c.in-Freeze in
+    let written = ap tree_view (f.is ∙ sym (rolls-Freeze f.child f.predicate f.around))
+    ∙ fold-roll-Tree Tree level_view (level.Freeze f.child f.predicate f.around) in
+    rw (written, not_typed_frozen (meanings_of (g.L.Library.named c.args.library.now) (g.L.Library.value c.args.library.now)) c.args.names.now (tree_view f.child.value) f.predicate f.around.items) refl

@@ -1,7 +1,7 @@
 use Rattle.std.proofs.Common.{refl}
 use Rattle.script_model.specs.Request as asked
 use Rattle.script_model.specs.Step.{LineTooLong, NoCommand, LineTooDeep}
-use Rattle.formula_lang.specs.TreeView.{line_view}
+use Rattle.line_parser.specs.TreeView.{line_view}
 use Rattle.session.proofs.Carried.{taken_blank, taken_line, taken_refused}
 use Rattle.session.proofs.answer.answer_request.Goals as goal
 

@@ -1,6 +1,6 @@
 use Rattle.std.proofs.Common.{◌≡◌, Err, None, Some, refl, sym, ◌∙◌, ap, subst}
 use Rattle.formula_lang.specs.CommandView.{command_view}
-use Rattle.formula_lang.specs.TreeView.{line_view}
+use Rattle.line_parser.specs.TreeView.{line_view}
 use Rattle.script_model.specs.Check.{Names, command_of, first_that, is_against, line_order}
 use Rattle.script_model.specs.Formula.{meanings_of}
 use Rattle.script_model.specs.Grammar.{Line}

@@ -1,0 +1,46 @@
+-- Formulas of the forms that are here, as the code goes through them; of any other form nothing is told. Contracts of
+-- private functions cite them, those of public ones none.
+use Rattle.std.specs.Prelude.{ℕ, List, [], ◌∷◌, ◌++◌, Option, None, Some}
+use Rattle.inc_value.specs.Choice.{and_then}
+use Rattle.script_model.specs.Check.{Names, TypedFormula, TypedFormulas, applied, before, find_declared, folded, typed_as, typed_literal}
+use Rattle.script_model.specs.Formula as model
+use Rattle.script_model.specs.Formula.{Meanings}
+use Rattle.script_model.specs.Grammar.{Tree, Trees, Literal, Name, Call, Fold, End, More}
+
+abbrev mutual
+  -- the names that a formula mentions
+  pub names_here : Tree → List (List ℕ)
+  names_here (Name name) = name ∷ []
+  names_here (Call function arguments) = names_here_in_all arguments
+  names_here (Fold function first elements) = names_here_in_all elements
+  names_here tree = []
+
+  pub names_here_in_all : Trees → List (List ℕ)
+  names_here_in_all End = []
+  names_here_in_all (More first rest) = names_here first ++ names_here_in_all rest
+
+abbrev mutual
+  -- the functions that a formula names
+  pub functions_here : Tree → List (List ℕ)
+  functions_here (Call function arguments) = function ∷ functions_here_in_all arguments
+  functions_here (Fold function first elements) = function ∷ functions_here_in_all elements
+  functions_here tree = []
+
+  pub functions_here_in_all : Trees → List (List ℕ)
+  functions_here_in_all End = []
+  functions_here_in_all (More first rest) = functions_here first ++ functions_here_in_all rest
+
+abbrev mutual
+  -- a formula with its type
+  pub typed_here : Meanings → Names → Tree → Option TypedFormula
+  typed_here F names (Literal literal) = and_then (typed_literal names literal) (λ v. typed_as (model.Literal v.value) v.ty)
+  typed_here F names (Name name) = and_then (find_declared names name) (λ d. typed_as (model.Name d.target) d.ty)
+  typed_here F names (Call function arguments) = and_then (F.named function) (λ f. and_then (typed_each_here F names arguments) (λ ts. applied f ts))
+  typed_here F names (Fold function first elements) =
+      and_then (F.named function) (λ f. and_then (typed_each_here F names elements) (λ ts. folded names f first ts))
+  typed_here F names tree = None
+
+  pub typed_each_here : Meanings → Names → Trees → Option TypedFormulas
+  typed_each_here F names End = Some (record { formulas = model.End; tys = [] })
+  typed_each_here F names (More first rest) =
+      and_then (typed_here F names first) (λ t. and_then (typed_each_here F names rest) (λ ts. Some (before t ts)))

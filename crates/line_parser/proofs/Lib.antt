@@ -1,0 +1,4 @@
+mod Commands
+mod Freezes
+mod Numbers
+mod Steps

@@ -1,0 +1,113 @@
+//! Words, types and times, read from tokens.
+ghost use Rattle.std.specs.Prelude.{◌≡◌, map, option_map};
+ghost use Rattle.line_parser.specs.Reading.{base_in, name_in, time_in, word_in};
+ghost use Rattle.line_parser.specs.View.{time_view, token_view};
+ghost use Rattle.script_model.specs.Check.{type_of_base};
+ghost use Rattle.script_model.specs.Parsing.{base_front, base_named, name_front, time_front, type_front};
+
+use super::cursor::Cursor;
+use crate::number::{time, time_without_unit};
+use crate::reserved::is_name;
+use crate::token::Token;
+use crate::tree::Time;
+use inc_value::{Base, Ty};
+
+/// The word that a token is.
+pub(super) fn word_in<'t, 'a>(token: &'t Token<'a>) -> Option<&'t [u8]>
+    ensures { option_map (λ word. word.now) result ≡ word_in (token_view token.now) }
+{
+    match token {
+        Token::Word(word) => Some(*word),
+        _ => None,
+    }
+}
+
+/// The name that a token is: a word that is not reserved.
+fn name_in<'t, 'a>(token: &'t Token<'a>) -> Option<&'t [u8]>
+    ensures { option_map (λ name. name.now) result ≡ name_in (token_view token.now) }
+{
+    match token {
+        Token::Word(word) if is_name(word) => Some(*word),
+        _ => None,
+    }
+}
+
+/// Reads a name.
+pub(super) fn name_of<'t>(tokens: &mut Cursor<'t, '_>) -> Option<&'t [u8]>
+    ensures { option_map (λ name. (name.now, tokens.new)) result ≡ name_front tokens.old }
+{
+    name_in(tokens.next()?)
+}
+
+/// The base type with this name.
+fn base_named(word: &[u8]) -> Option<Base>
+    ensures { result ≡ base_named word.now }
+{
+    match word {
+        b"int" => Some(Base::Int),
+        b"bool" => Some(Base::Bool),
+        b"text" => Some(Base::Text),
+        _ => None,
+    }
+}
+
+/// The base type that a token names.
+fn base_in<'a>(token: &Token<'a>) -> Option<Base>
+    ensures { result ≡ base_in (token_view token.now) }
+{
+    match token {
+        Token::Word(word) => base_named(word),
+        _ => None,
+    }
+}
+
+/// Reads a base type.
+fn base_of(tokens: &mut Cursor<'_, '_>) -> Option<Base>
+    ensures { option_map (λ base. (base, tokens.new)) result ≡ base_front tokens.old }
+{
+    base_in(tokens.next()?)
+}
+
+/// The type of values of a base type.
+fn type_of_base(base: Base) -> Ty
+    ensures { result ≡ type_of_base base }
+{
+    match base {
+        Base::Int => Ty::Int,
+        Base::Bool => Ty::Bool,
+        Base::Text => Ty::Text,
+    }
+}
+
+/// Reads a type.
+pub(super) fn type_of(tokens: &mut Cursor<'_, '_>) -> Option<Ty>
+    ensures { option_map (λ ty. (ty, tokens.new)) result ≡ type_front tokens.old }
+{
+    let word = word_in(tokens.next()?)?;
+    if word == b"node".as_slice() {
+        Some(Ty::Node(base_of(tokens)?))
+    } else {
+        Some(type_of_base(base_named(word)?))
+    }
+}
+
+/// The time that a token is.
+fn time_in<'a>(token: &Token<'a>) -> Option<Time>
+    ensures { option_map time_view result ≡ time_in (token_view token.now) }
+{
+    match token {
+        Token::Time { digits, unit } => Some(time(digits, *unit)),
+        Token::Number {
+            negative: false,
+            digits,
+        } => Some(time_without_unit(digits)),
+        _ => None,
+    }
+}
+
+/// Reads a time.
+pub(super) fn time_of(tokens: &mut Cursor<'_, '_>) -> Option<Time>
+    ensures { option_map (λ time. (time_view time, tokens.new)) result ≡ time_front tokens.old }
+{
+    time_in(tokens.next()?)
+}

@@ -1,0 +1,2 @@
+use Rattle.session.proofs.Requests.{asks}
+use Rattle.session.proofs.request.read_request.Goals as goal
