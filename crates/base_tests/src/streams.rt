@@ -123,8 +123,14 @@ fn go_on(alloc: Global) -> bool {
     drips(alloc, 0, "abc", 3)
         && drips(alloc, 1, "", 1)
         && drips(alloc, 3, "ab", 3)
-        && read_goes_on(&mut Flaky { calls: 0, flushes: 0 })
-        && write_goes_on(&mut Flaky { calls: 0, flushes: 0 })
+        && read_goes_on(&mut Flaky {
+            calls: 0,
+            flushes: 0,
+        })
+        && write_goes_on(&mut Flaky {
+            calls: 0,
+            flushes: 0,
+        })
 }
 
 #[test]

@@ -34,12 +34,7 @@ fn tell_time(
 }
 
 /// Tells the counts of rounds.
-fn tell_calls(
-    alloc: Global,
-    counts: &mut String,
-    calls: u64,
-    last: i64,
-) -> Result<(), AllocError> {
+fn tell_calls(alloc: Global, counts: &mut String, calls: u64, last: i64) -> Result<(), AllocError> {
     tell(alloc, counts, "calls", calls)?;
     tell_last(alloc, counts, last)
 }
