@@ -5,9 +5,9 @@ ghost use Rattle.formula_elab.specs.Names.{EveryName, EveryNameIn};
 
 use formula_elab::{Made, Make, Plan, elaborate};
 use formula_lang::{Command, Constant, Declaration, Formula};
-use line_parser::Name;
 use inc_terms::Def;
 use inc_value::{FnRef, NodeId, Ty, Value};
+use line_parser::Name;
 use std::alloc::{AllocError, Global};
 use std_library::Function;
 
