@@ -10,3 +10,4 @@ pub mod Unobserving
 pub mod TakingBack
 pub mod Cutting
 pub mod Still
+mod Certain

@@ -6,11 +6,8 @@ use Rattle.std.proofs.lemmas.Slice.Eq.{bytes_eq-Decides}
 use Rattle.std.specs.List.{position_or_len}
 use Rattle.std.specs.Str.{bytes_eq}
 use Rattle.indexmap.specs.IndexMap.{swap_remove_by}
-use Rattle.graph.specs.Effects.{Ends, IsEndFault}
+use Rattle.graph.specs.Effects.{Ends}
 use Rattle.graph.specs.Standing.{Standing, node_at, IsUnbroken, IsBroken}
-use Rattle.graph.specs.declared.fault.GraphFault.{GraphFault}
-use Rattle.graph.specs.declared.fault.GraphFault.TheVariants as fault
-use Rattle.graph.specs.declared.fault.Kept.{Kept as Cause}
 use Rattle.inc_value.specs.declared.node.NodeId.{NodeId}
 use Rattle.inc_value.specs.declared.node.ObsId.{ObsId}
 use Rattle.script_model.specs.Check.{Names, Unobserve}
@@ -107,19 +104,3 @@ module _ {F : Type 0} (k : Kept) (old new : Standing F) (graph_is : k.graph ≡ 
     ended_stands unbroken G m stands =
         rw (names_now, os_are)
         (ending_stands k name place.0 i o (without_functions new) sound (at_id k sound i within o index) at_name ends_now G m stands (stands.broken ∙ unbroken))
-
--- ---- faults that don't come
-
--- an observer in use is ended
-pub never_refused : {F T : Type 0} (s : Standing F) → IsUnbroken s → (r : Result T GraphFault) (e : GraphFault) (o : ObsId) → r ≡ Err e → IfErr r IsEndFault
-    → ((cause : Cause) → IsErrOf r (fault.Broken cause) ↔ IsBroken s cause)
-    → (IsErrOf r fault.Unknown ↔ (IsUnbroken s × (node_at s.observers o ≡ None)))
-    → IsSome (node_at s.observers o) → ⊥
-never_refused {F} {T} s unbroken r e o is ending broken unknown looks = go (subst (λ (q : Result T GraphFault). IfErr q IsEndFault) is ending)
-  where
-    by : {x : GraphFault} → e ≡ x → IsErrOf r x
-    by {x} same = is ∙ ap (λ (y : GraphFault). Err y) same
-
-    go : IsEndFault e → ⊥
-    go (inl b) = let is_broken = (broken b.0).0 (by b.1) in let met = is_broken.1 in let none = unbroken in absurd (cc)
-    go (inr u) = let none = (unknown.0 (by u)).1 in let h = subst (λ (n : Option NodeId). IsSome n) none looks in absurd (cc)

@@ -11,5 +11,5 @@ pub asks : (bytes : List ℕ) (line : Line) → length bytes ≤ 4096 → is_bla
 asks bytes line short some is = go (is_here line) refl
   where
     go : (b : Bool) → is_here line ≡ b → IsRequest bytes (cond b (Asks line) Malformed)
-    go true here = (short, some, record { line = is; here = here })
-    go false missing = (short, some, inr (line, is, missing))
+    go true here = (short, (some, record { line = is; here = here }))
+    go false missing = (short, (some, inr (line, is, missing)))

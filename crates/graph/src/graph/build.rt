@@ -213,6 +213,22 @@ impl<F: Functions> Graph<F> {
         }
     }
 
+    /// Gives a variable another value that fits, for a caller who knows that it does and that the graph is unbroken. What
+    /// observes it shows it after the next stabilize. This takes no memory.
+    pub fn assign(&mut self, node: NodeId, value: Value)
+        requires unbroken { IsUnbroken self.old }
+        requires variable { IsVariable self.old.nodes node }
+        requires given { Given self.old.nodes.given node }
+        requires within { ValueWithin (Given self.old.nodes.given) value }
+        requires fits { FitsNode self.old.nodes node value }
+        ensures { Sets self.old self.new node value }
+    {
+        match self.set_var(node, value) {
+            Ok(()) => {}
+            Err(_) => unreachable!(),
+        }
+    }
+
     /// Sets a node's cutoff, which is Equal at first: whether its readers are told of an outcome that is the one before.
     /// A dead node has none, and nothing changes. Last calls stay. This takes no memory.
     pub fn set_cutoff(&mut self, node: NodeId, cutoff: Cutoff) -> Result<(), GraphFault>
@@ -255,6 +271,20 @@ impl<F: Functions> Graph<F> {
         })
     }
 
+    /// A mark to which `take_back` leads, for a caller who knows that the graph is unbroken.
+    pub fn current_mark(&self) -> Mark
+        requires unbroken { IsUnbroken self.now }
+        ensures mark { result.given ≡ self.now.nodes.given }
+        ensures observed { (n : NodeId) → Among n (in_use self.now.observers) → n.gen_ < result.given }
+        ensures rooted { (n : NodeId) → Among n (rooted_nodes self.now) → n.gen_ < result.given }
+        ensures needed { (p : Point) → IsNeeded self.now p → p.node.gen_ < result.given }
+    {
+        match self.mark() {
+            Ok(mark) => mark,
+            Err(_) => unreachable!(),
+        }
+    }
+
     /// Drops the nodes that were added since the mark. None of them is needed: `mark` says so of what is needed then, and
     /// only a stabilize makes more be needed. This takes no memory.
     pub fn back_to(&mut self, mark: Mark) -> Result<(), GraphFault>
@@ -267,5 +297,18 @@ impl<F: Functions> Graph<F> {
         self.check()?;
         self.parts.back_to(mark.given);
         Ok(())
+    }
+
+    /// Drops the nodes that were added since the mark, for a caller who knows that the graph is unbroken. None of them is
+    /// needed. This takes no memory.
+    pub fn take_back(&mut self, mark: Mark)
+        requires unbroken { IsUnbroken self.old }
+        requires unneeded { (p : Point) → IsNeeded self.old p → p.node.gen_ < mark.given }
+        ensures { TakesBack self.old self.new mark.given }
+    {
+        match self.back_to(mark) {
+            Ok(()) => {}
+            Err(_) => unreachable!(),
+        }
     }
 }

@@ -55,6 +55,19 @@ impl<F: Functions> Graph<F> {
         Ok(())
     }
 
+    /// Ends an observer in use, for a caller who knows that it is and that the graph is unbroken. What is then observed by
+    /// none isn't kept up to date any more. This takes no memory.
+    pub fn end_observer(&mut self, observer: ObsId)
+        requires unbroken { IsUnbroken self.old }
+        requires in_use { IsSome (node_at self.old.observers observer) }
+        ensures { Ends self.old self.new observer }
+    {
+        match self.unobserve(observer) {
+            Ok(()) => {}
+            Err(_) => unreachable!(),
+        }
+    }
+
     /// What an observer shows: the outcome that its node had when a stabilize was last accepted.
     pub fn value(&self, observer: ObsId) -> Result<&Outcome, GraphFault>
         ensures broken { (cause : ACause) → IsErrOf result (GraphFault.Broken cause) ↔ IsBroken self.now cause }

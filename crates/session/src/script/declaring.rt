@@ -6,15 +6,12 @@ ghost use Rattle.formula_elab.specs.Plan.{IsMade};
 ghost use Rattle.formula_lang.specs.CommandView.{body_view, command_view};
 ghost use Rattle.formula_lang.specs.Fits.{AssignmentFits, DeclarationFits};
 ghost use Rattle.formula_lang.specs.NamesView.{kind_view};
-ghost use Rattle.graph.specs.Effects.{top, Adds, KeepsAll, Sets, TakesBack};
-ghost use Rattle.graph.specs.Standing.{IsNeeded, IsUnbroken};
+ghost use Rattle.graph.specs.Effects.{top, Adds, KeepsAll};
+ghost use Rattle.graph.specs.Standing.{IsUnbroken};
 ghost use Rattle.inc_terms.specs.Code.{def_of};
 ghost use Rattle.inc_value.specs.Value.{type_of};
 ghost use Rattle.inc_value.specs.declared.node.NodeId.{NodeId};
-ghost use Rattle.inc_value.specs.declared.node.Point.{Point};
-ghost use Rattle.inc_terms.specs.Within.{Given, ValueWithin};
-ghost use Rattle.node_arena.specs.Arena.{live, IsVariable};
-ghost use Rattle.node_arena.specs.Typing.{FitsNode};
+ghost use Rattle.node_arena.specs.Arena.{live};
 ghost use Rattle.script_graph.specs.Growing.{def_ty, AllOpenFit, Extends, IsMaking, IsWelcome};
 ghost use Rattle.script_graph.specs.Kept.{arena_of, HasNode};
 ghost use Rattle.script_graph.specs.State.{MatchesMoment};
@@ -27,7 +24,7 @@ ghost use Rattle.session.specs.Carried.{IsBeside};
 use super::{Script, or_no_memory};
 use formula_elab::{Made, Make, Plan, elaborate};
 use formula_lang::{Command, Declaration, Formula, Kind, Names};
-use graph::{Graph, Mark};
+use graph::Graph;
 use inc_terms::Def;
 use inc_value::{NodeId, Ty, Value};
 use node_arena::Library;
@@ -57,7 +54,7 @@ impl<L: Library> Script<L> {
         ensures beside { IsBeside (2 ^ 20) 0 self.old self.new }
     {
         self.graph.keeps_sound();
-        let mark = mark_of(&self.graph);
+        let mark = self.graph.current_mark();
         let declared = add_declared(
             self.alloc,
             &mut self.graph,
@@ -75,7 +72,7 @@ impl<L: Library> Script<L> {
                 Ok(())
             }
             Err(fault) => {
-                take_back(&mut self.graph, mark);
+                self.graph.take_back(mark);
                 self.graph.keeps_sound();
                 Err(fault)
             }
@@ -92,7 +89,7 @@ impl<L: Library> Script<L> {
         ensures beside { IsBeside 0 0 self.old self.new }
     {
         self.graph.keeps_sound();
-        set_node(&mut self.graph, self.nodes[target], value);
+        self.graph.assign(self.nodes[target], value);
         self.graph.keeps_sound();
     }
 }
@@ -276,44 +273,5 @@ fn kind_of(body: &Declaration) -> Kind
         Declaration::Computed(
             Formula::Literal(_) | Formula::Name(_) | Formula::Apply { .. } | Formula::Fold { .. },
         ) => Kind::Let,
-    }
-}
-
-/// A mark to which `take_back` leads.
-fn mark_of<L: Library>(graph: &Graph<ScriptFns<L>>) -> Mark
-    requires unbroken { IsUnbroken graph.now }
-    ensures mark { result.given ≡ graph.now.nodes.given }
-    ensures needed { (p : Point) → IsNeeded graph.now p → p.node.gen_ < result.given }
-{
-    match graph.mark() {
-        Ok(mark) => mark,
-        Err(_) => unreachable!(),
-    }
-}
-
-/// Drops the nodes that were made since the mark.
-fn take_back<L: Library>(graph: &mut Graph<ScriptFns<L>>, mark: Mark)
-    requires unbroken { IsUnbroken graph.old }
-    requires unneeded { (p : Point) → IsNeeded graph.old p → p.node.gen_ < mark.given }
-    ensures { TakesBack graph.old graph.new mark.given }
-{
-    match graph.back_to(mark) {
-        Ok(()) => {}
-        Err(_) => unreachable!(),
-    }
-}
-
-/// Gives a variable a value of its type.
-fn set_node<L: Library>(graph: &mut Graph<ScriptFns<L>>, node: NodeId, value: Value)
-    requires unbroken { IsUnbroken graph.old }
-    requires variable { IsVariable graph.old.nodes node }
-    requires given { Given graph.old.nodes.given node }
-    requires within { ValueWithin (Given graph.old.nodes.given) value }
-    requires fits { FitsNode graph.old.nodes node value }
-    ensures { Sets graph.old graph.new node value }
-{
-    match graph.set_var(node, value) {
-        Ok(()) => {}
-        Err(_) => unreachable!(),
     }
 }

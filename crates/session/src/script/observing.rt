@@ -1,8 +1,8 @@
 //! Observers of a script.
-ghost use Rattle.std.specs.Prelude.{◌≡◌, ◌<◌, ◌+◌, ◌-◌, ◌^◌, ◌++◌, ◌∷◌, [], length, None, Some, IfSome, IfNone, IsSome, OnOk, OnErr, IsTrue};
+ghost use Rattle.std.specs.Prelude.{◌≡◌, ◌<◌, ◌+◌, ◌-◌, ◌^◌, ◌++◌, ◌∷◌, [], length, None, Some, IfSome, IfNone, OnOk, OnErr, IsTrue};
 ghost use Rattle.formula_lang.specs.Fits.{ObserverFits};
-ghost use Rattle.graph.specs.Effects.{Ends, Observes};
-ghost use Rattle.graph.specs.Standing.{IsUnbroken, node_at};
+ghost use Rattle.graph.specs.Effects.{Observes};
+ghost use Rattle.graph.specs.Standing.{IsUnbroken};
 ghost use Rattle.inc_terms.specs.Within.{Given};
 ghost use Rattle.inc_value.specs.declared.node.ObsId.{ObsId as AnObserver};
 ghost use Rattle.script_graph.specs.Kept.{arena_of};
@@ -59,7 +59,7 @@ impl<L: Library> Script<L> {
             unreachable!()
         };
         let observer = self.observers.swap_remove(position);
-        end_observer(&mut self.graph, observer);
+        self.graph.end_observer(observer);
         self.names.end(name);
     }
 
@@ -101,17 +101,5 @@ fn observe_node<L: Library>(
             Ok(())
         }
         Err(fault) => Err(fault),
-    }
-}
-
-/// Ends an observer in use.
-fn end_observer<L: Library>(graph: &mut Graph<ScriptFns<L>>, observer: ObsId)
-    requires unbroken { IsUnbroken graph.old }
-    requires looking { IsSome (node_at graph.old.observers observer) }
-    ensures { Ends graph.old graph.new observer }
-{
-    match graph.unobserve(observer) {
-        Ok(()) => {}
-        Err(_) => unreachable!(),
     }
 }

@@ -6,7 +6,7 @@ use Rattle.graph.proofs.TakingBack.{below_still}
 use Rattle.session.proofs.script.Script.declare.Goals as goal
 
 pub take_back-requires-clause-unneeded : goal.take_back-requires-clause-unneeded
-take_back-requires-clause-unneeded g c = below_still _ _ c.in-Err.ensures.kept.beside _ c.mark_of-mark.ensures.needed
+take_back-requires-clause-unneeded g c = below_still _ _ c.in-Err.ensures.kept.beside _ c.current_mark-mark.ensures.needed
 
 pub invariant_of-self : goal.invariant_of-self
 invariant_of-self g c =
@@ -24,10 +24,10 @@ pub invariant_of-self-in-Err : goal.invariant_of-self-in-Err
 invariant_of-self-in-Err g c =
     let s = c.self.inside in
     let full = c.add_declared-declared.new.graph in
-    let now = c.take_back.new.graph in
+    let now = c.take_back.new.self in
     let kept = c.in-Err.ensures.kept in
-    let count = c.mark_of-mark.result.given in
-    let since = c.mark_of-mark.ensures.mark in
+    let count = c.current_mark-mark.result.given in
+    let since = c.current_mark-mark.ensures.mark in
     let more = back_extends s.graph full now count kept c.take_back.ensures since in (
       rw (c.in-Err.ensures.names_kept, c.in-Err.ensures.nodes_kept) (returned_sound s.graph now s.names s.nodes.items s.observers.items s.room
           s.accepted s.broken c.self.invariant.0 c.keeps_sound.ensures.sound.nodes c.keeps_sound-in-Err.ensures.sound.nodes more
@@ -50,10 +50,10 @@ pub returns-in-Err-clause-kept : goal.returns-in-Err-clause-kept
 returns-in-Err-clause-kept g c =
     let s = c.self.inside in
     let full = c.add_declared-declared.new.graph in
-    let now = c.take_back.new.graph in
+    let now = c.take_back.new.self in
     let kept = c.in-Err.ensures.kept in
-    let count = c.mark_of-mark.result.given in
-    let since = c.mark_of-mark.ensures.mark in
+    let count = c.current_mark-mark.result.given in
+    let since = c.current_mark-mark.ensures.mark in
     let more = back_extends s.graph full now count kept c.take_back.ensures since in
     rw (← c.self.view_is, c.in-Err.ensures.names_kept, c.in-Err.ensures.nodes_kept) (returned_stands s.graph now s.names s.nodes.items
     s.observers.items s.room s.accepted s.broken c.self.invariant.0 c.keeps_sound.ensures.sound.nodes c.keeps_sound-in-Err.ensures.sound.nodes more
