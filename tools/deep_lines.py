@@ -1,0 +1,57 @@
+#!/usr/bin/env python3
+"""Runs incr under a stack of 256 KB, on lines of at most 4,096 bytes that are nested as deep as the grammar lets them.
+
+The last line is `N passed, M failed`, and the status is 1 where a line was answered otherwise.
+"""
+import resource
+import subprocess
+import sys
+from pathlib import Path
+
+PROGRAM = Path(__file__).resolve().parent.parent / "crates/incr/out/incr"
+STACK = 256 * 1024
+LONGEST_LINE = 4096
+
+# What a line is made of: its front, what stands so often before its middle, its middle, and what stands as often behind it.
+LINES = [
+    ("var x int 1", "", 0, "", "", "ok"),
+    ("let a ", "neg(", 64, "x", ")", "ok"),
+    ("let b ", "fold add from 0 [", 64, "x", "]", "ok"),
+    ("let c ", "neg(fold add from 0 [", 32, "x", "])", "ok"),
+    ("observe o a", "", 0, "", "", "ok"),
+    ("stabilize", "", 0, "", "", "stable 1"),
+    ("show o", "", 0, "", "", "o = 1"),
+    ("let y ", "neg(", 65, "x", ")", "refused 25"),
+    ("let y ", "(", 4000, "", "", "refused 25"),
+    ("let y ", "if ", 1300, "", "", "refused 25"),
+    ("let y ", "bind v = ", 400, "", "", "refused 25"),
+    # of forms that aren't here yet
+    ("let y ", "freeze ", 290, "x", " when f", "refused 1"),
+    ("let y ", "freeze ", 584, "", "", "refused 1"),
+    ("let y ", "freeze ", 290, "x", " when ", "refused 1"),
+    ("let y ", "freeze join(", 64, "x", ") when f", "refused 1"),
+    ("let y ", "if p then x else ", 64, "x", "", "refused 1"),
+    ("let y ", "if ", 64, "p", " then x else x", "refused 1"),
+    ("let y ", "bind v = ", 64, "x", " in v", "refused 1"),
+    ("let y ", "join(", 64, "x", ")", "refused 1"),
+    ("let y ", "after ", 600, "1", "", "refused 1"),
+]
+
+
+def main():
+    lines = [front + before * count + middle + behind * count for front, before, count, middle, behind, _ in LINES]
+    if any(len(line) > LONGEST_LINE for line in lines):
+        sys.exit("a line is too long")
+    run = subprocess.run([PROGRAM, "run"], input="".join(line + "\n" for line in lines), stdout=subprocess.PIPE, text=True,
+                         preexec_fn=lambda: resource.setrlimit(resource.RLIMIT_STACK, (STACK, STACK)))
+    found = run.stdout.splitlines()
+    found += ["nothing, and the program ended with %d" % run.returncode] * (len(LINES) - len(found))
+    failed = [(line, answer, wanted) for line, answer, (*_, wanted) in zip(lines, found, LINES) if answer != wanted]
+    for line, answer, wanted in failed:
+        print("%s .. (%d bytes): %s, not %s" % (line[:40], len(line), answer, wanted))
+    print("%d passed, %d failed" % (len(LINES) - len(failed), len(failed)))
+    return 1 if failed else 0
+
+
+if __name__ == "__main__":
+    sys.exit(main())
