@@ -1,6 +1,5 @@
--- What the lexer reads and what stands before the parser, as the model of scripts sees it.
+-- What stands before the parser, as the model of scripts sees it.
 use Rattle.std.specs.Prelude.{ℕ, zero, suc, ◌*◌, Bool, true, false, nat_le, if◌then◌else◌, List, [], ◌∷◌, ◌++◌, length, codes, Option, None, Some}
-use Rattle.std.specs.Borrow.{Bor}
 use Rattle.std.specs.Str.{bytes_eq}
 use Rattle.inc_value.specs.declared.ty.Base.{Base}
 use Rattle.inc_value.specs.Choice.{and_then}
@@ -11,16 +10,6 @@ use Rattle.script_model.specs.Literals.{Literal}
 use Rattle.script_model.specs.Parsing.{Read, read, then_read, is_sign, is_word, base_named, name_front, named_front, reserved_front, time_front, when_front, whole, written_front}
 use Rattle.script_model.specs.Tokens as tokens
 use Rattle.line_parser.specs.TreeView.{frozen}
-use Rattle.line_parser.specs.declared.token.Token.{Token}
-use Rattle.line_parser.specs.View.{token_view}
-
--- a token, and the bytes that are left behind it
-abbrev pub front_view : Token × Bor (List ℕ) → tokens.Token × List ℕ
-front_view front = (token_view front.0, front.1.now)
-
--- the content of a text, and the bytes that are left behind its closing quote
-abbrev pub content_view : List ℕ × Bor (List ℕ) → List ℕ × List ℕ
-content_view text = (text.0, text.1.now)
 
 -- whether the sign with this byte stands at the front
 abbrev pub begins_with : ℕ → List tokens.Token → Bool

@@ -2,13 +2,10 @@
 #![tactic(auto)]
 
 mod here;
-mod level;
-mod lexer;
 mod name;
 mod number;
 mod parser;
 mod reserved;
-mod token;
 mod tree;
 
 pub use here::is_here;

@@ -1,11 +1,12 @@
 //! Integers and times as scripts write them.
 ghost use Rattle.std.specs.Prelude.{◌≡◌, ◌*◌, ◌<◌, ◌≤◌, ◌^◌, SomeIff};
-ghost use Rattle.line_parser.specs.View.{time_view, unit_view};
+ghost use Rattle.line_parser.specs.View.{time_view};
+ghost use Rattle.line_tokens.specs.View.{unit_view};
 ghost use Rattle.script_model.specs.Grammar.{time_of, unit_scale};
 ghost use Rattle.script_model.specs.Language.{integer_of, number_from};
 
-use crate::token::TimeUnit;
 use crate::tree::Time;
+use line_tokens::TimeUnit;
 
 /// The greatest time, in nanoseconds.
 const GREATEST_TIME: u64 = 9_223_372_036_854_775_807;

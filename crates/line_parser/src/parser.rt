@@ -3,9 +3,8 @@ ghost use Rattle.std.specs.Prelude.{IfOk, IsErrOf};
 ghost use Rattle.line_parser.specs.TreeView.{line_view};
 ghost use Rattle.script_model.specs.Grammar.{IsLine, IsNoLine, IsTooDeep};
 
-use crate::level::is_too_deep;
-use crate::lexer::tokens;
 use crate::tree::Line;
+use line_tokens::{is_too_deep, tokens};
 use std::alloc::{AllocError, Global};
 use thiserror::Error;
 

@@ -9,8 +9,8 @@ ghost use Rattle.script_model.specs.Parsing.{any_front, clock_front, list_front,
 use super::cursor::Cursor;
 use super::literal::{literal_of, step_of, truth_of};
 use super::word::time_of;
-use crate::token::Sign;
 use crate::tree::{Literal, TimedLiteral, Tree};
+use line_tokens::Sign;
 use std::alloc::{AllocError, Global};
 
 /// A literal as a formula.

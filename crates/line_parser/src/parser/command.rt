@@ -2,7 +2,8 @@
 ghost use Rattle.std.specs.Prelude.{◌≡◌, IfOk, map, option_map};
 ghost use Rattle.line_parser.specs.Reading.{name_alone, names_alone, stabilize_alone, time_alone};
 ghost use Rattle.line_parser.specs.TreeView.{line_view};
-ghost use Rattle.line_parser.specs.View.{time_view, token_view};
+ghost use Rattle.line_parser.specs.View.{time_view};
+ghost use Rattle.line_tokens.specs.View.{token_view};
 ghost use Rattle.script_model.specs.Grammar.{Advance, AdvanceTo, Grab, Link, Observe, Show, Stale, Unlink, Unobserve, Watch};
 ghost use Rattle.script_model.specs.Parsing.{command_read, command_with, expert_read, expert_with, let_read, observer_with, one_name, set_read, time_front, turn_with, two_names, var_read, whole};
 
@@ -11,8 +12,8 @@ use super::formula::formula_of;
 use super::literal::{fold_head, literal_of};
 use super::word::{name_of, time_of, type_of};
 use crate::name::Name;
-use crate::token::Token;
 use crate::tree::{Line, Time};
+use line_tokens::Token;
 use std::alloc::{AllocError, Global};
 
 /// Reads a name, behind which nothing is left.

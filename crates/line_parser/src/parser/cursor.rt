@@ -1,11 +1,11 @@
 //! Tokens, read from the front.
 ghost use Rattle.std.specs.Prelude.{◌≡◌, ◌<◌, ◌^◌, ◌∷◌, [], map, drop, if◌then◌else◌, IfNone, IfSome};
 ghost use Rattle.line_parser.specs.Reading.{begins_with, begins_with_word, count_of_word, is_empty};
-ghost use Rattle.line_parser.specs.View.{sign_view, token_view};
+ghost use Rattle.line_tokens.specs.View.{sign_view, token_view};
 ghost use Rattle.script_model.specs.Parsing.{is_sign, is_word, tally};
 ghost use Rattle.script_model.specs.Tokens.{sign_byte};
 
-use crate::token::{Sign, Token};
+use line_tokens::{Sign, Token};
 use std::marker::Model;
 
 /// The tokens that are left to read, seen as their list.
@@ -17,7 +17,7 @@ pub(super) struct Cursor<'t, 'a> {
 impl<'t, 'a> Model for Cursor<'t, 'a> {
     ghost use Rattle.std.specs.Prelude.{List, map};
     ghost use Rattle.script_model.specs.Tokens as tokens;
-    ghost use Rattle.line_parser.specs.View.{token_view};
+    ghost use Rattle.line_tokens.specs.View.{token_view};
 
     ghost Value = { List tokens.Token };
 

@@ -2,7 +2,7 @@
 ghost use Rattle.std.specs.Prelude.{◌≡◌, [], IfOk, map, option_map};
 ghost use Rattle.line_parser.specs.Reading.{unfrozen_front};
 ghost use Rattle.line_parser.specs.TreeView.{tree_view};
-ghost use Rattle.line_parser.specs.View.{sign_view};
+ghost use Rattle.line_tokens.specs.View.{sign_view};
 ghost use Rattle.script_model.specs.Parsing.{any_front, bind_front, expect, fold_front, formula_read, if_front, is_word, join_front, list_front, named_front, reserved_front};
 ghost use Rattle.script_model.specs.Tokens.{sign_byte};
 
@@ -13,8 +13,8 @@ use super::literal::{fold_head, literal_with};
 use super::word::name_of;
 use crate::name::Name;
 use crate::reserved::is_name;
-use crate::token::{Sign, Token};
 use crate::tree::Tree;
+use line_tokens::{Sign, Token};
 use std::alloc::{AllocError, Global};
 
 /// The most arguments that a function has.

@@ -1,7 +1,8 @@
 //! Literals, read from tokens.
 ghost use Rattle.std.specs.Prelude.{◌≡◌, ◌∷◌, IfOk, map, option_map};
 ghost use Rattle.line_parser.specs.Reading.{integer_in, text_in, truth_in};
-ghost use Rattle.line_parser.specs.View.{literal_view, timed_view, token_view};
+ghost use Rattle.line_parser.specs.View.{literal_view, timed_view};
+ghost use Rattle.line_tokens.specs.View.{token_view};
 ghost use Rattle.script_model.specs.Literals.{Referred};
 ghost use Rattle.script_model.specs.Parsing.{fold_head, literal_front, name_front, read, step_front, then_read};
 
@@ -9,9 +10,9 @@ use super::cursor::Cursor;
 use super::word::{name_of, time_of};
 use crate::name::Name;
 use crate::number::integer;
-use crate::token::{Content, Sign, Token};
 use crate::tree::{Literal, TimedLiteral};
 use inc_value::{Text, TextFault};
+use line_tokens::{Content, Sign, Token};
 use std::alloc::{AllocError, Global};
 
 /// The literal that a word is.
@@ -36,7 +37,7 @@ fn integer_of(negative: bool, digits: &[u8]) -> Option<Literal>
 fn text_of(alloc: Global, content: &Content) -> Result<Option<Literal>, AllocError>
     ensures { IfOk result (λ found. option_map literal_view found ≡ text_in content.now) }
 {
-    match Text::new(alloc, &content.bytes) {
+    match Text::new(alloc, content.bytes()) {
         Ok(text) => Ok(Some(Literal::Text(text))),
         Err(TextFault::Memory) => Err(AllocError),
         Err(TextFault::TooLong | TextFault::NotPrintable) => Ok(None),

@@ -1,16 +1,17 @@
 //! Words, types and times, read from tokens.
 ghost use Rattle.std.specs.Prelude.{◌≡◌, map, option_map};
 ghost use Rattle.line_parser.specs.Reading.{base_in, name_in, time_in, word_in};
-ghost use Rattle.line_parser.specs.View.{time_view, token_view};
+ghost use Rattle.line_parser.specs.View.{time_view};
+ghost use Rattle.line_tokens.specs.View.{token_view};
 ghost use Rattle.script_model.specs.Check.{type_of_base};
 ghost use Rattle.script_model.specs.Parsing.{base_front, base_named, name_front, time_front, type_front};
 
 use super::cursor::Cursor;
 use crate::number::{time, time_without_unit};
 use crate::reserved::is_name;
-use crate::token::Token;
 use crate::tree::Time;
 use inc_value::{Base, Ty};
+use line_tokens::Token;
 
 /// The word that a token is.
 pub(super) fn word_in<'t, 'a>(token: &'t Token<'a>) -> Option<&'t [u8]>

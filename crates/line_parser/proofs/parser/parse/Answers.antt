@@ -2,7 +2,7 @@ use Rattle.std.proofs.Common.{◌≡◌, false, map, None, Some, sym, ◌∙◌}
 use Rattle.script_model.specs.Tokens.{AreSpelled, is_too_deep}
 use Rattle.script_model.specs.Parsing.{command_read}
 use Rattle.line_parser.specs.TreeView.{line_view}
-use Rattle.line_parser.specs.View.{token_view}
+use Rattle.line_tokens.specs.View.{token_view}
 use Rattle.line_parser.proofs.Commands.{read_line, read_nothing}
 use Rattle.line_parser.proofs.parser.parse.Goals as goal
 

@@ -1,6 +1,6 @@
 use Rattle.std.proofs.Common.{◌≡◌, ◌+◌, ◌-◌, ◌*◌, [], map}
 use Rattle.line_parser.specs.TreeView.{tree_view}
-use Rattle.line_parser.specs.View.{sign_view}
+use Rattle.line_tokens.specs.View.{sign_view}
 use Rattle.script_model.specs.Parsing.{formula_read, list_front}
 use Rattle.script_model.specs.Tokens.{sign_byte}
 use Rattle.line_parser.proofs.parser.formula.+formula.Given as goal

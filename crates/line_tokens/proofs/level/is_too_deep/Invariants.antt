@@ -1,7 +1,7 @@
 use Rattle.std.proofs.Common.{◌≡◌, ◌≤◌, map, drop}
-use Rattle.line_parser.specs.View.{token_view}
+use Rattle.line_tokens.specs.View.{token_view}
 use Rattle.script_model.specs.Tokens.{is_too_deep}
-use Rattle.line_parser.proofs.level.is_too_deep.Given as goal
+use Rattle.line_tokens.proofs.level.is_too_deep.Given as goal
 
 abbrev pub invariant-loop-token : goal.invariant-loop-token
 invariant-loop-token l = record {

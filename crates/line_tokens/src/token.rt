@@ -1,33 +1,47 @@
 //! Tokens.
+ghost use Rattle.std.specs.Prelude.{◌≡◌, All};
+ghost use Rattle.inc_value.specs.Text.{IsPrintable};
 
 use std::marker::Model;
 
 /// A unit of time.
 #[derive(Clone, Copy, PartialEq, Eq)]
-pub(crate) enum TimeUnit {
+pub enum TimeUnit {
+    /// `ns`.
     Nanoseconds,
+    /// `us`.
     Microseconds,
+    /// `ms`.
     Milliseconds,
+    /// `s`.
     Seconds,
 }
 
 /// A sign.
 #[derive(Clone, Copy, PartialEq, Eq)]
-pub(crate) enum Sign {
+pub enum Sign {
+    /// `(`.
     Open,
+    /// `)`.
     Close,
+    /// `[`.
     OpenBracket,
+    /// `]`.
     CloseBracket,
+    /// `,`.
     Comma,
+    /// `:`.
     Colon,
+    /// `=`.
     Equals,
+    /// `&`.
     Ampersand,
 }
 
 /// What stands between the quotes of a text, without the escapes, seen as its bytes: printable ones.
 #[derive(Drop)]
-pub(crate) struct Content {
-    pub(crate) bytes: Vec<u8>,
+pub struct Content {
+    bytes: Vec<u8>,
 }
 
 impl Model for Content {
@@ -41,9 +55,27 @@ impl Model for Content {
     ghost invariant = { λ c. All IsPrintable c.bytes.items };
 }
 
+impl Content {
+    /// The content with these bytes.
+    pub(crate) fn new(bytes: Vec<u8>) -> Content
+        requires { All IsPrintable bytes.items }
+        ensures { result ≡ bytes.items }
+    {
+        Content { bytes }
+    }
+
+    /// The bytes of the content.
+    pub fn bytes(&self) -> &[u8]
+        ensures value { result.now ≡ self.now }
+        ensures printable { All IsPrintable result.now }
+    {
+        &self.bytes
+    }
+}
+
 /// A token of a line.
 #[derive(Drop)]
-pub(crate) enum Token<'a> {
+pub enum Token<'a> {
     /// A letter or `_`, and the letters, digits and `_` behind it.
     Word(&'a [u8]),
     /// Digits, behind a `-` where it is negative.

@@ -6,8 +6,8 @@ ghost use Rattle.script_model.specs.Language.{is_digit, is_word_byte};
 ghost use Rattle.script_model.specs.Tokens as tokens;
 ghost use Rattle.script_model.specs.Tokens.{AreSpelled};
 ghost use Rattle.script_model.specs.Reading.{sign_of, unit_of, number_token, digits_length, run_token, minus_token, run_length, begins_no_run, begins_advance_to, word_or_number, negative_number, is_escapable, is_printable, text_from, text_token, first_token};
-ghost use Rattle.line_parser.specs.View.{sign_view, token_view, unit_view};
-ghost use Rattle.line_parser.specs.Reading.{front_view, content_view};
+ghost use Rattle.line_tokens.specs.View.{sign_view, token_view, unit_view};
+ghost use Rattle.line_tokens.specs.Reading.{front_view, content_view};
 
 use crate::token::{Content, Sign, TimeUnit, Token};
 use std::alloc::{AllocError, Global};
@@ -205,7 +205,7 @@ fn text<'a>(alloc: Global, after: &'a [u8]) -> Result<Option<(Content, &'a [u8])
     let mut left = after;
     while let [first, behind @ ..] = left {
         if *first == b'"' {
-            return Ok(Some((Content { bytes }, behind)));
+            return Ok(Some((Content::new(bytes), behind)));
         }
         let Some((byte, rest)) = content_byte(*first, behind) else {
             return Ok(None);
@@ -254,10 +254,7 @@ fn first_token<'a>(
 
 /// The tokens of a line; none where a byte begins no token, a text has no end, a `\` stands before
 /// another byte, or a number runs into letters.
-pub(crate) fn tokens<'a>(
-    alloc: Global,
-    line: &'a [u8],
-) -> Result<Option<Vec<Token<'a>>>, AllocError>
+pub fn tokens<'a>(alloc: Global, line: &'a [u8]) -> Result<Option<Vec<Token<'a>>>, AllocError>
     ensures found { IfOk result (λ r. IfSome r (λ ts. AreSpelled (map token_view ts.items) line.now)) }
     ensures none { IfOk result (λ r. IfNone r ((ts : List tokens.Token) → AreSpelled ts line.now → ⊥)) }
 {

@@ -2,9 +2,9 @@ use Rattle.std.proofs.Common.{◌≡◌, ◌-◌, ◌≤◌, length, map, ℕ, L
 use Rattle.std.proofs.lemmas.List.{length-drop, take_all, map-append}
 use Rattle.script_model.proofs.TokenLaws.{read_space, read_token, read_end, read_none, first_token_shorter}
 use Rattle.script_model.specs.Reading.{first_token}
-use Rattle.line_parser.specs.View.{token_view}
-use Rattle.line_parser.specs.Reading.{front_view}
-use Rattle.line_parser.proofs.lexer.tokens.Goals as goal
+use Rattle.line_tokens.specs.View.{token_view}
+use Rattle.line_tokens.specs.Reading.{front_view}
+use Rattle.line_tokens.proofs.lexer.tokens.Goals as goal
 
 take_behind : (rest : List ℕ) → take (length rest - 1) (drop 1 rest) ≡ drop 1 rest
 take_behind rest = let few : length (drop 1 rest) ≤ length rest - 1 = rw length-drop (omega arith) in take_all (length rest - 1) (drop 1 rest) few

@@ -1,7 +1,7 @@
 use Rattle.std.proofs.Common.{◌≡◌, length, [], false, All}
 use Rattle.inc_value.specs.Text.{IsPrintable}
 use Rattle.script_model.specs.Reading.{text_from}
-use Rattle.line_parser.proofs.lexer.text.Given as goal
+use Rattle.line_tokens.proofs.lexer.text.Given as goal
 
 abbrev pub invariant-loop-left : goal.invariant-loop-left
 invariant-loop-left l = record {

@@ -1,12 +1,12 @@
 //! How deep tokens are nested.
 ghost use Rattle.std.specs.Prelude.{◌≡◌, map};
-ghost use Rattle.line_parser.specs.View.{token_view};
+ghost use Rattle.line_tokens.specs.View.{token_view};
 ghost use Rattle.script_model.specs.Tokens.{closes, is_too_deep, opens};
 
 use crate::token::{Sign, Token};
 
 /// How many levels may be open at once.
-pub(crate) const MAX_OPEN: usize = 64;
+const MAX_OPEN: usize = 64;
 
 /// How many levels a token opens.
 fn opens<'a>(token: &Token<'a>) -> usize
@@ -30,7 +30,7 @@ fn closes<'a>(token: &Token<'a>) -> usize
 }
 
 /// Whether behind some token more than 64 levels are open.
-pub(crate) fn is_too_deep<'a>(tokens: &[Token<'a>]) -> bool
+pub fn is_too_deep<'a>(tokens: &[Token<'a>]) -> bool
     ensures { result ≡ is_too_deep 0 0 (map token_view tokens.now) }
 {
     let mut opened = 0usize;
