@@ -3,11 +3,13 @@
 
 first_build.py NAME      NAME is incr or incr_profile; the program is put to crates/NAME/out/NAME
 
-Only the crates that the program stands on are proved, side by side, without test crates and must-fail edits: on a copy of their
-files, by the same command as the gate's. So what is proved is kept beside the kit, crate by crate: an interrupted build goes on
-where it was, two builds at once wait for each other crate by crate, and the gate doesn't prove again what this proved. How far
-it is goes to standard error: one line that is written over where that is a terminal, else a line a crate. It is not the gate.
+Only the crates that the program stands on are proved, side by side, without test crates and must-fail edits: each in a copy of
+the repository by `rt lib`, since one `rt` keeps others out of all crates below its own. What is proved is kept at once as
+crates/CRATE/out/rlib, where every `rt` finds it: so an interrupted build goes on where it was, but for the crates that it was
+at. Of two builds at once the second waits. How far it is goes to standard error: one line that is written over where that is
+a terminal, else a line a crate. It is not the gate.
 """
+import fcntl
 import os
 import re
 import shutil
@@ -19,34 +21,58 @@ import time
 
 ROOT = os.path.dirname(os.path.dirname(os.path.abspath(__file__)))
 PARTS = ("src", "specs", "proofs")
-# What a program is run on, which the last step of the build compares.
-RUN = ("stdin", "stdout", "args", "status", "data")
+# The most memory that one proof takes, in bytes.
+NEEDED = 4 << 30
 
 
 def crates_below(name):
-    """Returns the lines of crates.txt of the program and of the repository's crates that it stands on."""
+    """Returns of the program and of each crate of the repository that it stands on its line of crates.txt and the crates below it."""
     with open(f"{ROOT}/crates.txt", encoding="utf-8") as file:
         lines = [line.strip() for line in file]
     named = {line.split(":")[0].split()[0]: line for line in lines if line and not line.startswith("#")}
     if name not in named:
         sys.exit(f"incr: crates.txt names no crate {name}")
     wanted = {name, *named[name].split(":")[1].split()}
-    return {it: line for it, line in named.items() if it in wanted}
+    return {it: (line, {below for below in line.split(":")[1].split() if below in named}) for it, line in named.items() if it in wanted}
 
 
 def copy_crates(crates, room):
-    """Copies what the proofs of these crates read, and what their programs are run on, to the folder room."""
+    """Copies what the proofs of these crates read to the folder room."""
     for name in crates:
-        for part in (*PARTS, *RUN):
-            path, to = f"{ROOT}/crates/{name}/{part}", f"{room}/crates/{name}/{part}"
-            if os.path.isdir(path):
-                shutil.copytree(path, to, symlinks=True)
-            elif os.path.isfile(path):
-                os.makedirs(os.path.dirname(to), exist_ok=True)
-                shutil.copyfile(path, to)
+        for part in PARTS:
+            if os.path.isdir(f"{ROOT}/crates/{name}/{part}"):
+                shutil.copytree(f"{ROOT}/crates/{name}/{part}", f"{room}/crates/{name}/{part}", symlinks=True)
     with open(f"{room}/crates.txt", "w", encoding="utf-8") as file:
-        file.write("".join(f"{line}\n" for line in crates.values()))
+        file.write("".join(f"{line}\n" for line, _ in crates.values()))
     shutil.copyfile(f"{ROOT}/HANDLES", f"{room}/HANDLES")
+    # (the copy is the top of a repository)
+    os.mkdir(f"{room}/.git")
+
+
+def stamp_of(library):
+    """Returns what `rt` wrote of the sources that a library was made of, or None where there is none."""
+    try:
+        with open(f"{library}/stamp", encoding="utf-8") as file:
+            return file.read()
+    except OSError:
+        return None
+
+
+def copy_library(name, source, target):
+    """Copies a crate's library, if there is one, from one tree to another, in one step."""
+    made, to = f"{source}/crates/{name}/out/rlib", f"{target}/crates/{name}/out/rlib"
+    if stamp_of(made) in (None, stamp_of(to)):
+        return
+    os.makedirs(os.path.dirname(to), exist_ok=True)
+    part = tempfile.mkdtemp(prefix="rlib-", dir=os.path.dirname(to))
+    shutil.copytree(made, part, symlinks=True, dirs_exist_ok=True)
+    shutil.rmtree(to, ignore_errors=True)
+    os.replace(part, to)
+
+
+def size_of(name):
+    """Returns how many bytes the sources, definitions and proofs of a crate have."""
+    return sum(os.path.getsize(f"{at}/{it}") for part in PARTS for at, _, files in os.walk(f"{ROOT}/crates/{name}/{part}") for it in files)
 
 
 def told(seconds):
@@ -54,38 +80,108 @@ def told(seconds):
     return f"{int(seconds)} s" if seconds < 60 else f"{int(seconds) // 60} min {int(seconds) % 60} s"
 
 
-class Progress:
-    """Tells how far a build is: which crates have begun, and which are done."""
+def free_memory():
+    """Returns the memory that is free, in bytes; where the system doesn't tell, enough."""
+    try:
+        with open("/proc/meminfo", encoding="utf-8") as file:
+            return 1024 * int(re.search(r"MemAvailable:\s+(\d+)", file.read())[1])
+    except (OSError, TypeError):
+        return NEEDED
 
-    def __init__(self, crates, room):
-        self.crates, self.room, self.began = crates, room, time.monotonic()
-        self.seen, self.begun, self.done, self.kept = {}, [], set(), set()
+
+class Progress:
+    """Tells how far a build is: which crates are at work, and how many are done."""
+
+    def __init__(self, count):
+        self.count, self.number, self.running, self.began = count, 0, [], time.monotonic()
         self.is_terminal = sys.stderr.isatty()
 
-    def look(self, log):
-        """Reads what the build did since the last look, and tells it."""
-        with open(log, encoding="utf-8", errors="replace") as file:
-            said = file.read()
-        self.kept = set(re.findall(r"^rt: (\w+) is kept\b", said, re.M))
-        self.done = self.kept | set(re.findall(r"^rt: (\w+) proved$", said, re.M))
-        found = {it for it in self.crates if os.path.isdir(f"{self.room}/crates/{it}/out")}
-        # (what is kept is taken within some seconds, so a crate that was seen for longer is being proved)
-        now = time.monotonic()
-        for name in self.crates:
-            if name in found and name not in self.begun and (now - self.seen.setdefault(name, now) > 5 or name in self.done):
-                self.begun.append(name)
-                what = "kept" if name in self.kept else "proving"
-                if not self.is_terminal:
-                    print(f"{what} {len(self.begun)} of {len(self.crates)}: {name}", file=sys.stderr, flush=True)
+    def begin(self, name):
+        self.number += 1
+        self.running.append(name)
+        if not self.is_terminal:
+            print(f"proving {self.number} of {self.count}: {name}", file=sys.stderr, flush=True)
+
+    def look(self):
         if self.is_terminal:
-            running = [it for it in self.begun if it not in self.done]
-            number = len(self.begun)
-            words = f"proving {number} of {len(self.crates)}: {', '.join(running)} ({told(time.monotonic() - self.began)})"
+            words = f"proving {self.number} of {self.count}: {', '.join(self.running)} ({told(time.monotonic() - self.began)})"
             width = shutil.get_terminal_size().columns - 1
             print(f"\r\033[K{words[:width]}", end="", file=sys.stderr, flush=True)
 
     def end(self, words):
         print(f"{chr(13) + chr(27) + '[K' if self.is_terminal else ''}{words}", file=sys.stderr, flush=True)
+
+
+class Build:
+    """A build of a program: copies of the repository in which crates are proved side by side, one in each."""
+
+    def __init__(self, name, room):
+        self.name, self.room, self.crates = name, room, crates_below(name)
+        processors = len(os.sched_getaffinity(0)) if hasattr(os, "sched_getaffinity") else os.cpu_count() or 1
+        self.idle = [f"{room}/{number}" for number in range(processors)]
+        for place in self.idle:
+            os.mkdir(place)
+            copy_crates(self.crates, place)
+        self.left, self.done, self.running = set(self.crates), set(), {}
+        self.progress = Progress(len(self.crates))
+
+    def order(self):
+        """Returns the crates, first those with the longest row of others that wait for them, by the sizes of their files."""
+        sizes = {it: size_of(it) for it in self.crates}
+        rows = {}
+        # (a crate stands on more crates than each of those below it)
+        for name in sorted(self.crates, key=lambda it: -len(self.crates[it][1])):
+            rows[name] = sizes[name] + max((rows[it] for it in rows if name in self.crates[it][1]), default=0)
+        return sorted(self.crates, key=lambda it: -rows[it])
+
+    def start(self, name):
+        """Begins to prove a crate over the libraries that are there; the program is built by running it, without words."""
+        place = self.idle.pop()
+        for below in [*self.crates[name][1], name]:
+            copy_library(below, ROOT, place)
+        log = open(f"{self.room}/{name}.log", "wb")
+        how = {"cwd": f"{place}/crates/{name}", "stdin": subprocess.DEVNULL, "stdout": log, "stderr": subprocess.STDOUT}
+        words = ["rt", "run"] if name == self.name else ["rt", "lib", "--jobs", "1"]
+        self.running[name] = place, subprocess.Popen(words, start_new_session=True, **how)
+        self.left.remove(name)
+        self.progress.begin(name)
+        self.progress.running = [*self.running]
+
+    def end(self, name):
+        """Keeps what was made of a crate, or returns False where there is nothing."""
+        place, child = self.running.pop(name)
+        self.idle.append(place)
+        made = f"{place}/crates/{name}/out/{name if name == self.name else 'rlib/stamp'}"
+        if not os.path.isfile(made) or (name != self.name and child.returncode != 0):
+            return False
+        if name == self.name:
+            shutil.copyfile(made, f"{self.room}/{name}")
+        else:
+            copy_library(name, place, ROOT)
+        self.done.add(name)
+        self.progress.running = [*self.running]
+        return True
+
+    def run(self):
+        """Builds the program. Returns None, or the crate that failed."""
+        order = self.order()
+        while self.left or self.running:
+            for name in order:
+                has_room = self.idle and (not self.running or free_memory() > NEEDED)
+                if name in self.left and self.crates[name][1] <= self.done and has_room:
+                    self.start(name)
+            self.progress.look()
+            time.sleep(0.3)
+            for name in [it for it, (_, child) in self.running.items() if child.poll() is not None]:
+                if not self.end(name):
+                    return name
+        return None
+
+    def stop(self):
+        for _, child in self.running.values():
+            if child.poll() is None:
+                os.killpg(child.pid, signal.SIGKILL)
+                child.wait()
 
 
 def install(made, name, began):
@@ -109,42 +205,28 @@ def main():
     signal.signal(signal.SIGHUP, lambda *_: sys.exit(129))
     if shutil.which("rt") is None:
         sys.exit("incr: the program is not built yet, and rt, the command of the Rattle kit that builds it, is not on the path")
-    began, crates = time.time(), crates_below(name)
-    log = f"{ROOT}/crates/{name}/out/build-{os.getpid()}.log"
-    os.makedirs(os.path.dirname(log), exist_ok=True)
-    with tempfile.TemporaryDirectory(prefix="incr-build-") as room, open(log, "wb") as out:
-        copy_crates(crates, room)
-        # (the copy is the top of a repository)
-        os.mkdir(f"{room}/.git")
-        print(f"incr: proving the {len(crates)} crates that the program stands on, which takes some 20 minutes on 4 processors, once", file=sys.stderr)
-        progress = Progress(crates, room)
-        how = {"cwd": room, "stdin": subprocess.DEVNULL, "stdout": out, "stderr": subprocess.STDOUT, "start_new_session": True}
-        # The kit's command refuses names under CI=true only; this call has none.
-        build = subprocess.Popen(["rt", "ci"], **how)
+    with open(f"{ROOT}/crates.txt", encoding="utf-8") as held, tempfile.TemporaryDirectory(prefix="incr-build-") as room:
+        fcntl.flock(held, fcntl.LOCK_EX)
+        began = time.time()
+        build = Build(name, room)
+        progress = build.progress
+        print(f"incr: proving the {len(build.crates)} crates that the program stands on, which takes some 20 minutes on 4 processors, once", file=sys.stderr)
         try:
-            while build.poll() is None:
-                progress.look(log)
-                time.sleep(0.3)
-            progress.look(log)
+            failed = build.run()
         except (KeyboardInterrupt, SystemExit):
-            progress.end("incr: the build was stopped; what is proved is kept, and the next start goes on from there")
-            os.remove(log)
+            progress.end("incr: the build was stopped; the crates that are proved are kept, and the next start goes on from there")
             raise SystemExit(130) from None
         finally:
-            if build.poll() is None:
-                os.killpg(build.pid, signal.SIGKILL)
-                build.wait()
-        if build.returncode == 0:
-            install(f"{room}/crates/{name}/out/{name}", name, began)
-    took = told(time.time() - began)
-    if build.returncode != 0:
-        with open(log, encoding="utf-8", errors="replace") as file:
-            failed = re.findall(r"^rt: (?:(\w+) NOT PROVED|FAILED: (.*))", file.read(), re.M)
-        what = next((one or other for one, other in failed), "the kit's command")
-        progress.end(f"incr: the build failed at {what} after {took}; all that was said is in {os.path.relpath(log, ROOT)}")
-        sys.exit(1)
-    os.remove(log)
-    progress.end(f"incr: proved and built in {took}")
+            build.stop()
+        took = told(time.time() - began)
+        if failed is not None:
+            log = f"{ROOT}/crates/{failed}/out/build.log"
+            os.makedirs(os.path.dirname(log), exist_ok=True)
+            shutil.copyfile(f"{room}/{failed}.log", log)
+            progress.end(f"incr: the build failed at {failed} after {took}; all that was said is in {os.path.relpath(log, ROOT)}")
+            sys.exit(1)
+        install(f"{room}/{name}", name, began)
+        progress.end(f"incr: proved and built in {took}")
 
 
 main()
