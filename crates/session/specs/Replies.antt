@@ -1,5 +1,5 @@
 -- The lines that a session writes.
-use Rattle.std.specs.Prelude.{◌≡◌, ◌⊎◌, ℕ, None, Some, slice_get, List, [], ◌∷◌, ◌++◌, codes}
+use Rattle.std.specs.Prelude.{◌≡◌, ◌⊎◌, ℕ, Option, None, Some, slice_get, List, [], ◌∷◌, ◌++◌, codes}
 use Rattle.std.specs.Fmt.{decimal}
 use Rattle.script_model.specs.Check.{Names, Declared}
 use Rattle.inc_value.specs.Outcome.{printed_outcome}
@@ -48,13 +48,14 @@ pub record IsOwnNode (names : Names) (nodes : List NodeId) (n : NodeId) (positio
   pub own : declared.target ≡ position
   pub is_node : node_in nodes position ≡ n
 
--- the bytes are the name of the declaration whose own node it is, and none where it is that of none
-abbrev pub IsNameOf : Names → List NodeId → NodeId → List ℕ → Type 0
-IsNameOf names nodes n bytes =
+-- the node that a reference is to; none of what is no reference
+abbrev pub referred_node : Outcome → Option NodeId
+referred_node (Val (held.Node n base)) = Some n
+referred_node outcome = None
+
+-- the bytes are the name that is printed of a reference to the node: that of the declaration whose own node it is, and none where it is that of none
+abbrev pub IsReferredName : Names → List NodeId → Option NodeId → List ℕ → Type 0
+IsReferredName names nodes None bytes = bytes ≡ []
+IsReferredName names nodes (Some n) bytes =
     ((position : ℕ) × IsOwnNode names nodes n position × (bytes ≡ name_in names position))
     ⊎ (((position : ℕ) → IsOwnNode names nodes n position → ⊥) × (bytes ≡ []))
-
--- the bytes are the name that is printed of a reference, and none of what is none
-abbrev pub IsReferredName : Names → List NodeId → Outcome → List ℕ → Type 0
-IsReferredName names nodes (Val (held.Node n base)) bytes = IsNameOf names nodes n bytes
-IsReferredName names nodes outcome bytes = bytes ≡ []
