@@ -40,6 +40,18 @@ pub record Standing (F : Type 0) : Type 0 where
   -- what its stabilizer works on: contracts speak of it by the words below alone
   pub work : Work
 
+-- the graph but for its functions
+abbrev pub without_functions : {F : Type 0} → Standing F → Standing (Unit {0})
+without_functions s = record {
+  functions = tt;
+  nodes = s.nodes;
+  observers = s.observers;
+  rooted = s.rooted;
+  ran = s.ran;
+  refused = s.refused;
+  work = s.work;
+}
+
 -- ---- observers
 
 -- the nodes of the observers that are in use

@@ -10,18 +10,20 @@ ghost use Rattle.graph.specs.Standing.{IsUnbroken, IsBroken, called_last, cutoff
 ghost use Rattle.graph.specs.declared.fault.Kept.{Kept as ACause};
 
 mod build;
+mod edit;
 mod observe;
 mod stabilize;
+mod undo;
 
 use crate::fault::{GraphFault, Kept, cause_of};
 use crate::observer::Observer;
-pub use build::Mark;
 use inc_value::{NodeId, Outcome};
 use node_arena::Functions;
 pub use stabilize::Round;
 use stabilizer::{Parts, Refused};
 use std::alloc::Global;
 use std::marker::Model;
+pub use undo::Mark;
 
 /// A graph of constants, variables, maps, folds, ifs and joins over the functions of `F`. What is observed is brought
 /// up to date by `stabilize` and shows until the next one.

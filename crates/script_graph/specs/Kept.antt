@@ -5,6 +5,7 @@ use Rattle.inc_value.specs.declared.node.NodeId.{NodeId}
 use Rattle.inc_value.specs.declared.node.ObsId.{ObsId}
 use Rattle.inc_terms.specs.Graph.{Row}
 use Rattle.graph.specs.Standing.{Standing, node_at, IsUnbroken}
+pub use Rattle.graph.specs.Standing.{without_functions}
 use Rattle.node_arena.specs.Arena.{Arena, row_at, live, IsVariable}
 use Rattle.script_model.specs.Check.{Names, Declared, Variable}
 
@@ -18,18 +19,6 @@ pub record Kept : Type 0 where
   pub accepted : ℕ
   pub broken : Option ℕ
   pub graph : Standing (Unit {0})
-
--- the graph but for its functions
-abbrev pub without_functions : {F : Type 0} → Standing F → Standing (Unit {0})
-without_functions s = record {
-  functions = tt;
-  nodes = s.nodes;
-  observers = s.observers;
-  rooted = s.rooted;
-  ran = s.ran;
-  refused = s.refused;
-  work = s.work;
-}
 
 -- a library, and what is kept of a script over it
 pub record Script (L : Type 0) : Type 0 where

@@ -114,22 +114,25 @@ module _ (F : Meanings) (k : Kept) (m : Moment) (st : Stands F k m) (unbroken : 
 
 -- ---- showing
 
--- an outcome that is no reference prints the same in the model
-printed_same : (names : ℕ → List ℕ) (p : Outcome) → IsBaseOutcome p → printed_outcome names p ≡ engine.printed_outcome [] (engine_outcome p)
-printed_same names (Val (Int z)) base = refl
-printed_same names (Val (values.Bool b)) base = refl
-printed_same names (Val (Text bytes)) base = refl
-printed_same names (Val (Reference n b)) base = absurd base
-printed_same names Invalid base = refl
+-- an outcome that is no reference prints the same in the model, whatever a reference's name is
+printed_same : (names : ℕ → List ℕ) (referred : List ℕ) (p : Outcome) → IsBaseOutcome p
+    → printed_outcome names p ≡ engine.printed_outcome referred (engine_outcome p)
+printed_same names referred (Val (Int z)) base = refl
+printed_same names referred (Val (values.Bool b)) base = refl
+printed_same names referred (Val (Text bytes)) base = refl
+printed_same names referred (Val (Reference n b)) base = absurd base
+printed_same names referred Invalid base = refl
 
-shown_same : (s : State) (name : List ℕ) (o : declared.Outcome) (h : ShowsIt s name o) → shown_line name o ≡ printed s (Shown name h.outcome)
-shown_same s name o h =
-    ap (λ l. line_of (name ++ codes " = " ++ l)) (ap (engine.printed_outcome []) (sym h.same) ∙ sym (printed_same (name_of s) h.outcome h.base))
+shown_same : (s : State) (name referred : List ℕ) (o : declared.Outcome) (h : ShowsIt s name o)
+    → shown_line name referred o ≡ printed s (Shown name h.outcome)
+shown_same s name referred o h =
+    ap (λ l. line_of (name ++ codes " = " ++ l))
+    (ap (engine.printed_outcome referred) (sym h.same) ∙ sym (printed_same (name_of s) referred h.outcome h.base))
 
-pub followed_show : (F : Meanings) (k : Kept) (m : Moment) (name : List ℕ) (o : declared.Outcome) (calls : ℕ) (written appended : List ℕ)
-    → Stands F k m → ShowsIt m.present name o → appended ≡ written ++ shown_line name o
+pub followed_show : (F : Meanings) (k : Kept) (m : Moment) (name referred : List ℕ) (o : declared.Outcome) (calls : ℕ) (written appended : List ℕ)
+    → Stands F k m → ShowsIt m.present name o → appended ≡ written ++ shown_line name referred o
     → IsAnswered F m (Follows F m (verdict_on m (Show name))) k written appended calls calls did.Accepted
-followed_show F k m name o calls written appended st h print =
+followed_show F k m name referred o calls written appended st h print =
     let reply = Shown name h.outcome in
     let acts : verdict_on m (Show name) ≡ Act (Show name) = rw h.is_shown refl in
     record {
@@ -139,7 +142,7 @@ followed_show F k m name o calls written appended st h print =
       work = 0;
       due = refl;
       matches = st.matches;
-      printed_are = appended_one m.present written appended reply (print ∙ ap (λ l. written ++ l) (shown_same m.present name o h));
+      printed_are = appended_one m.present written appended reply (print ∙ ap (λ l. written ++ l) (shown_same m.present name referred o h));
       within = omega arith;
       says = (reply, [], refl, refl);
     }

@@ -1,9 +1,13 @@
 -- The lines that a session writes.
-use Rattle.std.specs.Prelude.{ℕ, None, Some, slice_get, List, [], ◌∷◌, ◌++◌, codes}
+use Rattle.std.specs.Prelude.{◌≡◌, ◌⊎◌, ℕ, Option, None, Some, slice_get, List, [], ◌∷◌, ◌++◌, codes}
 use Rattle.std.specs.Fmt.{decimal}
-use Rattle.script_model.specs.Check.{Names}
+use Rattle.script_model.specs.Check.{Names, Declared}
 use Rattle.inc_value.specs.Outcome.{printed_outcome}
+use Rattle.inc_value.specs.declared.node.NodeId.{NodeId}
 use Rattle.inc_value.specs.declared.outcome.Outcome.{Outcome}
+use Rattle.inc_value.specs.declared.outcome.Outcome.TheVariants.{Val}
+use Rattle.inc_value.specs.declared.value.Value.TheVariants as held
+use Rattle.script_graph.specs.Kept.{node_in}
 
 -- a line, with its newline
 abbrev pub line_of : List ℕ → List ℕ
@@ -25,9 +29,9 @@ broken_line number = line_of (codes "refused 22 " ++ decimal number)
 abbrev pub stable_line : ℕ → List ℕ
 stable_line round = line_of (codes "stable " ++ decimal round)
 
--- what an observer shows
-abbrev pub shown_line : List ℕ → Outcome → List ℕ
-shown_line observer outcome = line_of (observer ++ codes " = " ++ printed_outcome [] outcome)
+-- what an observer shows, where a reference is printed as this name
+abbrev pub shown_line : List ℕ → List ℕ → Outcome → List ℕ
+shown_line observer referred outcome = line_of (observer ++ codes " = " ++ printed_outcome referred outcome)
 
 -- to a stabilize that was refused for the depth of a declaration
 abbrev pub too_deep_line : List ℕ → List ℕ
@@ -36,3 +40,22 @@ too_deep_line name = line_of (codes "refused 21 height " ++ name)
 -- the name of the declaration at a position; nothing where there is none
 abbrev pub name_in : Names → ℕ → List ℕ
 name_in names n = elim (slice_get names.declared n) [ None ↦ [] | Some d ↦ d.name ]
+
+-- the declaration at a position stands for itself, and this is its node
+pub record IsOwnNode (names : Names) (nodes : List NodeId) (n : NodeId) (position : ℕ) : Type 0 where
+  pub declared : Declared
+  pub is_declared : slice_get names.declared position ≡ Some declared
+  pub own : declared.target ≡ position
+  pub is_node : node_in nodes position ≡ n
+
+-- the node that a reference is to; none of what is no reference
+abbrev pub referred_node : Outcome → Option NodeId
+referred_node (Val (held.Node n base)) = Some n
+referred_node outcome = None
+
+-- the bytes are the name that is printed of a reference to the node: that of the declaration whose own node it is, and none where it is that of none
+abbrev pub IsReferredName : Names → List NodeId → Option NodeId → List ℕ → Type 0
+IsReferredName names nodes None bytes = bytes ≡ []
+IsReferredName names nodes (Some n) bytes =
+    ((position : ℕ) × IsOwnNode names nodes n position × (bytes ≡ name_in names position))
+    ⊎ (((position : ℕ) → IsOwnNode names nodes n position → ⊥) × (bytes ≡ []))

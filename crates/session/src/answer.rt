@@ -238,10 +238,12 @@ fn show<L: Library>(
         out.old.items out.new.items result }
 {
     match script.shown(name) {
-        Some(outcome) => match write_shown(alloc, name, outcome, out) {
-            Ok(()) => Ok(Did::Accepted),
-            Err(fault) => Err(fault),
-        },
+        Some(outcome) => {
+            match write_shown(alloc, name, outcome, script.referred_name(outcome), out) {
+                Ok(()) => Ok(Did::Accepted),
+                Err(fault) => Err(fault),
+            }
+        }
         None => refuse(alloc, Refusal::NotStabilized.number(), out),
     }
 }
@@ -281,7 +283,7 @@ fn refuse_too_deep<L: Library>(
     ensures ok { OnOk result (script.new ≡ script.old) }
     ensures broken { OnErr result (script.new ≡ record script.old { kept = record script.old.kept { broken = Some 0 } }) }
 {
-    let written = write_too_deep(alloc, name_at(script.names(), target), out);
+    let written = write_too_deep(alloc, script.name_at(target), out);
     match written {
         Ok(()) => Ok(Did::Refused(21)),
         Err(fault) => {
@@ -289,16 +291,6 @@ fn refuse_too_deep<L: Library>(
             Err(fault)
         }
     }
-}
-
-/// The name of the declaration at a position; nothing where there is none.
-fn name_at(names: &Names, position: usize) -> &[u8]
-    ensures { result.now ≡ name_in names.entry.now position }
-{
-    if position < names.len() {
-        return names.get(position).name.bytes();
-    }
-    b""
 }
 
 /// Refuses a line.

@@ -57,20 +57,21 @@ pub(crate) fn write_stable(alloc: Global, round: u64, out: &mut Vec<u8>) -> Resu
     out.extend_from_slice(line.as_bytes())
 }
 
-/// Appends what an observer shows, which is no reference.
+/// Appends what an observer shows, where a reference is printed as the name `referred`.
 pub(crate) fn write_shown(
     alloc: Global,
     observer: &[u8],
     outcome: &Outcome,
+    referred: &[u8],
     out: &mut Vec<u8>,
 ) -> Result<(), AllocError>
-    ensures ok { OnOk result (out.new.items ≡ out.old.items ++ shown_line observer.now outcome.now) }
+    ensures ok { OnOk result (out.new.items ≡ out.old.items ++ shown_line observer.now referred.now outcome.now) }
     ensures err { OnErr result (out.new.items ≡ out.old.items) }
 {
     let mut line = Vec::new(alloc);
     line.extend_from_slice(observer)?;
     line.extend_from_slice(b" = ")?;
-    outcome.print_into(alloc, b"", &mut line)?;
+    outcome.print_into(alloc, referred, &mut line)?;
     line.push(b'\n')?;
     out.extend_from_slice(&line)
 }

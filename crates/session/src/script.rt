@@ -4,6 +4,7 @@ ghost use Rattle.script_model.specs.Formula.{meanings_of};
 ghost use Rattle.script_model.specs.Step.{first_moment};
 ghost use Rattle.script_graph.specs.Kept.{arena_of};
 ghost use Rattle.script_graph.specs.State.{Stands};
+ghost use Rattle.session.specs.Replies.{name_in};
 
 mod declaring;
 mod observing;
@@ -106,6 +107,16 @@ impl<L: Library> Script<L> {
         ensures { result.now ≡ self.now.kept.names }
     {
         &self.names
+    }
+
+    /// The name of the declaration at a position; nothing where there is none.
+    pub(crate) fn name_at(&self, position: usize) -> &[u8]
+        ensures { result.now ≡ name_in self.now.kept.names position }
+    {
+        if position < self.names.len() {
+            return self.names.get(position).name.bytes();
+        }
+        b""
     }
 
     /// How many places the script may still have.
