@@ -19,7 +19,7 @@ use Rattle.node_arena.specs.Arena.{Arena, row_at}
 use Rattle.node_arena.specs.Graph.{graph_of, NoScopes}
 use Rattle.stabilize_round.specs.Calling.{costs_of}
 use Rattle.stabilize_round.specs.Counts.{RoseBy}
-use Rattle.script_graph.specs.Today.{maps_alone}
+use Rattle.script_graph.specs.Today.{maps_alone, IsPlain, IsPlainBody, IsEarlierTarget, AllPlain}
 use Rattle.script_model.specs.Blocked.{InTheWay, on_cycle, too_deep}
 use Rattle.script_model.specs.Check.{is_among}
 use Rattle.script_model.specs.Formula.{State, Entry, Body, Formula, Observer, Meanings, meanings_of, Literal, Name, Apply, Fold, Variable, Computed}
@@ -28,7 +28,6 @@ use Rattle.script_model.specs.Settle.{Becomes, BecomeAll, Builds, ShowAll}
 use Rattle.script_model.specs.Step.{Moment, NothingNeededIsBlocked, settles}
 use Rattle.script_model.specs.Values.{Outcome, seen_value}
 use Rattle.script_graph.specs.Kept.{Kept, arena_of, node_in, without_functions}
-use Rattle.script_graph.specs.Plain.{IsPlain, IsPlainBody, IsEarlierTarget, AllPlain}
 use Rattle.script_graph.specs.Represents.{graph_functions, besides, beside, there_in, AreNames, Represents, Watches}
 use Rattle.script_graph.specs.Settled.{side_of, observed_by, WasRun, Settled}
 use Rattle.script_graph.specs.Stabilizing.{IsAccepted}
@@ -126,16 +125,16 @@ module _ (named : List ℕ → Option FnRef) (value : FnRef → List GraphValue 
   fits = represented_fits named value s k holds.represents
 
   grabs : GrabsBind s
-  grabs = grabs_bind s holds.represents.plain
+  grabs = grabs_bind s holds.represents.today.plain
 
   have : RootsHave x observed
-  have = watched_roots_have F s k holds.represents.plain holds.watches
+  have = watched_roots_have F s k holds.represents.today.plain holds.watches
 
   -- ---- what is needed
 
   exact : (p : Point) → IsObserved M k.graph p → Exact M (graph_of nodes_now) (shown_at g) p
   exact = needed_is_right M k.graph g no_scopes
-      (mains_alone x fits holds.represents.plain grabs observed (watched_roots_are F s k holds.represents.plain holds.watches)) done
+      (mains_alone x fits holds.represents.today.plain grabs observed (watched_roots_are F s k holds.represents.today.plain holds.watches)) done
 
   -- nothing that is needed is on a cycle or too deep
   free : NothingNeededIsBlocked F m
@@ -165,9 +164,9 @@ module _ (named : List ℕ → Option FnRef) (value : FnRef → List GraphValue 
         p.0,
         record {
           gives = p.2;
-          base = name_gives_base named value s holds.represents.plain y.target p.0 p.2;
+          base = name_gives_base named value s holds.represents.today.plain y.target p.0 p.2;
           shown = q.1 ∙ ap (λ o. Some o) p.1;
-          unwatched = w.unwatched;
+          unwatched = w.today.unwatched;
         },
       )
 
@@ -193,8 +192,8 @@ module _ (named : List ℕ → Option FnRef) (value : FnRef → List GraphValue 
   recalled v is need =
       let in_old = represents_so F s (there_in (made_then F s k g holds.watches.made shown)) (s.accepted + 1) k still refl refl refl holds.represents in
       let are = sym (ap in_use done.observers) ∙ observed_are then new watched in
-      let r = visit_is_recalled F then k.nodes k.graph g (represented_fits named value then still in_old) (grabs_bind then represented.plain)
-      (λ t among. inl (observed_of_root then represented.plain (node_in k.nodes) observed are t among)) exact done v is need in
+      let r = visit_is_recalled F then k.nodes k.graph g (represented_fits named value then still in_old) (grabs_bind then represented.today.plain)
+      (λ t among. inl (observed_of_root then represented.today.plain (node_in k.nodes) observed are t among)) exact done v is need in
       record {
         node = r.node;
         is_node = subst (λ (a : Arena). node_of (besides F then k.nodes a) v.item ≡ Some r.node) (sym done.nodes) r.is_node;
@@ -211,7 +210,6 @@ module _ (named : List ℕ → Option FnRef) (value : FnRef → List GraphValue 
   settled = record {
     nodes = k.nodes;
     arena = arena_of new;
-    plain = represented.plain;
     one_node_each = represented.one_node_each;
     fits = represented_fits named value then new represented;
     scopes = λ n r b row scope.
@@ -226,7 +224,7 @@ module _ (named : List ℕ → Option FnRef) (value : FnRef → List GraphValue 
         subst (λ (a : Arena). Depends M (graph_of a) none_died p q) (sym done.nodes) ((done.links p q (held_needed g rooted p held)).0 link);
     ran = recalled;
     watched = λ z among is. observed_root then z among;
-    equal = λ n. done.cutoff n ∙ holds.settled.equal n;
+    today = record { plain = represented.today.plain; equal = λ n. done.cutoff n ∙ holds.settled.today.equal n };
   }
 
   -- ---- the moment after it
@@ -256,7 +254,7 @@ module _ (named : List ℕ → Option FnRef) (value : FnRef → List GraphValue 
     after = after;
     stabilizes = settles [] free (record {
       observers = subst (λ (xs : List Observer). ShowAll F s xs then.observers []) (sym holds.watches.in_order) (shows_then F s k g holds.watches.made shown);
-      entries = entries_become F before s then holds.represents.plain;
+      entries = entries_become F before s then holds.represents.today.plain;
       now = refl;
       accepted = refl;
     }) refl refl refl;

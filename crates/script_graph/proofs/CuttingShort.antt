@@ -35,7 +35,7 @@ pub cut_short_matches : {M : Functions} (F : Meanings) (m : Moment) (k : Kept) (
     → m.broken ≡ None → HasCalledMet M k.graph called calls → IsCutShort F m (record k { broken = Some 0; graph = g }) called calls
 cut_short_matches {M} F m k g called calls matches unbroken few = record {
   matches = broken_matches F m k g 0 matches;
-  within = few_calls M m.present k.graph called calls (matches.holds unbroken).represents.calls few;
+  within = few_calls M m.present k.graph called calls (matches.holds unbroken).represents.today.calls few;
 }
 
 -- ---- what never comes

@@ -21,7 +21,8 @@ use Rattle.script_model.specs.Valid.{KeepToTypes}
 use Rattle.script_model.specs.Values as values
 use Rattle.script_model.proofs.Validity.{halts_keep_validity}
 use Rattle.script_graph.specs.Kept.{Kept}
-use Rattle.script_graph.specs.Represents.{AreNames, IsBaseOutcome}
+use Rattle.script_graph.specs.Represents.{AreNames}
+use Rattle.script_graph.specs.Today.{IsBaseOutcome}
 use Rattle.script_graph.specs.Shown.{ShowsIt, ShowsNothing, engine_outcome}
 use Rattle.script_graph.specs.Stabilizing.{IsAccepted, IsTooDeep, IsCutShort}
 use Rattle.script_graph.specs.State.{MatchesMoment, Stands}
