@@ -252,12 +252,14 @@ module _ (named : List ℕ → Option FnRef) (value : FnRef → List GraphValue 
   pub accepted_stands : IsAccepted F m new called calls
   accepted_stands = record {
     after = after;
+    notices = [];
     stabilizes = settles [] free (record {
       observers = subst (λ (xs : List Observer). ShowAll F s xs then.observers []) (sym holds.watches.in_order) (shows_then F s k g holds.watches.made shown);
       entries = entries_become F before s then holds.represents.today.plain;
       now = refl;
       accepted = refl;
     }) refl refl refl;
+    today = refl;
     work = costs_of (graph_of nodes_now) ran;
     due = due;
     within = rose.most;

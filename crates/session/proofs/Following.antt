@@ -15,7 +15,8 @@ use Rattle.script_model.specs.Grammar as grammar
 use Rattle.script_model.specs.Laws.{ValidMoment}
 use Rattle.script_model.specs.Run as run
 use Rattle.script_model.specs.Run.{Halts, most_calls}
-use Rattle.script_model.specs.Step.{Moment, Reply, name_of, moved, reply_to, Done, Stable, Shown, Refused, Height, Because, Settle, Act, Refuse, printed, Follows, Stabilizes, settles, by_cycle, by_height, verdict_of}
+use Rattle.script_model.specs.Settle.{Notice}
+use Rattle.script_model.specs.Step.{Moment, Reply, name_of, moved, reply_to, Done, Stable, Shown, Tells, Refused, Height, Because, Settle, Act, Refuse, printed, Follows, Stabilizes, settles, by_cycle, by_height, verdict_of}
 use Rattle.script_model.specs.Values.{Outcome, Val, Invalid, Int, Text, Reference, printed_outcome}
 use Rattle.script_model.specs.Valid.{KeepToTypes}
 use Rattle.script_model.specs.Values as values
@@ -168,15 +169,19 @@ module _ (F : Meanings) (new : Kept) (m : Moment) (called calls : ℕ) (h : IsAc
   abbrev reply : Reply
   reply = Stable (m.present.accepted + 1)
 
+  -- no notice is told today
+  told_alone : Stabilizes F m h.after (reply ∷ [])
+  told_alone = subst (λ (ns : List Notice). Stabilizes F m h.after (reply ∷ map (λ n. Tells n) ns)) h.today h.stabilizes
+
   count_is : new.accepted ≡ m.present.accepted + 1
-  count_is = sym h.matches.accepted ∙ count_of F m h.after (m.present.accepted + 1) [] h.stabilizes
+  count_is = sym h.matches.accepted ∙ count_of F m h.after (m.present.accepted + 1) [] told_alone
 
   pub followed_stabilize : (written appended : List ℕ) → appended ≡ written ++ stable_line new.accepted
       → IsAnswered F m (Follows F m (verdict_on m Stabilize)) new written appended called calls did.Accepted
   followed_stabilize written appended print = record {
     after = h.after;
     replies = reply ∷ [];
-    leads = h.stabilizes;
+    leads = told_alone;
     work = h.work;
     due = h.due;
     matches = h.matches;
@@ -189,7 +194,7 @@ module _ (F : Meanings) (new : Kept) (m : Moment) (called calls : ℕ) (h : IsAc
   pub stops_accepted : (line : List ℕ) → KeepToTypes F → ValidMoment F m → AsksStabilize line → m.broken ≡ None → Stops F m line new called calls
   stops_accepted line keep valid asks unbroken =
       let halts : Halts F m line h.after h.work = run.accepted (m.present.accepted + 1) [] asks
-      (subst (λ v. Follows F m v h.after (reply ∷ [])) (sym (asks_to_settle F m unbroken)) h.stabilizes) h.due in
+      (subst (λ v. Follows F m v h.after (reply ∷ [])) (sym (asks_to_settle F m unbroken)) told_alone) h.due in
       record {
         after = h.after;
         due = h.work;
