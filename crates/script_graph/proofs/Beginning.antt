@@ -95,18 +95,16 @@ module _ (g : Standing (Unit {0})) (nodes : (n : NodeId) → row_at g.nodes n �
         names = record { declared = refl; now = refl; in_use = λ name. refl };
         accepted = refl;
         broken = refl;
-        holds = λ whole. record {
-          represents = first_represents;
-          watches = record {
-            made = [];
-            one_each = sym (rw observers refl);
-            in_order = refl;
-            ended = λ o is. absurd (cc);
-            observing = λ o x is. absurd (cc);
-            named = λ i o name is at. absurd (cc);
-            apart = λ o p x y at also same. absurd (cc);
-          };
-          settled = first_settled cutoff;
+        represents = first_represents;
+        watches = record {
+          made = [];
+          one_each = sym (rw observers refl);
+          in_order = refl;
+          ended = λ o is. absurd (cc);
+          observing = λ o x is. absurd (cc);
+          named = λ i o name is at. absurd (cc);
+          apart = λ o p x y at also same. absurd (cc);
         };
+        settled = λ whole. first_settled cutoff;
       };
     }

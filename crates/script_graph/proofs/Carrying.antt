@@ -41,14 +41,14 @@ base_outcome nodes nodes' Invalid base = refl
 -- ---- observers
 
 module _ (s s' : State) (k k' : Kept) (beside : KeepsBesideGiven k.graph k'.graph) (observers : k'.observers ≡ k.observers)
-    (names : k'.names.observers ≡ k.names.observers) (same : s'.observers ≡ s.observers)
+    (names : k'.names.observers ≡ k.names.observers) (broken : k'.broken ≡ k.broken) (same : s'.observers ≡ s.observers)
     (nodes : (n : ℕ) (b : Body) → body_at s n ≡ Some b → node_in k'.nodes n ≡ node_in k.nodes n)
     (given : (n : ℕ) (b : Body) → body_at s n ≡ Some b → Given (arena_of k).given (node_in k.nodes n))
     (stays : (n : ℕ) (b : Body) → body_at s n ≡ Some b → (c : Body) × (body_at s' n ≡ Some c)) where
   shown_on : (o : ObsId) (x : Observer) (b : Body) → body_at s x.target ≡ Some b → IsTodaysObserver x → IsShown k o x → IsShown k' o x
   shown_on o x b is today h = record {
-    earlier = λ low.
-        let e = h.earlier (subst (λ (r : ℕ). o.0 < r) beside.rooted low) in (
+    earlier = λ whole low.
+        let e = h.earlier (sym broken ∙ whole) (subst (λ (r : ℕ). o.0 < r) beside.rooted low) in (
           e.0,
           e.1,
           ap (shown_of k'.graph) (nodes x.target b is) ∙ (beside.shown (node_in k.nodes x.target) (given x.target b is)

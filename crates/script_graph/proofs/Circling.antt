@@ -29,11 +29,11 @@ use Rattle.script_model.proofs.Today.{today_has_no_cycle}
 use Rattle.script_graph.specs.Kept.{Kept, arena_of, node_in, without_functions}
 use Rattle.script_graph.specs.Represents.{graph_functions, beside, AreNames, IsOwnFormula, Represents}
 use Rattle.script_graph.specs.Stabilizing.{IsCircular, IsMainOf, MainsIn, CyclePasses, behind_first}
-use Rattle.script_graph.specs.State.{Holds, Stands}
+use Rattle.script_graph.specs.State.{Stands}
 use Rattle.script_graph.proofs.ComingBack.{once_behind}
 use Rattle.script_graph.proofs.Beside.{represented_fits}
 use Rattle.script_graph.proofs.Calling.{few_calls}
-use Rattle.script_graph.proofs.CuttingShort.{broken_matches}
+use Rattle.script_graph.proofs.CuttingShort.{KeepsNodes, broken_matches, keeps_without, refused_keeps}
 use Rattle.script_graph.proofs.Declaring.{named_entry}
 use Rattle.script_graph.proofs.Functions.{functions_are}
 use Rattle.script_graph.proofs.Owning.{aged_item, aged_part, own_body, own_node}
@@ -212,9 +212,6 @@ module _ (named : List ℕ → Option FnRef) (value : FnRef → List GraphValue 
   abbrev s : State
   s = m.present
 
-  holds : Holds F k m
-  holds = stands.matches.holds unbroken
-
   -- the names that a listed cycle passes are a cycle of met names, with the first of them once more at its end
   pub passed_cycle : (p q : Point) (rest : List Point) (names : List ℕ)
       → IsListed (graph_functions F) k.graph (p ∷ q ∷ rest) → ComesBack (p ∷ q ∷ rest)
@@ -222,13 +219,13 @@ module _ (named : List ℕ → Option FnRef) (value : FnRef → List GraphValue 
       × Every (λ n. Met F m.settled s (Named n)) names
   passed_cycle p q rest names listed back passes =
       let covered = meeting_is_covered named value W m k stands unbroken sound whole p (listed.met p refl) in
-      cycles_are_named (beside F s k) (represented_fits named value s k holds.represents) stands.keep stands.valid.1
-      holds.represents.apart (parts_apart F s k holds.represents) m.settled (valid_grabs F m.settled stands.valid.0)
-      holds.settled.still.formulas p q rest names covered listed.walk
+      cycles_are_named (beside F s k) (represented_fits named value s k stands.matches.represents) stands.keep stands.valid.1
+      stands.matches.represents.apart (parts_apart F s k stands.matches.represents) m.settled (valid_grabs F m.settled stands.valid.0)
+      (stands.matches.settled unbroken).still.formulas p q rest names covered listed.walk
       (subst (λ (r : Point). EndsAt r (q ∷ rest)) (sym back.starts) (ends_as (q ∷ rest) back.point back.ends)) (once_behind p q back.point rest back.front back.is_front back.starts back.once) passes
 
   -- the model may refuse the stabilize for the declarations whose mains the cycle passes
-  module _ {N : Functions} (g : Standing (Unit {0})) (called calls : ℕ) (few : HasCalledMet N k.graph called calls) where
+  module _ {N : Functions} (g : Standing (Unit {0})) (called calls : ℕ) (keeps : KeepsNodes k.graph g) (few : HasCalledMet N k.graph called calls) where
     abbrev broken : Kept
     broken = record k { broken = Some 20; graph = g }
 
@@ -238,7 +235,7 @@ module _ (named : List ℕ → Option FnRef) (value : FnRef → List GraphValue 
     circular [] targets listed back mains = absurd back.starts
     circular (p ∷ []) targets listed back mains = absurd (let long = back.long in omega (arith, long))
     circular (p ∷ q ∷ rest) targets listed back mains =
-        let c = passed_cycle p q rest targets listed back (mains_passed F s k holds.represents stands.matches.names p (q ∷ rest) targets mains) in
+        let c = passed_cycle p q rest targets listed back (mains_passed F s k stands.matches.represents stands.matches.names p (q ∷ rest) targets mains) in
         let met = subst (λ (ns : List ℕ). Every (λ n. Met F m.settled s (Named n)) ns) c.2 c.4 in (
           c.0,
           c.1,
@@ -246,8 +243,8 @@ module _ (named : List ℕ → Option FnRef) (value : FnRef → List GraphValue 
           record {
             after = record m { broken = Some 20 };
             stabilizes = by_cycle (c.0 ∷ (c.1 ++ c.0 ∷ [])) c.0 c.3 (inl refl) met.0 refl refl;
-            within = few_calls N s k.graph called calls holds.represents.today.calls few;
-            matches = broken_matches F m k g 20 stands.matches;
+            within = few_calls N s k.graph called calls stands.matches.represents.today.calls few;
+            matches = broken_matches F m k g 20 keeps stands.matches;
           },
         )
 
@@ -267,9 +264,9 @@ module _ (named : List ℕ → Option FnRef) (value : FnRef → List GraphValue 
   none_comes_back [] listed back = back.starts
   none_comes_back (p ∷ []) listed back = let long = back.long in omega (arith, long)
   none_comes_back (p ∷ q ∷ rest) listed back =
-      let names = passes_some (beside F s k) holds.represents.today.plain p (q ∷ rest) in
+      let names = passes_some (beside F s k) stands.matches.represents.today.plain p (q ∷ rest) in
       let c = passed_cycle p q rest names.0 listed back names.1 in
-      today_has_no_cycle F s (plain_is_todays s holds.represents.today.plain) c.0 (first_on_cycle F s c.0 (c.1 ++ c.0 ∷ []) c.3)
+      today_has_no_cycle F s (plain_is_todays s stands.matches.represents.today.plain) c.0 (first_on_cycle F s c.0 (c.1 ++ c.0 ∷ []) c.3)
 
   no_cycle : (met : Refused) → IsLawful (graph_functions F) k.graph met → kept_of met ≡ fault.Cycle → ⊥
   no_cycle (refused.Cycle points) lawful e = none_comes_back points.items lawful.0 lawful.1
@@ -299,7 +296,7 @@ module _ {A : Type 0} (named : List ℕ → Option FnRef) (value : FnRef → Lis
       × IsCircular (meanings_of named value) m (record k { broken = Some 20; graph = without_functions new }) (first ∷ (more ++ first ∷ [])) called calls
   session_circular targets called calls passes few =
       circular_met named value W m k stands (stands.matches.broken ∙ unbroken) kept_sound kept_whole (without_functions new) called calls
-      (subst (λ (h : Standing (Unit {0})). HasCalledMet (maps_alone (seen_value value)) h called calls) (sym same)
+      (keeps_without k old new same (refused_keeps done)) (subst (λ (h : Standing (Unit {0})). HasCalledMet (maps_alone (seen_value value)) h called calls) (sym same)
       (few_without (maps_alone (seen_value value)) old called calls few)) new.refused done.met targets done.broken done.is_cause
       kept_lawful passes
 

@@ -25,7 +25,7 @@ use Rattle.script_graph.specs.Growing.{Extends}
 use Rattle.script_graph.specs.Kept.{Kept, arena_of, node_in, no_node}
 use Rattle.script_graph.specs.Represents.{AreNames, beside, Represents}
 use Rattle.script_graph.specs.Today.{IsPlain, ArePlain, IsPlainBody, IsEarlierTarget, AllPlain, IsWithin, IsPartWithin, OwnNodesOf}
-use Rattle.script_graph.specs.State.{Holds, MatchesMoment}
+use Rattle.script_graph.specs.State.{MatchesMoment}
 use Rattle.script_graph.proofs.Carrying.{watches_on, leaves_beside, settled_on}
 use Rattle.script_graph.proofs.Extending.{live_stays, declares_still, body_within, body_there, node_given, never_given, body_past, node_past}
 use Rattle.script_graph.proofs.Callers.{HasNewCalls, few_calls_on}
@@ -364,26 +364,21 @@ module _ (named : List ℕ → Option FnRef) (value : FnRef → List GraphValue 
       };
     }
 
-  holds_after : AreNames k.names s → Declares (beside F s' new) root (Some body) → Holds F k m → Holds F new (moved m (Declare name ty body))
-  holds_after names shows h = record {
-    represents = declared_represents names h.represents shows;
-    watches = watches_on s s' k new more.beside refl refl refl (λ n b is. node_old names h.represents shows n (body_within F s k h.represents n b is))
-        (node_given F s k h.represents sound)
-        (λ n b is. (b, body_old s name ty body n (body_within F s k h.represents n b is) ∙ is)) h.watches;
-    settled = settled_on F m.settled s s' k new (leaves_beside k new more.beside more.given) (record {
-      formulas = declared_formulas s name ty body;
-      targets = λ n e is. (e, entry_old s name ty body n (slice_get_within s.entries n e is) ∙ is, refl);
-      names = λ n e is. node_old names h.represents shows n (slice_get_within s.entries n e is);
-      rows = stays;
-    }) (λ x among is. among) h.settled;
-  }
-
   -- the script with the declaration is matched, where the new node shows it
   pub declaring_stands : Declares (beside F s' new) root (Some body) → k.broken ≡ None → MatchesMoment F k m
       → MatchesMoment F new (moved m (Declare name ty body))
-  declaring_stands shows whole h = record {
+  declaring_stands shows unbroken h = record {
     names = names_on h.names;
     accepted = h.accepted;
     broken = h.broken;
-    holds = λ unbroken. holds_after h.names shows (h.holds unbroken);
+    represents = declared_represents h.names h.represents shows;
+    watches = watches_on s s' k new more.beside refl refl refl refl (λ n b is. node_old h.names h.represents shows n (body_within F s k h.represents n b is))
+        (node_given F s k h.represents sound)
+        (λ n b is. (b, body_old s name ty body n (body_within F s k h.represents n b is) ∙ is)) h.watches;
+    settled = λ whole. settled_on F m.settled s s' k new (leaves_beside k new more.beside more.given) (record {
+      formulas = declared_formulas s name ty body;
+      targets = λ n e is. (e, entry_old s name ty body n (slice_get_within s.entries n e is) ∙ is, refl);
+      names = λ n e is. node_old h.names h.represents shows n (slice_get_within s.entries n e is);
+      rows = stays;
+    }) (λ x among is. among) (h.settled whole);
   }

@@ -14,7 +14,7 @@ use Rattle.script_model.specs.Step.{Moment, moved}
 use Rattle.script_graph.specs.Kept.{Kept, HasNode, IsSound, arena_of, node_in}
 use Rattle.script_graph.specs.Represents.{there_in, IsShown, Watches}
 use Rattle.script_graph.specs.Settled.{rooted_at, StillDeclares}
-use Rattle.script_graph.specs.State.{Holds, MatchesMoment}
+use Rattle.script_graph.specs.State.{MatchesMoment}
 use Rattle.script_graph.proofs.Carrying.{LeavesBeside, settled_on}
 use Rattle.script_graph.proofs.Held.{rooted_looks, looks_rooted}
 use Rattle.script_graph.proofs.Observing.{get_some, there_is_among}
@@ -323,11 +323,8 @@ module _ (k : Kept) (name d : List ℕ) (i : ℕ) (o : ObsId) (g : Standing (Uni
     abbrev then : State
     then = record s { observers = filter (is_other name) s.observers }
 
-    held : Holds F k m
-    held = stands.holds unbroken
-
     w : Watches s k
-    w = held.watches
+    w = stands.watches
 
     ended_one : (x : Observer) × (slice_get w.made o.0 ≡ Some (Some x)) × (x.name ≡ name)
     ended_one = w.named i o name at_id at_name
@@ -354,7 +351,7 @@ module _ (k : Kept) (name d : List ℕ) (i : ℕ) (o : ObsId) (g : Standing (Uni
 
     shown_still : (p : ObsId) (y : Observer) → IsShown k p y → IsShown new p y
     shown_still p y h = record {
-      earlier = λ less. let e = h.earlier (subst (λ (n : ℕ). p.0 < n) ends.rooted less) in
+      earlier = λ whole less. let e = h.earlier whole (subst (λ (n : ℕ). p.0 < n) ends.rooted less) in
           (e.0, e.1, ends.shown (node_in k.nodes y.target) ∙ e.2);
       later = λ more. h.later (subst (λ (n : ℕ). n ≤ p.0) ends.rooted more);
     }
@@ -442,9 +439,8 @@ module _ (k : Kept) (name d : List ℕ) (i : ℕ) (o : ObsId) (g : Standing (Uni
       names = record { declared = stands.names.declared; now = stands.names.now; in_use = names_left };
       accepted = stands.accepted;
       broken = stands.broken;
-      holds = λ e. record {
-        represents = represents_so F s (filter (is_other name) s.observers) s.accepted k new refl refl ends.nodes held.represents;
-        watches = watching;
-        settled = settled_on F m.settled s then k new leaves still (λ x among is. among_filter x (is_other name) s.observers among) held.settled;
-      };
+      represents = represents_so F s (filter (is_other name) s.observers) s.accepted k new refl refl ends.nodes stands.represents;
+      watches = watching;
+      settled = λ whole.
+          settled_on F m.settled s then k new leaves still (λ x among is. among_filter x (is_other name) s.observers among) (stands.settled whole);
     }

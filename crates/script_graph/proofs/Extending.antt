@@ -22,7 +22,7 @@ use Rattle.script_graph.specs.Growing.{Extends}
 use Rattle.script_graph.specs.Kept.{Kept, arena_of, node_in, no_node, without_functions}
 use Rattle.script_graph.specs.Represents.{beside, Represents}
 use Rattle.script_graph.specs.Today.{IsPlain, ArePlain, IsPlainBody, IsEarlierTarget, IsWithin, IsPartWithin}
-use Rattle.script_graph.specs.State.{Holds, MatchesMoment}
+use Rattle.script_graph.specs.State.{MatchesMoment}
 use Rattle.script_graph.proofs.Carrying.{base_value, watches_on, leaves_beside, settled_on}
 use Rattle.script_graph.proofs.Callers.{HasNewCalls, few_calls_on}
 use Rattle.script_graph.proofs.Owning.{own_nodes_of_on}
@@ -294,19 +294,19 @@ module _ (named : List ℕ → Option FnRef) (value : FnRef → List GraphValue 
       };
     }
 
-  holds_on : Holds F k m → Holds F new m
-  holds_on h = record {
+  -- what was matched is so still
+  pub stands_on : MatchesMoment F k m → MatchesMoment F new m
+  stands_on h = record {
+    names = h.names;
+    accepted = h.accepted;
+    broken = h.broken;
     represents = represents_on h.represents;
-    watches = watches_on m.present m.present k new more.beside refl refl refl (λ n b is. refl)
+    watches = watches_on m.present m.present k new more.beside refl refl refl refl (λ n b is. refl)
         (node_given F m.present k h.represents sound) (λ n b is. (b, is)) h.watches;
-    settled = settled_on F m.settled m.present m.present k new (leaves_beside k new more.beside more.given) (record {
+    settled = λ whole. settled_on F m.settled m.present m.present k new (leaves_beside k new more.beside more.given) (record {
       formulas = λ owner path f is. is;
       targets = λ n e is. (e, is, refl);
       names = λ n e is. refl;
       rows = stays;
-    }) (λ x among is. among) h.settled;
+    }) (λ x among is. among) (h.settled whole);
   }
-
-  -- what was matched is so still
-  pub stands_on : MatchesMoment F k m → MatchesMoment F new m
-  stands_on h = record { names = h.names; accepted = h.accepted; broken = h.broken; holds = λ whole. holds_on (h.holds whole) }

@@ -20,7 +20,7 @@ use Rattle.script_graph.specs.Represents.{there_in, AreNames, IsObserver, IsShow
 use Rattle.script_graph.specs.Today.{IsBaseOutcome}
 use Rattle.script_graph.specs.Settled.{StillDeclares}
 use Rattle.script_graph.specs.Shown.{ShowsIt, engine_outcome}
-use Rattle.script_graph.specs.State.{Holds, MatchesMoment}
+use Rattle.script_graph.specs.State.{MatchesMoment}
 use Rattle.script_graph.proofs.Carrying.{LeavesBeside, settled_on}
 use Rattle.script_graph.proofs.Held.{rooted_looks, looks_rooted}
 use Rattle.script_graph.proofs.Same.{represents_so}
@@ -151,11 +151,8 @@ module _ (F : Meanings) (k : Kept) (m : Moment) (name : List ℕ) (target : ℕ)
   abbrev then : State
   then = record s { observers = s.observers ++ x ∷ [] }
 
-  held : Holds F k m
-  held = stands.holds unbroken
-
   w : Watches s k
-  w = held.watches
+  w = stands.watches
 
   nodes_same : g.nodes ≡ k.graph.nodes
   nodes_same = ap (λ (h : Standing (Unit {0})). h.nodes) observes.rest
@@ -183,7 +180,7 @@ module _ (F : Meanings) (k : Kept) (m : Moment) (name : List ℕ) (target : ℕ)
 
   old_shown : (p : ObsId) (y : Observer) → IsShown k p y → IsShown new p y
   old_shown p y h = record {
-    earlier = λ less. let e = h.earlier (subst (λ (n : ℕ). p.0 < n) rooted_same less) in
+    earlier = λ whole less. let e = h.earlier whole (subst (λ (n : ℕ). p.0 < n) rooted_same less) in
         (e.0, e.1, ap (λ (h : Standing (Unit {0})). shown_of h (node_in k.nodes y.target)) observes.rest ∙ e.2);
     later = λ more. h.later (subst (λ (n : ℕ). n ≤ p.0) rooted_same more);
   }
@@ -209,7 +206,7 @@ module _ (F : Meanings) (k : Kept) (m : Moment) (name : List ℕ) (target : ℕ)
     looks = new_looks p e;
     target = target_there;
     shown = record {
-      earlier = λ less. absurd (let r = rooted in let c = w.one_each in let same = rooted_same in omega (arith, less, e, r, c, same));
+      earlier = λ whole less. absurd (let r = rooted in let c = w.one_each in let same = rooted_same in omega (arith, less, e, r, c, same));
       later = λ more. refl;
     };
     today = record { unwatched = refl; base = λ q is. absurd (cc) };
@@ -298,11 +295,9 @@ module _ (F : Meanings) (k : Kept) (m : Moment) (name : List ℕ) (target : ℕ)
     names = names;
     accepted = stands.accepted;
     broken = stands.broken;
-    holds = λ e. record {
-      represents = represents_so F s (s.observers ++ x ∷ []) s.accepted k new refl refl nodes_same held.represents;
-      watches = watching;
-      settled = settled_on F m.settled s then k new leaves still shown_was held.settled;
-    };
+    represents = represents_so F s (s.observers ++ x ∷ []) s.accepted k new refl refl nodes_same stands.represents;
+    watches = watching;
+    settled = λ whole. settled_on F m.settled s then k new leaves still shown_was (stands.settled whole);
   }
 
 -- ---- what one shows
@@ -317,7 +312,7 @@ graph_is_engine nodes Invalid base = refl
 module _ (F : Meanings) (k : Kept) (m : Moment) (stands : MatchesMoment F k m) (unbroken : m.broken ≡ None) (i : ℕ) (o : ObsId) (name : List ℕ)
     (at_id : slice_get k.observers i ≡ Some o) (at_name : slice_get k.names.observers i ≡ Some name) where
   seen_by : Watches m.present k
-  seen_by = (stands.holds unbroken).watches
+  seen_by = stands.watches
 
   found : (y : Observer) × IsObserver m.present k o y × (find_observer m.present.observers name ≡ Some y)
   found =
@@ -334,7 +329,7 @@ module _ (F : Meanings) (k : Kept) (m : Moment) (stands : MatchesMoment F k m) (
       → ShowsIt m.present name out
   shows_it n out looks shows earlier =
       let f = found in
-      let e = f.1.shown.earlier earlier in
+      let e = f.1.shown.earlier (sym stands.broken ∙ unbroken) earlier in
       let same_node : node_in k.nodes f.0.target ≡ n = let l = sym f.1.looks ∙ looks in cc in
       let same : graph_outcome (node_in k.nodes) e.0 ≡ out =
       let l = sym e.2 ∙ ap (shown_of k.graph) same_node ∙ shows in cc in

@@ -29,7 +29,7 @@ use Rattle.script_graph.specs.Kept.{Kept, arena_of, node_in, no_node}
 use Rattle.script_graph.specs.Represents.{graph_functions, besides, beside, there_in, Watches}
 use Rattle.script_graph.specs.Today.{IsPlainBody, IsEarlierTarget, AllPlain, IsWithin}
 use Rattle.script_graph.specs.Settled.{side_of, observed_by, Settled}
-use Rattle.script_graph.specs.State.{Holds, Stands}
+use Rattle.script_graph.specs.State.{Stands}
 use Rattle.script_graph.proofs.Beside.{represented_fits}
 use Rattle.script_graph.proofs.Extending.{never_given, node_past}
 use Rattle.script_graph.proofs.Held.{looked_within, observed_nodes, rooted_looks, needed_held, stood_beside}
@@ -121,11 +121,8 @@ module _ (named : List ℕ → Option FnRef) (value : FnRef → List GraphValue 
   abbrev before : State
   before = m.settled
 
-  holds : Holds F k m
-  holds = stands.matches.holds unbroken
-
   pub st : Settled F before s k
-  st = holds.settled
+  st = stands.matches.settled unbroken
 
   abbrev left : Both
   left = besides F before st.nodes st.arena
@@ -134,7 +131,7 @@ module _ (named : List ℕ → Option FnRef) (value : FnRef → List GraphValue 
   then = beside F s k
 
   fits : Fits then
-  fits = represented_fits named value s k holds.represents
+  fits = represented_fits named value s k stands.matches.represents
 
   -- ---- the state is a later one
 
@@ -158,7 +155,7 @@ module _ (named : List ℕ → Option FnRef) (value : FnRef → List GraphValue 
           let entry = body_entry before owner (Computed f kept) is in
           let formula : formula_at before owner [] ≡ Some f =
           ap (λ (b : Option Body). and_then b (λ c. and_then (formula_of_body c) (λ g. part_of g []))) is in
-          by_body owner n (body_at s owner) refl (λ c at. holds.represents.today.plain owner c at)
+          by_body owner n (body_at s owner) refl (λ c at. stands.matches.represents.today.plain owner c at)
           (st.still.names owner entry.0 entry.1 ∙ (cc)) f (st.still.formulas owner [] f formula)
       go (Some b) is fine at = absurd (fine b refl)
 
@@ -186,10 +183,10 @@ module _ (named : List ℕ → Option FnRef) (value : FnRef → List GraphValue 
   holders : HoldersAre left then (side_of k.graph) (observed_by k.graph)
   holders (Observing o) n root still =
       let looks = rooted_looks k.graph o n root in
-      let w = holds.watches in
+      let w = stands.matches.watches in
       let z = made_there s k w o n looks.1 in
       let is = w.observing o z.0 z.1 in
-      let p = is.shown.earlier looks.0 in
+      let p = is.shown.earlier (sym stands.matches.broken ∙ unbroken) looks.0 in
       let among : Among z.0 s.observers = subst (Among z.0) (sym w.in_order) (among_there w.made o.0 z.0 z.1) in
       let root_then = st.watched z.0 among (subst (λ (x : Option _). IsSome x) (sym p.1) refl) in
       let entry = root_entry F before st.today.plain stands.valid.0 z.0.target root_then in
@@ -221,12 +218,12 @@ module _ (named : List ℕ → Option FnRef) (value : FnRef → List GraphValue 
   -- ---- what is met, and which calls are due
 
   roots_now : RootsAre then (nodes_of (observed_by k.graph))
-  roots_now = subst (RootsAre then) (sym (observed_nodes 0 k.graph.observers)) (watched_roots_are F s k holds.represents.today.plain holds.watches)
+  roots_now = subst (RootsAre then) (sym (observed_nodes 0 k.graph.observers)) (watched_roots_are F s k stands.matches.represents.today.plain stands.matches.watches)
 
   -- what the graph meets is covered by what the script meets
   pub meeting_is_covered : (p : Point) → IsMet (graph_functions F) k.graph p → CoveredBy then (Met F before s) p
   meeting_is_covered p met =
-      met_is_covered left then (side_of k.graph) (observed_by k.graph) remembers fits stands.valid.1 holds.represents.apart roots_now p
+      met_is_covered left then (side_of k.graph) (observed_by k.graph) remembers fits stands.valid.1 stands.matches.represents.apart roots_now p
       (subst (λ (ns : List NodeId). GraphMet (graph_functions F) (graph_of (arena_of k)) none_died ns (Held (side_of k.graph) (observed_by k.graph)) p)
       (sym (observed_nodes 0 k.graph.observers))
       (met_more (graph_functions F) (graph_of (arena_of k)) none_died (in_use k.graph.observers) (IsNeeded k.graph)
@@ -242,5 +239,5 @@ module _ (named : List ℕ → Option FnRef) (value : FnRef → List GraphValue 
   pub due_is_covered : (calls : ℕ) → GraphWork (graph_functions F) (graph_of (arena_of k)) none_died (observed_by k.graph) (side_of k.graph) calls
       → WithinWork F before s calls
   due_is_covered calls work =
-      work_is_covered left then (side_of k.graph) (observed_by k.graph) remembers fits stands.valid.1 holds.represents.apart roots_now
+      work_is_covered left then (side_of k.graph) (observed_by k.graph) remembers fits stands.valid.1 stands.matches.represents.apart roots_now
       calls work

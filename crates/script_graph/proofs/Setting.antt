@@ -26,9 +26,10 @@ use Rattle.script_model.specs.Run.{calls_of_body}
 use Rattle.script_model.specs.Step.{Moment, changed_at, with_body, moved}
 use Rattle.script_model.specs.Values.{Value, Int, Bool as Truth, Text, Reference, type_of, to_engine}
 use Rattle.script_graph.specs.Kept.{Kept, arena_of, node_in, no_node}
-use Rattle.script_graph.specs.Represents.{AreNames, beside, Represents}
+use Rattle.script_graph.specs.Represents.{AreNames, beside, Represents, Watches}
+use Rattle.script_graph.specs.Settled.{Settled}
 use Rattle.script_graph.specs.Today.{IsPlainBody, IsEarlierTarget, AllPlain, IsWithin, IsPartWithin, OwnNodesOf}
-use Rattle.script_graph.specs.State.{Holds, MatchesMoment}
+use Rattle.script_graph.specs.State.{MatchesMoment}
 use Rattle.script_graph.proofs.Carrying.{watches_on, leaves_beside, settled_on}
 use Rattle.script_graph.proofs.Declaring.{plain_body_more}
 use Rattle.script_graph.proofs.Extending.{declares_still, node_given, never_given, body_past, node_past}
@@ -321,17 +322,18 @@ module _ (named : List ℕ → Option FnRef) (value : FnRef → List GraphValue 
       | inr other ↦ (d, with_other (λ body. Variable v) s.entries target n other ∙ is, refl)
     ]
 
-    holds_after : Holds F k m → Holds F new (moved m (Assign target v))
-    holds_after h = record {
-      represents = set_represents h.represents;
-      watches = watches_on s s' k new sets.beside refl refl refl (λ n b is. refl) (node_given F s k h.represents sound) body_stays h.watches;
-      settled = settled_on F m.settled s s' k new (leaves_beside k new sets.beside (let same = sets.given in omega (arith, same))) (record {
-        formulas = formulas_on;
-        targets = targets_on;
-        names = λ n d is. refl;
-        rows = stays h.represents;
-      }) (λ x among is. among) h.settled;
-    }
+    watches_after : MatchesMoment F k m → Watches s' new
+    watches_after h =
+        watches_on s s' k new sets.beside refl refl refl refl (λ n b is. refl) (node_given F s k h.represents sound) body_stays h.watches
+
+    settled_after : MatchesMoment F k m → m.broken ≡ None → Settled F m.settled s' new
+    settled_after h whole =
+        settled_on F m.settled s s' k new (leaves_beside k new sets.beside (let same = sets.given in omega (arith, same))) (record {
+          formulas = formulas_on;
+          targets = targets_on;
+          names = λ n d is. refl;
+          rows = stays h.represents;
+        }) (λ x among is. among) (h.settled whole)
 
     names_on : AreNames k.names s → AreNames k.names s'
     names_on h = record {
@@ -349,5 +351,7 @@ module _ (named : List ℕ → Option FnRef) (value : FnRef → List GraphValue 
         names = names_on d.0 d.1 d.2 d.3 h.names;
         accepted = h.accepted;
         broken = h.broken;
-        holds = λ whole. holds_after d.0 d.1 d.2 d.3 (h.holds whole);
+        represents = set_represents d.0 d.1 d.2 d.3 h.represents;
+        watches = watches_after d.0 d.1 d.2 d.3 h;
+        settled = settled_after d.0 d.1 d.2 d.3 h;
       }

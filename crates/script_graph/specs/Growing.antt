@@ -1,5 +1,5 @@
 -- A graph to which nodes were added, and the nodes that are made for a plan.
-use Rattle.std.specs.Prelude.{◌≡◌, ◌⊎◌, ◌+◌, ◌<◌, ◌≤◌, ℕ, Bool, List, [], ◌∷◌, length, None, Some, IsTrue, slice_get}
+use Rattle.std.specs.Prelude.{◌≡◌, ◌⊎◌, ◌+◌, ◌<◌, ◌≤◌, ℕ, Bool, List, [], ◌∷◌, length, Some, IsTrue, slice_get}
 use Rattle.std.specs.List.{AllZip}
 use Rattle.inc_value.specs.Choice.{Among, Every}
 use Rattle.inc_value.specs.Ty.{IsBase}

@@ -75,9 +75,10 @@ there_in [] = []
 there_in (None ∷ xs) = there_in xs
 there_in (Some x ∷ xs) = x ∷ there_in xs
 
--- what an observer shows is what the graph shows of its node, where it was there when a stabilize was accepted last; a later one shows nothing yet
+-- what an observer shows is what the graph shows of its node, where it was there when a stabilize was accepted last, unless the session is broken; a later
+-- one shows nothing yet
 pub record IsShown (k : Kept) (o : ObsId) (x : Observer) : Type 0 where
-  pub earlier : o.0 < k.graph.rooted → (p : Outcome) × (x.shown ≡ Some p)
+  pub earlier : k.broken ≡ None → o.0 < k.graph.rooted → (p : Outcome) × (x.shown ≡ Some p)
       × (shown_of k.graph (node_in k.nodes x.target) ≡ Some (graph_outcome (node_in k.nodes) p))
   pub later : k.graph.rooted ≤ o.0 → x.shown ≡ None
 

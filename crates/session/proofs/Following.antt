@@ -27,6 +27,7 @@ use Rattle.script_graph.specs.Today.{IsBaseOutcome}
 use Rattle.script_graph.specs.Shown.{ShowsIt, ShowsNothing, engine_outcome}
 use Rattle.script_graph.specs.Stabilizing.{IsAccepted, IsTooDeep, IsCutShort}
 use Rattle.script_graph.specs.State.{MatchesMoment, Stands}
+use Rattle.script_graph.proofs.CuttingShort.{broken_matches}
 use Rattle.session.specs.Answered.{Extends, IsAnswered, verdict_on}
 use Rattle.session.specs.Replies.{line_of, done_line, shown_line, refused_line, stable_line, too_deep_line, name_in}
 use Rattle.session.specs.Taken.{AsksStabilize, Stops}
@@ -97,7 +98,7 @@ refused_because F k m command why calls written appended refuses st print = reco
 
 module _ (F : Meanings) (k : Kept) (m : Moment) (st : Stands F k m) (unbroken : k.broken ≡ None) (name : List ℕ) (ty : Ty) (body : Body) where
   room_is : k.room + places_of m.present ≡ 1048575
-  room_is = (st.matches.holds (st.matches.broken ∙ unbroken)).represents.room
+  room_is = st.matches.represents.room
 
   pub followed_declare : (new : Kept) (calls : ℕ) (written appended : List ℕ) → places_of_body body ≤ k.room
       → MatchesMoment F new (moved m (Declare name ty body)) → appended ≡ written ++ done_line
@@ -247,12 +248,8 @@ module _ (F : Meanings) (new : Kept) (m : Moment) (target called calls : ℕ) (h
       → Stops F m line (record new { broken = Some 0 }) called calls
   stops_too_deep line keep valid asks unbroken =
       let is = broken_by_height F m h.after target h.stabilizes in
-      let there : MatchesMoment F (record new { broken = Some 0 }) (record h.after { broken = Some 0 }) = record {
-        names = h.matches.names;
-        accepted = h.matches.accepted;
-        broken = refl;
-        holds = λ none. absurd (cc);
-      } in
+      let there : MatchesMoment F (record new { broken = Some 0 }) (record h.after { broken = Some 0 }) =
+      broken_matches F h.after new new.graph 0 (record { nodes = refl; observers = refl; rooted = refl }) h.matches in
       stops_broken F (record new { broken = Some 0 }) m line called calls keep valid asks unbroken
       (subst (λ (x : Moment). MatchesMoment F (record new { broken = Some 0 }) (record x { broken = Some 0 })) is there) h.within
 
