@@ -17,7 +17,7 @@ use Rattle.inc_value.specs.declared.value.Value.{Value as GraphValue}
 use Rattle.inc_terms.specs.Depend.{main}
 use Rattle.inc_terms.specs.Term.{Functions}
 use Rattle.node_arena.specs.Graph.{graph_of}
-use Rattle.script_graph.specs.Today.{maps_alone, IsPlainBody, IsEarlierTarget, AllPlain, IsWithin, IsPartWithin}
+use Rattle.script_graph.specs.Today.{maps_alone, IsPlainBody, IsEarlierTarget, AllPlain, IsWithin, IsPartWithin, IsOwnFormula}
 use Rattle.script_model.specs.Blocked.{NameReads, EachReads, LastIs, IsCycle, OnCycle}
 use Rattle.script_model.specs.Check.{Declared, declared_of, target_of_body}
 use Rattle.script_model.specs.Formula as script
@@ -27,7 +27,7 @@ use Rattle.script_model.specs.Step.{Moment, by_cycle}
 use Rattle.script_model.specs.Values.{Value, seen_value}
 use Rattle.script_model.proofs.Today.{today_has_no_cycle}
 use Rattle.script_graph.specs.Kept.{Kept, arena_of, node_in, without_functions}
-use Rattle.script_graph.specs.Represents.{graph_functions, beside, AreNames, IsOwnFormula, Represents}
+use Rattle.script_graph.specs.Represents.{graph_functions, beside, AreNames, Represents}
 use Rattle.script_graph.specs.Stabilizing.{IsCircular, IsMainOf, MainsIn, CyclePasses, behind_first}
 use Rattle.script_graph.specs.State.{Stands}
 use Rattle.script_graph.proofs.ComingBack.{once_behind}

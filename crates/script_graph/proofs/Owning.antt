@@ -11,8 +11,8 @@ use Rattle.script_model.specs.Formula.{State, Body, Formula, Formulas, Meanings,
 use Rattle.script_model.specs.Need.{Edge, Argument, Test, Then, Else, Child, Left, Inside, Item, Named, Place, argument_at, part_at, part_of, formula_at}
 use Rattle.script_model.specs.Values.{to_engine}
 use Rattle.script_graph.specs.Kept.{Kept, arena_of, node_in}
-use Rattle.script_graph.specs.Represents.{IsOwnFormula, IsVariableBody, Computes, owner_of, beside, Represents}
-use Rattle.script_graph.specs.Today.{AllPlain, OwnNodes, OwnNodesOfAll, WholeNodes, OwnNodesOf, IsPartWithin, IsWithin}
+use Rattle.script_graph.specs.Represents.{beside, Represents}
+use Rattle.script_graph.specs.Today.{AllPlain, OwnNodes, OwnNodesOfAll, WholeNodes, OwnNodesOf, IsPartWithin, IsWithin, IsOwnFormula, IsVariableBody, Computes, owner_of}
 use Rattle.transfer.specs.Both.{Both}
 use Rattle.transfer.specs.Items.{part_node, root_at, node_at, node_of}
 use Rattle.transfer.specs.Keeping.{RowsStay}

@@ -109,7 +109,7 @@ module _ (F : Meanings) (s : State) (k : Kept) (g : Standing (Unit {0})) where
       };
       today = record {
         unwatched = ap (λ (v : Watch). watch_after v p) shows.unwatched;
-        base = λ q is. let same : p ≡ q = cc in subst IsBaseOutcome same shows.base;
+        base = λ q is. let same : p ≡ q = (let e : Some p ≡ Some q = is in cc) in subst IsBaseOutcome same shows.base;
       };
     }
 

@@ -20,8 +20,8 @@ use Rattle.script_model.specs.Need.{Item, Named, Place, formula_at, part_of}
 use Rattle.script_model.specs.Step.{Moment, by_height}
 use Rattle.script_model.specs.Values.{seen_value}
 use Rattle.script_graph.specs.Kept.{Kept, without_functions}
-use Rattle.script_graph.specs.Represents.{graph_functions, beside, Computes, IsVariableBody, IsOwnFormula, owner_of}
-use Rattle.script_graph.specs.Today.{IsWithin, maps_alone}
+use Rattle.script_graph.specs.Represents.{graph_functions, beside}
+use Rattle.script_graph.specs.Today.{IsWithin, maps_alone, Computes, IsVariableBody, IsOwnFormula, owner_of}
 use Rattle.script_graph.specs.Stabilizing.{IsTooDeep, ChainBegins, IsFirstNotOlder, AllOlder}
 use Rattle.script_graph.specs.State.{Stands}
 use Rattle.script_graph.proofs.Beside.{represented_fits, grabs_bind}

@@ -8,8 +8,7 @@ use Rattle.graph.specs.Standing.{node_at, shown_of}
 use Rattle.node_arena.specs.Arena.{Arena}
 use Rattle.node_arena.specs.Graph.{graph_of}
 use Rattle.script_model.specs.Check.{Names, names_of, is_among, target_of_body}
-use Rattle.script_model.specs.Formula.{Body, Formula, Entry, State, Observer, Meanings, body_at, entry_at, places_of, Name, Variable}
-use Rattle.script_model.specs.Need.{Item, Named, Place, formula_at}
+use Rattle.script_model.specs.Formula.{Body, Entry, State, Observer, Meanings, body_at, entry_at, places_of}
 use Rattle.script_model.specs.Values.{Outcome, to_engine, from_engine}
 use Rattle.script_graph.specs.Kept.{Kept, arena_of, node_in}
 use Rattle.script_graph.specs.Today.{maps_alone, IsTodaysObserver, IsTodaysScript}
@@ -37,25 +36,6 @@ abbrev pub beside : Meanings → State → Kept → Both
 beside F s k = besides F s k.nodes (arena_of k)
 
 -- ---- declarations
-
--- what an item computes itself: a variable, or a formula that is no bare name
-abbrev pub IsOwnFormula : Option Formula → Type 0
-IsOwnFormula None = ⊥
-IsOwnFormula (Some (Name n)) = ⊥
-IsOwnFormula (Some f) = Unit {0}
-
-abbrev pub IsVariableBody : Option Body → Type 0
-IsVariableBody (Some (Variable v)) = Unit {0}
-IsVariableBody body = ⊥
-
-abbrev pub Computes : State → Item → Type 0
-Computes s (Named n) = IsVariableBody (body_at s n)
-Computes s (Place owner path) = IsOwnFormula (formula_at s owner path)
-
--- the declaration that an item belongs to
-abbrev pub owner_of : Item → ℕ
-owner_of (Named n) = n
-owner_of (Place owner path) = owner
 
 -- the graph holds the declarations, at the script's time: each has its node, which shows what is declared, and two that are no other names have two nodes
 pub record Represents (F : Meanings) (s : State) (k : Kept) : Type 0 where

@@ -20,6 +20,7 @@ use Rattle.node_arena.specs.Graph.{graph_of}
 use Rattle.node_arena.specs.RightSide.{no_side}
 use Rattle.node_arena.specs.RightSideLaws.{meaning}
 use Rattle.script_model.specs.Formula.{Formula, Formulas, Body, State, Observer, body_at, Literal, Name, Apply, Fold, End, More, Variable, Computed, Unwatched, nothing_kept}
+use Rattle.script_model.specs.Need.{Item, Named, Place, formula_at}
 use Rattle.script_model.specs.Run.{most_calls}
 use Rattle.script_model.specs.Settle.{Notice}
 use Rattle.script_model.specs.Values.{Outcome, Val, Invalid, type_of, to_engine}
@@ -96,6 +97,29 @@ frozen_root n = None
 -- whether a node was asked to run anew
 abbrev pub none_stale : NodeId → Bool
 none_stale n = false
+
+-- ---- items that compute: variables, and formulas that are no bare names
+
+-- a formula that is no bare name
+abbrev pub IsOwnFormula : Option Formula → Type 0
+IsOwnFormula None = ⊥
+IsOwnFormula (Some (Name n)) = ⊥
+IsOwnFormula (Some f) = Unit {0}
+
+-- a variable
+abbrev pub IsVariableBody : Option Body → Type 0
+IsVariableBody (Some (Variable v)) = Unit {0}
+IsVariableBody body = ⊥
+
+-- an item that computes something itself
+abbrev pub Computes : State → Item → Type 0
+Computes s (Named n) = IsVariableBody (body_at s n)
+Computes s (Place owner path) = IsOwnFormula (formula_at s owner path)
+
+-- the declaration that an item belongs to
+abbrev pub owner_of : Item → ℕ
+owner_of (Named n) = n
+owner_of (Place owner path) = owner
 
 -- ---- ages: the nodes of a declaration were given after those of earlier ones, those of its parts before its own
 
