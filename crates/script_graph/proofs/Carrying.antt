@@ -47,12 +47,12 @@ module _ (s s' : State) (k k' : Kept) (beside : KeepsBesideGiven k.graph k'.grap
     (stays : (n : ℕ) (b : Body) → body_at s n ≡ Some b → (c : Body) × (body_at s' n ≡ Some c)) where
   shown_on : (o : ObsId) (x : Observer) (b : Body) → body_at s x.target ≡ Some b → IsTodaysObserver x → IsShown k o x → IsShown k' o x
   shown_on o x b is today h = record {
-    earlier = λ whole low.
-        let e = h.earlier (sym broken ∙ whole) (subst (λ (r : ℕ). o.0 < r) beside.rooted low) in (
+    earlier = λ low.
+        let e = h.earlier (subst (λ (r : ℕ). o.0 < r) beside.rooted low) in (
           e.0,
           e.1,
-          ap (shown_of k'.graph) (nodes x.target b is) ∙ (beside.shown (node_in k.nodes x.target) (given x.target b is)
-              ∙ (e.2 ∙ ap (λ p. Some p) (base_outcome (node_in k.nodes) (node_in k'.nodes) e.0 (today.base e.0 e.1)))),
+          λ whole. ap (shown_of k'.graph) (nodes x.target b is) ∙ (beside.shown (node_in k.nodes x.target) (given x.target b is)
+              ∙ (e.2 (sym broken ∙ whole) ∙ ap (λ p. Some p) (base_outcome (node_in k.nodes) (node_in k'.nodes) e.0 (today.base e.0 e.1)))),
         );
     later = λ high. h.later (subst (λ (r : ℕ). r ≤ o.0) beside.rooted high);
   }

@@ -1,5 +1,5 @@
 -- A stabilize that was cut short, and a refusal that never comes.
-use Rattle.std.proofs.Common.{◌≡◌, ◌≤◌, ℕ, List, length, Option, Some, refl, ap, sym, subst, ◌∙◌}
+use Rattle.std.proofs.Common.{◌≡◌, ◌<◌, ◌≤◌, ℕ, List, length, Option, Some, refl, ap, sym, subst, ◌∙◌}
 use Rattle.inc_value.specs.declared.function.FnRef.{FnRef}
 use Rattle.inc_value.specs.declared.node.NodeId.{NodeId}
 use Rattle.inc_value.specs.declared.node.ObsId.{ObsId}
@@ -58,7 +58,7 @@ watches_broken s k g number keeps w = record {
 
     still_shown : (o : ObsId) (x : Observer) → IsShown k o x → IsShown (record k { broken = Some number; graph = g }) o x
     still_shown o x h = record {
-      earlier = λ whole low. absurd (cc);
+      earlier = λ low. let e = h.earlier (subst (λ (r : ℕ). o.0 < r) keeps.rooted low) in (e.0, e.1, λ whole. absurd (cc));
       later = λ high. h.later (subst (λ (r : ℕ). r ≤ o.0) keeps.rooted high);
     }
 

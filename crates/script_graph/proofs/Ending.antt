@@ -351,8 +351,8 @@ module _ (k : Kept) (name d : List ℕ) (i : ℕ) (o : ObsId) (g : Standing (Uni
 
     shown_still : (p : ObsId) (y : Observer) → IsShown k p y → IsShown new p y
     shown_still p y h = record {
-      earlier = λ whole less. let e = h.earlier whole (subst (λ (n : ℕ). p.0 < n) ends.rooted less) in
-          (e.0, e.1, ends.shown (node_in k.nodes y.target) ∙ e.2);
+      earlier = λ less. let e = h.earlier (subst (λ (n : ℕ). p.0 < n) ends.rooted less) in
+          (e.0, e.1, λ whole. ends.shown (node_in k.nodes y.target) ∙ e.2 whole);
       later = λ more. h.later (subst (λ (n : ℕ). n ≤ p.0) ends.rooted more);
     }
 

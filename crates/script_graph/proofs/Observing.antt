@@ -180,8 +180,8 @@ module _ (F : Meanings) (k : Kept) (m : Moment) (name : List ℕ) (target : ℕ)
 
   old_shown : (p : ObsId) (y : Observer) → IsShown k p y → IsShown new p y
   old_shown p y h = record {
-    earlier = λ whole less. let e = h.earlier whole (subst (λ (n : ℕ). p.0 < n) rooted_same less) in
-        (e.0, e.1, ap (λ (h : Standing (Unit {0})). shown_of h (node_in k.nodes y.target)) observes.rest ∙ e.2);
+    earlier = λ less. let e = h.earlier (subst (λ (n : ℕ). p.0 < n) rooted_same less) in
+        (e.0, e.1, λ whole. ap (λ (h : Standing (Unit {0})). shown_of h (node_in k.nodes y.target)) observes.rest ∙ e.2 whole);
     later = λ more. h.later (subst (λ (n : ℕ). n ≤ p.0) rooted_same more);
   }
 
@@ -206,7 +206,7 @@ module _ (F : Meanings) (k : Kept) (m : Moment) (name : List ℕ) (target : ℕ)
     looks = new_looks p e;
     target = target_there;
     shown = record {
-      earlier = λ whole less. absurd (let r = rooted in let c = w.one_each in let same = rooted_same in omega (arith, less, e, r, c, same));
+      earlier = λ less. absurd (let r = rooted in let c = w.one_each in let same = rooted_same in omega (arith, less, e, r, c, same));
       later = λ more. refl;
     };
     today = record { unwatched = refl; base = λ q is. absurd (cc) };
@@ -329,10 +329,10 @@ module _ (F : Meanings) (k : Kept) (m : Moment) (stands : MatchesMoment F k m) (
       → ShowsIt m.present name out
   shows_it n out looks shows earlier =
       let f = found in
-      let e = f.1.shown.earlier (sym stands.broken ∙ unbroken) earlier in
+      let e = f.1.shown.earlier earlier in
       let same_node : node_in k.nodes f.0.target ≡ n = let l = sym f.1.looks ∙ looks in cc in
       let same : graph_outcome (node_in k.nodes) e.0 ≡ out =
-      let l = sym e.2 ∙ ap (shown_of k.graph) same_node ∙ shows in cc in
+      let l = sym (e.2 (sym stands.broken ∙ unbroken)) ∙ ap (shown_of k.graph) same_node ∙ shows in cc in
       let base = f.1.today.base e.0 e.1 in
       record { outcome = e.0; is_shown = rw f.2 e.1; base = base; same = sym (graph_is_engine (node_in k.nodes) e.0 base) ∙ same }
 

@@ -100,7 +100,7 @@ module _ (F : Meanings) (s : State) (k : Kept) (g : Standing (Unit {0})) where
       looks = subst (λ (os : List Looking). node_at os o ≡ Some (node_in k.nodes x.target)) (sym same) (w.observing o x at).looks;
       target = (w.observing o x at).target;
       shown = record {
-        earlier = λ whole before. (p, refl, shows.shown);
+        earlier = λ before. (p, refl, λ whole. shows.shown);
         later = λ le.
             let within : o.0 < length w.made = slice_get_within w.made o.0 (Some x) at in
             let each = w.one_each in

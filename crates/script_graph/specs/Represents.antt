@@ -55,11 +55,11 @@ there_in [] = []
 there_in (None ∷ xs) = there_in xs
 there_in (Some x ∷ xs) = x ∷ there_in xs
 
--- what an observer shows is what the graph shows of its node, where it was there when a stabilize was accepted last, unless the session is broken; a later
--- one shows nothing yet
+-- an observer that was there when a stabilize was accepted last shows an outcome, which is what the graph shows of its node unless the session is broken; a
+-- later one shows nothing yet
 pub record IsShown (k : Kept) (o : ObsId) (x : Observer) : Type 0 where
-  pub earlier : k.broken ≡ None → o.0 < k.graph.rooted → (p : Outcome) × (x.shown ≡ Some p)
-      × (shown_of k.graph (node_in k.nodes x.target) ≡ Some (graph_outcome (node_in k.nodes) p))
+  pub earlier : o.0 < k.graph.rooted → (p : Outcome) × (x.shown ≡ Some p)
+      × (k.broken ≡ None → shown_of k.graph (node_in k.nodes x.target) ≡ Some (graph_outcome (node_in k.nodes) p))
   pub later : k.graph.rooted ≤ o.0 → x.shown ≡ None
 
 -- an observer of the script is one of the graph
