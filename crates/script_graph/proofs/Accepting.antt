@@ -19,7 +19,7 @@ use Rattle.node_arena.specs.Arena.{Arena, row_at}
 use Rattle.node_arena.specs.Graph.{graph_of, NoScopes}
 use Rattle.stabilize_round.specs.Calling.{costs_of}
 use Rattle.stabilize_round.specs.Counts.{RoseBy}
-use Rattle.script_graph.specs.Today.{maps_alone}
+use Rattle.script_graph.specs.Today.{maps_alone, IsPlain, IsPlainBody, IsEarlierTarget, AllPlain}
 use Rattle.script_model.specs.Blocked.{InTheWay, on_cycle, too_deep}
 use Rattle.script_model.specs.Check.{is_among}
 use Rattle.script_model.specs.Formula.{State, Entry, Body, Formula, Observer, Meanings, meanings_of, Literal, Name, Apply, Fold, Variable, Computed}
@@ -28,11 +28,10 @@ use Rattle.script_model.specs.Settle.{Becomes, BecomeAll, Builds, ShowAll}
 use Rattle.script_model.specs.Step.{Moment, NothingNeededIsBlocked, settles}
 use Rattle.script_model.specs.Values.{Outcome, seen_value}
 use Rattle.script_graph.specs.Kept.{Kept, arena_of, node_in, without_functions}
-use Rattle.script_graph.specs.Plain.{IsPlain, IsPlainBody, IsEarlierTarget, AllPlain}
 use Rattle.script_graph.specs.Represents.{graph_functions, besides, beside, there_in, AreNames, Represents, Watches}
 use Rattle.script_graph.specs.Settled.{side_of, observed_by, WasRun, Settled}
 use Rattle.script_graph.specs.Stabilizing.{IsAccepted}
-use Rattle.script_graph.specs.State.{Holds, MatchesMoment, Stands}
+use Rattle.script_graph.specs.State.{MatchesMoment, Stands}
 use Rattle.script_graph.proofs.Beside.{represented_fits, grabs_bind}
 use Rattle.script_graph.proofs.Functions.{functions_are}
 use Rattle.script_graph.proofs.Held.{held_needed}
@@ -113,9 +112,6 @@ module _ (named : List ℕ → Option FnRef) (value : FnRef → List GraphValue 
   abbrev new : Kept
   new = record k { accepted = k.accepted + 1; graph = g }
 
-  holds : Holds F k m
-  holds = stands.matches.holds unbroken
-
   whole : IsWhole W k.graph
   whole = sound.whole done.was
 
@@ -123,19 +119,19 @@ module _ (named : List ℕ → Option FnRef) (value : FnRef → List GraphValue 
   no_scopes = sound.flat
 
   fits : Fits x
-  fits = represented_fits named value s k holds.represents
+  fits = represented_fits named value s k stands.matches.represents
 
   grabs : GrabsBind s
-  grabs = grabs_bind s holds.represents.plain
+  grabs = grabs_bind s stands.matches.represents.today.plain
 
   have : RootsHave x observed
-  have = watched_roots_have F s k holds.represents.plain holds.watches
+  have = watched_roots_have F s k stands.matches.represents.today.plain stands.matches.watches
 
   -- ---- what is needed
 
   exact : (p : Point) → IsObserved M k.graph p → Exact M (graph_of nodes_now) (shown_at g) p
   exact = needed_is_right M k.graph g no_scopes
-      (mains_alone x fits holds.represents.plain grabs observed (watched_roots_are F s k holds.represents.plain holds.watches)) done
+      (mains_alone x fits stands.matches.represents.today.plain grabs observed (watched_roots_are F s k stands.matches.represents.today.plain stands.matches.watches)) done
 
   -- nothing that is needed is on a cycle or too deep
   free : NothingNeededIsBlocked F m
@@ -155,33 +151,33 @@ module _ (named : List ℕ → Option FnRef) (value : FnRef → List GraphValue 
 
   -- ---- observers
 
-  shows_one : (o : ObsId) (y : Observer) → slice_get holds.watches.made o.0 ≡ Some (Some y) → (p : Outcome) × ShowsThen F s k g y p
+  shows_one : (o : ObsId) (y : Observer) → slice_get stands.matches.watches.made o.0 ≡ Some (Some y) → (p : Outcome) × ShowsThen F s k g y p
   shows_one o y at =
-      let w = holds.watches.observing o y at in
+      let w = stands.matches.watches.observing o y at in
       let looks : node_at g.observers o ≡ Some (node_in k.nodes y.target) =
       subst (λ (os : List Looking). node_at os o ≡ Some (node_in k.nodes y.target)) (sym done.observers) w.looks in
       let q = done.shows o (node_in k.nodes y.target) looks in
-      let p = names_agree x (represented_fits named value s k holds.represents) y.target q.0 q.2 in (
+      let p = names_agree x (represented_fits named value s k stands.matches.represents) y.target q.0 q.2 in (
         p.0,
         record {
           gives = p.2;
-          base = name_gives_base named value s holds.represents.plain y.target p.0 p.2;
+          base = name_gives_base named value s stands.matches.represents.today.plain y.target p.0 p.2;
           shown = q.1 ∙ ap (λ o. Some o) p.1;
-          unwatched = w.unwatched;
+          unwatched = w.today.unwatched;
         },
       )
 
-  shown : AllShow F s k g holds.watches.made
-  shown = all_show F s k g holds.watches.made (λ j y at. shows_one (record { 0 = j }) y at)
+  shown : AllShow F s k g stands.matches.watches.made
+  shown = all_show F s k g stands.matches.watches.made (λ j y at. shows_one (record { 0 = j }) y at)
 
   abbrev then : State
-  then = observed_so s (there_in (made_then F s k g holds.watches.made shown)) (s.accepted + 1)
+  then = observed_so s (there_in (made_then F s k g stands.matches.watches.made shown)) (s.accepted + 1)
 
   represented : Represents F then new
-  represented = represents_so F s (there_in (made_then F s k g holds.watches.made shown)) (s.accepted + 1) k new refl refl done.nodes holds.represents
+  represented = represents_so F s (there_in (made_then F s k g stands.matches.watches.made shown)) (s.accepted + 1) k new refl refl done.nodes stands.matches.represents
 
   watched : Watches then new
-  watched = watches_then F s k g holds.watches shown (s.accepted + 1) (k.accepted + 1) done.observers done.rooted
+  watched = watches_then F s k g stands.matches.watches shown (s.accepted + 1) (k.accepted + 1) done.observers done.rooted
 
   -- ---- the pair that it leaves
 
@@ -191,10 +187,10 @@ module _ (named : List ℕ → Option FnRef) (value : FnRef → List GraphValue 
 
   recalled : (v : Visit) → IsVisit F then v → Needed F then v.item → WasRun (besides F then k.nodes (arena_of new)) new v
   recalled v is need =
-      let in_old = represents_so F s (there_in (made_then F s k g holds.watches.made shown)) (s.accepted + 1) k still refl refl refl holds.represents in
+      let in_old = represents_so F s (there_in (made_then F s k g stands.matches.watches.made shown)) (s.accepted + 1) k still refl refl refl stands.matches.represents in
       let are = sym (ap in_use done.observers) ∙ observed_are then new watched in
-      let r = visit_is_recalled F then k.nodes k.graph g (represented_fits named value then still in_old) (grabs_bind then represented.plain)
-      (λ t among. inl (observed_of_root then represented.plain (node_in k.nodes) observed are t among)) exact done v is need in
+      let r = visit_is_recalled F then k.nodes k.graph g (represented_fits named value then still in_old) (grabs_bind then represented.today.plain)
+      (λ t among. inl (observed_of_root then represented.today.plain (node_in k.nodes) observed are t among)) exact done v is need in
       record {
         node = r.node;
         is_node = subst (λ (a : Arena). node_of (besides F then k.nodes a) v.item ≡ Some r.node) (sym done.nodes) r.is_node;
@@ -211,7 +207,6 @@ module _ (named : List ℕ → Option FnRef) (value : FnRef → List GraphValue 
   settled = record {
     nodes = k.nodes;
     arena = arena_of new;
-    plain = represented.plain;
     one_node_each = represented.one_node_each;
     fits = represented_fits named value then new represented;
     scopes = λ n r b row scope.
@@ -226,7 +221,7 @@ module _ (named : List ℕ → Option FnRef) (value : FnRef → List GraphValue 
         subst (λ (a : Arena). Depends M (graph_of a) none_died p q) (sym done.nodes) ((done.links p q (held_needed g rooted p held)).0 link);
     ran = recalled;
     watched = λ z among is. observed_root then z among;
-    equal = λ n. done.cutoff n ∙ holds.settled.equal n;
+    today = record { plain = represented.today.plain; equal = λ n. done.cutoff n ∙ (stands.matches.settled unbroken).today.equal n };
   }
 
   -- ---- the moment after it
@@ -239,7 +234,7 @@ module _ (named : List ℕ → Option FnRef) (value : FnRef → List GraphValue 
     declared = stands.matches.names.declared;
     now = stands.matches.names.now;
     in_use = λ name. stands.matches.names.in_use name ∙ ap (λ (ns : List (List ℕ)). is_among ns name)
-        (ap (map (λ (o : Observer). o.name)) holds.watches.in_order ∙ sym (names_then F s k g holds.watches.made shown));
+        (ap (map (λ (o : Observer). o.name)) stands.matches.watches.in_order ∙ sym (names_then F s k g stands.matches.watches.made shown));
   }
 
   matches_then : MatchesMoment F new after
@@ -247,19 +242,23 @@ module _ (named : List ℕ → Option FnRef) (value : FnRef → List GraphValue 
     names = names;
     accepted = ap (λ (n : ℕ). n + 1) stands.matches.accepted;
     broken = sym unbroken ∙ stands.matches.broken;
-    holds = λ e. record { represents = represented; watches = watched; settled = settled };
+    represents = represented;
+    watches = watched;
+    settled = λ whole. settled;
   }
 
   -- what is kept matches the moment after it
   pub accepted_stands : IsAccepted F m new called calls
   accepted_stands = record {
     after = after;
+    notices = [];
     stabilizes = settles [] free (record {
-      observers = subst (λ (xs : List Observer). ShowAll F s xs then.observers []) (sym holds.watches.in_order) (shows_then F s k g holds.watches.made shown);
-      entries = entries_become F before s then holds.represents.plain;
+      observers = subst (λ (xs : List Observer). ShowAll F s xs then.observers []) (sym stands.matches.watches.in_order) (shows_then F s k g stands.matches.watches.made shown);
+      entries = entries_become F before s then stands.matches.represents.today.plain;
       now = refl;
       accepted = refl;
     }) refl refl refl;
+    today = refl;
     work = costs_of (graph_of nodes_now) ran;
     due = due;
     within = rose.most;

@@ -52,11 +52,14 @@ module _ (g : Standing (Unit {0})) (nodes : (n : NodeId) → row_at g.nodes n �
       room = refl;
       clock = refl;
       one_node_each = refl;
-      plain = λ n body is. absurd (cc);
       declares = λ n. (nodes _, refl);
       targets = λ n e is. absurd (cc);
-      aged = λ n b is. absurd (cc);
-      calls = record { callers = []; few = omega arith; all = λ c is. absurd (none-some is.row (sym (nodes c.node) ∙ is.is_row)) };
+      apart = λ i j d e at_i at_j own_i own_j same. absurd (cc);
+      today = record {
+        plain = λ n body is. absurd (cc);
+        aged = λ n b is. absurd (cc);
+        calls = record { callers = []; few = omega arith; all = λ c is. absurd (none-some is.row (sym (nodes c.node) ∙ is.is_row)) };
+      };
     }
 
     no_root : (holder : Holder) (n : NodeId) → root_of g holder ≡ Some n → ⊥
@@ -69,7 +72,6 @@ module _ (g : Standing (Unit {0})) (nodes : (n : NodeId) → row_at g.nodes n �
     first_settled cutoff = record {
       nodes = [];
       arena = g.nodes;
-      plain = λ n body is. absurd (cc);
       one_node_each = refl;
       fits = represented_fits named value start (first_kept g) first_represents;
       scopes = λ n r b is scope. absurd (none-some r (sym (nodes n) ∙ is));
@@ -82,7 +84,7 @@ module _ (g : Standing (Unit {0})) (nodes : (n : NodeId) → row_at g.nodes n �
       links = λ p q held link. absurd (no_root held.holder held.node held.is_root);
       ran = λ v visit need. absurd need.1;
       watched = λ x among is. absurd among;
-      equal = cutoff;
+      today = record { plain = λ n body is. absurd (cc); equal = cutoff };
     }
 
     pub first_stands : ((n : NodeId) → cutoff_of g n ≡ Equal) → KeepToTypes F → Stands F (first_kept g) first_moment
@@ -93,18 +95,16 @@ module _ (g : Standing (Unit {0})) (nodes : (n : NodeId) → row_at g.nodes n �
         names = record { declared = refl; now = refl; in_use = λ name. refl };
         accepted = refl;
         broken = refl;
-        holds = λ whole. record {
-          represents = first_represents;
-          watches = record {
-            made = [];
-            one_each = sym (rw observers refl);
-            in_order = refl;
-            ended = λ o is. absurd (cc);
-            observing = λ o x is. absurd (cc);
-            named = λ i o name is at. absurd (cc);
-            apart = λ o p x y at also same. absurd (cc);
-          };
-          settled = first_settled cutoff;
+        represents = first_represents;
+        watches = record {
+          made = [];
+          one_each = sym (rw observers refl);
+          in_order = refl;
+          ended = λ o is. absurd (cc);
+          observing = λ o x is. absurd (cc);
+          named = λ i o name is at. absurd (cc);
+          apart = λ o p x y at also same. absurd (cc);
         };
+        settled = λ whole. first_settled cutoff;
       };
     }

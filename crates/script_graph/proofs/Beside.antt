@@ -1,5 +1,5 @@
 -- A state of a script and the graph that holds it fit.
-use Rattle.std.proofs.Common.{◌≡◌, ℕ, true, List, Option, Some, refl, sym, ◌∙◌}
+use Rattle.std.proofs.Common.{◌≡◌, ℕ, true, List, Option, Some, sym, ◌∙◌}
 use Rattle.std.proofs.lemmas.Option.{none-some}
 use Rattle.inc_value.specs.declared.function.FnRef.{FnRef}
 use Rattle.inc_value.specs.declared.node.NodeId.{NodeId}
@@ -13,7 +13,7 @@ use Rattle.script_model.specs.Formula as script
 use Rattle.script_model.specs.Formula.{State, Body, Formula, Meanings, meanings_of, body_at, Name, Computed, Grab}
 use Rattle.script_model.specs.Values.{Value}
 use Rattle.script_graph.specs.Kept.{Kept}
-use Rattle.script_graph.specs.Plain.{AllPlain}
+use Rattle.script_graph.specs.Today.{AllPlain}
 use Rattle.script_graph.specs.Represents.{beside, Represents}
 use Rattle.script_graph.proofs.Functions.{functions_fit}
 use Rattle.stabilizer.proofs.Agreeing.{code_row}
@@ -50,10 +50,10 @@ targets_own s plain k t kept e = (plain k (Computed (Name t) kept) e).0.1
 pub represented_fits : (named : List ℕ → Option FnRef) (value : FnRef → List GraphValue → GraphValue) (s : State) (k : Kept)
     → Represents (meanings_of named value) s k → Fits (beside (meanings_of named value) s k)
 represented_fits named value s k held = record {
-  clock = rw held.clock refl;
+  clock = held.clock;
   functions = functions_fit named value;
   declared = held.declares;
-  resolved = targets_own s held.plain;
+  resolved = targets_own s held.today.plain;
   rooted = λ b r l f caps w row def built. absurd (none-some w built);
-  grabbed = λ n b v e. absurd (no_grab s held.plain n b v e);
+  grabbed = λ n b v e. absurd (no_grab s held.today.plain n b v e);
 }

@@ -20,7 +20,7 @@ use Rattle.script_model.specs.Formula.{State, Body, Formula, Formulas, Literal, 
 use Rattle.script_model.specs.Values.{to_engine}
 use Rattle.script_model.specs.Run.{calls_in, calls_in_all, count_in, calls_of_body, most_calls}
 use Rattle.script_graph.specs.Growing.{IsMaking}
-use Rattle.script_graph.specs.Represents.{Caller, IsCaller, HasFewCalls}
+use Rattle.script_graph.specs.Today.{Caller, IsCaller, HasFewCalls}
 
 -- how many calls they make in all
 abbrev pub calls_by : List Caller → ℕ

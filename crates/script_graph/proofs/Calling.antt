@@ -12,7 +12,7 @@ use Rattle.graph.proofs.Still.{HasCalledMet}
 use Rattle.node_arena.specs.Arena.{Arena}
 use Rattle.script_model.specs.Formula.{State}
 use Rattle.script_model.specs.Run.{most_calls}
-use Rattle.script_graph.specs.Represents.{Caller, IsCaller, HasFewCalls}
+use Rattle.script_graph.specs.Today.{Caller, IsCaller, HasFewCalls}
 use Rattle.script_graph.proofs.Callers.{calls_by}
 use Rattle.inc_terms.specs.Work.{taken_by}
 use Rattle.stabilize_round.proofs.Calling.{cost_taken}

@@ -16,7 +16,8 @@ use Rattle.script_model.specs.Formula.{State, Body, Meanings, Observer, body_at}
 use Rattle.script_model.specs.Need.{Visit}
 use Rattle.script_model.specs.Values.{Value, Int, Bool, Text, Reference, Outcome, Val, Invalid, type_of}
 use Rattle.script_graph.specs.Kept.{Kept, arena_of, node_in}
-use Rattle.script_graph.specs.Represents.{besides, IsBaseOutcome, IsShown, IsObserver, Watches}
+use Rattle.script_graph.specs.Represents.{besides, IsShown, IsObserver, Watches}
+use Rattle.script_graph.specs.Today.{IsBaseOutcome, IsTodaysObserver}
 use Rattle.script_graph.specs.Settled.{rooted_at, StillDeclares, WasRun, Settled}
 use Rattle.script_graph.proofs.Held.{link_less, held_less}
 use Rattle.transfer.specs.Both.{graph_value, graph_outcome}
@@ -40,19 +41,18 @@ base_outcome nodes nodes' Invalid base = refl
 -- ---- observers
 
 module _ (s s' : State) (k k' : Kept) (beside : KeepsBesideGiven k.graph k'.graph) (observers : k'.observers ≡ k.observers)
-    (names : k'.names.observers ≡ k.names.observers) (same : s'.observers ≡ s.observers)
+    (names : k'.names.observers ≡ k.names.observers) (broken : k'.broken ≡ k.broken) (same : s'.observers ≡ s.observers)
     (nodes : (n : ℕ) (b : Body) → body_at s n ≡ Some b → node_in k'.nodes n ≡ node_in k.nodes n)
     (given : (n : ℕ) (b : Body) → body_at s n ≡ Some b → Given (arena_of k).given (node_in k.nodes n))
     (stays : (n : ℕ) (b : Body) → body_at s n ≡ Some b → (c : Body) × (body_at s' n ≡ Some c)) where
-  shown_on : (o : ObsId) (x : Observer) (b : Body) → body_at s x.target ≡ Some b → IsShown k o x → IsShown k' o x
-  shown_on o x b is h = record {
+  shown_on : (o : ObsId) (x : Observer) (b : Body) → body_at s x.target ≡ Some b → IsTodaysObserver x → IsShown k o x → IsShown k' o x
+  shown_on o x b is today h = record {
     earlier = λ low.
         let e = h.earlier (subst (λ (r : ℕ). o.0 < r) beside.rooted low) in (
           e.0,
           e.1,
-          e.2,
-          ap (shown_of k'.graph) (nodes x.target b is) ∙ (beside.shown (node_in k.nodes x.target) (given x.target b is)
-              ∙ (e.3 ∙ ap (λ p. Some p) (base_outcome (node_in k.nodes) (node_in k'.nodes) e.0 e.2))),
+          λ whole. ap (shown_of k'.graph) (nodes x.target b is) ∙ (beside.shown (node_in k.nodes x.target) (given x.target b is)
+              ∙ (e.2 (sym broken ∙ whole) ∙ ap (λ p. Some p) (base_outcome (node_in k.nodes) (node_in k'.nodes) e.0 (today.base e.0 e.1)))),
         );
     later = λ high. h.later (subst (λ (r : ℕ). r ≤ o.0) beside.rooted high);
   }
@@ -64,8 +64,8 @@ module _ (s s' : State) (k k' : Kept) (beside : KeepsBesideGiven k.graph k'.grap
   observer_on o x h = record {
     looks = looks_on o ∙ (h.looks ∙ ap (λ n. Some n) (sym (nodes x.target h.target.0 h.target.1)));
     target = stays x.target h.target.0 h.target.1;
-    unwatched = h.unwatched;
-    shown = shown_on o x h.target.0 h.target.1 h.shown;
+    shown = shown_on o x h.target.0 h.target.1 h.today h.shown;
+    today = h.today;
   }
 
   -- the observers are as they were
@@ -121,7 +121,6 @@ pub settled_on : (F : Meanings) (before s s' : State) (k k' : Kept) → LeavesBe
 settled_on F before s s' k k' leaves still shown st = record {
   nodes = st.nodes;
   arena = st.arena;
-  plain = st.plain;
   one_node_each = st.one_node_each;
   fits = st.fits;
   scopes = st.scopes;
@@ -130,7 +129,7 @@ settled_on F before s s' k k' leaves still shown st = record {
       (link_less k.graph k'.graph leaves.rooted leaves.fewer p q link);
   ran = λ v is need. ran_on v (st.ran v is need);
   watched = λ x among is. st.watched x (shown x among is) is;
-  equal = λ n. leaves.no_more_cutoffs n (st.equal n);
+  today = record { plain = st.today.plain; equal = λ n. leaves.no_more_cutoffs n (st.today.equal n) };
 }
   where
     ran_on : (v : Visit) → WasRun (besides F before st.nodes st.arena) k v → WasRun (besides F before st.nodes st.arena) k' v

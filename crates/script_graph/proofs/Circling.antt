@@ -17,7 +17,7 @@ use Rattle.inc_value.specs.declared.value.Value.{Value as GraphValue}
 use Rattle.inc_terms.specs.Depend.{main}
 use Rattle.inc_terms.specs.Term.{Functions}
 use Rattle.node_arena.specs.Graph.{graph_of}
-use Rattle.script_graph.specs.Today.{maps_alone}
+use Rattle.script_graph.specs.Today.{maps_alone, IsPlainBody, IsEarlierTarget, AllPlain, IsWithin, IsPartWithin, IsOwnFormula}
 use Rattle.script_model.specs.Blocked.{NameReads, EachReads, LastIs, IsCycle, OnCycle}
 use Rattle.script_model.specs.Check.{Declared, declared_of, target_of_body}
 use Rattle.script_model.specs.Formula as script
@@ -27,19 +27,18 @@ use Rattle.script_model.specs.Step.{Moment, by_cycle}
 use Rattle.script_model.specs.Values.{Value, seen_value}
 use Rattle.script_model.proofs.Today.{today_has_no_cycle}
 use Rattle.script_graph.specs.Kept.{Kept, arena_of, node_in, without_functions}
-use Rattle.script_graph.specs.Plain.{IsPlainBody, IsEarlierTarget, AllPlain}
-use Rattle.script_graph.specs.Represents.{graph_functions, beside, AreNames, IsOwnFormula, IsWithin, IsPartWithin, Represents}
+use Rattle.script_graph.specs.Represents.{graph_functions, beside, AreNames, Represents}
 use Rattle.script_graph.specs.Stabilizing.{IsCircular, IsMainOf, MainsIn, CyclePasses, behind_first}
-use Rattle.script_graph.specs.State.{Holds, Stands}
+use Rattle.script_graph.specs.State.{Stands}
 use Rattle.script_graph.proofs.ComingBack.{once_behind}
 use Rattle.script_graph.proofs.Beside.{represented_fits}
 use Rattle.script_graph.proofs.Calling.{few_calls}
-use Rattle.script_graph.proofs.CuttingShort.{broken_matches}
+use Rattle.script_graph.proofs.CuttingShort.{KeepsNodes, broken_matches, keeps_without, refused_keeps}
 use Rattle.script_graph.proofs.Declaring.{named_entry}
 use Rattle.script_graph.proofs.Functions.{functions_are}
-use Rattle.script_graph.proofs.Owning.{aged_item, aged_part, own_node}
+use Rattle.script_graph.proofs.Owning.{aged_item, aged_part, own_body, own_node}
 use Rattle.script_graph.proofs.Plain.{plain_is_todays}
-use Rattle.script_graph.proofs.Remembering.{meeting_is_covered, nodes_apart, own_body, same_owner}
+use Rattle.script_graph.proofs.Remembering.{meeting_is_covered, same_owner}
 use Rattle.script_graph.proofs.Without.{sound_without, lawful_without, few_without}
 use Rattle.stabilize_round.proofs.Points.{same_or_other}
 use Rattle.stabilizer.specs.declared.refused.Refused.{Refused}
@@ -77,7 +76,7 @@ module _ (F : Meanings) (s : State) (k : Kept) (held : Represents F s k) where
       let place = place_within owner path f n is form at in
       let named : IsWithin k.nodes t n =
       subst (IsWithin k.nodes t) node
-      (own_node (graph_of (arena_of k)) (IsWithin k.nodes t) (IsPartWithin k.nodes t) (node_in k.nodes t) b own (held.aged t b body)) in
+      (own_node (graph_of (arena_of k)) (IsWithin k.nodes t) (IsPartWithin k.nodes t) (node_in k.nodes t) b own (held.today.aged t b body)) in
       let same = same_owner k.nodes owner t n place named in
       by_path path is at same
     where
@@ -86,7 +85,7 @@ module _ (F : Meanings) (s : State) (k : Kept) (held : Represents F s k) where
           ⊎ ((v : Value) × (b ≡ Grab owner v true) × (path ≡ Inside v ∷ []))
       by_path [] is at same =
           let here : body_at s owner ≡ Some b = ap (body_at s) same ∙ body in
-          let whole = whole_body owner f b is here (held.plain owner b here) in
+          let whole = whole_body owner f b is here (held.today.plain owner b here) in
           inl (same, refl, whole.0, whole.1, whole.2)
       by_path (edge ∷ path) is at same =
           let low = aged_part F s k held owner edge path f n is (form_own f form) at in
@@ -168,7 +167,7 @@ module _ (F : Meanings) (s : State) (k : Kept) (held : Represents F s k) (names 
       let e = named_entry k.names s names.declared n d at in
       let target : target_of_body n e.0.body ≡ n = sym (held.targets n e.0 e.1) ∙ (ap (λ (c : Declared). c.target) e.2 ∙ own) in
       let body : body_at s n ≡ Some e.0.body = ap (λ (o : Option Entry). and_then o (λ (x : Entry). Some x.body)) e.1 in
-      ((e.0.body, body, own_body s held.plain n e.0.body body target), is, no_root (beside F s k) held.plain p n)
+      ((e.0.body, body, own_body s held.today.plain n e.0.body body target), is, no_root (beside F s k) held.today.plain p n)
 
   passed_main : (p q : Point) (n : ℕ) → IsPassed (beside F s k) p q n → IsMainOf k q n
   passed_main p q n ((b, body, own), is, root) =
@@ -213,9 +212,6 @@ module _ (named : List ℕ → Option FnRef) (value : FnRef → List GraphValue 
   abbrev s : State
   s = m.present
 
-  holds : Holds F k m
-  holds = stands.matches.holds unbroken
-
   -- the names that a listed cycle passes are a cycle of met names, with the first of them once more at its end
   pub passed_cycle : (p q : Point) (rest : List Point) (names : List ℕ)
       → IsListed (graph_functions F) k.graph (p ∷ q ∷ rest) → ComesBack (p ∷ q ∷ rest)
@@ -223,13 +219,13 @@ module _ (named : List ℕ → Option FnRef) (value : FnRef → List GraphValue 
       × Every (λ n. Met F m.settled s (Named n)) names
   passed_cycle p q rest names listed back passes =
       let covered = meeting_is_covered named value W m k stands unbroken sound whole p (listed.met p refl) in
-      cycles_are_named (beside F s k) (represented_fits named value s k holds.represents) stands.keep stands.valid.1
-      (nodes_apart F s k holds.represents) (parts_apart F s k holds.represents) m.settled (valid_grabs F m.settled stands.valid.0)
-      holds.settled.still.formulas p q rest names covered listed.walk
+      cycles_are_named (beside F s k) (represented_fits named value s k stands.matches.represents) stands.keep stands.valid.1
+      stands.matches.represents.apart (parts_apart F s k stands.matches.represents) m.settled (valid_grabs F m.settled stands.valid.0)
+      (stands.matches.settled unbroken).still.formulas p q rest names covered listed.walk
       (subst (λ (r : Point). EndsAt r (q ∷ rest)) (sym back.starts) (ends_as (q ∷ rest) back.point back.ends)) (once_behind p q back.point rest back.front back.is_front back.starts back.once) passes
 
   -- the model may refuse the stabilize for the declarations whose mains the cycle passes
-  module _ {N : Functions} (g : Standing (Unit {0})) (called calls : ℕ) (few : HasCalledMet N k.graph called calls) where
+  module _ {N : Functions} (g : Standing (Unit {0})) (called calls : ℕ) (keeps : KeepsNodes k.graph g) (few : HasCalledMet N k.graph called calls) where
     abbrev broken : Kept
     broken = record k { broken = Some 20; graph = g }
 
@@ -239,7 +235,7 @@ module _ (named : List ℕ → Option FnRef) (value : FnRef → List GraphValue 
     circular [] targets listed back mains = absurd back.starts
     circular (p ∷ []) targets listed back mains = absurd (let long = back.long in omega (arith, long))
     circular (p ∷ q ∷ rest) targets listed back mains =
-        let c = passed_cycle p q rest targets listed back (mains_passed F s k holds.represents stands.matches.names p (q ∷ rest) targets mains) in
+        let c = passed_cycle p q rest targets listed back (mains_passed F s k stands.matches.represents stands.matches.names p (q ∷ rest) targets mains) in
         let met = subst (λ (ns : List ℕ). Every (λ n. Met F m.settled s (Named n)) ns) c.2 c.4 in (
           c.0,
           c.1,
@@ -247,8 +243,8 @@ module _ (named : List ℕ → Option FnRef) (value : FnRef → List GraphValue 
           record {
             after = record m { broken = Some 20 };
             stabilizes = by_cycle (c.0 ∷ (c.1 ++ c.0 ∷ [])) c.0 c.3 (inl refl) met.0 refl refl;
-            within = few_calls N s k.graph called calls holds.represents.calls few;
-            matches = broken_matches F m k g 20 stands.matches;
+            within = few_calls N s k.graph called calls stands.matches.represents.today.calls few;
+            matches = broken_matches F m k g 20 keeps stands.matches;
           },
         )
 
@@ -268,9 +264,9 @@ module _ (named : List ℕ → Option FnRef) (value : FnRef → List GraphValue 
   none_comes_back [] listed back = back.starts
   none_comes_back (p ∷ []) listed back = let long = back.long in omega (arith, long)
   none_comes_back (p ∷ q ∷ rest) listed back =
-      let names = passes_some (beside F s k) holds.represents.plain p (q ∷ rest) in
+      let names = passes_some (beside F s k) stands.matches.represents.today.plain p (q ∷ rest) in
       let c = passed_cycle p q rest names.0 listed back names.1 in
-      today_has_no_cycle F s (plain_is_todays s holds.represents.plain) c.0 (first_on_cycle F s c.0 (c.1 ++ c.0 ∷ []) c.3)
+      today_has_no_cycle F s (plain_is_todays s stands.matches.represents.today.plain) c.0 (first_on_cycle F s c.0 (c.1 ++ c.0 ∷ []) c.3)
 
   no_cycle : (met : Refused) → IsLawful (graph_functions F) k.graph met → kept_of met ≡ fault.Cycle → ⊥
   no_cycle (refused.Cycle points) lawful e = none_comes_back points.items lawful.0 lawful.1
@@ -300,7 +296,7 @@ module _ {A : Type 0} (named : List ℕ → Option FnRef) (value : FnRef → Lis
       × IsCircular (meanings_of named value) m (record k { broken = Some 20; graph = without_functions new }) (first ∷ (more ++ first ∷ [])) called calls
   session_circular targets called calls passes few =
       circular_met named value W m k stands (stands.matches.broken ∙ unbroken) kept_sound kept_whole (without_functions new) called calls
-      (subst (λ (h : Standing (Unit {0})). HasCalledMet (maps_alone (seen_value value)) h called calls) (sym same)
+      (keeps_without k old new same (refused_keeps done)) (subst (λ (h : Standing (Unit {0})). HasCalledMet (maps_alone (seen_value value)) h called calls) (sym same)
       (few_without (maps_alone (seen_value value)) old called calls few)) new.refused done.met targets done.broken done.is_cause
       kept_lawful passes
 

@@ -1,41 +1,86 @@
 -- A stabilize that was cut short, and a refusal that never comes.
-use Rattle.std.proofs.Common.{◌≡◌, ℕ, List, None, Some, refl, sym, subst, ◌∙◌}
+use Rattle.std.proofs.Common.{◌≡◌, ◌<◌, ◌≤◌, ℕ, List, length, Option, Some, refl, ap, sym, subst, ◌∙◌}
 use Rattle.inc_value.specs.declared.function.FnRef.{FnRef}
+use Rattle.inc_value.specs.declared.node.NodeId.{NodeId}
+use Rattle.inc_value.specs.declared.node.ObsId.{ObsId}
 use Rattle.inc_value.specs.declared.value.Value.{Value as GraphValue}
+use Rattle.inc_terms.specs.Graph.{Graph}
 use Rattle.inc_terms.specs.Term.{Functions}
-use Rattle.graph.specs.Standing.{Standing}
+use Rattle.graph.specs.Standing.{Standing, node_at}
+use Rattle.graph.specs.Stabilizes.{IsRefusedIn}
 use Rattle.graph.proofs.Still.{IsRefusedFor, HasCalledMet, IsLawful}
 use Rattle.graph.specs.Fault.{kept_of}
+use Rattle.graph.specs.declared.fault.Kept.{Kept as Cause}
 use Rattle.graph.specs.declared.fault.Kept.TheVariants as fault
-use Rattle.script_model.specs.Formula.{Meanings}
+use Rattle.graph.specs.declared.observer.Observer.{Observer as Looking}
+use Rattle.script_model.specs.Formula.{State, Observer, Meanings}
 use Rattle.script_model.specs.Step.{Moment}
 use Rattle.script_graph.specs.Kept.{Kept, without_functions}
+use Rattle.script_graph.specs.Represents.{IsShown, Watches}
 use Rattle.script_graph.specs.Stabilizing.{IsCutShort}
 use Rattle.script_graph.specs.State.{MatchesMoment}
-use Rattle.script_graph.proofs.Calling.{few_calls}
-use Rattle.script_graph.proofs.Without.{few_without}
 use Rattle.script_graph.specs.Today.{maps_alone}
+use Rattle.script_graph.proofs.Calling.{few_calls}
+use Rattle.script_graph.proofs.Same.{represents_so}
+use Rattle.script_graph.proofs.Without.{few_without}
 use Rattle.stabilizer.specs.declared.refused.Refused.{Refused}
 use Rattle.stabilizer.specs.declared.refused.Refused.TheVariants as refused
 
 -- ---- broken
 
--- what is kept of a script that broke matches the broken moment, whatever became of its graph
-pub broken_matches : (F : Meanings) (m : Moment) (k : Kept) (g : Standing (Unit {0})) (number : ℕ) → MatchesMoment F k m
+-- nodes and observers stay
+pub record KeepsNodes {A B : Type 0} (old : Standing A) (new : Standing B) : Type 0 where
+  pub nodes : new.nodes ≡ old.nodes
+  pub observers : new.observers ≡ old.observers
+  pub rooted : new.rooted ≡ old.rooted
+
+-- so they do in a stabilize that was refused
+pub refused_keeps : {A : Type 0} {M : Functions} {G : Graph} {died : NodeId → Option NodeId} {old new : Standing A} {cause : Cause}
+    → IsRefusedIn M G died old new cause → KeepsNodes old new
+refused_keeps done = record { nodes = done.nodes; observers = done.observers; rooted = done.rooted }
+
+-- the observers of a session that broke are there still
+watches_broken : (s : State) (k : Kept) (g : Standing (Unit {0})) (number : ℕ) → KeepsNodes k.graph g → Watches s k
+    → Watches s (record k { broken = Some number; graph = g })
+watches_broken s k g number keeps w = record {
+  made = w.made;
+  one_each = w.one_each ∙ sym (ap (λ (os : List Looking). length os) keeps.observers);
+  in_order = w.in_order;
+  ended = λ o at. looks o ∙ w.ended o at;
+  observing = λ o x at. let h = w.observing o x at in
+      record { looks = looks o ∙ h.looks; target = h.target; shown = still_shown o x h.shown; today = h.today };
+  named = w.named;
+  apart = w.apart;
+}
+  where
+    looks : (o : ObsId) → node_at g.observers o ≡ node_at k.graph.observers o
+    looks o = ap (λ (os : List Looking). node_at os o) keeps.observers
+
+    still_shown : (o : ObsId) (x : Observer) → IsShown k o x → IsShown (record k { broken = Some number; graph = g }) o x
+    still_shown o x h = record {
+      earlier = λ low. let e = h.earlier (subst (λ (r : ℕ). o.0 < r) keeps.rooted low) in (e.0, e.1, λ whole. absurd (cc));
+      later = λ high. h.later (subst (λ (r : ℕ). r ≤ o.0) keeps.rooted high);
+    }
+
+-- what is kept of a script that broke matches the broken moment, where nodes and observers stayed
+pub broken_matches : (F : Meanings) (m : Moment) (k : Kept) (g : Standing (Unit {0})) (number : ℕ) → KeepsNodes k.graph g → MatchesMoment F k m
     → MatchesMoment F (record k { broken = Some number; graph = g }) (record m { broken = Some number })
-broken_matches F m k g number matches = record {
+broken_matches F m k g number keeps matches = record {
   names = matches.names;
   accepted = matches.accepted;
   broken = refl;
-  holds = λ none. absurd (cc);
+  represents = represents_so F m.present m.present.observers m.present.accepted k (record k { broken = Some number; graph = g }) refl refl keeps.nodes
+      matches.represents;
+  watches = watches_broken m.present k g number keeps matches.watches;
+  settled = λ whole. absurd (cc);
 }
 
 -- a stabilize that was cut short leaves the broken moment, and called few functions
-pub cut_short_matches : {M : Functions} (F : Meanings) (m : Moment) (k : Kept) (g : Standing (Unit {0})) (called calls : ℕ) → MatchesMoment F k m
-    → m.broken ≡ None → HasCalledMet M k.graph called calls → IsCutShort F m (record k { broken = Some 0; graph = g }) called calls
-cut_short_matches {M} F m k g called calls matches unbroken few = record {
-  matches = broken_matches F m k g 0 matches;
-  within = few_calls M m.present k.graph called calls (matches.holds unbroken).represents.calls few;
+pub cut_short_matches : {M : Functions} (F : Meanings) (m : Moment) (k : Kept) (g : Standing (Unit {0})) (called calls : ℕ) → KeepsNodes k.graph g
+    → MatchesMoment F k m → HasCalledMet M k.graph called calls → IsCutShort F m (record k { broken = Some 0; graph = g }) called calls
+cut_short_matches {M} F m k g called calls keeps matches few = record {
+  matches = broken_matches F m k g 0 keeps matches;
+  within = few_calls M m.present k.graph called calls matches.represents.today.calls few;
 }
 
 -- ---- what never comes
@@ -50,12 +95,18 @@ not_full M g refused.Memory lawful e = cc
 -- ---- over a graph with its functions
 
 module _ {A : Type 0} where
+  -- so they do but for the functions
+  pub keeps_without : (k : Kept) (old new : Standing A) → k.graph ≡ without_functions old → KeepsNodes old new → KeepsNodes k.graph (without_functions new)
+  keeps_without k old new same keeps =
+      subst (λ (h : Standing (Unit {0})). KeepsNodes h (without_functions new)) (sym same)
+      (record { nodes = keeps.nodes; observers = keeps.observers; rooted = keeps.rooted })
+
   -- a stabilize of a session's graph that was cut short is one of its script
   pub session_cut_short : {M : Functions} (F : Meanings) (k : Kept) (old new : Standing A) (called calls : ℕ) → k.graph ≡ without_functions old
-      → k.broken ≡ None → HasCalledMet M old called calls → (m : Moment) → MatchesMoment F k m
+      → KeepsNodes old new → HasCalledMet M old called calls → (m : Moment) → MatchesMoment F k m
       → IsCutShort F m (record k { broken = Some 0; graph = without_functions new }) called calls
-  session_cut_short {M} F k old new called calls same unbroken few m matches =
-      cut_short_matches F m k (without_functions new) called calls matches (matches.broken ∙ unbroken)
+  session_cut_short {M} F k old new called calls same keeps few m matches =
+      cut_short_matches F m k (without_functions new) called calls (keeps_without k old new same keeps) matches
       (subst (λ (h : Standing (Unit {0})). HasCalledMet M h called calls) (sym same) (few_without M old called calls few))
 
   -- no graph of a session is refused so

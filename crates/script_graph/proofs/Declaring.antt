@@ -23,15 +23,15 @@ use Rattle.script_model.specs.Step.{Moment, declared_in, moved}
 use Rattle.script_model.specs.Values.{Value, type_of}
 use Rattle.script_graph.specs.Growing.{Extends}
 use Rattle.script_graph.specs.Kept.{Kept, arena_of, node_in, no_node}
-use Rattle.script_graph.specs.Plain.{IsPlain, ArePlain, IsPlainBody, IsEarlierTarget, AllPlain}
-use Rattle.script_graph.specs.Represents.{AreNames, beside, IsWithin, IsPartWithin, OwnNodesOf, Represents}
-use Rattle.script_graph.specs.State.{Holds, MatchesMoment}
+use Rattle.script_graph.specs.Represents.{AreNames, beside, Represents}
+use Rattle.script_graph.specs.Today.{IsPlain, ArePlain, IsPlainBody, IsEarlierTarget, AllPlain, IsWithin, IsPartWithin, OwnNodesOf}
+use Rattle.script_graph.specs.State.{MatchesMoment}
 use Rattle.script_graph.proofs.Carrying.{watches_on, leaves_beside, settled_on}
 use Rattle.script_graph.proofs.Extending.{live_stays, declares_still, body_within, body_there, node_given, never_given, body_past, node_past}
 use Rattle.script_graph.proofs.Callers.{HasNewCalls, few_calls_on}
-use Rattle.script_graph.proofs.Owning.{own_nodes_of_on}
+use Rattle.script_graph.proofs.Owning.{own_body, own_node, own_nodes_of_on}
 use Rattle.transfer.specs.Items.{FormulasStay}
-use Rattle.transfer.specs.Keeping.{RowsStay}
+use Rattle.transfer.specs.Keeping.{NodesApart, RowsStay}
 use Rattle.transfer.specs.Shows.{Declares, IsOwn}
 use Rattle.transfer.proofs.Places.{then_some}
 use Rattle.transfer.proofs.Typed.{body_entry}
@@ -235,7 +235,7 @@ module _ (named : List ℕ → Option FnRef) (value : FnRef → List GraphValue 
 
     fitting : (position : ℕ) (t : Ty) → NameFits k.names position t → IsEarlierTarget s' (length s.entries) position
     fitting position t fine =
-        let own = fitting_target k.names s names.declared held.plain held.targets position t fine in
+        let own = fitting_target k.names s names.declared held.today.plain held.targets position t fine in
         let size = ap (λ (ds : List Declared). length ds) names.declared in
         let low : position < length s.entries = within position (fine.earlier) in
         (low, subst IsOwn (sym (body_old s name ty body position low)) own)
@@ -249,7 +249,7 @@ module _ (named : List ℕ → Option FnRef) (value : FnRef → List GraphValue 
 
     plain_each : AllPlain s'
     plain_each n b is = elim (body_of s name ty body n b is) [
-      | inl h ↦ plain_body_more (IsEarlierTarget s n) (IsEarlierTarget s' n) (λ t early. own_old n t h.0 early) b (held.plain n b h.1)
+      | inl h ↦ plain_body_more (IsEarlierTarget s n) (IsEarlierTarget s' n) (λ t early. own_old n t h.0 early) b (held.today.plain n b h.1)
       | inr h ↦ subst (λ (j : ℕ). IsPlainBody (IsEarlierTarget s' j) b) (sym h.0) (subst (λ (c : Body). IsPlainBody (IsEarlierTarget s' (length s.entries)) c) (sym h.1)
           (body_plain known k.names (IsEarlierTarget s' (length s.entries)) fitting body ty fits.body_fits))
     ]
@@ -267,7 +267,7 @@ module _ (named : List ℕ → Option FnRef) (value : FnRef → List GraphValue 
             node_past new.nodes n (omega (arith, body_past s' n is, held.one_node_each, size, states))
     declares_each n (Some b) is = elim (body_of s name ty body n b is) [
       | inl h ↦ declares_still (beside F s k) (beside F s' new) (IsEarlierTarget s n) (same_early n h.0) stays
-          (node_in k.nodes n) (node_in new.nodes n) b (node_old n h.0) (held.plain n b h.1) (λ v e r row. live_stays k.graph g sound more (node_in k.nodes n) r row)
+          (node_in k.nodes n) (node_in new.nodes n) b (node_old n h.0) (held.today.plain n b h.1) (λ v e r row. live_stays k.graph g sound more (node_in k.nodes n) r row)
           (rw h.1 at (held.declares n))
       | inr h ↦ subst (λ (c : Body). Declares (beside F s' new) (node_in new.nodes n) (Some c)) (sym h.1)
           (subst (λ (q : NodeId). Declares (beside F s' new) q (Some body)) (sym (ap (node_in new.nodes) h.0 ∙ node_new)) shows)
@@ -306,7 +306,7 @@ module _ (named : List ℕ → Option FnRef) (value : FnRef → List GraphValue 
     aged_each n b is = elim (body_of s name ty body n b is) [
       | inl h ↦ subst (λ (q : NodeId). AgedAt n q b) (sym (node_old n h.0))
           (own_nodes_of_on (graph_of (arena_of k)) (graph_of g.nodes) (IsWithin k.nodes n) (IsWithin new.nodes n) (IsPartWithin k.nodes n)
-          (IsPartWithin new.nodes n) (within_old n h.0) (part_old n h.0) stays (node_in k.nodes n) b (held.aged n b h.1))
+          (IsPartWithin new.nodes n) (within_old n h.0) (part_old n h.0) stays (node_in k.nodes n) b (held.today.aged n b h.1))
       | inr h ↦ subst (λ (j : ℕ). AgedAt j (node_in new.nodes j) b) (sym h.0)
           (subst (λ (q : NodeId). AgedAt (length s.entries) q b) (sym node_new)
           (subst (λ (c : Body). AgedAt (length s.entries) root c) (sym h.1)
@@ -321,6 +321,30 @@ module _ (named : List ℕ → Option FnRef) (value : FnRef → List GraphValue 
       | inr h ↦ ap (λ (d : Entry). d.target) h.1 ∙ (ap (λ (j : ℕ). target_of_body j body) (sym h.0) ∙ ap (λ (d : Entry). target_of_body n d.body) (sym h.1))
     ]
 
+    -- two declarations that are their own targets have two nodes: that of the new one was given later
+    apart_each : NodesApart s' (node_in new.nodes)
+    apart_each i j d e at_i at_j own_i own_j same = by_place (entry_of s name ty body i d at_i) (entry_of s name ty body j e at_j)
+      where
+        later : (i j : ℕ) (e : Entry) → i < length s.entries → j ≡ length s.entries → e ≡ entry s name ty body → e.target ≡ j
+            → node_in new.nodes i ≡ node_in new.nodes j → ⊥
+        later i j e low last is own same =
+            let target : target_of_body (length s.entries) body ≡ length s.entries = ap (λ (d : Entry). d.target) (sym is) ∙ (own ∙ last) in
+            let young = own_node (graph_of g.nodes) (λ (q : NodeId). ((arena_of k).given ≤ q.gen_) × (q.gen_ ≤ root.gen_))
+            (λ (q : NodeId). ((arena_of k).given ≤ q.gen_) × (q.gen_ < root.gen_)) root body
+            (own_body s' plain_each (length s.entries) body (body_new s name ty body) target) owned in
+            let b = body_there F s k held i low in
+            let old = node_given F s k held sound i b.0 b.1 in
+            let node : node_in k.nodes i ≡ root = sym (node_old i low) ∙ (same ∙ (ap (node_in new.nodes) last ∙ node_new)) in
+            let gens : (node_in k.nodes i).gen_ ≡ root.gen_ = ap (λ (q : NodeId). q.gen_) node in
+            omega (arith, old, gens, young.0)
+
+        by_place : ((i < length s.entries) × (entry_at s i ≡ Some d)) ⊎ ((i ≡ length s.entries) × (d ≡ entry s name ty body))
+            → ((j < length s.entries) × (entry_at s j ≡ Some e)) ⊎ ((j ≡ length s.entries) × (e ≡ entry s name ty body)) → i ≡ j
+        by_place (inl a) (inl b) = held.apart i j d e a.1 b.1 own_i own_j (sym (node_old i a.0) ∙ (same ∙ node_old j b.0))
+        by_place (inl a) (inr b) = absurd (later i j e a.0 b.0 b.1 own_j same)
+        by_place (inr a) (inl b) = absurd (later j i d b.0 a.0 a.1 own_i (sym same))
+        by_place (inr a) (inr b) = a.0 ∙ sym b.0
+
     pub declared_represents : Represents F s' new
     declared_represents = record {
       room = let places = sum_by_push (λ (e : Entry). places_of_body e.body) s.entries (entry s name ty body) in omega (arith, room_is, held.room, places);
@@ -329,34 +353,32 @@ module _ (named : List ℕ → Option FnRef) (value : FnRef → List GraphValue 
           let size = length-append k.nodes (root ∷ []) in
           let states = length-append s.entries (entry s name ty body ∷ []) in
           omega (arith, held.one_node_each, size, states);
-      plain = plain_each;
       declares = λ n. declares_each n (body_at s' n) refl;
       targets = targets_each;
-      aged = aged_each;
-      calls = few_calls_on s s' (arena_of k) g.nodes (calls_of_body body) fewer
-          (let calls = sum_by_push (λ (e : Entry). calls_of_body e.body) s.entries (entry s name ty body) in omega (arith, calls)) held.calls;
+      apart = apart_each;
+      today = record {
+        plain = plain_each;
+        aged = aged_each;
+        calls = few_calls_on s s' (arena_of k) g.nodes (calls_of_body body) fewer
+            (let calls = sum_by_push (λ (e : Entry). calls_of_body e.body) s.entries (entry s name ty body) in omega (arith, calls)) held.today.calls;
+      };
     }
-
-  holds_after : AreNames k.names s → Declares (beside F s' new) root (Some body) → Holds F k m → Holds F new (moved m (Declare name ty body))
-  holds_after names shows h = record {
-    represents = declared_represents names h.represents shows;
-    watches = watches_on s s' k new more.beside refl refl refl (λ n b is. node_old names h.represents shows n (body_within F s k h.represents n b is))
-        (node_given F s k h.represents sound)
-        (λ n b is. (b, body_old s name ty body n (body_within F s k h.represents n b is) ∙ is)) h.watches;
-    settled = settled_on F m.settled s s' k new (leaves_beside k new more.beside more.given) (record {
-      formulas = declared_formulas s name ty body;
-      targets = λ n e is. (e, entry_old s name ty body n (slice_get_within s.entries n e is) ∙ is, refl);
-      names = λ n e is. node_old names h.represents shows n (slice_get_within s.entries n e is);
-      rows = stays;
-    }) (λ x among is. among) h.settled;
-  }
 
   -- the script with the declaration is matched, where the new node shows it
   pub declaring_stands : Declares (beside F s' new) root (Some body) → k.broken ≡ None → MatchesMoment F k m
       → MatchesMoment F new (moved m (Declare name ty body))
-  declaring_stands shows whole h = record {
+  declaring_stands shows unbroken h = record {
     names = names_on h.names;
     accepted = h.accepted;
     broken = h.broken;
-    holds = λ unbroken. holds_after h.names shows (h.holds unbroken);
+    represents = declared_represents h.names h.represents shows;
+    watches = watches_on s s' k new more.beside refl refl refl refl (λ n b is. node_old h.names h.represents shows n (body_within F s k h.represents n b is))
+        (node_given F s k h.represents sound)
+        (λ n b is. (b, body_old s name ty body n (body_within F s k h.represents n b is) ∙ is)) h.watches;
+    settled = λ whole. settled_on F m.settled s s' k new (leaves_beside k new more.beside more.given) (record {
+      formulas = declared_formulas s name ty body;
+      targets = λ n e is. (e, entry_old s name ty body n (slice_get_within s.entries n e is) ∙ is, refl);
+      names = λ n e is. node_old h.names h.represents shows n (slice_get_within s.entries n e is);
+      rows = stays;
+    }) (λ x among is. among) (h.settled whole);
   }

@@ -14,7 +14,7 @@ use Rattle.script_model.specs.Step.{Moment, moved}
 use Rattle.script_graph.specs.Kept.{Kept, HasNode, IsSound, arena_of, node_in}
 use Rattle.script_graph.specs.Represents.{there_in, IsShown, Watches}
 use Rattle.script_graph.specs.Settled.{rooted_at, StillDeclares}
-use Rattle.script_graph.specs.State.{Holds, MatchesMoment}
+use Rattle.script_graph.specs.State.{MatchesMoment}
 use Rattle.script_graph.proofs.Carrying.{LeavesBeside, settled_on}
 use Rattle.script_graph.proofs.Held.{rooted_looks, looks_rooted}
 use Rattle.script_graph.proofs.Observing.{get_some, there_is_among}
@@ -323,11 +323,8 @@ module _ (k : Kept) (name d : List ℕ) (i : ℕ) (o : ObsId) (g : Standing (Uni
     abbrev then : State
     then = record s { observers = filter (is_other name) s.observers }
 
-    held : Holds F k m
-    held = stands.holds unbroken
-
     w : Watches s k
-    w = held.watches
+    w = stands.watches
 
     ended_one : (x : Observer) × (slice_get w.made o.0 ≡ Some (Some x)) × (x.name ≡ name)
     ended_one = w.named i o name at_id at_name
@@ -355,7 +352,7 @@ module _ (k : Kept) (name d : List ℕ) (i : ℕ) (o : ObsId) (g : Standing (Uni
     shown_still : (p : ObsId) (y : Observer) → IsShown k p y → IsShown new p y
     shown_still p y h = record {
       earlier = λ less. let e = h.earlier (subst (λ (n : ℕ). p.0 < n) ends.rooted less) in
-          (e.0, e.1, e.2, ends.shown (node_in k.nodes y.target) ∙ e.3);
+          (e.0, e.1, λ whole. ends.shown (node_in k.nodes y.target) ∙ e.2 whole);
       later = λ more. h.later (subst (λ (n : ℕ). n ≤ p.0) ends.rooted more);
     }
 
@@ -372,7 +369,7 @@ module _ (k : Kept) (name d : List ℕ) (i : ℕ) (o : ObsId) (g : Standing (Uni
       in_order = ap (filter (is_other name)) w.in_order ∙ one_leaves name w.made o.0 ended_one.0 ended_one.1 ended_one.2 alone;
       ended = λ p at. was_ended p at (same_or p.0 o.0);
       observing = λ p y at. let old = was_made p.0 y at in let h = w.observing p y old.1 in
-          record { looks = looks_old p old.0 ∙ h.looks; target = h.target; unwatched = h.unwatched; shown = shown_still p y h.shown };
+          record { looks = looks_old p old.0 ∙ h.looks; target = h.target; shown = shown_still p y h.shown; today = h.today };
       named = λ j p n at_p at_n. let a = id_at j p at_p in let b = name_at j n at_n in let h = w.named (source last i j) p n a.1 b.1 in
           (h.0, left_other p.0 (other_id j p at_p) ∙ h.1, h.2);
       apart = λ p q y z at_p at_q same. w.apart p q y z (was_made p.0 y at_p).1 (was_made q.0 z at_q).1 same;
@@ -442,9 +439,8 @@ module _ (k : Kept) (name d : List ℕ) (i : ℕ) (o : ObsId) (g : Standing (Uni
       names = record { declared = stands.names.declared; now = stands.names.now; in_use = names_left };
       accepted = stands.accepted;
       broken = stands.broken;
-      holds = λ e. record {
-        represents = represents_so F s (filter (is_other name) s.observers) s.accepted k new refl refl ends.nodes held.represents;
-        watches = watching;
-        settled = settled_on F m.settled s then k new leaves still (λ x among is. among_filter x (is_other name) s.observers among) held.settled;
-      };
+      represents = represents_so F s (filter (is_other name) s.observers) s.accepted k new refl refl ends.nodes stands.represents;
+      watches = watching;
+      settled = λ whole.
+          settled_on F m.settled s then k new leaves still (λ x among is. among_filter x (is_other name) s.observers among) (stands.settled whole);
     }

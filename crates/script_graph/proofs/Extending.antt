@@ -20,9 +20,9 @@ use Rattle.script_model.specs.Step.{Moment}
 use Rattle.script_model.specs.Values.{Value}
 use Rattle.script_graph.specs.Growing.{Extends}
 use Rattle.script_graph.specs.Kept.{Kept, arena_of, node_in, no_node, without_functions}
-use Rattle.script_graph.specs.Plain.{IsPlain, ArePlain, IsPlainBody, IsEarlierTarget}
-use Rattle.script_graph.specs.Represents.{beside, IsWithin, IsPartWithin, Represents}
-use Rattle.script_graph.specs.State.{Holds, MatchesMoment}
+use Rattle.script_graph.specs.Represents.{beside, Represents}
+use Rattle.script_graph.specs.Today.{IsPlain, ArePlain, IsPlainBody, IsEarlierTarget, IsWithin, IsPartWithin}
+use Rattle.script_graph.specs.State.{MatchesMoment}
 use Rattle.script_graph.proofs.Carrying.{base_value, watches_on, leaves_beside, settled_on}
 use Rattle.script_graph.proofs.Callers.{HasNewCalls, few_calls_on}
 use Rattle.script_graph.proofs.Owning.{own_nodes_of_on}
@@ -214,13 +214,13 @@ module _ (F : Meanings) (s : State) (k : Kept) (held : Represents F s k) where
       let o = d.1 in
       let same = ref_same (node_in k.nodes n) o.0 o.2 in (o.1, ap (row_at (arena_of k)) same ∙ o.3)
   own_live n (Computed (Name t) kept) own is = absurd own
-  own_live n (Computed f kept) own is = absurd (held.plain n (Computed f kept) is).0
-  own_live n b own is = absurd (held.plain n b is)
+  own_live n (Computed f kept) own is = absurd (held.today.plain n (Computed f kept) is).0
+  own_live n b own is = absurd (held.today.plain n b is)
 
   -- the node of a declaration is live
   pub node_live : (n : ℕ) (b : Body) → body_at s n ≡ Some b → (r : Row) × (row_at (arena_of k) (node_in k.nodes n) ≡ Some r)
   node_live n (Computed (Name t) kept) is =
-      let fine = (held.plain n (Computed (Name t) kept) is).0 in
+      let fine = (held.today.plain n (Computed (Name t) kept) is).0 in
       let b = body_there t (omega (arith, fine.0, body_within n (Computed (Name t) kept) is)) in
       let live = own_live t b.0 (subst IsOwn b.1 fine.1) b.1 in
       let d = rw is at (held.declares n) in
@@ -275,7 +275,7 @@ module _ (named : List ℕ → Option FnRef) (value : FnRef → List GraphValue 
         past = node_past k.nodes n (omega (arith, body_past m.present n is, held.one_node_each))
     declares_each n (Some b) is =
         declares_still (beside F m.present k) (beside F m.present new) (IsEarlierTarget m.present n) (λ t early. refl) stays
-        (node_in k.nodes n) (node_in k.nodes n) b refl (held.plain n b is) (λ v e r row. live_stays k.graph g sound more (node_in k.nodes n) r row)
+        (node_in k.nodes n) (node_in k.nodes n) b refl (held.today.plain n b is) (λ v e r row. live_stays k.graph g sound more (node_in k.nodes n) r row)
         (rw is at (held.declares n))
 
     represents_on : Represents F m.present new
@@ -283,27 +283,30 @@ module _ (named : List ℕ → Option FnRef) (value : FnRef → List GraphValue 
       room = held.room;
       clock = held.clock;
       one_node_each = held.one_node_each;
-      plain = held.plain;
       declares = λ n. declares_each n (body_at m.present n) refl;
       targets = held.targets;
-      aged = λ n b is. own_nodes_of_on (graph_of (arena_of k)) (graph_of g.nodes) (IsWithin k.nodes n) (IsWithin k.nodes n)
-          (IsPartWithin k.nodes n) (IsPartWithin k.nodes n) (λ q h. h) (λ q h. h) stays (node_in k.nodes n) b (held.aged n b is);
-      calls = few_calls_on m.present m.present (arena_of k) g.nodes 0 fewer (omega arith) held.calls;
+      apart = held.apart;
+      today = record {
+        plain = held.today.plain;
+        aged = λ n b is. own_nodes_of_on (graph_of (arena_of k)) (graph_of g.nodes) (IsWithin k.nodes n) (IsWithin k.nodes n)
+            (IsPartWithin k.nodes n) (IsPartWithin k.nodes n) (λ q h. h) (λ q h. h) stays (node_in k.nodes n) b (held.today.aged n b is);
+        calls = few_calls_on m.present m.present (arena_of k) g.nodes 0 fewer (omega arith) held.today.calls;
+      };
     }
 
-  holds_on : Holds F k m → Holds F new m
-  holds_on h = record {
+  -- what was matched is so still
+  pub stands_on : MatchesMoment F k m → MatchesMoment F new m
+  stands_on h = record {
+    names = h.names;
+    accepted = h.accepted;
+    broken = h.broken;
     represents = represents_on h.represents;
-    watches = watches_on m.present m.present k new more.beside refl refl refl (λ n b is. refl)
+    watches = watches_on m.present m.present k new more.beside refl refl refl refl (λ n b is. refl)
         (node_given F m.present k h.represents sound) (λ n b is. (b, is)) h.watches;
-    settled = settled_on F m.settled m.present m.present k new (leaves_beside k new more.beside more.given) (record {
+    settled = λ whole. settled_on F m.settled m.present m.present k new (leaves_beside k new more.beside more.given) (record {
       formulas = λ owner path f is. is;
       targets = λ n e is. (e, is, refl);
       names = λ n e is. refl;
       rows = stays;
-    }) (λ x among is. among) h.settled;
+    }) (λ x among is. among) (h.settled whole);
   }
-
-  -- what was matched is so still
-  pub stands_on : MatchesMoment F k m → MatchesMoment F new m
-  stands_on h = record { names = h.names; accepted = h.accepted; broken = h.broken; holds = λ whole. holds_on (h.holds whole) }

@@ -29,7 +29,7 @@ use Rattle.script_model.specs.Check.{Names}
 use Rattle.script_model.specs.Formula.{Formula, Formulas, Body, Literal, Name, Apply, Fold, End, More, Variable, Computed}
 use Rattle.script_model.specs.Values.{Value, Int, Bool as Truth, Text, Reference, type_of, to_engine}
 use Rattle.script_graph.specs.Growing.{IsMaking, PartFits, OpenFits, AllOpenFit}
-use Rattle.script_graph.specs.Represents.{OwnNodes, OwnNodesOfAll, WholeNodes, OwnNodesOf}
+use Rattle.script_graph.specs.Today.{OwnNodes, OwnNodesOfAll, WholeNodes, OwnNodesOf}
 use Rattle.script_graph.proofs.Making.{part_row}
 use Rattle.script_graph.proofs.Owning.{own_nodes_of_on}
 use Rattle.transfer.specs.Both.{Both}

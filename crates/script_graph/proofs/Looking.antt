@@ -7,7 +7,7 @@ use Rattle.graph.specs.declared.observer.Observer.{Observer as Looking}
 use Rattle.inc_terms.proofs.Plan.{among_map}
 use Rattle.script_model.specs.Formula.{State, Entry, Body, Observer, Variable, Computed}
 use Rattle.script_model.specs.Need.{Item, Named, own_root, own_roots, roots}
-use Rattle.script_graph.specs.Plain.{IsPlainBody, IsEarlierTarget, AllPlain}
+use Rattle.script_graph.specs.Today.{IsPlainBody, IsEarlierTarget, AllPlain}
 use Rattle.script_graph.specs.Represents.{there_in}
 
 -- ---- in order

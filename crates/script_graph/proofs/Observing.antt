@@ -16,10 +16,11 @@ use Rattle.script_model.specs.Formula.{State, Entry, Body, Observer, Meanings, b
 use Rattle.script_model.specs.Step.{Moment, moved, find_observer, new_observer, shown_by}
 use Rattle.script_model.specs.Values.{Int, Bool as Truth, Text, Reference, Outcome, Val, Invalid}
 use Rattle.script_graph.specs.Kept.{Kept, arena_of, node_in}
-use Rattle.script_graph.specs.Represents.{there_in, AreNames, IsBaseOutcome, IsObserver, IsShown, Watches}
+use Rattle.script_graph.specs.Represents.{there_in, AreNames, IsObserver, IsShown, Watches}
+use Rattle.script_graph.specs.Today.{IsBaseOutcome}
 use Rattle.script_graph.specs.Settled.{StillDeclares}
 use Rattle.script_graph.specs.Shown.{ShowsIt, engine_outcome}
-use Rattle.script_graph.specs.State.{Holds, MatchesMoment}
+use Rattle.script_graph.specs.State.{MatchesMoment}
 use Rattle.script_graph.proofs.Carrying.{LeavesBeside, settled_on}
 use Rattle.script_graph.proofs.Held.{rooted_looks, looks_rooted}
 use Rattle.script_graph.proofs.Same.{represents_so}
@@ -150,11 +151,8 @@ module _ (F : Meanings) (k : Kept) (m : Moment) (name : List ℕ) (target : ℕ)
   abbrev then : State
   then = record s { observers = s.observers ++ x ∷ [] }
 
-  held : Holds F k m
-  held = stands.holds unbroken
-
   w : Watches s k
-  w = held.watches
+  w = stands.watches
 
   nodes_same : g.nodes ≡ k.graph.nodes
   nodes_same = ap (λ (h : Standing (Unit {0})). h.nodes) observes.rest
@@ -183,7 +181,7 @@ module _ (F : Meanings) (k : Kept) (m : Moment) (name : List ℕ) (target : ℕ)
   old_shown : (p : ObsId) (y : Observer) → IsShown k p y → IsShown new p y
   old_shown p y h = record {
     earlier = λ less. let e = h.earlier (subst (λ (n : ℕ). p.0 < n) rooted_same less) in
-        (e.0, e.1, e.2, ap (λ (h : Standing (Unit {0})). shown_of h (node_in k.nodes y.target)) observes.rest ∙ e.3);
+        (e.0, e.1, λ whole. ap (λ (h : Standing (Unit {0})). shown_of h (node_in k.nodes y.target)) observes.rest ∙ e.2 whole);
     later = λ more. h.later (subst (λ (n : ℕ). n ≤ p.0) rooted_same more);
   }
 
@@ -191,7 +189,7 @@ module _ (F : Meanings) (k : Kept) (m : Moment) (name : List ℕ) (target : ℕ)
   old_observer p y at =
       let h = w.observing p y at in
       let less : p.0 < length k.graph.observers = let c = get_some w.made p.0 (Some y) at in let e = w.one_each in omega (arith, c, e) in
-      record { looks = looks_old p less ∙ h.looks; target = h.target; unwatched = h.unwatched; shown = old_shown p y h.shown }
+      record { looks = looks_old p less ∙ h.looks; target = h.target; shown = old_shown p y h.shown; today = h.today }
 
   new_looks : (p : ObsId) → p.0 ≡ length w.made → node_at g.observers p ≡ Some (node_in k.nodes target)
   new_looks p e = rw (observers_more, e, w.one_each) (ap looked_at (get_end k.graph.observers (record { node = node_in k.nodes target; in_use = true })))
@@ -207,11 +205,11 @@ module _ (F : Meanings) (k : Kept) (m : Moment) (name : List ℕ) (target : ℕ)
   new_observer_is p e = record {
     looks = new_looks p e;
     target = target_there;
-    unwatched = refl;
     shown = record {
       earlier = λ less. absurd (let r = rooted in let c = w.one_each in let same = rooted_same in omega (arith, less, e, r, c, same));
       later = λ more. refl;
     };
+    today = record { unwatched = refl; base = λ q is. absurd (cc) };
   }
 
   watching : Watches then new
@@ -297,11 +295,9 @@ module _ (F : Meanings) (k : Kept) (m : Moment) (name : List ℕ) (target : ℕ)
     names = names;
     accepted = stands.accepted;
     broken = stands.broken;
-    holds = λ e. record {
-      represents = represents_so F s (s.observers ++ x ∷ []) s.accepted k new refl refl nodes_same held.represents;
-      watches = watching;
-      settled = settled_on F m.settled s then k new leaves still shown_was held.settled;
-    };
+    represents = represents_so F s (s.observers ++ x ∷ []) s.accepted k new refl refl nodes_same stands.represents;
+    watches = watching;
+    settled = λ whole. settled_on F m.settled s then k new leaves still shown_was (stands.settled whole);
   }
 
 -- ---- what one shows
@@ -316,7 +312,7 @@ graph_is_engine nodes Invalid base = refl
 module _ (F : Meanings) (k : Kept) (m : Moment) (stands : MatchesMoment F k m) (unbroken : m.broken ≡ None) (i : ℕ) (o : ObsId) (name : List ℕ)
     (at_id : slice_get k.observers i ≡ Some o) (at_name : slice_get k.names.observers i ≡ Some name) where
   seen_by : Watches m.present k
-  seen_by = (stands.holds unbroken).watches
+  seen_by = stands.watches
 
   found : (y : Observer) × IsObserver m.present k o y × (find_observer m.present.observers name ≡ Some y)
   found =
@@ -336,8 +332,9 @@ module _ (F : Meanings) (k : Kept) (m : Moment) (stands : MatchesMoment F k m) (
       let e = f.1.shown.earlier earlier in
       let same_node : node_in k.nodes f.0.target ≡ n = let l = sym f.1.looks ∙ looks in cc in
       let same : graph_outcome (node_in k.nodes) e.0 ≡ out =
-      let l = sym e.3 ∙ ap (shown_of k.graph) same_node ∙ shows in cc in
-      record { outcome = e.0; is_shown = rw f.2 e.1; base = e.2; same = sym (graph_is_engine (node_in k.nodes) e.0 e.2) ∙ same }
+      let l = sym (e.2 (sym stands.broken ∙ unbroken)) ∙ ap (shown_of k.graph) same_node ∙ shows in cc in
+      let base = f.1.today.base e.0 e.1 in
+      record { outcome = e.0; is_shown = rw f.2 e.1; base = base; same = sym (graph_is_engine (node_in k.nodes) e.0 base) ∙ same }
 
   -- nothing where it was made later
   pub shows_nothing : k.graph.rooted ≤ o.0 → shown_by m.present name ≡ None

@@ -10,8 +10,7 @@ use Rattle.script_model.specs.Depth.{Point, node_of_body, node_of_formula, point
 use Rattle.script_model.specs.Evaluate.{chosen, value_at}
 use Rattle.script_model.specs.Formula.{State, Body, Formula, Meanings, body_at, formula_of_body, Literal, Name, Apply, Fold, Variable, Computed, Grab}
 use Rattle.script_model.specs.Need.{Edge, Left, Item, Named, Place, Met, Needed, environment, rounds, part_at, part_of, formula_at, place_reads, name_reads, Reads}
-use Rattle.script_graph.specs.Plain.{IsPlain, IsPlainBody, IsEarlierTarget, AllPlain}
-use Rattle.script_graph.specs.Represents.{Computes, IsOwnFormula}
+use Rattle.script_graph.specs.Today.{IsPlain, IsPlainBody, IsEarlierTarget, AllPlain, Computes, IsOwnFormula}
 use Rattle.script_graph.proofs.Plain.{plain_place}
 use Rattle.transfer.specs.Both.{Both}
 use Rattle.transfer.specs.Deep.{IsOfBind, IsToldOf, of_node, of_bind, of_grab}

@@ -1,16 +1,18 @@
 -- The nodes of what is declared, and those of items.
-use Rattle.std.proofs.Common.{◌≡◌, ◌<◌, ℕ, zero, suc, List, [], ◌∷◌, Option, None, Some, refl, ap, sym, subst, ◌∙◌, slice_get}
+use Rattle.std.proofs.Common.{◌≡◌, ◌<◌, ℕ, zero, suc, List, [], ◌∷◌, Option, None, Some, refl, ap, sym, subst, ◌∙◌, arith, slice_get}
 use Rattle.inc_value.specs.Choice.{and_then}
 use Rattle.inc_value.specs.declared.node.NodeId.{NodeId}
 use Rattle.inc_terms.specs.Graph as graph
 use Rattle.inc_terms.specs.Graph.{Graph, Row, Def, Built as BuiltFor}
 use Rattle.node_arena.specs.Graph.{graph_of}
+use Rattle.script_model.specs.Check.{target_of_body}
 use Rattle.script_model.specs.Formula as script
 use Rattle.script_model.specs.Formula.{State, Body, Formula, Formulas, Meanings, body_at, formula_of_body, Literal, Name, Bound, Apply, Fold, If, Join, Bind, At, Steps, Now, End, More, Variable, Computed, Freeze, After, Every, Expert, Grab}
 use Rattle.script_model.specs.Need.{Edge, Argument, Test, Then, Else, Child, Left, Inside, Item, Named, Place, argument_at, part_at, part_of, formula_at}
 use Rattle.script_model.specs.Values.{to_engine}
 use Rattle.script_graph.specs.Kept.{Kept, arena_of, node_in}
-use Rattle.script_graph.specs.Represents.{OwnNodes, OwnNodesOfAll, WholeNodes, OwnNodesOf, IsPartWithin, IsOwnFormula, IsVariableBody, Computes, owner_of, IsWithin, beside, Represents}
+use Rattle.script_graph.specs.Represents.{beside, Represents}
+use Rattle.script_graph.specs.Today.{AllPlain, OwnNodes, OwnNodesOfAll, WholeNodes, OwnNodesOf, IsPartWithin, IsWithin, IsOwnFormula, IsVariableBody, Computes, owner_of}
 use Rattle.transfer.specs.Both.{Both}
 use Rattle.transfer.specs.Items.{part_node, root_at, node_at, node_of}
 use Rattle.transfer.specs.Keeping.{RowsStay}
@@ -184,6 +186,13 @@ own_node G P Q n (Computed f kept) is own = by_formula f kept is own
         own_form f kept is = tt
 own_node G P Q n b is own = absurd own
 
+-- a declaration that is its own target is no other name
+pub own_body : (s : State) → AllPlain s → (n : ℕ) (b : Body) → body_at s n ≡ Some b → target_of_body n b ≡ n → IsOwn (Some b)
+own_body s plain n (Computed (Name t) kept) is e =
+    let low = (plain n (Computed (Name t) kept) is).0.0 in
+    let same : t ≡ n = e in absurd (omega (arith, low, same))
+own_body s plain n b is e = tt
+
 module _ (F : Meanings) (s : State) (k : Kept) (held : Represents F s k) where
   abbrev G : Graph
   G = graph_of (arena_of k)
@@ -191,7 +200,7 @@ module _ (F : Meanings) (s : State) (k : Kept) (held : Represents F s k) where
   whole_own : (owner : ℕ) (f : Formula) (kept : script.Kept) → body_at s owner ≡ Some (Computed f kept) → (m : NodeId)
       → node_at (beside F s k) owner [] ≡ Some m → WholeNodes G (IsWithin k.nodes owner) (IsPartWithin k.nodes owner) m f
   whole_own owner f kept is m at =
-      let own = held.aged owner (Computed f kept) is in
+      let own = held.today.aged owner (Computed f kept) is in
       let node : Some (node_in k.nodes owner) ≡ Some m = rw is at at in
       let same : node_in k.nodes owner ≡ m = cc in
       subst (λ (n : NodeId). WholeNodes G (IsWithin k.nodes owner) (IsPartWithin k.nodes owner) n f) same own
@@ -217,11 +226,11 @@ module _ (F : Meanings) (s : State) (k : Kept) (held : Represents F s k) where
   by_body owner path n None is own at = absurd own
   by_body owner path n (Some (Computed f kept)) is own at = by_part owner path n f kept is (part_of f path) refl own at
   by_body owner path n (Some (Variable v)) is own at = absurd own
-  by_body owner path n (Some b) is own at = absurd (held.aged owner b is)
+  by_body owner path n (Some b) is own at = absurd (held.today.aged owner b is)
 
   by_name : (n : ℕ) (b : Option Body) → body_at s n ≡ b → IsVariableBody b → IsWithin k.nodes n (node_in k.nodes n)
   by_name n None is own = absurd own
-  by_name n (Some (Variable v)) is own = held.aged n (Variable v) is
+  by_name n (Some (Variable v)) is own = held.today.aged n (Variable v) is
   by_name n (Some b) is own = absurd own
 
   -- the node of what computes was given no later than that of the item's declaration, and later than those of earlier ones
@@ -240,4 +249,4 @@ module _ (F : Meanings) (s : State) (k : Kept) (held : Represents F s k) where
       go None body is = absurd (cc)
       go (Some (Computed f kept)) body is = (part_in owner edge path n f g kept body is own at).earlier
       go (Some (Variable v)) body is = absurd (cc)
-      go (Some b) body is = absurd (held.aged owner b body)
+      go (Some b) body is = absurd (held.today.aged owner b body)

@@ -9,8 +9,7 @@ use Rattle.script_model.specs.Formula.{State, Entry, Body, Formula, Formulas, Me
 use Rattle.script_model.specs.Need.{Edge, Argument, argument_at, part_at, part_of, formula_at}
 use Rattle.script_model.specs.Today.{IsTodays, AreTodays, IsTodaysBody, IsTodaysState}
 use Rattle.script_model.specs.Values.{Value, Outcome, Val, Invalid, type_of}
-use Rattle.script_graph.specs.Plain.{IsPlain, ArePlain, IsPlainBody, IsEarlierTarget, AllPlain}
-use Rattle.script_graph.specs.Represents.{IsBaseOutcome}
+use Rattle.script_graph.specs.Today.{IsPlain, ArePlain, IsPlainBody, IsEarlierTarget, AllPlain, IsBaseOutcome}
 use Rattle.script_graph.proofs.Functions.{gives_no_reference}
 
 -- ---- today's forms

@@ -20,41 +20,31 @@ use Rattle.map_nodes.specs.declared.cutoff.Cutoff.TheVariants.{Equal, Never}
 use Rattle.node_arena.specs.Arena.{row_at}
 use Rattle.node_arena.specs.Graph.{graph_of}
 use Rattle.node_outcomes.specs.Row.{is_never}
-use Rattle.script_model.specs.Check.{target_of_body}
-use Rattle.script_model.specs.Formula.{State, Entry, Body, Formula, Observer, Meanings, meanings_of, body_at, entry_at, formula_of_body, Name, Variable, Computed}
+use Rattle.script_model.specs.Formula.{State, Entry, Body, Formula, Observer, Meanings, meanings_of, body_at, entry_at, formula_of_body, Variable, Computed}
 use Rattle.script_model.specs.Need.{Named, Met, WithinWork, formula_at, part_of, own_roots, roots}
 use Rattle.script_model.specs.Step.{Moment}
 use Rattle.script_model.specs.Valid.{Valid, ValidObserver}
 use Rattle.stabilize_round.specs.Calls.{arguments_of}
 use Rattle.script_graph.specs.Kept.{Kept, arena_of, node_in, no_node}
-use Rattle.script_graph.specs.Plain.{IsPlainBody, IsEarlierTarget, AllPlain}
-use Rattle.script_graph.specs.Represents.{graph_functions, besides, beside, there_in, IsWithin, IsPartWithin, Represents, Watches}
+use Rattle.script_graph.specs.Represents.{graph_functions, besides, beside, there_in, Watches}
+use Rattle.script_graph.specs.Today.{IsPlainBody, IsEarlierTarget, AllPlain, IsWithin}
 use Rattle.script_graph.specs.Settled.{side_of, observed_by, Settled}
-use Rattle.script_graph.specs.State.{Holds, Stands}
+use Rattle.script_graph.specs.State.{Stands}
 use Rattle.script_graph.proofs.Beside.{represented_fits}
 use Rattle.script_graph.proofs.Extending.{never_given, node_past}
 use Rattle.script_graph.proofs.Held.{looked_within, observed_nodes, rooted_looks, needed_held, stood_beside}
-use Rattle.script_graph.proofs.Owning.{own_node}
 use Rattle.script_graph.proofs.Looking.{roots_are, among_image, same_name}
 use Rattle.script_graph.proofs.Watching.{watched_roots_are}
 use Rattle.script_graph.proofs.Without.{met_more}
 use Rattle.transfer.specs.Both.{Both}
 use Rattle.transfer.specs.Holding.{Later, HoldersAre, LastKept, MarksAreNew, Remembers}
 use Rattle.transfer.specs.Items.{node_at as place_node, CoveredBy, RootsAre}
-use Rattle.transfer.specs.Keeping.{NodesApart}
-use Rattle.transfer.specs.Shows.{Fits, IsOwn}
+use Rattle.transfer.specs.Shows.{Fits}
 use Rattle.transfer.proofs.Holding.{scopes_kept}
 use Rattle.transfer.proofs.Typed.{body_entry}
 use Rattle.transfer.proofs.Working.{met_is_covered, work_is_covered}
 
 -- ---- nodes of names
-
--- a declaration that is its own target is no other name
-pub own_body : (s : State) → AllPlain s → (n : ℕ) (b : Body) → body_at s n ≡ Some b → target_of_body n b ≡ n → IsOwn (Some b)
-own_body s plain n (Computed (Name t) kept) is e =
-    let low = (plain n (Computed (Name t) kept) is).0.0 in
-    let same : t ≡ n = e in absurd (omega (arith, low, same))
-own_body s plain n b is e = tt
 
 -- ids of two declarations are in the order of the declarations
 pub same_owner : (nodes : List NodeId) (j k : ℕ) (n : NodeId) → IsWithin nodes j n → IsWithin nodes k n → j ≡ k
@@ -67,19 +57,6 @@ same_owner nodes j k n first second = go (compared j k)
     go (inl low) = absurd (let a = second.later j low in let b = first.not_later in omega (arith, a, b))
     go (inr (inl same)) = same
     go (inr (inr high)) = absurd (let a = first.later k high in let b = second.not_later in omega (arith, a, b))
-
--- two declarations that are their own targets have two nodes
-pub nodes_apart : (F : Meanings) (s : State) (k : Kept) → Represents F s k → NodesApart s (node_in k.nodes)
-nodes_apart F s k held i j d e at_i at_j own_i own_j same =
-    let first = here i d at_i own_i in
-    let second = here j e at_j own_j in
-    same_owner k.nodes i j (node_in k.nodes j) (subst (IsWithin k.nodes i) same first) second
-  where
-    here : (n : ℕ) (x : Entry) → entry_at s n ≡ Some x → x.target ≡ n → IsWithin k.nodes n (node_in k.nodes n)
-    here n x at own =
-        let body : body_at s n ≡ Some x.body = ap (λ (o : Option Entry). and_then o (λ (y : Entry). Some y.body)) at in
-        own_node (graph_of (arena_of k)) (IsWithin k.nodes n) (IsPartWithin k.nodes n) (node_in k.nodes n) x.body
-        (own_body s held.plain n x.body body (sym (held.targets n x at) ∙ own)) (held.aged n x.body body)
 
 -- ---- observers
 
@@ -144,11 +121,8 @@ module _ (named : List ℕ → Option FnRef) (value : FnRef → List GraphValue 
   abbrev before : State
   before = m.settled
 
-  holds : Holds F k m
-  holds = stands.matches.holds unbroken
-
   pub st : Settled F before s k
-  st = holds.settled
+  st = stands.matches.settled unbroken
 
   abbrev left : Both
   left = besides F before st.nodes st.arena
@@ -157,7 +131,7 @@ module _ (named : List ℕ → Option FnRef) (value : FnRef → List GraphValue 
   then = beside F s k
 
   fits : Fits then
-  fits = represented_fits named value s k holds.represents
+  fits = represented_fits named value s k stands.matches.represents
 
   -- ---- the state is a later one
 
@@ -170,7 +144,7 @@ module _ (named : List ℕ → Option FnRef) (value : FnRef → List GraphValue 
   by_body owner n (Some b) is fine node f e = absurd (fine b refl)
 
   whole_on : (owner : ℕ) (n : NodeId) → place_node left owner [] ≡ Some n → place_node then owner [] ≡ Some n
-  whole_on owner n at = go (body_at before owner) refl (λ c is. st.plain owner c is) at
+  whole_on owner n at = go (body_at before owner) refl (λ c is. st.today.plain owner c is) at
     where
       go : (b : Option Body) → body_at before owner ≡ b → ((c : Body) → b ≡ Some c → IsPlainBody (IsEarlierTarget before owner) c)
           → place_node left owner [] ≡ Some n → place_node then owner [] ≡ Some n
@@ -181,7 +155,7 @@ module _ (named : List ℕ → Option FnRef) (value : FnRef → List GraphValue 
           let entry = body_entry before owner (Computed f kept) is in
           let formula : formula_at before owner [] ≡ Some f =
           ap (λ (b : Option Body). and_then b (λ c. and_then (formula_of_body c) (λ g. part_of g []))) is in
-          by_body owner n (body_at s owner) refl (λ c at. holds.represents.plain owner c at)
+          by_body owner n (body_at s owner) refl (λ c at. stands.matches.represents.today.plain owner c at)
           (st.still.names owner entry.0 entry.1 ∙ (cc)) f (st.still.formulas owner [] f formula)
       go (Some b) is fine at = absurd (fine b refl)
 
@@ -209,13 +183,13 @@ module _ (named : List ℕ → Option FnRef) (value : FnRef → List GraphValue 
   holders : HoldersAre left then (side_of k.graph) (observed_by k.graph)
   holders (Observing o) n root still =
       let looks = rooted_looks k.graph o n root in
-      let w = holds.watches in
+      let w = stands.matches.watches in
       let z = made_there s k w o n looks.1 in
       let is = w.observing o z.0 z.1 in
       let p = is.shown.earlier looks.0 in
       let among : Among z.0 s.observers = subst (Among z.0) (sym w.in_order) (among_there w.made o.0 z.0 z.1) in
       let root_then = st.watched z.0 among (subst (λ (x : Option _). IsSome x) (sym p.1) refl) in
-      let entry = root_entry F before st.plain stands.valid.0 z.0.target root_then in
+      let entry = root_entry F before st.today.plain stands.valid.0 z.0.target root_then in
       let node : node_in k.nodes z.0.target ≡ n = (let e = sym is.looks ∙ looks.1 in cc) in
       (z.0.target, sym node ∙ st.still.names z.0.target entry.0 entry.1, root_then, observed_root s z.0 among)
   holders (Freezing f) n root still = absurd (cc)
@@ -238,18 +212,18 @@ module _ (named : List ℕ → Option FnRef) (value : FnRef → List GraphValue 
     links = st.links;
     last = last;
     marks = marks;
-    cutoffs = λ n never. not_never (cutoff_of k.graph n) (st.equal n) never;
+    cutoffs = λ n never. not_never (cutoff_of k.graph n) (st.today.equal n) never;
   }
 
   -- ---- what is met, and which calls are due
 
   roots_now : RootsAre then (nodes_of (observed_by k.graph))
-  roots_now = subst (RootsAre then) (sym (observed_nodes 0 k.graph.observers)) (watched_roots_are F s k holds.represents.plain holds.watches)
+  roots_now = subst (RootsAre then) (sym (observed_nodes 0 k.graph.observers)) (watched_roots_are F s k stands.matches.represents.today.plain stands.matches.watches)
 
   -- what the graph meets is covered by what the script meets
   pub meeting_is_covered : (p : Point) → IsMet (graph_functions F) k.graph p → CoveredBy then (Met F before s) p
   meeting_is_covered p met =
-      met_is_covered left then (side_of k.graph) (observed_by k.graph) remembers fits stands.valid.1 (nodes_apart F s k holds.represents) roots_now p
+      met_is_covered left then (side_of k.graph) (observed_by k.graph) remembers fits stands.valid.1 stands.matches.represents.apart roots_now p
       (subst (λ (ns : List NodeId). GraphMet (graph_functions F) (graph_of (arena_of k)) none_died ns (Held (side_of k.graph) (observed_by k.graph)) p)
       (sym (observed_nodes 0 k.graph.observers))
       (met_more (graph_functions F) (graph_of (arena_of k)) none_died (in_use k.graph.observers) (IsNeeded k.graph)
@@ -265,5 +239,5 @@ module _ (named : List ℕ → Option FnRef) (value : FnRef → List GraphValue 
   pub due_is_covered : (calls : ℕ) → GraphWork (graph_functions F) (graph_of (arena_of k)) none_died (observed_by k.graph) (side_of k.graph) calls
       → WithinWork F before s calls
   due_is_covered calls work =
-      work_is_covered left then (side_of k.graph) (observed_by k.graph) remembers fits stands.valid.1 (nodes_apart F s k holds.represents) roots_now
+      work_is_covered left then (side_of k.graph) (observed_by k.graph) remembers fits stands.valid.1 stands.matches.represents.apart roots_now
       calls work

@@ -7,9 +7,10 @@ use Rattle.node_arena.specs.Arena.{Arena}
 use Rattle.node_arena.specs.Graph.{graph_of}
 use Rattle.script_model.specs.Formula.{State, Body, Formula, Formulas, Observer, Meanings, body_at, places_of, Literal, Name, Apply, Fold, End, More, Variable, Computed}
 use Rattle.script_graph.specs.Kept.{Kept, arena_of, node_in}
-use Rattle.script_graph.specs.Plain.{IsPlain, ArePlain, IsPlainBody, IsEarlierTarget}
-use Rattle.script_graph.specs.Represents.{besides, IsCaller, Represents, IsWithin, IsPartWithin, OwnNodesOf}
+use Rattle.script_graph.specs.Represents.{besides, Represents}
+use Rattle.script_graph.specs.Today.{IsPlain, ArePlain, IsPlainBody, IsEarlierTarget, IsCaller, IsWithin, IsPartWithin, OwnNodesOf}
 use Rattle.transfer.specs.Both.{Both}
+use Rattle.transfer.specs.Keeping.{NodesApart}
 use Rattle.transfer.specs.Shows.{Mode, Built, Binding, Shows, ShowsAll, Declares}
 
 -- the state with other observers and another count of accepted stabilizes
@@ -51,18 +52,22 @@ represents_so F s observers accepted k new room nodes arena held = record {
   room = ap (λ (n : ℕ). n + places_of s) room ∙ held.room;
   clock = held.clock;
   one_node_each = ap length nodes ∙ held.one_node_each;
-  plain = held.plain;
   declares = λ n.
       subst (λ (ns : List NodeId). Declares (besides F (observed_so s observers accepted) ns (arena_of new)) (node_in ns n) (body_at s n)) (sym nodes)
       (subst (λ (a : Arena). Declares (besides F (observed_so s observers accepted) k.nodes a) (node_in k.nodes n) (body_at s n)) (sym arena)
-      (declares_so F s observers accepted k.nodes (arena_of k) (IsEarlierTarget s n) (node_in k.nodes n) (body_at s n) (held.plain n) (held.declares n)));
+      (declares_so F s observers accepted k.nodes (arena_of k) (IsEarlierTarget s n) (node_in k.nodes n) (body_at s n) (held.today.plain n) (held.declares n)));
   targets = held.targets;
-  aged = λ n b is.
-      subst (λ (ns : List NodeId). OwnNodesOf (graph_of (arena_of new)) (IsWithin ns n) (IsPartWithin ns n) (node_in ns n) b) (sym nodes)
-      (subst (λ (a : Arena). OwnNodesOf (graph_of a) (IsWithin k.nodes n) (IsPartWithin k.nodes n) (node_in k.nodes n) b) (sym arena) (held.aged n b is));
-  calls = record {
-    callers = held.calls.callers;
-    few = held.calls.few;
-    all = λ c is. held.calls.all c (subst (λ (a : Arena). IsCaller a c) arena is);
+  apart = subst (λ (ns : List NodeId). NodesApart (observed_so s observers accepted) (node_in ns)) (sym nodes) held.apart;
+  today = record {
+    plain = held.today.plain;
+    aged = λ n b is.
+        subst (λ (ns : List NodeId). OwnNodesOf (graph_of (arena_of new)) (IsWithin ns n) (IsPartWithin ns n) (node_in ns n) b) (sym nodes)
+        (subst (λ (a : Arena). OwnNodesOf (graph_of a) (IsWithin k.nodes n) (IsPartWithin k.nodes n) (node_in k.nodes n) b) (sym arena)
+        (held.today.aged n b is));
+    calls = record {
+      callers = held.today.calls.callers;
+      few = held.today.calls.few;
+      all = λ c is. held.today.calls.all c (subst (λ (a : Arena). IsCaller a c) arena is);
+    };
   };
 }

@@ -1,5 +1,5 @@
 -- What is kept of a script after a variable was set.
-use Rattle.std.proofs.Common.{◌≡◌, ◌⊎◌, inl, inr, ℕ, zero, suc, ◌+◌, ◌<◌, List, [], ◌∷◌, map, length, Option, None, Some, option_map, IsTrue, refl, ap, sym, subst, ◌∙◌, arith, slice_get, sum_by}
+use Rattle.std.proofs.Common.{◌≡◌, ◌⊎◌, inl, inr, ℕ, zero, suc, ◌+◌, List, [], ◌∷◌, map, length, Option, None, Some, option_map, IsTrue, refl, ap, sym, subst, ◌∙◌, arith, slice_get, sum_by}
 use Rattle.std.proofs.lemmas.Option.{slice_get-map}
 use Rattle.std.proofs.lemmas.Bool.{cases_eq}
 use Rattle.std.proofs.lemmas.List.Sums.{sum_by-cons}
@@ -26,9 +26,10 @@ use Rattle.script_model.specs.Run.{calls_of_body}
 use Rattle.script_model.specs.Step.{Moment, changed_at, with_body, moved}
 use Rattle.script_model.specs.Values.{Value, Int, Bool as Truth, Text, Reference, type_of, to_engine}
 use Rattle.script_graph.specs.Kept.{Kept, arena_of, node_in, no_node}
-use Rattle.script_graph.specs.Plain.{IsPlainBody, IsEarlierTarget, AllPlain}
-use Rattle.script_graph.specs.Represents.{AreNames, beside, IsWithin, IsPartWithin, OwnNodesOf, Represents}
-use Rattle.script_graph.specs.State.{Holds, MatchesMoment}
+use Rattle.script_graph.specs.Represents.{AreNames, beside, Represents, Watches}
+use Rattle.script_graph.specs.Settled.{Settled}
+use Rattle.script_graph.specs.Today.{IsPlainBody, IsEarlierTarget, AllPlain, IsWithin, IsPartWithin, OwnNodesOf}
+use Rattle.script_graph.specs.State.{MatchesMoment}
 use Rattle.script_graph.proofs.Carrying.{watches_on, leaves_beside, settled_on}
 use Rattle.script_graph.proofs.Declaring.{plain_body_more}
 use Rattle.script_graph.proofs.Extending.{declares_still, node_given, never_given, body_past, node_past}
@@ -36,8 +37,9 @@ use Rattle.script_graph.proofs.Callers.{HasNewCalls, few_calls_on, caller_in}
 use Rattle.script_graph.proofs.Owning.{own_nodes_of_on}
 use Rattle.transfer.specs.Both.{graph_value}
 use Rattle.transfer.specs.Items.{FormulasStay}
-use Rattle.transfer.specs.Keeping.{RowsStay}
+use Rattle.transfer.specs.Keeping.{NodesApart, RowsStay}
 use Rattle.transfer.specs.Shows.{Declares, IsOwn, IsTop, plain}
+use Rattle.transfer.proofs.Typed.{body_entry}
 
 -- ---- values
 
@@ -203,21 +205,9 @@ module _ (named : List ℕ → Option FnRef) (value : FnRef → List GraphValue 
 
       apart : (n : ℕ) (q : Value) → body_at s n ≡ Some (Variable q) → (n ≡ target → ⊥) → node_in k.nodes n ≡ node_in k.nodes target → ⊥
       apart n q is other same =
-          let gens : (node_in k.nodes n).gen_ ≡ (node_in k.nodes target).gen_ = ap (λ (p : NodeId). p.gen_) same in
-          let here = held.aged n (Variable q) is in
-          let there = held.aged target (Variable u) was in
-          by_order n gens here there (order n target other)
-        where
-          order : (a b : ℕ) → (a ≡ b → ⊥) → (a < b) ⊎ (b < a)
-          order zero zero other = absurd (other refl)
-          order zero (suc b) other = inl (omega arith)
-          order (suc a) zero other = inr (omega arith)
-          order (suc a) (suc b) other = elim (order a b (λ e. other (ap (λ j. suc j) e))) [ inl h ↦ inl (omega (arith, h)) | inr h ↦ inr (omega (arith, h)) ]
-
-          by_order : (n : ℕ) → (node_in k.nodes n).gen_ ≡ (node_in k.nodes target).gen_ → IsWithin k.nodes n (node_in k.nodes n)
-              → IsWithin k.nodes target (node_in k.nodes target) → (n < target) ⊎ (target < n) → ⊥
-          by_order n gens here there (inl low) = let less = there.later n low in omega (arith, less, gens)
-          by_order n gens here there (inr high) = let less = here.later target high in omega (arith, less, gens)
+          let d = body_entry s n (Variable q) is in
+          other (held.apart n target d.0 e d.1 there (held.targets n d.0 d.1 ∙ ap (target_of_body n) d.2)
+          (held.targets target e there ∙ ap (target_of_body target) variable) same)
 
       set_shows : Declares (beside F s' new) (node_in k.nodes target) (Some (Variable v))
       set_shows =
@@ -242,7 +232,7 @@ module _ (named : List ℕ → Option FnRef) (value : FnRef → List GraphValue 
         | inr other ↦
             let here : body_at s n ≡ Some b = sym (others n other) ∙ is in
             declares_still (beside F s k) (beside F s' new) (IsEarlierTarget s n) (λ t early. refl) stays (node_in k.nodes n) (node_in k.nodes n) b refl
-            (held.plain n b here)
+            (held.today.plain n b here)
             (λ q e r row. row_other (node_in k.nodes n) r (apart n q (here ∙ ap (λ c. Some c) e) other) row)
             (rw here at (held.declares n))
       ]
@@ -252,7 +242,7 @@ module _ (named : List ℕ → Option FnRef) (value : FnRef → List GraphValue 
         | inl same ↦
             let body : Variable v ≡ b = let e : Some (Variable v) ≡ Some b = sym now ∙ (ap (body_at s') (sym same) ∙ is) in cc in
             subst (λ (c : Body). IsPlainBody (IsEarlierTarget s' n) c) body base
-        | inr other ↦ plain_body_more (IsEarlierTarget s n) (IsEarlierTarget s' n) (early_on n) b (held.plain n b (sym (others n other) ∙ is))
+        | inr other ↦ plain_body_more (IsEarlierTarget s n) (IsEarlierTarget s' n) (early_on n) b (held.today.plain n b (sym (others n other) ∙ is))
       ]
 
       aged_each : (n : ℕ) (b : Body) → body_at s' n ≡ Some b
@@ -261,9 +251,9 @@ module _ (named : List ℕ → Option FnRef) (value : FnRef → List GraphValue 
         | inl same ↦
             let body : Variable v ≡ b = let e : Some (Variable v) ≡ Some b = sym now ∙ (ap (body_at s') (sym same) ∙ is) in cc in
             subst (λ (c : Body). OwnNodesOf (graph_of g.nodes) (IsWithin k.nodes n) (IsPartWithin k.nodes n) (node_in k.nodes n) c) body
-            (held.aged n (Variable u) (ap (body_at s) same ∙ was))
+            (held.today.aged n (Variable u) (ap (body_at s) same ∙ was))
         | inr other ↦ own_nodes_of_on (graph_of (arena_of k)) (graph_of g.nodes) (IsWithin k.nodes n) (IsWithin k.nodes n)
-            (IsPartWithin k.nodes n) (IsPartWithin k.nodes n) (λ q h. h) (λ q h. h) stays (node_in k.nodes n) b (held.aged n b (sym (others n other) ∙ is))
+            (IsPartWithin k.nodes n) (IsPartWithin k.nodes n) (λ q h. h) (λ q h. h) stays (node_in k.nodes n) b (held.today.aged n b (sym (others n other) ∙ is))
       ]
 
       targets_each : (n : ℕ) (d : Entry) → entry_at s' n ≡ Some d → d.target ≡ target_of_body n d.body
@@ -275,6 +265,21 @@ module _ (named : List ℕ → Option FnRef) (value : FnRef → List GraphValue 
             (held.targets target e there ∙ (ap (target_of_body target) variable ∙ sym same))
         | inr other ↦ held.targets n d (sym (with_other (λ body. Variable v) s.entries target n other) ∙ is)
       ]
+
+      was_entry : (n : ℕ) (d : Entry) → entry_at s' n ≡ Some d → (c : Entry) × (entry_at s n ≡ Some c) × (c.target ≡ d.target)
+      was_entry n d is = elim (cases_eq n target) [
+        | inl same ↦
+            let set : record e { body = Variable v } ≡ d =
+            (let h : Some (record e { body = Variable v }) ≡ Some d = sym (with_same (λ body. Variable v) s.entries target e there) ∙ (ap (entry_at s') (sym same) ∙ is) in cc) in
+            (e, ap (entry_at s) same ∙ there, ap (λ (x : Entry). x.target) set)
+        | inr other ↦ (d, sym (with_other (λ body. Variable v) s.entries target n other) ∙ is, refl)
+      ]
+
+      apart_each : NodesApart s' (node_in k.nodes)
+      apart_each i j d c at_i at_j own_i own_j same =
+          let a = was_entry i d at_i in
+          let b = was_entry j c at_j in
+          held.apart i j a.0 b.0 a.1 b.1 (a.2 ∙ own_i) (b.2 ∙ own_j) same
 
       no_new_call : HasNewCalls (arena_of k) g.nodes 0
       no_new_call = record {
@@ -294,13 +299,16 @@ module _ (named : List ℕ → Option FnRef) (value : FnRef → List GraphValue 
         room = let places = with_amounts places_of_body (λ body. Variable v) s.entries target e there (sym (ap places_of_body variable)) in omega (arith, held.room, places);
         clock = held.clock;
         one_node_each = held.one_node_each ∙ sym (with_length (λ body. Variable v) s.entries target);
-        plain = plain_each;
         declares = λ n. declares_each n (body_at s' n) refl;
         targets = targets_each;
-        aged = aged_each;
-        calls = few_calls_on s s' (arena_of k) g.nodes 0 no_new_call
-            (let calls = with_amounts calls_of_body (λ body. Variable v) s.entries target e there (sym (ap calls_of_body variable)) in omega (arith, calls))
-            held.calls;
+        apart = apart_each;
+        today = record {
+          plain = plain_each;
+          aged = aged_each;
+          calls = few_calls_on s s' (arena_of k) g.nodes 0 no_new_call
+              (let calls = with_amounts calls_of_body (λ body. Variable v) s.entries target e there (sym (ap calls_of_body variable)) in omega (arith, calls))
+              held.today.calls;
+        };
       }
 
     targets_on : (n : ℕ) (d : Entry) → entry_at s n ≡ Some d → (c : Entry) × (entry_at s' n ≡ Some c) × (c.target ≡ d.target)
@@ -314,17 +322,18 @@ module _ (named : List ℕ → Option FnRef) (value : FnRef → List GraphValue 
       | inr other ↦ (d, with_other (λ body. Variable v) s.entries target n other ∙ is, refl)
     ]
 
-    holds_after : Holds F k m → Holds F new (moved m (Assign target v))
-    holds_after h = record {
-      represents = set_represents h.represents;
-      watches = watches_on s s' k new sets.beside refl refl refl (λ n b is. refl) (node_given F s k h.represents sound) body_stays h.watches;
-      settled = settled_on F m.settled s s' k new (leaves_beside k new sets.beside (let same = sets.given in omega (arith, same))) (record {
-        formulas = formulas_on;
-        targets = targets_on;
-        names = λ n d is. refl;
-        rows = stays h.represents;
-      }) (λ x among is. among) h.settled;
-    }
+    watches_after : MatchesMoment F k m → Watches s' new
+    watches_after h =
+        watches_on s s' k new sets.beside refl refl refl refl (λ n b is. refl) (node_given F s k h.represents sound) body_stays h.watches
+
+    settled_after : MatchesMoment F k m → m.broken ≡ None → Settled F m.settled s' new
+    settled_after h whole =
+        settled_on F m.settled s s' k new (leaves_beside k new sets.beside (let same = sets.given in omega (arith, same))) (record {
+          formulas = formulas_on;
+          targets = targets_on;
+          names = λ n d is. refl;
+          rows = stays h.represents;
+        }) (λ x among is. among) (h.settled whole)
 
     names_on : AreNames k.names s → AreNames k.names s'
     names_on h = record {
@@ -342,5 +351,7 @@ module _ (named : List ℕ → Option FnRef) (value : FnRef → List GraphValue 
         names = names_on d.0 d.1 d.2 d.3 h.names;
         accepted = h.accepted;
         broken = h.broken;
-        holds = λ whole. holds_after d.0 d.1 d.2 d.3 (h.holds whole);
+        represents = set_represents d.0 d.1 d.2 d.3 h.represents;
+        watches = watches_after d.0 d.1 d.2 d.3 h;
+        settled = settled_after d.0 d.1 d.2 d.3 h;
       }

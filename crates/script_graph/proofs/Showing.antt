@@ -9,7 +9,8 @@ use Rattle.script_model.specs.Formula.{State, Observer, Watch, Meanings, Unwatch
 use Rattle.script_model.specs.Settle.{ShowAll, showing, notices_of, watch_after}
 use Rattle.script_model.specs.Values.{Outcome}
 use Rattle.script_graph.specs.Kept.{Kept, node_in}
-use Rattle.script_graph.specs.Represents.{there_in, IsBaseOutcome, IsObserver, Watches}
+use Rattle.script_graph.specs.Represents.{there_in, IsObserver, Watches}
+use Rattle.script_graph.specs.Today.{IsBaseOutcome}
 use Rattle.script_graph.proofs.Same.{observed_so}
 use Rattle.transfer.specs.Both.{graph_outcome}
 
@@ -98,14 +99,17 @@ module _ (F : Meanings) (s : State) (k : Kept) (g : Standing (Unit {0})) where
     looks_then o x p at shows = record {
       looks = subst (λ (os : List Looking). node_at os o ≡ Some (node_in k.nodes x.target)) (sym same) (w.observing o x at).looks;
       target = (w.observing o x at).target;
-      unwatched = ap (λ (v : Watch). watch_after v p) shows.unwatched;
       shown = record {
-        earlier = λ before. (p, refl, shows.base, shows.shown);
+        earlier = λ before. (p, refl, λ whole. shows.shown);
         later = λ le.
             let within : o.0 < length w.made = slice_get_within w.made o.0 (Some x) at in
             let each = w.one_each in
             let all_of : length g.observers ≡ length k.graph.observers = ap length same in
             absurd (omega (arith, within, each, all_of, le, rooted));
+      };
+      today = record {
+        unwatched = ap (λ (v : Watch). watch_after v p) shows.unwatched;
+        base = λ q is. let same : p ≡ q = (let e : Some p ≡ Some q = is in cc) in subst IsBaseOutcome same shows.base;
       };
     }
 

@@ -20,18 +20,18 @@ use Rattle.script_model.specs.Need.{Item, Named, Place, formula_at, part_of}
 use Rattle.script_model.specs.Step.{Moment, by_height}
 use Rattle.script_model.specs.Values.{seen_value}
 use Rattle.script_graph.specs.Kept.{Kept, without_functions}
-use Rattle.script_graph.specs.Represents.{graph_functions, beside, Computes, IsVariableBody, IsOwnFormula, owner_of, IsWithin}
+use Rattle.script_graph.specs.Represents.{graph_functions, beside}
+use Rattle.script_graph.specs.Today.{IsWithin, maps_alone, Computes, IsVariableBody, IsOwnFormula, owner_of}
 use Rattle.script_graph.specs.Stabilizing.{IsTooDeep, ChainBegins, IsFirstNotOlder, AllOlder}
-use Rattle.script_graph.specs.State.{Holds, Stands}
+use Rattle.script_graph.specs.State.{Stands}
 use Rattle.script_graph.proofs.Beside.{represented_fits, grabs_bind}
 use Rattle.script_graph.proofs.Calling.{few_calls}
-use Rattle.script_graph.proofs.CuttingShort.{broken_matches}
+use Rattle.script_graph.proofs.CuttingShort.{broken_matches, refused_keeps}
 use Rattle.script_graph.proofs.Functions.{functions_are}
 use Rattle.script_graph.proofs.Owner.{IsTooDeepAt, deep_owner, told_node}
 use Rattle.script_graph.proofs.Owning.{aged_item}
 use Rattle.script_graph.proofs.Remembering.{meeting_is_covered}
 use Rattle.script_graph.proofs.Without.{sound_without, few_without, refused_without}
-use Rattle.script_graph.specs.Today.{maps_alone}
 use Rattle.stabilizer.specs.declared.refused.Refused.{Refused}
 use Rattle.stabilizer.specs.declared.refused.Refused.TheVariants as refused
 use Rattle.transfer.specs.Both.{Both}
@@ -94,32 +94,29 @@ module _ (named : List ℕ → Option FnRef) (value : FnRef → List GraphValue 
   abbrev x : Both
   x = beside F s k
 
-  holds : Holds F k m
-  holds = stands.matches.holds unbroken
-
   fits : Fits x
-  fits = represented_fits named value s k holds.represents
+  fits = represented_fits named value s k stands.matches.represents
 
   grabs : GrabsBind s
-  grabs = grabs_bind s holds.represents.plain
+  grabs = grabs_bind s stands.matches.represents.today.plain
 
   grabs_before : GrabsBind before
   grabs_before = valid_grabs F before stands.valid.0
 
   -- no grab lived then
   grabs_stay : GrabsStay before s
-  grabs_stay n b v is = absurd (holds.settled.plain n (Grab b v true) is)
+  grabs_stay n b v is = absurd ((stands.matches.settled unbroken).today.plain n (Grab b v true) is)
 
   listed_is_deep : (points : List Point) → IsListed (graph_functions F) k.graph points → length points ≡ 130
       → NoRepeats points → (p : Point) → StartsAt points p → IsTooDeepAt x before p.node
   listed_is_deep [] listed long once p starts = absurd starts
   listed_is_deep (q ∷ rest) listed long once p starts =
       let covered = meeting_is_covered named value W m k stands unbroken sound whole q (listed.met q refl) in
-      let i = deep_has_item x fits stands.keep stands.valid.1 before grabs_before holds.settled.still.formulas grabs_stay q rest covered
+      let i = deep_has_item x fits stands.keep stands.valid.1 before grabs_before (stands.matches.settled unbroken).still.formulas grabs_stay q rest covered
       (omega (arith, long)) listed.walk once in
-      let at = told_node x sound.flat holds.represents.plain q i.0 i.2 in
+      let at = told_node x sound.flat stands.matches.represents.today.plain q i.0 i.2 in
       subst (IsTooDeepAt x before) (ap (λ (y : Point). y.node) starts)
-      (deep_owner x fits holds.represents.plain before grabs_before grabs holds.settled.still.formulas i.0 q.node i.1 at i.3)
+      (deep_owner x fits stands.matches.represents.today.plain before grabs_before grabs (stands.matches.settled unbroken).still.formulas i.0 q.node i.1 at i.3)
 
   -- where the chain begins an item is too deep
   begins_deep : (met : Option Refused) (r : Refused) → met ≡ Some r → IsLawful (graph_functions F) k.graph r
@@ -136,13 +133,13 @@ module _ (named : List ℕ → Option FnRef) (value : FnRef → List GraphValue 
     deep = begins_deep g.refused done.met done.broken done.lawful p begins
 
     within : IsWithin k.nodes (owner_of deep.item) p.node
-    within = aged_item F s k holds.represents deep.item p.node deep.computes deep.is_node
+    within = aged_item F s k stands.matches.represents deep.item p.node deep.computes deep.is_node
 
     -- some declaration's node isn't older
     pub not_all_older : AllOlder k.nodes p.node → ⊥
     not_all_older all =
         let low = computes_within s deep.item deep.computes in
-        let count = holds.represents.one_node_each in
+        let count = stands.matches.represents.one_node_each in
         let early = all (owner_of deep.item) (omega (arith, low, count)) in
         let late = within.not_later in
         omega (arith, early, late)
@@ -155,8 +152,8 @@ module _ (named : List ℕ → Option FnRef) (value : FnRef → List GraphValue 
           after = record m { broken = Some 21 };
           stabilizes = by_height target deep.item deep.met deep.deep
               (own (holds_owner target deep.item (first_is_owner k.nodes p.node target (owner_of deep.item) first within))) refl refl;
-          within = few_calls N s k.graph called calls holds.represents.calls few;
-          matches = broken_matches F m k g 21 stands.matches;
+          within = few_calls N s k.graph called calls stands.matches.represents.today.calls few;
+          matches = broken_matches F m k g 21 (refused_keeps done) stands.matches;
         }
 
 -- ---- over a graph with its functions

@@ -5,7 +5,7 @@ use Rattle.graph.specs.Standing.{in_use}
 use Rattle.script_model.specs.Formula.{State, Observer, Meanings}
 use Rattle.script_model.specs.Need.{Named}
 use Rattle.script_graph.specs.Kept.{Kept, arena_of, node_in}
-use Rattle.script_graph.specs.Plain.{AllPlain}
+use Rattle.script_graph.specs.Today.{AllPlain}
 use Rattle.script_graph.specs.Represents.{beside, Watches}
 use Rattle.script_graph.proofs.Beside.{not_frozen}
 use Rattle.script_graph.proofs.Looking.{looked_all, root_of_observed, observed_of_root}

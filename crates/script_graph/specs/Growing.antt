@@ -1,5 +1,5 @@
 -- A graph to which nodes were added, and the nodes that are made for a plan.
-use Rattle.std.specs.Prelude.{◌≡◌, ◌⊎◌, ◌+◌, ◌<◌, ◌≤◌, ℕ, Bool, List, [], ◌∷◌, length, None, Some, IsTrue, slice_get}
+use Rattle.std.specs.Prelude.{◌≡◌, ◌⊎◌, ◌+◌, ◌<◌, ◌≤◌, ℕ, Bool, List, [], ◌∷◌, length, Some, IsTrue, slice_get}
 use Rattle.std.specs.List.{AllZip}
 use Rattle.inc_value.specs.Choice.{Among, Every}
 use Rattle.inc_value.specs.Ty.{IsBase}
@@ -8,9 +8,7 @@ use Rattle.inc_value.specs.declared.function.FnKind.TheVariants as kind
 use Rattle.inc_value.specs.declared.function.FnRef.{FnRef}
 use Rattle.inc_value.specs.declared.node.NodeId.{NodeId}
 use Rattle.inc_value.specs.declared.ty.Ty.{Ty}
-use Rattle.inc_value.specs.declared.ty.Ty.TheVariants as ty
 use Rattle.inc_value.specs.declared.value.Value.{Value}
-use Rattle.inc_terms.specs.Depend.{subject_of}
 use Rattle.inc_terms.specs.Graph as graph
 use Rattle.inc_terms.specs.Graph.{Row, Def}
 use Rattle.inc_terms.specs.Within.{Given}
@@ -26,6 +24,7 @@ use Rattle.graph.specs.Known.{CallsKnown}
 use Rattle.node_arena.specs.Arena.{Arena, row_at, live, NamesGiven}
 use Rattle.node_arena.specs.Graph.{graph_of}
 use Rattle.node_arena.specs.Typing.{Makes}
+use Rattle.script_graph.specs.Today.{IsOfOnePoint, other_ty}
 
 -- the type of the node that is made of such a definition
 abbrev pub def_ty : Def → Ty
@@ -33,7 +32,7 @@ def_ty (graph.Const v) = type_of v
 def_ty (graph.Var v) = type_of v
 def_ty (graph.Map f kids) = f.sig.gives
 def_ty (graph.Fold f v kids) = f.sig.gives
-def_ty def = ty.Int
+def_ty def = other_ty
 
 -- so of what is to be made
 abbrev pub open_ty : Open → Ty
@@ -68,12 +67,12 @@ OpenFits known a makes (open_def.Fold f v parts) = FoldFits known a makes f v pa
 abbrev pub AllOpenFit : (FnRef → Bool) → Arena → List Open → Type 0
 AllOpenFit known a makes = (i : ℕ) (x : Open) → slice_get makes i ≡ Some x → OpenFits known a makes x
 
--- a definition that a graph takes: it names given nodes, makes its type, and calls known functions; and it is of one point, as all of today's scripts are
+-- a definition that a graph takes: it names given nodes, makes its type, and calls known functions; and it is of one point
 pub record IsWelcome (known : FnRef → Bool) (a : Arena) (d : Def) : Type 0 where
   pub named : NamesGiven a.given d
   pub makes : Makes a d (def_ty d)
   pub calls : CallsKnown known d
-  pub one_point : subject_of d ≡ None
+  pub one_point : IsOfOnePoint d
 
 module _ {F : Type 0} where
   -- nodes were added: what was given before is as it was

@@ -1,7 +1,6 @@
 pub mod Today
 pub mod Growing
 pub mod Kept
-pub mod Plain
 pub mod Represents
 pub mod Settled
 pub mod Shown

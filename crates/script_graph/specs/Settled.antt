@@ -1,5 +1,5 @@
 -- What is kept of the last accepted stabilize: the pair of state and graph as it left them, and what stands beside the graph since.
-use Rattle.std.specs.Prelude.{◌≡◌, ℕ, suc, false, cond, List, [], ◌∷◌, map, take, length, Option, None, Some, IsSome}
+use Rattle.std.specs.Prelude.{◌≡◌, ℕ, suc, cond, List, [], ◌∷◌, map, take, length, Option, Some, IsSome}
 use Rattle.inc_value.specs.Choice.{Among}
 use Rattle.inc_value.specs.declared.node.NodeId.{NodeId}
 use Rattle.inc_value.specs.declared.node.ObsId.{ObsId}
@@ -8,15 +8,14 @@ use Rattle.inc_terms.specs.Need.{Beside, Holder, Observing, Freezing, Observed}
 use Rattle.inc_terms.specs.Within.{Given}
 use Rattle.graph.specs.Standing.{Standing, node_at, called_last, cutoff_of, times_linked}
 use Rattle.graph.specs.declared.observer.Observer.{Observer as Looking}
-use Rattle.map_nodes.specs.declared.cutoff.Cutoff.TheVariants.{Equal}
 use Rattle.node_arena.specs.Arena.{Arena}
 use Rattle.node_arena.specs.Graph.{graph_of}
 use Rattle.node_outcomes.specs.Row.{is_never}
 use Rattle.script_model.specs.Formula.{State, Entry, Observer, Meanings, entry_at}
 use Rattle.script_model.specs.Need.{Named, Needed, Visit, IsVisit, roots}
 use Rattle.script_graph.specs.Kept.{Kept, arena_of, node_in}
-use Rattle.script_graph.specs.Plain.{AllPlain}
 use Rattle.script_graph.specs.Represents.{besides}
+use Rattle.script_graph.specs.Today.{frozen_root, none_stale, WasTodays}
 use Rattle.stabilize_round.specs.Calls.{arguments_of}
 use Rattle.stabilize_round.specs.State.{Call}
 use Rattle.transfer.specs.Both.{Both, graph_value}
@@ -40,7 +39,7 @@ module _ {A : Type 0} where
   -- for which node a holder has put need on
   abbrev pub root_of : Standing A → Holder → Option NodeId
   root_of g (Observing o) = rooted_at g o
-  root_of g (Freezing n) = None
+  root_of g (Freezing n) = frozen_root n
 
   -- what stands beside the graph: need of the observers that the last accepted stabilize saw, the links and last calls since, and who has cutoff
   -- Never
@@ -49,7 +48,7 @@ module _ {A : Type 0} where
     roots = root_of g;
     links = λ p q. times_linked g p q;
     last = λ n. arguments_of (called_last g n);
-    stale = λ n. false;
+    stale = none_stale;
     never = λ n. is_never (cutoff_of g n);
   }
 
@@ -85,11 +84,10 @@ ShownWereRoots before s = (x : Observer) → Among x s.observers → IsSome x.sh
 
 -- the pair as the last accepted stabilize left it: the state then, the nodes of its declarations and the arena. The two fit; what was declared then
 -- is so still; attached links of what is held are of what points depend on there; and each call that was needed then was the last one of its
--- node. Each node has cutoff Equal
+-- node
 pub record Settled (F : Meanings) (before s : State) (k : Kept) : Type 0 where
   pub nodes : List NodeId
   pub arena : Arena
-  pub plain : AllPlain before
   pub one_node_each : length nodes ≡ length before.entries
   pub fits : Fits (besides F before nodes arena)
   pub scopes : ScopesLive (graph_of arena)
@@ -97,4 +95,4 @@ pub record Settled (F : Meanings) (before s : State) (k : Kept) : Type 0 where
   pub links : LinksDepend (besides F before nodes arena) (side_of k.graph) (observed_by k.graph)
   pub ran : (v : Visit) → IsVisit F before v → Needed F before v.item → WasRun (besides F before nodes arena) k v
   pub watched : ShownWereRoots before s
-  pub equal : (n : NodeId) → cutoff_of k.graph n ≡ Equal
+  pub today : WasTodays before k

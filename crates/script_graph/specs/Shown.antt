@@ -5,7 +5,7 @@ use Rattle.inc_value.specs.declared.outcome.Outcome.TheVariants as shown
 use Rattle.script_model.specs.Formula.{State}
 use Rattle.script_model.specs.Step.{shown_by}
 use Rattle.script_model.specs.Values.{Outcome, Val, Invalid, to_engine}
-use Rattle.script_graph.specs.Represents.{IsBaseOutcome}
+use Rattle.script_graph.specs.Today.{IsBaseOutcome}
 
 -- an outcome as one of the engine
 abbrev pub engine_outcome : Outcome → engine.Outcome

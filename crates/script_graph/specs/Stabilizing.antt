@@ -1,5 +1,5 @@
 -- How a stabilize of a script ends.
-use Rattle.std.specs.Prelude.{◌≡◌, ◌⊎◌, ◌<◌, ◌≤◌, ◌+◌, ℕ, List, [], ◌∷◌, length, Option, Some, slice_get}
+use Rattle.std.specs.Prelude.{◌≡◌, ◌⊎◌, ◌<◌, ◌≤◌, ◌+◌, ℕ, List, [], ◌∷◌, map, length, Option, Some, slice_get}
 use Rattle.height_order.specs.Chains.{StartsAt}
 use Rattle.inc_value.specs.declared.node.NodeId.{NodeId}
 use Rattle.inc_value.specs.declared.node.Point.{Point}
@@ -8,17 +8,21 @@ use Rattle.script_model.specs.Check.{Declared}
 use Rattle.script_model.specs.Formula.{Meanings}
 use Rattle.script_model.specs.Need.{WithinWork}
 use Rattle.script_model.specs.Run.{most_calls}
+use Rattle.script_model.specs.Settle.{Notice}
 use Rattle.script_model.specs.Step as step
-use Rattle.script_model.specs.Step.{Moment, Stable, Stabilizes}
+use Rattle.script_model.specs.Step.{Moment, Stable, Stabilizes, Tells}
 use Rattle.script_graph.specs.Kept.{Kept, node_in}
 use Rattle.script_graph.specs.State.{MatchesMoment}
+use Rattle.script_graph.specs.Today.{NoNotices}
 use Rattle.stabilizer.specs.declared.refused.Refused.{Refused}
 use Rattle.stabilizer.specs.declared.refused.Refused.TheVariants.{Cycle, Height}
 
--- it was accepted: the model accepts it, no more functions were called than are due, and the moment after it is matched
+-- it was accepted: the model accepts it with these notices, no more functions were called than are due, and the moment after it is matched
 pub record IsAccepted (F : Meanings) (m : Moment) (new : Kept) (called calls : ℕ) : Type 0 where
   pub after : Moment
-  pub stabilizes : Stabilizes F m after (Stable (m.present.accepted + 1) ∷ [])
+  pub notices : List Notice
+  pub stabilizes : Stabilizes F m after (Stable (m.present.accepted + 1) ∷ map (λ n. Tells n) notices)
+  pub today : NoNotices notices
   pub work : ℕ
   pub due : WithinWork F m.settled m.present work
   pub within : calls ≤ called + work

@@ -8,19 +8,15 @@ use Rattle.script_graph.specs.Kept.{Kept}
 use Rattle.script_graph.specs.Represents.{AreNames, Represents, Watches}
 use Rattle.script_graph.specs.Settled.{Settled}
 
--- the graph holds the present state and, of the state as the last accepted stabilize left it, the calls
-pub record Holds (F : Meanings) (k : Kept) (m : Moment) : Type 0 where
-  pub represents : Represents F m.present k
-  pub watches : Watches m.present k
-  pub settled : Settled F m.settled m.present k
-
--- what is kept matches a moment of a script: names, count and what broke it are those of the moment; and unless it is broken the graph holds the
--- moment's states
+-- what is kept matches a moment of a script: names, count and what broke it are those of the moment; the graph holds the present state and its observers,
+-- even if it is broken; and unless it is, of the state as the last accepted stabilize left it, the calls
 pub record MatchesMoment (F : Meanings) (k : Kept) (m : Moment) : Type 0 where
   pub names : AreNames k.names m.present
   pub accepted : m.present.accepted ≡ k.accepted
   pub broken : m.broken ≡ k.broken
-  pub holds : m.broken ≡ None → Holds F k m
+  pub represents : Represents F m.present k
+  pub watches : Watches m.present k
+  pub settled : m.broken ≡ None → Settled F m.settled m.present k
 
 -- what is kept stands for a moment: it matches it, the moment's states are valid, and functions keep to their types
 pub record Stands (F : Meanings) (k : Kept) (m : Moment) : Type 0 where

@@ -1,11 +1,201 @@
--- What is so of the functions of scripts of today alone: none makes right sides.
-use Rattle.std.specs.Prelude.{List}
+-- What is so of scripts of today's forms alone, and goes with one later form or another.
+use Rattle.std.specs.Prelude.{◌≡◌, ◌<◌, ◌≤◌, ℕ, Bool, false, List, [], ◌∷◌, Option, None, Some}
+use Rattle.std.specs.List.{sum_by}
+use Rattle.inc_value.specs.Choice.{Among}
+use Rattle.inc_value.specs.Ty.{IsBase}
 use Rattle.inc_value.specs.declared.function.FnRef.{FnRef}
+use Rattle.inc_value.specs.declared.node.NodeId.{NodeId}
+use Rattle.inc_value.specs.declared.ty.Ty.{Ty}
+use Rattle.inc_value.specs.declared.ty.Ty.TheVariants as ty
 use Rattle.inc_value.specs.declared.value.Value.{Value}
+use Rattle.inc_terms.specs.Depend.{subject_of}
+use Rattle.inc_terms.specs.Graph as graph
+use Rattle.inc_terms.specs.Graph.{Graph, Row, Def}
 use Rattle.inc_terms.specs.Term.{Functions}
+use Rattle.inc_terms.specs.Work.{cost_of}
+use Rattle.graph.specs.Standing.{cutoff_of}
+use Rattle.map_nodes.specs.declared.cutoff.Cutoff.TheVariants.{Equal}
+use Rattle.node_arena.specs.Arena.{Arena, row_at}
+use Rattle.node_arena.specs.Graph.{graph_of}
 use Rattle.node_arena.specs.RightSide.{no_side}
 use Rattle.node_arena.specs.RightSideLaws.{meaning}
+use Rattle.script_model.specs.Formula.{Formula, Formulas, Body, State, Observer, body_at, Literal, Name, Apply, Fold, End, More, Variable, Computed, Unwatched, nothing_kept}
+use Rattle.script_model.specs.Need.{Item, Named, Place, formula_at}
+use Rattle.script_model.specs.Run.{most_calls}
+use Rattle.script_model.specs.Settle.{Notice}
+use Rattle.script_model.specs.Values.{Outcome, Val, Invalid, type_of, to_engine}
+use Rattle.script_graph.specs.Kept.{Kept, arena_of, node_in}
+use Rattle.transfer.specs.Shows.{IsOwn}
+
+-- ---- functions: none makes right sides
 
 -- functions whose maps have these values
 abbrev pub maps_alone : (FnRef → List Value → Value) → Functions
 maps_alone value = meaning value (λ f. no_side)
+
+-- ---- formulas: literals, names, applications and folds, over earlier declarations
+
+abbrev mutual
+  -- the formula is of literals of base types, of names that have the property, of applications, and of folds from values of base types
+  pub IsPlain : (ℕ → Type 0) → Formula → Type 0
+  IsPlain P (Literal v) = IsBase (type_of v)
+  IsPlain P (Name n) = P n
+  IsPlain P (Apply function arguments) = ArePlain P arguments
+  IsPlain P (Fold function first elements) = IsBase (type_of first) × ArePlain P elements
+  IsPlain P f = ⊥
+
+  -- so are all of the formulas
+  pub ArePlain : (ℕ → Type 0) → Formulas → Type 0
+  ArePlain P End = Unit {0}
+  ArePlain P (More f rest) = IsPlain P f × ArePlain P rest
+
+-- so is what is declared, and nothing is kept of it
+abbrev pub IsPlainBody : (ℕ → Type 0) → Body → Type 0
+IsPlainBody P (Variable v) = IsBase (type_of v)
+IsPlainBody P (Computed f kept) = IsPlain P f × (kept ≡ nothing_kept)
+IsPlainBody P body = ⊥
+
+-- an earlier declaration that is no other name
+abbrev pub IsEarlierTarget : State → ℕ → ℕ → Type 0
+IsEarlierTarget s n t = (t < n) × IsOwn (body_at s t)
+
+-- each declaration is of today's forms, over earlier ones
+abbrev pub AllPlain : State → Type 0
+AllPlain s = (n : ℕ) (body : Body) → body_at s n ≡ Some body → IsPlainBody (IsEarlierTarget s n) body
+
+-- ---- values: no reference is shown, and none is told
+
+-- an outcome that is no reference
+abbrev pub IsBaseOutcome : Outcome → Type 0
+IsBaseOutcome (Val v) = IsBase (type_of v)
+IsBaseOutcome Invalid = Unit {0}
+
+-- an observer that isn't watched, and shows no reference
+pub record IsTodaysObserver (x : Observer) : Type 0 where
+  pub unwatched : x.watch ≡ Unwatched
+  pub base : (p : Outcome) → x.shown ≡ Some p → IsBaseOutcome p
+
+-- no notice comes
+abbrev pub NoNotices : List Notice → Type 0
+NoNotices notices = notices ≡ []
+
+-- ---- nodes that are made: each is of one point
+
+abbrev pub IsOfOnePoint : Def → Type 0
+IsOfOnePoint def = subject_of def ≡ None
+
+-- the type of a node of another form, which none is
+abbrev pub other_ty : Ty
+other_ty = ty.Int
+
+-- ---- beside the graph: no freezes, and no experts that were made stale
+
+-- for which node a freeze has put need on
+abbrev pub frozen_root : NodeId → Option NodeId
+frozen_root n = None
+
+-- whether a node was asked to run anew
+abbrev pub none_stale : NodeId → Bool
+none_stale n = false
+
+-- ---- items that compute: variables, and formulas that are no bare names
+
+-- a formula that is no bare name
+abbrev pub IsOwnFormula : Option Formula → Type 0
+IsOwnFormula None = ⊥
+IsOwnFormula (Some (Name n)) = ⊥
+IsOwnFormula (Some f) = Unit {0}
+
+-- a variable
+abbrev pub IsVariableBody : Option Body → Type 0
+IsVariableBody (Some (Variable v)) = Unit {0}
+IsVariableBody body = ⊥
+
+-- an item that computes something itself
+abbrev pub Computes : State → Item → Type 0
+Computes s (Named n) = IsVariableBody (body_at s n)
+Computes s (Place owner path) = IsOwnFormula (formula_at s owner path)
+
+-- the declaration that an item belongs to
+abbrev pub owner_of : Item → ℕ
+owner_of (Named n) = n
+owner_of (Place owner path) = owner
+
+-- ---- ages: the nodes of a declaration were given after those of earlier ones, those of its parts before its own
+
+abbrev mutual
+  -- the formula's node and those of its parts have the property, but for those of bare names
+  pub OwnNodes : Graph → (NodeId → Type 0) → NodeId → Formula → Type 0
+  OwnNodes G P n (Literal v) = P n
+  OwnNodes G P n (Name k) = Unit {0}
+  OwnNodes G P n (Apply f arguments) =
+      P n × (r : Row) × (kids : List NodeId) × (G.row n ≡ Some r) × (r.def ≡ graph.Map f kids) × OwnNodesOfAll G P kids arguments
+  OwnNodes G P n (Fold f first elements) =
+      P n × (r : Row) × (kids : List NodeId) × (G.row n ≡ Some r) × (r.def ≡ graph.Fold f (to_engine first) kids) × OwnNodesOfAll G P kids elements
+  OwnNodes G P n f = ⊥
+
+  -- so have those of all of the formulas
+  pub OwnNodesOfAll : Graph → (NodeId → Type 0) → List NodeId → Formulas → Type 0
+  OwnNodesOfAll G P [] End = Unit {0}
+  OwnNodesOfAll G P [] (More f rest) = ⊥
+  OwnNodesOfAll G P (n ∷ ns) End = ⊥
+  OwnNodesOfAll G P (n ∷ ns) (More f rest) = OwnNodes G P n f × OwnNodesOfAll G P ns rest
+
+-- the formula's node has the one property, and those of its parts the other, but for those of bare names
+abbrev pub WholeNodes : Graph → (NodeId → Type 0) → (NodeId → Type 0) → NodeId → Formula → Type 0
+WholeNodes G P Q n (Literal v) = P n
+WholeNodes G P Q n (Name k) = Unit {0}
+WholeNodes G P Q n (Apply f arguments) =
+    P n × (r : Row) × (kids : List NodeId) × (G.row n ≡ Some r) × (r.def ≡ graph.Map f kids) × OwnNodesOfAll G Q kids arguments
+WholeNodes G P Q n (Fold f first elements) =
+    P n × (r : Row) × (kids : List NodeId) × (G.row n ≡ Some r) × (r.def ≡ graph.Fold f (to_engine first) kids) × OwnNodesOfAll G Q kids elements
+WholeNodes G P Q n f = ⊥
+
+-- so have those of what is declared
+abbrev pub OwnNodesOf : Graph → (NodeId → Type 0) → (NodeId → Type 0) → NodeId → Body → Type 0
+OwnNodesOf G P Q n (Variable v) = P n
+OwnNodesOf G P Q n (Computed f kept) = WholeNodes G P Q n f
+OwnNodesOf G P Q n body = ⊥
+
+-- a node was given no later than that of the declaration, and later than those of earlier declarations
+pub record IsWithin (nodes : List NodeId) (owner : ℕ) (n : NodeId) : Type 0 where
+  pub not_later : n.gen_ ≤ (node_in nodes owner).gen_
+  pub later : (m : ℕ) → m < owner → (node_in nodes m).gen_ < n.gen_
+
+-- so was the node of a part, and earlier than that of the declaration
+pub record IsPartWithin (nodes : List NodeId) (owner : ℕ) (n : NodeId) : Type 0 where
+  pub within : IsWithin nodes owner n
+  pub earlier : n.gen_ < (node_in nodes owner).gen_
+
+-- ---- calls: each node that calls a function is that of a place
+
+-- a node, and how many calls of its function one visit makes
+pub record Caller : Type 0 where
+  pub node : NodeId
+  pub cost : ℕ
+
+-- it is live, and so many are made
+pub record IsCaller (a : Arena) (c : Caller) : Type 0 where
+  pub row : Row
+  pub is_row : row_at a c.node ≡ Some row
+  pub calls : cost_of (graph_of a) c.node row.def ≡ Some c.cost
+
+-- the nodes of the graph that call functions are among these, whose visits make no more calls than one of each place
+pub record HasFewCalls (s : State) (a : Arena) : Type 0 where
+  pub callers : List Caller
+  pub few : sum_by (λ (c : Caller). c.cost) callers ≤ most_calls s
+  pub all : (c : Caller) → IsCaller a c → Among c callers
+
+-- ---- what is kept
+
+-- a state of today's forms beside the graph that is kept
+pub record IsTodaysScript (s : State) (k : Kept) : Type 0 where
+  pub plain : AllPlain s
+  pub aged : (n : ℕ) (b : Body) → body_at s n ≡ Some b
+      → OwnNodesOf (graph_of (arena_of k)) (IsWithin k.nodes n) (IsPartWithin k.nodes n) (node_in k.nodes n) b
+  pub calls : HasFewCalls s (arena_of k)
+
+-- the state was of today's forms as the last accepted stabilize left it, and each node has cutoff Equal
+pub record WasTodays (before : State) (k : Kept) : Type 0 where
+  pub plain : AllPlain before
+  pub equal : (n : NodeId) → cutoff_of k.graph n ≡ Equal

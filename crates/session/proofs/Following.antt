@@ -15,16 +15,19 @@ use Rattle.script_model.specs.Grammar as grammar
 use Rattle.script_model.specs.Laws.{ValidMoment}
 use Rattle.script_model.specs.Run as run
 use Rattle.script_model.specs.Run.{Halts, most_calls}
-use Rattle.script_model.specs.Step.{Moment, Reply, name_of, moved, reply_to, Done, Stable, Shown, Refused, Height, Because, Settle, Act, Refuse, printed, Follows, Stabilizes, settles, by_cycle, by_height, verdict_of}
+use Rattle.script_model.specs.Settle.{Notice}
+use Rattle.script_model.specs.Step.{Moment, Reply, name_of, moved, reply_to, Done, Stable, Shown, Tells, Refused, Height, Because, Settle, Act, Refuse, printed, Follows, Stabilizes, settles, by_cycle, by_height, verdict_of}
 use Rattle.script_model.specs.Values.{Outcome, Val, Invalid, Int, Text, Reference, printed_outcome}
 use Rattle.script_model.specs.Valid.{KeepToTypes}
 use Rattle.script_model.specs.Values as values
 use Rattle.script_model.proofs.Validity.{halts_keep_validity}
 use Rattle.script_graph.specs.Kept.{Kept}
-use Rattle.script_graph.specs.Represents.{AreNames, IsBaseOutcome}
+use Rattle.script_graph.specs.Represents.{AreNames}
+use Rattle.script_graph.specs.Today.{IsBaseOutcome}
 use Rattle.script_graph.specs.Shown.{ShowsIt, ShowsNothing, engine_outcome}
 use Rattle.script_graph.specs.Stabilizing.{IsAccepted, IsTooDeep, IsCutShort}
 use Rattle.script_graph.specs.State.{MatchesMoment, Stands}
+use Rattle.script_graph.proofs.CuttingShort.{broken_matches}
 use Rattle.session.specs.Answered.{Extends, IsAnswered, verdict_on}
 use Rattle.session.specs.Replies.{line_of, done_line, shown_line, refused_line, stable_line, too_deep_line, name_in}
 use Rattle.session.specs.Taken.{AsksStabilize, Stops}
@@ -95,7 +98,7 @@ refused_because F k m command why calls written appended refuses st print = reco
 
 module _ (F : Meanings) (k : Kept) (m : Moment) (st : Stands F k m) (unbroken : k.broken ≡ None) (name : List ℕ) (ty : Ty) (body : Body) where
   room_is : k.room + places_of m.present ≡ 1048575
-  room_is = (st.matches.holds (st.matches.broken ∙ unbroken)).represents.room
+  room_is = st.matches.represents.room
 
   pub followed_declare : (new : Kept) (calls : ℕ) (written appended : List ℕ) → places_of_body body ≤ k.room
       → MatchesMoment F new (moved m (Declare name ty body)) → appended ≡ written ++ done_line
@@ -170,15 +173,19 @@ module _ (F : Meanings) (new : Kept) (m : Moment) (called calls : ℕ) (h : IsAc
   abbrev reply : Reply
   reply = Stable (m.present.accepted + 1)
 
+  -- no notice is told today
+  told_alone : Stabilizes F m h.after (reply ∷ [])
+  told_alone = subst (λ (ns : List Notice). Stabilizes F m h.after (reply ∷ map (λ n. Tells n) ns)) h.today h.stabilizes
+
   count_is : new.accepted ≡ m.present.accepted + 1
-  count_is = sym h.matches.accepted ∙ count_of F m h.after (m.present.accepted + 1) [] h.stabilizes
+  count_is = sym h.matches.accepted ∙ count_of F m h.after (m.present.accepted + 1) [] told_alone
 
   pub followed_stabilize : (written appended : List ℕ) → appended ≡ written ++ stable_line new.accepted
       → IsAnswered F m (Follows F m (verdict_on m Stabilize)) new written appended called calls did.Accepted
   followed_stabilize written appended print = record {
     after = h.after;
     replies = reply ∷ [];
-    leads = h.stabilizes;
+    leads = told_alone;
     work = h.work;
     due = h.due;
     matches = h.matches;
@@ -191,7 +198,7 @@ module _ (F : Meanings) (new : Kept) (m : Moment) (called calls : ℕ) (h : IsAc
   pub stops_accepted : (line : List ℕ) → KeepToTypes F → ValidMoment F m → AsksStabilize line → m.broken ≡ None → Stops F m line new called calls
   stops_accepted line keep valid asks unbroken =
       let halts : Halts F m line h.after h.work = run.accepted (m.present.accepted + 1) [] asks
-      (subst (λ v. Follows F m v h.after (reply ∷ [])) (sym (asks_to_settle F m unbroken)) h.stabilizes) h.due in
+      (subst (λ v. Follows F m v h.after (reply ∷ [])) (sym (asks_to_settle F m unbroken)) told_alone) h.due in
       record {
         after = h.after;
         due = h.work;
@@ -244,12 +251,8 @@ module _ (F : Meanings) (new : Kept) (m : Moment) (target called calls : ℕ) (h
       → Stops F m line (record new { broken = Some 0 }) called calls
   stops_too_deep line keep valid asks unbroken =
       let is = broken_by_height F m h.after target h.stabilizes in
-      let there : MatchesMoment F (record new { broken = Some 0 }) (record h.after { broken = Some 0 }) = record {
-        names = h.matches.names;
-        accepted = h.matches.accepted;
-        broken = refl;
-        holds = λ none. absurd (cc);
-      } in
+      let there : MatchesMoment F (record new { broken = Some 0 }) (record h.after { broken = Some 0 }) =
+      broken_matches F h.after new new.graph 0 (record { nodes = refl; observers = refl; rooted = refl }) h.matches in
       stops_broken F (record new { broken = Some 0 }) m line called calls keep valid asks unbroken
       (subst (λ (x : Moment). MatchesMoment F (record new { broken = Some 0 }) (record x { broken = Some 0 })) is there) h.within
 

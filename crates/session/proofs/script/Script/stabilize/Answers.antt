@@ -4,7 +4,7 @@ use Rattle.graph.specs.declared.fault.StabilizeFault.{StabilizeFault}
 use Rattle.node_arena.specs.Arena.{Arena}
 use Rattle.script_graph.proofs.Accepting.{session_accepted}
 use Rattle.script_graph.proofs.Circling.{session_no_cycle}
-use Rattle.script_graph.proofs.CuttingShort.{session_cut_short, never_for_full}
+use Rattle.script_graph.proofs.CuttingShort.{refused_keeps, session_cut_short, never_for_full}
 use Rattle.script_graph.proofs.Functions.{same_meanings}
 use Rattle.script_graph.proofs.TooDeep.{session_too_deep, session_not_all_older}
 use Rattle.script_model.specs.Formula.{meanings_of}
@@ -116,7 +116,7 @@ returns-in-None g c =
       target = tt;
       cut_short = λ m stands.
           session_cut_short (meanings_of (g.L.Library.named l) (g.L.Library.value l)) _ c.self.inside.graph new (g.L.Library.calls l)
-          (g.L.Library.calls new.functions.library) refl unbroken (alone_called (g.L.Library.value l) c.self.inside.graph.functions.bodies.items c.self.invariant.1 c.self.inside.graph new done.nodes (g.L.Library.calls l)
+          (g.L.Library.calls new.functions.library) refl (refused_keeps done) (alone_called (g.L.Library.value l) c.self.inside.graph.functions.bodies.items c.self.invariant.1 c.self.inside.graph new done.nodes (g.L.Library.calls l)
           (g.L.Library.calls new.functions.library) (c.stabilize.ensures.few cause.Height for)) m stands.matches;
       for_memory = λ m stands. absurd (
           session_not_all_older (g.L.Library.named l) (g.L.Library.value l) _ _ c.self.inside.graph new refl unbroken
@@ -149,14 +149,13 @@ returns-in-Err-Refused-Memory g c =
     let done = c.stabilize.ensures.refused cause.Memory for in
     let l = c.self.inside.graph.functions.library in
     let new = c.stabilize.new.self in
-    let unbroken = rw (← c.self.view_is) at c.requires.unbroken in
     rw (← c.self.view_is) (record {
       accepted = tt;
       too_deep = tt;
       target = tt;
       cut_short = λ m stands.
           session_cut_short (meanings_of (g.L.Library.named l) (g.L.Library.value l)) _ c.self.inside.graph new (g.L.Library.calls l)
-          (g.L.Library.calls new.functions.library) refl unbroken (alone_called (g.L.Library.value l) c.self.inside.graph.functions.bodies.items c.self.invariant.1 c.self.inside.graph new done.nodes (g.L.Library.calls l)
+          (g.L.Library.calls new.functions.library) refl (refused_keeps done) (alone_called (g.L.Library.value l) c.self.inside.graph.functions.bodies.items c.self.invariant.1 c.self.inside.graph new done.nodes (g.L.Library.calls l)
           (g.L.Library.calls new.functions.library) (c.stabilize.ensures.few cause.Memory for)) m stands.matches;
       for_memory = λ m stands. memory_met _ c.self.inside.graph new done;
       count = omega arith;
@@ -193,7 +192,7 @@ returns-in-Err-Refused-Cycle g c =
       target = tt;
       cut_short = λ m stands.
           session_cut_short (meanings_of (g.L.Library.named l) (g.L.Library.value l)) _ c.self.inside.graph new (g.L.Library.calls l)
-          (g.L.Library.calls new.functions.library) refl unbroken (alone_called (g.L.Library.value l) c.self.inside.graph.functions.bodies.items c.self.invariant.1 c.self.inside.graph new done.nodes (g.L.Library.calls l)
+          (g.L.Library.calls new.functions.library) refl (refused_keeps done) (alone_called (g.L.Library.value l) c.self.inside.graph.functions.bodies.items c.self.invariant.1 c.self.inside.graph new done.nodes (g.L.Library.calls l)
           (g.L.Library.calls new.functions.library) (c.stabilize.ensures.few cause.Cycle for)) m stands.matches;
       for_memory = λ m stands. absurd (
           session_no_cycle (g.L.Library.named l) (g.L.Library.value l) _ _ c.self.inside.graph new refl unbroken
