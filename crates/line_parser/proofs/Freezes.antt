@@ -47,6 +47,15 @@ pub next_more : (count index : ℕ) (found : List (List ℕ)) (tokens : List Tok
 unfolding whens_front
 next_more count index found tokens h = let more : count - index ≡ suc (count - (index + 1)) = omega (arith, h) in rw more refl
 
+-- one step of the loop that reads predicates
+module _ (count index : ℕ) (found : List (List ℕ)) (tokens : List Token) (less : index < count) where
+  pub one_continued : (name : List ℕ) (rest : List Token) → Some (name, rest) ≡ when_front tokens
+      → whens_front (count - (index + 1)) (found ++ name ∷ []) rest ≡ whens_front (count - index) found tokens
+  one_continued name rest is = rw (next_more count index found tokens less, ← is) refl
+
+  pub one_missing : None ≡ when_front tokens → None ≡ whens_front (count - index) found tokens
+  one_missing none = rw (next_more count index found tokens less, ← none) refl
+
 -- the first apart from the others
 behind_found : (n : ℕ) (name : List ℕ) (found : List (List ℕ)) (tokens : List Token)
     → whens_front n (name ∷ found) tokens ≡ then_read (whens_front n found tokens) (λ names rest. read (name ∷ names) rest)

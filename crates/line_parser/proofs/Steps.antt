@@ -53,6 +53,28 @@ module _ {A : Type 0} (part : List Token → Read A) (end : ℕ) where
   behind_eaten n now [] = refl
   behind_eaten n now (t ∷ rest) = refl
 
+-- one step of the loop that reads a list: what it has read so far stands for what is left to read
+module _ {A : Type 0} (part : List Token → Read A) (end limit count : ℕ) (done : List A) (tokens : List Token) (less : count < limit) where
+  pub none_read : None ≡ part tokens → None ≡ list_front part end (limit - count) done tokens
+  none_read none = rw (list_front_more part end limit count done tokens less, ← none) refl
+
+  module _ (x : A) (rest : List Token) (found : Some (x, rest) ≡ part tokens) where
+    behind_one : list_front part end (limit - count) done tokens
+        ≡ (if begins_with end rest then read (done ++ x ∷ []) (drop 1 rest)
+        else (if begins_with 44 rest then list_front part end (limit - (count + 1)) (done ++ x ∷ []) (drop 1 rest) else None))
+    behind_one = rw (list_front_more part end limit count done tokens less, ← found)
+        (behind_eaten part end (limit - (count + 1)) (done ++ x ∷ []) rest)
+
+    pub list_ended : true ≡ begins_with end rest → read (done ++ x ∷ []) (drop 1 rest) ≡ list_front part end (limit - count) done tokens
+    list_ended is = rw (behind_one, ← is) refl
+
+    pub list_continued : false ≡ begins_with end rest → true ≡ begins_with 44 rest
+        → list_front part end (limit - (count + 1)) (done ++ x ∷ []) (drop 1 rest) ≡ list_front part end (limit - count) done tokens
+    list_continued more comma = rw (behind_one, ← more, ← comma) refl
+
+    pub list_broken : false ≡ begins_with end rest → false ≡ begins_with 44 rest → None ≡ list_front part end (limit - count) done tokens
+    list_broken more comma = rw (behind_one, ← more, ← comma) refl
+
 or_none : {A : Type 0} (o : Read A) → or_read o None ≡ o
 or_none None = refl
 or_none (Some p) = refl

@@ -7,26 +7,26 @@ use std_library::StdLib;
 
 /// What the outside of a run is like.
 #[derive(Clone, Copy)]
-pub struct Outside {
+pub(super) struct Outside {
     /// How many bytes may be taken, up to four million.
-    pub limit: u64,
+    pub(super) limit: u64,
 
     /// How many bytes a read gives; one where this is none.
-    pub piece: usize,
+    pub(super) piece: usize,
 
     /// The number of the read that fails, from 1; 0 for none.
-    pub failing_read: u64,
+    pub(super) failing_read: u64,
 
     /// How many bytes the sink has room for.
-    pub room: usize,
+    pub(super) room: usize,
 }
 
 /// What is wanted of a run: its transcript, its status and how many functions it calls.
 #[derive(Clone, Copy)]
-pub struct Wanted<'a> {
-    pub output: &'a str,
-    pub status: u8,
-    pub calls: u64,
+pub(super) struct Wanted<'a> {
+    pub(super) output: &'a str,
+    pub(super) status: u8,
+    pub(super) calls: u64,
 }
 
 /// Whether a run is as wanted.
@@ -74,7 +74,12 @@ fn source_of(alloc: Global, script: &str, outside: &Outside) -> Option<MemSource
 }
 
 /// Whether the script is answered as wanted.
-pub fn is_answered(alloc: Global, script: &str, outside: &Outside, wanted: &Wanted<'_>) -> bool {
+pub(super) fn is_answered(
+    alloc: Global,
+    script: &str,
+    outside: &Outside,
+    wanted: &Wanted<'_>,
+) -> bool {
     match source_of(alloc, script, outside) {
         Some(mut source) => {
             let well = is_written(alloc, &mut source, outside, wanted);

@@ -5,7 +5,7 @@ use std::alloc::{AllocError, Global};
 
 /// Lines of a script, with the answer to each.
 #[derive(Clone, Copy)]
-pub enum Rows {
+pub(super) enum Rows {
     /// A line each.
     Each(&'static [(&'static str, &'static str)]),
 
@@ -93,7 +93,7 @@ fn add_rows(alloc: Global, script: &mut Script, rows: &[Rows]) -> bool {
 }
 
 /// Whether the rows are answered as they say, with this status and so many calls.
-pub fn are_answered(
+pub(super) fn are_answered(
     alloc: Global,
     rows: &[Rows],
     outside: &Outside,

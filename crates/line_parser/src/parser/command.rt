@@ -267,11 +267,14 @@ fn command_with(
 ) -> Result<Option<Line>, AllocError>
     ensures { IfOk result (λ found. option_map line_view found ≡ command_with word.now tokens.old) }
 {
-    match word {
-        b"var" => var_of(alloc, tokens),
-        b"set" => set_of(alloc, tokens),
-        b"let" => let_of(alloc, tokens),
-        _ => expert_with(alloc, word, tokens),
+    if word == b"var".as_slice() {
+        var_of(alloc, tokens)
+    } else if word == b"set".as_slice() {
+        set_of(alloc, tokens)
+    } else if word == b"let".as_slice() {
+        let_of(alloc, tokens)
+    } else {
+        expert_with(alloc, word, tokens)
     }
 }
 
