@@ -17,7 +17,8 @@ use Rattle.transfer.specs.Shows.{Built, Shows, ShowsAll, Opens, IsTop, Declares,
 use Rattle.formula_elab.specs.Laying.{laid, laid_each, laid_body}
 use Rattle.formula_elab.specs.Made.{HoldsNoReference, HoldNoReference, BodyHoldsNoReference, RootDeclares}
 use Rattle.formula_elab.specs.Names.{EveryName, EveryNameOfAll, EveryNameOf}
-use Rattle.formula_elab.specs.Opened.{node_at, node_of, filled}
+use Rattle.formula_elab.specs.Opened.{made_node, node_of, filled}
+use Rattle.formula_elab.specs.declared.make.Made.{Made}
 use Rattle.formula_elab.specs.declared.opened.Open.{Open}
 use Rattle.formula_elab.specs.declared.opened.Open.TheVariants.{Map, Fold}
 
@@ -31,20 +32,20 @@ value_same nodes (Reference target b) base = absurd base
 -- ---- nodes that stand one after the other
 
 -- from the start-th on, the nodes are live nodes outside all scopes, so defined
-abbrev AreTop : Graph → List NodeId → ℕ → List Open → Type 0
+abbrev AreTop : Graph → List Made → ℕ → List Open → Type 0
 AreTop G made start [] = Unit {0}
-AreTop G made start (x ∷ xs) = IsTop G (node_at made start) (filled made x) × AreTop G made (suc start) xs
+AreTop G made start (x ∷ xs) = IsTop G (made_node made start) (filled made x) × AreTop G made (suc start) xs
 
-module _ (G : Graph) (made : List NodeId) where
+module _ (G : Graph) (made : List Made) where
   top_each : (start : ℕ) (xs : List Open)
-      → ((i : ℕ) (x : Open) → slice_get xs i ≡ Some x → IsTop G (node_at made (start + i)) (filled made x))
+      → ((i : ℕ) (x : Open) → slice_get xs i ≡ Some x → IsTop G (made_node made (start + i)) (filled made x))
       → AreTop G made start xs
   top_each start [] h = tt
   top_each start (x ∷ xs) h =
       let here : start + 0 ≡ start = omega arith in (
-        subst (λ i. IsTop G (node_at made i) (filled made x)) here (h 0 x refl),
+        subst (λ i. IsTop G (made_node made i) (filled made x)) here (h 0 x refl),
         top_each (suc start) xs (λ i y at. let there : start + suc i ≡ suc start + i = omega arith in
-            subst (λ j. IsTop G (node_at made j) (filled made y)) there (h (suc i) y at)),
+            subst (λ j. IsTop G (made_node made j) (filled made y)) there (h (suc i) y at)),
       )
 
   top_split : (start : ℕ) (xs ys : List Open) → AreTop G made start (xs ++ ys)
@@ -70,21 +71,21 @@ opens_fold : (G : Graph) (n : NodeId) (f : FnRef) (v w : _) (kids : List NodeId)
 opens_fold G n f v w kids same top =
     (n, top.0, refl, top.1, top.2, ap plain top.3 ∙ ap (λ u. Some (term.Fold f u (refs kids))) same)
 
-module _ (x : Both) (nodes : ℕ → NodeId) (made : List NodeId) where
+module _ (x : Both) (nodes : ℕ → NodeId) (made : List Made) where
   mutual
     shows : (start : ℕ) (f : Formula) → HoldsNoReference f → EveryName (λ n. nodes n ≡ x.nodes n) f
         → AreTop x.graph made start (laid nodes start f).makes
         → Shows x (Built None) [] (term.Ref (node_of made (laid nodes start f).root)) f
     shows start (Literal v) base names top =
         let same = value_same x.nodes v base in
-        opens_const x.graph (node_at made start) (to_engine v) (graph_value x.nodes v) same top.0
+        opens_const x.graph (made_node made start) (to_engine v) (graph_value x.nodes v) same top.0
     shows start (Name n) base names top = ap term.Ref names
     shows start (Apply function arguments) base names top =
         let each = laid_each nodes start arguments in
         let kids = map (node_of made) each.roots in
         let parts = top_split x.graph made start each.makes (Map function each.roots ∷ []) top in (
           refs kids,
-          opens_map x.graph (node_at made (start + length each.makes)) function kids parts.1.0,
+          opens_map x.graph (made_node made (start + length each.makes)) function kids parts.1.0,
           shows_each start arguments base names parts.0,
         )
     shows start (script.Fold function first elements) base names top =
@@ -93,7 +94,7 @@ module _ (x : Both) (nodes : ℕ → NodeId) (made : List NodeId) where
         let parts = top_split x.graph made start each.makes (Fold function (to_engine first) each.roots ∷ []) top in
         let same = value_same x.nodes first base.0 in (
           refs kids,
-          opens_fold x.graph (node_at made (start + length each.makes)) function (to_engine first) (graph_value x.nodes first)
+          opens_fold x.graph (made_node made (start + length each.makes)) function (to_engine first) (graph_value x.nodes first)
               kids same parts.1.0,
           shows_each start elements base.1 names parts.0,
         )
@@ -118,14 +119,14 @@ module _ (x : Both) (nodes : ℕ → NodeId) (made : List NodeId) where
   body_declares body base names top = absurd base
 
 pub root_declares : RootDeclares
-root_declares x nodes made body base names stands all =
+root_declares nodes body x made base names stands all =
     body_declares x nodes made body base names (top_each x.graph made 0 makes top)
   where
     makes : List Open
     makes = (laid_body nodes 0 body).makes
 
-    top : (i : ℕ) (o : Open) → slice_get makes i ≡ Some o → IsTop x.graph (node_at made (0 + i)) (filled made o)
+    top : (i : ℕ) (o : Open) → slice_get makes i ≡ Some o → IsTop x.graph (made_node made (0 + i)) (filled made o)
     top i o at =
         let here : i ≡ 0 + i = omega arith in
         let within : i < length made = omega (arith, slice_get_within makes i o at, all) in
-        subst (λ j. IsTop x.graph (node_at made j) (filled made o)) here (stands.top i o at within)
+        subst (λ j. IsTop x.graph (made_node made j) (filled made o)) here (stands.top i o at within)

@@ -1,6 +1,5 @@
 -- The names in a formula.
 use Rattle.std.specs.Prelude.{ℕ}
-use Rattle.script_model.specs.Check as command
 use Rattle.script_model.specs.Formula.{Formula, Formulas, Body, Literal, Name, Apply, Fold, End, More, Variable, Computed}
 
 abbrev mutual
@@ -22,8 +21,3 @@ abbrev pub EveryNameOf : (ℕ → Type 0) → Body → Type 0
 EveryNameOf P (Variable v) = Unit {0}
 EveryNameOf P (Computed f kept) = EveryName P f
 EveryNameOf P body = ⊥
-
--- so is what the command declares, if anything
-abbrev pub EveryNameIn : (ℕ → Type 0) → command.Command → Type 0
-EveryNameIn P (command.Declare name ty body) = EveryNameOf P body
-EveryNameIn P other = Unit {0}

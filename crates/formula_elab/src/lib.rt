@@ -1,4 +1,4 @@
-//! What scripts become in a graph: the nodes to be made for a command.
+//! What scripts become in a graph: the nodes to be made for a declaration.
 #![tactic(auto)]
 
 mod laws;

@@ -7,7 +7,8 @@ use Rattle.formula_elab.specs.Laying.{laid_body}
 use Rattle.formula_elab.specs.Names.{EveryNameOf}
 use Rattle.formula_elab.specs.Opened.{node_at, node_of}
 use Rattle.formula_elab.specs.declared.opened.Open.{Open}
-use Rattle.formula_elab.proofs.Places.{one_each_of_body}
+use Rattle.formula_elab.specs.declared.make.Made.{Made}
+use Rattle.formula_elab.proofs.Places.{few_of_body}
 use Rattle.graph.specs.Effects.{Sets, TakesBack}
 use Rattle.graph.specs.Standing.{Standing}
 use Rattle.inc_value.specs.Value as engine
@@ -66,7 +67,7 @@ names_within known names nodes one_each body ty fits =
 
 -- ---- after a declaration
 
-variable_of : (known : FnRef → Bool) (names : Names) (a : Arena) (nodes : ℕ → NodeId) (made : List NodeId) (body : Body) (ty : Ty) → BodyFits known names body ty
+variable_of : (known : FnRef → Bool) (names : Names) (a : Arena) (nodes : ℕ → NodeId) (made : List Made) (body : Body) (ty : Ty) → BodyFits known names body ty
     → ((v : Value) → body ≡ Variable v → IsVariable a (node_of made (laid_body nodes 0 body).root))
     → kind_of_body body ≡ VariableKind → IsVariable a (node_of made (laid_body nodes 0 body).root)
 variable_of known names a nodes made (Variable v) ty fits is kind = is v refl
@@ -78,7 +79,7 @@ variable_of known names a nodes made (Computed f kept) ty fits is kind = absurd 
 variable_of known names a nodes made body ty fits is kind = absurd fits
 
 -- the target of what is declared has its node
-target_node : (known : FnRef → Bool) (names : Names) (nodes : List NodeId) (made : List NodeId) (body : Body) (ty : Ty) → BodyFits known names body ty
+target_node : (known : FnRef → Bool) (names : Names) (nodes : List NodeId) (made : List Made) (body : Body) (ty : Ty) → BodyFits known names body ty
     → ((position : ℕ) → position < length names.declared
     → node_at nodes position ≡ node_in (nodes ++ node_of made (laid_body (node_at nodes) 0 body).root ∷ []) position)
     → node_in (nodes ++ node_of made (laid_body (node_at nodes) 0 body).root ∷ []) (length names.declared) ≡ node_of made (laid_body (node_at nodes) 0 body).root
@@ -107,7 +108,7 @@ module _ {F : Type 0} (first now : Standing F) (names : Names) (nodes : List Nod
         stands_on named value before (without_functions now) sound sound' (extends_without first now more) fewer m
 
     module _ (known : FnRef → Bool) (name : List ℕ) (ty : Ty) (body : Body) (fits : DeclarationFits known names name ty body)
-        (made : List NodeId) (less : ℕ) (room_is : less + places_of_body body ≡ room) where
+        (made : List Made) (less : ℕ) (room_is : less + places_of_body body ≡ room) where
       abbrev makes : List Open
       makes = (laid_body (node_at nodes) 0 body).makes
 
@@ -138,8 +139,8 @@ module _ {F : Type 0} (first now : Standing F) (names : Names) (nodes : List Nod
             let inside : position < length nodes = (let each = h.one_node_each in omega (arith, low, each)) in
             same_default nodes position inside ∙ sym (get_or_append_left nodes (root ∷ []) kept.no_node position inside)
 
-        size : length makes ≡ places_of_body body
-        size = one_each_of_body (λ n. n < length nodes) (node_at nodes) body (names_within known names nodes h.one_node_each body ty fits.body_fits)
+        size : length makes ≤ places_of_body body
+        size = few_of_body (λ n. n < length nodes) (node_at nodes) body (names_within known names nodes h.one_node_each body ty fits.body_fits)
 
         few : live now.nodes + less ≤ 1048575
         few = let room = h.few in omega (arith, making.few, room, room_is, whole, size)

@@ -7,7 +7,8 @@ use Rattle.formula_lang.specs.Fits.{ArgumentsFit, BodyFits, ElementsFit, Formula
 use Rattle.formula_elab.specs.Laying.{laid, laid_each, laid_body}
 use Rattle.formula_elab.specs.Made.{StandsIn}
 use Rattle.formula_elab.specs.Names.{EveryName, EveryNameOfAll, EveryNameOf}
-use Rattle.formula_elab.specs.Opened.{node_at, node_of, IsEarlier}
+use Rattle.formula_elab.specs.Opened.{made_node, node_of, IsEarlier}
+use Rattle.formula_elab.specs.declared.make.Made.{Made}
 use Rattle.formula_elab.specs.declared.opened.Open.{Open}
 use Rattle.formula_elab.specs.declared.opened.Open.TheVariants.{Const, Var, Map, Fold as OpenFold}
 use Rattle.formula_elab.specs.declared.opened.Part.{Part}
@@ -183,10 +184,10 @@ module _ (known : FnRef → Bool) (names : Names) (P : ℕ → Type 0) (named : 
 -- ---- its nodes
 
 -- the node was made, as one of the first so many
-abbrev IsMade : List NodeId → ℕ → NodeId → Type 0
-IsMade made bound n = (i : ℕ) × (i < bound) × (n ≡ node_at made i)
+abbrev IsMade : List Made → ℕ → NodeId → Type 0
+IsMade made bound n = (i : ℕ) × (i < bound) × (n ≡ made_node made i)
 
-module _ (known : FnRef → Bool) (G : Graph) (all : List Open) (made : List NodeId) (stands : StandsIn G all made) (whole : length made ≡ length all)
+module _ (known : FnRef → Bool) (G : Graph) (all : List Open) (made : List Made) (stands : StandsIn G all made) (whole : length made ≡ length all)
     (nodes : ℕ → NodeId) (names : Names) where
   top_at : (i : ℕ) (x : Open) → slice_get all i ≡ Some x → i < length made
   top_at i x at = let low = slice_get_within all i x at in omega (arith, low, whole)
@@ -292,7 +293,7 @@ module _ (known : FnRef → Bool) (G : Graph) (all : List Open) (made : List Nod
   body_owns body ty fits sits = absurd fits
 
 -- the nodes of a body were made from the first on, and none after the root
-module _ (known : FnRef → Bool) (names : Names) {F : Type 0} (first now : Standing F) (nodes : ℕ → NodeId) (made : List NodeId)
+module _ (known : FnRef → Bool) (names : Names) {F : Type 0} (first now : Standing F) (nodes : ℕ → NodeId) (made : List Made)
     (sound : arena.IsSound first.nodes) where
   abbrev makes_for : Body → List Open
   makes_for body = (laid_body nodes 0 body).makes
@@ -309,11 +310,11 @@ module _ (known : FnRef → Bool) (names : Names) {F : Type 0} (first now : Stan
   IsPartSince root n = (first.nodes.given ≤ n.gen_) × (n.gen_ < root.gen_)
 
   made_id : (body : Body) → IsMaking first now (makes_for body) made → length made ≡ length (makes_for body) → (i : ℕ) (n : NodeId)
-      → i < length (makes_for body) → n ≡ node_at made i → n.gen_ ≡ first.nodes.given + i
+      → i < length (makes_for body) → n ≡ made_node made i → n.gen_ ≡ first.nodes.given + i
   made_id body h whole i n low is = ap (λ (m : NodeId). m.gen_) is ∙ h.ids i (omega (arith, low, whole))
 
   between : (body : Body) → IsMaking first now (makes_for body) made → length made ≡ length (makes_for body) → (r : ℕ) → r < length (makes_for body)
-      → length (makes_for body) ≤ r + 1 → root_for body ≡ node_at made r → (n : NodeId) → IsMade made (length (makes_for body)) n
+      → length (makes_for body) ≤ r + 1 → root_for body ≡ made_node made r → (n : NodeId) → IsMade made (length (makes_for body)) n
       → IsSince (root_for body) n
   between body h whole r low high root n (i, less, is) =
       let id = made_id body h whole i n less is in
@@ -321,7 +322,7 @@ module _ (known : FnRef → Bool) (names : Names) {F : Type 0} (first now : Stan
       (omega (arith, id), omega (arith, id, last, less, high))
 
   before_root : (body : Body) → IsMaking first now (makes_for body) made → length made ≡ length (makes_for body) → (r : ℕ) → r < length (makes_for body)
-      → length (makes_for body) ≤ r + 1 → root_for body ≡ node_at made r → (n : NodeId) → IsMade made (length (makes_for body) - 1) n
+      → length (makes_for body) ≤ r + 1 → root_for body ≡ made_node made r → (n : NodeId) → IsMade made (length (makes_for body) - 1) n
       → IsPartSince (root_for body) n
   before_root body h whole r low high root n (i, less, is) =
       let id = made_id body h whole i n (omega (arith, less)) is in
@@ -329,7 +330,7 @@ module _ (known : FnRef → Bool) (names : Names) {F : Type 0} (first now : Stan
       (omega (arith, id), omega (arith, id, last, less, high, low))
 
   own_between : (body : Body) (ty : Ty) → BodyFits known names body ty → IsMaking first now (makes_for body) made → length made ≡ length (makes_for body)
-      → (r : ℕ) → r < length (makes_for body) → length (makes_for body) ≤ r + 1 → root_for body ≡ node_at made r
+      → (r : ℕ) → r < length (makes_for body) → length (makes_for body) ≤ r + 1 → root_for body ≡ made_node made r
       → OwnNodesOf (graph_of now.nodes) (IsSince (root_for body)) (IsPartSince (root_for body)) (root_for body) body
   own_between body ty fits h whole r low high root =
       own_nodes_of_on (graph_of now.nodes) (graph_of now.nodes) (IsMade made (length (makes_for body))) (IsSince (root_for body))
@@ -370,10 +371,10 @@ module _ (known : FnRef → Bool) (names : Names) {F : Type 0} (first now : Stan
       record { row = top.0; value = to_engine v; there = top.1; variable = top.3 }
 
 -- and shows what is declared
-pub made_declares : (known : FnRef → Bool) (names : Names) (x : Both) (nodes : ℕ → NodeId) (made : List NodeId) (body : Body) (ty : Ty)
+pub made_declares : (known : FnRef → Bool) (names : Names) (x : Both) (nodes : ℕ → NodeId) (made : List Made) (body : Body) (ty : Ty)
     → BodyFits known names body ty → ((position : ℕ) (t : Ty) → NameFits names position t → nodes position ≡ x.nodes position)
     → StandsIn x.graph (laid_body nodes 0 body).makes made → length made ≡ length (laid_body nodes 0 body).makes
     → Declares x (node_of made (laid_body nodes 0 body).root) (Some body)
 made_declares known names x nodes made body ty fits same stands whole =
-    root_declares x nodes made body (fitting_holds_no_reference known names body ty fits)
+    root_declares nodes body x made (fitting_holds_no_reference known names body ty fits)
     (every_name_of known names (λ n. nodes n ≡ x.nodes n) same body ty fits) stands (omega (arith, whole))

@@ -119,7 +119,7 @@ fn perform<L: Library>(
 {
     match command {
         Command::Declare { name, ty, body } => {
-            declare(alloc, script, command, name.bytes(), *ty, body, out)
+            declare(alloc, script, name.bytes(), *ty, body, out)
         }
         Command::Assign { target, value } => set(alloc, script, *target, value, out),
         Command::Observe { observer, target } => observe(script, observer.bytes(), *target, out),
@@ -133,13 +133,11 @@ fn perform<L: Library>(
 fn declare<L: Library>(
     alloc: Global,
     script: &mut Script<L>,
-    command: &Command,
     name: &[u8],
     ty: Ty,
     body: &Declaration,
     out: &mut Vec<u8>,
 ) -> Result<Did, AllocError>
-    requires command { command_view command.now ≡ Declare name.now ty (body_view body.now) }
     requires fits { DeclarationFits (L.known script.old.library) script.old.kept.names name.now ty (body_view body.now) }
     requires unbroken { script.old.kept.broken ≡ None }
     requires ids { (arena_of script.old.kept).given + 2 ^ 20 < 2 ^ 64 - 1 }
@@ -150,7 +148,7 @@ fn declare<L: Library>(
         return refuse(alloc, Refusal::TooManyPlaces.number(), out);
     };
     match write_done(out) {
-        Ok(()) => match script.declare(command, name, ty, body, room) {
+        Ok(()) => match script.declare(name, ty, body, room) {
             Ok(()) => Ok(Did::Accepted),
             Err(fault) => Err(fault),
         },

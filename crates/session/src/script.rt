@@ -7,6 +7,7 @@ ghost use Rattle.script_graph.specs.State.{Stands};
 
 mod declaring;
 mod observing;
+mod setting;
 mod stabilizing;
 
 use formula_lang::Names;
