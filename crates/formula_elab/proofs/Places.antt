@@ -5,7 +5,7 @@ use Rattle.inc_value.specs.declared.node.NodeId.{NodeId}
 use Rattle.script_model.specs.Formula as script
 use Rattle.script_model.specs.Formula.{Formula, Formulas, Body, Literal, Name, Apply, End, More, Variable, Computed}
 use Rattle.script_model.specs.Formula.{places_in, places_in_all, places_of_body}
-use Rattle.script_model.specs.Values.{to_engine}
+use Rattle.transfer.specs.Both.{graph_value}
 use Rattle.formula_elab.specs.Laying.{laid, laid_each, laid_body}
 use Rattle.formula_elab.specs.Made.{OneMakeEach}
 use Rattle.formula_elab.specs.Names.{EveryName, EveryNameOfAll, EveryNameOf}
@@ -22,8 +22,8 @@ module _ (P : ℕ → Type 0) (nodes : ℕ → NodeId) where
         omega (arith, size, one_each_of_all start arguments names)
     one_each start (script.Fold function first elements) names =
         let each = laid_each nodes start elements in
-        let size = length-append each.makes (Fold function (to_engine first) each.roots ∷ []) in
-        omega (arith, size, one_each_of_all start elements names)
+        let size = length-append each.makes (Fold function (graph_value nodes first) each.roots ∷ []) in
+        omega (arith, size, one_each_of_all start elements names.1)
     one_each start f names = absurd names
 
     one_each_of_all : (start : ℕ) (fs : Formulas) → EveryNameOfAll P fs

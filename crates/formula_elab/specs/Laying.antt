@@ -6,7 +6,7 @@ use Rattle.inc_value.specs.declared.node.NodeId.{NodeId}
 use Rattle.inc_value.specs.declared.value.Value.{Value}
 use Rattle.script_model.specs.Formula as script
 use Rattle.script_model.specs.Formula.{Formula, Formulas, Body, Literal, Name, Apply, End, More, Variable, Computed}
-use Rattle.script_model.specs.Values.{to_engine}
+use Rattle.transfer.specs.Both.{graph_value}
 use Rattle.formula_elab.specs.Opened.{no_node, node_at}
 use Rattle.formula_elab.specs.declared.opened.Open.{Open}
 use Rattle.formula_elab.specs.declared.opened.Open.TheVariants.{Const, Var, Map, Fold}
@@ -52,11 +52,11 @@ laid_before first rest = record { makes = first.makes ++ rest.makes; roots = fir
 abbrev mutual
   -- what is to be made for a formula, the first as the start-th, over the nodes of names; no other form is laid out
   pub laid : (ℕ → NodeId) → ℕ → Formula → Laid
-  laid nodes start (Literal v) = laid_one start (Const (to_engine v))
+  laid nodes start (Literal v) = laid_one start (Const (graph_value nodes v))
   laid nodes start (Name n) = laid_given (nodes n)
   laid nodes start (Apply function arguments) = laid_behind start function (laid_each nodes start arguments)
   laid nodes start (script.Fold function first elements) =
-      laid_fold start function (to_engine first) (laid_each nodes start elements)
+      laid_fold start function (graph_value nodes first) (laid_each nodes start elements)
   laid nodes start f = laid_given no_node
 
   -- what is to be made for formulas, one after the other
@@ -67,7 +67,7 @@ abbrev mutual
 
 -- what is to be made for what is declared: a variable is one node
 abbrev pub laid_body : (ℕ → NodeId) → ℕ → Body → Laid
-laid_body nodes start (Variable v) = laid_one start (Var (to_engine v))
+laid_body nodes start (Variable v) = laid_one start (Var (graph_value nodes v))
 laid_body nodes start (Computed f kept) = laid nodes start f
 laid_body nodes start body = laid_given no_node
 

@@ -1,15 +1,8 @@
 -- A graph in which what was to be made for a declaration was made.
 use Rattle.std.specs.Prelude.{◌≡◌, ◌<◌, ◌≤◌, ◌++◌, ℕ, Bool, List, [], ◌∷◌, length, Some, slice_get}
-use Rattle.inc_value.specs.Ty.{IsBase}
-use Rattle.inc_value.specs.declared.function.FnRef.{FnRef}
 use Rattle.inc_value.specs.declared.node.NodeId.{NodeId}
-use Rattle.inc_value.specs.declared.ty.Ty.{Ty}
 use Rattle.inc_terms.specs.Graph.{Graph, Row, Def}
-use Rattle.formula_lang.specs.Fits.{BodyFits}
-use Rattle.script_model.specs.Check.{Names}
-use Rattle.script_model.specs.Formula.{Formula, Formulas, Body, Literal, Name, Apply, Fold, End, More, Variable, Computed}
-use Rattle.script_model.specs.Formula.{places_of_body}
-use Rattle.script_model.specs.Values.{type_of}
+use Rattle.script_model.specs.Formula.{Body, places_of_body}
 use Rattle.transfer.specs.Both.{Both}
 use Rattle.transfer.specs.Shows.{IsTop, Declares}
 use Rattle.formula_elab.specs.Laying.{laid_body}
@@ -32,35 +25,13 @@ pub record StandsIn (G : Graph) (makes : List Open) (made : List Made) : Type 0 
 abbrev pub RowsStay : Graph → Graph → Type 0
 RowsStay G G' = (n : NodeId) (r : Row) → G.row n ≡ Some r → G'.row n ≡ Some r
 
--- ---- literals
-
-abbrev mutual
-  -- the formula is of a form that is laid out, and no literal in it is a reference
-  pub HoldsNoReference : Formula → Type 0
-  HoldsNoReference (Literal v) = IsBase (type_of v)
-  HoldsNoReference (Name n) = Unit {0}
-  HoldsNoReference (Apply function arguments) = HoldNoReference arguments
-  HoldsNoReference (Fold function first elements) = IsBase (type_of first) × HoldNoReference elements
-  HoldsNoReference f = ⊥
-
-  -- so are all of the formulas
-  pub HoldNoReference : Formulas → Type 0
-  HoldNoReference End = Unit {0}
-  HoldNoReference (More f rest) = HoldsNoReference f × HoldNoReference rest
-
--- so is what is declared, and a variable's value is no reference
-abbrev pub BodyHoldsNoReference : Body → Type 0
-BodyHoldsNoReference (Variable v) = IsBase (type_of v)
-BodyHoldsNoReference (Computed f kept) = HoldsNoReference f
-BodyHoldsNoReference body = ⊥
-
 -- ---- what is to be made for a declaration
 
 -- in every graph in which all of it was made, and in which the names have these nodes, the root is the node of what is
 -- declared
 abbrev pub ShowsOnceMade : (ℕ → NodeId) → Body → List Open → Part → Type 0
 ShowsOnceMade nodes body makes root =
-    (x : Both) (made : List Made) → BodyHoldsNoReference body → EveryNameOf (λ n. nodes n ≡ x.nodes n) body
+    (x : Both) (made : List Made) → EveryNameOf (λ n. nodes n ≡ x.nodes n) body
     → StandsIn x.graph makes made → length makes ≤ length made → Declares x (node_of made root) (Some body)
 
 -- ---- laws
@@ -88,9 +59,3 @@ OneMoreStands = (G G' : Graph) (makes : List Open) (made : List Made) (def : Def
 abbrev pub RootDeclares : Type 0
 RootDeclares = (nodes : ℕ → NodeId) (body : Body)
     → ShowsOnceMade nodes body (laid_body nodes 0 body).makes (laid_body nodes 0 body).root
-
--- what fits the names of a script holds no reference
-abbrev pub FittingHoldsNoReference : Type 0
-FittingHoldsNoReference =
-    (known : FnRef → Bool) (names : Names) (body : Body) (ty : Ty) → BodyFits known names body ty
-    → BodyHoldsNoReference body

@@ -9,6 +9,7 @@ ghost use Rattle.formula_elab.specs.Opened.{node_at, AreInOrder};
 
 use crate::opened::{Open, Part, Parts};
 use crate::plan::Plan;
+use crate::value::value_of;
 use formula_lang::{Declaration, Formula};
 use inc_value::NodeId;
 use std::alloc::{AllocError, Global};
@@ -45,7 +46,7 @@ fn lay_body(
     match body {
         Declaration::Variable(value) => {
             let root = Part::Made(makes.len());
-            makes.push(Open::Var(value.value(alloc)?))?;
+            makes.push(Open::Var(value_of(alloc, value, ids)?))?;
             Ok(root)
         }
         Declaration::Computed(formula) => lay(alloc, formula, ids, makes),
@@ -68,7 +69,7 @@ fn lay(
     match formula {
         Formula::Literal(value) => {
             let root = Part::Made(makes.len());
-            makes.push(Open::Const(value.value(alloc)?))?;
+            makes.push(Open::Const(value_of(alloc, value, ids)?))?;
             Ok(root)
         }
         Formula::Name(position) => Ok(Part::Given(ids[*position])),
@@ -86,7 +87,7 @@ fn lay(
             first,
             elements,
         } => {
-            let first = first.value(alloc)?;
+            let first = value_of(alloc, first, ids)?;
             let elements = Parts::new(lay_each(alloc, elements, ids, makes)?);
             let root = Part::Made(makes.len());
             makes.push(Open::Fold(*function, first, elements))?;

@@ -20,10 +20,10 @@ use Rattle.inc_value.specs.declared.node.NodeId.{NodeId}
 use Rattle.node_arena.specs.Arena.{Arena, row_at}
 use Rattle.node_arena.specs.Graph.{graph_of}
 use Rattle.script_model.specs.Formula.{State, Body, Formula, Formulas, Literal, Name, Apply, Fold, End, More, Variable, Computed}
-use Rattle.script_model.specs.Values.{to_engine}
 use Rattle.script_model.specs.Run.{calls_in, calls_in_all, count_in, calls_of_body, most_calls}
 use Rattle.script_graph.specs.Growing.{IsMaking}
 use Rattle.script_graph.specs.Represents.{Caller, IsCaller, HasFewCalls}
+use Rattle.transfer.specs.Both.{graph_value}
 
 -- how many calls they make in all
 abbrev pub calls_by : List Caller → ℕ
@@ -150,7 +150,7 @@ module _ (nodes : ℕ → NodeId) where
         omega (arith, size, rest)
     calls_laid start (Fold function first elements) =
         let each = laid_each nodes start elements in
-        let size = calls_append each.makes (OpenFold function (to_engine first) each.roots ∷ []) in
+        let size = calls_append each.makes (OpenFold function (graph_value nodes first) each.roots ∷ []) in
         let rest = calls_laid_each start elements in
         let count = one_root_each start elements in
         omega (arith, size, rest, count)

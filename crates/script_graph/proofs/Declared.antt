@@ -27,7 +27,7 @@ use Rattle.script_model.specs.Check.{Assign, Declare, Declared, Kind, Names, Var
 use Rattle.script_model.specs.Formula.{Body, meanings_of, places_of_body, Literal, Name, Apply, Fold, Variable, Computed}
 use Rattle.script_model.specs.Run.{calls_of_body}
 use Rattle.script_model.specs.Step.{Moment, declared_in, moved}
-use Rattle.script_model.specs.Values.{Value, to_engine}
+use Rattle.script_model.specs.Values.{Value}
 use Rattle.script_graph.specs.Growing.{Extends, IsMaking, PartFits, AllOpenFit}
 use Rattle.script_graph.specs.Kept as kept
 use Rattle.script_graph.specs.Kept.{Kept, node_in, HasNode, IsSound, without_functions}
@@ -41,6 +41,7 @@ use Rattle.script_graph.proofs.Callers.{HasNewCalls, WereLive, made_new_calls, c
 use Rattle.script_graph.proofs.Making.{reference_fits, value_given}
 use Rattle.script_graph.proofs.Setting.{setting_stands}
 use Rattle.script_graph.proofs.Sounding.{sound_declared, sound_on, sound_set}
+use Rattle.transfer.specs.Both.{graph_value}
 
 -- ---- the nodes of names
 
@@ -182,7 +183,7 @@ module _ {F : Type 0} (first now : Standing F) (names : Names) (nodes : List Nod
     set_sound = sound_set before h sound (without_functions now) (node_in nodes target) w sets_without
 
     pub set_stands : AssignmentFits names target (engine.type_of w) → (named : List ℕ → Option FnRef) (value : FnRef → List GraphValue → GraphValue)
-        (m : Moment) (v : Value) → to_engine v ≡ w → MatchesMoment (meanings_of named value) before m
+        (m : Moment) (v : Value) → graph_value (node_in nodes) v ≡ w → MatchesMoment (meanings_of named value) before m
         → MatchesMoment (meanings_of named value) returned (moved m (Assign target v))
     set_stands fits named value m v is = setting_stands named value before (without_functions now) sound sound' m target w v is sets_without fits
 

@@ -4,6 +4,7 @@ use Rattle.std.specs.List.{sum_by}
 use Rattle.inc_value.specs.Choice.{Among}
 use Rattle.inc_value.specs.declared.node.NodeId.{NodeId}
 use Rattle.inc_value.specs.declared.node.ObsId.{ObsId}
+use Rattle.inc_value.specs.declared.value.Value.{Value as GraphValue}
 use Rattle.inc_terms.specs.Depend.{none_died}
 use Rattle.inc_terms.specs.Graph as graph
 use Rattle.inc_terms.specs.Graph.{Graph, Row}
@@ -72,7 +73,8 @@ abbrev mutual
   OwnNodes G P n (Apply f arguments) =
       P n × (r : Row) × (kids : List NodeId) × (G.row n ≡ Some r) × (r.def ≡ graph.Map f kids) × OwnNodesOfAll G P kids arguments
   OwnNodes G P n (Fold f first elements) =
-      P n × (r : Row) × (kids : List NodeId) × (G.row n ≡ Some r) × (r.def ≡ graph.Fold f (to_engine first) kids) × OwnNodesOfAll G P kids elements
+      P n × (r : Row) × (value : GraphValue) × (kids : List NodeId) × (G.row n ≡ Some r) × (r.def ≡ graph.Fold f value kids)
+      × OwnNodesOfAll G P kids elements
   OwnNodes G P n f = ⊥
 
   -- so have those of all of the formulas
@@ -89,7 +91,8 @@ WholeNodes G P Q n (Name k) = Unit {0}
 WholeNodes G P Q n (Apply f arguments) =
     P n × (r : Row) × (kids : List NodeId) × (G.row n ≡ Some r) × (r.def ≡ graph.Map f kids) × OwnNodesOfAll G Q kids arguments
 WholeNodes G P Q n (Fold f first elements) =
-    P n × (r : Row) × (kids : List NodeId) × (G.row n ≡ Some r) × (r.def ≡ graph.Fold f (to_engine first) kids) × OwnNodesOfAll G Q kids elements
+    P n × (r : Row) × (value : GraphValue) × (kids : List NodeId) × (G.row n ≡ Some r) × (r.def ≡ graph.Fold f value kids)
+    × OwnNodesOfAll G Q kids elements
 WholeNodes G P Q n f = ⊥
 
 -- so have those of what is declared

@@ -22,6 +22,7 @@ use crate::reply::{
 };
 use crate::request::{Request, read_request};
 use crate::script::{Script, Stabilized};
+use formula_elab::value_of;
 use formula_lang::{CheckFault, Command, Constant, Declaration, Names, check};
 use inc_value::Ty;
 use line_parser::Line;
@@ -170,7 +171,7 @@ fn set<L: Library>(
         script.old script.new out.old.items out.new.items result }
 {
     match write_done(out) {
-        Ok(()) => match value.value(alloc) {
+        Ok(()) => match value_of(alloc, value, script.nodes()) {
             Ok(value) => {
                 script.set(target, value);
                 Ok(Did::Accepted)
