@@ -6,7 +6,7 @@ use Rattle.std.proofs.lemmas.List.Elements.{All-nil, All-cons}
 use Rattle.inc_value.specs.declared.node.NodeId.{NodeId}
 use Rattle.script_model.specs.Formula as script
 use Rattle.script_model.specs.Formula.{Formula, Formulas, Body, Literal, Name, Apply, End, More, Variable, Computed}
-use Rattle.script_model.specs.Values.{to_engine}
+use Rattle.transfer.specs.Both.{graph_value}
 use Rattle.formula_elab.specs.Laying.{laid, laid_each, laid_body}
 use Rattle.formula_elab.specs.Made.{LaidInOrder}
 use Rattle.formula_elab.specs.Opened.{IsEarlier, NeedsEarlier, AreInOrder}
@@ -68,7 +68,7 @@ module _ (nodes : ℕ → NodeId) where
     formula_in_order start (script.Fold function first elements) =
         let each = laid_each nodes start elements in
         let parts = formulas_in_order start elements in
-        let last = Fold function (to_engine first) each.roots in
+        let last = Fold function (graph_value nodes first) each.roots in
         let size = length-append each.makes (last ∷ []) in
         (order_append start each.makes (last ∷ []) parts.0 (parts.1, tt), omega (arith, size))
     formula_in_order start f = (tt, tt)

@@ -1,4 +1,3 @@
-pub mod Fitting
 pub mod InOrder
 pub mod LaidInTurn
 pub mod Next

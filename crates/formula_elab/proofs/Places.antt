@@ -1,11 +1,11 @@
 -- One node is made for each place.
-use Rattle.std.proofs.Common.{◌≡◌, ℕ, ◌+◌, [], ◌∷◌, length, arith, refl}
+use Rattle.std.proofs.Common.{◌≡◌, ℕ, ◌+◌, ◌≤◌, [], ◌∷◌, length, arith, refl}
 use Rattle.std.proofs.lemmas.List.{length-append}
 use Rattle.inc_value.specs.declared.node.NodeId.{NodeId}
 use Rattle.script_model.specs.Formula as script
 use Rattle.script_model.specs.Formula.{Formula, Formulas, Body, Literal, Name, Apply, End, More, Variable, Computed}
 use Rattle.script_model.specs.Formula.{places_in, places_in_all, places_of_body}
-use Rattle.script_model.specs.Values.{to_engine}
+use Rattle.transfer.specs.Both.{graph_value}
 use Rattle.formula_elab.specs.Laying.{laid, laid_each, laid_body}
 use Rattle.formula_elab.specs.Made.{OneMakeEach}
 use Rattle.formula_elab.specs.Names.{EveryName, EveryNameOfAll, EveryNameOf}
@@ -22,8 +22,8 @@ module _ (P : ℕ → Type 0) (nodes : ℕ → NodeId) where
         omega (arith, size, one_each_of_all start arguments names)
     one_each start (script.Fold function first elements) names =
         let each = laid_each nodes start elements in
-        let size = length-append each.makes (Fold function (to_engine first) each.roots ∷ []) in
-        omega (arith, size, one_each_of_all start elements names)
+        let size = length-append each.makes (Fold function (graph_value nodes first) each.roots ∷ []) in
+        omega (arith, size, one_each_of_all start elements names.1)
     one_each start f names = absurd names
 
     one_each_of_all : (start : ℕ) (fs : Formulas) → EveryNameOfAll P fs
@@ -35,11 +35,14 @@ module _ (P : ℕ → Type 0) (nodes : ℕ → NodeId) where
         let size = length-append first.makes (laid_each nodes next rest).makes in
         omega (arith, size, one_each start f names.0, one_each_of_all next rest names.1)
 
-  pub one_each_of_body : (body : Body) → EveryNameOf P body
+  one_each_of_body : (body : Body) → EveryNameOf P body
       → length (laid_body nodes 0 body).makes ≡ places_of_body body
   one_each_of_body (Variable v) names = refl
   one_each_of_body (Computed f kept) names = one_each 0 f names
   one_each_of_body body names = absurd names
+
+  pub few_of_body : (body : Body) → EveryNameOf P body → length (laid_body nodes 0 body).makes ≤ places_of_body body
+  few_of_body body names = omega (arith, one_each_of_body body names)
 
 pub one_make_each : OneMakeEach
 one_make_each nodes body names = one_each_of_body (λ n. Unit {0}) nodes body names

@@ -2,49 +2,50 @@
 use Rattle.std.proofs.Common.{◌≡◌, ℕ, suc, ◌+◌, ◌<◌, List, [], ◌∷◌, ◌++◌, length, map, None, Some, arith, refl, ◌∙◌, ap, subst}
 use Rattle.std.proofs.lemmas.Option.{slice_get_within}
 use Rattle.std.specs.List.{slice_get}
-use Rattle.inc_value.specs.Ty.{IsBase}
 use Rattle.inc_value.specs.declared.function.FnRef.{FnRef}
 use Rattle.inc_value.specs.declared.node.NodeId.{NodeId}
+use Rattle.inc_value.specs.declared.value.Value.TheVariants as held
 use Rattle.inc_terms.specs.Graph as graph
 use Rattle.inc_terms.specs.Graph.{Graph, Row, Def}
 use Rattle.inc_terms.specs.Term as term
 use Rattle.inc_terms.specs.Term.{Term, Terms, refs}
 use Rattle.script_model.specs.Formula as script
 use Rattle.script_model.specs.Formula.{Formula, Formulas, Body, Literal, Name, Apply, End, More, Variable, Computed}
-use Rattle.script_model.specs.Values.{Value, Int, Bool, Text, Reference, type_of, to_engine}
+use Rattle.script_model.specs.Values.{Value, Int, Bool, Text, Reference}
 use Rattle.transfer.specs.Both.{Both, graph_value}
 use Rattle.transfer.specs.Shows.{Built, Shows, ShowsAll, Opens, IsTop, Declares, plain}
 use Rattle.formula_elab.specs.Laying.{laid, laid_each, laid_body}
-use Rattle.formula_elab.specs.Made.{HoldsNoReference, HoldNoReference, BodyHoldsNoReference, RootDeclares}
-use Rattle.formula_elab.specs.Names.{EveryName, EveryNameOfAll, EveryNameOf}
-use Rattle.formula_elab.specs.Opened.{node_at, node_of, filled}
+use Rattle.formula_elab.specs.Made.{RootDeclares}
+use Rattle.formula_elab.specs.Names.{EveryReference, EveryName, EveryNameOfAll, EveryNameOf}
+use Rattle.formula_elab.specs.Opened.{made_node, node_of, filled}
+use Rattle.formula_elab.specs.declared.make.Made.{Made}
 use Rattle.formula_elab.specs.declared.opened.Open.{Open}
 use Rattle.formula_elab.specs.declared.opened.Open.TheVariants.{Map, Fold}
 
--- a value that is no reference is the same in the graph
-value_same : (nodes : ℕ → NodeId) (v : Value) → IsBase (type_of v) → to_engine v ≡ graph_value nodes v
-value_same nodes (Int z) base = refl
-value_same nodes (Bool b) base = refl
-value_same nodes (Text bytes) base = refl
-value_same nodes (Reference target b) base = absurd base
+-- where what a value refers to has the same node, the value is the same in the graph
+pub value_same : (nodes nodes' : ℕ → NodeId) (v : Value) → EveryReference (λ n. nodes n ≡ nodes' n) v → graph_value nodes v ≡ graph_value nodes' v
+value_same nodes nodes' (Int z) same = refl
+value_same nodes nodes' (Bool b) same = refl
+value_same nodes nodes' (Text bytes) same = refl
+value_same nodes nodes' (Reference target b) same = ap (λ (n : NodeId). held.Node n b) same
 
 -- ---- nodes that stand one after the other
 
 -- from the start-th on, the nodes are live nodes outside all scopes, so defined
-abbrev AreTop : Graph → List NodeId → ℕ → List Open → Type 0
+abbrev AreTop : Graph → List Made → ℕ → List Open → Type 0
 AreTop G made start [] = Unit {0}
-AreTop G made start (x ∷ xs) = IsTop G (node_at made start) (filled made x) × AreTop G made (suc start) xs
+AreTop G made start (x ∷ xs) = IsTop G (made_node made start) (filled made x) × AreTop G made (suc start) xs
 
-module _ (G : Graph) (made : List NodeId) where
+module _ (G : Graph) (made : List Made) where
   top_each : (start : ℕ) (xs : List Open)
-      → ((i : ℕ) (x : Open) → slice_get xs i ≡ Some x → IsTop G (node_at made (start + i)) (filled made x))
+      → ((i : ℕ) (x : Open) → slice_get xs i ≡ Some x → IsTop G (made_node made (start + i)) (filled made x))
       → AreTop G made start xs
   top_each start [] h = tt
   top_each start (x ∷ xs) h =
       let here : start + 0 ≡ start = omega arith in (
-        subst (λ i. IsTop G (node_at made i) (filled made x)) here (h 0 x refl),
+        subst (λ i. IsTop G (made_node made i) (filled made x)) here (h 0 x refl),
         top_each (suc start) xs (λ i y at. let there : start + suc i ≡ suc start + i = omega arith in
-            subst (λ j. IsTop G (node_at made j) (filled made y)) there (h (suc i) y at)),
+            subst (λ j. IsTop G (made_node made j) (filled made y)) there (h (suc i) y at)),
       )
 
   top_split : (start : ℕ) (xs ys : List Open) → AreTop G made start (xs ++ ys)
@@ -70,62 +71,62 @@ opens_fold : (G : Graph) (n : NodeId) (f : FnRef) (v w : _) (kids : List NodeId)
 opens_fold G n f v w kids same top =
     (n, top.0, refl, top.1, top.2, ap plain top.3 ∙ ap (λ u. Some (term.Fold f u (refs kids))) same)
 
-module _ (x : Both) (nodes : ℕ → NodeId) (made : List NodeId) where
+module _ (x : Both) (nodes : ℕ → NodeId) (made : List Made) where
   mutual
-    shows : (start : ℕ) (f : Formula) → HoldsNoReference f → EveryName (λ n. nodes n ≡ x.nodes n) f
+    shows : (start : ℕ) (f : Formula) → EveryName (λ n. nodes n ≡ x.nodes n) f
         → AreTop x.graph made start (laid nodes start f).makes
         → Shows x (Built None) [] (term.Ref (node_of made (laid nodes start f).root)) f
-    shows start (Literal v) base names top =
-        let same = value_same x.nodes v base in
-        opens_const x.graph (node_at made start) (to_engine v) (graph_value x.nodes v) same top.0
-    shows start (Name n) base names top = ap term.Ref names
-    shows start (Apply function arguments) base names top =
+    shows start (Literal v) names top =
+        let same = value_same nodes x.nodes v names in
+        opens_const x.graph (made_node made start) (graph_value nodes v) (graph_value x.nodes v) same top.0
+    shows start (Name n) names top = ap term.Ref names
+    shows start (Apply function arguments) names top =
         let each = laid_each nodes start arguments in
         let kids = map (node_of made) each.roots in
         let parts = top_split x.graph made start each.makes (Map function each.roots ∷ []) top in (
           refs kids,
-          opens_map x.graph (node_at made (start + length each.makes)) function kids parts.1.0,
-          shows_each start arguments base names parts.0,
+          opens_map x.graph (made_node made (start + length each.makes)) function kids parts.1.0,
+          shows_each start arguments names parts.0,
         )
-    shows start (script.Fold function first elements) base names top =
+    shows start (script.Fold function first elements) names top =
         let each = laid_each nodes start elements in
         let kids = map (node_of made) each.roots in
-        let parts = top_split x.graph made start each.makes (Fold function (to_engine first) each.roots ∷ []) top in
-        let same = value_same x.nodes first base.0 in (
+        let parts = top_split x.graph made start each.makes (Fold function (graph_value nodes first) each.roots ∷ []) top in
+        let same = value_same nodes x.nodes first names.0 in (
           refs kids,
-          opens_fold x.graph (node_at made (start + length each.makes)) function (to_engine first) (graph_value x.nodes first)
-              kids same parts.1.0,
-          shows_each start elements base.1 names parts.0,
+          opens_fold x.graph (made_node made (start + length each.makes)) function (graph_value nodes first)
+              (graph_value x.nodes first) kids same parts.1.0,
+          shows_each start elements names.1 parts.0,
         )
-    shows start f base names top = absurd base
+    shows start f names top = absurd names
 
-    shows_each : (start : ℕ) (fs : Formulas) → HoldNoReference fs → EveryNameOfAll (λ n. nodes n ≡ x.nodes n) fs
+    shows_each : (start : ℕ) (fs : Formulas) → EveryNameOfAll (λ n. nodes n ≡ x.nodes n) fs
         → AreTop x.graph made start (laid_each nodes start fs).makes
         → ShowsAll x (Built None) [] (refs (map (node_of made) (laid_each nodes start fs).roots)) fs
-    shows_each start End base names top = tt
-    shows_each start (More f rest) base names top =
+    shows_each start End names top = tt
+    shows_each start (More f rest) names top =
         let first = laid nodes start f in
         let next = start + length first.makes in
         let parts = top_split x.graph made start first.makes (laid_each nodes next rest).makes top in
-        (shows start f base.0 names.0 parts.0, shows_each next rest base.1 names.1 parts.1)
+        (shows start f names.0 parts.0, shows_each next rest names.1 parts.1)
 
-  body_declares : (body : Body) → BodyHoldsNoReference body → EveryNameOf (λ n. nodes n ≡ x.nodes n) body
+  body_declares : (body : Body) → EveryNameOf (λ n. nodes n ≡ x.nodes n) body
       → AreTop x.graph made 0 (laid_body nodes 0 body).makes
       → Declares x (node_of made (laid_body nodes 0 body).root) (Some body)
-  body_declares (Variable v) base names top =
-      (top.0.0, top.0.1, top.0.2, top.0.3 ∙ ap graph.Var (value_same x.nodes v base))
-  body_declares (Computed f kept) base names top = shows 0 f base names top
-  body_declares body base names top = absurd base
+  body_declares (Variable v) names top =
+      (top.0.0, top.0.1, top.0.2, top.0.3 ∙ ap graph.Var (value_same nodes x.nodes v names))
+  body_declares (Computed f kept) names top = shows 0 f names top
+  body_declares body names top = absurd names
 
 pub root_declares : RootDeclares
-root_declares x nodes made body base names stands all =
-    body_declares x nodes made body base names (top_each x.graph made 0 makes top)
+root_declares nodes body x made names stands all =
+    body_declares x nodes made body names (top_each x.graph made 0 makes top)
   where
     makes : List Open
     makes = (laid_body nodes 0 body).makes
 
-    top : (i : ℕ) (o : Open) → slice_get makes i ≡ Some o → IsTop x.graph (node_at made (0 + i)) (filled made o)
+    top : (i : ℕ) (o : Open) → slice_get makes i ≡ Some o → IsTop x.graph (made_node made (0 + i)) (filled made o)
     top i o at =
         let here : i ≡ 0 + i = omega arith in
         let within : i < length made = omega (arith, slice_get_within makes i o at, all) in
-        subst (λ j. IsTop x.graph (node_at made j) (filled made o)) here (stands.top i o at within)
+        subst (λ j. IsTop x.graph (made_node made j) (filled made o)) here (stands.top i o at within)

@@ -1,14 +1,12 @@
 -- The nodes to be made for a formula: those of arguments and elements before their application or fold, and none for a
 -- bare name.
-use Rattle.std.specs.Prelude.{◌+◌, ℕ, List, [], ◌∷◌, ◌++◌, length, Option, None, Some}
+use Rattle.std.specs.Prelude.{◌+◌, ℕ, List, [], ◌∷◌, ◌++◌, length}
 use Rattle.inc_value.specs.declared.function.FnRef.{FnRef}
 use Rattle.inc_value.specs.declared.node.NodeId.{NodeId}
 use Rattle.inc_value.specs.declared.value.Value.{Value}
-use Rattle.script_model.specs.Check as command
 use Rattle.script_model.specs.Formula as script
 use Rattle.script_model.specs.Formula.{Formula, Formulas, Body, Literal, Name, Apply, End, More, Variable, Computed}
-use Rattle.script_model.specs.Formula.{places_of_body}
-use Rattle.script_model.specs.Values.{to_engine}
+use Rattle.transfer.specs.Both.{graph_value}
 use Rattle.formula_elab.specs.Opened.{no_node, node_at}
 use Rattle.formula_elab.specs.declared.opened.Open.{Open}
 use Rattle.formula_elab.specs.declared.opened.Open.TheVariants.{Const, Var, Map, Fold}
@@ -54,11 +52,11 @@ laid_before first rest = record { makes = first.makes ++ rest.makes; roots = fir
 abbrev mutual
   -- what is to be made for a formula, the first as the start-th, over the nodes of names; no other form is laid out
   pub laid : (ℕ → NodeId) → ℕ → Formula → Laid
-  laid nodes start (Literal v) = laid_one start (Const (to_engine v))
+  laid nodes start (Literal v) = laid_one start (Const (graph_value nodes v))
   laid nodes start (Name n) = laid_given (nodes n)
   laid nodes start (Apply function arguments) = laid_behind start function (laid_each nodes start arguments)
   laid nodes start (script.Fold function first elements) =
-      laid_fold start function (to_engine first) (laid_each nodes start elements)
+      laid_fold start function (graph_value nodes first) (laid_each nodes start elements)
   laid nodes start f = laid_given no_node
 
   -- what is to be made for formulas, one after the other
@@ -69,7 +67,7 @@ abbrev mutual
 
 -- what is to be made for what is declared: a variable is one node
 abbrev pub laid_body : (ℕ → NodeId) → ℕ → Body → Laid
-laid_body nodes start (Variable v) = laid_one start (Var (to_engine v))
+laid_body nodes start (Variable v) = laid_one start (Var (graph_value nodes v))
 laid_body nodes start (Computed f kept) = laid nodes start f
 laid_body nodes start body = laid_given no_node
 
@@ -84,18 +82,3 @@ each_laid_next ids makes fs = laid_each (node_at ids) (length makes) fs
 -- so for what is declared
 abbrev pub body_laid_next : List NodeId → List Open → Body → Laid
 body_laid_next ids makes body = laid_body (node_at ids) (length makes) body
-
--- what is to be made for a command: only a declaration needs any
-abbrev pub makes_of : (ℕ → NodeId) → command.Command → List Open
-makes_of nodes (command.Declare name ty body) = (laid_body nodes 0 body).makes
-makes_of nodes other = []
-
--- the node of what a command declares
-abbrev pub root_of : (ℕ → NodeId) → command.Command → Option Part
-root_of nodes (command.Declare name ty body) = Some (laid_body nodes 0 body).root
-root_of nodes other = None
-
--- the places of what a command declares
-abbrev pub places_of_command : command.Command → ℕ
-places_of_command (command.Declare name ty body) = places_of_body body
-places_of_command other = 0

@@ -1,5 +1,6 @@
 pub mod Laying
 pub mod Made
+pub mod Make
 pub mod Names
 pub mod Opened
 pub mod Plan

@@ -1,54 +1,38 @@
--- A graph in which what was to be made for a command was made.
+-- A graph in which what was to be made for a declaration was made.
 use Rattle.std.specs.Prelude.{◌≡◌, ◌<◌, ◌≤◌, ◌++◌, ℕ, Bool, List, [], ◌∷◌, length, Some, slice_get}
-use Rattle.inc_value.specs.Ty.{IsBase}
-use Rattle.inc_value.specs.declared.function.FnRef.{FnRef}
 use Rattle.inc_value.specs.declared.node.NodeId.{NodeId}
-use Rattle.inc_value.specs.declared.ty.Ty.{Ty}
 use Rattle.inc_terms.specs.Graph.{Graph, Row, Def}
-use Rattle.formula_lang.specs.Fits.{BodyFits}
-use Rattle.script_model.specs.Check.{Names}
-use Rattle.script_model.specs.Formula.{Formula, Formulas, Body, Literal, Name, Apply, Fold, End, More, Variable, Computed}
-use Rattle.script_model.specs.Formula.{places_of_body}
-use Rattle.script_model.specs.Values.{type_of}
+use Rattle.script_model.specs.Formula.{Body, places_of_body}
 use Rattle.transfer.specs.Both.{Both}
 use Rattle.transfer.specs.Shows.{IsTop, Declares}
 use Rattle.formula_elab.specs.Laying.{laid_body}
 use Rattle.formula_elab.specs.Names.{EveryNameOf}
-use Rattle.formula_elab.specs.Opened.{node_at, node_of, filled, AreInOrder}
-use Rattle.formula_elab.specs.Plan.{next_def}
+use Rattle.formula_elab.specs.Make as make
+use Rattle.formula_elab.specs.Opened.{made_node, node_of, filled, AreInOrder}
+use Rattle.formula_elab.specs.Plan.{next_make}
+use Rattle.formula_elab.specs.declared.make.Made.{Made}
+use Rattle.formula_elab.specs.declared.make.Made.TheVariants.{Node}
 use Rattle.formula_elab.specs.declared.opened.Open.{Open}
+use Rattle.formula_elab.specs.declared.opened.Part.{Part}
 
 -- what was made so far stands in the graph in this order: live nodes outside all scopes, each defined as it was to be
-pub record StandsIn (G : Graph) (makes : List Open) (made : List NodeId) : Type 0 where
+pub record StandsIn (G : Graph) (makes : List Open) (made : List Made) : Type 0 where
   pub order : AreInOrder 0 makes
   pub top : (i : ℕ) (x : Open) → slice_get makes i ≡ Some x → i < length made
-      → IsTop G (node_at made i) (filled made x)
+      → IsTop G (made_node made i) (filled made x)
 
 -- rows of live nodes stay
 abbrev pub RowsStay : Graph → Graph → Type 0
 RowsStay G G' = (n : NodeId) (r : Row) → G.row n ≡ Some r → G'.row n ≡ Some r
 
--- ---- literals
+-- ---- what is to be made for a declaration
 
-abbrev mutual
-  -- the formula is of a form that is laid out, and no literal in it is a reference
-  pub HoldsNoReference : Formula → Type 0
-  HoldsNoReference (Literal v) = IsBase (type_of v)
-  HoldsNoReference (Name n) = Unit {0}
-  HoldsNoReference (Apply function arguments) = HoldNoReference arguments
-  HoldsNoReference (Fold function first elements) = IsBase (type_of first) × HoldNoReference elements
-  HoldsNoReference f = ⊥
-
-  -- so are all of the formulas
-  pub HoldNoReference : Formulas → Type 0
-  HoldNoReference End = Unit {0}
-  HoldNoReference (More f rest) = HoldsNoReference f × HoldNoReference rest
-
--- so is what is declared, and a variable's value is no reference
-abbrev pub BodyHoldsNoReference : Body → Type 0
-BodyHoldsNoReference (Variable v) = IsBase (type_of v)
-BodyHoldsNoReference (Computed f kept) = HoldsNoReference f
-BodyHoldsNoReference body = ⊥
+-- in every graph in which all of it was made, and in which the names have these nodes, the root is the node of what is
+-- declared
+abbrev pub ShowsOnceMade : (ℕ → NodeId) → Body → List Open → Part → Type 0
+ShowsOnceMade nodes body makes root =
+    (x : Both) (made : List Made) → EveryNameOf (λ n. nodes n ≡ x.nodes n) body
+    → StandsIn x.graph makes made → length makes ≤ length made → Declares x (node_of made root) (Some body)
 
 -- ---- laws
 
@@ -67,19 +51,11 @@ NoneStands = (G : Graph) (makes : List Open) → AreInOrder 0 makes → StandsIn
 
 -- where rows stay, so does what was made, and one more stands, if the next is made
 abbrev pub OneMoreStands : Type 0
-OneMoreStands = (G G' : Graph) (makes : List Open) (made : List NodeId) (def : Def) (n : NodeId)
-    → StandsIn G makes made → RowsStay G G' → next_def makes made ≡ Some def → IsTop G' n def
-    → StandsIn G' makes (made ++ n ∷ [])
+OneMoreStands = (G G' : Graph) (makes : List Open) (made : List Made) (def : Def) (n : NodeId)
+    → StandsIn G makes made → RowsStay G G' → next_make makes made ≡ Some (make.Node def) → IsTop G' n def
+    → StandsIn G' makes (made ++ Node n ∷ [])
 
 -- where all of it was made, the root is the node of what is declared
 abbrev pub RootDeclares : Type 0
-RootDeclares = (x : Both) (nodes : ℕ → NodeId) (made : List NodeId) (body : Body)
-    → BodyHoldsNoReference body → EveryNameOf (λ n. nodes n ≡ x.nodes n) body
-    → StandsIn x.graph (laid_body nodes 0 body).makes made → length (laid_body nodes 0 body).makes ≤ length made
-    → Declares x (node_of made (laid_body nodes 0 body).root) (Some body)
-
--- what fits the names of a script holds no reference
-abbrev pub FittingHoldsNoReference : Type 0
-FittingHoldsNoReference =
-    (known : FnRef → Bool) (names : Names) (body : Body) (ty : Ty) → BodyFits known names body ty
-    → BodyHoldsNoReference body
+RootDeclares = (nodes : ℕ → NodeId) (body : Body)
+    → ShowsOnceMade nodes body (laid_body nodes 0 body).makes (laid_body nodes 0 body).root

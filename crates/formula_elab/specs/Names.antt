@@ -1,15 +1,20 @@
--- The names in a formula.
+-- The names in a formula, those that its values refer to among them.
 use Rattle.std.specs.Prelude.{ℕ}
-use Rattle.script_model.specs.Check as command
 use Rattle.script_model.specs.Formula.{Formula, Formulas, Body, Literal, Name, Apply, Fold, End, More, Variable, Computed}
+use Rattle.script_model.specs.Values.{Value, Reference}
+
+-- what the value refers to, if anything, has the property
+abbrev pub EveryReference : (ℕ → Type 0) → Value → Type 0
+EveryReference P (Reference target base) = P target
+EveryReference P v = Unit {0}
 
 abbrev mutual
   -- the formula is of a form that is laid out, and every name in it has the property
   pub EveryName : (ℕ → Type 0) → Formula → Type 0
-  EveryName P (Literal v) = Unit {0}
+  EveryName P (Literal v) = EveryReference P v
   EveryName P (Name n) = P n
   EveryName P (Apply function arguments) = EveryNameOfAll P arguments
-  EveryName P (Fold function first elements) = EveryNameOfAll P elements
+  EveryName P (Fold function first elements) = EveryReference P first × EveryNameOfAll P elements
   EveryName P f = ⊥
 
   -- so are all of the formulas
@@ -19,11 +24,6 @@ abbrev mutual
 
 -- so is what is declared
 abbrev pub EveryNameOf : (ℕ → Type 0) → Body → Type 0
-EveryNameOf P (Variable v) = Unit {0}
+EveryNameOf P (Variable v) = EveryReference P v
 EveryNameOf P (Computed f kept) = EveryName P f
 EveryNameOf P body = ⊥
-
--- so is what the command declares, if anything
-abbrev pub EveryNameIn : (ℕ → Type 0) → command.Command → Type 0
-EveryNameIn P (command.Declare name ty body) = EveryNameOf P body
-EveryNameIn P other = Unit {0}

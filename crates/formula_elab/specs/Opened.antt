@@ -1,13 +1,12 @@
 -- Nodes to be made, some of whose nodes aren't made yet.
 use Rattle.std.specs.Prelude.{◌<◌, ℕ, suc, List, [], ◌∷◌, All, map, slice_index_or}
 use Rattle.inc_value.specs.declared.node.NodeId.{NodeId}
-use Rattle.inc_terms.specs.Code.{def_of}
 use Rattle.inc_terms.specs.Graph as graph
 use Rattle.inc_terms.specs.Graph.{Def}
-use Rattle.formula_elab.specs.declared.make.Make.{Make}
-use Rattle.formula_elab.specs.declared.make.Make.TheVariants.{Node as MakeNode}
+use Rattle.formula_elab.specs.Make as make
+use Rattle.formula_elab.specs.Make.{Make, node_made}
 use Rattle.formula_elab.specs.declared.make.Made.{Made}
-use Rattle.formula_elab.specs.declared.make.Made.TheVariants.{Node as MadeNode}
+use Rattle.formula_elab.specs.declared.make.Made.TheVariants.{Node}
 use Rattle.formula_elab.specs.declared.opened.Open.{Open}
 use Rattle.formula_elab.specs.declared.opened.Open.TheVariants.{Const, Var, Map, Fold}
 use Rattle.formula_elab.specs.declared.opened.Part.{Part}
@@ -21,25 +20,25 @@ no_node = record { slot = 0; gen_ = 0 }
 abbrev pub node_at : List NodeId → ℕ → NodeId
 node_at nodes i = slice_index_or nodes i no_node
 
--- the node that was given, or made as the i-th
-abbrev pub node_of : List NodeId → Part → NodeId
-node_of made (Given n) = n
-node_of made (Numbered i) = node_at made i
+-- the node that was made as the i-th
+abbrev pub made_node : List Made → ℕ → NodeId
+made_node made i = node_made (slice_index_or made i (Node no_node))
 
--- the definition, with the nodes that were made
-abbrev pub filled : List NodeId → Open → Def
+-- the node that was given, or made as the i-th
+abbrev pub node_of : List Made → Part → NodeId
+node_of made (Given n) = n
+node_of made (Numbered i) = made_node made i
+
+-- the definition, with what was made
+abbrev pub filled : List Made → Open → Def
 filled made (Const v) = graph.Const v
 filled made (Var v) = graph.Var v
 filled made (Map f parts) = graph.Map f (map (node_of made) parts)
 filled made (Fold f v parts) = graph.Fold f v (map (node_of made) parts)
 
--- the definition of the node that is to be made
-abbrev pub def_to_make : Make → Def
-def_to_make (MakeNode def) = def_of def
-
--- the node that was made
-abbrev pub node_made : Made → NodeId
-node_made (MadeNode n) = n
+-- what is to be made of it
+abbrev pub to_make : List Made → Open → Make
+to_make made x = make.Node (filled made x)
 
 -- ---- order
 

@@ -1,6 +1,5 @@
 //! Laws of the definitions. Each function does nothing: its contract is the law.
 ghost use Rattle.formula_elab.specs.Made.{LaidInOrder, OneMakeEach, NoneStands, OneMoreStands, RootDeclares};
-ghost use Rattle.formula_elab.specs.Made.{FittingHoldsNoReference};
 
 /// What is to be made for what is declared needs only nodes that are made before it.
 pub fn laid_in_order()
@@ -25,9 +24,4 @@ pub fn one_more_stands()
 /// Where all of it stands, the root is the node of what is declared.
 pub fn root_declares()
     ensures { RootDeclares }
-{}
-
-/// What fits the names of a script holds no reference.
-pub fn fitting_holds_no_reference()
-    ensures { FittingHoldsNoReference }
 {}

@@ -1,50 +1,34 @@
 //! Laying formulas out as nodes to be made.
-ghost use Rattle.std.specs.Prelude.{◌≡◌, ◌<◌, ◌++◌, [], false, Some, length, map, IfOk, OnOk};
-ghost use Rattle.formula_lang.specs.CommandView.{body_view, command_view, formula_view, formulas_of};
+ghost use Rattle.std.specs.Prelude.{◌≡◌, ◌<◌, ◌≤◌, ◌++◌, [], false, length, map, IfOk, OnOk};
+ghost use Rattle.formula_lang.specs.CommandView.{body_view, formula_view, formulas_of};
 ghost use Rattle.script_model.specs.Formula.{places_of_body};
-ghost use Rattle.formula_elab.specs.Laying.{laid_body, makes_of, root_of, places_of_command};
-ghost use Rattle.formula_elab.specs.Laying.{laid_next, each_laid_next, body_laid_next};
-ghost use Rattle.formula_elab.specs.Names.{EveryName, EveryNameOfAll, EveryNameOf, EveryNameIn};
-ghost use Rattle.formula_elab.specs.Opened.{node_at};
+ghost use Rattle.formula_elab.specs.Laying.{laid_body, laid_next, each_laid_next, body_laid_next};
+ghost use Rattle.formula_elab.specs.Made.{ShowsOnceMade};
+ghost use Rattle.formula_elab.specs.Names.{EveryName, EveryNameOfAll, EveryNameOf};
+ghost use Rattle.formula_elab.specs.Opened.{node_at, AreInOrder};
 
 use crate::opened::{Open, Part, Parts};
 use crate::plan::Plan;
-use formula_lang::{Command, Declaration, Formula};
+use crate::value::value_of;
+use formula_lang::{Declaration, Formula};
 use inc_value::NodeId;
 use std::alloc::{AllocError, Global};
 
-/// What is to be made in a graph for a command, where the nodes of the declarations stand by position. Only a
-/// declaration has something to be made: a node for each place of its formula, inner ones first.
-pub fn elaborate(alloc: Global, command: &Command, ids: &[NodeId]) -> Result<Plan, AllocError>
-    requires names { EveryNameIn (λ n. n < length ids.now) (command_view command.now) }
-    ensures makes { IfOk result (λ plan. plan.makes ≡ makes_of (node_at ids.now) (command_view command.now)) }
-    ensures root { IfOk result (λ plan. plan.root ≡ root_of (node_at ids.now) (command_view command.now)) }
-    ensures made { IfOk result (λ plan. plan.made ≡ []) }
-    ensures waits { IfOk result (λ plan. plan.is_waiting ≡ false) }
-    ensures places { IfOk result (λ plan. length plan.makes ≡ places_of_command (command_view command.now)) }
-{
-    match command {
-        Command::Declare { body, .. } => elaborate_body(alloc, body, ids),
-        Command::Assign { .. }
-        | Command::Observe { .. }
-        | Command::Unobserve { .. }
-        | Command::Stabilize
-        | Command::Show { .. } => Ok(Plan::new(alloc, Vec::new(alloc), None)),
-    }
-}
-
-/// What is to be made for what is declared.
-fn elaborate_body(alloc: Global, body: &Declaration, ids: &[NodeId]) -> Result<Plan, AllocError>
+/// What is to be made in a graph for what is declared, where the nodes of the declarations stand by position: at most a
+/// node for each place of its formula, inner ones first.
+pub fn elaborate(alloc: Global, body: &Declaration, ids: &[NodeId]) -> Result<Plan, AllocError>
     requires names { EveryNameOf (λ n. n < length ids.now) (body_view body.now) }
-    ensures makes { IfOk result (λ plan. plan.makes ≡ (laid_body (node_at ids.now) 0 (body_view body.now)).makes) }
-    ensures root { IfOk result (λ plan. plan.root ≡ Some (laid_body (node_at ids.now) 0 (body_view body.now)).root) }
+    ensures order { IfOk result (λ plan. AreInOrder 0 plan.makes) }
+    ensures places { IfOk result (λ plan. length plan.makes ≤ places_of_body (body_view body.now)) }
+    ensures declares { IfOk result (λ plan. ShowsOnceMade (node_at ids.now) (body_view body.now) plan.makes plan.root) }
     ensures made { IfOk result (λ plan. plan.made ≡ []) }
     ensures waits { IfOk result (λ plan. plan.is_waiting ≡ false) }
-    ensures places { IfOk result (λ plan. length plan.makes ≡ places_of_body (body_view body.now)) }
+    ensures makes { IfOk result (λ plan. plan.makes ≡ (laid_body (node_at ids.now) 0 (body_view body.now)).makes) }
+    ensures root { IfOk result (λ plan. plan.root ≡ (laid_body (node_at ids.now) 0 (body_view body.now)).root) }
 {
     let mut makes = Vec::new(alloc);
     let root = lay_body(alloc, body, ids, &mut makes)?;
-    Ok(Plan::new(alloc, makes, Some(root)))
+    Ok(Plan::new(alloc, makes, root))
 }
 
 /// Lays out what is declared behind what is to be made already. The answer is its node.
@@ -62,7 +46,7 @@ fn lay_body(
     match body {
         Declaration::Variable(value) => {
             let root = Part::Made(makes.len());
-            makes.push(Open::Var(value.value(alloc)?))?;
+            makes.push(Open::Var(value_of(alloc, value, ids)?))?;
             Ok(root)
         }
         Declaration::Computed(formula) => lay(alloc, formula, ids, makes),
@@ -85,7 +69,7 @@ fn lay(
     match formula {
         Formula::Literal(value) => {
             let root = Part::Made(makes.len());
-            makes.push(Open::Const(value.value(alloc)?))?;
+            makes.push(Open::Const(value_of(alloc, value, ids)?))?;
             Ok(root)
         }
         Formula::Name(position) => Ok(Part::Given(ids[*position])),
@@ -103,7 +87,7 @@ fn lay(
             first,
             elements,
         } => {
-            let first = first.value(alloc)?;
+            let first = value_of(alloc, first, ids)?;
             let elements = Parts::new(lay_each(alloc, elements, ids, makes)?);
             let root = Part::Made(makes.len());
             makes.push(Open::Fold(*function, first, elements))?;

@@ -1,4 +1,4 @@
-//! What scripts become in a graph: the nodes to be made for a command.
+//! What scripts become in a graph: the nodes to be made for a declaration.
 #![tactic(auto)]
 
 mod laws;
@@ -6,11 +6,10 @@ mod lay;
 mod make;
 mod opened;
 mod plan;
+mod value;
 
-pub use laws::{
-    fitting_holds_no_reference, laid_in_order, none_stands, one_make_each, one_more_stands,
-    root_declares,
-};
+pub use laws::{laid_in_order, none_stands, one_make_each, one_more_stands, root_declares};
 pub use lay::elaborate;
 pub use make::{Made, Make};
 pub use plan::Plan;
+pub use value::value_of;

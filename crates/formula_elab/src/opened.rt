@@ -3,6 +3,7 @@ ghost use Rattle.std.specs.Prelude.{◌≡◌, ◌<◌, All, length, map, IfOk};
 ghost use Rattle.inc_terms.specs.Code.{def_of};
 ghost use Rattle.formula_elab.specs.Opened.{node_of, filled, IsEarlier, NeedsEarlier};
 
+use crate::make::Made;
 use inc_terms::{Def, Nodes};
 use inc_value::{FnRef, NodeId, Value};
 use std::alloc::{AllocError, Global};
@@ -18,14 +19,14 @@ pub(crate) enum Part {
 }
 
 impl Part {
-    /// The node, where the nodes were made.
-    pub(crate) fn node(self, made: &[NodeId]) -> NodeId
+    /// The node, where this was made.
+    pub(crate) fn node(self, made: &[Made]) -> NodeId
         requires earlier { IsEarlier (length made.now) self }
         ensures { result ≡ node_of made.now self }
     {
         match self {
             Part::Given(node) => node,
-            Part::Made(number) => made[number],
+            Part::Made(number) => made[number].node(),
         }
     }
 }
@@ -71,8 +72,8 @@ pub(crate) enum Open {
 }
 
 impl Open {
-    /// The definition, with the nodes that were made.
-    pub(crate) fn filled(&self, alloc: Global, made: &[NodeId]) -> Result<Def, AllocError>
+    /// The definition, with what was made.
+    pub(crate) fn filled(&self, alloc: Global, made: &[Made]) -> Result<Def, AllocError>
         requires earlier { NeedsEarlier (length made.now) self.now }
         ensures { IfOk result (λ def. def_of def ≡ filled made.now self.now) }
     {
@@ -95,8 +96,8 @@ impl Open {
     }
 }
 
-/// The nodes in order, where the nodes were made.
-fn nodes_of(alloc: Global, parts: &[Part], made: &[NodeId]) -> Result<Vec<NodeId>, AllocError>
+/// The nodes in order, where this was made.
+fn nodes_of(alloc: Global, parts: &[Part], made: &[Made]) -> Result<Vec<NodeId>, AllocError>
     requires earlier { All (IsEarlier (length made.now)) parts.now }
     ensures { IfOk result (λ nodes. nodes.items ≡ map (node_of made.now) parts.now) }
 {

@@ -1,8 +1,9 @@
 //! Plans.
 ghost use Rattle.std.specs.Prelude.{◌≡◌, ◌↔◌, ◌≤◌, [], false, length, option_map, is_some};
-ghost use Rattle.std.specs.Prelude.{IfOk, IfSome, IsNone, IsSome, IsTrue, OnOk, OnErr};
-ghost use Rattle.formula_elab.specs.Opened.{def_to_make, IsEarlier, AreInOrder};
-ghost use Rattle.formula_elab.specs.Plan.{with_made, next_def, root_node, IsMade};
+ghost use Rattle.std.specs.Prelude.{IfOk, IsNone, IsSome, IsTrue, OnOk, OnErr};
+ghost use Rattle.formula_elab.specs.Make.{make_view};
+ghost use Rattle.formula_elab.specs.Opened.{IsEarlier, AreInOrder};
+ghost use Rattle.formula_elab.specs.Plan.{with_made, next_make, root_node, IsMade};
 
 use crate::make::{Made, Make};
 use crate::opened::{Open, Part};
@@ -10,15 +11,15 @@ use inc_value::NodeId;
 use std::alloc::{AllocError, Global};
 use std::marker::Model;
 
-/// What is to be made in a graph for a command, one after the other.
+/// What is to be made in a graph for a declaration, one after the other.
 #[derive(Drop)]
 pub struct Plan {
     alloc: Global,
     makes: Vec<Open>,
-    made: Vec<NodeId>,
+    made: Vec<Made>,
     /// Whether the last one asked for isn't known to be made.
     is_waiting: bool,
-    root: Option<Part>,
+    root: Part,
 }
 
 impl Model for Plan {
@@ -38,9 +39,9 @@ impl Model for Plan {
 
 impl Plan {
     /// The plan with nothing made yet.
-    pub(crate) fn new(alloc: Global, makes: Vec<Open>, root: Option<Part>) -> Plan
+    pub(crate) fn new(alloc: Global, makes: Vec<Open>, root: Part) -> Plan
         requires order { AreInOrder 0 makes.items }
-        requires root_within { IfSome root (IsEarlier (length makes.items)) }
+        requires root_within { IsEarlier (length makes.items) root }
         ensures { result ≡ record { makes = makes.items; made = []; is_waiting = false; root = root } }
     {
         Plan {
@@ -56,7 +57,7 @@ impl Plan {
     /// as it was, and can be asked the same again.
     pub fn next(&mut self, made: Option<Made>) -> Result<Option<Make>, AllocError>
         requires answered { IsSome made ↔ IsTrue self.old.is_waiting }
-        ensures make { IfOk result (λ make. option_map def_to_make make ≡ next_def self.new.makes self.new.made) }
+        ensures make { IfOk result (λ make. option_map make_view make ≡ next_make self.new.makes self.new.made) }
         ensures made { OnOk result (self.new.made ≡ with_made self.old.made made) }
         ensures waits { IfOk result (λ make. self.new.is_waiting ≡ is_some make) }
         ensures last { IfOk result (λ make. IsNone make ↔ IsMade self.new) }
@@ -66,8 +67,8 @@ impl Plan {
         ensures err { OnErr result (self.new ≡ self.old) }
     {
         let count = self.made.len();
-        if let Some(Made::Node(node)) = made {
-            self.made.push(node)?;
+        if let Some(made) = made {
+            self.made.push(made)?;
         }
         match make_behind(self.alloc, &self.makes, &self.made) {
             Ok(make) => {
@@ -81,20 +82,19 @@ impl Plan {
         }
     }
 
-    /// The node of what the command declares, if it declares anything, once all is made: the last one made, or the one
-    /// that a bare name stands for.
-    pub fn root(&self) -> Option<NodeId>
+    /// The node of what is declared, once all is made: the last one made, or the one that a bare name stands for.
+    pub fn root(&self) -> NodeId
         requires made { IsMade self.now }
         ensures { result ≡ root_node self.now }
     {
-        self.root.map(|part| part.node(&self.made))
+        self.root.node(&self.made)
     }
 }
 
-/// What is to be made next, where the nodes were made.
-fn make_behind(alloc: Global, makes: &[Open], made: &[NodeId]) -> Result<Option<Make>, AllocError>
+/// What is to be made next, where this was made.
+fn make_behind(alloc: Global, makes: &[Open], made: &[Made]) -> Result<Option<Make>, AllocError>
     requires order { AreInOrder 0 makes.now }
-    ensures { IfOk result (λ make. option_map def_to_make make ≡ next_def makes.now made.now) }
+    ensures { IfOk result (λ make. option_map make_view make ≡ next_make makes.now made.now) }
 {
     match makes.get(made.len()) {
         Some(open) => Ok(Some(Make::Node(open.filled(alloc, made)?))),

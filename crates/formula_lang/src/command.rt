@@ -1,12 +1,10 @@
 //! Commands whose names, functions and types are checked.
-ghost use Rattle.std.specs.Prelude.{◌≡◌, IfOk};
+ghost use Rattle.std.specs.Prelude.{◌≡◌};
 ghost use Rattle.script_model.specs.Check.{target_of_body};
-ghost use Rattle.script_model.specs.Values.{to_engine};
-ghost use Rattle.formula_lang.specs.CommandView.{body_view, constant_view};
+ghost use Rattle.formula_lang.specs.CommandView.{body_view};
 
-use inc_value::{Base, FnRef, NodeId, Text, Ty, Value};
+use inc_value::{Base, FnRef, Text, Ty};
 use line_parser::Name;
-use std::alloc::{AllocError, Global};
 
 /// A value as a command holds it.
 #[derive(Drop)]
@@ -16,30 +14,6 @@ pub enum Constant {
     Text(Text),
     /// The declaration at the position, whose values have the base type.
     Reference { target: usize, base: Base },
-}
-
-impl Constant {
-    /// The value, where the position of a declaration stands for its node. Only a text needs memory.
-    pub fn value(&self, alloc: Global) -> Result<Value, AllocError>
-        ensures { IfOk result (λ v. v ≡ to_engine (constant_view self.now)) }
-    {
-        Ok(match self {
-            Constant::Int(number) => Value::Int(*number),
-            Constant::Bool(truth) => Value::Bool(*truth),
-            Constant::Text(text) => Value::Text(text.copy(alloc)?),
-            Constant::Reference { target, base } => Value::Node(node_at(*target), *base),
-        })
-    }
-}
-
-/// What stands for the node of the declaration at a position.
-fn node_at(position: usize) -> NodeId
-    ensures { result ≡ record { slot = position; gen_ = position } }
-{
-    NodeId {
-        slot: position,
-        gen_: position as u64,
-    }
 }
 
 /// A formula with a position for each name and a reference for each function.

@@ -1,14 +1,13 @@
 //! A plan carried out.
-ghost use Rattle.std.specs.Prelude.{◌≡◌, ◌<◌, false, IfOk, IfSome, IsTrue};
-ghost use Rattle.formula_lang.specs.CommandView.{command_view, formula_view};
-ghost use Rattle.formula_elab.specs.Names.{EveryName, EveryNameIn};
+ghost use Rattle.std.specs.Prelude.{◌≡◌, ◌<◌, false, IfSome, IsTrue};
+ghost use Rattle.formula_lang.specs.CommandView.{formula_view};
+ghost use Rattle.formula_elab.specs.Names.{EveryName};
 
 use formula_elab::{Made, Make, Plan, elaborate};
-use formula_lang::{Command, Constant, Declaration, Formula};
+use formula_lang::{Constant, Declaration, Formula};
 use inc_terms::Def;
-use inc_value::{FnRef, NodeId, Ty, Value};
-use line_parser::Name;
-use std::alloc::{AllocError, Global};
+use inc_value::{FnRef, NodeId, Value};
+use std::alloc::Global;
 use std_library::Function;
 
 /// The node of this number.
@@ -74,18 +73,6 @@ fn formula(alloc: Global) -> Option<Formula>
     }
 }
 
-/// The declaration of the formula as `s`.
-fn declared(alloc: Global, formula: Formula) -> Result<Command, AllocError>
-    requires { EveryName (λ n. n < 1) (formula_view formula) }
-    ensures { IfOk result (λ command. EveryNameIn (λ n. n < 1) (command_view command)) }
-{
-    Ok(Command::Declare {
-        name: Name::new(alloc, b"s")?,
-        ty: Ty::Int,
-        body: Declaration::Computed(formula),
-    })
-}
-
 /// Whether the first to be made is the constant 2.
 fn begins_with_two(plan: &mut Plan) -> bool
     requires { plan.old.is_waiting ≡ false }
@@ -138,7 +125,7 @@ fn ends_with(plan: &mut Plan, made: NodeId) -> bool
     requires { IsTrue plan.old.is_waiting }
 {
     match plan.next(Some(Made::Node(made))) {
-        Ok(None) => plan.root() == Some(made),
+        Ok(None) => plan.root() == made,
         Ok(Some(make)) => {
             drop(make);
             false
@@ -163,14 +150,10 @@ fn planned(alloc: Global, formula: Formula) -> Option<Plan>
     requires { EveryName (λ n. n < 1) (formula_view formula) }
     ensures { IfSome result (λ plan. plan.is_waiting ≡ false) }
 {
-    match declared(alloc, formula) {
-        Ok(command) => {
-            let plan = elaborate(alloc, &command, &[node(7)]);
-            drop(command);
-            plan.ok()
-        }
-        Err(_) => None,
-    }
+    let body = Declaration::Computed(formula);
+    let plan = elaborate(alloc, &body, &[node(7)]);
+    drop(body);
+    plan.ok()
 }
 
 /// Whether the total is made so.

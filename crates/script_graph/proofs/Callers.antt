@@ -4,7 +4,10 @@ use Rattle.std.specs.List.{sum_by}
 use Rattle.std.proofs.lemmas.List.{length-map}
 use Rattle.std.proofs.lemmas.List.Sums.{sum_by-append, sum_by-cons}
 use Rattle.formula_elab.specs.Laying.{laid, laid_each, laid_body}
-use Rattle.formula_elab.specs.Opened.{node_at, node_of, filled}
+use Rattle.formula_elab.specs.Make.{node_made}
+use Rattle.formula_elab.specs.Opened.{made_node, node_of, filled}
+use Rattle.formula_elab.specs.declared.make.Made.{Made}
+use Rattle.formula_elab.specs.declared.make.Made.TheVariants.{Node as NodeMade}
 use Rattle.formula_elab.specs.declared.opened.Open.{Open}
 use Rattle.formula_elab.specs.declared.opened.Open.TheVariants.{Const, Var, Map, Fold as OpenFold}
 use Rattle.graph.specs.Standing.{Standing}
@@ -17,10 +20,10 @@ use Rattle.inc_value.specs.declared.node.NodeId.{NodeId}
 use Rattle.node_arena.specs.Arena.{Arena, row_at}
 use Rattle.node_arena.specs.Graph.{graph_of}
 use Rattle.script_model.specs.Formula.{State, Body, Formula, Formulas, Literal, Name, Apply, Fold, End, More, Variable, Computed}
-use Rattle.script_model.specs.Values.{to_engine}
 use Rattle.script_model.specs.Run.{calls_in, calls_in_all, count_in, calls_of_body, most_calls}
 use Rattle.script_graph.specs.Growing.{IsMaking}
 use Rattle.script_graph.specs.Today.{Caller, IsCaller, HasFewCalls}
+use Rattle.transfer.specs.Both.{graph_value}
 
 -- how many calls they make in all
 abbrev pub calls_by : List Caller → ℕ
@@ -84,24 +87,24 @@ pub calls_of_opens : List Open → ℕ
 calls_of_opens [] = 0
 calls_of_opens (x ∷ xs) = or_none (open_cost x) + calls_of_opens xs
 
-made_callers : List Open → List NodeId → List Caller
+made_callers : List Open → List Made → List Caller
 made_callers [] made = []
 made_callers (x ∷ xs) [] = []
-made_callers (x ∷ xs) (n ∷ ns) = caller_of n (open_cost x) ++ made_callers xs ns
+made_callers (x ∷ xs) (m ∷ ms) = caller_of (node_made m) (open_cost x) ++ made_callers xs ms
 
 one_caller : (n : NodeId) (cost : Option ℕ) → calls_by (caller_of n cost) ≡ or_none cost
 unfolding caller_of or_none
 one_caller n None = refl
 one_caller n (Some cost) = let size = sum_by-cons (λ (c : Caller). c.cost) (record { node = n; cost = cost }) [] in omega (arith, size)
 
-made_few : (xs : List Open) (ns : List NodeId) → calls_by (made_callers xs ns) ≤ calls_of_opens xs
+made_few : (xs : List Open) (ms : List Made) → calls_by (made_callers xs ms) ≤ calls_of_opens xs
 unfolding made_callers calls_of_opens
-made_few [] ns = omega arith
+made_few [] ms = omega arith
 made_few (x ∷ xs) [] = omega arith
-made_few (x ∷ xs) (n ∷ ns) =
-    let rest = made_few xs ns in
-    let one = one_caller n (open_cost x) in
-    let size = sum_by-append (λ (c : Caller). c.cost) (caller_of n (open_cost x)) (made_callers xs ns) in
+made_few (x ∷ xs) (m ∷ ms) =
+    let rest = made_few xs ms in
+    let one = one_caller (node_made m) (open_cost x) in
+    let size = sum_by-append (λ (c : Caller). c.cost) (caller_of (node_made m) (open_cost x)) (made_callers xs ms) in
     omega (arith, rest, one, size)
 
 caller_itself : (n : NodeId) (cost : ℕ) → Among (record { node = n; cost = cost }) (caller_of n (Some cost))
@@ -109,19 +112,20 @@ unfolding caller_of
 caller_itself n cost = inl refl
 
 -- a caller that was made is among them
-made_among : (xs : List Open) (ns : List NodeId) (i : ℕ) (x : Open) (cost : ℕ) → i < length ns → slice_get xs i ≡ Some x → open_cost x ≡ Some cost
-    → Among (record { node = node_at ns i; cost = cost }) (made_callers xs ns)
+made_among : (xs : List Open) (ms : List Made) (i : ℕ) (x : Open) (cost : ℕ) → i < length ms → slice_get xs i ≡ Some x → open_cost x ≡ Some cost
+    → Among (record { node = made_node ms i; cost = cost }) (made_callers xs ms)
 unfolding made_callers
-made_among [] ns i x cost low is calls = absurd (cc)
+made_among [] ms i x cost low is calls = absurd (cc)
 made_among (y ∷ xs) [] i x cost low is calls = absurd (omega (arith, low))
-made_among (y ∷ xs) (n ∷ ns) zero x cost low is calls =
+made_among (y ∷ xs) (m ∷ ms) zero x cost low is calls =
     let same : y ≡ x = cc in
     let here : open_cost y ≡ Some cost = ap open_cost same ∙ calls in
-    subst (λ (o : Option ℕ). Among (record { node = n; cost = cost }) (caller_of n o ++ made_callers xs ns)) (sym here)
-    (among_left (record { node = n; cost = cost }) (caller_of n (Some cost)) (made_callers xs ns) (caller_itself n cost))
-made_among (y ∷ xs) (n ∷ ns) (suc i) x cost low is calls =
-    among_right (record { node = node_at ns i; cost = cost }) (caller_of n (open_cost y)) (made_callers xs ns)
-    (made_among xs ns i x cost (omega (arith, low)) is calls)
+    let caller : Caller = record { node = node_made m; cost = cost } in
+    subst (λ (o : Option ℕ). Among caller (caller_of (node_made m) o ++ made_callers xs ms)) (sym here)
+    (among_left caller (caller_of (node_made m) (Some cost)) (made_callers xs ms) (caller_itself (node_made m) cost))
+made_among (y ∷ xs) (m ∷ ms) (suc i) x cost low is calls =
+    among_right (record { node = made_node ms i; cost = cost }) (caller_of (node_made m) (open_cost y)) (made_callers xs ms)
+    (made_among xs ms i x cost (omega (arith, low)) is calls)
 
 calls_append : (xs ys : List Open) → calls_of_opens (xs ++ ys) ≡ calls_of_opens xs + calls_of_opens ys
 unfolding calls_of_opens
@@ -146,7 +150,7 @@ module _ (nodes : ℕ → NodeId) where
         omega (arith, size, rest)
     calls_laid start (Fold function first elements) =
         let each = laid_each nodes start elements in
-        let size = calls_append each.makes (OpenFold function (to_engine first) each.roots ∷ []) in
+        let size = calls_append each.makes (OpenFold function (graph_value nodes first) each.roots ∷ []) in
         let rest = calls_laid_each start elements in
         let count = one_root_each start elements in
         omega (arith, size, rest, count)
@@ -170,7 +174,7 @@ module _ (nodes : ℕ → NodeId) where
 
 -- ---- a declaration was made
 
-filled_cost : (G : Graph) (n : NodeId) (made : List NodeId) (x : Open) → cost_of G n (filled made x) ≡ open_cost x
+filled_cost : (G : Graph) (n : NodeId) (made : List Made) (x : Open) → cost_of G n (filled made x) ≡ open_cost x
 unfolding open_cost
 filled_cost G n made (Const v) = refl
 filled_cost G n made (Var v) = refl
@@ -182,12 +186,12 @@ open_at [] i low = absurd (omega (arith, low))
 open_at (x ∷ xs) zero low = (x, refl)
 open_at (x ∷ xs) (suc i) low = open_at xs i (omega (arith, low))
 
-node_index : (n : NodeId) (ns : List NodeId) → Among n ns → (i : ℕ) × (i < length ns) × (node_at ns i ≡ n)
+node_index : (n : NodeId) (ms : List Made) → Among (NodeMade n) ms → (i : ℕ) × (i < length ms) × (made_node ms i ≡ n)
 node_index n [] among = absurd among
-node_index n (m ∷ ms) (inl same) = (0, omega arith, sym same)
+node_index n (m ∷ ms) (inl same) = (0, omega arith, ap node_made (sym same))
 node_index n (m ∷ ms) (inr among) = let rest = node_index n ms among in (suc rest.0, omega (arith, rest.1), rest.2)
 
-pub made_new_calls : {F : Type 0} (first now : Standing F) (makes : List Open) (made : List NodeId) (count : ℕ)
+pub made_new_calls : {F : Type 0} (first now : Standing F) (makes : List Open) (made : List Made) (count : ℕ)
     → IsMaking first now makes made → length made ≡ length makes → calls_of_opens makes ≤ count
     → HasNewCalls first.nodes now.nodes count
 made_new_calls first now makes made count h whole most = record {
@@ -199,7 +203,7 @@ made_new_calls first now makes made count h whole most = record {
   ];
 }
   where
-    is_made : (c : Caller) → IsCaller now.nodes c → (i : ℕ) × (i < length made) × (node_at made i ≡ c.node) → Among c (made_callers makes made)
+    is_made : (c : Caller) → IsCaller now.nodes c → (i : ℕ) × (i < length made) × (made_node made i ≡ c.node) → Among c (made_callers makes made)
     is_made c is (i, low, same) =
         let x = open_at makes i (omega (arith, low, whole)) in
         let top = h.stands.top i x.0 x.1 low in

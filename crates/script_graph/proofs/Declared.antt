@@ -7,7 +7,8 @@ use Rattle.formula_elab.specs.Laying.{laid_body}
 use Rattle.formula_elab.specs.Names.{EveryNameOf}
 use Rattle.formula_elab.specs.Opened.{node_at, node_of}
 use Rattle.formula_elab.specs.declared.opened.Open.{Open}
-use Rattle.formula_elab.proofs.Places.{one_each_of_body}
+use Rattle.formula_elab.specs.declared.make.Made.{Made}
+use Rattle.formula_elab.proofs.Places.{few_of_body}
 use Rattle.graph.specs.Effects.{Sets, TakesBack}
 use Rattle.graph.specs.Standing.{Standing}
 use Rattle.inc_value.specs.Value as engine
@@ -26,7 +27,7 @@ use Rattle.script_model.specs.Check.{Assign, Declare, Declared, Kind, Names, Var
 use Rattle.script_model.specs.Formula.{Body, meanings_of, places_of_body, Literal, Name, Apply, Fold, Variable, Computed}
 use Rattle.script_model.specs.Run.{calls_of_body}
 use Rattle.script_model.specs.Step.{Moment, declared_in, moved}
-use Rattle.script_model.specs.Values.{Value, to_engine}
+use Rattle.script_model.specs.Values.{Value}
 use Rattle.script_graph.specs.Growing.{Extends, IsMaking, PartFits, AllOpenFit}
 use Rattle.script_graph.specs.Kept as kept
 use Rattle.script_graph.specs.Kept.{Kept, node_in, HasNode, IsSound, without_functions}
@@ -40,6 +41,7 @@ use Rattle.script_graph.proofs.Callers.{HasNewCalls, WereLive, made_new_calls, c
 use Rattle.script_graph.proofs.Making.{reference_fits, value_given}
 use Rattle.script_graph.proofs.Setting.{setting_stands}
 use Rattle.script_graph.proofs.Sounding.{sound_declared, sound_on, sound_set}
+use Rattle.transfer.specs.Both.{graph_value}
 
 -- ---- the nodes of names
 
@@ -66,7 +68,7 @@ names_within known names nodes one_each body ty fits =
 
 -- ---- after a declaration
 
-variable_of : (known : FnRef → Bool) (names : Names) (a : Arena) (nodes : ℕ → NodeId) (made : List NodeId) (body : Body) (ty : Ty) → BodyFits known names body ty
+variable_of : (known : FnRef → Bool) (names : Names) (a : Arena) (nodes : ℕ → NodeId) (made : List Made) (body : Body) (ty : Ty) → BodyFits known names body ty
     → ((v : Value) → body ≡ Variable v → IsVariable a (node_of made (laid_body nodes 0 body).root))
     → kind_of_body body ≡ VariableKind → IsVariable a (node_of made (laid_body nodes 0 body).root)
 variable_of known names a nodes made (Variable v) ty fits is kind = is v refl
@@ -78,7 +80,7 @@ variable_of known names a nodes made (Computed f kept) ty fits is kind = absurd 
 variable_of known names a nodes made body ty fits is kind = absurd fits
 
 -- the target of what is declared has its node
-target_node : (known : FnRef → Bool) (names : Names) (nodes : List NodeId) (made : List NodeId) (body : Body) (ty : Ty) → BodyFits known names body ty
+target_node : (known : FnRef → Bool) (names : Names) (nodes : List NodeId) (made : List Made) (body : Body) (ty : Ty) → BodyFits known names body ty
     → ((position : ℕ) → position < length names.declared
     → node_at nodes position ≡ node_in (nodes ++ node_of made (laid_body (node_at nodes) 0 body).root ∷ []) position)
     → node_in (nodes ++ node_of made (laid_body (node_at nodes) 0 body).root ∷ []) (length names.declared) ≡ node_of made (laid_body (node_at nodes) 0 body).root
@@ -107,7 +109,7 @@ module _ {F : Type 0} (first now : Standing F) (names : Names) (nodes : List Nod
         stands_on named value before (without_functions now) sound sound' (extends_without first now more) fewer m
 
     module _ (known : FnRef → Bool) (name : List ℕ) (ty : Ty) (body : Body) (fits : DeclarationFits known names name ty body)
-        (made : List NodeId) (less : ℕ) (room_is : less + places_of_body body ≡ room) where
+        (made : List Made) (less : ℕ) (room_is : less + places_of_body body ≡ room) where
       abbrev makes : List Open
       makes = (laid_body (node_at nodes) 0 body).makes
 
@@ -138,8 +140,8 @@ module _ {F : Type 0} (first now : Standing F) (names : Names) (nodes : List Nod
             let inside : position < length nodes = (let each = h.one_node_each in omega (arith, low, each)) in
             same_default nodes position inside ∙ sym (get_or_append_left nodes (root ∷ []) kept.no_node position inside)
 
-        size : length makes ≡ places_of_body body
-        size = one_each_of_body (λ n. n < length nodes) (node_at nodes) body (names_within known names nodes h.one_node_each body ty fits.body_fits)
+        size : length makes ≤ places_of_body body
+        size = few_of_body (λ n. n < length nodes) (node_at nodes) body (names_within known names nodes h.one_node_each body ty fits.body_fits)
 
         few : live now.nodes + less ≤ 1048575
         few = let room = h.few in omega (arith, making.few, room, room_is, whole, size)
@@ -181,7 +183,7 @@ module _ {F : Type 0} (first now : Standing F) (names : Names) (nodes : List Nod
     set_sound = sound_set before h sound (without_functions now) (node_in nodes target) w sets_without
 
     pub set_stands : AssignmentFits names target (engine.type_of w) → (named : List ℕ → Option FnRef) (value : FnRef → List GraphValue → GraphValue)
-        (m : Moment) (v : Value) → to_engine v ≡ w → MatchesMoment (meanings_of named value) before m
+        (m : Moment) (v : Value) → graph_value (node_in nodes) v ≡ w → MatchesMoment (meanings_of named value) before m
         → MatchesMoment (meanings_of named value) returned (moved m (Assign target v))
     set_stands fits named value m v is = setting_stands named value before (without_functions now) sound sound' m target w v is sets_without fits
 

@@ -6,12 +6,12 @@ use Rattle.std.proofs.lemmas.Option.{slice_get_within}
 use Rattle.formula_lang.specs.Fits.{ArgumentsFit, BodyFits, ElementsFit, FormulaFits, NameFits}
 use Rattle.formula_elab.specs.Laying.{laid, laid_each, laid_body}
 use Rattle.formula_elab.specs.Made.{StandsIn}
-use Rattle.formula_elab.specs.Names.{EveryName, EveryNameOfAll, EveryNameOf}
-use Rattle.formula_elab.specs.Opened.{node_at, node_of, IsEarlier}
+use Rattle.formula_elab.specs.Names.{EveryReference, EveryName, EveryNameOfAll, EveryNameOf}
+use Rattle.formula_elab.specs.Opened.{made_node, node_of, IsEarlier}
+use Rattle.formula_elab.specs.declared.make.Made.{Made}
 use Rattle.formula_elab.specs.declared.opened.Open.{Open}
 use Rattle.formula_elab.specs.declared.opened.Open.TheVariants.{Const, Var, Map, Fold as OpenFold}
 use Rattle.formula_elab.specs.declared.opened.Part.{Part}
-use Rattle.formula_elab.proofs.Fitting.{fitting_holds_no_reference}
 use Rattle.formula_elab.proofs.InOrder.{body_in_order}
 use Rattle.formula_elab.proofs.Showing.{root_declares}
 use Rattle.graph.specs.Standing.{Standing}
@@ -27,22 +27,31 @@ use Rattle.node_arena.specs.Graph.{graph_of}
 use Rattle.node_arena.specs.Sound as arena
 use Rattle.script_model.specs.Check.{Names}
 use Rattle.script_model.specs.Formula.{Formula, Formulas, Body, Literal, Name, Apply, Fold, End, More, Variable, Computed}
-use Rattle.script_model.specs.Values.{Value, Int, Bool as Truth, Text, Reference, type_of, to_engine}
+use Rattle.script_model.specs.Values.{Value, Int, Bool as Truth, Text, Reference, type_of}
 use Rattle.script_graph.specs.Growing.{IsMaking, PartFits, OpenFits, AllOpenFit}
 use Rattle.script_graph.specs.Today.{OwnNodes, OwnNodesOfAll, WholeNodes, OwnNodesOf}
 use Rattle.script_graph.proofs.Making.{part_row}
 use Rattle.script_graph.proofs.Owning.{own_nodes_of_on}
-use Rattle.transfer.specs.Both.{Both}
+use Rattle.transfer.specs.Both.{Both, graph_value}
 use Rattle.transfer.specs.Shows.{Declares}
 
-engine_type : (v : Value) → engine.type_of (to_engine v) ≡ type_of v
-engine_type (Int z) = refl
-engine_type (Truth b) = refl
-engine_type (Text bytes) = refl
-engine_type (Reference target b) = refl
+-- ---- values
 
-engine_base : (v : Value) (ty : Ty) → type_of v ≡ ty → IsBase ty → IsBase (engine.type_of (to_engine v))
-engine_base v ty is base = subst (λ (t : Ty). IsBase t) (sym (engine_type v ∙ is)) base
+graph_type : (nodes : ℕ → NodeId) (v : Value) → engine.type_of (graph_value nodes v) ≡ type_of v
+graph_type nodes (Int z) = refl
+graph_type nodes (Truth b) = refl
+graph_type nodes (Text bytes) = refl
+graph_type nodes (Reference target b) = refl
+
+graph_base : (nodes : ℕ → NodeId) (v : Value) (ty : Ty) → type_of v ≡ ty → IsBase ty → IsBase (engine.type_of (graph_value nodes v))
+graph_base nodes v ty is base = subst (λ (t : Ty). IsBase t) (sym (graph_type nodes v ∙ is)) base
+
+-- a value of a base type refers to nothing
+pub refers_nowhere : (P : ℕ → Type 0) (v : Value) (ty : Ty) → type_of v ≡ ty → IsBase ty → EveryReference P v
+refers_nowhere P (Int z) ty is base = tt
+refers_nowhere P (Truth b) ty is base = tt
+refers_nowhere P (Text bytes) ty is base = tt
+refers_nowhere P (Reference target b) ty is base = absurd (subst (λ (t : Ty). IsBase t) (sym is) base)
 
 -- ---- lists in a list
 
@@ -88,7 +97,7 @@ module _ (known : FnRef → Bool) (a : Arena) (all : List Open) (nodes : ℕ →
     formula_fits : (start : ℕ) (f : Formula) (ty : Ty) → FormulaFits known names f ty → SitsAt all start (laid nodes start f).makes
         → Every (OpenFits known a all) (laid nodes start f).makes × PartFits a all ty (laid nodes start f).root
     formula_fits start (Literal v) ty fits sits =
-        ((engine_base v ty fits.0 fits.1, tt), (Const (to_engine v), sits.0, engine_type v ∙ fits.0))
+        ((graph_base nodes v ty fits.0 fits.1, tt), (Const (graph_value nodes v), sits.0, graph_type nodes v ∙ fits.0))
     formula_fits start (Name n) ty fits sits = (tt, there n ty fits)
     formula_fits start (Apply f arguments) ty fits sits =
         let each = laid_each nodes start arguments in
@@ -99,19 +108,19 @@ module _ (known : FnRef → Bool) (a : Arena) (all : List Open) (nodes : ℕ →
         )
     formula_fits start (Fold f first elements) ty fits sits =
         let each = laid_each nodes start elements in
-        let parts = sits_split all start each.makes (OpenFold f (to_engine first) each.roots ∷ []) sits in
+        let parts = sits_split all start each.makes (OpenFold f (graph_value nodes first) each.roots ∷ []) sits in
         let rest = elements_fit start elements fits.0 fits.5 parts.0 in
-        let made : OpenFits known a all (OpenFold f (to_engine first) each.roots) = record {
+        let made : OpenFits known a all (OpenFold f (graph_value nodes first) each.roots) = record {
           element = fits.0;
           is_known = fits.1.is_known;
           kind = fits.1.kind;
           takes = fits.2.0 ∙ ap (λ (t : Ty). t ∷ fits.0 ∷ []) (sym fits.2.1);
-          initial = engine_type first ∙ (fits.3 ∙ sym fits.2.1);
-          base = engine_base first ty fits.3 fits.4;
+          initial = graph_type nodes first ∙ (fits.3 ∙ sym fits.2.1);
+          base = graph_base nodes first ty fits.3 fits.4;
           parts_fit = rest.1;
         } in (
-          every_append (OpenFits known a all) each.makes (OpenFold f (to_engine first) each.roots ∷ []) rest.0 (made, tt),
-          (OpenFold f (to_engine first) each.roots, parts.1.0, fits.2.1),
+          every_append (OpenFits known a all) each.makes (OpenFold f (graph_value nodes first) each.roots ∷ []) rest.0 (made, tt),
+          (OpenFold f (graph_value nodes first) each.roots, parts.1.0, fits.2.1),
         )
     formula_fits start f ty fits sits = absurd fits
 
@@ -141,7 +150,7 @@ module _ (known : FnRef → Bool) (a : Arena) (all : List Open) (nodes : ℕ →
 
   body_fits : (body : Body) (ty : Ty) → BodyFits known names body ty → SitsAt all 0 (laid_body nodes 0 body).makes
       → Every (OpenFits known a all) (laid_body nodes 0 body).makes × PartFits a all ty (laid_body nodes 0 body).root
-  body_fits (Variable v) ty fits sits = ((engine_base v ty fits.0 fits.1, tt), (Var (to_engine v), sits.0, engine_type v ∙ fits.0))
+  body_fits (Variable v) ty fits sits = ((graph_base nodes v ty fits.0 fits.1, tt), (Var (graph_value nodes v), sits.0, graph_type nodes v ∙ fits.0))
   body_fits (Computed f kept) ty fits sits = formula_fits 0 f ty fits.0 sits
   body_fits body ty fits sits = absurd fits
 
@@ -159,10 +168,10 @@ laid_fits known a nodes names there body ty fits =
 module _ (known : FnRef → Bool) (names : Names) (P : ℕ → Type 0) (named : (position : ℕ) (t : Ty) → NameFits names position t → P position) where
   mutual
     every_name : (f : Formula) (ty : Ty) → FormulaFits known names f ty → EveryName P f
-    every_name (Literal v) ty fits = tt
+    every_name (Literal v) ty fits = refers_nowhere P v ty fits.0 fits.1
     every_name (Name n) ty fits = named n ty fits
     every_name (Apply f arguments) ty fits = every_name_of_all arguments f.sig.takes fits.1
-    every_name (Fold f first elements) ty fits = every_name_of_each elements fits.0 fits.5
+    every_name (Fold f first elements) ty fits = (refers_nowhere P first ty fits.3 fits.4, every_name_of_each elements fits.0 fits.5)
     every_name f ty fits = absurd fits
 
     every_name_of_all : (fs : Formulas) (tys : List Ty) → ArgumentsFit known names fs tys → EveryNameOfAll P fs
@@ -176,17 +185,17 @@ module _ (known : FnRef → Bool) (names : Names) (P : ℕ → Type 0) (named : 
     every_name_of_each (More f rest) ty fits = (every_name f ty fits.0, every_name_of_each rest ty fits.1)
 
   pub every_name_of : (body : Body) (ty : Ty) → BodyFits known names body ty → EveryNameOf P body
-  every_name_of (Variable v) ty fits = tt
+  every_name_of (Variable v) ty fits = refers_nowhere P v ty fits.0 fits.1
   every_name_of (Computed f kept) ty fits = every_name f ty fits.0
   every_name_of body ty fits = absurd fits
 
 -- ---- its nodes
 
 -- the node was made, as one of the first so many
-abbrev IsMade : List NodeId → ℕ → NodeId → Type 0
-IsMade made bound n = (i : ℕ) × (i < bound) × (n ≡ node_at made i)
+abbrev IsMade : List Made → ℕ → NodeId → Type 0
+IsMade made bound n = (i : ℕ) × (i < bound) × (n ≡ made_node made i)
 
-module _ (known : FnRef → Bool) (G : Graph) (all : List Open) (made : List NodeId) (stands : StandsIn G all made) (whole : length made ≡ length all)
+module _ (known : FnRef → Bool) (G : Graph) (all : List Open) (made : List Made) (stands : StandsIn G all made) (whole : length made ≡ length all)
     (nodes : ℕ → NodeId) (names : Names) where
   top_at : (i : ℕ) (x : Open) → slice_get all i ≡ Some x → i < length made
   top_at i x at = let low = slice_get_within all i x at in omega (arith, low, whole)
@@ -212,13 +221,14 @@ module _ (known : FnRef → Bool) (G : Graph) (all : List Open) (made : List Nod
         )
     formula_owns start bound (Fold f first elements) ty fits sits low =
         let each = laid_each nodes start elements in
-        let made_fold = OpenFold f (to_engine first) each.roots in
+        let made_fold = OpenFold f (graph_value nodes first) each.roots in
         let parts = sits_split all start each.makes (made_fold ∷ []) sits in
         let last = start + length each.makes in
         let size = length-append each.makes (made_fold ∷ []) in
         let top = stands.top last made_fold parts.1.0 (top_at last made_fold parts.1.0) in (
           (last, omega (arith, low, size), refl),
           top.0,
+          graph_value nodes first,
           map (node_of made) each.roots,
           top.1,
           top.3,
@@ -270,13 +280,14 @@ module _ (known : FnRef → Bool) (G : Graph) (all : List Open) (made : List Nod
       )
   whole_owns (Fold f first elements) ty fits sits =
       let each = laid_each nodes 0 elements in
-      let made_fold = OpenFold f (to_engine first) each.roots in
+      let made_fold = OpenFold f (graph_value nodes first) each.roots in
       let parts = sits_split all 0 each.makes (made_fold ∷ []) sits in
       let last = 0 + length each.makes in
       let size = length-append each.makes (made_fold ∷ []) in
       let top = stands.top last made_fold parts.1.0 (top_at last made_fold parts.1.0) in (
         (last, omega (arith, size), refl),
         top.0,
+        graph_value nodes first,
         map (node_of made) each.roots,
         top.1,
         top.3,
@@ -292,7 +303,7 @@ module _ (known : FnRef → Bool) (G : Graph) (all : List Open) (made : List Nod
   body_owns body ty fits sits = absurd fits
 
 -- the nodes of a body were made from the first on, and none after the root
-module _ (known : FnRef → Bool) (names : Names) {F : Type 0} (first now : Standing F) (nodes : ℕ → NodeId) (made : List NodeId)
+module _ (known : FnRef → Bool) (names : Names) {F : Type 0} (first now : Standing F) (nodes : ℕ → NodeId) (made : List Made)
     (sound : arena.IsSound first.nodes) where
   abbrev makes_for : Body → List Open
   makes_for body = (laid_body nodes 0 body).makes
@@ -309,11 +320,11 @@ module _ (known : FnRef → Bool) (names : Names) {F : Type 0} (first now : Stan
   IsPartSince root n = (first.nodes.given ≤ n.gen_) × (n.gen_ < root.gen_)
 
   made_id : (body : Body) → IsMaking first now (makes_for body) made → length made ≡ length (makes_for body) → (i : ℕ) (n : NodeId)
-      → i < length (makes_for body) → n ≡ node_at made i → n.gen_ ≡ first.nodes.given + i
+      → i < length (makes_for body) → n ≡ made_node made i → n.gen_ ≡ first.nodes.given + i
   made_id body h whole i n low is = ap (λ (m : NodeId). m.gen_) is ∙ h.ids i (omega (arith, low, whole))
 
   between : (body : Body) → IsMaking first now (makes_for body) made → length made ≡ length (makes_for body) → (r : ℕ) → r < length (makes_for body)
-      → length (makes_for body) ≤ r + 1 → root_for body ≡ node_at made r → (n : NodeId) → IsMade made (length (makes_for body)) n
+      → length (makes_for body) ≤ r + 1 → root_for body ≡ made_node made r → (n : NodeId) → IsMade made (length (makes_for body)) n
       → IsSince (root_for body) n
   between body h whole r low high root n (i, less, is) =
       let id = made_id body h whole i n less is in
@@ -321,7 +332,7 @@ module _ (known : FnRef → Bool) (names : Names) {F : Type 0} (first now : Stan
       (omega (arith, id), omega (arith, id, last, less, high))
 
   before_root : (body : Body) → IsMaking first now (makes_for body) made → length made ≡ length (makes_for body) → (r : ℕ) → r < length (makes_for body)
-      → length (makes_for body) ≤ r + 1 → root_for body ≡ node_at made r → (n : NodeId) → IsMade made (length (makes_for body) - 1) n
+      → length (makes_for body) ≤ r + 1 → root_for body ≡ made_node made r → (n : NodeId) → IsMade made (length (makes_for body) - 1) n
       → IsPartSince (root_for body) n
   before_root body h whole r low high root n (i, less, is) =
       let id = made_id body h whole i n (omega (arith, less)) is in
@@ -329,7 +340,7 @@ module _ (known : FnRef → Bool) (names : Names) {F : Type 0} (first now : Stan
       (omega (arith, id), omega (arith, id, last, less, high, low))
 
   own_between : (body : Body) (ty : Ty) → BodyFits known names body ty → IsMaking first now (makes_for body) made → length made ≡ length (makes_for body)
-      → (r : ℕ) → r < length (makes_for body) → length (makes_for body) ≤ r + 1 → root_for body ≡ node_at made r
+      → (r : ℕ) → r < length (makes_for body) → length (makes_for body) ≤ r + 1 → root_for body ≡ made_node made r
       → OwnNodesOf (graph_of now.nodes) (IsSince (root_for body)) (IsPartSince (root_for body)) (root_for body) body
   own_between body ty fits h whole r low high root =
       own_nodes_of_on (graph_of now.nodes) (graph_of now.nodes) (IsMade made (length (makes_for body))) (IsSince (root_for body))
@@ -348,7 +359,7 @@ module _ (known : FnRef → Bool) (names : Names) {F : Type 0} (first now : Stan
       own_between (Computed (Apply f arguments) kept) ty fits h whole (0 + length each.makes) (omega (arith, size)) (omega (arith, size)) refl
   made_owned (Computed (Fold f first elements) kept) ty fits h whole =
       let each = laid_each nodes 0 elements in
-      let size = length-append each.makes (OpenFold f (to_engine first) each.roots ∷ []) in
+      let size = length-append each.makes (OpenFold f (graph_value nodes first) each.roots ∷ []) in
       own_between (Computed (Fold f first elements) kept) ty fits h whole (0 + length each.makes) (omega (arith, size)) (omega (arith, size)) refl
   made_owned (Computed f kept) ty fits h whole = absurd fits.0
   made_owned body ty fits h whole = absurd fits
@@ -366,14 +377,14 @@ module _ (known : FnRef → Bool) (names : Names) {F : Type 0} (first now : Stan
   pub made_variable : (v : Value) → IsMaking first now (makes_for (Variable v)) made → length made ≡ length (makes_for (Variable v))
       → IsVariable now.nodes (root_for (Variable v))
   made_variable v h whole =
-      let top = h.stands.top 0 (Var (to_engine v)) refl (omega (arith, whole)) in
-      record { row = top.0; value = to_engine v; there = top.1; variable = top.3 }
+      let top = h.stands.top 0 (Var (graph_value nodes v)) refl (omega (arith, whole)) in
+      record { row = top.0; value = graph_value nodes v; there = top.1; variable = top.3 }
 
 -- and shows what is declared
-pub made_declares : (known : FnRef → Bool) (names : Names) (x : Both) (nodes : ℕ → NodeId) (made : List NodeId) (body : Body) (ty : Ty)
+pub made_declares : (known : FnRef → Bool) (names : Names) (x : Both) (nodes : ℕ → NodeId) (made : List Made) (body : Body) (ty : Ty)
     → BodyFits known names body ty → ((position : ℕ) (t : Ty) → NameFits names position t → nodes position ≡ x.nodes position)
     → StandsIn x.graph (laid_body nodes 0 body).makes made → length made ≡ length (laid_body nodes 0 body).makes
     → Declares x (node_of made (laid_body nodes 0 body).root) (Some body)
 made_declares known names x nodes made body ty fits same stands whole =
-    root_declares x nodes made body (fitting_holds_no_reference known names body ty fits)
+    root_declares nodes body x made
     (every_name_of known names (λ n. nodes n ≡ x.nodes n) same body ty fits) stands (omega (arith, whole))

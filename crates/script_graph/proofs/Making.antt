@@ -1,18 +1,22 @@
 -- One node after the other is made for a plan.
 use Rattle.std.proofs.Common.{◌≡◌, ◌⊎◌, inl, inr, ℕ, ◌+◌, ◌<◌, Bool, List, [], ◌∷◌, ◌++◌, map, length, All, Option, None, Some, IfSome, option_map, refl, ap, sym, subst, ◌∙◌, arith, slice_get}
 use Rattle.std.specs.List.{AllZip}
-use Rattle.std.proofs.lemmas.List.{length-append, get_or_append_left, get_or_at}
+use Rattle.std.proofs.lemmas.List.{length-append}
 use Rattle.std.proofs.lemmas.List.Elements.{All-head, All-tail}
 use Rattle.std.proofs.lemmas.Option.{slice_get_within}
-use Rattle.formula_elab.specs.Opened.{no_node, node_at, node_of, filled, IsEarlier, NeedsEarlier, AreInOrder}
-use Rattle.formula_elab.specs.Plan.{next_def}
+use Rattle.formula_elab.specs.Make as make
+use Rattle.formula_elab.specs.Make.{Make}
+use Rattle.formula_elab.specs.Opened.{made_node, node_of, filled, to_make, IsEarlier, NeedsEarlier, AreInOrder}
+use Rattle.formula_elab.specs.Plan.{next_make}
+use Rattle.formula_elab.specs.declared.make.Made.{Made}
+use Rattle.formula_elab.specs.declared.make.Made.TheVariants.{Node as NodeMade}
 use Rattle.formula_elab.specs.declared.opened.Open.{Open}
 use Rattle.formula_elab.specs.declared.opened.Open.TheVariants.{Const, Var, Map, Fold}
 use Rattle.formula_elab.specs.declared.opened.Part.{Part}
-use Rattle.formula_elab.specs.declared.opened.Part.TheVariants.{Given as Named, Made}
+use Rattle.formula_elab.specs.declared.opened.Part.TheVariants.{Given as Named, Made as Numbered}
 use Rattle.formula_elab.proofs.InOrder.{order_of}
-use Rattle.formula_elab.proofs.Standing.{none_stands, one_more_stands}
-use Rattle.graph.specs.Effects.{Adds, top}
+use Rattle.formula_elab.proofs.Standing.{made_append, made_last, none_stands, one_more_stands}
+use Rattle.graph.specs.Effects.{top}
 use Rattle.graph.specs.Standing.{Standing}
 use Rattle.inc_value.specs.Choice.{Every}
 use Rattle.stabilize_round.proofs.Points.{node_or_other}
@@ -30,30 +34,30 @@ use Rattle.node_arena.specs.Arena.{Arena, row_at}
 use Rattle.node_arena.specs.Graph.{graph_of}
 use Rattle.node_arena.specs.Sound as arena
 use Rattle.node_arena.specs.Typing.{Fits, FoldTakes, ReferenceFits}
-use Rattle.script_graph.specs.Growing.{Extends, IsMaking, IsWelcome, PartFits, OpenFits, AllOpenFit, def_ty, open_ty}
+use Rattle.script_graph.specs.Growing.{Extends, IsMadeIn, IsMaking, IsWelcome, IsWelcomeMake, PartFits, OpenFits, AllOpenFit, def_ty, open_ty}
 use Rattle.script_graph.proofs.Counting.{live_more}
 use Rattle.script_graph.proofs.Extending.{extends_itself, extends_on, adds_extends, live_stays}
 
 -- ---- what is to be made next
 
-filled_ty : (made : List NodeId) (x : Open) → def_ty (filled made x) ≡ open_ty x
+filled_ty : (made : List Made) (x : Open) → def_ty (filled made x) ≡ open_ty x
 filled_ty made (Const v) = refl
 filled_ty made (Var v) = refl
 filled_ty made (Map f parts) = refl
 filled_ty made (Fold f v parts) = refl
 
-next_open : (makes : List Open) (made : List NodeId) (d : Def) → next_def makes made ≡ Some d
-    → (x : Open) × (slice_get makes (length made) ≡ Some x) × (filled made x ≡ d)
-next_open makes made d e = go (slice_get makes (length made)) refl e
+next_open : (makes : List Open) (made : List Made) (m : Make) → next_make makes made ≡ Some m
+    → (x : Open) × (slice_get makes (length made) ≡ Some x) × (to_make made x ≡ m)
+next_open makes made m e = go (slice_get makes (length made)) refl e
   where
-    go : (o : Option Open) → slice_get makes (length made) ≡ o → option_map (filled made) (slice_get makes (length made)) ≡ Some d
-        → (x : Open) × (slice_get makes (length made) ≡ Some x) × (filled made x ≡ d)
+    go : (o : Option Open) → slice_get makes (length made) ≡ o → option_map (to_make made) (slice_get makes (length made)) ≡ Some m
+        → (x : Open) × (slice_get makes (length made) ≡ Some x) × (to_make made x ≡ m)
     go None at e = absurd (let none = rw at at e in cc)
     go (Some x) at e = let some = rw at at e in (x, at, (cc))
 
 -- it is one of what is to be made
-pub next_within : (makes : List Open) (made : List NodeId) (d : Def) → next_def makes made ≡ Some d → length made < length makes
-next_within makes made d e = let x = next_open makes made d e in slice_get_within makes (length made) x.0 x.1
+pub next_within : (makes : List Open) (made : List Made) (m : Make) → next_make makes made ≡ Some m → length made < length makes
+next_within makes made m e = let x = next_open makes made m e in slice_get_within makes (length made) x.0 x.1
 
 pub value_given : (P : NodeId → Type 0) (v : Value) → IsBase (type_of v) → ValueWithin P v
 value_given P (value.Int z) base = tt
@@ -67,17 +71,17 @@ reference_fits a (value.Bool b) base = tt
 reference_fits a (value.Text bytes) base = tt
 reference_fits a (value.Node n b) base = absurd base
 
-module _ {F : Type 0} (first now : Standing F) (makes : List Open) (made : List NodeId) (h : IsMaking first now makes made)
+module _ {F : Type 0} (first now : Standing F) (makes : List Open) (made : List Made) (h : IsMaking first now makes made)
     (sound : arena.IsSound first.nodes) where
   -- a part's node is there with its type
   pub part_row : (p : Part) (t : Ty) → PartFits first.nodes makes t p → IsEarlier (length made) p
       → (r : Row) × (row_at now.nodes (node_of made p) ≡ Some r) × (r.ty ≡ t)
   part_row (Named n) t (r, row, ty) early = (r, live_stays first now sound h.extends n r row, ty)
-  part_row (Made i) t (x, at, ty) early = let r = h.types i x at early in (r.0, r.1, r.2 ∙ ty)
+  part_row (Numbered i) t (x, at, ty) early = let r = h.types i x at early in (r.0, r.1, r.2 ∙ ty)
 
   part_given : (p : Part) (t : Ty) → PartFits first.nodes makes t p → IsEarlier (length made) p → Given now.nodes.given (node_of made p)
   part_given (Named n) t (r, row, ty) early = let low = sound.given n (rw row refl) in omega (arith, low, h.extends.given)
-  part_given (Made i) t fits early = let id = h.ids i early in omega (arith, id, h.given, early)
+  part_given (Numbered i) t fits early = let id = h.ids i early in omega (arith, id, h.given, early)
 
   parts_fit : (ps : List Part) (tys : List Ty) → AllZip (λ (p : Part) (t : Ty). PartFits first.nodes makes t p) ps tys
       → All (IsEarlier (length made)) ps → AllZip (Fits now.nodes) (map (node_of made) ps) tys
@@ -151,11 +155,11 @@ module _ {F : Type 0} (first now : Standing F) (makes : List Open) (made : List 
   }
 
   -- the graph takes what is to be made next
-  pub next_welcome : (known : FnRef → Bool) → AllOpenFit known first.nodes makes → (d : Def) → next_def makes made ≡ Some d
-      → IsWelcome known now.nodes d
-  next_welcome known fit d next =
-      let x = next_open makes made d next in
-      subst (λ (e : Def). IsWelcome known now.nodes e) x.2
+  pub next_welcome : (known : FnRef → Bool) → AllOpenFit known first.nodes makes → (m : Make) → next_make makes made ≡ Some m
+      → IsWelcomeMake known now.nodes m
+  next_welcome known fit m next =
+      let x = next_open makes made m next in
+      subst (λ (n : Make). IsWelcomeMake known now.nodes n) x.2
       (open_welcome known x.0 (fit (length made) x.0 x.1) (order_of makes (length made) x.0 h.stands.order x.1))
 
 -- ---- steps
@@ -174,10 +178,10 @@ module _ {F : Type 0} where
   }
 
   -- one more was made
-  pub one_more_made : (first now new : Standing F) (makes : List Open) (made : List NodeId) → IsMaking first now makes made
-      → arena.IsSound now.nodes → (d : Def) → next_def makes made ≡ Some d → (id : NodeId) → Adds now new id (top d (def_ty d))
-      → IsMaking first new makes (made ++ id ∷ [])
-  one_more_made first now new makes made h sound d next id adds = record {
+  pub one_more_made : (first now new : Standing F) (makes : List Open) (made : List Made) → IsMaking first now makes made
+      → arena.IsSound now.nodes → (m : Make) → next_make makes made ≡ Some m → (one : Made) → IsMadeIn now new m one
+      → IsMaking first new makes (made ++ one ∷ [])
+  one_more_made first now new makes made h sound (make.Node d) next (NodeMade id) adds = record {
     extends = extends_on first now new h.extends more;
     stands = one_more_stands (graph_of now.nodes) (graph_of new.nodes) makes made d id h.stands (live_stays now new sound more) next
         (top d (def_ty d), adds.changes.changed, refl, refl);
@@ -185,44 +189,42 @@ module _ {F : Type 0} where
     ids = λ i less. id_at i (below i (length made) (omega (arith, less, size)));
     given = omega (arith, adds.given, h.given, size);
     new_rows = λ n r is. elim (node_or_other n id) [
-      | inl same ↦ inr (among_right n made (id ∷ []) (inl same))
+      | inl same ↦ inr (among_right (NodeMade n) made (one ∷ []) (inl (ap NodeMade same)))
       | inr other ↦ elim (h.new_rows n r (sym (adds.changes.others n other) ∙ is)) [
         | inl was ↦ inl was
-        | inr new ↦ inr (among_left n made (id ∷ []) new)
+        | inr new ↦ inr (among_left (NodeMade n) made (one ∷ []) new)
       ]
     ];
     few = let more_live = live_more now.nodes new.nodes id (Some (top d (def_ty d))) adds.changes in
         omega (arith, h.few, more_live, size);
   }
     where
+      one : Made
+      one = NodeMade id
+
       more : Extends now new
       more = adds_extends now new id (top d (def_ty d)) adds
 
-      size : length (made ++ id ∷ []) ≡ length made + 1
-      size = length-append made (id ∷ [])
+      size : length (made ++ one ∷ []) ≡ length made + 1
+      size = length-append made (one ∷ [])
 
       below : (i count : ℕ) → i < count + 1 → (i < count) ⊎ (i ≡ count)
       below i count less = grind (arith, less)
 
-      earlier : (i : ℕ) → i < length made → node_at (made ++ id ∷ []) i ≡ node_at made i
-      earlier i less = get_or_append_left made (id ∷ []) no_node i less
-
-      last : (i : ℕ) → i ≡ length made → node_at (made ++ id ∷ []) i ≡ id
-      last i is = get_or_at made id [] no_node i (sym is)
-
       type_at : (i : ℕ) (x : Open) → slice_get makes i ≡ Some x → (i < length made) ⊎ (i ≡ length made)
-          → (r : Row) × (row_at new.nodes (node_at (made ++ id ∷ []) i) ≡ Some r) × (r.ty ≡ open_ty x)
+          → (r : Row) × (row_at new.nodes (made_node (made ++ one ∷ []) i) ≡ Some r) × (r.ty ≡ open_ty x)
       type_at i x at (inl less) =
           let r = h.types i x at less in
-          (r.0, ap (row_at new.nodes) (earlier i less) ∙ live_stays now new sound more (node_at made i) r.0 r.1, r.2)
+          (r.0, ap (row_at new.nodes) (made_append made one i less) ∙ live_stays now new sound more (made_node made i) r.0 r.1, r.2)
       type_at i x at (inr is) =
-          let y = next_open makes made d next in
-          let same : y.0 ≡ x = let e : Some y.0 ≡ Some x = sym y.1 ∙ (ap (slice_get makes) (sym is) ∙ at) in cc in (
+          let y = next_open makes made (make.Node d) next in
+          let same : y.0 ≡ x = let e : Some y.0 ≡ Some x = sym y.1 ∙ (ap (slice_get makes) (sym is) ∙ at) in cc in
+          let def : filled made y.0 ≡ d = let e : make.Node (filled made y.0) ≡ make.Node d = y.2 in cc in (
             top d (def_ty d),
-            ap (row_at new.nodes) (last i is) ∙ adds.changes.changed,
-            ap def_ty (sym y.2) ∙ (filled_ty made y.0 ∙ ap open_ty same),
+            ap (row_at new.nodes) (made_last made one i is) ∙ adds.changes.changed,
+            ap def_ty (sym def) ∙ (filled_ty made y.0 ∙ ap open_ty same),
           )
 
-      id_at : (i : ℕ) → (i < length made) ⊎ (i ≡ length made) → (node_at (made ++ id ∷ []) i).gen_ ≡ first.nodes.given + i
-      id_at i (inl less) = ap (λ (n : NodeId). n.gen_) (earlier i less) ∙ h.ids i less
-      id_at i (inr is) = ap (λ (n : NodeId). n.gen_) (last i is) ∙ (adds.fresh ∙ (h.given ∙ ap (λ j. first.nodes.given + j) (sym is)))
+      id_at : (i : ℕ) → (i < length made) ⊎ (i ≡ length made) → (made_node (made ++ one ∷ []) i).gen_ ≡ first.nodes.given + i
+      id_at i (inl less) = ap (λ (n : NodeId). n.gen_) (made_append made one i less) ∙ h.ids i less
+      id_at i (inr is) = ap (λ (n : NodeId). n.gen_) (made_last made one i is) ∙ (adds.fresh ∙ (h.given ∙ ap (λ j. first.nodes.given + j) (sym is)))

@@ -19,7 +19,7 @@ use Rattle.script_graph.specs.Kept.{Kept, arena_of, node_in}
 use Rattle.script_graph.specs.Represents.{there_in, AreNames, IsObserver, IsShown, Watches}
 use Rattle.script_graph.specs.Today.{IsBaseOutcome}
 use Rattle.script_graph.specs.Settled.{StillDeclares}
-use Rattle.script_graph.specs.Shown.{ShowsIt, engine_outcome}
+use Rattle.script_graph.specs.Shown.{ShowsIt}
 use Rattle.script_graph.specs.State.{MatchesMoment}
 use Rattle.script_graph.proofs.Carrying.{LeavesBeside, settled_on}
 use Rattle.script_graph.proofs.Held.{rooted_looks, looks_rooted}
@@ -302,13 +302,6 @@ module _ (F : Meanings) (k : Kept) (m : Moment) (name : List ℕ) (target : ℕ)
 
 -- ---- what one shows
 
-graph_is_engine : (nodes : ℕ → NodeId) (p : Outcome) → IsBaseOutcome p → graph_outcome nodes p ≡ engine_outcome p
-graph_is_engine nodes (Val (Int z)) base = refl
-graph_is_engine nodes (Val (Truth b)) base = refl
-graph_is_engine nodes (Val (Text bytes)) base = refl
-graph_is_engine nodes (Val (Reference t b)) base = absurd base
-graph_is_engine nodes Invalid base = refl
-
 module _ (F : Meanings) (k : Kept) (m : Moment) (stands : MatchesMoment F k m) (unbroken : m.broken ≡ None) (i : ℕ) (o : ObsId) (name : List ℕ)
     (at_id : slice_get k.observers i ≡ Some o) (at_name : slice_get k.names.observers i ≡ Some name) where
   seen_by : Watches m.present k
@@ -326,15 +319,14 @@ module _ (F : Meanings) (k : Kept) (m : Moment) (stands : MatchesMoment F k m) (
 
   -- what the graph shows of its node, where it was there when a stabilize was accepted last
   pub shows_it : (n : NodeId) (out : engine.Outcome) → node_at k.graph.observers o ≡ Some n → shown_of k.graph n ≡ Some out → o.0 < k.graph.rooted
-      → ShowsIt m.present name out
+      → ShowsIt (node_in k.nodes) m.present name out
   shows_it n out looks shows earlier =
       let f = found in
       let e = f.1.shown.earlier earlier in
       let same_node : node_in k.nodes f.0.target ≡ n = let l = sym f.1.looks ∙ looks in cc in
       let same : graph_outcome (node_in k.nodes) e.0 ≡ out =
       let l = sym (e.2 (sym stands.broken ∙ unbroken)) ∙ ap (shown_of k.graph) same_node ∙ shows in cc in
-      let base = f.1.today.base e.0 e.1 in
-      record { outcome = e.0; is_shown = rw f.2 e.1; base = base; same = sym (graph_is_engine (node_in k.nodes) e.0 base) ∙ same }
+      record { outcome = e.0; is_shown = rw f.2 e.1; base = f.1.today.base e.0 e.1; same = same }
 
   -- nothing where it was made later
   pub shows_nothing : k.graph.rooted ≤ o.0 → shown_by m.present name ≡ None

@@ -2,6 +2,7 @@
 use Rattle.std.proofs.Common.{◌≡◌, ◌<◌, ℕ, zero, suc, List, [], ◌∷◌, Option, None, Some, refl, ap, sym, subst, ◌∙◌, arith, slice_get}
 use Rattle.inc_value.specs.Choice.{and_then}
 use Rattle.inc_value.specs.declared.node.NodeId.{NodeId}
+use Rattle.inc_value.specs.declared.value.Value.{Value as GraphValue}
 use Rattle.inc_terms.specs.Graph as graph
 use Rattle.inc_terms.specs.Graph.{Graph, Row, Def, Built as BuiltFor}
 use Rattle.node_arena.specs.Graph.{graph_of}
@@ -9,7 +10,6 @@ use Rattle.script_model.specs.Check.{target_of_body}
 use Rattle.script_model.specs.Formula as script
 use Rattle.script_model.specs.Formula.{State, Body, Formula, Formulas, Meanings, body_at, formula_of_body, Literal, Name, Bound, Apply, Fold, If, Join, Bind, At, Steps, Now, End, More, Variable, Computed, Freeze, After, Every, Expert, Grab}
 use Rattle.script_model.specs.Need.{Edge, Argument, Test, Then, Else, Child, Left, Inside, Item, Named, Place, argument_at, part_at, part_of, formula_at}
-use Rattle.script_model.specs.Values.{to_engine}
 use Rattle.script_graph.specs.Kept.{Kept, arena_of, node_in}
 use Rattle.script_graph.specs.Represents.{beside, Represents}
 use Rattle.script_graph.specs.Today.{AllPlain, OwnNodes, OwnNodesOfAll, WholeNodes, OwnNodesOf, IsPartWithin, IsWithin, IsOwnFormula, IsVariableBody, Computes, owner_of}
@@ -30,7 +30,7 @@ module _ (G G' : Graph) (P Q : NodeId → Type 0) (more : (n : NodeId) → P n �
     own_nodes_on n (Apply f arguments) own =
         (more n own.0, own.1, own.2, kept n own.1 _ own.3 (ap plain own.4), own.4, own_nodes_of_all_on own.2 arguments own.5)
     own_nodes_on n (Fold f first elements) own =
-        (more n own.0, own.1, own.2, kept n own.1 _ own.3 (ap plain own.4), own.4, own_nodes_of_all_on own.2 elements own.5)
+        (more n own.0, own.1, own.2, own.3, kept n own.1 _ own.4 (ap plain own.5), own.5, own_nodes_of_all_on own.3 elements own.6)
     own_nodes_on n f own = absurd own
 
     pub own_nodes_of_all_on : (ns : List NodeId) (fs : Formulas) → OwnNodesOfAll G P ns fs → OwnNodesOfAll G' Q ns fs
@@ -56,9 +56,10 @@ module _ (G G' : Graph) (P P' Q Q' : NodeId → Type 0) (more : (n : NodeId) →
     more n own.0,
     own.1,
     own.2,
-    kept n own.1 _ own.3 (ap plain own.4),
-    own.4,
-    own_nodes_of_all_on G G' Q Q' parts kept own.2 elements own.5,
+    own.3,
+    kept n own.1 _ own.4 (ap plain own.5),
+    own.5,
+    own_nodes_of_all_on G G' Q Q' parts kept own.3 elements own.6,
   )
   whole_nodes_on n f own = absurd own
 
@@ -75,7 +76,8 @@ abbrev PartNodes : Graph → (NodeId → Type 0) → NodeId → Formula → Type
 PartNodes G P n (Apply f arguments) =
     (r : Row) × (kids : List NodeId) × (G.row n ≡ Some r) × (r.def ≡ graph.Map f kids) × OwnNodesOfAll G P kids arguments
 PartNodes G P n (Fold f first elements) =
-    (r : Row) × (kids : List NodeId) × (G.row n ≡ Some r) × (r.def ≡ graph.Fold f (to_engine first) kids) × OwnNodesOfAll G P kids elements
+    (r : Row) × (value : GraphValue) × (kids : List NodeId) × (G.row n ≡ Some r) × (r.def ≡ graph.Fold f value kids)
+    × OwnNodesOfAll G P kids elements
 PartNodes G P n (Literal v) = Unit {0}
 PartNodes G P n (Name k) = Unit {0}
 PartNodes G P n f = ⊥
@@ -84,14 +86,14 @@ own_parts : (G : Graph) (P : NodeId → Type 0) (n : NodeId) (f : Formula) → O
 own_parts G P n (Literal v) own = tt
 own_parts G P n (Name k) own = tt
 own_parts G P n (Apply f arguments) own = (own.1, own.2, own.3, own.4, own.5)
-own_parts G P n (Fold f first elements) own = (own.1, own.2, own.3, own.4, own.5)
+own_parts G P n (Fold f first elements) own = (own.1, own.2, own.3, own.4, own.5, own.6)
 own_parts G P n f own = absurd own
 
 whole_parts : (G : Graph) (P Q : NodeId → Type 0) (n : NodeId) (f : Formula) → WholeNodes G P Q n f → PartNodes G Q n f
 whole_parts G P Q n (Literal v) own = tt
 whole_parts G P Q n (Name k) own = tt
 whole_parts G P Q n (Apply f arguments) own = (own.1, own.2, own.3, own.4, own.5)
-whole_parts G P Q n (Fold f first elements) own = (own.1, own.2, own.3, own.4, own.5)
+whole_parts G P Q n (Fold f first elements) own = (own.1, own.2, own.3, own.4, own.5, own.6)
 whole_parts G P Q n f own = absurd own
 
 argument_own : (G : Graph) (P : NodeId → Type 0) (ns : List NodeId) (fs : Formulas) → OwnNodesOfAll G P ns fs → (k : ℕ) (m : NodeId) (g : Formula)
@@ -138,9 +140,9 @@ module _ (x : Both) (P : NodeId → Type 0) (owner : ℕ) where
       let m = then_some (node_at x owner path) (λ m. and_then (x.graph.row m) (λ (r : Row). part_node r.def (Argument j))) n at in
       let r = then_some (x.graph.row m.0) (λ (r : Row). part_node r.def (Argument j)) n m.2 in
       let own = above m.0 m.1 in
-      let row = same_row m.0 own.0 r.0 own.2 r.1 in
-      let def : r.0.def ≡ graph.Fold f (to_engine first) own.1 = sym (ap (λ (q : Row). q.def) row) ∙ own.3 in
-      argument_own x.graph P own.1 elements own.4 j n g (sym (fold_parts r.0.def f (to_engine first) own.1 def j) ∙ r.2) part
+      let row = same_row m.0 own.0 r.0 own.3 r.1 in
+      let def : r.0.def ≡ graph.Fold f own.1 own.2 = sym (ap (λ (q : Row). q.def) row) ∙ own.4 in
+      argument_own x.graph P own.2 elements own.5 j n g (sym (fold_parts r.0.def f own.1 own.2 def j) ∙ r.2) part
   part_own edge path (Fold f first elements) g n part above at = absurd (cc)
   part_own edge path (Literal v) g n part above at = absurd (cc)
   part_own edge path (Name k) g n part above at = absurd (cc)

@@ -24,7 +24,7 @@ use Rattle.script_model.specs.Formula.{State, Body, Entry, Formula, Meanings, me
 use Rattle.script_model.specs.Need.{Edge, part_of, formula_at}
 use Rattle.script_model.specs.Run.{calls_of_body}
 use Rattle.script_model.specs.Step.{Moment, changed_at, with_body, moved}
-use Rattle.script_model.specs.Values.{Value, Int, Bool as Truth, Text, Reference, type_of, to_engine}
+use Rattle.script_model.specs.Values.{Value, Int, Bool as Truth, Text, Reference, type_of}
 use Rattle.script_graph.specs.Kept.{Kept, arena_of, node_in, no_node}
 use Rattle.script_graph.specs.Represents.{AreNames, beside, Represents, Watches}
 use Rattle.script_graph.specs.Settled.{Settled}
@@ -43,17 +43,11 @@ use Rattle.transfer.proofs.Typed.{body_entry}
 
 -- ---- values
 
-engine_base : (v : Value) → IsBase (engine.type_of (to_engine v)) → IsBase (type_of v)
-engine_base (Int z) base = tt
-engine_base (Truth b) base = tt
-engine_base (Text bytes) base = tt
-engine_base (Reference target b) base = absurd base
-
-engine_value : (nodes : ℕ → NodeId) (v : Value) → IsBase (type_of v) → to_engine v ≡ graph_value nodes v
-engine_value nodes (Int z) base = refl
-engine_value nodes (Truth b) base = refl
-engine_value nodes (Text bytes) base = refl
-engine_value nodes (Reference target b) base = absurd base
+graph_base : (nodes : ℕ → NodeId) (v : Value) → IsBase (engine.type_of (graph_value nodes v)) → IsBase (type_of v)
+graph_base nodes (Int z) base = tt
+graph_base nodes (Truth b) base = tt
+graph_base nodes (Text bytes) base = tt
+graph_base nodes (Reference target b) base = absurd base
 
 -- ---- declarations, one of which changes
 
@@ -124,7 +118,7 @@ variable_entry names s same target ty fits = go (slice_get s.entries target) ref
 -- ---- what is kept
 
 module _ (named : List ℕ → Option FnRef) (value : FnRef → List GraphValue → GraphValue) (k : Kept) (g : Standing (Unit {0}))
-    (sound : arena.IsSound (arena_of k)) (sound' : arena.IsSound g.nodes) (m : Moment) (target : ℕ) (w : GraphValue) (v : Value) (is_value : to_engine v ≡ w)
+    (sound : arena.IsSound (arena_of k)) (sound' : arena.IsSound g.nodes) (m : Moment) (target : ℕ) (w : GraphValue) (v : Value) (is_value : graph_value (node_in k.nodes) v ≡ w)
     (sets : Sets k.graph g (node_in k.nodes target) w) (fits : AssignmentFits k.names target (engine.type_of w)) where
   abbrev F : Meanings
   F = meanings_of named value
@@ -139,7 +133,7 @@ module _ (named : List ℕ → Option FnRef) (value : FnRef → List GraphValue 
   new = record k { graph = g }
 
   base : IsBase (type_of v)
-  base = engine_base v (subst (λ (u : GraphValue). IsBase (engine.type_of u)) (sym is_value) fits.base)
+  base = graph_base (node_in k.nodes) v (subst (λ (u : GraphValue). IsBase (engine.type_of u)) (sym is_value) fits.base)
 
   node_or : (p q : NodeId) → (p ≡ q) ⊎ (p ≡ q → ⊥)
   node_or p q = elim (cases_eq p.slot q.slot) [
@@ -215,7 +209,7 @@ module _ (named : List ℕ → Option FnRef) (value : FnRef → List GraphValue 
             with_value sets.set.row w,
             sets.set.changes.changed,
             ap (λ (q : Row). q.scope) (sym row) ∙ old.2,
-            ap (λ (x : GraphValue). graph.Var x) (sym is_value ∙ engine_value (node_in k.nodes) v base),
+            ap (λ (x : GraphValue). graph.Var x) (sym is_value),
           )
 
       declares_each : (n : ℕ) (b : Option Body) → body_at s' n ≡ b → Declares (beside F s' new) (node_in k.nodes n) b

@@ -13,12 +13,16 @@ use Rattle.inc_terms.specs.Graph as graph
 use Rattle.inc_terms.specs.Graph.{Row, Def}
 use Rattle.inc_terms.specs.Within.{Given}
 use Rattle.formula_elab.specs.Made.{StandsIn}
-use Rattle.formula_elab.specs.Opened.{node_at}
+use Rattle.formula_elab.specs.Make as make
+use Rattle.formula_elab.specs.Make.{Make}
+use Rattle.formula_elab.specs.Opened.{made_node}
+use Rattle.formula_elab.specs.declared.make.Made.{Made}
+use Rattle.formula_elab.specs.declared.make.Made.TheVariants.{Node as NodeMade}
 use Rattle.formula_elab.specs.declared.opened.Open.{Open}
 use Rattle.formula_elab.specs.declared.opened.Open.TheVariants as open_def
 use Rattle.formula_elab.specs.declared.opened.Part.{Part}
 use Rattle.formula_elab.specs.declared.opened.Part.TheVariants as part
-use Rattle.graph.specs.Effects.{KeepsBesideGiven}
+use Rattle.graph.specs.Effects.{top, Adds, KeepsBesideGiven}
 use Rattle.graph.specs.Standing.{Standing}
 use Rattle.graph.specs.Known.{CallsKnown}
 use Rattle.node_arena.specs.Arena.{Arena, row_at, live, NamesGiven}
@@ -74,7 +78,15 @@ pub record IsWelcome (known : FnRef → Bool) (a : Arena) (d : Def) : Type 0 whe
   pub calls : CallsKnown known d
   pub one_point : IsOfOnePoint d
 
+-- what is to be made is such a definition
+abbrev pub IsWelcomeMake : (FnRef → Bool) → Arena → Make → Type 0
+IsWelcomeMake known a (make.Node d) = IsWelcome known a d
+
 module _ {F : Type 0} where
+  -- it was made: a node that is so defined was added
+  abbrev pub IsMadeIn : Standing F → Standing F → Make → Made → Type 0
+  IsMadeIn old new (make.Node d) (NodeMade n) = Adds old new n (top d (def_ty d))
+
   -- nodes were added: what was given before is as it was
   pub record Extends (old new : Standing F) : Type 0 where
     pub beside : KeepsBesideGiven old new
@@ -82,12 +94,12 @@ module _ {F : Type 0} where
     pub rows : (n : NodeId) → Given old.nodes.given n → row_at new.nodes n ≡ row_at old.nodes n
 
   -- over the first graph so many of what is to be made were made in order, each under the next id
-  pub record IsMaking (first now : Standing F) (makes : List Open) (made : List NodeId) : Type 0 where
+  pub record IsMaking (first now : Standing F) (makes : List Open) (made : List Made) : Type 0 where
     pub extends : Extends first now
     pub stands : StandsIn (graph_of now.nodes) makes made
     pub types : (i : ℕ) (x : Open) → slice_get makes i ≡ Some x → i < length made
-        → (r : Row) × (row_at now.nodes (node_at made i) ≡ Some r) × (r.ty ≡ open_ty x)
-    pub ids : (i : ℕ) → i < length made → (node_at made i).gen_ ≡ first.nodes.given + i
+        → (r : Row) × (row_at now.nodes (made_node made i) ≡ Some r) × (r.ty ≡ open_ty x)
+    pub ids : (i : ℕ) → i < length made → (made_node made i).gen_ ≡ first.nodes.given + i
     pub given : now.nodes.given ≡ first.nodes.given + length made
-    pub new_rows : (n : NodeId) (r : Row) → row_at now.nodes n ≡ Some r → (row_at first.nodes n ≡ Some r) ⊎ Among n made
+    pub new_rows : (n : NodeId) (r : Row) → row_at now.nodes n ≡ Some r → (row_at first.nodes n ≡ Some r) ⊎ Among (NodeMade n) made
     pub few : live now.nodes ≤ live first.nodes + length made

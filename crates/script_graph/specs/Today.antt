@@ -23,7 +23,7 @@ use Rattle.script_model.specs.Formula.{Formula, Formulas, Body, State, Observer,
 use Rattle.script_model.specs.Need.{Item, Named, Place, formula_at}
 use Rattle.script_model.specs.Run.{most_calls}
 use Rattle.script_model.specs.Settle.{Notice}
-use Rattle.script_model.specs.Values.{Outcome, Val, Invalid, type_of, to_engine}
+use Rattle.script_model.specs.Values.{Outcome, Val, Invalid, type_of}
 use Rattle.script_graph.specs.Kept.{Kept, arena_of, node_in}
 use Rattle.transfer.specs.Shows.{IsOwn}
 
@@ -131,7 +131,8 @@ abbrev mutual
   OwnNodes G P n (Apply f arguments) =
       P n × (r : Row) × (kids : List NodeId) × (G.row n ≡ Some r) × (r.def ≡ graph.Map f kids) × OwnNodesOfAll G P kids arguments
   OwnNodes G P n (Fold f first elements) =
-      P n × (r : Row) × (kids : List NodeId) × (G.row n ≡ Some r) × (r.def ≡ graph.Fold f (to_engine first) kids) × OwnNodesOfAll G P kids elements
+      P n × (r : Row) × (value : Value) × (kids : List NodeId) × (G.row n ≡ Some r) × (r.def ≡ graph.Fold f value kids)
+      × OwnNodesOfAll G P kids elements
   OwnNodes G P n f = ⊥
 
   -- so have those of all of the formulas
@@ -148,7 +149,8 @@ WholeNodes G P Q n (Name k) = Unit {0}
 WholeNodes G P Q n (Apply f arguments) =
     P n × (r : Row) × (kids : List NodeId) × (G.row n ≡ Some r) × (r.def ≡ graph.Map f kids) × OwnNodesOfAll G Q kids arguments
 WholeNodes G P Q n (Fold f first elements) =
-    P n × (r : Row) × (kids : List NodeId) × (G.row n ≡ Some r) × (r.def ≡ graph.Fold f (to_engine first) kids) × OwnNodesOfAll G Q kids elements
+    P n × (r : Row) × (value : Value) × (kids : List NodeId) × (G.row n ≡ Some r) × (r.def ≡ graph.Fold f value kids)
+    × OwnNodesOfAll G Q kids elements
 WholeNodes G P Q n f = ⊥
 
 -- so have those of what is declared

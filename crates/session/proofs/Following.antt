@@ -7,6 +7,7 @@ use Rattle.std.specs.Prelude.{codes}
 use Rattle.inc_value.specs.Outcome as engine
 use Rattle.inc_value.specs.declared.outcome.Outcome as declared
 use Rattle.inc_value.specs.Value as held
+use Rattle.inc_value.specs.declared.node.NodeId.{NodeId}
 use Rattle.inc_value.specs.declared.ty.Ty.{Ty}
 use Rattle.script_model.specs.Check as check
 use Rattle.script_model.specs.Check.{Command, Declare, Declared, Names, Show, Stabilize, NotStabilized, TooManyPlaces, declared_of, names_of}
@@ -21,13 +22,14 @@ use Rattle.script_model.specs.Values.{Outcome, Val, Invalid, Int, Text, Referenc
 use Rattle.script_model.specs.Valid.{KeepToTypes}
 use Rattle.script_model.specs.Values as values
 use Rattle.script_model.proofs.Validity.{halts_keep_validity}
-use Rattle.script_graph.specs.Kept.{Kept}
+use Rattle.script_graph.specs.Kept.{Kept, node_in}
 use Rattle.script_graph.specs.Represents.{AreNames}
 use Rattle.script_graph.specs.Today.{IsBaseOutcome}
-use Rattle.script_graph.specs.Shown.{ShowsIt, ShowsNothing, engine_outcome}
+use Rattle.script_graph.specs.Shown.{ShowsIt, ShowsNothing}
 use Rattle.script_graph.specs.Stabilizing.{IsAccepted, IsTooDeep, IsCutShort}
 use Rattle.script_graph.specs.State.{MatchesMoment, Stands}
 use Rattle.script_graph.proofs.CuttingShort.{broken_matches}
+use Rattle.transfer.specs.Both.{graph_outcome, graph_value}
 use Rattle.session.specs.Answered.{Extends, IsAnswered, verdict_on}
 use Rattle.session.specs.Replies.{line_of, done_line, shown_line, refused_line, stable_line, too_deep_line, name_in}
 use Rattle.session.specs.Taken.{AsksStabilize, Stops}
@@ -118,22 +120,22 @@ module _ (F : Meanings) (k : Kept) (m : Moment) (st : Stands F k m) (unbroken : 
 -- ---- showing
 
 -- an outcome that is no reference prints the same in the model, whatever a reference's name is
-printed_same : (names : ℕ → List ℕ) (referred : List ℕ) (p : Outcome) → IsBaseOutcome p
-    → printed_outcome names p ≡ engine.printed_outcome referred (engine_outcome p)
-printed_same names referred (Val (Int z)) base = refl
-printed_same names referred (Val (values.Bool b)) base = refl
-printed_same names referred (Val (Text bytes)) base = refl
-printed_same names referred (Val (Reference n b)) base = absurd base
-printed_same names referred Invalid base = refl
+printed_same : (nodes : ℕ → NodeId) (names : ℕ → List ℕ) (referred : List ℕ) (p : Outcome) → IsBaseOutcome p
+    → printed_outcome names p ≡ engine.printed_outcome referred (graph_outcome nodes p)
+printed_same nodes names referred (Val (Int z)) base = refl
+printed_same nodes names referred (Val (values.Bool b)) base = refl
+printed_same nodes names referred (Val (Text bytes)) base = refl
+printed_same nodes names referred (Val (Reference n b)) base = absurd base
+printed_same nodes names referred Invalid base = refl
 
-shown_same : (s : State) (name referred : List ℕ) (o : declared.Outcome) (h : ShowsIt s name o)
+shown_same : (nodes : ℕ → NodeId) (s : State) (name referred : List ℕ) (o : declared.Outcome) (h : ShowsIt nodes s name o)
     → shown_line name referred o ≡ printed s (Shown name h.outcome)
-shown_same s name referred o h =
+shown_same nodes s name referred o h =
     ap (λ l. line_of (name ++ codes " = " ++ l))
-    (ap (engine.printed_outcome referred) (sym h.same) ∙ sym (printed_same (name_of s) referred h.outcome h.base))
+    (ap (engine.printed_outcome referred) (sym h.same) ∙ sym (printed_same nodes (name_of s) referred h.outcome h.base))
 
 pub followed_show : (F : Meanings) (k : Kept) (m : Moment) (name referred : List ℕ) (o : declared.Outcome) (calls : ℕ) (written appended : List ℕ)
-    → Stands F k m → ShowsIt m.present name o → appended ≡ written ++ shown_line name referred o
+    → Stands F k m → ShowsIt (node_in k.nodes) m.present name o → appended ≡ written ++ shown_line name referred o
     → IsAnswered F m (Follows F m (verdict_on m (Show name))) k written appended calls calls did.Accepted
 followed_show F k m name referred o calls written appended st h print =
     let reply = Shown name h.outcome in
@@ -145,7 +147,7 @@ followed_show F k m name referred o calls written appended st h print =
       work = 0;
       due = refl;
       matches = st.matches;
-      printed_are = appended_one m.present written appended reply (print ∙ ap (λ l. written ++ l) (shown_same m.present name referred o h));
+      printed_are = appended_one m.present written appended reply (print ∙ ap (λ l. written ++ l) (shown_same (node_in k.nodes) m.present name referred o h));
       within = omega arith;
       says = (reply, [], refl, refl);
     }
@@ -262,9 +264,9 @@ pub stops_cut_short : (F : Meanings) (new : Kept) (m : Moment) (line : List ℕ)
 stops_cut_short F new m line called calls h keep valid asks unbroken =
     stops_broken F new m line called calls keep valid asks unbroken h.matches h.within
 
--- the engine's value of a constant is of its type
-pub type_held : (v : values.Value) → held.type_of (values.to_engine v) ≡ values.type_of v
-type_held (Int z) = refl
-type_held (values.Bool b) = refl
-type_held (Text bytes) = refl
-type_held (Reference n b) = refl
+-- the graph's value of a constant is of its type
+pub type_held : (nodes : ℕ → NodeId) (v : values.Value) → held.type_of (graph_value nodes v) ≡ values.type_of v
+type_held nodes (Int z) = refl
+type_held nodes (values.Bool b) = refl
+type_held nodes (Text bytes) = refl
+type_held nodes (Reference n b) = refl

@@ -304,7 +304,7 @@ module _ (k : Kept) (sound : IsSound k) (unbroken : k.broken ≡ None) (name : L
   pub told_shows : {T : Type 0} (r : Result T GraphFault) (x : T) (out : engine.Outcome) → r ≡ Ok x
       → ((n : NodeId) × (node_at k.graph.observers o ≡ Some n) × (shown_of k.graph n ≡ Some out))
       → (IsErrOf r fault.NotStabilized ↔ (IsUnbroken k.graph × IsSome (node_at k.graph.observers o) × (k.graph.rooted ≤ o.0)))
-      → (F : Meanings) (m : Moment) → MatchesMoment F k m → ShowsIt m.present name out
+      → (F : Meanings) (m : Moment) → MatchesMoment F k m → ShowsIt (node_in k.nodes) m.present name out
   told_shows r x out is told not_stabilized F m stands =
       shows_it F k m stands (stands.broken ∙ unbroken) i o name at_id at_name told.0 out told.1 told.2 earlier
     where

@@ -22,6 +22,7 @@ use crate::reply::{
 };
 use crate::request::{Request, read_request};
 use crate::script::{Script, Stabilized};
+use formula_elab::value_of;
 use formula_lang::{CheckFault, Command, Constant, Declaration, Names, check};
 use inc_value::Ty;
 use line_parser::Line;
@@ -119,7 +120,7 @@ fn perform<L: Library>(
 {
     match command {
         Command::Declare { name, ty, body } => {
-            declare(alloc, script, command, name.bytes(), *ty, body, out)
+            declare(alloc, script, name.bytes(), *ty, body, out)
         }
         Command::Assign { target, value } => set(alloc, script, *target, value, out),
         Command::Observe { observer, target } => observe(script, observer.bytes(), *target, out),
@@ -133,13 +134,11 @@ fn perform<L: Library>(
 fn declare<L: Library>(
     alloc: Global,
     script: &mut Script<L>,
-    command: &Command,
     name: &[u8],
     ty: Ty,
     body: &Declaration,
     out: &mut Vec<u8>,
 ) -> Result<Did, AllocError>
-    requires command { command_view command.now ≡ Declare name.now ty (body_view body.now) }
     requires fits { DeclarationFits (L.known script.old.library) script.old.kept.names name.now ty (body_view body.now) }
     requires unbroken { script.old.kept.broken ≡ None }
     requires ids { (arena_of script.old.kept).given + 2 ^ 20 < 2 ^ 64 - 1 }
@@ -150,7 +149,7 @@ fn declare<L: Library>(
         return refuse(alloc, Refusal::TooManyPlaces.number(), out);
     };
     match write_done(out) {
-        Ok(()) => match script.declare(command, name, ty, body, room) {
+        Ok(()) => match script.declare(name, ty, body, room) {
             Ok(()) => Ok(Did::Accepted),
             Err(fault) => Err(fault),
         },
@@ -172,7 +171,7 @@ fn set<L: Library>(
         script.old script.new out.old.items out.new.items result }
 {
     match write_done(out) {
-        Ok(()) => match value.value(alloc) {
+        Ok(()) => match value_of(alloc, value, script.nodes()) {
             Ok(value) => {
                 script.set(target, value);
                 Ok(Did::Accepted)

@@ -8,6 +8,7 @@ ghost use Rattle.session.specs.Replies.{name_in};
 
 mod declaring;
 mod observing;
+mod setting;
 mod stabilizing;
 
 use formula_lang::Names;
@@ -117,6 +118,13 @@ impl<L: Library> Script<L> {
             return self.names.get(position).name.bytes();
         }
         b""
+    }
+
+    /// The node of each declaration.
+    pub(crate) fn nodes(&self) -> &[NodeId]
+        ensures { result.now ≡ self.now.kept.nodes }
+    {
+        &self.nodes
     }
 
     /// How many places the script may still have.

@@ -1,32 +1,31 @@
-//! Declarations and assignments in a script.
-ghost use Rattle.std.specs.Prelude.{◌≡◌, ◌<◌, ◌≤◌, ◌+◌, ◌-◌, ◌^◌, ◌++◌, ◌∷◌, [], ℕ, List, length, slice_get, Some, None, IfOk, OnOk, OnErr, IsSome, Ok, false, option_map};
+//! Declarations in a script.
+ghost use Rattle.std.specs.Prelude.{◌≡◌, ◌<◌, ◌≤◌, ◌+◌, ◌-◌, ◌^◌, ◌++◌, ◌∷◌, [], ℕ, List, length, slice_get, Some, None, IfOk, OnOk, OnErr, Ok, false};
 ghost use Rattle.formula_elab.specs.Laying.{laid_body};
-ghost use Rattle.formula_elab.specs.Opened.{AreInOrder, def_to_make, node_at, node_of};
-ghost use Rattle.formula_elab.specs.Plan.{IsMade};
-ghost use Rattle.formula_lang.specs.CommandView.{body_view, command_view};
-ghost use Rattle.formula_lang.specs.Fits.{AssignmentFits, DeclarationFits};
+ghost use Rattle.formula_elab.specs.Make.{make_view};
+ghost use Rattle.formula_elab.specs.Opened.{AreInOrder, node_at, node_of};
+ghost use Rattle.formula_elab.specs.declared.make.Made.{Made};
+ghost use Rattle.formula_lang.specs.CommandView.{body_view};
+ghost use Rattle.formula_lang.specs.Fits.{BodyFits, DeclarationFits};
 ghost use Rattle.formula_lang.specs.NamesView.{kind_view};
 ghost use Rattle.graph.specs.Effects.{top, Adds, KeepsAll};
 ghost use Rattle.graph.specs.Standing.{IsUnbroken};
 ghost use Rattle.inc_terms.specs.Code.{def_of};
-ghost use Rattle.inc_value.specs.Value.{type_of};
-ghost use Rattle.inc_value.specs.declared.node.NodeId.{NodeId};
+ghost use Rattle.inc_value.specs.declared.ty.Ty.{Ty};
 ghost use Rattle.node_arena.specs.Arena.{live};
-ghost use Rattle.script_graph.specs.Growing.{def_ty, AllOpenFit, Extends, IsMaking, IsWelcome};
+ghost use Rattle.script_graph.specs.Growing.{def_ty, AllOpenFit, Extends, IsMadeIn, IsMaking, IsWelcome, IsWelcomeMake};
 ghost use Rattle.script_graph.specs.Kept.{arena_of, HasNode};
 ghost use Rattle.script_graph.specs.State.{MatchesMoment};
-ghost use Rattle.script_model.specs.Check.{Assign, Declare, Declared, kind_of_body, target_of_body};
+ghost use Rattle.script_model.specs.Check.{Declare, Declared, kind_of_body, target_of_body};
 ghost use Rattle.script_model.specs.Formula.{meanings_of, places_of_body};
 ghost use Rattle.script_model.specs.Step.{Moment, moved};
-ghost use Rattle.script_model.specs.Values.{Value as AValue, to_engine};
 ghost use Rattle.session.specs.Carried.{IsBeside};
 
 use super::{Script, or_no_memory};
 use formula_elab::{Made, Make, Plan, elaborate};
-use formula_lang::{Command, Declaration, Formula, Kind, Names};
+use formula_lang::{Declaration, Formula, Kind, Names};
 use graph::Graph;
 use inc_terms::Def;
-use inc_value::{NodeId, Ty, Value};
+use inc_value::{NodeId, Ty};
 use node_arena::Library;
 use script_functions::ScriptFns;
 use std::alloc::{AllocError, Global};
@@ -35,13 +34,11 @@ impl<L: Library> Script<L> {
     /// Declares a name that fits, after which so much room is left. Without memory nothing of it stays, but that ids of nodes may have been used up.
     pub(crate) fn declare(
         &mut self,
-        command: &Command,
         name: &[u8],
         ty: Ty,
         body: &Declaration,
         room: usize,
     ) -> Result<(), AllocError>
-        requires command { command_view command.now ≡ Declare name.now ty (body_view body.now) }
         requires fits { DeclarationFits (L.known self.old.library) self.old.kept.names name.now ty (body_view body.now) }
         requires room { room + places_of_body (body_view body.now) ≡ self.old.kept.room }
         requires unbroken { self.old.kept.broken ≡ None }
@@ -60,7 +57,6 @@ impl<L: Library> Script<L> {
             &mut self.graph,
             &mut self.names,
             &mut self.nodes,
-            command,
             name,
             ty,
             body,
@@ -78,20 +74,6 @@ impl<L: Library> Script<L> {
             }
         }
     }
-
-    /// Gives the variable of a target a value that fits.
-    pub(crate) fn set(&mut self, target: usize, value: Value)
-        requires fits { AssignmentFits self.old.kept.names target (type_of value) }
-        requires unbroken { self.old.kept.broken ≡ None }
-        ensures set { let F = meanings_of (L.named self.old.library) (L.value self.old.library) in
-            (m : Moment) (v : AValue) → to_engine v ≡ value → MatchesMoment F self.old.kept m
-            → MatchesMoment F self.new.kept (moved m (Assign target v)) }
-        ensures beside { IsBeside 0 0 self.old self.new }
-    {
-        self.graph.keeps_sound();
-        self.graph.assign(self.nodes[target], value);
-        self.graph.keeps_sound();
-    }
 }
 
 /// Declares a name that fits, behind the others. Without memory the names are as they were, and some nodes may have been added.
@@ -100,12 +82,10 @@ fn add_declared<L: Library>(
     graph: &mut Graph<ScriptFns<L>>,
     names: &mut Names,
     nodes: &mut Vec<NodeId>,
-    command: &Command,
     name: &[u8],
     ty: Ty,
     body: &Declaration,
 ) -> Result<(), AllocError>
-    requires command { command_view command.now ≡ Declare name.now ty (body_view body.now) }
     requires fits { DeclarationFits (L.known graph.old.functions.library) names.old name.now ty (body_view body.now) }
     requires unbroken { IsUnbroken graph.old }
     requires one_each { length nodes.old.items ≡ length names.old.declared }
@@ -113,7 +93,7 @@ fn add_declared<L: Library>(
         → HasNode graph.old.nodes nodes.old.items n d }
     requires room { live graph.old.nodes + places_of_body (body_view body.now) ≤ 1048575 }
     requires ids { graph.old.nodes.given + 2 ^ 20 < 2 ^ 64 - 1 }
-    ensures made { OnOk result ((made : List NodeId)
+    ensures made { OnOk result ((made : List Made)
         × IsMaking graph.old graph.new (laid_body (node_at nodes.old.items) 0 (body_view body.now)).makes made
         × (length made ≡ length (laid_body (node_at nodes.old.items) 0 (body_view body.now)).makes)
         × (nodes.new.items ≡ nodes.old.items ++ node_of made (laid_body (node_at nodes.old.items) 0 (body_view body.now)).root ∷ [])) }
@@ -130,7 +110,7 @@ fn add_declared<L: Library>(
     ensures nodes_kept { OnErr result (nodes.new.items ≡ nodes.old.items) }
     ensures given { graph.new.nodes.given ≤ graph.old.nodes.given + 2 ^ 20 }
 {
-    match make_declared(alloc, graph, names, nodes, command, name, ty, body) {
+    match make_declared(alloc, graph, names, nodes, body) {
         Ok(node) => {
             nodes.push(node)?;
             let target = body.target(names.len());
@@ -152,27 +132,23 @@ fn make_declared<L: Library>(
     graph: &mut Graph<ScriptFns<L>>,
     names: &Names,
     nodes: &[NodeId],
-    command: &Command,
-    name: &[u8],
-    ty: Ty,
     body: &Declaration,
 ) -> Result<NodeId, AllocError>
-    requires command { command_view command.now ≡ Declare name.now ty (body_view body.now) }
-    requires fits { DeclarationFits (L.known graph.old.functions.library) names.now name.now ty (body_view body.now) }
+    requires fits { (ty : Ty) × BodyFits (L.known graph.old.functions.library) names.now (body_view body.now) ty }
     requires unbroken { IsUnbroken graph.old }
     requires one_each { length nodes.now ≡ length names.now.declared }
     requires has_nodes { (n : ℕ) (d : Declared) → slice_get names.now.declared n ≡ Some d
         → HasNode graph.old.nodes nodes.now n d }
     requires room { live graph.old.nodes + places_of_body (body_view body.now) ≤ 1048575 }
     requires ids { graph.old.nodes.given + 2 ^ 20 < 2 ^ 64 - 1 }
-    ensures made { IfOk result (λ node. (made : List NodeId)
+    ensures made { IfOk result (λ node. (made : List Made)
         × IsMaking graph.old graph.new (laid_body (node_at nodes.now) 0 (body_view body.now)).makes made
         × (length made ≡ length (laid_body (node_at nodes.now) 0 (body_view body.now)).makes)
         × (node ≡ node_of made (laid_body (node_at nodes.now) 0 (body_view body.now)).root)) }
     ensures kept { OnErr result (Extends graph.old graph.new) }
     ensures given { graph.new.nodes.given ≤ graph.old.nodes.given + 2 ^ 20 }
 {
-    match elaborate(alloc, command, nodes) {
+    match elaborate(alloc, body, nodes) {
         Ok(plan) => {
             let mut plan = plan;
             let made = make_all(graph, &mut plan);
@@ -183,7 +159,7 @@ fn make_declared<L: Library>(
     }
 }
 
-/// Makes what is planned, one node after the other. The answer is the node of what is declared.
+/// Makes what is planned, one after the other. The answer is the node of what is declared.
 fn make_all<L: Library>(
     graph: &mut Graph<ScriptFns<L>>,
     plan: &mut Plan,
@@ -191,13 +167,12 @@ fn make_all<L: Library>(
     requires unbroken { IsUnbroken graph.old }
     requires begins { plan.old.made ≡ [] }
     requires waits { plan.old.is_waiting ≡ false }
-    requires root { IsSome plan.old.root }
     requires order { AreInOrder 0 plan.old.makes }
     requires fit { AllOpenFit (L.known graph.old.functions.library) graph.old.nodes plan.old.makes }
     requires room { live graph.old.nodes + length plan.old.makes ≤ 1048575 }
     requires ids { graph.old.nodes.given + length plan.old.makes < 2 ^ 64 - 1 }
-    ensures made { IfOk result (λ node. (made : List NodeId) × IsMaking graph.old graph.new plan.old.makes made
-        × (length made ≡ length plan.old.makes) × (Some node ≡ option_map (node_of made) plan.old.root)) }
+    ensures made { IfOk result (λ node. (made : List Made) × IsMaking graph.old graph.new plan.old.makes made
+        × (length made ≡ length plan.old.makes) × (node ≡ node_of made plan.old.root)) }
     ensures kept { OnErr result (Extends graph.old graph.new) }
     ensures given { graph.new.nodes.given ≤ graph.old.nodes.given + length plan.old.makes }
 {
@@ -208,39 +183,30 @@ fn make_all<L: Library>(
             Ok(Some(make)) => {
                 graph.keeps_sound();
                 match make_one(graph, make) {
-                    Ok(node) => made = Some(Made::Node(node)),
+                    Ok(one) => made = Some(one),
                     Err(fault) => return Err(fault),
                 }
             }
-            Ok(None) => return Ok(root_of(plan)),
+            Ok(None) => return Ok(plan.root()),
             Err(fault) => return Err(fault),
         }
     }
 }
 
-/// The node of what is declared, once all is made.
-fn root_of(plan: &Plan) -> NodeId
-    requires root { IsSome plan.now.root }
-    requires made { IsMade plan.now }
-    ensures { Some result ≡ option_map (node_of plan.now.made) plan.now.root }
-{
-    match plan.root() {
-        Some(node) => node,
-        None => unreachable!(),
-    }
-}
-
-/// Makes a node whose children are there and fit.
-fn make_one<L: Library>(graph: &mut Graph<ScriptFns<L>>, make: Make) -> Result<NodeId, AllocError>
+/// Makes what fits.
+fn make_one<L: Library>(graph: &mut Graph<ScriptFns<L>>, make: Make) -> Result<Made, AllocError>
     requires unbroken { IsUnbroken graph.old }
-    requires welcome { IsWelcome (L.known graph.old.functions.library) graph.old.nodes (def_to_make make) }
+    requires welcome { IsWelcomeMake (L.known graph.old.functions.library) graph.old.nodes (make_view make) }
     requires room { live graph.old.nodes < 1048576 }
     requires ids { graph.old.nodes.given < 2 ^ 64 - 1 }
-    ensures added { IfOk result (λ node. Adds graph.old graph.new node (top (def_to_make make) (def_ty (def_to_make make)))) }
+    ensures made { IfOk result (λ made. IsMadeIn graph.old graph.new (make_view make) made) }
     ensures kept { OnErr result (KeepsAll graph.old graph.new) }
 {
     match make {
-        Make::Node(def) => add(graph, def),
+        Make::Node(def) => match add(graph, def) {
+            Ok(node) => Ok(Made::Node(node)),
+            Err(fault) => Err(fault),
+        },
     }
 }
 

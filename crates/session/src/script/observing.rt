@@ -5,7 +5,7 @@ ghost use Rattle.graph.specs.Effects.{Observes};
 ghost use Rattle.graph.specs.Standing.{IsUnbroken};
 ghost use Rattle.inc_terms.specs.Within.{Given};
 ghost use Rattle.inc_value.specs.declared.node.ObsId.{ObsId as AnObserver};
-ghost use Rattle.script_graph.specs.Kept.{arena_of};
+ghost use Rattle.script_graph.specs.Kept.{arena_of, node_in};
 ghost use Rattle.script_graph.specs.Shown.{ShowsIt, ShowsNothing};
 ghost use Rattle.script_graph.specs.State.{MatchesMoment};
 ghost use Rattle.script_model.specs.Check.{Observe, Unobserve, is_among};
@@ -82,7 +82,7 @@ impl<L: Library> Script<L> {
     pub(crate) fn shown(&self, name: &[u8]) -> Option<&Outcome>
         requires in_use { IsTrue (is_among self.now.kept.names.observers name.now) }
         requires unbroken { self.now.kept.broken ≡ None }
-        ensures some { IfSome result (λ outcome. (F : Meanings) (m : Moment) → MatchesMoment F self.now.kept m → ShowsIt m.present name.now outcome.now) }
+        ensures some { IfSome result (λ outcome. (F : Meanings) (m : Moment) → MatchesMoment F self.now.kept m → ShowsIt (node_in self.now.kept.nodes) m.present name.now outcome.now) }
         ensures none { IfNone result ((F : Meanings) (m : Moment) → MatchesMoment F self.now.kept m → ShowsNothing m.present name.now) }
     {
         let Some(position) = self.names.observer(name) else {

@@ -1,3 +1,5 @@
+use Rattle.std.proofs.Common.{ap}
+use Rattle.formula_elab.specs.Make.{Node}
 use Rattle.formula_elab.proofs.Next.{none_next, next_needs_earlier, next_is}
 use Rattle.formula_elab.proofs.plan.make_behind.Goals as goal
 
@@ -10,7 +12,7 @@ filled-requires c =
 pub returns-in_ok-filled-in-Some : goal.returns-in_ok-filled-in-Some
 returns-in_ok-filled-in-Some c =
     let at = c.in-Some.ensures.lookup in
-    next_is c.args.makes.now c.args.made.now c.in-Some.open.now at.3.0 at.1 _ c.in_ok-filled-in-Some.ensures
+    next_is c.args.makes.now c.args.made.now c.in-Some.open.now at.3.0 at.1 _ (ap Node c.in_ok-filled-in-Some.ensures)
 
 pub returns-in-None : goal.returns-in-None
 returns-in-None c = none_next c.args.makes.now c.args.made.now c.in-None.ensures.lookup.3
