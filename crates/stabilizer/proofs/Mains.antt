@@ -112,6 +112,7 @@ module _ (F : Functions) (arena : Arena) (old mid new : Work) (n : NodeId) (p : 
       | inl k ↦ inl (before_in p k)
       | inr k ↦ inr (reads p k.0, sym (settled_as p ne) ∙ k.1)
     ];
+    stops = λ is equal p ne h. before_in p (told.stops (with_last c.last c.computed.kept, between, (equal, is)) p h);
     ran = round.ran ∙ c.ran;
     todo = rw todo rest.todo;
     strict = round.strict ∙ rest.strict;

@@ -68,6 +68,7 @@ module _ (old new : Work) (g : NecessaryPart) (p : Point) (n : NodeId) (o : Outc
       | inl k ↦ inl (sym (ap is_some (heap_as a ne)) ∙ k)
       | inr k ↦ inr (subst (λ (l : Links). Reads l a (main n)) graph.links k.0, k.1)
     ];
+    stops = λ is equal a ne h. sym (ap is_some (heap_as a ne)) ∙ w.stops is equal a ne h;
     ran = w.ran;
     todo = w.todo;
     strict = w.strict;

@@ -71,12 +71,14 @@ pub record AreEnqueued (old new : Work) (q : Point) : Type 0 where
 abbrev pub Stops : Work → Point → Outcome → Type 0
 Stops work p o = (k : Progress) × (at work.rows p ≡ Some k) × IsStopped k o
 
--- where a point's outcome is another, or its cutoff Never, the points that read it are in the heap, unless they were settled; but the point itself was settled now
+-- where a point's outcome is another, or its cutoff Never, the points that read it are in the heap, unless they were settled; but the point itself was settled now.
+-- Where it stops there none comes in
 pub record IsTold (old new : Work) (p : Point) (o : Outcome) : Type 0 where
   pub kept : (r : Point) → Holds old.graph.heap r → Holds new.graph.heap r
   pub told : (Stops old p o → ⊥) → (r : Point) → Reads old.graph.links r p → Holds new.graph.heap r ⊎ (settled_in new.round (at new.rows r) ≡ true)
   pub only : (r : Point) → Holds new.graph.heap r
       → Holds old.graph.heap r ⊎ (Reads old.graph.links r p × (settled_in new.round (at new.rows r) ≡ false))
+  pub stops : Stops old p o → (r : Point) → Holds new.graph.heap r → Holds old.graph.heap r
 
 -- a point that wasn't needed before: one of a live node has no links yet, is in the worklist, and in the heap unless it was settled
 pub record IsWoken (old new : Work) (q : Point) : Type 0 where
