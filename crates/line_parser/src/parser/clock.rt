@@ -42,7 +42,7 @@ fn every_of(tokens: &mut Cursor<'_, '_>) -> Option<Tree>
 }
 
 /// Reads one or more steps, at most `limit`, with commas between them, and the `]` that ends them.
-#[tactic(auto, using(crate::proofs::Steps::list_front_none))]
+#[tactic(auto, using(crate::proofs::Steps::list_front_none, crate::proofs::Steps::list_front_more, crate::proofs::Steps::behind_eaten, crate::proofs::Steps::steps_pushed))]
 fn some_steps_of(
     alloc: Global,
     limit: usize,

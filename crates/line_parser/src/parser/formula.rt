@@ -247,7 +247,7 @@ fn elements_of(
 
 /// Reads one or more formulas, at most `limit`, with commas between them, and the sign that ends them.
 #[cycle(formula)]
-#[tactic(auto, using(crate::proofs::Steps::list_front_none))]
+#[tactic(auto, using(crate::proofs::Steps::list_front_none, crate::proofs::Steps::list_front_more, crate::proofs::Steps::behind_eaten, crate::proofs::Steps::map_pushed))]
 fn list_of(
     alloc: Global,
     depth: usize,

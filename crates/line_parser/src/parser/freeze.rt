@@ -34,7 +34,7 @@ fn when_of(alloc: Global, tokens: &mut Cursor<'_, '_>) -> Result<Option<Name>, A
 }
 
 /// Reads `when NAME` so many times.
-#[tactic(auto, using(crate::proofs::Freezes::none_more))]
+#[tactic(auto, using(crate::proofs::Freezes::none_more, crate::proofs::Freezes::next_more))]
 fn whens_of(
     alloc: Global,
     count: usize,
