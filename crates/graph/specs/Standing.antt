@@ -33,7 +33,7 @@ pub record Standing (F : Type 0) : Type 0 where
   -- its observers, in the order in which they were made, and how many of them there were when a stabilize was accepted last
   pub observers : List Observer
   pub rooted : ℕ
-  -- whose functions were called by the stabilize that was accepted last, in order
+  -- whose functions were called by the stabilize that was accepted last, each once
   pub ran : List NodeId
   -- what a refused stabilize met
   pub refused : Option Refused

@@ -37,7 +37,7 @@ pub struct Parts {
     pub(crate) alloc: Global,
     pub(crate) arena: Arena,
     pub(crate) work: Work,
-    /// The nodes whose functions were called in the last round that ended, in order.
+    /// The nodes whose functions were called in the last round that ended, each once.
     pub(crate) ran: Vec<NodeId>,
 }
 
@@ -258,7 +258,7 @@ impl Parts {
         self.work.rows.get(main_point(id))?.outcome.as_ref()
     }
 
-    /// The nodes whose functions were called in the last round that ended, in order.
+    /// The nodes whose functions were called in the last round that ended, each once.
     pub fn ran(&self) -> &[NodeId]
         ensures { result.now ≡ self.now.ran.items }
     {

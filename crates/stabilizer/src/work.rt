@@ -44,7 +44,7 @@ pub(crate) struct Work {
     pub pairs: Vec<NodeId>,
     /// Points that are newly needed and have no links yet.
     pub todo: Vec<Point>,
-    /// The nodes whose functions were called in this round, in order. A fold of no nodes takes no call.
+    /// The nodes whose functions were called in this round, each once. A fold of no nodes takes no call.
     pub ran: Vec<NodeId>,
     /// Whether refusals are final in this round.
     pub strict: bool,

@@ -23,7 +23,7 @@ use std::alloc::Global;
 /// What the last accepted stabilize did.
 #[derive(Clone, Copy)]
 pub struct Round<'a> {
-    /// The maps and folds whose functions were called, each once, in order. A fold of no nodes takes no call and isn't
+    /// The maps and folds whose functions were called, each once. A fold of no nodes takes no call and isn't
     /// listed.
     pub ran: &'a [NodeId],
 }
