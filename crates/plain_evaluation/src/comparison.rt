@@ -13,7 +13,7 @@ pub struct Watch {
 }
 
 /// Whether two lists are the same.
-fn agree(left: &[i64], right: &[i64]) -> bool
+pub(crate) fn agree(left: &[i64], right: &[i64]) -> bool
     ensures { IsTrue result ↔ (left.now ≡ right.now) }
 {
     left == right

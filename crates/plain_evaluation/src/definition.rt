@@ -38,7 +38,7 @@ pub enum Definition {
 }
 
 /// The value at a place, 0 where there is none.
-pub fn at(values: &[i64], place: usize) -> i64
+pub(crate) fn at(values: &[i64], place: usize) -> i64
     ensures { result ≡ at values.now place }
 {
     match values.get(place) {
@@ -48,7 +48,7 @@ pub fn at(values: &[i64], place: usize) -> i64
 }
 
 /// The value at a place that a pass found so far, else what the pass before found.
-fn found(values: &[i64], earlier: &[i64], place: usize) -> i64
+pub(crate) fn found(values: &[i64], earlier: &[i64], place: usize) -> i64
     ensures { result ≡ found_at values.now earlier.now place }
 {
     match values.get(place) {
@@ -58,7 +58,7 @@ fn found(values: &[i64], earlier: &[i64], place: usize) -> i64
 }
 
 /// The place to which a variable refers, if it does.
-fn target(definitions: &[Definition], place: usize) -> Option<usize>
+pub(crate) fn target(definitions: &[Definition], place: usize) -> Option<usize>
     ensures { result ≡ target_of (slice_get definitions.now place) }
 {
     match definitions.get(place) {
