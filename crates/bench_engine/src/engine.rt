@@ -1,5 +1,6 @@
-//! A graph over the standard library, of which callers see the count of calls alone.
-ghost use Rattle.std.specs.Prelude.{◌≡◌, ◌≤◌};
+//! A graph over the standard library, of which callers see the count of calls and the numbers that its observers show.
+ghost use Rattle.std.specs.Prelude.{◌≡◌, ◌≤◌, IfOk, IsErr, None, Some};
+ghost use Rattle.bench_engine.specs.Shown.{number_in, shown_by};
 
 use crate::fault::{Fault, of_graph, of_stabilize};
 use graph::{Cutoff, Graph};
@@ -16,27 +17,30 @@ pub struct Engine {
 }
 
 impl Model for Engine {
-    ghost use Rattle.std.specs.Prelude.{ℕ};
+    ghost use Rattle.bench_engine.specs.Shown.{Measured, measured};
 
-    ghost Value = { ℕ };
+    ghost Value = { Measured };
 
-    ghost view = { λ e. e.graph.functions.library.calls };
+    ghost view = { λ e. measured e.graph.functions.library.calls e.graph };
 }
 
-/// The number of an outcome: a truth counts as 1, its contrary and what refers to a node as 0.
-fn number_of(outcome: &Outcome) -> Result<i64, Fault> {
+/// The number of an outcome: a truth counts as 1, its contrary and what refers to a node as 0. A text and no value have none.
+fn number_of(outcome: &Outcome) -> Result<i64, Fault>
+    ensures number { IfOk result (λ number. number_in outcome.now ≡ Some number) }
+    ensures none { IsErr result → number_in outcome.now ≡ None }
+{
     match outcome {
         Outcome::Val(Value::Int(number)) => Ok(*number),
         Outcome::Val(Value::Bool(true)) => Ok(1),
         Outcome::Val(Value::Bool(false) | Value::Node(..)) => Ok(0),
-        _ => Err(Fault::Refused),
+        Outcome::Val(Value::Text(_)) | Outcome::Invalid => Err(Fault::Refused),
     }
 }
 
 impl Engine {
     /// A graph without nodes.
     pub fn new(alloc: Global) -> Engine
-        ensures { result ≡ 0 }
+        ensures { result.calls ≡ 0 }
     {
         Engine {
             graph: Graph::new(alloc, ScriptFns::new(alloc, StdLib::new())),
@@ -50,14 +54,14 @@ impl Engine {
 
     /// How many functions were called so far.
     pub fn calls(&self) -> u64
-        ensures { result ≡ self.now }
+        ensures { result ≡ self.now.calls }
     {
         self.graph.functions().library().calls()
     }
 
     /// Makes a variable with its first value.
     pub fn var(&mut self, value: i64) -> Result<NodeId, Fault>
-        ensures uncalled { self.new ≡ self.old }
+        ensures uncalled { self.new.calls ≡ self.old.calls }
     {
         match self.graph.var(Value::Int(value)) {
             Ok(node) => Ok(node),
@@ -67,7 +71,7 @@ impl Engine {
 
     /// Makes a variable that holds a truth.
     pub fn truth(&mut self, holds: bool) -> Result<NodeId, Fault>
-        ensures uncalled { self.new ≡ self.old }
+        ensures uncalled { self.new.calls ≡ self.old.calls }
     {
         match self.graph.var(Value::Bool(holds)) {
             Ok(node) => Ok(node),
@@ -77,7 +81,7 @@ impl Engine {
 
     /// Makes a variable that refers to a node of numbers.
     pub fn reference(&mut self, target: NodeId) -> Result<NodeId, Fault>
-        ensures uncalled { self.new ≡ self.old }
+        ensures uncalled { self.new.calls ≡ self.old.calls }
     {
         match self.graph.var(Value::Node(target, Base::Int)) {
             Ok(node) => Ok(node),
@@ -87,7 +91,7 @@ impl Engine {
 
     /// Makes a node that reads the first of two nodes of numbers where the test holds, else the second.
     pub fn choose(&mut self, test: NodeId, yes: NodeId, no: NodeId) -> Result<NodeId, Fault>
-        ensures uncalled { self.new ≡ self.old }
+        ensures uncalled { self.new.calls ≡ self.old.calls }
     {
         match self.graph.if_(Ty::Int, test, yes, no) {
             Ok(node) => Ok(node),
@@ -97,7 +101,7 @@ impl Engine {
 
     /// Makes a node that reads the node of numbers to which a node refers.
     pub fn join(&mut self, reference: NodeId) -> Result<NodeId, Fault>
-        ensures uncalled { self.new ≡ self.old }
+        ensures uncalled { self.new.calls ≡ self.old.calls }
     {
         match self.graph.join(Ty::Int, reference) {
             Ok(node) => Ok(node),
@@ -107,7 +111,7 @@ impl Engine {
 
     /// Makes a node that applies a function to nodes.
     pub fn map(&mut self, function: Function, kids: &[NodeId]) -> Result<NodeId, Fault>
-        ensures uncalled { self.new ≡ self.old }
+        ensures uncalled { self.new.calls ≡ self.old.calls }
     {
         match self.graph.map(function.reference(), kids) {
             Ok(node) => Ok(node),
@@ -117,7 +121,7 @@ impl Engine {
 
     /// Makes the sum of nodes, as one fold.
     pub fn sum(&mut self, kids: &[NodeId]) -> Result<NodeId, Fault>
-        ensures uncalled { self.new ≡ self.old }
+        ensures uncalled { self.new.calls ≡ self.old.calls }
     {
         let add = Function::Add.reference();
         match self.graph.fold(add, Value::Int(0), kids) {
@@ -128,7 +132,7 @@ impl Engine {
 
     /// Observes a node.
     pub fn observe(&mut self, node: NodeId) -> Result<ObsId, Fault>
-        ensures uncalled { self.new ≡ self.old }
+        ensures uncalled { self.new.calls ≡ self.old.calls }
     {
         match self.graph.observe(node) {
             Ok(observer) => Ok(observer),
@@ -138,7 +142,7 @@ impl Engine {
 
     /// Ends an observer.
     pub fn unobserve(&mut self, observer: ObsId) -> Result<(), Fault>
-        ensures uncalled { self.new ≡ self.old }
+        ensures uncalled { self.new.calls ≡ self.old.calls }
     {
         match self.graph.unobserve(observer) {
             Ok(()) => Ok(()),
@@ -148,7 +152,7 @@ impl Engine {
 
     /// Gives a variable another value.
     pub fn set(&mut self, node: NodeId, value: i64) -> Result<(), Fault>
-        ensures uncalled { self.new ≡ self.old }
+        ensures uncalled { self.new.calls ≡ self.old.calls }
     {
         match self.graph.set_var(node, Value::Int(value)) {
             Ok(()) => Ok(()),
@@ -158,7 +162,7 @@ impl Engine {
 
     /// Gives a variable another truth.
     pub fn set_truth(&mut self, node: NodeId, holds: bool) -> Result<(), Fault>
-        ensures uncalled { self.new ≡ self.old }
+        ensures uncalled { self.new.calls ≡ self.old.calls }
     {
         match self.graph.set_var(node, Value::Bool(holds)) {
             Ok(()) => Ok(()),
@@ -168,7 +172,7 @@ impl Engine {
 
     /// Has a variable refer to another node of numbers.
     pub fn refer(&mut self, node: NodeId, target: NodeId) -> Result<(), Fault>
-        ensures uncalled { self.new ≡ self.old }
+        ensures uncalled { self.new.calls ≡ self.old.calls }
     {
         match self.graph.set_var(node, Value::Node(target, Base::Int)) {
             Ok(()) => Ok(()),
@@ -178,7 +182,7 @@ impl Engine {
 
     /// Has a node tell its readers of each outcome, an equal one too.
     pub fn tell_all(&mut self, node: NodeId) -> Result<(), Fault>
-        ensures uncalled { self.new ≡ self.old }
+        ensures uncalled { self.new.calls ≡ self.old.calls }
     {
         match self.graph.set_cutoff(node, Cutoff::Never) {
             Ok(()) => Ok(()),
@@ -188,7 +192,7 @@ impl Engine {
 
     /// Brings what is observed up to date.
     pub fn stabilize(&mut self) -> Result<(), Fault>
-        ensures calls_grow { self.old ≤ self.new }
+        ensures calls_grow { self.old.calls ≤ self.new.calls }
     {
         match self.graph.stabilize() {
             Ok(()) => Ok(()),
@@ -196,8 +200,11 @@ impl Engine {
         }
     }
 
-    /// What an observer shows.
-    pub fn shown(&self, observer: ObsId) -> Result<i64, Fault> {
+    /// The number that an observer shows. Where it shows none, the answer is a fault.
+    pub fn shown(&self, observer: ObsId) -> Result<i64, Fault>
+        ensures number { IfOk result (λ number. shown_by self.now observer ≡ Some number) }
+        ensures none { IsErr result → shown_by self.now observer ≡ None }
+    {
         match self.graph.value(observer) {
             Ok(outcome) => number_of(outcome),
             Err(fault) => Err(of_graph(fault)),

@@ -1,2 +1,3 @@
 pub mod Chance
+pub mod Comparing
 pub mod Jobs

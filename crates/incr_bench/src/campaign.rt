@@ -1,13 +1,13 @@
 //! A graph by chance, compared with plain evaluation after each stabilize.
-ghost use Rattle.std.specs.Prelude.{◌≡◌, ◌≤◌, IfOk};
+ghost use Rattle.std.specs.Prelude.{◌≡◌, ◌≤◌, IfOk, map, OnOk, Some};
+ghost use Rattle.incr_bench.specs.Comparing.{Compares, all_meant, all_shown};
 
 use crate::clock::{begin, since};
 use crate::generator::Generator;
-use crate::levels::{fits, passes_of};
 use crate::lists::append;
 use crate::live::Live;
 use bench_engine::Fault;
-use plain_evaluation::{Definition, Watch, counted, evaluate, meant};
+use plain_evaluation::{Definition, Watch, counted, evaluate, fits, meant, passes_of};
 use std::alloc::{AllocError, Global};
 use std::time::Clock;
 
@@ -78,7 +78,9 @@ fn small(generator: &mut Generator) -> i64 {
 }
 
 /// What the observers show, in order.
-fn shown(alloc: Global, live: &Live, watched: &[Watch]) -> Result<Vec<i64>, Fault> {
+fn shown(alloc: Global, live: &Live, watched: &[Watch]) -> Result<Vec<i64>, Fault>
+    ensures { IfOk result (λ all. map Some all.items ≡ all_shown live.now.engine live.now.observers.items watched.now) }
+{
     let mut all = Vec::new(alloc);
     for watch in watched {
         let number = live.shown(watch.observer)?;
@@ -90,7 +92,7 @@ fn shown(alloc: Global, live: &Live, watched: &[Watch]) -> Result<Vec<i64>, Faul
 impl Campaign {
     /// Makes a graph of so many nodes, where there are none, some of them observed. It is not yet stabilized.
     pub fn new(alloc: Global, live: &mut Live, size: usize) -> Result<Campaign, Fault>
-        ensures uncalled { live.new.engine ≡ live.old.engine }
+        ensures uncalled { live.new.engine.calls ≡ live.old.engine.calls }
     {
         let mut campaign = Campaign {
             alloc,
@@ -118,7 +120,7 @@ impl Campaign {
 
     /// Makes the nodes, and observes some of them.
     fn fill_and_watch(&mut self, live: &mut Live, size: usize) -> Result<(), Fault>
-        ensures uncalled { live.new.engine ≡ live.old.engine }
+        ensures uncalled { live.new.engine.calls ≡ live.old.engine.calls }
     {
         self.fill(live, size)?;
         self.watch_some(live, size / 8 + 1)
@@ -126,7 +128,7 @@ impl Campaign {
 
     /// Makes a node, beside its definition.
     fn add(&mut self, live: &mut Live, definition: Definition) -> Result<(), Fault>
-        ensures uncalled { live.new.engine ≡ live.old.engine }
+        ensures uncalled { live.new.engine.calls ≡ live.old.engine.calls }
     {
         let place = self.definitions.len();
         live.add(definition)?;
@@ -176,7 +178,7 @@ impl Campaign {
     /// A join over a variable that refers, by chance, under a chain of negations: of two such chains only one fits over the
     /// other.
     fn chain(&mut self, live: &mut Live) -> Result<(), Fault>
-        ensures uncalled { live.new.engine ≡ live.old.engine }
+        ensures uncalled { live.new.engine.calls ≡ live.old.engine.calls }
     {
         let reference = any_of(&mut self.generator, &self.references);
         self.add(live, Definition::Join(reference))?;
@@ -191,7 +193,7 @@ impl Campaign {
 
     /// Makes the nodes.
     fn fill(&mut self, live: &mut Live, size: usize) -> Result<(), Fault>
-        ensures uncalled { live.new.engine ≡ live.old.engine }
+        ensures uncalled { live.new.engine.calls ≡ live.old.engine.calls }
     {
         for _ in 0..self.variables {
             let definition = self.variable();
@@ -210,7 +212,7 @@ impl Campaign {
 
     /// Observes a node by chance.
     fn watch(&mut self, live: &mut Live) -> Result<(), Fault>
-        ensures uncalled { live.new.engine ≡ live.old.engine }
+        ensures uncalled { live.new.engine.calls ≡ live.old.engine.calls }
     {
         if self.definitions.is_empty() {
             return Ok(());
@@ -225,7 +227,7 @@ impl Campaign {
 
     /// Observes so many nodes by chance.
     fn watch_some(&mut self, live: &mut Live, count: usize) -> Result<(), Fault>
-        ensures uncalled { live.new.engine ≡ live.old.engine }
+        ensures uncalled { live.new.engine.calls ≡ live.old.engine.calls }
     {
         for _ in 0..count {
             self.watch(live)?;
@@ -235,7 +237,7 @@ impl Campaign {
 
     /// Ends an observer by chance, if there is one.
     fn end(&mut self, live: &mut Live) -> Result<(), Fault>
-        ensures uncalled { live.new.engine ≡ live.old.engine }
+        ensures uncalled { live.new.engine.calls ≡ live.old.engine.calls }
     {
         if self.watched.is_empty() {
             return Ok(());
@@ -276,7 +278,7 @@ impl Campaign {
 
     /// Gives the graph what the variables at these places are now.
     fn tell(&self, live: &mut Live, places: &[usize]) -> Result<(), Fault>
-        ensures uncalled { live.new.engine ≡ live.old.engine }
+        ensures uncalled { live.new.engine.calls ≡ live.old.engine.calls }
     {
         for place in places {
             if let Some(definition) = self.definitions.get(*place) {
@@ -288,7 +290,7 @@ impl Campaign {
 
     /// Changes some variables by chance, unless a circle or too long a chain would come of it.
     fn set_some(&mut self, live: &mut Live, count: usize) -> Result<(), Fault>
-        ensures uncalled { live.new.engine ≡ live.old.engine }
+        ensures uncalled { live.new.engine.calls ≡ live.old.engine.calls }
     {
         let before = copy(self.alloc, &self.definitions)?;
         let mut places = Vec::new(self.alloc);
@@ -305,7 +307,7 @@ impl Campaign {
 
     /// One to three changes of variables, and at times an observer made or ended.
     fn change(&mut self, live: &mut Live) -> Result<(), Fault>
-        ensures uncalled { live.new.engine ≡ live.old.engine }
+        ensures uncalled { live.new.engine.calls ≡ live.old.engine.calls }
     {
         let count = 1 + self.generator.below(3);
         self.set_some(live, count)?;
@@ -317,7 +319,11 @@ impl Campaign {
     }
 
     /// Compares what is shown with what plain evaluation gives.
-    fn compare(&mut self, live: &Live) -> Result<(), Fault> {
+    fn compare(&mut self, live: &Live) -> Result<(), Fault>
+        ensures { OnOk result (Compares (all_meant self.old.definitions.items self.old.watched.items)
+            (all_shown live.now.engine live.now.observers.items self.old.watched.items)
+            self.old.comparisons self.new.comparisons self.old.disagreements self.new.disagreements) }
+    {
         let passes = passes_of(&self.definitions);
         let values = evaluate(self.alloc, &self.definitions, passes)?;
         let meant = meant(self.alloc, &values, &self.watched)?;
@@ -325,7 +331,10 @@ impl Campaign {
     }
 
     /// Compares what is shown with what is meant.
-    fn compare_with(&mut self, live: &Live, meant: &[i64]) -> Result<(), Fault> {
+    fn compare_with(&mut self, live: &Live, meant: &[i64]) -> Result<(), Fault>
+        ensures { OnOk result (Compares meant.now (all_shown live.now.engine live.now.observers.items self.old.watched.items)
+            self.old.comparisons self.new.comparisons self.old.disagreements self.new.disagreements) }
+    {
         let shown = shown(self.alloc, live, &self.watched)?;
         self.comparisons = self.comparisons.saturating_add(meant.len() as u64);
         self.disagreements = counted(self.disagreements, meant, &shown);
@@ -334,7 +343,7 @@ impl Campaign {
 
     /// One round.
     fn round(&mut self, live: &mut Live) -> Result<(), Fault>
-        ensures calls_grow { live.old.engine ≤ live.new.engine }
+        ensures calls_grow { live.old.engine.calls ≤ live.new.engine.calls }
     {
         self.change(live)?;
         live.stabilize()?;
@@ -344,7 +353,7 @@ impl Campaign {
 
     /// So many rounds.
     fn run(&mut self, live: &mut Live, rounds: u64) -> Result<(), Fault>
-        ensures calls_grow { live.old.engine ≤ live.new.engine }
+        ensures calls_grow { live.old.engine.calls ≤ live.new.engine.calls }
     {
         for _ in 0..rounds {
             self.round(live)?;
@@ -367,8 +376,8 @@ impl Campaign {
         clock: &C,
         rounds: u64,
     ) -> Result<Tally, Fault>
-        ensures calls_grow { live.old.engine ≤ live.new.engine }
-        ensures calls { IfOk result (λ tally. tally.calls ≡ live.new.engine) }
+        ensures calls_grow { live.old.engine.calls ≤ live.new.engine.calls }
+        ensures calls { IfOk result (λ tally. tally.calls ≡ live.new.engine.calls) }
         ensures stabilizes { IfOk result (λ tally. tally.stabilizes ≡ self.new.stabilizes) }
         ensures comparisons { IfOk result (λ tally. tally.comparisons ≡ self.new.comparisons) }
         ensures disagreements { IfOk result (λ tally. tally.disagreements ≡ self.new.disagreements) }

@@ -1,5 +1,6 @@
 //! A graph with the nodes and observers that were made.
-ghost use Rattle.std.specs.Prelude.{◌≡◌, ◌≤◌, ◌+◌, [], length, OnOk};
+ghost use Rattle.std.specs.Prelude.{◌≡◌, ◌≤◌, ◌+◌, [], length, IfOk, IsErr, None, OnOk, Some};
+ghost use Rattle.incr_bench.specs.Comparing.{observer_at, shown_at};
 
 use crate::lists::append;
 use bench_engine::{Engine, Fault};
@@ -28,7 +29,9 @@ fn node_at(nodes: &[NodeId], place: usize) -> NodeId {
 }
 
 /// The observer at a place, or one that no graph has.
-fn observer_at(observers: &[ObsId], place: usize) -> ObsId {
+fn observer_at(observers: &[ObsId], place: usize) -> ObsId
+    ensures { result ≡ observer_at observers.now place }
+{
     match observers.get(place) {
         Some(observer) => *observer,
         None => ObsId(u32::MAX),
@@ -38,7 +41,7 @@ fn observer_at(observers: &[ObsId], place: usize) -> ObsId {
 impl Live {
     /// A graph without nodes.
     pub fn new(alloc: Global) -> Live
-        ensures uncalled { result.engine ≡ 0 }
+        ensures uncalled { result.engine.calls ≡ 0 }
         ensures empty { result.nodes.items ≡ [] }
         ensures unobserved { result.observers.items ≡ [] }
     {
@@ -56,7 +59,7 @@ impl Live {
 
     /// How many functions were called so far.
     pub fn calls(&self) -> u64
-        ensures { result ≡ self.now.engine }
+        ensures { result ≡ self.now.engine.calls }
     {
         self.engine.calls()
     }
@@ -71,7 +74,7 @@ impl Live {
     /// Makes a variable with its first value.
     pub fn var(&mut self, value: i64) -> Result<(), Fault>
         ensures grows { OnOk result (length self.new.nodes.items ≡ length self.old.nodes.items + 1) }
-        ensures uncalled { self.new.engine ≡ self.old.engine }
+        ensures uncalled { self.new.engine.calls ≡ self.old.engine.calls }
     {
         let node = self.engine.var(value)?;
         append(&mut self.nodes, node)?;
@@ -81,7 +84,7 @@ impl Live {
     /// Makes a variable that holds a truth.
     pub fn truth(&mut self, holds: bool) -> Result<(), Fault>
         ensures grows { OnOk result (length self.new.nodes.items ≡ length self.old.nodes.items + 1) }
-        ensures uncalled { self.new.engine ≡ self.old.engine }
+        ensures uncalled { self.new.engine.calls ≡ self.old.engine.calls }
     {
         let node = self.engine.truth(holds)?;
         append(&mut self.nodes, node)?;
@@ -91,7 +94,7 @@ impl Live {
     /// Makes a variable that refers to a node.
     pub fn reference(&mut self, target: usize) -> Result<(), Fault>
         ensures grows { OnOk result (length self.new.nodes.items ≡ length self.old.nodes.items + 1) }
-        ensures uncalled { self.new.engine ≡ self.old.engine }
+        ensures uncalled { self.new.engine.calls ≡ self.old.engine.calls }
     {
         let node = self.engine.reference(node_at(&self.nodes, target))?;
         append(&mut self.nodes, node)?;
@@ -101,7 +104,7 @@ impl Live {
     /// Makes a node that reads the first of two nodes where the test holds, else the second.
     pub fn choose(&mut self, test: usize, yes: usize, no: usize) -> Result<(), Fault>
         ensures grows { OnOk result (length self.new.nodes.items ≡ length self.old.nodes.items + 1) }
-        ensures uncalled { self.new.engine ≡ self.old.engine }
+        ensures uncalled { self.new.engine.calls ≡ self.old.engine.calls }
     {
         let node = self.engine.choose(
             node_at(&self.nodes, test),
@@ -115,7 +118,7 @@ impl Live {
     /// Makes a node that reads the node to which another refers.
     pub fn join(&mut self, reference: usize) -> Result<(), Fault>
         ensures grows { OnOk result (length self.new.nodes.items ≡ length self.old.nodes.items + 1) }
-        ensures uncalled { self.new.engine ≡ self.old.engine }
+        ensures uncalled { self.new.engine.calls ≡ self.old.engine.calls }
     {
         let node = self.engine.join(node_at(&self.nodes, reference))?;
         append(&mut self.nodes, node)?;
@@ -125,7 +128,7 @@ impl Live {
     /// Makes a node that applies a function to nodes.
     fn map(&mut self, function: Function, kids: &[NodeId]) -> Result<(), Fault>
         ensures grows { OnOk result (length self.new.nodes.items ≡ length self.old.nodes.items + 1) }
-        ensures uncalled { self.new.engine ≡ self.old.engine }
+        ensures uncalled { self.new.engine.calls ≡ self.old.engine.calls }
     {
         let node = self.engine.map(function, kids)?;
         append(&mut self.nodes, node)?;
@@ -135,7 +138,7 @@ impl Live {
     /// Makes the negation of a node.
     pub fn neg(&mut self, kid: usize) -> Result<(), Fault>
         ensures grows { OnOk result (length self.new.nodes.items ≡ length self.old.nodes.items + 1) }
-        ensures uncalled { self.new.engine ≡ self.old.engine }
+        ensures uncalled { self.new.engine.calls ≡ self.old.engine.calls }
     {
         let kids = [node_at(&self.nodes, kid)];
         self.map(Function::Neg, &kids)
@@ -144,7 +147,7 @@ impl Live {
     /// Makes the sum of two nodes.
     pub fn sum(&mut self, left: usize, right: usize) -> Result<(), Fault>
         ensures grows { OnOk result (length self.new.nodes.items ≡ length self.old.nodes.items + 1) }
-        ensures uncalled { self.new.engine ≡ self.old.engine }
+        ensures uncalled { self.new.engine.calls ≡ self.old.engine.calls }
     {
         let kids = [node_at(&self.nodes, left), node_at(&self.nodes, right)];
         self.map(Function::Add, &kids)
@@ -153,7 +156,7 @@ impl Live {
     /// Makes the comparison of two nodes.
     pub fn less(&mut self, left: usize, right: usize) -> Result<(), Fault>
         ensures grows { OnOk result (length self.new.nodes.items ≡ length self.old.nodes.items + 1) }
-        ensures uncalled { self.new.engine ≡ self.old.engine }
+        ensures uncalled { self.new.engine.calls ≡ self.old.engine.calls }
     {
         let kids = [node_at(&self.nodes, left), node_at(&self.nodes, right)];
         self.map(Function::Lt, &kids)
@@ -162,7 +165,7 @@ impl Live {
     /// Makes the choice between two nodes.
     pub fn pick(&mut self, test: usize, first: usize, second: usize) -> Result<(), Fault>
         ensures grows { OnOk result (length self.new.nodes.items ≡ length self.old.nodes.items + 1) }
-        ensures uncalled { self.new.engine ≡ self.old.engine }
+        ensures uncalled { self.new.engine.calls ≡ self.old.engine.calls }
     {
         let kids = [
             node_at(&self.nodes, test),
@@ -175,7 +178,7 @@ impl Live {
     /// Makes the sum of all nodes that were made so far, as one fold.
     pub fn sum_all(&mut self) -> Result<(), Fault>
         ensures grows { OnOk result (length self.new.nodes.items ≡ length self.old.nodes.items + 1) }
-        ensures uncalled { self.new.engine ≡ self.old.engine }
+        ensures uncalled { self.new.engine.calls ≡ self.old.engine.calls }
     {
         let node = self.engine.sum(&self.nodes)?;
         append(&mut self.nodes, node)?;
@@ -185,7 +188,7 @@ impl Live {
     /// Makes what the definition says.
     pub fn add(&mut self, definition: Definition) -> Result<(), Fault>
         ensures grows { OnOk result (length self.new.nodes.items ≡ length self.old.nodes.items + 1) }
-        ensures uncalled { self.new.engine ≡ self.old.engine }
+        ensures uncalled { self.new.engine.calls ≡ self.old.engine.calls }
     {
         match definition {
             Definition::Var(value) => self.var(value),
@@ -202,7 +205,7 @@ impl Live {
 
     /// Observes a node.
     pub fn observe(&mut self, place: usize) -> Result<(), Fault>
-        ensures uncalled { self.new.engine ≡ self.old.engine }
+        ensures uncalled { self.new.engine.calls ≡ self.old.engine.calls }
         ensures same_nodes { self.new.nodes.items ≡ self.old.nodes.items }
         ensures grows { OnOk result (length self.new.observers.items ≡ length self.old.observers.items + 1) }
     {
@@ -213,7 +216,7 @@ impl Live {
 
     /// Ends an observer.
     pub fn unobserve(&mut self, place: usize) -> Result<(), Fault>
-        ensures uncalled { self.new.engine ≡ self.old.engine }
+        ensures uncalled { self.new.engine.calls ≡ self.old.engine.calls }
         ensures same_nodes { self.new.nodes.items ≡ self.old.nodes.items }
     {
         self.engine.unobserve(observer_at(&self.observers, place))
@@ -221,7 +224,7 @@ impl Live {
 
     /// Gives a variable another value.
     pub fn set(&mut self, place: usize, value: i64) -> Result<(), Fault>
-        ensures uncalled { self.new.engine ≡ self.old.engine }
+        ensures uncalled { self.new.engine.calls ≡ self.old.engine.calls }
         ensures same_nodes { self.new.nodes.items ≡ self.old.nodes.items }
     {
         self.engine.set(node_at(&self.nodes, place), value)
@@ -229,7 +232,7 @@ impl Live {
 
     /// Gives a variable another truth.
     pub fn set_truth(&mut self, place: usize, holds: bool) -> Result<(), Fault>
-        ensures uncalled { self.new.engine ≡ self.old.engine }
+        ensures uncalled { self.new.engine.calls ≡ self.old.engine.calls }
         ensures same_nodes { self.new.nodes.items ≡ self.old.nodes.items }
     {
         self.engine.set_truth(node_at(&self.nodes, place), holds)
@@ -237,7 +240,7 @@ impl Live {
 
     /// Has a variable refer to another node.
     pub fn refer(&mut self, place: usize, target: usize) -> Result<(), Fault>
-        ensures uncalled { self.new.engine ≡ self.old.engine }
+        ensures uncalled { self.new.engine.calls ≡ self.old.engine.calls }
         ensures same_nodes { self.new.nodes.items ≡ self.old.nodes.items }
     {
         self.engine
@@ -246,7 +249,7 @@ impl Live {
 
     /// Gives a variable what the definition says. Others aren't variables.
     pub fn change(&mut self, place: usize, definition: Definition) -> Result<(), Fault>
-        ensures uncalled { self.new.engine ≡ self.old.engine }
+        ensures uncalled { self.new.engine.calls ≡ self.old.engine.calls }
         ensures same_nodes { self.new.nodes.items ≡ self.old.nodes.items }
     {
         match definition {
@@ -259,7 +262,7 @@ impl Live {
 
     /// Has a node tell its readers of each outcome, an equal one too.
     pub fn tell_all(&mut self, place: usize) -> Result<(), Fault>
-        ensures uncalled { self.new.engine ≡ self.old.engine }
+        ensures uncalled { self.new.engine.calls ≡ self.old.engine.calls }
         ensures same_nodes { self.new.nodes.items ≡ self.old.nodes.items }
     {
         self.engine.tell_all(node_at(&self.nodes, place))
@@ -267,14 +270,17 @@ impl Live {
 
     /// Brings what is observed up to date.
     pub fn stabilize(&mut self) -> Result<(), Fault>
-        ensures calls_grow { self.old.engine ≤ self.new.engine }
+        ensures calls_grow { self.old.engine.calls ≤ self.new.engine.calls }
         ensures same_nodes { self.new.nodes.items ≡ self.old.nodes.items }
     {
         self.engine.stabilize()
     }
 
-    /// What an observer shows.
-    pub fn shown(&self, place: usize) -> Result<i64, Fault> {
+    /// The number that an observer shows. Where it shows none, the answer is a fault.
+    pub fn shown(&self, place: usize) -> Result<i64, Fault>
+        ensures number { IfOk result (λ number. shown_at self.now.engine self.now.observers.items place ≡ Some number) }
+        ensures none { IsErr result → shown_at self.now.engine self.now.observers.items place ≡ None }
+    {
         self.engine.shown(observer_at(&self.observers, place))
     }
 }

@@ -6,7 +6,6 @@ mod campaign;
 mod clock;
 mod generator;
 mod job;
-mod levels;
 mod lists;
 mod live;
 mod needs;

@@ -46,7 +46,7 @@ fn shuffle(items: &mut [usize])
 
 /// Makes one variable under so many negations, not observed. The answer is the order in which their observers end.
 pub fn build(alloc: Global, live: &mut Live, size: usize) -> Result<Vec<usize>, Fault>
-    ensures uncalled { live.new.engine ≡ live.old.engine }
+    ensures uncalled { live.new.engine.calls ≡ live.old.engine.calls }
     ensures order { IfOk result (λ order. length order.items ≡ size) }
     ensures grows { OnOk result (length live.new.nodes.items ≡ length live.old.nodes.items + (size + 1)) }
 {
@@ -58,7 +58,7 @@ pub fn build(alloc: Global, live: &mut Live, size: usize) -> Result<Vec<usize>, 
 
 /// Observes so many negations. The answer is the time.
 fn observe<C: Clock>(live: &mut Live, clock: &C, size: usize) -> Result<u64, Fault>
-    ensures uncalled { live.new.engine ≡ live.old.engine }
+    ensures uncalled { live.new.engine.calls ≡ live.old.engine.calls }
 {
     let start = begin(clock);
     observe_all(live, 1, size)?;
@@ -67,7 +67,7 @@ fn observe<C: Clock>(live: &mut Live, clock: &C, size: usize) -> Result<u64, Fau
 
 /// Brings what is observed up to date. The answer is the time.
 fn stabilize<C: Clock>(live: &mut Live, clock: &C) -> Result<u64, Fault>
-    ensures calls_grow { live.old.engine ≤ live.new.engine }
+    ensures calls_grow { live.old.engine.calls ≤ live.new.engine.calls }
 {
     let start = begin(clock);
     live.stabilize()?;
@@ -76,7 +76,7 @@ fn stabilize<C: Clock>(live: &mut Live, clock: &C) -> Result<u64, Fault>
 
 /// Ends each observer, in the order. The answer is the time.
 fn end<C: Clock>(live: &mut Live, clock: &C, order: &[usize]) -> Result<u64, Fault>
-    ensures uncalled { live.new.engine ≡ live.old.engine }
+    ensures uncalled { live.new.engine.calls ≡ live.old.engine.calls }
 {
     let start = begin(clock);
     for place in order {
@@ -87,7 +87,7 @@ fn end<C: Clock>(live: &mut Live, clock: &C, order: &[usize]) -> Result<u64, Fau
 
 /// Changes the variable, which is needed no more, and stabilizes. The answer is how many functions were called for it.
 fn change_unneeded(live: &mut Live) -> Result<u64, Fault>
-    ensures { IfOk result (λ called. live.old.engine + called ≡ live.new.engine) }
+    ensures { IfOk result (λ called. live.old.engine.calls + called ≡ live.new.engine.calls) }
 {
     let before = live.calls();
     change(live, 0, 2)?;
@@ -98,7 +98,7 @@ fn change_unneeded(live: &mut Live) -> Result<u64, Fault>
 fn finish<C: Clock>(live: &mut Live, clock: &C, order: &[usize], ends: Ends) -> Result<Ends, Fault>
     ensures building { IfOk result (λ found. found.building ≡ ends.building) }
     ensures calls { IfOk result (λ found. found.calls ≡ ends.calls) }
-    ensures after { IfOk result (λ found. live.old.engine + found.after ≡ live.new.engine) }
+    ensures after { IfOk result (λ found. live.old.engine.calls + found.after ≡ live.new.engine.calls) }
 {
     let ending = end(live, clock, order)?;
     let after = change_unneeded(live)?;
@@ -117,7 +117,7 @@ pub fn measure<C: Clock>(
     building: u64,
 ) -> Result<Ends, Fault>
     ensures building { IfOk result (λ ends. ends.building ≡ building) }
-    ensures calls { IfOk result (λ ends. ends.calls + ends.after ≡ live.new.engine) }
+    ensures calls { IfOk result (λ ends. ends.calls + ends.after ≡ live.new.engine.calls) }
 {
     let observing = observe(live, clock, order.len())?;
     let stabilizing = stabilize(live, clock)?;

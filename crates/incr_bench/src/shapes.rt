@@ -44,7 +44,7 @@ pub struct Steady {
 
 /// One variable under a chain of negations, of which the last is observed.
 fn chain(live: &mut Live, size: usize) -> Result<(), Fault>
-    ensures uncalled { live.new.engine ≡ live.old.engine }
+    ensures uncalled { live.new.engine.calls ≡ live.old.engine.calls }
 {
     live.var(1)?;
     for i in 0..size {
@@ -55,7 +55,7 @@ fn chain(live: &mut Live, size: usize) -> Result<(), Fault>
 
 /// Negations of the first node.
 fn negations(live: &mut Live, size: usize) -> Result<(), Fault>
-    ensures uncalled { live.new.engine ≡ live.old.engine }
+    ensures uncalled { live.new.engine.calls ≡ live.old.engine.calls }
     ensures grows { OnOk result (length live.new.nodes.items ≡ length live.old.nodes.items + size) }
 {
     for _ in 0..size {
@@ -66,7 +66,7 @@ fn negations(live: &mut Live, size: usize) -> Result<(), Fault>
 
 /// Observes so many nodes, from a place on.
 pub fn observe_all(live: &mut Live, start: usize, size: usize) -> Result<(), Fault>
-    ensures uncalled { live.new.engine ≡ live.old.engine }
+    ensures uncalled { live.new.engine.calls ≡ live.old.engine.calls }
     ensures same_nodes { live.new.nodes.items ≡ live.old.nodes.items }
 {
     for i in 0..size {
@@ -77,7 +77,7 @@ pub fn observe_all(live: &mut Live, start: usize, size: usize) -> Result<(), Fau
 
 /// One variable under negations.
 pub fn star(live: &mut Live, size: usize) -> Result<(), Fault>
-    ensures uncalled { live.new.engine ≡ live.old.engine }
+    ensures uncalled { live.new.engine.calls ≡ live.old.engine.calls }
     ensures grows { OnOk result (length live.new.nodes.items ≡ length live.old.nodes.items + (size + 1)) }
 {
     live.var(1)?;
@@ -86,7 +86,7 @@ pub fn star(live: &mut Live, size: usize) -> Result<(), Fault>
 
 /// One variable under negations, all observed.
 fn fan(live: &mut Live, size: usize) -> Result<(), Fault>
-    ensures uncalled { live.new.engine ≡ live.old.engine }
+    ensures uncalled { live.new.engine.calls ≡ live.old.engine.calls }
 {
     star(live, size)?;
     observe_all(live, 1, size)
@@ -94,7 +94,7 @@ fn fan(live: &mut Live, size: usize) -> Result<(), Fault>
 
 /// Variables.
 fn variables(live: &mut Live, size: usize) -> Result<(), Fault>
-    ensures uncalled { live.new.engine ≡ live.old.engine }
+    ensures uncalled { live.new.engine.calls ≡ live.old.engine.calls }
     ensures grows { OnOk result (length live.new.nodes.items ≡ length live.old.nodes.items + size) }
 {
     for _ in 0..size {
@@ -106,7 +106,7 @@ fn variables(live: &mut Live, size: usize) -> Result<(), Fault>
 /// Sums of the nodes, pairwise, until one is left.
 fn sums(live: &mut Live, size: usize) -> Result<(), Fault>
     requires { size ≤ 1000000 }
-    ensures uncalled { live.new.engine ≡ live.old.engine }
+    ensures uncalled { live.new.engine.calls ≡ live.old.engine.calls }
 {
     for k in 1..size {
         live.sum(2 * (k - 1), 2 * k - 1)?;
@@ -118,7 +118,7 @@ fn sums(live: &mut Live, size: usize) -> Result<(), Fault>
 fn tree(live: &mut Live, size: usize) -> Result<(), Fault>
     requires small { size ≤ 1000000 }
     requires some { 0 < size }
-    ensures uncalled { live.new.engine ≡ live.old.engine }
+    ensures uncalled { live.new.engine.calls ≡ live.old.engine.calls }
 {
     variables(live, size)?;
     sums(live, size)?;
@@ -127,7 +127,7 @@ fn tree(live: &mut Live, size: usize) -> Result<(), Fault>
 
 /// Variables that are summed by one fold, which is observed.
 fn folded(live: &mut Live, size: usize) -> Result<(), Fault>
-    ensures uncalled { live.new.engine ≡ live.old.engine }
+    ensures uncalled { live.new.engine.calls ≡ live.old.engine.calls }
 {
     variables(live, size)?;
     live.sum_all()?;
@@ -136,7 +136,7 @@ fn folded(live: &mut Live, size: usize) -> Result<(), Fault>
 
 /// A variable that is compared with 0, two numbers, and the outcome of the comparison: four variables and node 4.
 fn comparison(live: &mut Live) -> Result<(), Fault>
-    ensures uncalled { live.new.engine ≡ live.old.engine }
+    ensures uncalled { live.new.engine.calls ≡ live.old.engine.calls }
 {
     live.var(1)?;
     live.var(0)?;
@@ -147,7 +147,7 @@ fn comparison(live: &mut Live) -> Result<(), Fault>
 
 /// Readers of the comparison.
 fn readers(live: &mut Live, size: usize) -> Result<(), Fault>
-    ensures uncalled { live.new.engine ≡ live.old.engine }
+    ensures uncalled { live.new.engine.calls ≡ live.old.engine.calls }
 {
     for _ in 0..size {
         live.pick(4, 2, 3)?;
@@ -157,7 +157,7 @@ fn readers(live: &mut Live, size: usize) -> Result<(), Fault>
 
 /// A comparison that stays as it is, with readers behind it, all observed.
 fn cut(live: &mut Live, size: usize) -> Result<(), Fault>
-    ensures uncalled { live.new.engine ≡ live.old.engine }
+    ensures uncalled { live.new.engine.calls ≡ live.old.engine.calls }
 {
     comparison(live)?;
     readers(live, size)?;
@@ -166,7 +166,7 @@ fn cut(live: &mut Live, size: usize) -> Result<(), Fault>
 
 /// The same, but the comparison tells its readers of each outcome.
 fn never(live: &mut Live, size: usize) -> Result<(), Fault>
-    ensures uncalled { live.new.engine ≡ live.old.engine }
+    ensures uncalled { live.new.engine.calls ≡ live.old.engine.calls }
 {
     cut(live, size)?;
     live.tell_all(4)
@@ -174,7 +174,7 @@ fn never(live: &mut Live, size: usize) -> Result<(), Fault>
 
 /// A variable and its negation, which is observed in every second pair.
 fn pair(live: &mut Live, i: usize) -> Result<(), Fault>
-    ensures uncalled { live.new.engine ≡ live.old.engine }
+    ensures uncalled { live.new.engine.calls ≡ live.old.engine.calls }
 {
     let place = live.len();
     live.var(7)?;
@@ -188,7 +188,7 @@ fn pair(live: &mut Live, i: usize) -> Result<(), Fault>
 
 /// Nodes at rest: variables with their negations.
 fn rest(live: &mut Live, size: usize) -> Result<(), Fault>
-    ensures uncalled { live.new.engine ≡ live.old.engine }
+    ensures uncalled { live.new.engine.calls ≡ live.old.engine.calls }
 {
     for i in 0..size / 2 {
         pair(live, i)?;
@@ -198,7 +198,7 @@ fn rest(live: &mut Live, size: usize) -> Result<(), Fault>
 
 /// A chain that changes, beside nodes at rest.
 fn idle(live: &mut Live, size: usize) -> Result<(), Fault>
-    ensures uncalled { live.new.engine ≡ live.old.engine }
+    ensures uncalled { live.new.engine.calls ≡ live.old.engine.calls }
 {
     chain(live, IDLE_CHAIN)?;
     rest(live, size)
@@ -206,7 +206,7 @@ fn idle(live: &mut Live, size: usize) -> Result<(), Fault>
 
 /// A chain of negations of a node.
 fn chain_over(live: &mut Live, kid: usize, size: usize) -> Result<(), Fault>
-    ensures uncalled { live.new.engine ≡ live.old.engine }
+    ensures uncalled { live.new.engine.calls ≡ live.old.engine.calls }
 {
     live.neg(kid)?;
     for _ in 1..size {
@@ -218,7 +218,7 @@ fn chain_over(live: &mut Live, kid: usize, size: usize) -> Result<(), Fault>
 /// A truth and a number, both variables, and an `if` over two chains of negations of the number, which is observed.
 fn flip(live: &mut Live, size: usize) -> Result<(), Fault>
     requires { size ≤ 1000000 }
-    ensures uncalled { live.new.engine ≡ live.old.engine }
+    ensures uncalled { live.new.engine.calls ≡ live.old.engine.calls }
 {
     live.truth(true)?;
     live.var(1)?;
@@ -230,7 +230,7 @@ fn flip(live: &mut Live, size: usize) -> Result<(), Fault>
 
 /// The same, beside nodes at rest.
 fn aside(live: &mut Live, size: usize) -> Result<(), Fault>
-    ensures uncalled { live.new.engine ≡ live.old.engine }
+    ensures uncalled { live.new.engine.calls ≡ live.old.engine.calls }
 {
     flip(live, IDLE_CHAIN)?;
     rest(live, size)
@@ -239,7 +239,7 @@ fn aside(live: &mut Live, size: usize) -> Result<(), Fault>
 /// Variables, one that refers to the first of them, and a join over it, which is observed.
 fn switch(live: &mut Live, size: usize) -> Result<(), Fault>
     requires { size ≤ 1000000 }
-    ensures uncalled { live.new.engine ≡ live.old.engine }
+    ensures uncalled { live.new.engine.calls ≡ live.old.engine.calls }
 {
     variables(live, size)?;
     live.reference(0)?;
@@ -251,7 +251,7 @@ fn switch(live: &mut Live, size: usize) -> Result<(), Fault>
 fn fill(live: &mut Live, shape: Shape, size: usize) -> Result<(), Fault>
     requires small { size ≤ 1000000 }
     requires some { 0 < size }
-    ensures uncalled { live.new.engine ≡ live.old.engine }
+    ensures uncalled { live.new.engine.calls ≡ live.old.engine.calls }
 {
     match shape {
         Shape::Chain => chain(live, size),
@@ -301,7 +301,7 @@ fn fresh(round: u64) -> i64 {
 
 /// Changes a variable and stabilizes.
 pub fn change(live: &mut Live, place: usize, value: i64) -> Result<(), Fault>
-    ensures calls_grow { live.old.engine ≤ live.new.engine }
+    ensures calls_grow { live.old.engine.calls ≤ live.new.engine.calls }
     ensures same_nodes { live.new.nodes.items ≡ live.old.nodes.items }
 {
     live.set(place, value)?;
@@ -310,7 +310,7 @@ pub fn change(live: &mut Live, place: usize, value: i64) -> Result<(), Fault>
 
 /// Chooses the other chain and stabilizes.
 fn flipped(live: &mut Live, round: u64) -> Result<(), Fault>
-    ensures calls_grow { live.old.engine ≤ live.new.engine }
+    ensures calls_grow { live.old.engine.calls ≤ live.new.engine.calls }
     ensures same_nodes { live.new.nodes.items ≡ live.old.nodes.items }
 {
     live.set_truth(0, round % 2 == 1)?;
@@ -322,7 +322,7 @@ impl Steady {
     pub fn new(live: &mut Live, shape: Shape, size: usize) -> Result<Steady, Fault>
         requires small { size ≤ 1000000 }
         requires some { 0 < size }
-        ensures calls_grow { live.old.engine ≤ live.new.engine }
+        ensures calls_grow { live.old.engine.calls ≤ live.new.engine.calls }
     {
         fill(live, shape, size)?;
         live.stabilize()?;
@@ -334,7 +334,7 @@ impl Steady {
 
     /// One round.
     fn round(self, live: &mut Live, round: u64) -> Result<(), Fault>
-        ensures calls_grow { live.old.engine ≤ live.new.engine }
+        ensures calls_grow { live.old.engine.calls ≤ live.new.engine.calls }
     {
         match self.act {
             Act::Turn(variables) => change(live, turn(round, variables), fresh(round)),
@@ -352,7 +352,7 @@ impl Steady {
 
     /// So many rounds.
     fn run(self, live: &mut Live, rounds: u64) -> Result<(), Fault>
-        ensures calls_grow { live.old.engine ≤ live.new.engine }
+        ensures calls_grow { live.old.engine.calls ≤ live.new.engine.calls }
     {
         for round in 0..rounds {
             self.round(live, round)?;
@@ -369,7 +369,7 @@ impl Steady {
         building: u64,
     ) -> Result<Rounds, Fault>
         ensures building { IfOk result (λ rounds. rounds.building ≡ building) }
-        ensures calls { IfOk result (λ rounds. live.old.engine + rounds.calls ≡ live.new.engine) }
+        ensures calls { IfOk result (λ rounds. live.old.engine.calls + rounds.calls ≡ live.new.engine.calls) }
     {
         let before = live.calls();
         let start = begin(clock);

@@ -70,7 +70,10 @@ fn height_of(
         Definition::Var(_) | Definition::Truth(_) | Definition::Refer(_) => 0,
         Definition::Neg(kid) => over(found(heights, earlier, kid), 0),
         Definition::Sum(left, right) | Definition::Less(left, right) => {
-            over(found(heights, earlier, left), found(heights, earlier, right))
+            over(
+                found(heights, earlier, left),
+                found(heights, earlier, right),
+            )
         }
         Definition::Pick(test, first, second) => {
             let kids = found(heights, earlier, first).max(found(heights, earlier, second));
