@@ -1,5 +1,5 @@
 -- What a measured graph shows, compared with what plain evaluation gives.
-use Rattle.std.specs.Prelude.{◌≡◌, ◌+◌, ◌^◌, ℕ, min, List, length, map, Option, Some, unwrap_or, ℤ, slice_get}
+use Rattle.std.specs.Prelude.{◌≡◌, ◌+◌, ◌-◌, ◌^◌, ℕ, min, List, length, map, Option, Some, unwrap_or, ℤ, slice_get}
 use Rattle.inc_value.specs.declared.node.ObsId.{ObsId}
 use Rattle.plain_evaluation.specs.Levels.{passes_of}
 use Rattle.plain_evaluation.specs.Plain.{at, evaluated}
