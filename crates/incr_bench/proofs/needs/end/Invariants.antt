@@ -2,4 +2,4 @@ use Rattle.std.proofs.Common.{◌≡◌}
 use Rattle.incr_bench.proofs.needs.end.Given as goal
 
 abbrev pub invariant-loop-place : goal.invariant-loop-place
-invariant-loop-place g l = l.live.engine ≡ l.fn.live.engine
+invariant-loop-place g l = l.live.engine.calls ≡ l.fn.live.engine.calls

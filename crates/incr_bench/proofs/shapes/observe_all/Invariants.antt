@@ -3,6 +3,6 @@ use Rattle.incr_bench.proofs.shapes.observe_all.Given as goal
 
 abbrev pub invariant-loop-i : goal.invariant-loop-i
 invariant-loop-i l = record {
-  uncalled : l.live.engine ≡ l.fn.live.engine;
+  uncalled : l.live.engine.calls ≡ l.fn.live.engine.calls;
   same_nodes : l.live.nodes.items ≡ l.fn.live.nodes.items;
 }
