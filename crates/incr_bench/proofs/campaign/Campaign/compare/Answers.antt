@@ -1,4 +1,4 @@
-use Rattle.std.proofs.Common.{◌≡◌, ◌∙◌}
+use Rattle.std.proofs.Common.{◌≡◌}
 use Rattle.incr_bench.specs.Comparing.{all_meant}
 use Rattle.incr_bench.proofs.campaign.Campaign.compare.Goals as goal
 

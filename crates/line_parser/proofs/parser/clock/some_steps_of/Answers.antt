@@ -1,4 +1,4 @@
-use Rattle.std.proofs.Common.{◌≡◌, map, None, Some, ◌∙◌}
+use Rattle.std.proofs.Common.{◌≡◌, map, Some, ◌∙◌}
 use Rattle.line_parser.specs.View.{timed_view}
 use Rattle.script_model.specs.Parsing.{step_front}
 use Rattle.line_parser.proofs.Steps.{list_broken, list_continued, list_ended, none_read, steps_pushed}

@@ -1,4 +1,4 @@
-use Rattle.std.proofs.Common.{◌≡◌, map, None, Some, ◌∙◌}
+use Rattle.std.proofs.Common.{◌≡◌, map, Some, ◌∙◌}
 use Rattle.line_parser.specs.TreeView.{tree_view}
 use Rattle.line_tokens.specs.View.{sign_view}
 use Rattle.script_model.specs.Parsing.{formula_read}
