@@ -33,6 +33,8 @@ formula_level (level.Literal value) = formula.Literal (constant_view value)
 formula_level (level.Name position) = formula.Name position
 formula_level (level.Apply function arguments) = formula.Apply function (formulas_of arguments.items)
 formula_level (level.Fold function first elements) = formula.Fold function (constant_view first) (formulas_of elements.items)
+formula_level (level.If test a b) = formula.If test.value a.value b.value
+formula_level (level.Join child) = formula.Join child.value
 
 -- a formula with its positions
 abbrev pub formula_view : Formula → formula.Formula

@@ -4,12 +4,14 @@ use Rattle.inc_value.specs.Sig.{IsMapSig}
 use Rattle.inc_value.specs.Ty.{IsBase}
 use Rattle.inc_value.specs.declared.function.FnKind.TheVariants.{Map}
 use Rattle.inc_value.specs.declared.function.FnRef.{FnRef}
+use Rattle.inc_value.specs.declared.ty.Base.{Base}
 use Rattle.inc_value.specs.declared.ty.Ty.{Ty}
-use Rattle.script_model.specs.Check.{Command, Declare, Assign, Observe, Unobserve, Stabilize, Show, Declared, Names, first_named, is_among, is_variable, target_of_body}
+use Rattle.inc_value.specs.declared.ty.Ty.TheVariants as types
+use Rattle.script_model.specs.Check.{type_of_base, Command, Declare, Assign, Observe, Unobserve, Stabilize, Show, Declared, Names, first_named, is_among, is_variable, target_of_body}
 use Rattle.inc_value.specs.Choice.{and_then}
-use Rattle.script_model.specs.Formula.{Formula, Formulas, Body, Literal, Name, Apply, Fold, End, More, Variable, Computed, nothing_kept}
+use Rattle.script_model.specs.Formula.{Formula, Formulas, Body, Literal, Name, Apply, Fold, If, Join, End, More, Variable, Computed, nothing_kept}
 use Rattle.script_model.specs.Valid.{FoldsOver}
-use Rattle.script_model.specs.Values.{type_of}
+use Rattle.script_model.specs.Values.{Value, Reference, type_of}
 
 -- a declared name of the type stands for the declaration at the position
 pub record NameFits (names : Names) (position : ℕ) (ty : Ty) : Type 0 where
@@ -26,15 +28,26 @@ pub record FunctionFits (known : FnRef → Bool) (f : FnRef) : Type 0 where
   pub kind : f.id.kind ≡ Map
   pub signature : IsMapSig f.sig
 
+-- what a value refers to, if anything, is a declaration of the base type
+abbrev pub ReferenceFits : Names → Value → Type 0
+ReferenceFits names (Reference target base) = NameFits names target (type_of_base base)
+ReferenceFits names v = Unit {0}
+
+-- a value of the type, which refers to what fits
+abbrev pub ValueFits : Names → Value → Ty → Type 0
+ValueFits names v ty = (type_of v ≡ ty) × ReferenceFits names v
+
 abbrev mutual
-  -- the formula is of today's forms and has the type, and each of its functions and names fits
+  -- the formula is of forms that are here and has the type, and each of its functions, names and references fits
   pub FormulaFits : (FnRef → Bool) → Names → Formula → Ty → Type 0
-  FormulaFits known names (Literal v) ty = (type_of v ≡ ty) × IsBase ty
+  FormulaFits known names (Literal v) ty = ValueFits names v ty
   FormulaFits known names (Name position) ty = NameFits names position ty
   FormulaFits known names (Apply f arguments) ty = FunctionFits known f × ArgumentsFit known names arguments f.sig.takes × (f.sig.gives ≡ ty)
   FormulaFits known names (Fold f first elements) ty =
       (element : Ty) × FunctionFits known f × FoldsOver f ty element × (type_of first ≡ ty) × IsBase ty
       × ElementsFit known names elements element
+  FormulaFits known names (If test a b) ty = FormulaFits known names test types.Bool × FormulaFits known names a ty × FormulaFits known names b ty
+  FormulaFits known names (Join child) ty = (base : Base) × FormulaFits known names child (types.Node base) × (type_of_base base ≡ ty)
   FormulaFits known names f ty = ⊥
 
   -- each argument has the type that is listed for it, and there are as many
@@ -49,9 +62,9 @@ abbrev mutual
   ElementsFit known names End ty = Unit {0}
   ElementsFit known names (More f rest) ty = FormulaFits known names f ty × ElementsFit known names rest ty
 
--- what is declared is of today's forms and has the type, and nothing is kept of it
+-- what is declared is of forms that are here and has the type, and nothing is kept of it
 abbrev pub BodyFits : (FnRef → Bool) → Names → Body → Ty → Type 0
-BodyFits known names (Variable v) ty = (type_of v ≡ ty) × IsBase ty
+BodyFits known names (Variable v) ty = ValueFits names v ty
 BodyFits known names (Computed f kept) ty = FormulaFits known names f ty × (kept ≡ nothing_kept)
 BodyFits known names body ty = ⊥
 
@@ -62,9 +75,9 @@ pub record DeclarationFits (known : FnRef → Bool) (names : Names) (name : List
   pub earlier : target_of_body (length names.declared) body ≤ length names.declared
 
 -- a variable that may have the value
-pub record AssignmentFits (names : Names) (target : ℕ) (ty : Ty) : Type 0 where
-  pub name : NameFits names target ty
-  pub base : IsBase ty
+pub record AssignmentFits (names : Names) (target : ℕ) (value : Value) : Type 0 where
+  pub name : NameFits names target (type_of value)
+  pub refers : ReferenceFits names value
   pub variable : IsTrue (is_variable (and_then (slice_get names.declared target) (λ d. Some d.kind)))
 
 -- a new observer of a declaration
@@ -72,10 +85,10 @@ pub record ObserverFits (names : Names) (observer : List ℕ) (target : ℕ) : T
   pub fresh : IsFalse (is_among names.observers observer)
   pub earlier : target < length names.declared
 
--- the names, functions and types of a command fit together, and it is of today's forms
+-- the names, functions and types of a command fit together, and it is of forms that are here
 abbrev pub FitsNames : (FnRef → Bool) → Names → Command → Type 0
 FitsNames known names (Declare name ty body) = DeclarationFits known names name ty body
-FitsNames known names (Assign target value) = AssignmentFits names target (type_of value)
+FitsNames known names (Assign target value) = AssignmentFits names target value
 FitsNames known names (Observe observer target) = ObserverFits names observer target
 FitsNames known names (Unobserve observer) = IsTrue (is_among names.observers observer)
 FitsNames known names Stabilize = Unit {0}

@@ -32,6 +32,14 @@ pub enum Formula {
         first: Constant,
         elements: Vec<Formula>,
     },
+    /// The second formula where the first, a test, is true, else the third.
+    If {
+        test: Box<Formula>,
+        yes: Box<Formula>,
+        no: Box<Formula>,
+    },
+    /// What the declaration is worth to which the formula refers.
+    Join(Box<Formula>),
 }
 
 /// What is declared.
@@ -52,7 +60,11 @@ impl Declaration {
         match self {
             Declaration::Computed(Formula::Name(target)) => *target,
             Declaration::Computed(
-                Formula::Literal(_) | Formula::Apply { .. } | Formula::Fold { .. },
+                Formula::Literal(_)
+                | Formula::Apply { .. }
+                | Formula::Fold { .. }
+                | Formula::If { .. }
+                | Formula::Join(_),
             )
             | Declaration::Variable(_) => own,
         }

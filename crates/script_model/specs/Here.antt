@@ -1,31 +1,18 @@
 -- The forms that are here: a line of another form of the grammar is malformed until its clause here says otherwise.
 use Rattle.std.specs.Prelude as std
 use Rattle.std.specs.Prelude.{true, false, ◌&&◌}
-use Rattle.inc_value.specs.declared.ty.Ty.{Ty}
-use Rattle.inc_value.specs.declared.ty.Ty.TheVariants as ty
 use Rattle.script_model.specs.Grammar.{Tree, Trees, Line, Literal, Name, Call, If, Bind, Join, Fold, At, Now, Steps, Freeze, After, Every, End, More, Var, Set, Let, Expert, Link, Unlink, Stale, Grab, Observe, Unobserve, Watch, Show, Advance, AdvanceTo, Stabilize}
-use Rattle.script_model.specs.Literals as literals
-
--- a type of values that are here: no references yet
-abbrev pub is_base_type : Ty → std.Bool
-is_base_type (ty.Node base) = false
-is_base_type t = true
-
--- a literal that is here: no references yet
-abbrev pub is_plain_literal : literals.Literal → std.Bool
-is_plain_literal (literals.Referred name) = false
-is_plain_literal literal = true
 
 abbrev mutual
-  -- a formula of forms that are here: no tests and joins, no binds, no clock, no freezes yet
+  -- a formula of forms that are here: no binds, no clock, no freezes yet
   pub is_plain : Tree → std.Bool
-  is_plain (Literal literal) = is_plain_literal literal
+  is_plain (Literal literal) = true
   is_plain (Name name) = true
   is_plain (Call function arguments) = are_plain arguments
-  is_plain (If test a b) = false
+  is_plain (If test a b) = is_plain test && is_plain a && is_plain b
   is_plain (Bind variable left body) = false
-  is_plain (Join child) = false
-  is_plain (Fold function first elements) = is_plain_literal first && are_plain elements
+  is_plain (Join child) = is_plain child
+  is_plain (Fold function first elements) = are_plain elements
   is_plain (At time) = false
   is_plain Now = false
   is_plain (Steps first steps) = false
@@ -39,8 +26,8 @@ abbrev mutual
 
 -- a line of forms that are here: no experts, grabs, watches and no clock yet
 abbrev pub is_here : Line → std.Bool
-is_here (Var name t first) = is_base_type t && is_plain_literal first
-is_here (Set name value) = is_plain_literal value
+is_here (Var name t first) = true
+is_here (Set name value) = true
 is_here (Let name formula) = is_plain formula
 is_here (Expert name function first) = false
 is_here (Link expert name) = false
