@@ -4,18 +4,19 @@ use Rattle.std.proofs.lemmas.List.{length-append, get_or_append_left, get_or_at}
 use Rattle.std.specs.List.{slice_get}
 use Rattle.std.proofs.lemmas.List.Elements.{All-head, All-tail}
 use Rattle.inc_value.specs.declared.node.NodeId.{NodeId}
+use Rattle.inc_value.specs.declared.ty.Ty.{Ty}
 use Rattle.inc_terms.specs.Graph as graph
 use Rattle.inc_terms.specs.Graph.{Graph, Row, Def}
 use Rattle.transfer.specs.Shows.{IsTop}
 use Rattle.formula_elab.specs.Made.{NoneStands, OneMoreStands}
 use Rattle.formula_elab.specs.Make as make
 use Rattle.formula_elab.specs.Make.{node_made}
-use Rattle.formula_elab.specs.Opened.{no_node, made_node, node_of, filled, to_make, IsEarlier, NeedsEarlier}
+use Rattle.formula_elab.specs.Opened.{no_node, made_node, node_of, filled, open_ty, to_make, IsEarlier, NeedsEarlier}
 use Rattle.formula_elab.specs.Plan.{next_make}
 use Rattle.formula_elab.specs.declared.make.Made.{Made}
 use Rattle.formula_elab.specs.declared.make.Made.TheVariants.{Node}
 use Rattle.formula_elab.specs.declared.opened.Open.{Open}
-use Rattle.formula_elab.specs.declared.opened.Open.TheVariants.{Const, Var, Map, Fold}
+use Rattle.formula_elab.specs.declared.opened.Open.TheVariants.{Const, Var, Map, Fold, If, Join}
 use Rattle.formula_elab.specs.declared.opened.Part.{Part}
 use Rattle.formula_elab.specs.declared.opened.Part.TheVariants.{Given, Made as Numbered}
 use Rattle.formula_elab.proofs.InOrder.{needs_weaker, order_of}
@@ -46,14 +47,17 @@ module _ (made : List Made) (m : Made) where
   filled_stays (Var v) h = refl
   filled_stays (Map f parts) h = ap (graph.Map f) (nodes_of_stay parts h)
   filled_stays (Fold f v parts) h = ap (graph.Fold f v) (nodes_of_stay parts h)
+  filled_stays (If ty test a b) h = rw (node_of_stays test h.0, node_of_stays a h.1, node_of_stays b h.2) refl
+  filled_stays (Join ty child) h = ap (λ (n : NodeId). graph.Join n) (node_of_stays child h)
 
 pub none_stands : NoneStands
 none_stands G makes order = record { order = order; top = λ i x at less. absurd (omega (arith, less)) }
 
-next_is : (makes : List Open) (made : List Made) (x : Open) (def : Def) → slice_get makes (length made) ≡ Some x
-    → next_make makes made ≡ Some (make.Node def) → filled made x ≡ def
-next_is makes made x def at e =
-    let there : Some (make.Node (filled made x)) ≡ Some (make.Node def) = sym (ap (option_map (to_make made)) at) ∙ e in
+next_is : (makes : List Open) (made : List Made) (x : Open) (def : Def) (ty : Ty) → slice_get makes (length made) ≡ Some x
+    → next_make makes made ≡ Some (make.Node def ty) → filled made x ≡ def
+next_is makes made x def ty at e =
+    let there : Some (make.Node (filled made x) (open_ty x)) ≡ Some (make.Node def ty) =
+    sym (ap (option_map (to_make made)) at) ∙ e in
     cc
 
 -- the i-th node is as it was to be, where one more was made
@@ -61,7 +65,7 @@ abbrev IsTopWith : Graph → List Made → NodeId → ℕ → Open → Type 0
 IsTopWith G made n i x = IsTop G (made_node (made ++ Node n ∷ []) i) (filled (made ++ Node n ∷ []) x)
 
 pub one_more_stands : OneMoreStands
-one_more_stands G G' makes made def n h stay next top = record { order = h.order; top = each }
+one_more_stands G G' makes made def ty n h stay next top = record { order = h.order; top = each }
   where
     size : length (made ++ Node n ∷ []) ≡ length made + 1
     size = length-append made (Node n ∷ [])
@@ -83,7 +87,7 @@ one_more_stands G G' makes made def n h stay next top = record { order = h.order
         let needs : NeedsEarlier (length made) x = order_of makes (length made) x h.order here in
         let same : made_node (made ++ Node n ∷ []) i ≡ n = made_last made (Node n) i is in
         subst (λ m. IsTop G' m (filled (made ++ Node n ∷ []) x)) (sym same)
-        (subst (λ d. IsTop G' n d) (sym (filled_stays made (Node n) x needs ∙ next_is makes made x def here next)) top)
+        (subst (λ d. IsTop G' n d) (sym (filled_stays made (Node n) x needs ∙ next_is makes made x def ty here next)) top)
 
     either : (i : ℕ) (x : Open) → slice_get makes i ≡ Some x → (i < length made) ⊎ (i ≡ length made)
         → IsTopWith G' made n i x

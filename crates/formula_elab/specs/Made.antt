@@ -1,6 +1,7 @@
 -- A graph in which what was to be made for a declaration was made.
 use Rattle.std.specs.Prelude.{◌≡◌, ◌<◌, ◌≤◌, ◌++◌, ℕ, Bool, List, [], ◌∷◌, length, Some, slice_get}
 use Rattle.inc_value.specs.declared.node.NodeId.{NodeId}
+use Rattle.inc_value.specs.declared.ty.Ty.{Ty}
 use Rattle.inc_terms.specs.Graph.{Graph, Row, Def}
 use Rattle.script_model.specs.Formula.{Body, places_of_body}
 use Rattle.transfer.specs.Both.{Both}
@@ -38,12 +39,12 @@ ShowsOnceMade nodes body makes root =
 
 -- what is to be made for what is declared needs only nodes that are made before it
 abbrev pub LaidInOrder : Type 0
-LaidInOrder = (nodes : ℕ → NodeId) (body : Body) → AreInOrder 0 (laid_body nodes 0 body).makes
+LaidInOrder = (nodes : ℕ → NodeId) (tys : ℕ → Ty) (body : Body) → AreInOrder 0 (laid_body nodes tys 0 body).makes
 
 -- one node is made for each place
 abbrev pub OneMakeEach : Type 0
-OneMakeEach = (nodes : ℕ → NodeId) (body : Body) → EveryNameOf (λ n. Unit {0}) body
-    → length (laid_body nodes 0 body).makes ≡ places_of_body body
+OneMakeEach = (nodes : ℕ → NodeId) (tys : ℕ → Ty) (body : Body) → EveryNameOf (λ n. Unit {0}) body
+    → length (laid_body nodes tys 0 body).makes ≡ places_of_body body
 
 -- before anything is made, nothing has to stand
 abbrev pub NoneStands : Type 0
@@ -51,11 +52,11 @@ NoneStands = (G : Graph) (makes : List Open) → AreInOrder 0 makes → StandsIn
 
 -- where rows stay, so does what was made, and one more stands, if the next is made
 abbrev pub OneMoreStands : Type 0
-OneMoreStands = (G G' : Graph) (makes : List Open) (made : List Made) (def : Def) (n : NodeId)
-    → StandsIn G makes made → RowsStay G G' → next_make makes made ≡ Some (make.Node def) → IsTop G' n def
+OneMoreStands = (G G' : Graph) (makes : List Open) (made : List Made) (def : Def) (ty : Ty) (n : NodeId)
+    → StandsIn G makes made → RowsStay G G' → next_make makes made ≡ Some (make.Node def ty) → IsTop G' n def
     → StandsIn G' makes (made ++ Node n ∷ [])
 
 -- where all of it was made, the root is the node of what is declared
 abbrev pub RootDeclares : Type 0
-RootDeclares = (nodes : ℕ → NodeId) (body : Body)
-    → ShowsOnceMade nodes body (laid_body nodes 0 body).makes (laid_body nodes 0 body).root
+RootDeclares = (nodes : ℕ → NodeId) (tys : ℕ → Ty) (body : Body)
+    → ShowsOnceMade nodes body (laid_body nodes tys 0 body).makes (laid_body nodes tys 0 body).root

@@ -1,6 +1,6 @@
 -- The names in a formula, those that its values refer to among them.
 use Rattle.std.specs.Prelude.{ℕ}
-use Rattle.script_model.specs.Formula.{Formula, Formulas, Body, Literal, Name, Apply, Fold, End, More, Variable, Computed}
+use Rattle.script_model.specs.Formula.{Formula, Formulas, Body, Literal, Name, Apply, Fold, If, Join, End, More, Variable, Computed}
 use Rattle.script_model.specs.Values.{Value, Reference}
 
 -- what the value refers to, if anything, has the property
@@ -15,6 +15,8 @@ abbrev mutual
   EveryName P (Name n) = P n
   EveryName P (Apply function arguments) = EveryNameOfAll P arguments
   EveryName P (Fold function first elements) = EveryReference P first × EveryNameOfAll P elements
+  EveryName P (If test a b) = EveryName P test × EveryName P a × EveryName P b
+  EveryName P (Join child) = EveryName P child
   EveryName P f = ⊥
 
   -- so are all of the formulas

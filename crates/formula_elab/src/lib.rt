@@ -6,6 +6,7 @@ mod lay;
 mod make;
 mod opened;
 mod plan;
+mod types;
 mod value;
 
 pub use laws::{laid_in_order, none_stands, one_make_each, one_more_stands, root_declares};

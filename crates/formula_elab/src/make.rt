@@ -3,13 +3,13 @@ ghost use Rattle.std.specs.Prelude.{◌≡◌};
 ghost use Rattle.formula_elab.specs.Make.{node_made};
 
 use inc_terms::Def;
-use inc_value::NodeId;
+use inc_value::{NodeId, Ty};
 
 /// What is to be made in a graph.
 #[derive(Drop)]
 pub enum Make {
-    /// A node that is so defined.
-    Node(Def),
+    /// A node of the type that is so defined.
+    Node(Def, Ty),
 }
 
 /// What was made in a graph.

@@ -1,11 +1,11 @@
 //! Nodes to be made, some of whose nodes aren't made yet.
 ghost use Rattle.std.specs.Prelude.{◌≡◌, ◌<◌, All, length, map, IfOk};
 ghost use Rattle.inc_terms.specs.Code.{def_of};
-ghost use Rattle.formula_elab.specs.Opened.{node_of, filled, IsEarlier, NeedsEarlier};
+ghost use Rattle.formula_elab.specs.Opened.{node_of, filled, open_ty, IsEarlier, NeedsEarlier};
 
 use crate::make::Made;
 use inc_terms::{Def, Nodes};
-use inc_value::{FnRef, NodeId, Value};
+use inc_value::{FnRef, NodeId, Ty, Value};
 use std::alloc::{AllocError, Global};
 use std::marker::Model;
 
@@ -69,6 +69,18 @@ pub(crate) enum Open {
     Var(Value),
     Map(FnRef, Parts),
     Fold(FnRef, Value, Parts),
+    /// One of two nodes of the type.
+    If {
+        ty: Ty,
+        test: Part,
+        yes: Part,
+        no: Part,
+    },
+    /// The node of the type that the child's value names.
+    Join {
+        ty: Ty,
+        child: Part,
+    },
 }
 
 impl Open {
@@ -92,7 +104,24 @@ impl Open {
                     Nodes::from_slice(alloc, &kids)?,
                 )
             }
+            Open::If { test, yes, no, .. } => Def::If {
+                test: test.node(made),
+                yes: yes.node(made),
+                no: no.node(made),
+            },
+            Open::Join { child, .. } => Def::Join(child.node(made)),
         })
+    }
+
+    /// The type of the node.
+    pub(crate) fn ty(&self) -> Ty
+        ensures { result ≡ open_ty self.now }
+    {
+        match self {
+            Open::Const(value) | Open::Var(value) => value.ty(),
+            Open::Map(function, _) | Open::Fold(function, _, _) => function.sig.gives(),
+            Open::If { ty, .. } | Open::Join { ty, .. } => *ty,
+        }
     }
 }
 

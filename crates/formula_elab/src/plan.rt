@@ -97,7 +97,7 @@ fn make_behind(alloc: Global, makes: &[Open], made: &[Made]) -> Result<Option<Ma
     ensures { IfOk result (λ make. option_map make_view make ≡ next_make makes.now made.now) }
 {
     match makes.get(made.len()) {
-        Some(open) => Ok(Some(Make::Node(open.filled(alloc, made)?))),
+        Some(open) => Ok(Some(Make::Node(open.filled(alloc, made)?, open.ty()))),
         None => Ok(None),
     }
 }
