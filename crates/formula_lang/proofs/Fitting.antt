@@ -1,25 +1,28 @@
 -- What is allowed fits together.
-use Rattle.std.proofs.Common.{◌≡◌, ℕ, zero, suc, ◌≤◌, Bool, true, false, not, ◌||◌, cond, List, [], ◌∷◌, length, Option, None, Some, is_some, inl, inr, refl, sym, ◌∙◌, subst, arith}
+use Rattle.std.proofs.Common.{◌≡◌, ℕ, zero, suc, ◌≤◌, Bool, true, false, not, ◌||◌, cond, List, [], ◌∷◌, length, Option, None, Some, is_some, inl, inr, refl, sym, subst, arith}
 use Rattle.std.proofs.lemmas.Option.{slice_get_within}
 use Rattle.std.specs.List.{list_any, slice_get}
 use Rattle.std.specs.Str.{bytes_eq}
 use Rattle.inc_value.proofs.SameTypes.{ty_true, types_true}
-use Rattle.inc_value.specs.Ty.{IsBase, same_ty, same_types}
+use Rattle.inc_value.specs.Ty.{same_ty, same_types}
 use Rattle.inc_value.specs.declared.function.FnRef.{FnRef}
+use Rattle.inc_value.specs.declared.ty.Base.TheVariants as bases
+use Rattle.inc_value.specs.declared.ty.Base.{Base}
+use Rattle.inc_value.specs.declared.ty.Ty.TheVariants as types
 use Rattle.inc_value.specs.declared.ty.Ty.{Ty}
-use Rattle.script_model.specs.Check.{Command, Declare, Assign, Observe, Unobserve, Stabilize, Show, Declared, Names, Reason, NameTaken, ObserverTaken, NotVariable, ObserverUnknown, TypedFormula, TypedFormulas, TypedValue, first_named, find_declared, is_among, is_variable, kind_of, typed, typed_each, typed_as, typed_literal, literal_of_type, where_same, applied, are_all, before, element_of, folded, command_of, body_as, target_of_body, first_that, is_against, line_order}
+use Rattle.script_model.specs.Check.{Command, Declare, Assign, Observe, Unobserve, Stabilize, Show, Declared, Names, Reason, NameTaken, ObserverTaken, NotVariable, ObserverUnknown, TypedFormula, TypedFormulas, TypedValue, first_named, find_declared, is_among, is_variable, kind_of, typed, typed_each, typed_as, typed_literal, literal_of_type, where_same, applied, are_all, base_of, before, branched, element_of, folded, join_of, type_of_base, command_of, body_as, target_of_body, first_that, is_against, line_order}
 use Rattle.inc_value.specs.Choice.{and_then}
 use Rattle.script_model.specs.Formula as model
 use Rattle.script_model.specs.Formula.{Formula, Meanings, nothing_kept}
 use Rattle.script_model.specs.Grammar as grammar
-use Rattle.script_model.specs.Grammar.{Line, Tree, Trees, Call, Fold, End, More}
-use Rattle.script_model.specs.Here.{is_base_type, is_here, is_plain, are_plain, is_plain_literal}
+use Rattle.script_model.specs.Grammar.{Line, Tree, Trees, Call, If, Join, Fold, End, More}
+use Rattle.script_model.specs.Here.{is_here, is_plain, are_plain}
 use Rattle.script_model.specs.Literals as literals
-use Rattle.script_model.specs.Literals.{Literal, Integer}
-use Rattle.script_model.specs.Values.{Value, type_of}
-use Rattle.formula_lang.specs.Fits.{NameFits, FunctionFits, FormulaFits, ArgumentsFit, ElementsFit, FitsNames}
+use Rattle.script_model.specs.Literals.{Literal, Integer, Referred}
+use Rattle.script_model.specs.Values.{Value, Reference, type_of}
+use Rattle.formula_lang.specs.Fits.{NameFits, ValueFits, FunctionFits, FormulaFits, ArgumentsFit, ElementsFit, FitsNames}
 use Rattle.formula_lang.specs.NamesView.{AreEarlier}
-use Rattle.formula_lang.proofs.Plainness.{both_true, plain_top}
+use Rattle.formula_lang.proofs.Plainness.{both_true, three_true, plain_top}
 use Rattle.formula_lang.proofs.Table.{none_holds}
 
 -- ---- what tests say
@@ -38,35 +41,6 @@ none_found (Some x) e = absurd (cc)
 
 some_is : {A : Type 0} (x y : A) → Some x ≡ Some y → x ≡ y
 some_is x y e = cc
-
--- ---- literals
-
-typed_value_fits : (names : Names) (literal : Literal) (v : TypedValue) → is_plain_literal literal ≡ true → typed_literal names literal ≡ Some v
-    → (type_of v.value ≡ v.ty) × IsBase v.ty
-typed_value_fits names (Integer z) v plain e =
-    let whole = some_is _ v e in subst (λ (x : TypedValue). (type_of x.value ≡ x.ty) × IsBase x.ty) whole (refl, tt)
-typed_value_fits names (literals.Bool b) v plain e =
-    let whole = some_is _ v e in subst (λ (x : TypedValue). (type_of x.value ≡ x.ty) × IsBase x.ty) whole (refl, tt)
-typed_value_fits names (literals.Text content) v plain e =
-    let whole = some_is _ v e in subst (λ (x : TypedValue). (type_of x.value ≡ x.ty) × IsBase x.ty) whole (refl, tt)
-typed_value_fits names _ v plain e = absurd (cc)
-
-literal_fits : (names : Names) (t : Ty) (literal : Literal) (v : Value) → is_plain_literal literal ≡ true
-    → literal_of_type names t literal ≡ Some v → (type_of v ≡ t) × IsBase t
-literal_fits names t literal v plain e = go (typed_literal names literal) (λ x is. typed_value_fits names literal x plain is) e
-  where
-    same : (x : TypedValue) (b : Bool) → same_ty x.ty t ≡ b → (type_of x.value ≡ x.ty) × IsBase x.ty → cond b (Some x.value) None ≡ Some v
-        → (type_of v ≡ t) × IsBase t
-    same x true is fits e =
-        let value : x.value ≡ v = some_is x.value v e in
-        let of_type : x.ty ≡ t = ty_true x.ty t is in
-        (subst (λ w. type_of w ≡ t) value (fits.0 ∙ of_type), subst IsBase of_type fits.1)
-    same x false is fits e = absurd (cc)
-
-    go : (o : Option TypedValue) → ((x : TypedValue) → o ≡ Some x → (type_of x.value ≡ x.ty) × IsBase x.ty)
-        → and_then o (λ x. where_same x.ty t (Some x.value)) ≡ Some v → (type_of v ≡ t) × IsBase t
-    go None fits e = absurd (cc)
-    go (Some x) fits e = same x (same_ty x.ty t) refl (fits x refl) e
 
 -- ---- folds
 
@@ -104,6 +78,48 @@ module _ (names : Names) (earlier : AreEarlier names.declared) where
         earlier = omega (arith, earlier there.0 d there.1, slice_get_within names.declared there.0 d there.1);
       }
 
+  -- ---- literals
+
+  base_is : (t : Ty) (b : Base) → base_of t ≡ Some b → t ≡ type_of_base b
+  base_is types.Int b e = let same : bases.Int ≡ b = cc in rw (← same) refl
+  base_is types.Bool b e = let same : bases.Bool ≡ b = cc in rw (← same) refl
+  base_is types.Text b e = let same : bases.Text ≡ b = cc in rw (← same) refl
+  base_is (types.Node c) b e = absurd (cc)
+
+  referred_fits : (name : List ℕ) (found : Option Declared) (v : TypedValue) → find_declared names name ≡ found
+      → and_then found (λ d. and_then (base_of d.ty) (λ b. Some (record { value = Reference d.target b; ty = types.Node b }))) ≡ Some v
+      → ValueFits names v.value v.ty
+  referred_fits name None v is e = absurd (cc)
+  referred_fits name (Some d) v is e = go (base_of d.ty) (λ b at. base_is d.ty b at) e
+    where
+      go : (o : Option Base) → ((b : Base) → o ≡ Some b → d.ty ≡ type_of_base b)
+          → and_then o (λ b. Some (record { value = Reference d.target b; ty = types.Node b })) ≡ Some v → ValueFits names v.value v.ty
+      go None same e = absurd (cc)
+      go (Some b) same e =
+          subst (λ (x : TypedValue). ValueFits names x.value x.ty) (some_is _ v e)
+          (refl, subst (λ t. NameFits names d.target t) (same b refl) (name_fits name d is))
+
+  typed_value_fits : (literal : Literal) (v : TypedValue) → typed_literal names literal ≡ Some v → ValueFits names v.value v.ty
+  typed_value_fits (Integer z) v e = subst (λ (x : TypedValue). ValueFits names x.value x.ty) (some_is _ v e) (refl, tt)
+  typed_value_fits (literals.Bool b) v e = subst (λ (x : TypedValue). ValueFits names x.value x.ty) (some_is _ v e) (refl, tt)
+  typed_value_fits (literals.Text content) v e = subst (λ (x : TypedValue). ValueFits names x.value x.ty) (some_is _ v e) (refl, tt)
+  typed_value_fits (Referred name) v e = referred_fits name (find_declared names name) v refl e
+
+  literal_fits : (t : Ty) (literal : Literal) (v : Value) → literal_of_type names t literal ≡ Some v → ValueFits names v t
+  literal_fits t literal v e = go (typed_literal names literal) (λ x is. typed_value_fits literal x is) e
+    where
+      same : (x : TypedValue) (b : Bool) → same_ty x.ty t ≡ b → ValueFits names x.value x.ty → cond b (Some x.value) None ≡ Some v → ValueFits names v t
+      same x true is fits e =
+          let value : x.value ≡ v = some_is x.value v e in
+          let of_type : x.ty ≡ t = ty_true x.ty t is in
+          subst (λ w. ValueFits names w t) value (subst (λ u. ValueFits names x.value u) of_type fits)
+      same x false is fits e = absurd (cc)
+
+      go : (o : Option TypedValue) → ((x : TypedValue) → o ≡ Some x → ValueFits names x.value x.ty)
+          → and_then o (λ x. where_same x.ty t (Some x.value)) ≡ Some v → ValueFits names v t
+      go None fits e = absurd (cc)
+      go (Some x) fits e = same x (same_ty x.ty t) refl (fits x refl) e
+
 -- ---- formulas
 
 module _ (F : Meanings) (known : FnRef → Bool) (names : Names) (earlier : AreEarlier names.declared)
@@ -125,7 +141,7 @@ module _ (F : Meanings) (known : FnRef → Bool) (names : Names) (earlier : AreE
       go false same e = absurd (cc)
 
   written_fits : (literal : Literal) (o : Option TypedValue) (t : TypedFormula)
-      → ((x : TypedValue) → o ≡ Some x → (type_of x.value ≡ x.ty) × IsBase x.ty)
+      → ((x : TypedValue) → o ≡ Some x → ValueFits names x.value x.ty)
       → and_then o (λ v. typed_as (model.Literal v.value) v.ty) ≡ Some t → Fits t
   written_fits literal None t fits e = absurd (cc)
   written_fits literal (Some x) t fits e = subst Fits (some_is _ t e) (fits x refl)
@@ -153,34 +169,64 @@ module _ (F : Meanings) (known : FnRef → Bool) (names : Names) (earlier : AreE
       go true is same others = (subst (λ v. FormulaFits known names f v) (sym (ty_true t u is)) all.0, others same)
       go false is same others = absurd (cc)
 
-  folded_fits : (f : FnRef) (first : Literal) (ts : TypedFormulas) (t : TypedFormula) → is_plain_literal first ≡ true
-      → FunctionFits known f → AllFit ts → folded names f first ts ≡ Some t → Fits t
-  folded_fits f first ts t plain function all is = over (element_of f f.sig.takes) refl is
+  folded_fits : (f : FnRef) (first : Literal) (ts : TypedFormulas) (t : TypedFormula) → FunctionFits known f → AllFit ts
+      → folded names f first ts ≡ Some t → Fits t
+  folded_fits f first ts t function all is = over (element_of f f.sig.takes) refl is
     where
       over : (element : Option Ty) → element_of f f.sig.takes ≡ element
           → and_then element (λ u. and_then (literal_of_type names f.sig.gives first) (λ v.
           cond (are_all u ts.tys) (typed_as (model.Fold f v ts.formulas) f.sig.gives) None)) ≡ Some t → Fits t
       over None at e = absurd (cc)
-      over (Some u) at e = from (literal_of_type names f.sig.gives first) (λ v is. literal_fits names f.sig.gives first v plain is) e
+      over (Some u) at e = from (literal_of_type names f.sig.gives first) (λ v is. (literal_fits names earlier f.sig.gives first v is).0) e
         where
-          from : (o : Option Value) → ((v : Value) → o ≡ Some v → (type_of v ≡ f.sig.gives) × IsBase f.sig.gives)
+          from : (o : Option Value) → ((v : Value) → o ≡ Some v → type_of v ≡ f.sig.gives)
               → and_then o (λ v. cond (are_all u ts.tys) (typed_as (model.Fold f v ts.formulas) f.sig.gives) None) ≡ Some t → Fits t
           from None fits e = absurd (cc)
           from (Some v) fits e = each (are_all u ts.tys) refl e
             where
               each : (b : Bool) → are_all u ts.tys ≡ b → cond b (typed_as (model.Fold f v ts.formulas) f.sig.gives) None ≡ Some t → Fits t
               each true same e =
-                  let value = fits v refl in
                   let elements = all_elements u ts.formulas ts.tys same all in
-                  subst Fits (some_is _ t e) (u, function, (takes_pair f f.sig.takes u at, refl), value.0, value.1, elements)
+                  subst Fits (some_is _ t e) (u, function, (takes_pair f f.sig.takes u at, refl), fits v refl, function.signature.2, elements)
               each false same e = absurd (cc)
 
   fold_fits : (name : List ℕ) (first : Literal) (found : Option FnRef) (each : Option TypedFormulas) (t : TypedFormula)
-      → is_plain_literal first ≡ true → F.named name ≡ found → ((ts : TypedFormulas) → each ≡ Some ts → AllFit ts)
+      → F.named name ≡ found → ((ts : TypedFormulas) → each ≡ Some ts → AllFit ts)
       → and_then found (λ f. and_then each (λ ts. folded names f first ts)) ≡ Some t → Fits t
-  fold_fits name first None each t plain is all e = absurd (cc)
-  fold_fits name first (Some f) None t plain is all e = absurd (cc)
-  fold_fits name first (Some f) (Some ts) t plain is all e = folded_fits f first ts t plain (maps name f is) (all ts refl) e
+  fold_fits name first None each t is all e = absurd (cc)
+  fold_fits name first (Some f) None t is all e = absurd (cc)
+  fold_fits name first (Some f) (Some ts) t is all e = folded_fits f first ts t (maps name f is) (all ts refl) e
+
+  branched_fits : (x a b : TypedFormula) (t : TypedFormula) → Fits x → Fits a → Fits b → branched x a b ≡ Some t → Fits t
+  branched_fits x a b t fits first second is = go (same_ty x.ty types.Bool) (same_ty a.ty b.ty) refl refl is
+    where
+      whole : Option TypedFormula
+      whole = typed_as (model.If x.formula a.formula b.formula) a.ty
+
+      go : (p q : Bool) → same_ty x.ty types.Bool ≡ p → same_ty a.ty b.ty ≡ q → cond p (cond q whole None) None ≡ Some t → Fits t
+      go true true test same e =
+          let truth : FormulaFits known names x.formula types.Bool = subst (λ u. FormulaFits known names x.formula u) (ty_true x.ty types.Bool test) fits in
+          let other : FormulaFits known names b.formula a.ty = subst (λ u. FormulaFits known names b.formula u) (sym (ty_true a.ty b.ty same)) second in
+          subst Fits (some_is _ t e) (truth, first, other)
+      go true false test same e = absurd (cc)
+      go false q test same e = absurd (cc)
+
+  if_fits : (x a b : Option TypedFormula) (t : TypedFormula) → ((u : TypedFormula) → x ≡ Some u → Fits u)
+      → ((u : TypedFormula) → a ≡ Some u → Fits u) → ((u : TypedFormula) → b ≡ Some u → Fits u)
+      → and_then x (λ x. and_then a (λ a. and_then b (λ b. branched x a b))) ≡ Some t → Fits t
+  if_fits None a b t test first second e = absurd (cc)
+  if_fits (Some x) None b t test first second e = absurd (cc)
+  if_fits (Some x) (Some a) None t test first second e = absurd (cc)
+  if_fits (Some x) (Some a) (Some b) t test first second e = branched_fits x a b t (test x refl) (first a refl) (second b refl) e
+
+  joined_fits : (f : Formula) (u : Ty) (t : TypedFormula) → FormulaFits known names f u → join_of (record { formula = f; ty = u }) u ≡ Some t → Fits t
+  joined_fits f (types.Node b) t fits e = subst Fits (some_is _ t e) (b, fits, refl)
+  joined_fits f u t fits e = absurd (cc)
+
+  join_fits : (o : Option TypedFormula) (t : TypedFormula) → ((u : TypedFormula) → o ≡ Some u → Fits u)
+      → and_then o (λ c. join_of c c.ty) ≡ Some t → Fits t
+  join_fits None t fits e = absurd (cc)
+  join_fits (Some c) t fits e = joined_fits c.formula c.ty t (fits c refl) e
 
   more_fit : (first : Option TypedFormula) (rest : Option TypedFormulas) (ts : TypedFormulas) → ((t : TypedFormula) → first ≡ Some t → Fits t)
       → ((us : TypedFormulas) → rest ≡ Some us → AllFit us) → and_then first (λ t. and_then rest (λ us. Some (before t us))) ≡ Some ts → AllFit ts
@@ -191,13 +237,16 @@ module _ (F : Meanings) (known : FnRef → Bool) (names : Names) (earlier : AreE
   mutual
     typed_fits : (tree : Tree) → is_plain tree ≡ true → (t : TypedFormula) → typed F names [] tree ≡ Some t → Fits t
     typed_fits (grammar.Literal literal) plain t e = written_fits literal (typed_literal names literal) t
-        (λ x is. typed_value_fits names literal x plain is) e
+        (λ x is. typed_value_fits names earlier literal x is) e
     typed_fits (grammar.Name name) plain t e = mentioned_fits name (find_declared names name) t refl e
     typed_fits (Call function arguments) plain t e =
         call_fits function (F.named function) (typed_each F names [] arguments) t refl (typed_each_fit arguments plain) e
+    typed_fits (If test a b) plain t e =
+        let all = three_true (is_plain test) (is_plain a) (is_plain b) plain in
+        if_fits (typed F names [] test) (typed F names [] a) (typed F names [] b) t (typed_fits test all.0) (typed_fits a all.1) (typed_fits b all.2) e
+    typed_fits (Join child) plain t e = join_fits (typed F names [] child) t (typed_fits child plain) e
     typed_fits (Fold function first elements) plain t e =
-        let both = both_true (is_plain_literal first) (are_plain elements) plain in
-        fold_fits function first (F.named function) (typed_each F names [] elements) t both.0 refl (typed_each_fit elements both.1) e
+        fold_fits function first (F.named function) (typed_each F names [] elements) t refl (typed_each_fit elements plain) e
     typed_fits _ plain t e = absurd (cc)
 
     typed_each_fit : (trees : Trees) → are_plain trees ≡ true → (ts : TypedFormulas) → typed_each F names [] trees ≡ Some ts → AllFit ts
@@ -217,13 +266,15 @@ module _ (F : Meanings) (known : FnRef → Bool) (names : Names) (earlier : AreE
   target_fits (model.Name n) t h = omega (arith, h.earlier)
   target_fits (model.Apply f arguments) t h = omega arith
   target_fits (model.Fold f first elements) t h = omega arith
+  target_fits (model.If test a b) t h = omega arith
+  target_fits (model.Join child) t h = omega arith
   target_fits _ t h = absurd h
 
   fresh : (name : List ℕ) → (is_some (find_declared names name) || false) ≡ false → first_named name names.declared ≡ None
   fresh name e = none_found (first_named name names.declared) (or_false (is_some (find_declared names name)) e)
 
   var_fits : (name : List ℕ) (t : Ty) (first : Literal) (o : Option Value) (c : Command) → first_named name names.declared ≡ None
-      → ((v : Value) → o ≡ Some v → (type_of v ≡ t) × IsBase t) → and_then o (λ v. Some (Declare name t (model.Variable v))) ≡ Some c
+      → ((v : Value) → o ≡ Some v → ValueFits names v t) → and_then o (λ v. Some (Declare name t (model.Variable v))) ≡ Some c
       → FitsNames known names c
   var_fits name t first None c none fits e = absurd (cc)
   var_fits name t first (Some v) c none fits e =
@@ -231,21 +282,20 @@ module _ (F : Meanings) (known : FnRef → Bool) (names : Names) (earlier : AreE
       (record { fresh = none; body_fits = fits v refl; earlier = omega arith })
 
   set_fits : (name : List ℕ) (literal : Literal) (found : Option Declared) (c : Command) → find_declared names name ≡ found
-      → is_plain_literal literal ≡ true
       → is_variable (and_then found (λ d. and_then (slice_get names.declared d.target) (λ t. Some t.kind))) ≡ true
       → and_then found (λ d. and_then (literal_of_type names d.ty literal) (λ v. Some (Assign d.target v))) ≡ Some c → FitsNames known names c
-  set_fits name literal None c is plain variable e = absurd (cc)
-  set_fits name literal (Some d) c is plain variable e =
-      go (literal_of_type names d.ty literal) (λ v at. literal_fits names d.ty literal v plain at) e
+  set_fits name literal None c is variable e = absurd (cc)
+  set_fits name literal (Some d) c is variable e =
+      go (literal_of_type names d.ty literal) (λ v at. literal_fits names earlier d.ty literal v at) e
     where
-      go : (o : Option Value) → ((v : Value) → o ≡ Some v → (type_of v ≡ d.ty) × IsBase d.ty)
+      go : (o : Option Value) → ((v : Value) → o ≡ Some v → ValueFits names v d.ty)
           → and_then o (λ v. Some (Assign d.target v)) ≡ Some c → FitsNames known names c
       go None fits e = absurd (cc)
       go (Some v) fits e =
           let of_type : d.ty ≡ type_of v = sym (fits v refl).0 in
           subst (FitsNames known names) (some_is (Assign d.target v) c e) (record {
             name = subst (λ t. NameFits names d.target t) of_type (name_fits names earlier name d is);
-            base = subst IsBase of_type (fits v refl).1;
+            refers = (fits v refl).1;
             variable = variable;
           })
 
@@ -271,12 +321,12 @@ module _ (F : Meanings) (known : FnRef → Bool) (names : Names) (earlier : AreE
   check_fits (grammar.Var name t first) c plain none e =
       let taken = none_holds (Stands (grammar.Var name t first)) line_order NameTaken none (inl refl) in
       var_fits name t first (literal_of_type names t first) c (fresh name taken)
-      (λ v at. literal_fits names t first v (both_true (is_base_type t) (is_plain_literal first) plain).1 at) e
+      (λ v at. literal_fits names earlier t first v at) e
   check_fits (grammar.Set name literal) c plain none e =
       let other = none_holds (Stands (grammar.Set name literal)) line_order NotVariable none (inr (inr (inr (inr (inr (inr (inl refl))))))) in
       let variable : is_variable (kind_of names name) ≡ true =
       not_false (is_variable (kind_of names name)) (or_false (not (is_variable (kind_of names name))) other) in
-      set_fits name literal (find_declared names name) c refl plain variable e
+      set_fits name literal (find_declared names name) c refl variable e
   check_fits (grammar.Let name tree) c plain none e =
       let taken = none_holds (Stands (grammar.Let name tree)) line_order NameTaken none (inl refl) in
       let top = plain_top F names tree plain in

@@ -1,15 +1,14 @@
 -- Lines of today's forms, and the rows of the table of refusals that never hold for them.
-use Rattle.std.proofs.Common.{◌≡◌, ℕ, None, Bool, true, false, ◌&&◌, List, [], ◌∷◌, ◌++◌, drop, refl, ap, ◌∙◌, flat_map}
+use Rattle.std.proofs.Common.{◌≡◌, ℕ, None, Bool, true, false, ◌&&◌, ◌||◌, List, [], ◌∷◌, ◌++◌, drop, refl, ap, sym, ◌∙◌, flat_map}
 use Rattle.std.proofs.lemmas.Grind.{flat_map-append}
+use Rattle.std.proofs.lemmas.List.Folds.{list_any-append}
 use Rattle.std.specs.List.{list_any}
 use Rattle.script_model.specs.Check.{Names, NotWhole, NotBind, NotExpert, TimeTooLarge, TimesNotRising, SpanIsZero, BackInTime, has_falling_times, is_against, is_empty_interval, is_top_form, own_literals, own_times, read_names, mentioned, mentioned_in_all, own_functions, referred_names, spans_of, trees_in, trees_in_all, typed, typed_each, typed_top, body_as}
 use Rattle.inc_value.specs.Choice.{Every, and_then}
 use Rattle.script_model.specs.Formula.{Computed, Meanings, nothing_kept}
 use Rattle.script_model.specs.Grammar as grammar
-use Rattle.script_model.specs.Grammar.{Line, Tree, Trees, Call, Fold, End, More, Var, Set, Let, Observe, Unobserve, Show, Stabilize}
-use Rattle.script_model.specs.Here.{is_here, is_plain, are_plain, is_plain_literal}
-use Rattle.script_model.specs.Literals as literals
-use Rattle.script_model.specs.Literals.{Literal, Integer}
+use Rattle.script_model.specs.Grammar.{Line, Tree, Trees, Call, If, Join, Fold, End, More, Var, Set, Let, Observe, Unobserve, Show, Stabilize}
+use Rattle.script_model.specs.Here.{is_here, is_plain, are_plain}
 use Rattle.formula_lang.specs.Here.{functions_here, functions_here_in_all, names_here, names_here_in_all, typed_each_here, typed_here}
 use Rattle.line_parser.specs.TreeView.{frozen}
 
@@ -40,26 +39,22 @@ not_typed_frozen F declared = none_frozen (typed_here F declared) None (λ child
 
 -- ---- what the code tells of a formula of today's forms
 
-mutual
-  pub mentions_here : (t : Tree) → is_plain t ≡ true → mentioned [] t ≡ names_here t
-  mentions_here (grammar.Literal l) h = refl
-  mentions_here (grammar.Name name) h = refl
-  mentions_here (Call function arguments) h = mention_here arguments h
-  mentions_here (Fold function first elements) h = mention_here elements (both_true (is_plain_literal first) (are_plain elements) h).1
-  mentions_here _ h = absurd (cc)
-
-  mention_here : (ts : Trees) → are_plain ts ≡ true → mentioned_in_all [] ts ≡ names_here_in_all ts
-  mention_here End h = refl
-  mention_here (More first rest) h =
-      let both = both_true (is_plain first) (are_plain rest) h in rw (mentions_here first both.0, mention_here rest both.1) refl
+-- a test with two sides
+pub three_true : (a b c : Bool) → (a && b && c) ≡ true → (a ≡ true) × (b ≡ true) × (c ≡ true)
+three_true a b c h = let last = both_true (a && b) c h in let first = both_true a b last.0 in (first.0, first.1, last.1)
 
 mutual
   pub calls_here : (t : Tree) → is_plain t ≡ true → flat_map own_functions (trees_in t) ≡ functions_here t
   calls_here (grammar.Literal l) h = refl
   calls_here (grammar.Name name) h = refl
   calls_here (Call function arguments) h = ap (λ fs. function ∷ fs) (call_here arguments h)
-  calls_here (Fold function first elements) h =
-      ap (λ fs. function ∷ fs) (call_here elements (both_true (is_plain_literal first) (are_plain elements) h).1)
+  calls_here (If test a b) h =
+      let all = three_true (is_plain test) (is_plain a) (is_plain b) h in
+      flat_map-append own_functions (trees_in test ++ trees_in a) (trees_in b)
+      ∙ ap (λ fs. fs ++ flat_map own_functions (trees_in b)) (flat_map-append own_functions (trees_in test) (trees_in a))
+      ∙ rw (calls_here test all.0, calls_here a all.1, calls_here b all.2) refl
+  calls_here (Join child) h = calls_here child h
+  calls_here (Fold function first elements) h = ap (λ fs. function ∷ fs) (call_here elements h)
   calls_here _ h = absurd (cc)
 
   call_here : (ts : Trees) → are_plain ts ≡ true → flat_map own_functions (trees_in_all ts) ≡ functions_here_in_all ts
@@ -74,7 +69,10 @@ module _ (F : Meanings) (names : Names) where
     types_here (grammar.Literal l) h = refl
     types_here (grammar.Name name) h = refl
     types_here (Call function arguments) h = rw (type_here arguments h) refl
-    types_here (Fold function first elements) h = rw (type_here elements (both_true (is_plain_literal first) (are_plain elements) h).1) refl
+    types_here (If test a b) h =
+        let all = three_true (is_plain test) (is_plain a) (is_plain b) h in rw (types_here test all.0, types_here a all.1, types_here b all.2) refl
+    types_here (Join child) h = rw (types_here child h) refl
+    types_here (Fold function first elements) h = rw (type_here elements h) refl
     types_here _ h = absurd (cc)
 
     type_here : (ts : Trees) → are_plain ts ≡ true → typed_each F names [] ts ≡ typed_each_here F names ts
@@ -84,12 +82,14 @@ module _ (F : Meanings) (names : Names) where
 
 -- ---- the formulas in one
 
--- a literal that refers to no name, a name, a function, a fold from such a literal
+-- a literal, a name, a function, a test with two sides, a join, a fold
 abbrev is_plain_head : Tree → Bool
-is_plain_head (grammar.Literal l) = is_plain_literal l
+is_plain_head (grammar.Literal l) = true
 is_plain_head (grammar.Name name) = true
 is_plain_head (Call function arguments) = true
-is_plain_head (Fold function first elements) = is_plain_literal first
+is_plain_head (If test a b) = true
+is_plain_head (Join child) = true
+is_plain_head (Fold function first elements) = true
 is_plain_head tree = false
 
 abbrev ArePlain : List Tree → Type 0
@@ -101,11 +101,17 @@ plain_append (x ∷ xs) ys p q = (p.0, plain_append xs ys p.1 q)
 
 mutual
   heads : (t : Tree) → is_plain t ≡ true → ArePlain (trees_in t)
-  heads (grammar.Literal l) h = (h, tt)
+  heads (grammar.Literal l) h = (refl, tt)
   heads (grammar.Name name) h = (refl, tt)
   heads (Call function arguments) h = (refl, heads_all arguments h)
-  heads (Fold function first elements) h =
-      let both = both_true (is_plain_literal first) (are_plain elements) h in (both.0, heads_all elements both.1)
+  heads (If test a b) h =
+      let all = three_true (is_plain test) (is_plain a) (is_plain b) h in (
+        refl,
+        plain_append (trees_in test ++ trees_in a) (trees_in b) (plain_append (trees_in test) (trees_in a) (heads test all.0) (heads a all.1))
+            (heads b all.2),
+      )
+  heads (Join child) h = (refl, heads child h)
+  heads (Fold function first elements) h = (refl, heads_all elements h)
   heads _ h = absurd (cc)
 
   heads_all : (ts : Trees) → are_plain ts ≡ true → ArePlain (trees_in_all ts)
@@ -133,6 +139,8 @@ no_top : (t : Tree) → is_plain_head t ≡ true → is_top_form t ≡ false
 no_top (grammar.Literal l) h = refl
 no_top (grammar.Name name) h = refl
 no_top (Call function arguments) h = refl
+no_top (If test a b) h = refl
+no_top (Join child) h = refl
 no_top (Fold function first elements) h = refl
 no_top _ h = absurd (cc)
 
@@ -140,6 +148,8 @@ no_times : (t : Tree) → is_plain_head t ≡ true → own_times t ≡ []
 no_times (grammar.Literal l) h = refl
 no_times (grammar.Name name) h = refl
 no_times (Call function arguments) h = refl
+no_times (If test a b) h = refl
+no_times (Join child) h = refl
 no_times (Fold function first elements) h = refl
 no_times _ h = absurd (cc)
 
@@ -147,6 +157,8 @@ no_falling : (t : Tree) → is_plain_head t ≡ true → has_falling_times t ≡
 no_falling (grammar.Literal l) h = refl
 no_falling (grammar.Name name) h = refl
 no_falling (Call function arguments) h = refl
+no_falling (If test a b) h = refl
+no_falling (Join child) h = refl
 no_falling (Fold function first elements) h = refl
 no_falling _ h = absurd (cc)
 
@@ -154,6 +166,8 @@ no_interval : (t : Tree) → is_plain_head t ≡ true → is_empty_interval t �
 no_interval (grammar.Literal l) h = refl
 no_interval (grammar.Name name) h = refl
 no_interval (Call function arguments) h = refl
+no_interval (If test a b) h = refl
+no_interval (Join child) h = refl
 no_interval (Fold function first elements) h = refl
 no_interval _ h = absurd (cc)
 
@@ -161,35 +175,81 @@ no_span : (name : List ℕ) (t : Tree) → is_plain t ≡ true → spans_of (Let
 no_span name (grammar.Literal l) h = refl
 no_span name (grammar.Name n) h = refl
 no_span name (Call function arguments) h = refl
+no_span name (If test a b) h = refl
+no_span name (Join child) h = refl
 no_span name (Fold function first elements) h = refl
 no_span name _ h = absurd (cc)
 
 -- ---- names
 
-unreferred : (l : Literal) → is_plain_literal l ≡ true → referred_names l ≡ []
-unreferred (Integer z) h = refl
-unreferred (literals.Bool b) h = refl
-unreferred (literals.Text content) h = refl
-unreferred _ h = absurd (cc)
-
-nothing_referred : (ts : List Tree) → ArePlain ts → flat_map referred_names (flat_map own_literals ts) ≡ []
-nothing_referred [] plain = refl
-nothing_referred (grammar.Literal l ∷ ts) plain = rw (unreferred l plain.0, nothing_referred ts plain.1) refl
-nothing_referred (grammar.Name name ∷ ts) plain = nothing_referred ts plain.1
-nothing_referred (Call function arguments ∷ ts) plain = nothing_referred ts plain.1
-nothing_referred (Fold function first elements ∷ ts) plain = rw (unreferred first plain.0, nothing_referred ts plain.1) refl
-nothing_referred (_ ∷ ts) plain = absurd (let h = plain.0 in cc)
-
 nothing_behind : {A : Type 0} (xs : List A) → xs ++ [] ≡ xs
 nothing_behind [] = refl
 nothing_behind (x ∷ xs) = ap (λ ys. x ∷ ys) (nothing_behind xs)
 
--- a formula of today's forms reads the names that it mentions
-reads_mentioned : (name : List ℕ) (t : Tree) → is_plain t ≡ true → read_names (Let name t) ≡ mentioned [] t
-reads_mentioned name t h = ap (λ ns. mentioned [] t ++ ns) (nothing_referred (trees_in t) (heads t h)) ∙ nothing_behind (mentioned [] t)
+-- the names that literals of these formulas refer to
+abbrev referred_in : List Tree → List (List ℕ)
+referred_in ts = flat_map referred_names (flat_map own_literals ts)
 
-pub reads_here : (name : List ℕ) (t : Tree) → is_plain t ≡ true → read_names (Let name t) ≡ names_here t
-reads_here name t h = reads_mentioned name t h ∙ mentions_here t h
+referred_append : (xs ys : List Tree) → referred_in (xs ++ ys) ≡ referred_in xs ++ referred_in ys
+referred_append xs ys =
+    ap (λ ls. flat_map referred_names ls) (flat_map-append own_literals xs ys)
+    ∙ flat_map-append referred_names (flat_map own_literals xs) (flat_map own_literals ys)
+
+-- either of four, in another order
+four : (a b c d : Bool) → ((a || b) || (c || d)) ≡ ((a || c) || (b || d))
+four true b c d = refl
+four false true true d = refl
+four false true false d = refl
+four false false c d = refl
+
+three : (a b c : Bool) → (a || (b || c)) ≡ (b || (a || c))
+three true true c = refl
+three true false c = refl
+three false b c = refl
+
+or_nothing : (b : Bool) → (b || false) ≡ b
+or_nothing true = refl
+or_nothing false = refl
+
+-- a test passes one of the names as they stand in the formula just where it passes one that is mentioned or one that a literal refers to
+module _ (test : List ℕ → Bool) where
+  abbrev passes : List (List ℕ) → Bool
+  passes names = list_any test names
+
+  two_parts : (h m k n : List (List ℕ)) (xs ys : List Tree) → passes h ≡ (passes m || passes (referred_in xs))
+      → passes k ≡ (passes n || passes (referred_in ys)) → passes (h ++ k) ≡ (passes (m ++ n) || passes (referred_in (xs ++ ys)))
+  two_parts h m k n xs ys first rest =
+      rw (list_any-append test h k, list_any-append test m n, referred_append xs ys, list_any-append test (referred_in xs) (referred_in ys), first, rest)
+      (four (passes m) (passes (referred_in xs)) (passes n) (passes (referred_in ys)))
+
+  mutual
+    reads_any : (t : Tree) → is_plain t ≡ true → passes (names_here t) ≡ (passes (mentioned [] t) || passes (referred_in (trees_in t)))
+    reads_any (grammar.Literal l) h = ap passes (sym (nothing_behind (referred_names l)))
+    reads_any (grammar.Name name) h = sym (or_nothing (test name || false))
+    reads_any (Call function arguments) h = read_any arguments h
+    reads_any (If t a b) h =
+        let all = three_true (is_plain t) (is_plain a) (is_plain b) h in
+        two_parts (names_here t ++ names_here a) (mentioned [] t ++ mentioned [] a) (names_here b) (mentioned [] b) (trees_in t ++ trees_in a)
+        (trees_in b)
+        (two_parts (names_here t) (mentioned [] t) (names_here a) (mentioned [] a) (trees_in t) (trees_in a) (reads_any t all.0) (reads_any a all.1))
+        (reads_any b all.2)
+    reads_any (Join child) h = reads_any child h
+    reads_any (Fold function first elements) h =
+        list_any-append test (referred_names first) (names_here_in_all elements)
+        ∙ rw (read_any elements h, list_any-append test (referred_names first) (referred_in (trees_in_all elements)))
+        (three (passes (referred_names first)) (passes (mentioned_in_all [] elements)) (passes (referred_in (trees_in_all elements))))
+    reads_any _ h = absurd (cc)
+
+    read_any : (ts : Trees) → are_plain ts ≡ true
+        → passes (names_here_in_all ts) ≡ (passes (mentioned_in_all [] ts) || passes (referred_in (trees_in_all ts)))
+    read_any End h = refl
+    read_any (More first rest) h =
+        let both = both_true (is_plain first) (are_plain rest) h in
+        two_parts (names_here first) (mentioned [] first) (names_here_in_all rest) (mentioned_in_all [] rest) (trees_in first) (trees_in_all rest)
+        (reads_any first both.0) (read_any rest both.1)
+
+  pub reads_here : (name : List ℕ) (t : Tree) → is_plain t ≡ true → passes (read_names (Let name t)) ≡ passes (names_here t)
+  reads_here name t h = list_any-append test (mentioned [] t) (referred_in (trees_in t)) ∙ sym (reads_any t h)
 
 -- at the top of a `let` such a formula is one like others
 pub plain_top : (F : Meanings) (names : Names) (t : Tree) → is_plain t ≡ true
@@ -197,6 +257,8 @@ pub plain_top : (F : Meanings) (names : Names) (t : Tree) → is_plain t ≡ tru
 plain_top F names (grammar.Literal l) h = refl
 plain_top F names (grammar.Name name) h = refl
 plain_top F names (Call function arguments) h = refl
+plain_top F names (If test a b) h = refl
+plain_top F names (Join child) h = refl
 plain_top F names (Fold function first elements) h = refl
 plain_top F names _ h = absurd (cc)
 

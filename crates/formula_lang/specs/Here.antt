@@ -2,17 +2,20 @@
 -- private functions cite them, those of public ones none.
 use Rattle.std.specs.Prelude.{ℕ, List, [], ◌∷◌, ◌++◌, Option, None, Some}
 use Rattle.inc_value.specs.Choice.{and_then}
-use Rattle.script_model.specs.Check.{Names, TypedFormula, TypedFormulas, applied, before, find_declared, folded, typed_as, typed_literal}
+use Rattle.script_model.specs.Check.{Names, TypedFormula, TypedFormulas, applied, before, branched, find_declared, folded, join_of, referred_names, typed_as, typed_literal}
 use Rattle.script_model.specs.Formula as model
 use Rattle.script_model.specs.Formula.{Meanings}
-use Rattle.script_model.specs.Grammar.{Tree, Trees, Literal, Name, Call, Fold, End, More}
+use Rattle.script_model.specs.Grammar.{Tree, Trees, Literal, Name, Call, If, Join, Fold, End, More}
 
 abbrev mutual
-  -- the names that a formula mentions
+  -- the names that a formula mentions, and those that its literals refer to, as they stand in it
   pub names_here : Tree → List (List ℕ)
+  names_here (Literal literal) = referred_names literal
   names_here (Name name) = name ∷ []
   names_here (Call function arguments) = names_here_in_all arguments
-  names_here (Fold function first elements) = names_here_in_all elements
+  names_here (If test a b) = names_here test ++ names_here a ++ names_here b
+  names_here (Join child) = names_here child
+  names_here (Fold function first elements) = referred_names first ++ names_here_in_all elements
   names_here tree = []
 
   pub names_here_in_all : Trees → List (List ℕ)
@@ -23,6 +26,8 @@ abbrev mutual
   -- the functions that a formula names
   pub functions_here : Tree → List (List ℕ)
   functions_here (Call function arguments) = function ∷ functions_here_in_all arguments
+  functions_here (If test a b) = functions_here test ++ functions_here a ++ functions_here b
+  functions_here (Join child) = functions_here child
   functions_here (Fold function first elements) = function ∷ functions_here_in_all elements
   functions_here tree = []
 
@@ -36,6 +41,9 @@ abbrev mutual
   typed_here F names (Literal literal) = and_then (typed_literal names literal) (λ v. typed_as (model.Literal v.value) v.ty)
   typed_here F names (Name name) = and_then (find_declared names name) (λ d. typed_as (model.Name d.target) d.ty)
   typed_here F names (Call function arguments) = and_then (F.named function) (λ f. and_then (typed_each_here F names arguments) (λ ts. applied f ts))
+  typed_here F names (If test a b) =
+      and_then (typed_here F names test) (λ t. and_then (typed_here F names a) (λ x. and_then (typed_here F names b) (λ y. branched t x y)))
+  typed_here F names (Join child) = and_then (typed_here F names child) (λ c. join_of c c.ty)
   typed_here F names (Fold function first elements) =
       and_then (F.named function) (λ f. and_then (typed_each_here F names elements) (λ ts. folded names f first ts))
   typed_here F names tree = None

@@ -5,10 +5,14 @@ use Rattle.inc_value.specs.Choice.{and_then}
 use Rattle.script_model.specs.Formula as formula
 use Rattle.formula_lang.specs.CommandView.{formula_view, formulas_of}
 use Rattle.formula_lang.specs.declared.typing.TypedFormula.{TypedFormula}
+use Rattle.formula_lang.specs.declared.typing.TypedPart.{TypedPart}
 use Rattle.formula_lang.specs.declared.typing.TypedFormulas.{TypedFormulas}
 
 abbrev pub typed_view : TypedFormula → model.TypedFormula
 typed_view t = record { formula = formula_view t.formula; ty = t.ty }
+
+abbrev pub part_view : TypedPart → model.TypedFormula
+part_view t = record { formula = formula_view t.formula.value; ty = t.ty }
 
 abbrev pub typed_each_view : TypedFormulas → model.TypedFormulas
 typed_each_view ts = record { formulas = formulas_of (map formula_view ts.formulas.items); tys = ts.tys.items }

@@ -1,7 +1,7 @@
 //! Names, functions and types of formulas.
 ghost use Rattle.std.specs.Prelude.{◌≡◌, ◌<◌, length, map, option_map, IfOk, IfSome};
 ghost use Rattle.std.specs.List.{list_any};
-ghost use Rattle.script_model.specs.Check.{applied as applied_to, are_all, base_of, element_of, find_declared, folded, is_declared, literal_of_type, referred_names, typed_as, typed_literal};
+ghost use Rattle.script_model.specs.Check.{applied as applied_to, are_all, base_of, branched, element_of, find_declared, folded, is_declared, join_of, literal_of_type, referred_names, type_of_base, typed_as, typed_literal};
 ghost use Rattle.formula_lang.specs.Here.{functions_here, functions_here_in_all, names_here, names_here_in_all, typed_each_here, typed_here};
 ghost use Rattle.script_model.specs.Literals.{Referred};
 ghost use Rattle.script_model.specs.Parsing.{trees_of};
@@ -13,7 +13,7 @@ ghost use Rattle.formula_lang.specs.NamesView.{declared_view};
 ghost use Rattle.formula_lang.specs.Rows.{is_unknown, lacks};
 ghost use Rattle.line_parser.specs.TreeView.{tree_view};
 ghost use Rattle.line_parser.specs.View.{literal_view};
-ghost use Rattle.formula_lang.specs.Typing.{named_formula, typed_view, typed_each_view};
+ghost use Rattle.formula_lang.specs.Typing.{named_formula, part_view, typed_view, typed_each_view};
 
 use crate::command::{Constant, Formula};
 use crate::names::{Declared, Names};
@@ -27,6 +27,13 @@ use std::alloc::{AllocError, Global};
 pub(crate) struct TypedFormula {
     pub(crate) formula: Formula,
     pub(crate) ty: Ty,
+}
+
+/// A formula in a box, with its type: what the formulas round it hold.
+#[derive(Drop)]
+struct TypedPart {
+    formula: Box<Formula>,
+    ty: Ty,
 }
 
 /// Formulas with their types.
@@ -58,13 +65,25 @@ pub(crate) fn has_unknown_name(names: &Names, tree: &Tree) -> bool
     ensures { result ≡ list_any (is_unknown names.entry.now) (names_here (tree_view tree.now)) }
 {
     match tree {
-        Tree::Literal(_) => false,
+        Tree::Literal(literal) => has_unknown_reference(names, literal),
         Tree::Name(name) => !is_declared(names, name),
         Tree::Call { arguments, .. } => have_unknown_name(names, arguments),
-        Tree::Fold { elements, .. } => have_unknown_name(names, elements),
-        Tree::If { .. }
-        | Tree::Bind { .. }
-        | Tree::Join { .. }
+        Tree::Fold {
+            first,
+            elements,
+            ..
+        } => has_unknown_reference(names, first) || have_unknown_name(names, elements),
+        Tree::If {
+            test,
+            then_side,
+            else_side,
+        } => {
+            has_unknown_name(names, test)
+                || has_unknown_name(names, then_side)
+                || has_unknown_name(names, else_side)
+        }
+        Tree::Join { child } => has_unknown_name(names, child),
+        Tree::Bind { .. }
         | Tree::At(_)
         | Tree::Now
         | Tree::Steps { .. }
@@ -103,9 +122,17 @@ pub(crate) fn has_unknown_function<L: Library>(library: &L, tree: &Tree) -> bool
             elements,
             ..
         } => library.find(function.bytes()).is_none() || have_unknown_function(library, elements),
-        Tree::If { .. }
-        | Tree::Bind { .. }
-        | Tree::Join { .. }
+        Tree::If {
+            test,
+            then_side,
+            else_side,
+        } => {
+            has_unknown_function(library, test)
+                || has_unknown_function(library, then_side)
+                || has_unknown_function(library, else_side)
+        }
+        Tree::Join { child } => has_unknown_function(library, child),
+        Tree::Bind { .. }
         | Tree::At(_)
         | Tree::Now
         | Tree::Steps { .. }
@@ -167,9 +194,29 @@ pub(crate) fn typed<L: Library>(
             };
             folded(alloc, names, function, first, elements)
         }
-        Tree::If { .. }
-        | Tree::Bind { .. }
-        | Tree::Join { .. }
+        Tree::If {
+            test,
+            then_side,
+            else_side,
+        } => {
+            let Some(test) = boxed(alloc, typed(alloc, names, library, test)?)? else {
+                return Ok(None);
+            };
+            let Some(then_side) = boxed(alloc, typed(alloc, names, library, then_side)?)? else {
+                return Ok(None);
+            };
+            let Some(else_side) = boxed(alloc, typed(alloc, names, library, else_side)?)? else {
+                return Ok(None);
+            };
+            Ok(branched(test, then_side, else_side))
+        }
+        Tree::Join { child } => {
+            let Some(child) = boxed(alloc, typed(alloc, names, library, child)?)? else {
+                return Ok(None);
+            };
+            Ok(joined(child))
+        }
+        Tree::Bind { .. }
         | Tree::At(_)
         | Tree::Now
         | Tree::Steps { .. }
@@ -200,6 +247,19 @@ fn typed_each<L: Library>(
         tys.push(argument.ty)?;
     }
     Ok(Some(TypedFormulas { formulas, tys }))
+}
+
+/// A formula with its type, put into a box.
+fn boxed(alloc: Global, typed: Option<TypedFormula>) -> Result<Option<TypedPart>, AllocError>
+    ensures { IfOk result (λ part. option_map part_view part ≡ option_map typed_view typed) }
+{
+    match typed {
+        Some(typed) => Ok(Some(TypedPart {
+            formula: Box::new(alloc, typed.formula)?,
+            ty: typed.ty,
+        })),
+        None => Ok(None),
+    }
 }
 
 /// A literal as a formula, unless it refers to nothing of a base type.
@@ -282,6 +342,36 @@ fn folded(
     }
 }
 
+/// One of two sides by a test, if the test is a truth value and the sides have one type.
+fn branched(test: TypedPart, then_side: TypedPart, else_side: TypedPart) -> Option<TypedFormula>
+    ensures { option_map typed_view result ≡ branched (part_view test) (part_view then_side) (part_view else_side) }
+{
+    if !is_same_type(test.ty, Ty::Bool) || !is_same_type(then_side.ty, else_side.ty) {
+        return None;
+    }
+    Some(TypedFormula {
+        formula: Formula::If {
+            test: test.formula,
+            yes: then_side.formula,
+            no: else_side.formula,
+        },
+        ty: then_side.ty,
+    })
+}
+
+/// What a declaration is worth to which the formula refers, if that has a type of references.
+fn joined(child: TypedPart) -> Option<TypedFormula>
+    ensures { option_map typed_view result ≡ join_of (part_view child) child.ty }
+{
+    match child.ty {
+        Ty::Node(base) => Some(TypedFormula {
+            formula: Formula::Join(child.formula),
+            ty: type_of_base(base),
+        }),
+        Ty::Int | Ty::Bool | Ty::Text => None,
+    }
+}
+
 /// The type of the elements that the function folds; none where it doesn't take what it gives and an element.
 fn element_of(function: &FnRef) -> Option<Ty>
     ensures { result ≡ element_of function.now function.now.sig.takes }
@@ -327,6 +417,17 @@ fn base_of(ty: Ty) -> Option<Base>
         Ty::Bool => Some(Base::Bool),
         Ty::Text => Some(Base::Text),
         Ty::Node(_) => None,
+    }
+}
+
+/// A base type as a type.
+fn type_of_base(base: Base) -> Ty
+    ensures { result ≡ type_of_base base }
+{
+    match base {
+        Base::Int => Ty::Int,
+        Base::Bool => Ty::Bool,
+        Base::Text => Ty::Text,
     }
 }
 

@@ -36,5 +36,4 @@ pub mod Agreement
 pub mod Forgetting
 pub mod Transcripts
 pub mod Refusing
-pub mod Today
 pub mod Names

@@ -9,11 +9,10 @@ use Rattle.script_model.specs.Evaluate.{value_at, Gives, NameGives}
 use Rattle.script_model.specs.Grammar.{Line, IsLine, Stabilize, Grab}
 use Rattle.script_model.specs.Need.{Item, Named, Needed, ItemGives, WithinWork, Met, Visit, IsVisit, Edge, Inside, Place, Reads}
 use Rattle.script_model.specs.Blocked.{OnCycle, Holds, InTheWay}
-use Rattle.script_model.specs.Today.{IsTodaysState}
 use Rattle.script_model.specs.Valid.{HasType, BoundsFit, OutcomeHasType, Valid, KeepToTypes, LibraryKeepsToTypes}
 use Rattle.script_model.specs.Request.{Request, Asks, IsRequest}
 use Rattle.script_model.specs.Run.{Turn, IsRun, Halts, IsTurn, bytes_of, transcript}
-use Rattle.script_model.specs.Step.{Moment, Reply, Refusal, Refused, Height, Stabilizes, Step, breaks, number_of, first_moment, Follows, verdict_of}
+use Rattle.script_model.specs.Step.{Moment, Reply, Refusal, Refused, Stabilizes, Step, breaks, number_of, first_moment, Follows, verdict_of}
 use Rattle.inc_value.specs.declared.function.FnRef.{FnRef}
 use Rattle.inc_value.specs.declared.value.Value as engine
 use Rattle.script_model.specs.Calls.{IsTyped, calls_of}
@@ -241,38 +240,6 @@ BlockedIsRefused =
 
 -- ---- today's forms alone
 
--- no name is on a cycle, since each reads earlier ones alone
-abbrev pub TodayHasNoCycle : Type 0
-TodayHasNoCycle = (F : Meanings) (s : State) → IsTodaysState s → (n : ℕ) → OnCycle F s n → ⊥
-
--- behind a run both states are of today's forms
-abbrev pub RunsHoldTodays : Type 0
-RunsHoldTodays =
-    (F : Meanings) (lines : List (List ℕ)) (turns : List Turn) (run : IsRun F lines turns) → IsTodaysState run.end.settled × IsTodaysState run.end.present
-
--- where the present state is of them a stabilize is refused for what is too deep alone, so its number is 21
-abbrev pub HeightsAloneToday : Type 0
-HeightsAloneToday =
-    (F : Meanings) (m after : Moment) (line : List ℕ) (why : Refusal) (rest : List Reply) → IsTodaysState m.present
-    → Step F m line after (Refused why ∷ rest) → breaks why ≡ true
-    → (target : ℕ) × (why ≡ Height target)
-
--- what a stabilize behind a run would meet is needed, so it is refused exactly where something that is needed is too deep
-abbrev pub MetIsNeededToday : Type 0
-MetIsNeededToday =
-    (F : Meanings) (lines : List (List ℕ)) (turns : List Turn) (run : IsRun F lines turns) (i : Item) → Met F run.end.settled run.end.present i
-    → Needed F run.end.present i
-
--- the same lines print the same bytes, also behind a refused stabilize: of its own line alone the name is free
-abbrev pub OneTranscriptPastRefusalsToday : Type 0
-OneTranscriptPastRefusalsToday = (F : Meanings) (lines : List (List ℕ)) (ts us : List Turn) → IsRun F lines ts → IsRun F lines us → PrintAlike ts us
-
--- so they print the same bytes where one run refused no stabilize
-abbrev pub OneTranscriptToday : Type 0
-OneTranscriptToday =
-    (F : Meanings) (lines : List (List ℕ)) (ts us : List Turn) → IsRun F lines ts → IsRun F lines us → Every IsUnbroken ts
-    → transcript ts ≡ transcript us
-
--- and lead to one end
-abbrev pub OneEndToday : Type 0
-OneEndToday = (F : Meanings) (lines : List (List ℕ)) (ts us : List Turn) (run : IsRun F lines ts) (other : IsRun F lines us) → run.end ≡ other.end
+-- no line of them grabs a bind, so of those laws the premise about grabs holds in every run
+abbrev pub NoGrabsToday : Type 0
+NoGrabsToday = (F : Meanings) (lines : List (List ℕ)) (turns : List Turn) → IsRun F lines turns → Every GrabsNothing turns

@@ -19,7 +19,6 @@ pub mod Row
 pub mod Run
 pub mod Settle
 pub mod Step
-pub mod Today
 pub mod TokenLaws
 pub mod Tokens
 pub mod Values

@@ -1,6 +1,6 @@
 //! Laws of the definitions. Each function does nothing: its contract is the law.
 ghost use Rattle.script_model.specs.GrammarLaws.{OneWriting, OneLine, LinesAreShallow, LinesAreWellFormed, OneCommand, CommandsAreShallow, CommandsAreWellFormed, DeepLinesAreWellFormed, WhatIsReadIsWritten};
-ghost use Rattle.script_model.specs.Laws.{NothingDueAfterSettling, EveryDepthAgrees, OneOutcome, RefusalsChangeNothing, RefusedStabilizesBreak, OneRequest, OneEffect, StartIsValid, StepsKeepValidity, LinesKeepValidity, HaltsKeepValidity, RunsAreValid, ValuesHaveTypes, DeclarationsHaveTypes, CallsAreTyped, VisitsCountCalls, NeededGives, GivenIsOnNoCycle, LibrariesKeepToTypes, EveryLineAsks, OnlyStabilizesCall, OneVisit, MeetsOnce, ReadsSuffice, OneTranscript, OneBeginning, OneTranscriptPastRefusals, OneEnd, UnblockedIsAccepted, BlockedIsRefused, TodayHasNoCycle, RunsHoldTodays, HeightsAloneToday, MetIsNeededToday, OneTranscriptPastRefusalsToday, OneTranscriptToday, OneEndToday};
+ghost use Rattle.script_model.specs.Laws.{NothingDueAfterSettling, EveryDepthAgrees, OneOutcome, RefusalsChangeNothing, RefusedStabilizesBreak, OneRequest, OneEffect, StartIsValid, StepsKeepValidity, LinesKeepValidity, HaltsKeepValidity, RunsAreValid, ValuesHaveTypes, DeclarationsHaveTypes, CallsAreTyped, VisitsCountCalls, NeededGives, GivenIsOnNoCycle, LibrariesKeepToTypes, EveryLineAsks, OnlyStabilizesCall, OneVisit, MeetsOnce, ReadsSuffice, OneTranscript, OneBeginning, OneTranscriptPastRefusals, OneEnd, UnblockedIsAccepted, BlockedIsRefused, NoGrabsToday};
 ghost use Rattle.script_model.specs.TokenLaws.{OneSpelling};
 ghost use Rattle.script_model.specs.Row.{SumIsShown, SumIsOneCall, BindIsShown, BindIsOneCall, NameIsOnCycle, GrabDies, ChainIsTooDeep, GrabStateIsValid};
 
@@ -249,38 +249,7 @@ pub fn blocked_is_refused()
     ensures { BlockedIsRefused }
 {}
 
-/// Of today's forms no name is on a cycle.
-pub fn today_has_no_cycle()
-    ensures { TodayHasNoCycle }
-{}
-
-/// Behind a run both states are of today's forms.
-pub fn runs_hold_todays()
-    ensures { RunsHoldTodays }
-{}
-
-/// Of today's forms a stabilize is refused for what is too deep alone: its number is 21.
-pub fn heights_alone_today()
-    ensures { HeightsAloneToday }
-{}
-
-/// Of today's forms what a stabilize meets is needed.
-pub fn met_is_needed_today()
-    ensures { MetIsNeededToday }
-{}
-
-/// The same lines of today's forms print the same bytes, but for the names that a refused stabilize
-/// tells.
-pub fn one_transcript_past_refusals_today()
-    ensures { OneTranscriptPastRefusalsToday }
-{}
-
-/// They print the same bytes where one run refused no stabilize.
-pub fn one_transcript_today()
-    ensures { OneTranscriptToday }
-{}
-
-/// They lead to one end.
-pub fn one_end_today()
-    ensures { OneEndToday }
+/// No line of today's forms grabs a bind.
+pub fn no_grabs_today()
+    ensures { NoGrabsToday }
 {}
