@@ -23,6 +23,7 @@ pub mod Owner
 pub mod Owning
 pub mod Plain
 pub mod Recalling
+pub mod Referring
 pub mod Remembering
 pub mod Same
 pub mod Setting
