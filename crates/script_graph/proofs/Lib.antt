@@ -16,6 +16,7 @@ pub mod Extending
 pub mod Functions
 pub mod Held
 pub mod Laying
+mod Living
 pub mod Looking
 pub mod Making
 pub mod Observing
