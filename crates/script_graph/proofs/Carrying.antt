@@ -1,5 +1,5 @@
 -- What observers show, and what is kept of the last accepted stabilize, after a call that keeps both.
-use Rattle.std.proofs.Common.{◌≡◌, ℕ, ◌<◌, ◌≤◌, List, take, length, Some, IsSome, refl, ap, sym, subst, ◌∙◌, arith, slice_get}
+use Rattle.std.proofs.Common.{◌≡◌, ℕ, ◌<◌, ◌≤◌, List, take, length, Some, IsSome, ap, sym, subst, ◌∙◌, arith, slice_get}
 use Rattle.inc_value.specs.Choice.{Among}
 use Rattle.inc_value.specs.declared.node.NodeId.{NodeId}
 use Rattle.inc_value.specs.declared.node.ObsId.{ObsId}
@@ -20,7 +20,6 @@ use Rattle.script_graph.specs.Today.{IsDeclaredTarget, RefersTo}
 use Rattle.script_graph.specs.Settled.{rooted_at, StillDeclares, WasRun, Settled}
 use Rattle.script_graph.proofs.Held.{link_less, held_less}
 use Rattle.script_graph.proofs.Referring.{outcome_agrees, outcome_refers_more}
-use Rattle.transfer.specs.Both.{graph_value, graph_outcome}
 
 -- ---- observers
 

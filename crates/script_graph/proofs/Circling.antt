@@ -1,6 +1,6 @@
 -- A stabilize that was refused for a cycle is one of the script.
-use Rattle.std.proofs.Common.{◌≡◌, ◌⊎◌, inl, inr, ℕ, zero, suc, ◌<◌, true, List, [], ◌∷◌, ◌++◌, length, Option, None, Some, option_map, refl, ap, sym, subst, ◌∙◌, arith, slice_get}
-use Rattle.std.proofs.lemmas.Option.{slice_get_within, slice_get-map}
+use Rattle.std.proofs.Common.{◌≡◌, ◌⊎◌, inl, inr, ℕ, true, List, [], ◌∷◌, ◌++◌, Option, None, Some, option_map, refl, ap, sym, subst, ◌∙◌, arith, slice_get}
+use Rattle.std.proofs.lemmas.Option.{slice_get-map}
 use Rattle.node_outcomes.specs.Meaning.{Meaning}
 use Rattle.graph.specs.Sound.{IsSound, IsWhole}
 use Rattle.graph.specs.Stabilizes.{ComesBack}
@@ -9,16 +9,15 @@ use Rattle.graph.specs.Standing.{Standing}
 use Rattle.graph.specs.Fault.{kept_of}
 use Rattle.graph.specs.declared.fault.Kept.TheVariants as fault
 use Rattle.height_order.specs.Chains as chains
-use Rattle.inc_value.specs.Choice.{Every, Reaches, here, step, and_then}
+use Rattle.inc_value.specs.Choice.{Every, and_then}
 use Rattle.inc_value.specs.declared.function.FnRef.{FnRef}
 use Rattle.inc_value.specs.declared.node.NodeId.{NodeId}
 use Rattle.inc_value.specs.declared.node.Point.{Point}
 use Rattle.inc_value.specs.declared.value.Value.{Value as GraphValue}
-use Rattle.inc_terms.specs.Depend.{main}
 use Rattle.inc_terms.specs.Term.{Functions}
 use Rattle.node_arena.specs.Graph.{graph_of}
 use Rattle.script_graph.specs.Today.{maps_alone, IsPlainBody, IsEarlierTarget, IsDeclaredTarget, AllPlain, IsWithin, IsPartWithin, IsOwnFormula}
-use Rattle.script_model.specs.Blocked.{NameReads, EachReads, LastIs, IsCycle, OnCycle}
+use Rattle.script_model.specs.Blocked.{IsCycle}
 use Rattle.script_model.specs.Check.{Declared, declared_of, target_of_body}
 use Rattle.script_model.specs.Formula as script
 use Rattle.script_model.specs.Formula.{State, Entry, Body, Formula, Meanings, meanings_of, body_at, Name, Variable, Computed, Grab}
@@ -38,13 +37,11 @@ use Rattle.script_graph.proofs.Functions.{functions_are}
 use Rattle.script_graph.proofs.Owning.{aged_item, aged_part, own_body, own_node}
 use Rattle.script_graph.proofs.Remembering.{meeting_is_covered, same_owner}
 use Rattle.script_graph.proofs.Without.{sound_without, lawful_without, few_without}
-use Rattle.stabilize_round.proofs.Points.{same_or_other}
 use Rattle.stabilizer.specs.declared.refused.Refused.{Refused}
 use Rattle.stabilizer.specs.declared.refused.Refused.TheVariants as refused
 use Rattle.transfer.specs.Both.{Both}
-use Rattle.transfer.specs.Cycles.{DeclaredOwn, IsForm, PartsApart, IsOwnRoot, IsPassed, Passes, EndsAt}
+use Rattle.transfer.specs.Cycles.{IsForm, PartsApart, IsOwnRoot, IsPassed, Passes, EndsAt}
 use Rattle.transfer.specs.Items.{node_at}
-use Rattle.transfer.specs.Shows.{IsOwn}
 use Rattle.transfer.proofs.Commands.{own_target}
 use Rattle.transfer.proofs.Cycles.{cycles_are_named}
 use Rattle.transfer.proofs.Typed.{body_entry, valid_grabs}

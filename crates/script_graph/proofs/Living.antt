@@ -1,7 +1,7 @@
 -- The node of an item that computes something is live.
 use Rattle.std.proofs.Common.{◌≡◌, ℕ, List, Option, None, Some, refl, subst}
 use Rattle.inc_value.specs.declared.node.NodeId.{NodeId}
-use Rattle.inc_terms.specs.Graph.{Graph, Row}
+use Rattle.inc_terms.specs.Graph.{Row}
 use Rattle.inc_terms.specs.Term as term
 use Rattle.inc_terms.specs.Term.{Term}
 use Rattle.script_model.specs.Formula.{State, Body, Formula, Meanings, body_at, Literal, Name, Apply, Fold, If, Join, Variable}

@@ -10,7 +10,7 @@ use Rattle.inc_terms.specs.Graph.{Row}
 use Rattle.inc_terms.specs.Term as term
 use Rattle.inc_terms.specs.Need.{Needed as GraphNeeded}
 use Rattle.script_model.specs.Depth as depth
-use Rattle.script_model.specs.Depth.{Point, node_of_body, node_of_formula, points_of, points_at, body_points, scoped_points, change_of, main_points, change_points, stands_at, Depends, IsWalk, TooDeep}
+use Rattle.script_model.specs.Depth.{Point, node_of_body, node_of_formula, points_of, body_points, scoped_points, main_points, change_points, stands_at, Depends, IsWalk, TooDeep}
 use Rattle.script_model.specs.Evaluate.{chosen, value_at}
 use Rattle.script_model.specs.Formula.{State, Body, Formula, Meanings, body_at, formula_of_body, Literal, Name, Apply, Fold, If, Join, Variable, Computed, Grab}
 use Rattle.script_model.specs.Need.{Edge, Left, Item, Named, Place, Met, Needed, environment, rounds, part_at, part_of, formula_at, place_reads, name_reads, Reads}
@@ -18,7 +18,7 @@ use Rattle.script_graph.specs.Today.{IsPlain, IsPlainBody, IsEarlierTarget, IsDe
 use Rattle.script_graph.proofs.Plain.{plain_place}
 use Rattle.transfer.specs.Both.{Both}
 use Rattle.transfer.specs.Deep.{IsOfBind, IsToldOf, of_node, of_bind, of_grab}
-use Rattle.transfer.specs.Items.{node_at, node_of, scope_at, Covers, by_main, by_choice, by_left, by_variable, CoveredBy, IsChoice, Closed, FormulasStay, GrabsBind, RootsAre}
+use Rattle.transfer.specs.Items.{node_at, node_of, scope_at, Covers, by_main, by_choice, by_left, by_variable, IsChoice, Closed, FormulasStay, GrabsBind, RootsAre}
 use Rattle.transfer.specs.Shows.{Fits}
 use Rattle.transfer.proofs.Enclosed.{met_reads}
 use Rattle.transfer.proofs.Meanings.{needed_is_covered}

@@ -8,7 +8,7 @@ use Rattle.inc_value.specs.declared.ty.Ty.{Ty}
 use Rattle.inc_value.specs.declared.outcome.Outcome.TheVariants as outcome
 use Rattle.inc_value.specs.declared.value.Value.TheVariants as engine
 use Rattle.script_model.specs.Check.{target_of_body}
-use Rattle.script_model.specs.Formula.{State, Entry, body_at, entry_at}
+use Rattle.script_model.specs.Formula.{State, Entry, entry_at}
 use Rattle.script_model.specs.Valid.{NameHasType, ValueHasType, OutcomeHasType}
 use Rattle.script_model.specs.Values.{Value, Int, Bool, Text, Reference, Outcome, Val, Invalid, type_of}
 use Rattle.script_graph.specs.Today.{AllPlain, IsDeclaredTarget, RefersTo}
