@@ -19,14 +19,16 @@ use Rattle.node_arena.specs.Arena.{Arena, row_at}
 use Rattle.node_arena.specs.Graph.{graph_of, NoScopes}
 use Rattle.stabilize_round.specs.Calling.{costs_of}
 use Rattle.stabilize_round.specs.Counts.{RoseBy}
-use Rattle.script_graph.specs.Today.{maps_alone, IsPlain, IsPlainBody, IsEarlierTarget, AllPlain}
+use Rattle.script_graph.specs.Today.{maps_alone, IsPlain, IsPlainBody, IsEarlierTarget, IsDeclaredTarget, RefersTo, AllPlain}
 use Rattle.script_model.specs.Blocked.{InTheWay, on_cycle, too_deep}
 use Rattle.script_model.specs.Check.{is_among}
-use Rattle.script_model.specs.Formula.{State, Entry, Body, Formula, Observer, Meanings, meanings_of, Literal, Name, Apply, Fold, Variable, Computed}
+use Rattle.script_model.specs.Evaluate.{NameGives}
+use Rattle.script_model.specs.Formula.{State, Entry, Body, Formula, Observer, Meanings, meanings_of, body_at, Literal, Name, Apply, Fold, If, Join, Variable, Computed}
 use Rattle.script_model.specs.Need.{Item, Visit, IsVisit, Needed, WithinWork}
 use Rattle.script_model.specs.Settle.{Becomes, BecomeAll, Builds, ShowAll}
 use Rattle.script_model.specs.Step.{Moment, NothingNeededIsBlocked, settles}
 use Rattle.script_model.specs.Values.{Outcome, seen_value}
+use Rattle.script_model.proofs.TypedValues.{declarations_have_types}
 use Rattle.script_graph.specs.Kept.{Kept, arena_of, node_in, without_functions}
 use Rattle.script_graph.specs.Represents.{graph_functions, besides, beside, there_in, AreNames, Represents, Watches}
 use Rattle.script_graph.specs.Settled.{side_of, observed_by, WasRun, Settled}
@@ -36,9 +38,9 @@ use Rattle.script_graph.proofs.Beside.{represented_fits, grabs_bind}
 use Rattle.script_graph.proofs.Functions.{functions_are}
 use Rattle.script_graph.proofs.Held.{held_needed}
 use Rattle.script_graph.proofs.Looking.{observed_of_root}
-use Rattle.script_graph.proofs.Owner.{mains_alone}
-use Rattle.script_graph.proofs.Plain.{name_gives_base}
+use Rattle.script_graph.proofs.Owner.{no_bind_needed}
 use Rattle.script_graph.proofs.Recalling.{shown_at, needed_is_right, visit_is_recalled}
+use Rattle.script_graph.proofs.Referring.{typed_outcome_refers}
 use Rattle.script_graph.proofs.Remembering.{observed_root, stood, observed_among, due_is_covered}
 use Rattle.script_graph.proofs.Same.{observed_so, represents_so}
 use Rattle.script_graph.proofs.Showing.{ShowsThen, AllShow, all_show, made_then, shows_then, names_then, watches_then}
@@ -49,22 +51,25 @@ use Rattle.transfer.specs.Items.{node_of, GrabsBind, RootsHave}
 use Rattle.transfer.specs.Shows.{Fits}
 use Rattle.transfer.proofs.Deep.{needed_is_shallow, needed_is_on_no_cycle}
 use Rattle.transfer.proofs.Meanings.{names_agree}
+use Rattle.transfer.proofs.Typed.{body_entry}
 
 -- ---- declarations
 
 -- what is kept of a plain formula stays
-plain_builds : (F : Meanings) (before s : State) (n : ℕ) (f : Formula) (P : ℕ → Type 0) → IsPlain P f → (was : Option Outcome)
+plain_builds : (F : Meanings) (before s : State) (n : ℕ) (f : Formula) (P R : ℕ → Type 0) → IsPlain P R f → (was : Option Outcome)
     → Builds F before s n f was was
-plain_builds F before s n (Literal v) P fine was = refl
-plain_builds F before s n (Name m) P fine was = refl
-plain_builds F before s n (Apply g arguments) P fine was = refl
-plain_builds F before s n (Fold g first elements) P fine was = refl
-plain_builds F before s n f P fine was = absurd fine
+plain_builds F before s n (Literal v) P R fine was = refl
+plain_builds F before s n (Name m) P R fine was = refl
+plain_builds F before s n (Apply g arguments) P R fine was = refl
+plain_builds F before s n (Fold g first elements) P R fine was = refl
+plain_builds F before s n (If test a b) P R fine was = refl
+plain_builds F before s n (Join child) P R fine was = refl
+plain_builds F before s n f P R fine was = absurd fine
 
-plain_becomes : (F : Meanings) (before s after : State) (n : ℕ) (b : Body) (P : ℕ → Type 0) → IsPlainBody P b → Becomes F before s after n b b
-plain_becomes F before s after n (Variable v) P fine = refl
-plain_becomes F before s after n (Computed f kept) P fine = (kept, refl, record { built = plain_builds F before s n f P fine.0 kept.built })
-plain_becomes F before s after n b P fine = absurd fine
+plain_becomes : (F : Meanings) (before s after : State) (n : ℕ) (b : Body) (P R : ℕ → Type 0) → IsPlainBody P R b → Becomes F before s after n b b
+plain_becomes F before s after n (Variable v) P R fine = refl
+plain_becomes F before s after n (Computed f kept) P R fine = (kept, refl, record { built = plain_builds F before s n f P R fine.0 kept.built })
+plain_becomes F before s after n b P R fine = absurd fine
 
 all_become : (F : Meanings) (before s after : State) (n : ℕ) (es : List Entry)
     → ((j : ℕ) (e : Entry) → slice_get es j ≡ Some e → (m : ℕ) → Becomes F before s after m e.body e.body) → BecomeAll F before s after n es es
@@ -75,7 +80,7 @@ all_become F before s after n (e ∷ es) each =
 -- the declarations of a plain state stay
 entries_become : (F : Meanings) (before s after : State) → AllPlain s → BecomeAll F before s after 0 s.entries s.entries
 entries_become F before s after plain = all_become F before s after 0 s.entries
-    (λ j e at m. plain_becomes F before s after m e.body (IsEarlierTarget s j)
+    (λ j e at m. plain_becomes F before s after m e.body (IsEarlierTarget s j) (IsDeclaredTarget s)
     (plain j e.body (ap (λ (x : Option Entry). and_then x (λ (y : Entry). Some y.body)) at)))
 
 -- ---- the stabilize
@@ -131,7 +136,8 @@ module _ (named : List ℕ → Option FnRef) (value : FnRef → List GraphValue 
 
   exact : (p : Point) → IsObserved M k.graph p → Exact M (graph_of nodes_now) (shown_at g) p
   exact = needed_is_right M k.graph g no_scopes
-      (mains_alone x fits stands.matches.represents.today.plain grabs observed (watched_roots_are F s k stands.matches.represents.today.plain stands.matches.watches)) done
+      (λ n l r f caps need row def. no_bind_needed x fits stands.matches.represents.today.plain grabs observed
+      (watched_roots_are F s k stands.matches.represents.today.plain stands.matches.watches) n l r f caps need row def) done
 
   -- nothing that is needed is on a cycle or too deep
   free : NothingNeededIsBlocked F m
@@ -151,6 +157,13 @@ module _ (named : List ℕ → Option FnRef) (value : FnRef → List GraphValue 
 
   -- ---- observers
 
+  -- what a declaration gives refers to what is declared
+  given_refers : (t : ℕ) (p : Outcome) → (b : Body) × (body_at s t ≡ Some b) → NameGives F s t p → RefersTo (IsDeclaredTarget s) p
+  given_refers t p is gives =
+      let e = body_entry s t is.0 is.1 in
+      typed_outcome_refers s stands.matches.represents.today.plain stands.matches.represents.targets p e.0.ty
+      (declarations_have_types F s stands.keep stands.valid.1 t e.0 p e.1 gives)
+
   shows_one : (o : ObsId) (y : Observer) → slice_get stands.matches.watches.made o.0 ≡ Some (Some y) → (p : Outcome) × ShowsThen F s k g y p
   shows_one o y at =
       let w = stands.matches.watches.observing o y at in
@@ -161,7 +174,7 @@ module _ (named : List ℕ → Option FnRef) (value : FnRef → List GraphValue 
         p.0,
         record {
           gives = p.2;
-          base = name_gives_base named value s stands.matches.represents.today.plain y.target p.0 p.2;
+          refers = given_refers y.target p.0 (stands.matches.watches.observing o y at).target p.2;
           shown = q.1 ∙ ap (λ o. Some o) p.1;
           unwatched = w.today.unwatched;
         },

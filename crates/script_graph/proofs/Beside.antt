@@ -10,7 +10,7 @@ use Rattle.inc_terms.specs.Code.{def_of}
 use Rattle.inc_terms.specs.Graph.{Row, Freeze}
 use Rattle.node_arena.specs.Arena.{Arena, row_at}
 use Rattle.script_model.specs.Formula as script
-use Rattle.script_model.specs.Formula.{State, Body, Formula, Meanings, meanings_of, body_at, Name, Computed, Grab}
+use Rattle.script_model.specs.Formula.{State, meanings_of, body_at, Name, Computed, Grab}
 use Rattle.script_model.specs.Values.{Value}
 use Rattle.script_graph.specs.Kept.{Kept}
 use Rattle.script_graph.specs.Today.{AllPlain}

@@ -1,7 +1,6 @@
 -- What observers show, and what is kept of the last accepted stabilize, after a call that keeps both.
-use Rattle.std.proofs.Common.{◌≡◌, ℕ, ◌<◌, ◌≤◌, List, take, length, Some, IsSome, refl, ap, sym, subst, ◌∙◌, arith, slice_get}
+use Rattle.std.proofs.Common.{◌≡◌, ℕ, ◌<◌, ◌≤◌, List, take, length, Some, IsSome, ap, sym, subst, ◌∙◌, arith, slice_get}
 use Rattle.inc_value.specs.Choice.{Among}
-use Rattle.inc_value.specs.Ty.{IsBase}
 use Rattle.inc_value.specs.declared.node.NodeId.{NodeId}
 use Rattle.inc_value.specs.declared.node.ObsId.{ObsId}
 use Rattle.inc_value.specs.declared.node.Point.{Point}
@@ -14,29 +13,13 @@ use Rattle.map_nodes.specs.declared.cutoff.Cutoff.TheVariants.{Equal}
 use Rattle.node_arena.specs.Arena.{Arena}
 use Rattle.script_model.specs.Formula.{State, Body, Meanings, Observer, body_at}
 use Rattle.script_model.specs.Need.{Visit}
-use Rattle.script_model.specs.Values.{Value, Int, Bool, Text, Reference, Outcome, Val, Invalid, type_of}
+use Rattle.script_model.specs.Values.{Outcome}
 use Rattle.script_graph.specs.Kept.{Kept, arena_of, node_in}
 use Rattle.script_graph.specs.Represents.{besides, IsShown, IsObserver, Watches}
-use Rattle.script_graph.specs.Today.{IsBaseOutcome, IsTodaysObserver}
+use Rattle.script_graph.specs.Today.{IsDeclaredTarget, RefersTo}
 use Rattle.script_graph.specs.Settled.{rooted_at, StillDeclares, WasRun, Settled}
 use Rattle.script_graph.proofs.Held.{link_less, held_less}
-use Rattle.transfer.specs.Both.{graph_value, graph_outcome}
-
--- ---- values
-
--- a value that is no reference is the same in every graph
-pub base_value : (nodes nodes' : ℕ → NodeId) (v : Value) → IsBase (type_of v) → graph_value nodes v ≡ graph_value nodes' v
-base_value nodes nodes' (Int z) base = refl
-base_value nodes nodes' (Bool b) base = refl
-base_value nodes nodes' (Text bytes) base = refl
-base_value nodes nodes' (Reference target b) base = absurd base
-
-pub base_outcome : (nodes nodes' : ℕ → NodeId) (o : Outcome) → IsBaseOutcome o → graph_outcome nodes o ≡ graph_outcome nodes' o
-base_outcome nodes nodes' (Val (Int z)) base = refl
-base_outcome nodes nodes' (Val (Bool b)) base = refl
-base_outcome nodes nodes' (Val (Text bytes)) base = refl
-base_outcome nodes nodes' (Val (Reference target b)) base = absurd base
-base_outcome nodes nodes' Invalid base = refl
+use Rattle.script_graph.proofs.Referring.{outcome_agrees, outcome_refers_more}
 
 -- ---- observers
 
@@ -44,15 +27,18 @@ module _ (s s' : State) (k k' : Kept) (beside : KeepsBesideGiven k.graph k'.grap
     (names : k'.names.observers ≡ k.names.observers) (broken : k'.broken ≡ k.broken) (same : s'.observers ≡ s.observers)
     (nodes : (n : ℕ) (b : Body) → body_at s n ≡ Some b → node_in k'.nodes n ≡ node_in k.nodes n)
     (given : (n : ℕ) (b : Body) → body_at s n ≡ Some b → Given (arena_of k).given (node_in k.nodes n))
-    (stays : (n : ℕ) (b : Body) → body_at s n ≡ Some b → (c : Body) × (body_at s' n ≡ Some c)) where
-  shown_on : (o : ObsId) (x : Observer) (b : Body) → body_at s x.target ≡ Some b → IsTodaysObserver x → IsShown k o x → IsShown k' o x
-  shown_on o x b is today h = record {
+    (stays : (n : ℕ) (b : Body) → body_at s n ≡ Some b → (c : Body) × (body_at s' n ≡ Some c))
+    (targets : (t : ℕ) → IsDeclaredTarget s t → IsDeclaredTarget s' t) where
+  shown_on : (o : ObsId) (x : Observer) (b : Body) → body_at s x.target ≡ Some b
+      → ((p : Outcome) → x.shown ≡ Some p → RefersTo (IsDeclaredTarget s) p) → IsShown k o x → IsShown k' o x
+  shown_on o x b is refers h = record {
     earlier = λ low.
         let e = h.earlier (subst (λ (r : ℕ). o.0 < r) beside.rooted low) in (
           e.0,
           e.1,
           λ whole. ap (shown_of k'.graph) (nodes x.target b is) ∙ (beside.shown (node_in k.nodes x.target) (given x.target b is)
-              ∙ (e.2 (sym broken ∙ whole) ∙ ap (λ p. Some p) (base_outcome (node_in k.nodes) (node_in k'.nodes) e.0 (today.base e.0 e.1)))),
+              ∙ (e.2 (sym broken ∙ whole) ∙ ap (λ p. Some p)
+              (outcome_agrees (IsDeclaredTarget s) (node_in k.nodes) (node_in k'.nodes) (λ t own. nodes t own.0 own.1) e.0 (refers e.0 e.1)))),
         );
     later = λ high. h.later (subst (λ (r : ℕ). r ≤ o.0) beside.rooted high);
   }
@@ -64,7 +50,8 @@ module _ (s s' : State) (k k' : Kept) (beside : KeepsBesideGiven k.graph k'.grap
   observer_on o x h = record {
     looks = looks_on o ∙ (h.looks ∙ ap (λ n. Some n) (sym (nodes x.target h.target.0 h.target.1)));
     target = stays x.target h.target.0 h.target.1;
-    shown = shown_on o x h.target.0 h.target.1 h.today h.shown;
+    shown = shown_on o x h.target.0 h.target.1 h.refers h.shown;
+    refers = λ p is. outcome_refers_more (IsDeclaredTarget s) (IsDeclaredTarget s') targets p (h.refers p is);
     today = h.today;
   }
 

@@ -1,6 +1,6 @@
--- A stabilize that was refused for a cycle is one of the script, and a plain script has none.
-use Rattle.std.proofs.Common.{◌≡◌, ◌⊎◌, inl, inr, ℕ, zero, suc, ◌<◌, true, List, [], ◌∷◌, ◌++◌, length, Option, None, Some, option_map, refl, ap, sym, subst, ◌∙◌, arith, slice_get}
-use Rattle.std.proofs.lemmas.Option.{slice_get_within, slice_get-map}
+-- A stabilize that was refused for a cycle is one of the script.
+use Rattle.std.proofs.Common.{◌≡◌, ◌⊎◌, inl, inr, ℕ, true, List, [], ◌∷◌, ◌++◌, Option, None, Some, option_map, refl, ap, sym, subst, ◌∙◌, arith, slice_get}
+use Rattle.std.proofs.lemmas.Option.{slice_get-map}
 use Rattle.node_outcomes.specs.Meaning.{Meaning}
 use Rattle.graph.specs.Sound.{IsSound, IsWhole}
 use Rattle.graph.specs.Stabilizes.{ComesBack}
@@ -9,23 +9,21 @@ use Rattle.graph.specs.Standing.{Standing}
 use Rattle.graph.specs.Fault.{kept_of}
 use Rattle.graph.specs.declared.fault.Kept.TheVariants as fault
 use Rattle.height_order.specs.Chains as chains
-use Rattle.inc_value.specs.Choice.{Every, Reaches, here, step, and_then}
+use Rattle.inc_value.specs.Choice.{Every, and_then}
 use Rattle.inc_value.specs.declared.function.FnRef.{FnRef}
 use Rattle.inc_value.specs.declared.node.NodeId.{NodeId}
 use Rattle.inc_value.specs.declared.node.Point.{Point}
 use Rattle.inc_value.specs.declared.value.Value.{Value as GraphValue}
-use Rattle.inc_terms.specs.Depend.{main}
 use Rattle.inc_terms.specs.Term.{Functions}
 use Rattle.node_arena.specs.Graph.{graph_of}
-use Rattle.script_graph.specs.Today.{maps_alone, IsPlainBody, IsEarlierTarget, AllPlain, IsWithin, IsPartWithin, IsOwnFormula}
-use Rattle.script_model.specs.Blocked.{NameReads, EachReads, LastIs, IsCycle, OnCycle}
+use Rattle.script_graph.specs.Today.{maps_alone, IsPlainBody, IsEarlierTarget, IsDeclaredTarget, AllPlain, IsWithin, IsPartWithin, IsOwnFormula}
+use Rattle.script_model.specs.Blocked.{IsCycle}
 use Rattle.script_model.specs.Check.{Declared, declared_of, target_of_body}
 use Rattle.script_model.specs.Formula as script
 use Rattle.script_model.specs.Formula.{State, Entry, Body, Formula, Meanings, meanings_of, body_at, Name, Variable, Computed, Grab}
 use Rattle.script_model.specs.Need.{Edge, Inside, Named, Place, Met, formula_at}
 use Rattle.script_model.specs.Step.{Moment, by_cycle}
 use Rattle.script_model.specs.Values.{Value, seen_value}
-use Rattle.script_model.proofs.Today.{today_has_no_cycle}
 use Rattle.script_graph.specs.Kept.{Kept, arena_of, node_in, without_functions}
 use Rattle.script_graph.specs.Represents.{graph_functions, beside, AreNames, Represents}
 use Rattle.script_graph.specs.Stabilizing.{IsCircular, IsMainOf, MainsIn, CyclePasses, behind_first}
@@ -37,16 +35,13 @@ use Rattle.script_graph.proofs.CuttingShort.{KeepsNodes, broken_matches, keeps_w
 use Rattle.script_graph.proofs.Declaring.{named_entry}
 use Rattle.script_graph.proofs.Functions.{functions_are}
 use Rattle.script_graph.proofs.Owning.{aged_item, aged_part, own_body, own_node}
-use Rattle.script_graph.proofs.Plain.{plain_is_todays}
 use Rattle.script_graph.proofs.Remembering.{meeting_is_covered, same_owner}
 use Rattle.script_graph.proofs.Without.{sound_without, lawful_without, few_without}
-use Rattle.stabilize_round.proofs.Points.{same_or_other}
 use Rattle.stabilizer.specs.declared.refused.Refused.{Refused}
 use Rattle.stabilizer.specs.declared.refused.Refused.TheVariants as refused
 use Rattle.transfer.specs.Both.{Both}
-use Rattle.transfer.specs.Cycles.{DeclaredOwn, IsForm, PartsApart, IsOwnRoot, IsPassed, Passes, EndsAt}
+use Rattle.transfer.specs.Cycles.{IsForm, PartsApart, IsOwnRoot, IsPassed, Passes, EndsAt}
 use Rattle.transfer.specs.Items.{node_at}
-use Rattle.transfer.specs.Shows.{IsOwn}
 use Rattle.transfer.proofs.Commands.{own_target}
 use Rattle.transfer.proofs.Cycles.{cycles_are_named}
 use Rattle.transfer.proofs.Typed.{body_entry, valid_grabs}
@@ -65,7 +60,7 @@ module _ (F : Meanings) (s : State) (k : Kept) (held : Represents F s k) where
       → IsWithin k.nodes owner n
   place_within owner path f n is form at = aged_item F s k held (Place owner path) n (subst IsOwnFormula (sym is) (form_own f form)) at
 
-  whole_body : (owner : ℕ) (f : Formula) (b : Body) → formula_at s owner [] ≡ Some f → body_at s owner ≡ Some b → IsPlainBody (IsEarlierTarget s owner) b
+  whole_body : (owner : ℕ) (f : Formula) (b : Body) → formula_at s owner [] ≡ Some f → body_at s owner ≡ Some b → IsPlainBody (IsEarlierTarget s owner) (IsDeclaredTarget s) b
       → (g : Formula) × (kept : _) × (b ≡ Computed g kept)
   whole_body owner f (Computed g kept) is at fine = (g, kept, refl)
   whole_body owner f (Variable v) is at fine = absurd (let e = rw at at is in cc)
@@ -92,72 +87,11 @@ module _ (F : Meanings) (s : State) (k : Kept) (held : Represents F s k) where
           let gens : (node_in k.nodes owner).gen_ ≡ n.gen_ = ap (λ (j : ℕ). (node_in k.nodes j).gen_) same ∙ ap (λ (q : NodeId). q.gen_) node in
           absurd (omega (arith, low, gens))
 
--- ---- the names that a walk passes
+-- ---- no grab is there
 
 module _ (x : Both) (plain : AllPlain x.state) where
   no_root : (p : Point) (n : ℕ) → IsOwnRoot x p n → ⊥
   no_root p n (b, v, is_live, body, at) = plain n (Grab b v is_live) body
-
-  own_or : (n : ℕ) → DeclaredOwn x n ⊎ (DeclaredOwn x n → ⊥)
-  own_or n = go (body_at x.state n) refl
-    where
-      same_body : (b c : Body) → body_at x.state n ≡ Some b → body_at x.state n ≡ Some c → b ≡ c
-      same_body b c first second = let e : Some b ≡ Some c = sym first ∙ second in cc
-
-      by_body : (b : Body) → IsOwn (Some b) ⊎ (IsOwn (Some b) → ⊥)
-      by_body (Computed (Name t) kept) = inr (λ own. own)
-      by_body (Computed f kept) = inl tt
-      by_body b = inl tt
-
-      go : (b : Option Body) → body_at x.state n ≡ b → DeclaredOwn x n ⊎ (DeclaredOwn x n → ⊥)
-      go None is = inr (λ d. let at = d.1 in cc)
-      go (Some b) is = elim (by_body b) [
-        | inl own ↦ inl (b, is, own)
-        | inr other ↦ inr (λ d. other (subst (λ (c : Body). IsOwn (Some c)) (same_body d.0 b d.1 is) d.2))
-      ]
-
-  passed_or : (p q : Point) (n : ℕ) → IsPassed x p q n ⊎ (IsPassed x p q n → ⊥)
-  passed_or p q n = elim (own_or n) [
-    | inl own ↦ elim (same_or_other q (main (x.nodes n))) [
-      | inl same ↦ inl (own, same, no_root p n)
-      | inr other ↦ inr (λ passed. other passed.1)
-    ]
-    | inr none ↦ inr (λ passed. none passed.0)
-  ]
-
-  -- one of the first so many names is passed, or none of them
-  passed_below : (p q : Point) (count : ℕ) → ((n : ℕ) × IsPassed x p q n) ⊎ ((n : ℕ) → n < count → IsPassed x p q n → ⊥)
-  passed_below p q zero = inr (λ n low passed. omega (arith, low))
-  passed_below p q (suc count) = elim (passed_or p q count) [
-    | inl passed ↦ inl (count, passed)
-    | inr other ↦ elim (passed_below p q count) [
-      | inl below ↦ inl below
-      | inr none ↦ inr (λ n low passed. elim (last_or n count low) [
-        | inl less ↦ none n less passed
-        | inr same ↦ other (subst (IsPassed x p q) same passed)
-      ])
-    ]
-  ]
-    where
-      last_or : (n count : ℕ) → n < suc count → (n < count) ⊎ (n ≡ count)
-      last_or n count low = grind (arith, low)
-
-  passed_any : (p q : Point) → ((n : ℕ) × IsPassed x p q n) ⊎ ((n : ℕ) → IsPassed x p q n → ⊥)
-  passed_any p q = elim (passed_below p q (length x.state.entries)) [
-    | inl passed ↦ inl passed
-    | inr none ↦ inr (λ n passed.
-        let e = body_entry x.state n passed.0.0 passed.0.1 in none n (slice_get_within x.state.entries n e.0 e.1) passed)
-  ]
-
-  -- a walk passes some names
-  pub passes_some : (p : Point) (points : List Point) → (names : List ℕ) × Passes x p points names
-  passes_some p [] = ([], refl)
-  passes_some p (q ∷ rest) =
-      let more = passes_some q rest in
-      elim (passed_any p q) [
-        | inl passed ↦ (passed.0 ∷ more.0, inr (passed.0, more.0, refl, passed.1, more.1))
-        | inr none ↦ (more.0, inl (none, more.1))
-      ]
 
 -- ---- the declarations whose mains are listed
 
@@ -192,14 +126,6 @@ ends_as : (points : List Point) (p : Point) → chains.EndsAt points p → EndsA
 ends_as [] p e = e
 ends_as (q ∷ []) p e = e
 ends_as (q ∷ r ∷ rest) p e = ends_as (r ∷ rest) p e
-
-reach_last : (F : Meanings) (s : State) (n a : ℕ) (names : List ℕ) → EachReads F s a names → LastIs n (a ∷ names) → Reaches (NameReads F s) a n
-reach_last F s n a [] reads last = subst (Reaches (NameReads F s) a) last here
-reach_last F s n a (b ∷ names) reads last = step reads.0 (reach_last F s n b names reads.1 last)
-
-first_on_cycle : (F : Meanings) (s : State) (n : ℕ) (names : List ℕ) → IsCycle F s (n ∷ names) → OnCycle F s n
-first_on_cycle F s n [] cycle = absurd cycle.1
-first_on_cycle F s n (a ∷ names) cycle = (a, cycle.0.0, reach_last F s n a names cycle.0.1 cycle.1)
 
 -- ---- the stabilize
 
@@ -258,22 +184,6 @@ module _ (named : List ℕ → Option FnRef) (value : FnRef → List GraphValue 
     circular_met (Some (refused.Cycle points)) r targets e cause lawful passes = absurd (cc)
     circular_met (Some other) r targets e cause lawful passes = absurd passes
 
-  -- which a plain script doesn't have
-  none_comes_back : (points : List Point) → IsListed (graph_functions F) k.graph points
-      → ComesBack points → ⊥
-  none_comes_back [] listed back = back.starts
-  none_comes_back (p ∷ []) listed back = let long = back.long in omega (arith, long)
-  none_comes_back (p ∷ q ∷ rest) listed back =
-      let names = passes_some (beside F s k) stands.matches.represents.today.plain p (q ∷ rest) in
-      let c = passed_cycle p q rest names.0 listed back names.1 in
-      today_has_no_cycle F s (plain_is_todays s stands.matches.represents.today.plain) c.0 (first_on_cycle F s c.0 (c.1 ++ c.0 ∷ []) c.3)
-
-  no_cycle : (met : Refused) → IsLawful (graph_functions F) k.graph met → kept_of met ≡ fault.Cycle → ⊥
-  no_cycle (refused.Cycle points) lawful e = none_comes_back points.items lawful.0 lawful.1
-  no_cycle (refused.Height points) lawful e = cc
-  no_cycle refused.Full lawful e = lawful
-  no_cycle refused.Memory lawful e = cc
-
 -- ---- over a graph with its functions
 
 module _ {A : Type 0} (named : List ℕ → Option FnRef) (value : FnRef → List GraphValue → GraphValue) (W : Meaning) (k : Kept)
@@ -299,8 +209,3 @@ module _ {A : Type 0} (named : List ℕ → Option FnRef) (value : FnRef → Lis
       (keeps_without k old new same (refused_keeps done)) (subst (λ (h : Standing (Unit {0})). HasCalledMet (maps_alone (seen_value value)) h called calls) (sym same)
       (few_without (maps_alone (seen_value value)) old called calls few)) new.refused done.met targets done.broken done.is_cause
       kept_lawful passes
-
-  -- and where the script is plain there is none
-  pub session_no_cycle : ⊥
-  session_no_cycle =
-      no_cycle named value W m k stands (stands.matches.broken ∙ unbroken) kept_sound kept_whole done.met kept_lawful done.is_cause

@@ -48,7 +48,7 @@ watches_broken s k g number keeps w = record {
   in_order = w.in_order;
   ended = λ o at. looks o ∙ w.ended o at;
   observing = λ o x at. let h = w.observing o x at in
-      record { looks = looks o ∙ h.looks; target = h.target; shown = still_shown o x h.shown; today = h.today };
+      record { looks = looks o ∙ h.looks; target = h.target; shown = still_shown o x h.shown; refers = h.refers; today = h.today };
   named = w.named;
   apart = w.apart;
 }

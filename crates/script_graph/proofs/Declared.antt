@@ -2,7 +2,7 @@
 use Rattle.std.proofs.Common.{◌≡◌, ◌⊎◌, inl, inr, ℕ, ◌+◌, ◌<◌, ◌≤◌, Bool, List, [], ◌∷◌, ◌++◌, length, Option, None, Some, IfSome, IsTrue, refl, ap, sym, subst, ◌∙◌, arith, slice_get}
 use Rattle.std.proofs.lemmas.List.{get_or_append_left, get_or_at}
 use Rattle.std.proofs.lemmas.Option.{none-some, slice_get-get_or}
-use Rattle.formula_lang.specs.Fits.{AssignmentFits, BodyFits, DeclarationFits, NameFits}
+use Rattle.formula_lang.specs.Fits.{AssignmentFits, BodyFits, DeclarationFits, NameFits, ReferenceFits}
 use Rattle.formula_elab.specs.Laying.{laid_body}
 use Rattle.formula_elab.specs.Names.{EveryNameOf}
 use Rattle.formula_elab.specs.Opened.{node_at, node_of}
@@ -15,6 +15,8 @@ use Rattle.inc_value.specs.Value as engine
 use Rattle.inc_value.specs.declared.function.FnRef.{FnRef}
 use Rattle.inc_value.specs.declared.node.NodeId.{NodeId}
 use Rattle.inc_value.specs.declared.node.ObsId.{ObsId}
+use Rattle.inc_value.specs.declared.ty.Base.{Base}
+use Rattle.inc_value.specs.declared.ty.Base.TheVariants as base
 use Rattle.inc_value.specs.declared.ty.Ty.{Ty}
 use Rattle.inc_value.specs.declared.value.Value.{Value as GraphValue}
 use Rattle.inc_value.specs.Choice.{and_then}
@@ -22,12 +24,13 @@ use Rattle.inc_terms.specs.Graph.{Row}
 use Rattle.inc_terms.specs.Within.{Given, ValueWithin}
 use Rattle.node_arena.specs.Arena.{Arena, row_at, live, IsVariable}
 use Rattle.node_arena.specs.Sound as arena
+use Rattle.node_arena.specs.Typing as typing
 use Rattle.node_arena.specs.Typing.{FitsNode, HasType}
-use Rattle.script_model.specs.Check.{Assign, Declare, Declared, Kind, Names, Variable as VariableKind, is_variable, kind_of_body, target_of_body}
+use Rattle.script_model.specs.Check.{Assign, Declare, Declared, Kind, Names, Variable as VariableKind, is_variable, kind_of_body, target_of_body, type_of_base}
 use Rattle.script_model.specs.Formula.{Body, meanings_of, places_of_body, Literal, Name, Apply, Fold, Variable, Computed}
 use Rattle.script_model.specs.Run.{calls_of_body}
 use Rattle.script_model.specs.Step.{Moment, declared_in, moved}
-use Rattle.script_model.specs.Values.{Value}
+use Rattle.script_model.specs.Values.{Value, Int, Bool as Truth, Text, Reference, type_of}
 use Rattle.script_graph.specs.Growing.{Extends, IsMaking, PartFits, AllOpenFit}
 use Rattle.script_graph.specs.Kept as kept
 use Rattle.script_graph.specs.Kept.{Kept, node_in, HasNode, IsSound, without_functions}
@@ -38,7 +41,6 @@ use Rattle.script_graph.proofs.Declaring.{declaring_stands, with_declared}
 use Rattle.script_graph.proofs.Extending.{beside_without, extends_without, stands_on, taken_back_extends}
 use Rattle.script_graph.proofs.Laying.{every_name_of, laid_fits, made_declares, made_owned, made_root, made_variable}
 use Rattle.script_graph.proofs.Callers.{HasNewCalls, WereLive, made_new_calls, caller_live, calls_laid_body}
-use Rattle.script_graph.proofs.Making.{reference_fits, value_given}
 use Rattle.script_graph.proofs.Setting.{setting_stands}
 use Rattle.script_graph.proofs.Sounding.{sound_declared, sound_on, sound_set}
 use Rattle.transfer.specs.Both.{graph_value}
@@ -182,10 +184,10 @@ module _ {F : Type 0} (first now : Standing F) (names : Names) (nodes : List Nod
     pub set_sound : IsSound returned
     set_sound = sound_set before h sound (without_functions now) (node_in nodes target) w sets_without
 
-    pub set_stands : AssignmentFits names target (engine.type_of w) → (named : List ℕ → Option FnRef) (value : FnRef → List GraphValue → GraphValue)
-        (m : Moment) (v : Value) → graph_value (node_in nodes) v ≡ w → MatchesMoment (meanings_of named value) before m
+    pub set_stands : (v : Value) → AssignmentFits names target v → (named : List ℕ → Option FnRef) (value : FnRef → List GraphValue → GraphValue)
+        (m : Moment) → graph_value (node_in nodes) v ≡ w → MatchesMoment (meanings_of named value) before m
         → MatchesMoment (meanings_of named value) returned (moved m (Assign target v))
-    set_stands fits named value m v is = setting_stands named value before (without_functions now) sound sound' m target w v is sets_without fits
+    set_stands v fits named value m is = setting_stands named value before (without_functions now) sound sound' m target w v is sets_without fits
 
 -- ---- nodes that were taken back
 
@@ -234,20 +236,53 @@ kind_known (Some d) is = (d, refl, by_kind d.kind is)
     by_kind VariableKind is = refl
     by_kind k is = absurd (cc)
 
--- an assignment that fits
-pub assigned_takes : (a : Arena) (names : Names) (nodes : List NodeId) → arena.IsSound a
-    → ((n : ℕ) (d : Declared) → slice_get names.declared n ≡ Some d → HasNode a nodes n d)
-    → (target : ℕ) (w : GraphValue) → AssignmentFits names target (engine.type_of w) → TakesValue a (node_in nodes target) w
-assigned_takes a names nodes sound has target w fits =
-    let d = kind_known (slice_get names.declared target) fits.variable in
-    let here = has target d.0 d.1 in
-    let place = has fits.name.place fits.name.declared fits.name.stands in
-    let same : node_in nodes target ≡ node_in nodes fits.name.place = ap (node_in nodes) (sym fits.name.target) ∙ place.target in
-    let row : row_at a (node_in nodes target) ≡ Some place.row = ap (row_at a) same ∙ place.is_row in
-    record {
-      variable = here.variable d.2;
-      given = sound.given (node_in nodes target) (rw row refl);
-      within = value_given (Given a.given) w fits.base;
-      fits = subst (λ (o : Option Row). IfSome o (λ (r : Row). HasType a w r.ty)) (sym row)
-          (record { type = sym (place.typed ∙ fits.name.typed); reference = reference_fits a w fits.base });
-    }
+module _ (a : Arena) (names : Names) (nodes : List NodeId) (sound : arena.IsSound a)
+    (has : (n : ℕ) (d : Declared) → slice_get names.declared n ≡ Some d → HasNode a nodes n d) where
+  -- what a name that fits stands for has a live node, of its type
+  named_row : (position : ℕ) (ty : Ty) → NameFits names position ty → (r : Row) × (row_at a (node_in nodes position) ≡ Some r) × (r.ty ≡ ty)
+  named_row position ty fits =
+      let place = has fits.place fits.declared fits.stands in
+      let same : node_in nodes position ≡ node_in nodes fits.place = ap (node_in nodes) (sym fits.target) ∙ place.target in
+      (place.row, ap (row_at a) same ∙ place.is_row, place.typed ∙ fits.typed)
+
+  base_is : (b : Base) → type_of_base b ≡ typing.ty_of b
+  base_is base.Int = refl
+  base_is base.Bool = refl
+  base_is base.Text = refl
+
+  graph_type : (v : Value) → type_of v ≡ engine.type_of (graph_value (node_in nodes) v)
+  graph_type (Int z) = refl
+  graph_type (Truth b) = refl
+  graph_type (Text bytes) = refl
+  graph_type (Reference target b) = refl
+
+  -- what a value that fits refers to is given
+  value_within : (v : Value) → ReferenceFits names v → ValueWithin (Given a.given) (graph_value (node_in nodes) v)
+  value_within (Int z) fits = tt
+  value_within (Truth b) fits = tt
+  value_within (Text bytes) fits = tt
+  value_within (Reference target b) fits =
+      let r = named_row target (type_of_base b) fits in sound.given (node_in nodes target) (rw r.1 refl)
+
+  -- and of its type
+  value_fits : (v : Value) → ReferenceFits names v → typing.ReferenceFits a (graph_value (node_in nodes) v)
+  value_fits (Int z) fits = tt
+  value_fits (Truth b) fits = tt
+  value_fits (Text bytes) fits = tt
+  value_fits (Reference target b) fits =
+      let r = named_row target (type_of_base b) fits in
+      subst (λ (o : Option Row). IfSome o (λ (q : Row). q.ty ≡ typing.ty_of b)) (sym r.1) (r.2 ∙ base_is b)
+
+  -- an assignment that fits
+  pub assigned_takes : (target : ℕ) (v : Value) → AssignmentFits names target v → TakesValue a (node_in nodes target) (graph_value (node_in nodes) v)
+  assigned_takes target v fits =
+      let d = kind_known (slice_get names.declared target) fits.variable in
+      let here = has target d.0 d.1 in
+      let row = named_row target (type_of v) fits.name in
+      record {
+        variable = here.variable d.2;
+        given = sound.given (node_in nodes target) (rw row.1 refl);
+        within = value_within v fits.refers;
+        fits = subst (λ (o : Option Row). IfSome o (λ (r : Row). HasType a (graph_value (node_in nodes) v) r.ty)) (sym row.1)
+            (record { type = sym (graph_type v) ∙ sym row.2; reference = value_fits v fits.refers });
+      }

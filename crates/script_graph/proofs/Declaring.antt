@@ -1,9 +1,10 @@
 -- What is kept of a script after a declaration.
-use Rattle.std.proofs.Common.{◌≡◌, ◌⊎◌, inl, inr, ℕ, suc, ◌+◌, ◌<◌, ◌≤◌, Bool, List, [], ◌∷◌, ◌++◌, map, length, Option, None, Some, option_map, refl, ap, sym, subst, ◌∙◌, arith, slice_get}
+use Rattle.std.proofs.Common.{◌≡◌, ◌⊎◌, inl, inr, ℕ, zero, suc, ◌+◌, ◌<◌, ◌≤◌, Bool, List, [], ◌∷◌, ◌++◌, map, length, Option, None, Some, option_map, refl, ap, sym, subst, ◌∙◌, arith, slice_get}
 use Rattle.std.proofs.lemmas.Option.{slice_get_within, slice_get-map}
 use Rattle.std.proofs.lemmas.List.{length-append, map-append, get_or_append_left, get_or_at}
 use Rattle.std.proofs.lemmas.List.Sums.{sum_by_push}
-use Rattle.formula_lang.specs.Fits.{ArgumentsFit, BodyFits, DeclarationFits, ElementsFit, FormulaFits, NameFits}
+use Rattle.formula_lang.specs.Fits.{ArgumentsFit, BodyFits, DeclarationFits, ElementsFit, FormulaFits, NameFits, ReferenceFits}
+use Rattle.formula_elab.specs.Names.{EveryReference}
 use Rattle.inc_value.specs.Choice.{and_then}
 use Rattle.inc_value.specs.Ty.{IsBase}
 use Rattle.inc_value.specs.declared.function.FnRef.{FnRef}
@@ -16,20 +17,21 @@ use Rattle.node_arena.specs.Arena.{row_at}
 use Rattle.node_arena.specs.Graph.{graph_of}
 use Rattle.node_arena.specs.Sound as arena
 use Rattle.script_model.specs.Check.{Declare, Declared, Names, declared_of, kind_of_body, names_of, target_of_body}
-use Rattle.script_model.specs.Formula.{State, Body, Entry, Formula, Formulas, Meanings, meanings_of, body_at, entry_at, formula_of_body, places_of_body, Literal, Name, Apply, Fold, End, More, Variable, Computed}
+use Rattle.script_model.specs.Formula.{State, Body, Entry, Formula, Formulas, Meanings, meanings_of, body_at, entry_at, formula_of_body, places_of_body, Literal, Name, Apply, Fold, If, Join, End, More, Variable, Computed}
 use Rattle.script_model.specs.Need.{part_of}
 use Rattle.script_model.specs.Run.{calls_of_body}
 use Rattle.script_model.specs.Step.{Moment, declared_in, moved}
-use Rattle.script_model.specs.Values.{Value, type_of}
+use Rattle.script_model.specs.Values.{Value, Int, Bool as Truth, Text, Reference, type_of}
 use Rattle.script_graph.specs.Growing.{Extends}
 use Rattle.script_graph.specs.Kept.{Kept, arena_of, node_in, no_node}
 use Rattle.script_graph.specs.Represents.{AreNames, beside, Represents}
-use Rattle.script_graph.specs.Today.{IsPlain, ArePlain, IsPlainBody, IsEarlierTarget, AllPlain, IsWithin, IsPartWithin, OwnNodesOf}
+use Rattle.script_graph.specs.Today.{IsPlain, ArePlain, IsPlainBody, IsEarlierTarget, IsDeclaredTarget, AllPlain, IsWithin, IsPartWithin, OwnNodesOf}
 use Rattle.script_graph.specs.State.{MatchesMoment}
 use Rattle.script_graph.proofs.Carrying.{watches_on, leaves_beside, settled_on}
 use Rattle.script_graph.proofs.Extending.{live_stays, declares_still, body_within, body_there, node_given, never_given, body_past, node_past}
 use Rattle.script_graph.proofs.Callers.{HasNewCalls, few_calls_on}
 use Rattle.script_graph.proofs.Owning.{own_body, own_node, own_nodes_of_on}
+use Rattle.script_graph.proofs.Referring.{value_refers_more}
 use Rattle.transfer.specs.Items.{FormulasStay}
 use Rattle.transfer.specs.Keeping.{NodesApart, RowsStay}
 use Rattle.transfer.specs.Shows.{Declares, IsOwn}
@@ -38,49 +40,54 @@ use Rattle.transfer.proofs.Typed.{body_entry}
 
 -- ---- plain formulas
 
-module _ (P Q : ℕ → Type 0) (more : (n : ℕ) → P n → Q n) where
+module _ (P Q R S : ℕ → Type 0) (more : (n : ℕ) → P n → Q n) (refers : (n : ℕ) → R n → S n) where
   mutual
-    plain_more : (f : Formula) → IsPlain P f → IsPlain Q f
-    plain_more (Literal v) fine = fine
+    plain_more : (f : Formula) → IsPlain P R f → IsPlain Q S f
+    plain_more (Literal v) fine = value_refers_more R S refers v fine
     plain_more (Name n) fine = more n fine
     plain_more (Apply f arguments) fine = plain_all_more arguments fine
     plain_more (Fold f first elements) fine = (fine.0, plain_all_more elements fine.1)
+    plain_more (If test a b) fine = (plain_more test fine.0, plain_more a fine.1, plain_more b fine.2)
+    plain_more (Join child) fine = plain_more child fine
     plain_more f fine = absurd fine
 
-    plain_all_more : (fs : Formulas) → ArePlain P fs → ArePlain Q fs
+    plain_all_more : (fs : Formulas) → ArePlain P R fs → ArePlain Q S fs
     plain_all_more End fine = tt
     plain_all_more (More f rest) fine = (plain_more f fine.0, plain_all_more rest fine.1)
 
-  pub plain_body_more : (b : Body) → IsPlainBody P b → IsPlainBody Q b
-  plain_body_more (Variable v) fine = fine
+  pub plain_body_more : (b : Body) → IsPlainBody P R b → IsPlainBody Q S b
+  plain_body_more (Variable v) fine = value_refers_more R S refers v fine
   plain_body_more (Computed f kept) fine = (plain_more f fine.0, fine.1)
   plain_body_more b fine = absurd fine
 
 value_base : (v : Value) (ty : Ty) → type_of v ≡ ty → IsBase ty → IsBase (type_of v)
 value_base v ty is base = subst (λ (t : Ty). IsBase t) (sym is) base
 
-module _ (known : FnRef → Bool) (names : Names) (P : ℕ → Type 0) (named : (position : ℕ) (ty : Ty) → NameFits names position ty → P position) where
+module _ (known : FnRef → Bool) (names : Names) (P R : ℕ → Type 0) (named : (position : ℕ) (ty : Ty) → NameFits names position ty → P position)
+    (refers : (v : Value) → ReferenceFits names v → EveryReference R v) where
   mutual
-    fitting_plain : (f : Formula) (ty : Ty) → FormulaFits known names f ty → IsPlain P f
-    fitting_plain (Literal v) ty fits = value_base v ty fits.0 fits.1
+    fitting_plain : (f : Formula) (ty : Ty) → FormulaFits known names f ty → IsPlain P R f
+    fitting_plain (Literal v) ty fits = refers v fits.1
     fitting_plain (Name n) ty fits = named n ty fits
     fitting_plain (Apply f arguments) ty fits = fitting_all_plain arguments f.sig.takes fits.1
     fitting_plain (Fold f first elements) ty fits = (value_base first ty fits.3 fits.4, fitting_each_plain elements fits.0 fits.5)
+    fitting_plain (If test a b) ty fits = (fitting_plain test _ fits.0, fitting_plain a ty fits.1, fitting_plain b ty fits.2)
+    fitting_plain (Join child) ty fits = fitting_plain child _ fits.1
     fitting_plain f ty fits = absurd fits
 
-    fitting_all_plain : (fs : Formulas) (tys : List Ty) → ArgumentsFit known names fs tys → ArePlain P fs
+    fitting_all_plain : (fs : Formulas) (tys : List Ty) → ArgumentsFit known names fs tys → ArePlain P R fs
     fitting_all_plain End [] fits = tt
     fitting_all_plain End (ty ∷ tys) fits = absurd fits
     fitting_all_plain (More f rest) [] fits = absurd fits
     fitting_all_plain (More f rest) (ty ∷ tys) fits = (fitting_plain f ty fits.0, fitting_all_plain rest tys fits.1)
 
-    fitting_each_plain : (fs : Formulas) (ty : Ty) → ElementsFit known names fs ty → ArePlain P fs
+    fitting_each_plain : (fs : Formulas) (ty : Ty) → ElementsFit known names fs ty → ArePlain P R fs
     fitting_each_plain End ty fits = tt
     fitting_each_plain (More f rest) ty fits = (fitting_plain f ty fits.0, fitting_each_plain rest ty fits.1)
 
   -- what fits the names is plain
-  pub body_plain : (b : Body) (ty : Ty) → BodyFits known names b ty → IsPlainBody P b
-  body_plain (Variable v) ty fits = value_base v ty fits.0 fits.1
+  pub body_plain : (b : Body) (ty : Ty) → BodyFits known names b ty → IsPlainBody P R b
+  body_plain (Variable v) ty fits = refers v fits.1
   body_plain (Computed f kept) ty fits = (fitting_plain f ty fits.0, fits.1)
   body_plain b ty fits = absurd fits
 
@@ -124,6 +131,33 @@ fitting_target names s same plain targets position ty fits =
     let own = own_or_name s fits.place e.0 e.1 plain e.0.body refl (targets fits.place e.0 e.1) in
     let target : e.0.target ≡ position = ap (λ (d : Declared). d.target) e.2 ∙ fits.target in
     subst (λ (j : ℕ). IsOwn (body_at s j)) target own
+
+entry_there : (es : List Entry) (n : ℕ) → n < length es → (e : Entry) × (slice_get es n ≡ Some e)
+entry_there [] n low = absurd (omega (arith, low))
+entry_there (e ∷ es) zero low = (e, refl)
+entry_there (e ∷ es) (suc n) low = entry_there es n (omega (arith, low))
+
+module _ (names : Names) (s : State) (same : names.declared ≡ (names_of s).declared) (plain : AllPlain s)
+    (targets : (n : ℕ) (e : Entry) → entry_at s n ≡ Some e → e.target ≡ target_of_body n e.body) where
+  -- it is declared
+  pub fitting_declared : (position : ℕ) (ty : Ty) → NameFits names position ty → IsDeclaredTarget s position
+  fitting_declared position ty fits =
+      let low = fits.earlier in
+      let size = ap length same ∙ mapped s.entries in
+      let e = entry_there s.entries position (omega (arith, low, size)) in
+      let is : body_at s position ≡ Some e.0.body = ap (λ (o : Option Entry). and_then o (λ (d : Entry). Some d.body)) e.1 in
+      (e.0.body, is, subst IsOwn is (fitting_target names s same plain targets position ty fits))
+    where
+      mapped : (es : List Entry) → length (map declared_of es) ≡ length es
+      mapped [] = refl
+      mapped (e ∷ es) = ap (λ n. suc n) (mapped es)
+
+  -- a value that fits refers to what is declared
+  pub fitting_refers : (v : Value) → ReferenceFits names v → EveryReference (IsDeclaredTarget s) v
+  fitting_refers (Int z) fits = tt
+  fitting_refers (Truth b) fits = tt
+  fitting_refers (Text bytes) fits = tt
+  fitting_refers (Reference target base) fits = fitting_declared target _ fits
 
 -- ---- the state
 
@@ -247,15 +281,27 @@ module _ (named : List ℕ → Option FnRef) (value : FnRef → List GraphValue 
         within : (position : ℕ) → position < length k.names.declared → position < length s.entries
         within position low = let size = ap (λ (ds : List Declared). length ds) names.declared ∙ mapped s.entries in omega (arith, low, size)
 
+    target_on : (t : ℕ) → IsDeclaredTarget s t → IsDeclaredTarget s' t
+    target_on t d = (d.0, body_old s name ty body t (body_within F s k held t d.0 d.1) ∙ d.1, d.2)
+
+    fitting_value : (v : Value) → ReferenceFits k.names v → EveryReference (IsDeclaredTarget s') v
+    fitting_value v fine = value_refers_more (IsDeclaredTarget s) (IsDeclaredTarget s') target_on v
+        (fitting_refers k.names s names.declared held.today.plain held.targets v fine)
+
     plain_each : AllPlain s'
     plain_each n b is = elim (body_of s name ty body n b is) [
-      | inl h ↦ plain_body_more (IsEarlierTarget s n) (IsEarlierTarget s' n) (λ t early. own_old n t h.0 early) b (held.today.plain n b h.1)
-      | inr h ↦ subst (λ (j : ℕ). IsPlainBody (IsEarlierTarget s' j) b) (sym h.0) (subst (λ (c : Body). IsPlainBody (IsEarlierTarget s' (length s.entries)) c) (sym h.1)
-          (body_plain known k.names (IsEarlierTarget s' (length s.entries)) fitting body ty fits.body_fits))
+      | inl h ↦ plain_body_more (IsEarlierTarget s n) (IsEarlierTarget s' n) (IsDeclaredTarget s) (IsDeclaredTarget s') (λ t early. own_old n t h.0 early)
+          target_on b (held.today.plain n b h.1)
+      | inr h ↦ subst (λ (j : ℕ). IsPlainBody (IsEarlierTarget s' j) (IsDeclaredTarget s') b) (sym h.0)
+          (subst (λ (c : Body). IsPlainBody (IsEarlierTarget s' (length s.entries)) (IsDeclaredTarget s') c) (sym h.1)
+          (body_plain known k.names (IsEarlierTarget s' (length s.entries)) (IsDeclaredTarget s') fitting fitting_value body ty fits.body_fits))
     ]
 
     same_early : (n : ℕ) → n < length s.entries → (t : ℕ) → IsEarlierTarget s n t → node_in new.nodes t ≡ node_in k.nodes t
     same_early n low t early = node_old t (omega (arith, early.0, low))
+
+    same_target : (t : ℕ) → IsDeclaredTarget s t → node_in new.nodes t ≡ node_in k.nodes t
+    same_target t d = node_old t (body_within F s k held t d.0 d.1)
 
     declares_each : (n : ℕ) (b : Option Body) → body_at s' n ≡ b → Declares (beside F s' new) (node_in new.nodes n) b
     declares_each n None is = (ap (row_at g.nodes) past ∙ never_given g.nodes sound', refl)
@@ -266,7 +312,7 @@ module _ (named : List ℕ → Option FnRef) (value : FnRef → List GraphValue 
             let states = length-append s.entries (entry s name ty body ∷ []) in
             node_past new.nodes n (omega (arith, body_past s' n is, held.one_node_each, size, states))
     declares_each n (Some b) is = elim (body_of s name ty body n b is) [
-      | inl h ↦ declares_still (beside F s k) (beside F s' new) (IsEarlierTarget s n) (same_early n h.0) stays
+      | inl h ↦ declares_still (beside F s k) (beside F s' new) (IsEarlierTarget s n) (IsDeclaredTarget s) (same_early n h.0) same_target stays
           (node_in k.nodes n) (node_in new.nodes n) b (node_old n h.0) (held.today.plain n b h.1) (λ v e r row. live_stays k.graph g sound more (node_in k.nodes n) r row)
           (rw h.1 at (held.declares n))
       | inr h ↦ subst (λ (c : Body). Declares (beside F s' new) (node_in new.nodes n) (Some c)) (sym h.1)
@@ -374,7 +420,7 @@ module _ (named : List ℕ → Option FnRef) (value : FnRef → List GraphValue 
     represents = declared_represents h.names h.represents shows;
     watches = watches_on s s' k new more.beside refl refl refl refl (λ n b is. node_old h.names h.represents shows n (body_within F s k h.represents n b is))
         (node_given F s k h.represents sound)
-        (λ n b is. (b, body_old s name ty body n (body_within F s k h.represents n b is) ∙ is)) h.watches;
+        (λ n b is. (b, body_old s name ty body n (body_within F s k h.represents n b is) ∙ is)) (target_on h.names h.represents shows) h.watches;
     settled = λ whole. settled_on F m.settled s s' k new (leaves_beside k new more.beside more.given) (record {
       formulas = declared_formulas s name ty body;
       targets = λ n e is. (e, entry_old s name ty body n (slice_get_within s.entries n e is) ∙ is, refl);

@@ -369,7 +369,7 @@ module _ (k : Kept) (name d : List ℕ) (i : ℕ) (o : ObsId) (g : Standing (Uni
       in_order = ap (filter (is_other name)) w.in_order ∙ one_leaves name w.made o.0 ended_one.0 ended_one.1 ended_one.2 alone;
       ended = λ p at. was_ended p at (same_or p.0 o.0);
       observing = λ p y at. let old = was_made p.0 y at in let h = w.observing p y old.1 in
-          record { looks = looks_old p old.0 ∙ h.looks; target = h.target; shown = shown_still p y h.shown; today = h.today };
+          record { looks = looks_old p old.0 ∙ h.looks; target = h.target; shown = shown_still p y h.shown; refers = h.refers; today = h.today };
       named = λ j p n at_p at_n. let a = id_at j p at_p in let b = name_at j n at_n in let h = w.named (source last i j) p n a.1 b.1 in
           (h.0, left_other p.0 (other_id j p at_p) ∙ h.1, h.2);
       apart = λ p q y z at_p at_q same. w.apart p q y z (was_made p.0 y at_p).1 (was_made q.0 z at_q).1 same;

@@ -15,17 +15,18 @@ use Rattle.graph.specs.Standing.{Standing}
 use Rattle.node_arena.specs.Arena.{Arena, row_at}
 use Rattle.node_arena.specs.Graph.{graph_of}
 use Rattle.node_arena.specs.Sound as arena
-use Rattle.script_model.specs.Formula.{State, Body, Entry, Formula, Formulas, Meanings, meanings_of, body_at, Literal, Name, Apply, Fold, End, More, Variable, Computed}
+use Rattle.script_model.specs.Formula.{State, Body, Entry, Formula, Formulas, Meanings, meanings_of, body_at, Literal, Name, Apply, Fold, If, Join, End, More, Variable, Computed}
 use Rattle.script_model.specs.Step.{Moment}
 use Rattle.script_model.specs.Values.{Value}
 use Rattle.script_graph.specs.Growing.{Extends}
 use Rattle.script_graph.specs.Kept.{Kept, arena_of, node_in, no_node, without_functions}
 use Rattle.script_graph.specs.Represents.{beside, Represents}
-use Rattle.script_graph.specs.Today.{IsPlain, ArePlain, IsPlainBody, IsEarlierTarget, IsWithin, IsPartWithin}
+use Rattle.script_graph.specs.Today.{IsPlain, ArePlain, IsPlainBody, IsEarlierTarget, IsDeclaredTarget, IsWithin, IsPartWithin}
 use Rattle.script_graph.specs.State.{MatchesMoment}
-use Rattle.script_graph.proofs.Carrying.{base_value, watches_on, leaves_beside, settled_on}
+use Rattle.script_graph.proofs.Carrying.{watches_on, leaves_beside, settled_on}
 use Rattle.script_graph.proofs.Callers.{HasNewCalls, few_calls_on}
 use Rattle.script_graph.proofs.Owning.{own_nodes_of_on}
+use Rattle.script_graph.proofs.Referring.{base_value, value_agrees}
 use Rattle.transfer.specs.Both.{Both, graph_value}
 use Rattle.transfer.specs.Keeping.{RowsStay}
 use Rattle.transfer.specs.Shows.{Built, Opens, Shows, ShowsAll, IsTop, Declares, IsOwn}
@@ -141,14 +142,15 @@ module _ {F : Type 0} where
 
 -- ---- what nodes show
 
-module _ (x y : Both) (P : ℕ → Type 0) (same : (n : ℕ) → P n → y.nodes n ≡ x.nodes n) (kept : RowsStay x.graph y.graph) where
+module _ (x y : Both) (P R : ℕ → Type 0) (same : (n : ℕ) → P n → y.nodes n ≡ x.nodes n) (refers : (n : ℕ) → R n → y.nodes n ≡ x.nodes n)
+    (kept : RowsStay x.graph y.graph) where
   opens_still : (t u : Term) → Opens x.graph (Built None) t u → Opens y.graph (Built None) t u
   opens_still t u (n, r, e, row, scope, def) = (n, r, e, kept n r u row def, scope, def)
 
   mutual
-    pub shows_still : (t : Term) (f : Formula) → IsPlain P f → Shows x (Built None) [] t f → Shows y (Built None) [] t f
+    pub shows_still : (t : Term) (f : Formula) → IsPlain P R f → Shows x (Built None) [] t f → Shows y (Built None) [] t f
     shows_still t (Literal v) fine h =
-        subst (λ (w : GraphValue). Opens y.graph (Built None) t (term.Const w)) (base_value x.nodes y.nodes v fine)
+        subst (λ (w : GraphValue). Opens y.graph (Built None) t (term.Const w)) (value_agrees R x.nodes y.nodes refers v fine)
         (opens_still t (term.Const (graph_value x.nodes v)) h)
     shows_still t (Name k) fine h = h ∙ ap (λ (n : NodeId). term.Ref n) (sym (same k fine))
     shows_still t (Apply g fs) fine h = (h.0, opens_still t (term.Map g h.0) h.1, all_show_still h.0 fs fine h.2)
@@ -158,20 +160,30 @@ module _ (x y : Both) (P : ℕ → Type 0) (same : (n : ℕ) → P n → y.nodes
           (opens_still t (term.Fold g (graph_value x.nodes v) h.0) h.1),
       all_show_still h.0 fs fine.1 h.2,
     )
+    shows_still t (If test a b) fine h = (
+      h.0,
+      h.1,
+      h.2,
+      opens_still t (term.If h.0 h.1 h.2) h.3,
+      shows_still h.0 test fine.0 h.4,
+      shows_still h.1 a fine.1 h.5,
+      shows_still h.2 b fine.2 h.6,
+    )
+    shows_still t (Join child) fine h = (h.0, opens_still t (term.Join h.0) h.1, shows_still h.0 child fine h.2)
     shows_still t f fine h = absurd fine
 
-    all_show_still : (ts : Terms) (fs : Formulas) → ArePlain P fs → ShowsAll x (Built None) [] ts fs → ShowsAll y (Built None) [] ts fs
+    all_show_still : (ts : Terms) (fs : Formulas) → ArePlain P R fs → ShowsAll x (Built None) [] ts fs → ShowsAll y (Built None) [] ts fs
     all_show_still term.End End fine h = h
     all_show_still term.End (More f fs) fine h = h
     all_show_still (term.More t ts) End fine h = h
     all_show_still (term.More t ts) (More f fs) fine h = (shows_still t f fine.0 h.0, all_show_still ts fs fine.1 h.1)
 
   -- the node of a plain declaration shows it still
-  pub declares_still : (n m : NodeId) (b : Body) → m ≡ n → IsPlainBody P b → ((v : Value) → b ≡ Variable v → (r : Row) → x.graph.row n ≡ Some r
+  pub declares_still : (n m : NodeId) (b : Body) → m ≡ n → IsPlainBody P R b → ((v : Value) → b ≡ Variable v → (r : Row) → x.graph.row n ≡ Some r
       → y.graph.row n ≡ Some r) → Declares x n (Some b) → Declares y m (Some b)
   declares_still n m (Variable v) node fine top (r, row, scope, def) =
       subst (λ (q : NodeId). IsTop y.graph q (graph.Var (graph_value y.nodes v))) (sym node)
-      (r, top v refl r row, scope, def ∙ ap (λ w. graph.Var w) (base_value x.nodes y.nodes v fine))
+      (r, top v refl r row, scope, def ∙ ap (λ w. graph.Var w) (value_agrees R x.nodes y.nodes refers v fine))
   declares_still n m (Computed f kept) node fine top h =
       subst (λ (q : NodeId). Shows y (Built None) [] (term.Ref q) f) (sym node) (shows_still (term.Ref n) f fine.0 h)
   declares_still n m b node fine top h = absurd fine
@@ -210,6 +222,14 @@ module _ (F : Meanings) (s : State) (k : Kept) (held : Represents F s k) where
       let o = d.1 in
       let same = ref_same (node_in k.nodes n) o.0 o.2 in (o.1, ap (row_at (arena_of k)) same ∙ o.3)
   own_live n (Computed (Fold f first fs) kept) own is =
+      let d = rw is at (held.declares n) in
+      let o = d.1 in
+      let same = ref_same (node_in k.nodes n) o.0 o.2 in (o.1, ap (row_at (arena_of k)) same ∙ o.3)
+  own_live n (Computed (If test a b) kept) own is =
+      let d = rw is at (held.declares n) in
+      let o = d.3 in
+      let same = ref_same (node_in k.nodes n) o.0 o.2 in (o.1, ap (row_at (arena_of k)) same ∙ o.3)
+  own_live n (Computed (Join child) kept) own is =
       let d = rw is at (held.declares n) in
       let o = d.1 in
       let same = ref_same (node_in k.nodes n) o.0 o.2 in (o.1, ap (row_at (arena_of k)) same ∙ o.3)
@@ -274,8 +294,8 @@ module _ (named : List ℕ → Option FnRef) (value : FnRef → List GraphValue 
         past : node_in k.nodes n ≡ no_node
         past = node_past k.nodes n (omega (arith, body_past m.present n is, held.one_node_each))
     declares_each n (Some b) is =
-        declares_still (beside F m.present k) (beside F m.present new) (IsEarlierTarget m.present n) (λ t early. refl) stays
-        (node_in k.nodes n) (node_in k.nodes n) b refl (held.today.plain n b is) (λ v e r row. live_stays k.graph g sound more (node_in k.nodes n) r row)
+        declares_still (beside F m.present k) (beside F m.present new) (IsEarlierTarget m.present n) (IsDeclaredTarget m.present)
+        (λ t early. refl) (λ t own. refl) stays (node_in k.nodes n) (node_in k.nodes n) b refl (held.today.plain n b is) (λ v e r row. live_stays k.graph g sound more (node_in k.nodes n) r row)
         (rw is at (held.declares n))
 
     represents_on : Represents F m.present new
@@ -302,7 +322,7 @@ module _ (named : List ℕ → Option FnRef) (value : FnRef → List GraphValue 
     broken = h.broken;
     represents = represents_on h.represents;
     watches = watches_on m.present m.present k new more.beside refl refl refl refl (λ n b is. refl)
-        (node_given F m.present k h.represents sound) (λ n b is. (b, is)) h.watches;
+        (node_given F m.present k h.represents sound) (λ n b is. (b, is)) (λ t own. own) h.watches;
     settled = λ whole. settled_on F m.settled m.present m.present k new (leaves_beside k new more.beside more.given) (record {
       formulas = λ owner path f is. is;
       targets = λ n e is. (e, is, refl);

@@ -1,14 +1,13 @@
 -- What the functions of a script give, and those of its graph.
 use Rattle.std.proofs.Common.{◌≡◌, ℕ, List, [], ◌∷◌, map, Option, refl, ap, ◌∙◌}
 use Rattle.std.proofs.Math.Path.{fun_ext}
-use Rattle.inc_value.specs.Ty.{IsBase}
 use Rattle.inc_value.specs.declared.function.FnRef.{FnRef}
 use Rattle.inc_value.specs.declared.node.NodeId.{NodeId}
 use Rattle.inc_value.specs.declared.value.Value.{Value as GraphValue}
 use Rattle.inc_value.specs.declared.value.Value.TheVariants as held
 use Rattle.node_arena.specs.Meanings.{SameNames, SameValues}
 use Rattle.script_model.specs.Formula.{Meanings, meanings_of}
-use Rattle.script_model.specs.Values.{Value, Int, Bool, Text, Reference, type_of, to_engine, from_engine, unnamed, unreferred, seen_value}
+use Rattle.script_model.specs.Values.{Value, Int, Bool, Text, Reference, to_engine, from_engine, unnamed, unreferred, seen_value}
 use Rattle.script_graph.specs.Represents.{graph_functions}
 use Rattle.script_graph.specs.Today.{maps_alone}
 use Rattle.transfer.specs.Both.{graph_value}
@@ -48,12 +47,6 @@ shown_hidden_all : (nodes : ℕ → NodeId) (vs : List Value)
 shown_hidden_all nodes [] = refl
 shown_hidden_all nodes (v ∷ vs) = rw (shown_hidden nodes v, shown_hidden_all nodes vs) refl
 
-no_reference : (w : GraphValue) → IsBase (type_of (from_engine (unreferred w)))
-no_reference (held.Int z) = tt
-no_reference (held.Bool b) = tt
-no_reference (held.Text bytes) = tt
-no_reference (held.Node id base) = tt
-
 -- ---- functions
 
 module _ (named : List ℕ → Option FnRef) (value : FnRef → List GraphValue → GraphValue) where
@@ -71,10 +64,6 @@ module _ (named : List ℕ → Option FnRef) (value : FnRef → List GraphValue 
       → (graph_functions (meanings_of named value)).value f (map (graph_value nodes) vs) ≡ graph_value nodes ((meanings_of named value).value f vs)
   functions_fit nodes f vs = shown_back nodes (value f (map unnamed (map to_engine (map from_engine (map (graph_value nodes) vs)))))
       ∙ ap (λ (xs : List GraphValue). graph_value nodes (from_engine (unreferred (value f xs)))) (shown_hidden_all nodes vs)
-
-  -- and no reference
-  pub gives_no_reference : (f : FnRef) (vs : List Value) → IsBase (type_of ((meanings_of named value).value f vs))
-  gives_no_reference f vs = no_reference (value f (map unnamed (map to_engine vs)))
 
 -- ---- over time
 

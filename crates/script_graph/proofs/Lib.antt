@@ -16,6 +16,7 @@ pub mod Extending
 pub mod Functions
 pub mod Held
 pub mod Laying
+mod Living
 pub mod Looking
 pub mod Making
 pub mod Observing
@@ -23,6 +24,7 @@ pub mod Owner
 pub mod Owning
 pub mod Plain
 pub mod Recalling
+pub mod Referring
 pub mod Remembering
 pub mod Same
 pub mod Setting

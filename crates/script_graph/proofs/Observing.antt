@@ -14,10 +14,8 @@ use Rattle.inc_value.specs.declared.outcome.Outcome as engine
 use Rattle.script_model.specs.Check.{Observe, declared_of, is_among, names_of}
 use Rattle.script_model.specs.Formula.{State, Entry, Body, Observer, Meanings, body_at}
 use Rattle.script_model.specs.Step.{Moment, moved, find_observer, new_observer, shown_by}
-use Rattle.script_model.specs.Values.{Int, Bool as Truth, Text, Reference, Outcome, Val, Invalid}
 use Rattle.script_graph.specs.Kept.{Kept, arena_of, node_in}
 use Rattle.script_graph.specs.Represents.{there_in, AreNames, IsObserver, IsShown, Watches}
-use Rattle.script_graph.specs.Today.{IsBaseOutcome}
 use Rattle.script_graph.specs.Settled.{StillDeclares}
 use Rattle.script_graph.specs.Shown.{ShowsIt}
 use Rattle.script_graph.specs.State.{MatchesMoment}
@@ -189,7 +187,7 @@ module _ (F : Meanings) (k : Kept) (m : Moment) (name : List ℕ) (target : ℕ)
   old_observer p y at =
       let h = w.observing p y at in
       let less : p.0 < length k.graph.observers = let c = get_some w.made p.0 (Some y) at in let e = w.one_each in omega (arith, c, e) in
-      record { looks = looks_old p less ∙ h.looks; target = h.target; shown = old_shown p y h.shown; today = h.today }
+      record { looks = looks_old p less ∙ h.looks; target = h.target; shown = old_shown p y h.shown; refers = h.refers; today = h.today }
 
   new_looks : (p : ObsId) → p.0 ≡ length w.made → node_at g.observers p ≡ Some (node_in k.nodes target)
   new_looks p e = rw (observers_more, e, w.one_each) (ap looked_at (get_end k.graph.observers (record { node = node_in k.nodes target; in_use = true })))
@@ -209,7 +207,8 @@ module _ (F : Meanings) (k : Kept) (m : Moment) (name : List ℕ) (target : ℕ)
       earlier = λ less. absurd (let r = rooted in let c = w.one_each in let same = rooted_same in omega (arith, less, e, r, c, same));
       later = λ more. refl;
     };
-    today = record { unwatched = refl; base = λ q is. absurd (cc) };
+    refers = λ q is. absurd (cc);
+    today = record { unwatched = refl };
   }
 
   watching : Watches then new
@@ -326,7 +325,7 @@ module _ (F : Meanings) (k : Kept) (m : Moment) (stands : MatchesMoment F k m) (
       let same_node : node_in k.nodes f.0.target ≡ n = let l = sym f.1.looks ∙ looks in cc in
       let same : graph_outcome (node_in k.nodes) e.0 ≡ out =
       let l = sym (e.2 (sym stands.broken ∙ unbroken)) ∙ ap (shown_of k.graph) same_node ∙ shows in cc in
-      record { outcome = e.0; is_shown = rw f.2 e.1; base = f.1.today.base e.0 e.1; same = same }
+      record { outcome = e.0; is_shown = rw f.2 e.1; refers = f.1.refers e.0 e.1; same = same }
 
   -- nothing where it was made later
   pub shows_nothing : k.graph.rooted ≤ o.0 → shown_by m.present name ≡ None

@@ -1,24 +1,28 @@
 -- What a point of the graph is of, where the script is plain.
 use Rattle.std.proofs.Common.{◌≡◌, inl, inr, ℕ, Bool, true, false, List, [], ◌∷◌, length, Option, None, Some, refl, ap, sym, subst, ◌∙◌}
 use Rattle.inc_value.specs.Choice.{Among, NoRepeats, and_then}
+use Rattle.inc_value.specs.declared.function.FnRef.{FnRef}
 use Rattle.inc_value.specs.declared.node.NodeId.{NodeId}
 use Rattle.inc_value.specs.declared.node.Point.{Point as GraphPoint}
 use Rattle.inc_terms.specs.Depend.{main, change}
+use Rattle.inc_terms.specs.Graph as graph
+use Rattle.inc_terms.specs.Graph.{Row}
+use Rattle.inc_terms.specs.Term as term
 use Rattle.inc_terms.specs.Need.{Needed as GraphNeeded}
 use Rattle.script_model.specs.Depth as depth
-use Rattle.script_model.specs.Depth.{Point, node_of_body, node_of_formula, points_of, points_at, body_points, scoped_points, change_of, main_points, change_points, stands_at, Depends, IsWalk, TooDeep}
+use Rattle.script_model.specs.Depth.{Point, node_of_body, node_of_formula, points_of, body_points, scoped_points, main_points, change_points, stands_at, Depends, IsWalk, TooDeep}
 use Rattle.script_model.specs.Evaluate.{chosen, value_at}
-use Rattle.script_model.specs.Formula.{State, Body, Formula, Meanings, body_at, formula_of_body, Literal, Name, Apply, Fold, Variable, Computed, Grab}
+use Rattle.script_model.specs.Formula.{State, Body, Formula, Meanings, body_at, formula_of_body, Literal, Name, Apply, Fold, If, Join, Variable, Computed, Grab}
 use Rattle.script_model.specs.Need.{Edge, Left, Item, Named, Place, Met, Needed, environment, rounds, part_at, part_of, formula_at, place_reads, name_reads, Reads}
-use Rattle.script_graph.specs.Today.{IsPlain, IsPlainBody, IsEarlierTarget, AllPlain, Computes, IsOwnFormula}
+use Rattle.script_graph.specs.Today.{IsPlain, IsPlainBody, IsEarlierTarget, IsDeclaredTarget, AllPlain, Computes, IsOwnFormula}
 use Rattle.script_graph.proofs.Plain.{plain_place}
 use Rattle.transfer.specs.Both.{Both}
 use Rattle.transfer.specs.Deep.{IsOfBind, IsToldOf, of_node, of_bind, of_grab}
-use Rattle.transfer.specs.Items.{node_at, node_of, Covers, by_main, by_choice, by_left, by_variable, CoveredBy, IsChoice, Closed, FormulasStay, GrabsBind, RootsAre}
+use Rattle.transfer.specs.Items.{node_at, node_of, scope_at, Covers, by_main, by_choice, by_left, by_variable, IsChoice, Closed, FormulasStay, GrabsBind, RootsAre}
 use Rattle.transfer.specs.Shows.{Fits}
 use Rattle.transfer.proofs.Enclosed.{met_reads}
 use Rattle.transfer.proofs.Meanings.{needed_is_covered}
-use Rattle.transfer.proofs.Places.{part_above, place_shows}
+use Rattle.transfer.proofs.Places.{opened, part_above, place_shows, plain_if, plain_join}
 use Rattle.transfer.proofs.Reaching.{met_closed, needed_closed}
 
 -- ---- walks that begin
@@ -29,11 +33,11 @@ chosen_none true q among = among
 chosen_none false q among = among
 
 -- a variable, and what isn't declared, depends on nothing
-name_alone : (F : Meanings) (s : State) (n : ℕ) (b : Option Body) → body_at s n ≡ b → ((c : Body) → b ≡ Some c → IsPlainBody (IsEarlierTarget s n) c)
+name_alone : (F : Meanings) (s : State) (n : ℕ) (b : Option Body) → body_at s n ≡ b → ((c : Body) → b ≡ Some c → IsPlainBody (IsEarlierTarget s n) (IsDeclaredTarget s) c)
     → (q : Point) → Depends F s (depth.Main (Named n)) q → ⊥
 name_alone F s n b is fine q (d, among) = go b fine (subst (λ (c : Option Body). Among q (body_points s n c)) is among)
   where
-    go : (b : Option Body) → ((c : Body) → b ≡ Some c → IsPlainBody (IsEarlierTarget s n) c) → Among q (body_points s n b) → ⊥
+    go : (b : Option Body) → ((c : Body) → b ≡ Some c → IsPlainBody (IsEarlierTarget s n) (IsDeclaredTarget s) c) → Among q (body_points s n b) → ⊥
     go None fine among = among
     go (Some (Variable v)) fine among = among
     go (Some (Computed f kept)) fine among = among
@@ -47,20 +51,13 @@ alias_alone F s n t is q (d, among) =
       | Some f ↦ scoped_points F s d n [] (main_points s (value_at F s d (environment [])) n [] f) f
     ])) is among)
 
--- the first of a plain item's points is its main
-plain_points : (s : State) (owner : ℕ) (path : List Edge) (f : Formula) → formula_at s owner path ≡ Some f → IsPlain (IsEarlierTarget s owner) f
-    → (p : Point) → Among p (points_of s (Place owner path)) → p ≡ depth.Main (Place owner path)
-plain_points s owner path f is fine p among =
+-- where the formula is another name, the first of its item's points is its main
+alias_points : (s : State) (owner t : ℕ) (path : List Edge) → formula_at s owner path ≡ Some (Name t) → (p : Point)
+    → Among p (points_of s (Place owner path)) → p ≡ depth.Main (Place owner path)
+alias_points s owner t path is p among =
     go (and_then (formula_at s owner path) (change_points s owner path))
-    (ap (λ (o : Option Formula). and_then o (change_points s owner path)) is ∙ no_change f fine) among
+    (ap (λ (o : Option Formula). and_then o (change_points s owner path)) is) among
   where
-    no_change : (f : Formula) → IsPlain (IsEarlierTarget s owner) f → change_points s owner path f ≡ None
-    no_change (Literal v) fine = refl
-    no_change (Name n) fine = refl
-    no_change (Apply g arguments) fine = refl
-    no_change (Fold g first elements) fine = refl
-    no_change f fine = absurd fine
-
     go : (c : Option (List Point)) → c ≡ None → Among p (elim c [
       | None ↦ depth.Main (Place owner path) ∷ []
       | Some points ↦ depth.Main (Place owner path) ∷ depth.Change (Place owner path) ∷ []
@@ -125,7 +122,7 @@ module _ (x : Both) (fits : Fits x) (plain : AllPlain x.state) (before : State) 
       itself f own = refl
 
   -- no name that computes nothing is too deep
-  named_none : (t : ℕ) → ((c : Body) → body_at s t ≡ Some c → IsPlainBody (IsEarlierTarget s t) c) → (first : Point) (rest : List Point)
+  named_none : (t : ℕ) → ((c : Body) → body_at s t ≡ Some c → IsPlainBody (IsEarlierTarget s t) (IsDeclaredTarget s) c) → (first : Point) (rest : List Point)
       → Among first (points_of s (Named t)) → IsWalk F s first rest → length rest ≡ 129 → ⊥
   named_none t fine first rest (inl e) walk long =
       let q = begins_walk F s first rest walk long in
@@ -144,14 +141,16 @@ module _ (x : Both) (fits : Fits x) (plain : AllPlain x.state) (before : State) 
       met_place : IsMet (Place t [])
       met_place = met_reads F before s (Named t) (Place t []) met (reads_whole t f kept is)
 
-      by_formula : (g : Formula) → formula_at s t [] ≡ Some g → IsPlain (IsEarlierTarget s t) g → IsTooDeepAt x before n
+      by_formula : (g : Formula) → formula_at s t [] ≡ Some g → IsPlain (IsEarlierTarget s t) (IsDeclaredTarget s) g → IsTooDeepAt x before n
       by_formula (Name u) formula fine =
-          let p = plain_points s t [] (Name u) formula fine first begins in
+          let p = alias_points s t u [] formula first begins in
           let q = begins_walk F s first rest walk long in
           absurd (alias_alone F s t u formula q.0 (subst (λ (r : Point). Depends F s r q.0) p q.1))
       by_formula (Literal v) formula fine = own_place t [] (Literal v) n tt formula at met_place first rest begins walk distinct long
       by_formula (Apply g fs) formula fine = own_place t [] (Apply g fs) n tt formula at met_place first rest begins walk distinct long
       by_formula (Fold g v fs) formula fine = own_place t [] (Fold g v fs) n tt formula at met_place first rest begins walk distinct long
+      by_formula (If test a b) formula fine = own_place t [] (If test a b) n tt formula at met_place first rest begins walk distinct long
+      by_formula (Join child) formula fine = own_place t [] (Join child) n tt formula at met_place first rest begins walk distinct long
       by_formula g formula fine = absurd fine
   by_named t n None is node met first rest begins walk distinct long = absurd (named_none t (λ c e. plain t c e) first rest begins walk long)
   by_named t n (Some (Variable v)) is node met first rest begins walk distinct long =
@@ -170,7 +169,7 @@ module _ (x : Both) (fits : Fits x) (plain : AllPlain x.state) (before : State) 
       begins_at : (f : Formula) → formula_at s owner path ≡ Some f → Among deep.first (points_of s (node_of_formula s (Place owner path) (Some f)))
       begins_at f is = subst (λ (i : Item). Among deep.first (points_of s i)) (ap (node_of_formula s (Place owner path)) is) deep.begins
 
-      by_formula : (f : Formula) → formula_at s owner path ≡ Some f → IsPlain (IsEarlierTarget s owner) f → IsTooDeepAt x before n
+      by_formula : (f : Formula) → formula_at s owner path ≡ Some f → IsPlain (IsEarlierTarget s owner) (IsDeclaredTarget s) f → IsTooDeepAt x before n
       by_formula (Name t) is fine =
           let shows = place_shows x fits owner path n (Name t) is at in
           let node : x.nodes t ≡ n = cc in
@@ -184,6 +183,10 @@ module _ (x : Both) (fits : Fits x) (plain : AllPlain x.state) (before : State) 
           own_place owner path (Apply g fs) n tt is at met deep.first deep.rest (begins_at (Apply g fs) is) deep.walk deep.distinct deep.long
       by_formula (Fold g v fs) is fine =
           own_place owner path (Fold g v fs) n tt is at met deep.first deep.rest (begins_at (Fold g v fs) is) deep.walk deep.distinct deep.long
+      by_formula (If test a b) is fine =
+          own_place owner path (If test a b) n tt is at met deep.first deep.rest (begins_at (If test a b) is) deep.walk deep.distinct deep.long
+      by_formula (Join child) is fine =
+          own_place owner path (Join child) n tt is at met deep.first deep.rest (begins_at (Join child) is) deep.walk deep.distinct deep.long
       by_formula f is fine = absurd fine
 
 -- ---- points of plain scripts
@@ -199,42 +202,54 @@ told_node x no_scope plain p i (of_bind {owner} {path} {b} is at of) = ap (node_
     by_kind (inr r) = absurd (let none = no_scope p.node r.0 r.1 in let some = r.2 in cc)
 told_node x no_scope plain p i (of_grab {k} {bind} {v} is body of) = absurd (plain k (Grab bind v true) body)
 
-module _ (x : Both) (plain : AllPlain x.state) (X : Item → Type 0) (closed : Closed x X) where
-  no_choice : (owner : ℕ) (f : Formula) → IsPlain (IsEarlierTarget x.state owner) f → IsChoice (Some f) → ⊥
-  no_choice owner (Literal v) fine choice = choice
-  no_choice owner (Name t) fine choice = choice
-  no_choice owner (Apply f fs) fine choice = choice
-  no_choice owner (Fold f v fs) fine choice = choice
-  no_choice owner f fine choice = absurd fine
-
-  no_left : (owner : ℕ) (g f : Formula) → IsPlain (IsEarlierTarget x.state owner) g → part_at g Left ≡ Some f → ⊥
-  no_left owner (Literal v) f fine e = cc
-  no_left owner (Name t) f fine e = cc
-  no_left owner (Apply h fs) f fine e = cc
-  no_left owner (Fold h v fs) f fine e = cc
-  no_left owner g f fine e = absurd fine
+module _ (x : Both) (fits : Fits x) (plain : AllPlain x.state) (X : Item → Type 0) (closed : Closed x X) where
+  -- no plain formula has a left
+  no_left : (P R : ℕ → Type 0) (g f : Formula) → IsPlain P R g → part_at g Left ≡ Some f → ⊥
+  no_left P R (Literal v) f fine e = cc
+  no_left P R (Name t) f fine e = cc
+  no_left P R (Apply h fs) f fine e = cc
+  no_left P R (Fold h v fs) f fine e = cc
+  no_left P R (If test a b) f fine e = cc
+  no_left P R (Join child) f fine e = cc
+  no_left P R g f fine e = absurd fine
 
   left_of_none : (i : Item) (owner : ℕ) (path : List Edge) → X i → i ≡ Place owner (Left ∷ path) → ⊥
   left_of_none i owner path is e =
       let f = closed.there owner (Left ∷ path) (subst X e is) in
       let above = part_above x.state owner path Left f.0 f.1 in
-      no_left owner above.0 f.0 (plain_place x.state plain owner path above.0 above.1) above.2
+      no_left (IsEarlierTarget x.state owner) (IsDeclaredTarget x.state) above.0 f.0 (plain_place x.state plain owner path above.0 above.1) above.2
 
-  -- what a plain item covers is its node's main
-  covers_main : (i : Item) (p : GraphPoint) → X i → Covers x i p → (n : NodeId) × (p ≡ main n)
-  covers_main i p is (by_main {n} at e) = (n, e)
-  covers_main i p is (by_choice {owner} {path} item at choice e) =
+  -- the node of an if or a join is no bind
+  choice_no_bind : (owner : ℕ) (path : List Edge) (n l : NodeId) (r : Row) (g : FnRef) (caps : List NodeId) (f : Formula)
+      → formula_at x.state owner path ≡ Some f → IsChoice (Some f) → node_at x owner path ≡ Some n → x.graph.row n ≡ Some r → r.def ≡ graph.Bind l g caps → ⊥
+  choice_no_bind owner path n l r g caps (If test a b) is choice at row def =
+      let shows = place_shows x fits owner path n (If test a b) is at in
+      let o = opened x.graph (scope_at x owner path) n (term.If shows.0 shows.1 shows.2) shows.3 in
+      let d = plain_if o.0.def shows.0 shows.1 shows.2 o.3 in
+      let same : o.0 ≡ r = let e : Some o.0 ≡ Some r = sym o.1 ∙ row in cc in
+      let clash : graph.If d.0 d.1 d.2 ≡ graph.Bind l g caps = sym d.3 ∙ (ap (λ (q : Row). q.def) same ∙ def) in cc
+  choice_no_bind owner path n l r g caps (Join child) is choice at row def =
+      let shows = place_shows x fits owner path n (Join child) is at in
+      let o = opened x.graph (scope_at x owner path) n (term.Join shows.0) shows.1 in
+      let d = plain_join o.0.def shows.0 o.3 in
+      let same : o.0 ≡ r = let e : Some o.0 ≡ Some r = sym o.1 ∙ row in cc in
+      let clash : graph.Join d.0 ≡ graph.Bind l g caps = sym d.1 ∙ (ap (λ (q : Row). q.def) same ∙ def) in cc
+  choice_no_bind owner path n l r g caps f is choice at row def = absurd choice
+
+  -- a change that a plain item covers is of no bind
+  covers_no_bind : (i : Item) (n l : NodeId) (r : Row) (g : FnRef) (caps : List NodeId) → X i → Covers x i (change n) → x.graph.row n ≡ Some r
+      → r.def ≡ graph.Bind l g caps → ⊥
+  covers_no_bind i n l r g caps is (by_main at e) row def = let parts = ap (λ (p : GraphPoint). p.part) e in cc
+  covers_no_bind i n l r g caps is (by_choice {owner} {path} {n = m} item at choice e) row def =
       let f = closed.there owner path (subst X item is) in
-      absurd (no_choice owner f.0 (plain_place x.state plain owner path f.0 f.1) (subst IsChoice f.1 choice))
-  covers_main i p is (by_left {owner} {path} item at e) = absurd (left_of_none i owner path is item)
-  covers_main i p is (by_variable {owner} {path} item at row scope built for def e) = absurd (left_of_none i owner path is item)
+      let same : n ≡ m = ap (λ (p : GraphPoint). p.node) e in
+      choice_no_bind owner path n l r g caps f.0 f.1 (subst IsChoice f.1 choice) (at ∙ ap (λ (q : NodeId). Some q) (sym same)) row def
+  covers_no_bind i n l r g caps is (by_left {owner} {path} item at e) row def = left_of_none i owner path is item
+  covers_no_bind i n l r g caps is (by_variable {owner} {path} item at own scope built for const e) row def = left_of_none i owner path is item
 
-  -- so no change is covered
-  pub no_change_covered : (n : NodeId) → CoveredBy x X (change n) → ⊥
-  no_change_covered n c = let m = covers_main c.0 (change n) c.1 c.2 in let parts = ap (λ (p : GraphPoint). p.part) m.1 in cc
-
--- nothing is needed but mains
-pub mains_alone : (x : Both) → Fits x → AllPlain x.state → GrabsBind x.state → (observed : List NodeId) → RootsAre x observed → (n : NodeId)
-    → GraphNeeded x.functions x.graph x.died observed (change n) → ⊥
-mains_alone x fits plain grabs observed are n need =
-    no_change_covered x plain (Needed x.meanings x.state) (needed_closed x grabs) n (needed_is_covered x fits grabs observed are (change n) need)
+-- no bind's change is needed
+pub no_bind_needed : (x : Both) → Fits x → AllPlain x.state → GrabsBind x.state → (observed : List NodeId) → RootsAre x observed → (n l : NodeId) (r : Row)
+    (g : FnRef) (caps : List NodeId) → GraphNeeded x.functions x.graph x.died observed (change n) → x.graph.row n ≡ Some r → r.def ≡ graph.Bind l g caps → ⊥
+no_bind_needed x fits plain grabs observed are n l r g caps need row def =
+    let c = needed_is_covered x fits grabs observed are (change n) need in
+    covers_no_bind x fits plain (Needed x.meanings x.state) (needed_closed x grabs) c.0 n l r g caps c.1 c.2 row def

@@ -4,11 +4,11 @@ use Rattle.inc_value.specs.Choice.{and_then}
 use Rattle.inc_value.specs.declared.node.NodeId.{NodeId}
 use Rattle.inc_value.specs.declared.value.Value.{Value as GraphValue}
 use Rattle.inc_terms.specs.Graph as graph
-use Rattle.inc_terms.specs.Graph.{Graph, Row, Def, Built as BuiltFor}
+use Rattle.inc_terms.specs.Graph.{Graph, Row, Def}
 use Rattle.node_arena.specs.Graph.{graph_of}
 use Rattle.script_model.specs.Check.{target_of_body}
 use Rattle.script_model.specs.Formula as script
-use Rattle.script_model.specs.Formula.{State, Body, Formula, Formulas, Meanings, body_at, formula_of_body, Literal, Name, Bound, Apply, Fold, If, Join, Bind, At, Steps, Now, End, More, Variable, Computed, Freeze, After, Every, Expert, Grab}
+use Rattle.script_model.specs.Formula.{State, Body, Formula, Formulas, Meanings, body_at, formula_of_body, Literal, Name, Apply, Fold, If, Join, End, More, Variable, Computed}
 use Rattle.script_model.specs.Need.{Edge, Argument, Test, Then, Else, Child, Left, Inside, Item, Named, Place, argument_at, part_at, part_of, formula_at}
 use Rattle.script_graph.specs.Kept.{Kept, arena_of, node_in}
 use Rattle.script_graph.specs.Represents.{beside, Represents}
@@ -31,6 +31,20 @@ module _ (G G' : Graph) (P Q : NodeId → Type 0) (more : (n : NodeId) → P n �
         (more n own.0, own.1, own.2, kept n own.1 _ own.3 (ap plain own.4), own.4, own_nodes_of_all_on own.2 arguments own.5)
     own_nodes_on n (Fold f first elements) own =
         (more n own.0, own.1, own.2, own.3, kept n own.1 _ own.4 (ap plain own.5), own.5, own_nodes_of_all_on own.3 elements own.6)
+    own_nodes_on n (If test a b) own = (
+      more n own.0,
+      own.1,
+      own.2,
+      own.3,
+      own.4,
+      kept n own.1 _ own.5 (ap plain own.6),
+      own.6,
+      own_nodes_on own.2 test own.7,
+      own_nodes_on own.3 a own.8,
+      own_nodes_on own.4 b own.9,
+    )
+    own_nodes_on n (Join child) own =
+        (more n own.0, own.1, own.2, kept n own.1 _ own.3 (ap plain own.4), own.4, own_nodes_on own.2 child own.5)
     own_nodes_on n f own = absurd own
 
     pub own_nodes_of_all_on : (ns : List NodeId) (fs : Formulas) → OwnNodesOfAll G P ns fs → OwnNodesOfAll G' Q ns fs
@@ -61,6 +75,20 @@ module _ (G G' : Graph) (P P' Q Q' : NodeId → Type 0) (more : (n : NodeId) →
     own.5,
     own_nodes_of_all_on G G' Q Q' parts kept own.3 elements own.6,
   )
+  whole_nodes_on n (If test a b) own = (
+    more n own.0,
+    own.1,
+    own.2,
+    own.3,
+    own.4,
+    kept n own.1 _ own.5 (ap plain own.6),
+    own.6,
+    own_nodes_on G G' Q Q' parts kept own.2 test own.7,
+    own_nodes_on G G' Q Q' parts kept own.3 a own.8,
+    own_nodes_on G G' Q Q' parts kept own.4 b own.9,
+  )
+  whole_nodes_on n (Join child) own =
+      (more n own.0, own.1, own.2, kept n own.1 _ own.3 (ap plain own.4), own.4, own_nodes_on G G' Q Q' parts kept own.2 child own.5)
   whole_nodes_on n f own = absurd own
 
   -- where nodes that call functions stay, and what they have implies more, what is declared has more
@@ -78,6 +106,10 @@ PartNodes G P n (Apply f arguments) =
 PartNodes G P n (Fold f first elements) =
     (r : Row) × (value : GraphValue) × (kids : List NodeId) × (G.row n ≡ Some r) × (r.def ≡ graph.Fold f value kids)
     × OwnNodesOfAll G P kids elements
+PartNodes G P n (If test a b) =
+    (r : Row) × (t x y : NodeId) × (G.row n ≡ Some r) × (r.def ≡ graph.If t x y)
+    × OwnNodes G P t test × OwnNodes G P x a × OwnNodes G P y b
+PartNodes G P n (Join child) = (r : Row) × (c : NodeId) × (G.row n ≡ Some r) × (r.def ≡ graph.Join c) × OwnNodes G P c child
 PartNodes G P n (Literal v) = Unit {0}
 PartNodes G P n (Name k) = Unit {0}
 PartNodes G P n f = ⊥
@@ -87,6 +119,8 @@ own_parts G P n (Literal v) own = tt
 own_parts G P n (Name k) own = tt
 own_parts G P n (Apply f arguments) own = (own.1, own.2, own.3, own.4, own.5)
 own_parts G P n (Fold f first elements) own = (own.1, own.2, own.3, own.4, own.5, own.6)
+own_parts G P n (If test a b) own = (own.1, own.2, own.3, own.4, own.5, own.6, own.7, own.8, own.9)
+own_parts G P n (Join child) own = (own.1, own.2, own.3, own.4, own.5)
 own_parts G P n f own = absurd own
 
 whole_parts : (G : Graph) (P Q : NodeId → Type 0) (n : NodeId) (f : Formula) → WholeNodes G P Q n f → PartNodes G Q n f
@@ -94,6 +128,8 @@ whole_parts G P Q n (Literal v) own = tt
 whole_parts G P Q n (Name k) own = tt
 whole_parts G P Q n (Apply f arguments) own = (own.1, own.2, own.3, own.4, own.5)
 whole_parts G P Q n (Fold f first elements) own = (own.1, own.2, own.3, own.4, own.5, own.6)
+whole_parts G P Q n (If test a b) own = (own.1, own.2, own.3, own.4, own.5, own.6, own.7, own.8, own.9)
+whole_parts G P Q n (Join child) own = (own.1, own.2, own.3, own.4, own.5)
 whole_parts G P Q n f own = absurd own
 
 argument_own : (G : Graph) (P : NodeId → Type 0) (ns : List NodeId) (fs : Formulas) → OwnNodesOfAll G P ns fs → (k : ℕ) (m : NodeId) (g : Formula)
@@ -126,6 +162,13 @@ module _ (x : Both) (P : NodeId → Type 0) (owner : ℕ) where
   same_row : (n : NodeId) (q r : Row) → x.graph.row n ≡ Some q → x.graph.row n ≡ Some r → q ≡ r
   same_row n q r first second = let e : Some q ≡ Some r = sym first ∙ second in cc
 
+  -- a part's node is that of the formula there
+  same_own : (p n : NodeId) (f g : Formula) → Some p ≡ Some n → Some f ≡ Some g → OwnNodes x.graph P p f → OwnNodes x.graph P n g
+  same_own p n f g node formula own =
+      let there : p ≡ n = cc in
+      let here : f ≡ g = cc in
+      subst (λ (h : Formula). OwnNodes x.graph P n h) here (subst (λ (q : NodeId). OwnNodes x.graph P q f) there own)
+
   part_own : (edge : Edge) (path : List Edge) (h g : Formula) (n : NodeId) → part_at h edge ≡ Some g
       → ((m : NodeId) → node_at x owner path ≡ Some m → PartNodes x.graph P m h) → node_at x owner (edge ∷ path) ≡ Some n → OwnNodes x.graph P n g
   part_own (Argument j) path (Apply f arguments) g n part above at =
@@ -144,6 +187,40 @@ module _ (x : Both) (P : NodeId → Type 0) (owner : ℕ) where
       let def : r.0.def ≡ graph.Fold f own.1 own.2 = sym (ap (λ (q : Row). q.def) row) ∙ own.4 in
       argument_own x.graph P own.2 elements own.5 j n g (sym (fold_parts r.0.def f own.1 own.2 def j) ∙ r.2) part
   part_own edge path (Fold f first elements) g n part above at = absurd (cc)
+  part_own Test path (If test a b) g n part above at =
+      let m = then_some (node_at x owner path) (λ m. and_then (x.graph.row m) (λ (r : Row). part_node r.def Test)) n at in
+      let r = then_some (x.graph.row m.0) (λ (r : Row). part_node r.def Test) n m.2 in
+      let own = above m.0 m.1 in
+      let row = same_row m.0 own.0 r.0 own.4 r.1 in
+      let def : r.0.def ≡ graph.If own.1 own.2 own.3 = sym (ap (λ (q : Row). q.def) row) ∙ own.5 in
+      let node : Some own.1 ≡ Some n = sym (ap (λ (d : Def). part_node d Test) def) ∙ r.2 in
+      same_own own.1 n test g node part own.6
+  part_own Then path (If test a b) g n part above at =
+      let m = then_some (node_at x owner path) (λ m. and_then (x.graph.row m) (λ (r : Row). part_node r.def Then)) n at in
+      let r = then_some (x.graph.row m.0) (λ (r : Row). part_node r.def Then) n m.2 in
+      let own = above m.0 m.1 in
+      let row = same_row m.0 own.0 r.0 own.4 r.1 in
+      let def : r.0.def ≡ graph.If own.1 own.2 own.3 = sym (ap (λ (q : Row). q.def) row) ∙ own.5 in
+      let node : Some own.2 ≡ Some n = sym (ap (λ (d : Def). part_node d Then) def) ∙ r.2 in
+      same_own own.2 n a g node part own.7
+  part_own Else path (If test a b) g n part above at =
+      let m = then_some (node_at x owner path) (λ m. and_then (x.graph.row m) (λ (r : Row). part_node r.def Else)) n at in
+      let r = then_some (x.graph.row m.0) (λ (r : Row). part_node r.def Else) n m.2 in
+      let own = above m.0 m.1 in
+      let row = same_row m.0 own.0 r.0 own.4 r.1 in
+      let def : r.0.def ≡ graph.If own.1 own.2 own.3 = sym (ap (λ (q : Row). q.def) row) ∙ own.5 in
+      let node : Some own.3 ≡ Some n = sym (ap (λ (d : Def). part_node d Else) def) ∙ r.2 in
+      same_own own.3 n b g node part own.8
+  part_own edge path (If test a b) g n part above at = absurd (cc)
+  part_own Child path (Join child) g n part above at =
+      let m = then_some (node_at x owner path) (λ m. and_then (x.graph.row m) (λ (r : Row). part_node r.def Child)) n at in
+      let r = then_some (x.graph.row m.0) (λ (r : Row). part_node r.def Child) n m.2 in
+      let own = above m.0 m.1 in
+      let row = same_row m.0 own.0 r.0 own.2 r.1 in
+      let def : r.0.def ≡ graph.Join own.1 = sym (ap (λ (q : Row). q.def) row) ∙ own.3 in
+      let node : Some own.1 ≡ Some n = sym (ap (λ (d : Def). part_node d Child) def) ∙ r.2 in
+      same_own own.1 n child g node part own.4
+  part_own edge path (Join child) g n part above at = absurd (cc)
   part_own edge path (Literal v) g n part above at = absurd (cc)
   part_own edge path (Name k) g n part above at = absurd (cc)
   part_own edge path h g n part above at = let m = node_above edge path n at in absurd (above m.0 m.1)
@@ -165,6 +242,8 @@ own_has G P n (Literal v) is own = own
 own_has G P n (Name k) is own = absurd is
 own_has G P n (Apply f arguments) is own = own.0
 own_has G P n (Fold f first elements) is own = own.0
+own_has G P n (If test a b) is own = own.0
+own_has G P n (Join child) is own = own.0
 own_has G P n f is own = absurd own
 
 whole_has : (G : Graph) (P Q : NodeId → Type 0) (n : NodeId) (f : Formula) → IsOwnFormula (Some f) → WholeNodes G P Q n f → P n
@@ -172,6 +251,8 @@ whole_has G P Q n (Literal v) is own = own
 whole_has G P Q n (Name k) is own = absurd is
 whole_has G P Q n (Apply f arguments) is own = own.0
 whole_has G P Q n (Fold f first elements) is own = own.0
+whole_has G P Q n (If test a b) is own = own.0
+whole_has G P Q n (Join child) is own = own.0
 whole_has G P Q n f is own = absurd own
 
 -- the node of a declaration that is no other name is one of its own

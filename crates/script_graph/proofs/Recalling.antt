@@ -1,18 +1,19 @@
 -- After an accepted stabilize each needed visit was the last call of its node.
 use Rattle.std.proofs.Common.{◌≡◌, ℕ, List, [], ◌∷◌, map, Option, None, Some, refl, ap, ◌∙◌}
+use Rattle.inc_value.specs.declared.function.FnRef.{FnRef}
 use Rattle.inc_value.specs.declared.node.NodeId.{NodeId}
 use Rattle.inc_value.specs.declared.node.Part.{Part}
 use Rattle.inc_value.specs.declared.node.Part.TheVariants.{Change, Main}
 use Rattle.inc_value.specs.declared.node.Point.{Point}
 use Rattle.inc_value.specs.declared.outcome.Outcome.{Outcome}
 use Rattle.inc_value.specs.declared.value.Value.{Value as GraphValue}
-use Rattle.inc_terms.specs.Depend.{kids_of, main, unfrozen}
+use Rattle.inc_terms.specs.Depend.{kids_of, main, change, unfrozen}
 use Rattle.inc_terms.specs.Evaluate.{answer, GiveAll, Stands}
-use Rattle.inc_terms.specs.Graph.{Graph, Row, Def, Map, Fold, Freeze, Expert}
-use Rattle.inc_terms.specs.Local.{PartExact, Exact, shown_of as shown_as}
+use Rattle.inc_terms.specs.Graph.{Graph, Row, Def, Map, Fold, Bind, Freeze, Expert}
+use Rattle.inc_terms.specs.Local.{PartExact, Exact, IsBuilt, shown_of as shown_as}
 use Rattle.inc_terms.specs.Term.{Functions}
 use Rattle.inc_terms.specs.Work.{cost_of, predicate_cost, predicate_kids}
-use Rattle.graph.specs.Standing.{Standing, graph, in_use, shown_of, called_last}
+use Rattle.graph.specs.Standing.{Standing, graph, in_use, shown_of, chosen_by, called_last}
 use Rattle.graph.proofs.Still.{Stabilizes, IsObserved}
 use Rattle.node_arena.specs.Arena.{Arena, row_at}
 use Rattle.node_arena.specs.Graph.{NoScopes}
@@ -29,17 +30,32 @@ use Rattle.transfer.proofs.Recalling.{visits_have_nodes}
 
 -- ---- what is needed is right
 
--- the outcome that a graph shows of a main's node
-abbrev pub shown_at : {A : Type 0} → Standing A → Point → Option Outcome
-shown_at g p = shown_of g p.node
+-- the outcome that a graph shows of a node, and that by which one of two points last chose its right side
+abbrev pub shown_in : {A : Type 0} → Standing A → NodeId → Part → Option Outcome
+shown_in g n Main = shown_of g n
+shown_in g n Change = chosen_by g n
 
--- where all that is needed are mains of nodes outside scopes
+-- that of a point
+abbrev pub shown_at : {A : Type 0} → Standing A → Point → Option Outcome
+shown_at g p = shown_in g p.node p.part
+
+-- what is no bind is built for nothing
+built_of : (M : Functions) (G : Graph) (n : NodeId) (def : Def) (o : Outcome) → ((l : NodeId) (f : FnRef) (caps : List NodeId) → def ≡ Bind l f caps → ⊥)
+    → IsBuilt M G n def o
+built_of M G n (Bind l f caps) o none = absurd (none l f caps refl)
+built_of M G n def o none = tt
+
+-- where all that is needed is of nodes outside scopes, and no bind's change is needed
 module _ {A : Type 0} (M : Functions) (old new : Standing A) (no_scopes : NoScopes old.nodes)
-    (mains : (n : NodeId) → IsObserved M old (record { node = n; part = Change }) → ⊥) (done : Stabilizes M old new) where
+    (no_binds : (n l : NodeId) (r : Row) (f : FnRef) (caps : List NodeId) → IsObserved M old (change n) → row_at old.nodes n ≡ Some r
+    → r.def ≡ Bind l f caps → ⊥)
+    (done : Stabilizes M old new) where
   part_right : (n : NodeId) (part : Part) → IsObserved M old (record { node = n; part = part }) → (r : Row)
       → row_at old.nodes n ≡ Some r → PartExact M (graph old) (shown_at new) n r.def part
   part_right n Main need r row = let s = done.sees n need in (s.0, ap (λ (x : Option Row). shown_as x (shown_of new n)) row ∙ s.1, s.2)
-  part_right n Change need r row = absurd (mains n need)
+  part_right n Change need r row = λ k is.
+      let c = done.chose n k r row is need in
+      (c.0, c.1, c.2, built_of M (graph old) n r.def c.0 (λ l f caps def. no_binds n l r f caps need row def))
 
   stands : (S : Option NodeId) → S ≡ None → Stands M (graph old) S
   unfolding answer

@@ -5,11 +5,8 @@ use Rattle.std.proofs.lemmas.Bool.{cases_eq}
 use Rattle.std.proofs.lemmas.List.Sums.{sum_by-cons}
 use Rattle.formula_lang.specs.Fits.{AssignmentFits}
 use Rattle.inc_value.specs.Choice.{and_then}
-use Rattle.inc_value.specs.Ty.{IsBase}
-use Rattle.inc_value.specs.Value as engine
 use Rattle.inc_value.specs.declared.function.FnRef.{FnRef}
 use Rattle.inc_value.specs.declared.node.NodeId.{NodeId}
-use Rattle.inc_value.specs.declared.ty.Ty.{Ty}
 use Rattle.inc_value.specs.declared.value.Value.{Value as GraphValue}
 use Rattle.inc_terms.specs.Graph as graph
 use Rattle.inc_terms.specs.Graph.{Row}
@@ -24,30 +21,23 @@ use Rattle.script_model.specs.Formula.{State, Body, Entry, Formula, Meanings, me
 use Rattle.script_model.specs.Need.{Edge, part_of, formula_at}
 use Rattle.script_model.specs.Run.{calls_of_body}
 use Rattle.script_model.specs.Step.{Moment, changed_at, with_body, moved}
-use Rattle.script_model.specs.Values.{Value, Int, Bool as Truth, Text, Reference, type_of}
+use Rattle.script_model.specs.Values.{Value}
 use Rattle.script_graph.specs.Kept.{Kept, arena_of, node_in, no_node}
 use Rattle.script_graph.specs.Represents.{AreNames, beside, Represents, Watches}
 use Rattle.script_graph.specs.Settled.{Settled}
-use Rattle.script_graph.specs.Today.{IsPlainBody, IsEarlierTarget, AllPlain, IsWithin, IsPartWithin, OwnNodesOf}
+use Rattle.script_graph.specs.Today.{IsPlainBody, IsEarlierTarget, IsDeclaredTarget, AllPlain, IsWithin, IsPartWithin, OwnNodesOf}
 use Rattle.script_graph.specs.State.{MatchesMoment}
 use Rattle.script_graph.proofs.Carrying.{watches_on, leaves_beside, settled_on}
-use Rattle.script_graph.proofs.Declaring.{plain_body_more}
+use Rattle.script_graph.proofs.Declaring.{plain_body_more, fitting_refers}
 use Rattle.script_graph.proofs.Extending.{declares_still, node_given, never_given, body_past, node_past}
 use Rattle.script_graph.proofs.Callers.{HasNewCalls, few_calls_on, caller_in}
 use Rattle.script_graph.proofs.Owning.{own_nodes_of_on}
+use Rattle.script_graph.proofs.Referring.{value_refers_more}
 use Rattle.transfer.specs.Both.{graph_value}
 use Rattle.transfer.specs.Items.{FormulasStay}
 use Rattle.transfer.specs.Keeping.{NodesApart, RowsStay}
 use Rattle.transfer.specs.Shows.{Declares, IsOwn, IsTop, plain}
 use Rattle.transfer.proofs.Typed.{body_entry}
-
--- ---- values
-
-graph_base : (nodes : ℕ → NodeId) (v : Value) → IsBase (engine.type_of (graph_value nodes v)) → IsBase (type_of v)
-graph_base nodes (Int z) base = tt
-graph_base nodes (Truth b) base = tt
-graph_base nodes (Text bytes) base = tt
-graph_base nodes (Reference target b) base = absurd base
 
 -- ---- declarations, one of which changes
 
@@ -99,9 +89,9 @@ variable_kind (Computed f kept) is = absurd (cc)
 variable_kind b is = absurd (cc)
 
 -- what may be assigned is a variable
-variable_entry : (names : Names) (s : State) → names.declared ≡ (names_of s).declared → (target : ℕ) (ty : Ty) → AssignmentFits names target ty
+variable_entry : (names : Names) (s : State) → names.declared ≡ (names_of s).declared → (target : ℕ) (value : Value) → AssignmentFits names target value
     → (e : Entry) × (u : Value) × (entry_at s target ≡ Some e) × (e.body ≡ Variable u)
-variable_entry names s same target ty fits = go (slice_get s.entries target) refl
+variable_entry names s same target value fits = go (slice_get s.entries target) refl
     (subst (λ (ds : List Declared). IsTrue (is_variable (and_then (slice_get ds target) (λ (d : Declared). Some d.kind)))) same fits.variable)
   where
     go : (o : Option Entry) → slice_get s.entries target ≡ o
@@ -119,7 +109,7 @@ variable_entry names s same target ty fits = go (slice_get s.entries target) ref
 
 module _ (named : List ℕ → Option FnRef) (value : FnRef → List GraphValue → GraphValue) (k : Kept) (g : Standing (Unit {0}))
     (sound : arena.IsSound (arena_of k)) (sound' : arena.IsSound g.nodes) (m : Moment) (target : ℕ) (w : GraphValue) (v : Value) (is_value : graph_value (node_in k.nodes) v ≡ w)
-    (sets : Sets k.graph g (node_in k.nodes target) w) (fits : AssignmentFits k.names target (engine.type_of w)) where
+    (sets : Sets k.graph g (node_in k.nodes target) w) (fits : AssignmentFits k.names target v) where
   abbrev F : Meanings
   F = meanings_of named value
 
@@ -131,9 +121,6 @@ module _ (named : List ℕ → Option FnRef) (value : FnRef → List GraphValue 
 
   abbrev new : Kept
   new = record k { graph = g }
-
-  base : IsBase (type_of v)
-  base = graph_base (node_in k.nodes) v (subst (λ (u : GraphValue). IsBase (engine.type_of u)) (sym is_value) fits.base)
 
   node_or : (p q : NodeId) → (p ≡ q) ⊎ (p ≡ q → ⊥)
   node_or p q = elim (cases_eq p.slot q.slot) [
@@ -162,6 +149,12 @@ module _ (named : List ℕ → Option FnRef) (value : FnRef → List GraphValue 
         | inr other ↦ subst IsOwn (sym (others t other)) early.1
       ],
     )
+
+    target_on : (t : ℕ) → IsDeclaredTarget s t → IsDeclaredTarget s' t
+    target_on t d = elim (cases_eq t target) [
+      | inl same ↦ (Variable v, ap (body_at s') same ∙ now, tt)
+      | inr other ↦ (d.0, others t other ∙ d.1, d.2)
+    ]
 
     -- a formula's declaration is another one
     other_owner : (owner : ℕ) (path : List Edge) (f : Formula) → formula_at s owner path ≡ Some f → owner ≡ target → ⊥
@@ -225,18 +218,21 @@ module _ (named : List ℕ → Option FnRef) (value : FnRef → List GraphValue 
             (subst (λ (j : ℕ). Declares (beside F s' new) (node_in k.nodes j) (Some (Variable v))) (sym same) set_shows)
         | inr other ↦
             let here : body_at s n ≡ Some b = sym (others n other) ∙ is in
-            declares_still (beside F s k) (beside F s' new) (IsEarlierTarget s n) (λ t early. refl) stays (node_in k.nodes n) (node_in k.nodes n) b refl
-            (held.today.plain n b here)
+            declares_still (beside F s k) (beside F s' new) (IsEarlierTarget s n) (IsDeclaredTarget s) (λ t early. refl) (λ t own. refl) stays
+            (node_in k.nodes n) (node_in k.nodes n) b refl (held.today.plain n b here)
             (λ q e r row. row_other (node_in k.nodes n) r (apart n q (here ∙ ap (λ c. Some c) e) other) row)
             (rw here at (held.declares n))
       ]
 
-      plain_each : AllPlain s'
-      plain_each n b is = elim (cases_eq n target) [
+      plain_each : AreNames k.names s → AllPlain s'
+      plain_each names n b is = elim (cases_eq n target) [
         | inl same ↦
             let body : Variable v ≡ b = let e : Some (Variable v) ≡ Some b = sym now ∙ (ap (body_at s') (sym same) ∙ is) in cc in
-            subst (λ (c : Body). IsPlainBody (IsEarlierTarget s' n) c) body base
-        | inr other ↦ plain_body_more (IsEarlierTarget s n) (IsEarlierTarget s' n) (early_on n) b (held.today.plain n b (sym (others n other) ∙ is))
+            subst (λ (c : Body). IsPlainBody (IsEarlierTarget s' n) (IsDeclaredTarget s') c) body
+            (value_refers_more (IsDeclaredTarget s) (IsDeclaredTarget s') target_on v
+            (fitting_refers k.names s names.declared held.today.plain held.targets v fits.refers))
+        | inr other ↦ plain_body_more (IsEarlierTarget s n) (IsEarlierTarget s' n) (IsDeclaredTarget s) (IsDeclaredTarget s') (early_on n) target_on b
+            (held.today.plain n b (sym (others n other) ∙ is))
       ]
 
       aged_each : (n : ℕ) (b : Body) → body_at s' n ≡ Some b
@@ -288,8 +284,8 @@ module _ (named : List ℕ → Option FnRef) (value : FnRef → List GraphValue 
         ];
       }
 
-      set_represents : Represents F s' new
-      set_represents = record {
+      set_represents : AreNames k.names s → Represents F s' new
+      set_represents names = record {
         room = let places = with_amounts places_of_body (λ body. Variable v) s.entries target e there (sym (ap places_of_body variable)) in omega (arith, held.room, places);
         clock = held.clock;
         one_node_each = held.one_node_each ∙ sym (with_length (λ body. Variable v) s.entries target);
@@ -297,7 +293,7 @@ module _ (named : List ℕ → Option FnRef) (value : FnRef → List GraphValue 
         targets = targets_each;
         apart = apart_each;
         today = record {
-          plain = plain_each;
+          plain = plain_each names;
           aged = aged_each;
           calls = few_calls_on s s' (arena_of k) g.nodes 0 no_new_call
               (let calls = with_amounts calls_of_body (λ body. Variable v) s.entries target e there (sym (ap calls_of_body variable)) in omega (arith, calls))
@@ -318,7 +314,7 @@ module _ (named : List ℕ → Option FnRef) (value : FnRef → List GraphValue 
 
     watches_after : MatchesMoment F k m → Watches s' new
     watches_after h =
-        watches_on s s' k new sets.beside refl refl refl refl (λ n b is. refl) (node_given F s k h.represents sound) body_stays h.watches
+        watches_on s s' k new sets.beside refl refl refl refl (λ n b is. refl) (node_given F s k h.represents sound) body_stays target_on h.watches
 
     settled_after : MatchesMoment F k m → m.broken ≡ None → Settled F m.settled s' new
     settled_after h whole =
@@ -340,12 +336,12 @@ module _ (named : List ℕ → Option FnRef) (value : FnRef → List GraphValue 
   -- the script with the variable set is matched
   pub setting_stands : MatchesMoment F k m → MatchesMoment F new (moved m (Assign target v))
   setting_stands h =
-      let d = variable_entry k.names s h.names.declared target (engine.type_of w) fits in
+      let d = variable_entry k.names s h.names.declared target v fits in
       record {
         names = names_on d.0 d.1 d.2 d.3 h.names;
         accepted = h.accepted;
         broken = h.broken;
-        represents = set_represents d.0 d.1 d.2 d.3 h.represents;
+        represents = set_represents d.0 d.1 d.2 d.3 h.represents h.names;
         watches = watches_after d.0 d.1 d.2 d.3 h;
         settled = settled_after d.0 d.1 d.2 d.3 h;
       }

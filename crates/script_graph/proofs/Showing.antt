@@ -10,15 +10,15 @@ use Rattle.script_model.specs.Settle.{ShowAll, showing, notices_of, watch_after}
 use Rattle.script_model.specs.Values.{Outcome}
 use Rattle.script_graph.specs.Kept.{Kept, node_in}
 use Rattle.script_graph.specs.Represents.{there_in, IsObserver, Watches}
-use Rattle.script_graph.specs.Today.{IsBaseOutcome}
+use Rattle.script_graph.specs.Today.{IsDeclaredTarget, RefersTo}
 use Rattle.script_graph.proofs.Same.{observed_so}
 use Rattle.transfer.specs.Both.{graph_outcome}
 
 module _ (F : Meanings) (s : State) (k : Kept) (g : Standing (Unit {0})) where
-  -- what an observer shows then: what its target gives, which is no reference, and the graph shows it
+  -- what an observer shows then: what its target gives, which refers to what is declared, and the graph shows it
   pub record ShowsThen (x : Observer) (p : Outcome) : Type 0 where
     pub gives : NameGives F s x.target p
-    pub base : IsBaseOutcome p
+    pub refers : RefersTo (IsDeclaredTarget s) p
     pub shown : shown_of g (node_in k.nodes x.target) ≡ Some (graph_outcome (node_in k.nodes) p)
     pub unwatched : x.watch ≡ Unwatched
 
@@ -107,10 +107,8 @@ module _ (F : Meanings) (s : State) (k : Kept) (g : Standing (Unit {0})) where
             let all_of : length g.observers ≡ length k.graph.observers = ap length same in
             absurd (omega (arith, within, each, all_of, le, rooted));
       };
-      today = record {
-        unwatched = ap (λ (v : Watch). watch_after v p) shows.unwatched;
-        base = λ q is. let same : p ≡ q = (let e : Some p ≡ Some q = is in cc) in subst IsBaseOutcome same shows.base;
-      };
+      refers = λ q is. let same : p ≡ q = (let e : Some p ≡ Some q = is in cc) in subst (RefersTo (IsDeclaredTarget then)) same shows.refers;
+      today = record { unwatched = ap (λ (v : Watch). watch_after v p) shows.unwatched };
     }
 
     -- the observers are watched then

@@ -1,6 +1,7 @@
 -- A stabilize that was refused for depth is one of the script.
 use Rattle.std.proofs.Common.{◌≡◌, ◌⊎◌, inl, inr, ℕ, ◌<◌, true, List, [], ◌∷◌, length, Option, None, Some, refl, ap, sym, subst, ◌∙◌, arith}
 use Rattle.std.proofs.lemmas.Option.{slice_get_within}
+use Rattle.node_arena.specs.Arena.{Arena, IsLive}
 use Rattle.node_outcomes.specs.Meaning.{Meaning}
 use Rattle.graph.specs.Sound.{IsSound, IsWhole}
 use Rattle.graph.proofs.Still.{IsRefusedFor, HasCalledMet, IsListed, IsLawful}
@@ -22,7 +23,7 @@ use Rattle.script_model.specs.Values.{seen_value}
 use Rattle.script_graph.specs.Kept.{Kept, without_functions}
 use Rattle.script_graph.specs.Represents.{graph_functions, beside}
 use Rattle.script_graph.specs.Today.{IsWithin, maps_alone, Computes, IsVariableBody, IsOwnFormula, owner_of}
-use Rattle.script_graph.specs.Stabilizing.{IsTooDeep, ChainBegins, IsFirstNotOlder, AllOlder}
+use Rattle.script_graph.specs.Stabilizing.{IsTooDeep, ChainBegins, IsFirstNotOlder, IsFirstOwned, NoneOwns}
 use Rattle.script_graph.specs.State.{Stands}
 use Rattle.script_graph.proofs.Beside.{represented_fits, grabs_bind}
 use Rattle.script_graph.proofs.Calling.{few_calls}
@@ -30,6 +31,7 @@ use Rattle.script_graph.proofs.CuttingShort.{broken_matches, refused_keeps}
 use Rattle.script_graph.proofs.Functions.{functions_are}
 use Rattle.script_graph.proofs.Owner.{IsTooDeepAt, deep_owner, told_node}
 use Rattle.script_graph.proofs.Owning.{aged_item}
+use Rattle.script_graph.proofs.Living.{own_item_live}
 use Rattle.script_graph.proofs.Remembering.{meeting_is_covered}
 use Rattle.script_graph.proofs.Without.{sound_without, few_without, refused_without}
 use Rattle.stabilizer.specs.declared.refused.Refused.{Refused}
@@ -135,9 +137,15 @@ module _ (named : List ℕ → Option FnRef) (value : FnRef → List GraphValue 
     within : IsWithin k.nodes (owner_of deep.item) p.node
     within = aged_item F s k stands.matches.represents deep.item p.node deep.computes deep.is_node
 
-    -- some declaration's node isn't older
-    pub not_all_older : AllOlder k.nodes p.node → ⊥
-    not_all_older all =
+    live : IsLive g.nodes p.node
+    live =
+        let r = own_item_live F s k stands.matches.represents fits deep.item p.node deep.computes deep.is_node in
+        subst (λ (a : Arena). IsLive a p.node) (sym done.nodes) (rw r.1 refl)
+
+    -- some declaration's node isn't older than its owner
+    pub not_all_older : NoneOwns k.nodes g.nodes p.node → ⊥
+    not_all_older none =
+        let all = none p.node (refl, live) in
         let low = computes_within s deep.item deep.computes in
         let count = stands.matches.represents.one_node_each in
         let early = all (owner_of deep.item) (omega (arith, low, count)) in
@@ -145,13 +153,14 @@ module _ (named : List ℕ → Option FnRef) (value : FnRef → List GraphValue 
         omega (arith, early, late)
 
     -- the model may refuse the stabilize for the first of these declarations
-    pub too_deep_stands : {N : Functions} (target called calls : ℕ) → IsFirstNotOlder k.nodes p.node target → HasCalledMet N k.graph called calls
+    pub too_deep_stands : {N : Functions} (target called calls : ℕ) → IsFirstOwned k.nodes g.nodes p.node target → HasCalledMet N k.graph called calls
         → IsTooDeep F m (record k { broken = Some 21; graph = g }) target called calls
     too_deep_stands {N} target called calls first few =
         record {
           after = record m { broken = Some 21 };
           stabilizes = by_height target deep.item deep.met deep.deep
-              (own (holds_owner target deep.item (first_is_owner k.nodes p.node target (owner_of deep.item) first within))) refl refl;
+              (own (holds_owner target deep.item (first_is_owner k.nodes p.node target (owner_of deep.item)
+              (subst (λ (q : NodeId). IsFirstNotOlder k.nodes q target) first.1.0 first.2) within))) refl refl;
           within = few_calls N s k.graph called calls stands.matches.represents.today.calls few;
           matches = broken_matches F m k g 21 (refused_keeps done) stands.matches;
         }
@@ -191,14 +200,14 @@ module _ {A : Type 0} where
     begins : (p : Point) × ChainBegins new.refused p
     begins = chain_begins (maps_alone (seen_value value)) old new.refused done.met done.broken done.is_cause done.lawful
 
-    -- some declaration's node isn't older than the first of the chain
-    pub session_not_all_older : ((p : Point) → ChainBegins new.refused p → AllOlder k.nodes p.node) → (m : Moment)
+    -- some declaration's node isn't older than the owner of the first of the chain
+    pub session_not_all_older : ((p : Point) → ChainBegins new.refused p → NoneOwns k.nodes new.nodes p.node) → (m : Moment)
         → Stands (meanings_of named value) k m → ⊥
     session_not_all_older all m stands = not_all_older named value W m k stands (stands.matches.broken ∙ unbroken) kept_sound kept_whole
         (without_functions new) kept_done begins.0 begins.1 (all begins.0 begins.1)
 
     -- a stabilize of a session's graph that was refused for depth is one of its script
-    pub session_too_deep : (target called calls : ℕ) → ((p : Point) → ChainBegins new.refused p → IsFirstNotOlder k.nodes p.node target)
+    pub session_too_deep : (target called calls : ℕ) → ((p : Point) → ChainBegins new.refused p → IsFirstOwned k.nodes new.nodes p.node target)
         → HasCalledMet (maps_alone (seen_value value)) old called calls → (m : Moment) → Stands (meanings_of named value) k m
         → IsTooDeep (meanings_of named value) m (record k { broken = Some 21; graph = without_functions new }) target called calls
     session_too_deep target called calls first few m stands =

@@ -11,7 +11,7 @@ use Rattle.script_model.specs.Check.{Names, names_of, is_among, target_of_body}
 use Rattle.script_model.specs.Formula.{Body, Entry, State, Observer, Meanings, body_at, entry_at, places_of}
 use Rattle.script_model.specs.Values.{Outcome, to_engine, from_engine}
 use Rattle.script_graph.specs.Kept.{Kept, arena_of, node_in}
-use Rattle.script_graph.specs.Today.{maps_alone, IsTodaysObserver, IsTodaysScript}
+use Rattle.script_graph.specs.Today.{maps_alone, IsDeclaredTarget, RefersTo, IsTodaysObserver, IsTodaysScript}
 use Rattle.transfer.specs.Both.{Both, graph_outcome}
 use Rattle.transfer.specs.Keeping.{NodesApart}
 use Rattle.transfer.specs.Shows.{Declares}
@@ -62,11 +62,12 @@ pub record IsShown (k : Kept) (o : ObsId) (x : Observer) : Type 0 where
       × (k.broken ≡ None → shown_of k.graph (node_in k.nodes x.target) ≡ Some (graph_outcome (node_in k.nodes) p))
   pub later : k.graph.rooted ≤ o.0 → x.shown ≡ None
 
--- an observer of the script is one of the graph
+-- an observer of the script is one of the graph; what it shows refers to what is declared
 pub record IsObserver (s : State) (k : Kept) (o : ObsId) (x : Observer) : Type 0 where
   pub looks : node_at k.graph.observers o ≡ Some (node_in k.nodes x.target)
   pub target : (b : Body) × (body_at s x.target ≡ Some b)
   pub shown : IsShown k o x
+  pub refers : (p : Outcome) → x.shown ≡ Some p → RefersTo (IsDeclaredTarget s) p
   pub today : IsTodaysObserver x
 
 -- the graph's observers in the order in which they were made, each with that of the script, if it wasn't ended; a name in use is that of one of them

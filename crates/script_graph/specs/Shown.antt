@@ -5,14 +5,14 @@ use Rattle.inc_value.specs.declared.node.NodeId.{NodeId}
 use Rattle.script_model.specs.Formula.{State}
 use Rattle.script_model.specs.Step.{shown_by}
 use Rattle.script_model.specs.Values.{Outcome}
-use Rattle.script_graph.specs.Today.{IsBaseOutcome}
+use Rattle.script_graph.specs.Today.{IsDeclaredTarget, RefersTo}
 use Rattle.transfer.specs.Both.{graph_outcome}
 
--- the observer of the name shows the outcome, which is no reference, over the nodes of names
+-- the observer of the name shows the outcome, over the nodes of names; what it refers to is declared, and no other name
 pub record ShowsIt (nodes : ℕ → NodeId) (s : State) (name : List ℕ) (o : engine.Outcome) : Type 0 where
   pub outcome : Outcome
   pub is_shown : shown_by s name ≡ Some outcome
-  pub base : IsBaseOutcome outcome
+  pub refers : RefersTo (IsDeclaredTarget s) outcome
   pub same : graph_outcome nodes outcome ≡ o
 
 -- it shows nothing yet

@@ -4,6 +4,7 @@ use Rattle.height_order.specs.Chains.{StartsAt}
 use Rattle.inc_value.specs.declared.node.NodeId.{NodeId}
 use Rattle.inc_value.specs.declared.node.Point.{Point}
 use Rattle.inc_terms.specs.Depend.{main}
+use Rattle.node_arena.specs.Arena.{Arena, IsLive}
 use Rattle.script_model.specs.Check.{Declared}
 use Rattle.script_model.specs.Formula.{Meanings}
 use Rattle.script_model.specs.Need.{WithinWork}
@@ -74,6 +75,10 @@ abbrev pub CyclePasses : Kept → Option Refused → List ℕ → Type 0
 CyclePasses k (Some (Cycle points)) targets = MainsIn k (behind_first points.items) targets
 CyclePasses k met targets = ⊥
 
+-- the node outside all scopes in whose right side a live node stands, or the node itself: today none stands in a scope
+abbrev pub IsOwner : Arena → NodeId → NodeId → Type 0
+IsOwner a n top = (top ≡ n) × IsLive a n
+
 -- the declaration's node was given no earlier than the node, and those of earlier declarations were given earlier
 pub record IsFirstNotOlder (nodes : List NodeId) (n : NodeId) (target : ℕ) : Type 0 where
   pub not_older : n.gen_ ≤ (node_in nodes target).gen_
@@ -82,3 +87,11 @@ pub record IsFirstNotOlder (nodes : List NodeId) (n : NodeId) (target : ℕ) : T
 -- the nodes of all declarations were given earlier
 abbrev pub AllOlder : List NodeId → NodeId → Type 0
 AllOlder nodes n = (j : ℕ) → j < length nodes → (node_in nodes j).gen_ < n.gen_
+
+-- the node has an owner, and the declaration's node is the first that isn't older than that
+abbrev pub IsFirstOwned : List NodeId → Arena → NodeId → ℕ → Type 0
+IsFirstOwned nodes a n target = (top : NodeId) × IsOwner a n top × IsFirstNotOlder nodes top target
+
+-- if the node has an owner, the nodes of all declarations are older than that
+abbrev pub NoneOwns : List NodeId → Arena → NodeId → Type 0
+NoneOwns nodes a n = (top : NodeId) → IsOwner a n top → AllOlder nodes top

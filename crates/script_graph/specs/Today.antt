@@ -13,13 +13,14 @@ use Rattle.inc_terms.specs.Graph as graph
 use Rattle.inc_terms.specs.Graph.{Graph, Row, Def}
 use Rattle.inc_terms.specs.Term.{Functions}
 use Rattle.inc_terms.specs.Work.{cost_of}
+use Rattle.formula_elab.specs.Names.{EveryReference}
 use Rattle.graph.specs.Standing.{cutoff_of}
 use Rattle.map_nodes.specs.declared.cutoff.Cutoff.TheVariants.{Equal}
 use Rattle.node_arena.specs.Arena.{Arena, row_at}
 use Rattle.node_arena.specs.Graph.{graph_of}
 use Rattle.node_arena.specs.RightSide.{no_side}
 use Rattle.node_arena.specs.RightSideLaws.{meaning}
-use Rattle.script_model.specs.Formula.{Formula, Formulas, Body, State, Observer, body_at, Literal, Name, Apply, Fold, End, More, Variable, Computed, Unwatched, nothing_kept}
+use Rattle.script_model.specs.Formula.{Formula, Formulas, Body, State, Observer, body_at, Literal, Name, Apply, Fold, If, Join, End, More, Variable, Computed, Unwatched, nothing_kept}
 use Rattle.script_model.specs.Need.{Item, Named, Place, formula_at}
 use Rattle.script_model.specs.Run.{most_calls}
 use Rattle.script_model.specs.Settle.{Notice}
@@ -33,47 +34,53 @@ use Rattle.transfer.specs.Shows.{IsOwn}
 abbrev pub maps_alone : (FnRef → List Value → Value) → Functions
 maps_alone value = meaning value (λ f. no_side)
 
--- ---- formulas: literals, names, applications and folds, over earlier declarations
+-- ---- formulas: no binds, no clock; names that are read are of earlier declarations
+
+-- a declaration that is there, and is no other name
+abbrev pub IsDeclaredTarget : State → ℕ → Type 0
+IsDeclaredTarget s t = (b : Body) × (body_at s t ≡ Some b) × IsOwn (Some b)
 
 abbrev mutual
-  -- the formula is of literals of base types, of names that have the property, of applications, and of folds from values of base types
-  pub IsPlain : (ℕ → Type 0) → Formula → Type 0
-  IsPlain P (Literal v) = IsBase (type_of v)
-  IsPlain P (Name n) = P n
-  IsPlain P (Apply function arguments) = ArePlain P arguments
-  IsPlain P (Fold function first elements) = IsBase (type_of first) × ArePlain P elements
-  IsPlain P f = ⊥
+  -- the formula is of literals that refer to what has the one property, of names that have the other, of applications, folds from values of base types, ifs
+  -- and joins
+  pub IsPlain : (ℕ → Type 0) → (ℕ → Type 0) → Formula → Type 0
+  IsPlain P R (Literal v) = EveryReference R v
+  IsPlain P R (Name n) = P n
+  IsPlain P R (Apply function arguments) = ArePlain P R arguments
+  IsPlain P R (Fold function first elements) = IsBase (type_of first) × ArePlain P R elements
+  IsPlain P R (If test a b) = IsPlain P R test × IsPlain P R a × IsPlain P R b
+  IsPlain P R (Join child) = IsPlain P R child
+  IsPlain P R f = ⊥
 
   -- so are all of the formulas
-  pub ArePlain : (ℕ → Type 0) → Formulas → Type 0
-  ArePlain P End = Unit {0}
-  ArePlain P (More f rest) = IsPlain P f × ArePlain P rest
+  pub ArePlain : (ℕ → Type 0) → (ℕ → Type 0) → Formulas → Type 0
+  ArePlain P R End = Unit {0}
+  ArePlain P R (More f rest) = IsPlain P R f × ArePlain P R rest
 
 -- so is what is declared, and nothing is kept of it
-abbrev pub IsPlainBody : (ℕ → Type 0) → Body → Type 0
-IsPlainBody P (Variable v) = IsBase (type_of v)
-IsPlainBody P (Computed f kept) = IsPlain P f × (kept ≡ nothing_kept)
-IsPlainBody P body = ⊥
+abbrev pub IsPlainBody : (ℕ → Type 0) → (ℕ → Type 0) → Body → Type 0
+IsPlainBody P R (Variable v) = EveryReference R v
+IsPlainBody P R (Computed f kept) = IsPlain P R f × (kept ≡ nothing_kept)
+IsPlainBody P R body = ⊥
 
 -- an earlier declaration that is no other name
 abbrev pub IsEarlierTarget : State → ℕ → ℕ → Type 0
 IsEarlierTarget s n t = (t < n) × IsOwn (body_at s t)
 
--- each declaration is of today's forms, over earlier ones
+-- each declaration is of today's forms, over earlier ones; what it refers to is declared
 abbrev pub AllPlain : State → Type 0
-AllPlain s = (n : ℕ) (body : Body) → body_at s n ≡ Some body → IsPlainBody (IsEarlierTarget s n) body
+AllPlain s = (n : ℕ) (body : Body) → body_at s n ≡ Some body → IsPlainBody (IsEarlierTarget s n) (IsDeclaredTarget s) body
 
--- ---- values: no reference is shown, and none is told
+-- ---- values: none is told
 
--- an outcome that is no reference
-abbrev pub IsBaseOutcome : Outcome → Type 0
-IsBaseOutcome (Val v) = IsBase (type_of v)
-IsBaseOutcome Invalid = Unit {0}
+-- what an outcome refers to, if anything, has the property
+abbrev pub RefersTo : (ℕ → Type 0) → Outcome → Type 0
+RefersTo P (Val v) = EveryReference P v
+RefersTo P Invalid = Unit {0}
 
--- an observer that isn't watched, and shows no reference
+-- an observer that isn't watched
 pub record IsTodaysObserver (x : Observer) : Type 0 where
   pub unwatched : x.watch ≡ Unwatched
-  pub base : (p : Outcome) → x.shown ≡ Some p → IsBaseOutcome p
 
 -- no notice comes
 abbrev pub NoNotices : List Notice → Type 0
@@ -133,6 +140,10 @@ abbrev mutual
   OwnNodes G P n (Fold f first elements) =
       P n × (r : Row) × (value : Value) × (kids : List NodeId) × (G.row n ≡ Some r) × (r.def ≡ graph.Fold f value kids)
       × OwnNodesOfAll G P kids elements
+  OwnNodes G P n (If test a b) =
+      P n × (r : Row) × (t x y : NodeId) × (G.row n ≡ Some r) × (r.def ≡ graph.If t x y)
+      × OwnNodes G P t test × OwnNodes G P x a × OwnNodes G P y b
+  OwnNodes G P n (Join child) = P n × (r : Row) × (c : NodeId) × (G.row n ≡ Some r) × (r.def ≡ graph.Join c) × OwnNodes G P c child
   OwnNodes G P n f = ⊥
 
   -- so have those of all of the formulas
@@ -151,6 +162,10 @@ WholeNodes G P Q n (Apply f arguments) =
 WholeNodes G P Q n (Fold f first elements) =
     P n × (r : Row) × (value : Value) × (kids : List NodeId) × (G.row n ≡ Some r) × (r.def ≡ graph.Fold f value kids)
     × OwnNodesOfAll G Q kids elements
+WholeNodes G P Q n (If test a b) =
+    P n × (r : Row) × (t x y : NodeId) × (G.row n ≡ Some r) × (r.def ≡ graph.If t x y)
+    × OwnNodes G Q t test × OwnNodes G Q x a × OwnNodes G Q y b
+WholeNodes G P Q n (Join child) = P n × (r : Row) × (c : NodeId) × (G.row n ≡ Some r) × (r.def ≡ graph.Join c) × OwnNodes G Q c child
 WholeNodes G P Q n f = ⊥
 
 -- so have those of what is declared

@@ -1,0 +1,69 @@
+-- What values refer to.
+use Rattle.std.proofs.Common.{◌≡◌, ℕ, Option, Some, refl, ap, sym, ◌∙◌}
+use Rattle.formula_elab.specs.Names.{EveryReference}
+use Rattle.inc_value.specs.Choice.{and_then}
+use Rattle.inc_value.specs.Ty.{IsBase}
+use Rattle.inc_value.specs.declared.node.NodeId.{NodeId}
+use Rattle.inc_value.specs.declared.ty.Ty.{Ty}
+use Rattle.inc_value.specs.declared.outcome.Outcome.TheVariants as outcome
+use Rattle.inc_value.specs.declared.value.Value.TheVariants as engine
+use Rattle.script_model.specs.Check.{target_of_body}
+use Rattle.script_model.specs.Formula.{State, Entry, entry_at}
+use Rattle.script_model.specs.Valid.{NameHasType, ValueHasType, OutcomeHasType}
+use Rattle.script_model.specs.Values.{Value, Int, Bool, Text, Reference, Outcome, Val, Invalid, type_of}
+use Rattle.script_graph.specs.Today.{AllPlain, IsDeclaredTarget, RefersTo}
+use Rattle.script_graph.proofs.Owning.{own_body}
+use Rattle.transfer.specs.Both.{graph_value, graph_outcome}
+
+-- ---- in another graph
+
+module _ (P : ℕ → Type 0) (nodes nodes' : ℕ → NodeId) (same : (t : ℕ) → P t → nodes' t ≡ nodes t) where
+  -- a value is the same where that is to which it refers has the same node
+  pub value_agrees : (v : Value) → EveryReference P v → graph_value nodes v ≡ graph_value nodes' v
+  value_agrees (Int z) refers = refl
+  value_agrees (Bool b) refers = refl
+  value_agrees (Text bytes) refers = refl
+  value_agrees (Reference target base) refers = ap (λ (n : NodeId). engine.Node n base) (sym (same target refers))
+
+  -- so is an outcome
+  pub outcome_agrees : (o : Outcome) → RefersTo P o → graph_outcome nodes o ≡ graph_outcome nodes' o
+  outcome_agrees (Val v) refers = ap (λ w. outcome.Val w) (value_agrees v refers)
+  outcome_agrees Invalid refers = refl
+
+-- a value that is no reference is the same in every graph
+pub base_value : (nodes nodes' : ℕ → NodeId) (v : Value) → IsBase (type_of v) → graph_value nodes v ≡ graph_value nodes' v
+base_value nodes nodes' (Int z) base = refl
+base_value nodes nodes' (Bool b) base = refl
+base_value nodes nodes' (Text bytes) base = refl
+base_value nodes nodes' (Reference target b) base = absurd base
+
+-- ---- what has the one property has the other
+
+module _ (P Q : ℕ → Type 0) (more : (t : ℕ) → P t → Q t) where
+  pub value_refers_more : (v : Value) → EveryReference P v → EveryReference Q v
+  value_refers_more (Reference target base) refers = more target refers
+  value_refers_more v refers = tt
+
+  pub outcome_refers_more : (o : Outcome) → RefersTo P o → RefersTo Q o
+  outcome_refers_more (Val v) refers = value_refers_more v refers
+  outcome_refers_more Invalid refers = tt
+
+-- ---- in a plain state
+
+module _ (s : State) (plain : AllPlain s) (targets : (n : ℕ) (e : Entry) → entry_at s n ≡ Some e → e.target ≡ target_of_body n e.body) where
+  -- what has a type as a name is declared, and is no other name
+  pub named_is_declared : (below position : ℕ) (t : Ty) → NameHasType s below position t → IsDeclaredTarget s position
+  named_is_declared below position t h =
+      let is = ap (λ (o : Option Entry). and_then o (λ (e : Entry). Some e.body)) h.stands in
+      (h.entry.body, is, own_body s plain position h.entry.body is (sym (targets position h.entry h.stands) ∙ h.own))
+
+  -- what has a type as a value refers to what is declared
+  pub typed_value_refers : (below : ℕ) (v : Value) (t : Ty) → ValueHasType s below v t → EveryReference (IsDeclaredTarget s) v
+  typed_value_refers below (Int z) t h = tt
+  typed_value_refers below (Bool b) t h = tt
+  typed_value_refers below (Text bytes) t h = tt
+  typed_value_refers below (Reference target base) t h = named_is_declared below target _ h.1
+
+  pub typed_outcome_refers : (o : Outcome) (t : Ty) → OutcomeHasType s o t → RefersTo (IsDeclaredTarget s) o
+  typed_outcome_refers (Val v) t h = typed_value_refers _ v t h
+  typed_outcome_refers Invalid t h = tt
