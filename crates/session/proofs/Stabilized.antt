@@ -1,5 +1,5 @@
 -- What is kept of a script once a stabilize ended, and the faults that don't come.
-use Rattle.std.proofs.Common.{◌≡◌, Bool, ℕ, ◌+◌, ◌≤◌, List, [], ◌∷◌, arith, Option, None, Some, IsSome, Result, Err, IsErrOf, IsTrue, refl, ap, sym, subst, ◌∙◌}
+use Rattle.std.proofs.Common.{◌≡◌, Bool, ℕ, ◌+◌, ◌≤◌, ◌^◌, List, [], ◌∷◌, arith, Option, None, Some, IsSome, Result, Err, IsErrOf, IsTrue, refl, ap, sym, subst, ◌∙◌}
 use Rattle.graph.specs.Fault.{kept_of}
 use Rattle.graph.specs.Stabilizes.{Stabilizes, IsRefusedFor, HasCalledMet, left_by}
 use Rattle.graph.proofs.Still as still
@@ -51,6 +51,10 @@ same_sound k sound g nodes observers accepted broken unbroken = record {
   apart = sound.apart;
   unbroken = unbroken;
 }
+
+-- over the same nodes few ids were given
+pub few_given : (old new : Arena) → new ≡ old → new.given ≤ old.given + 2 ^ 20
+few_given old new same = let given = ap (λ (a : Arena). a.given) same in omega (arith, given)
 
 module _ {A : Type 0} (M : Functions) (k : Kept) (sound : IsSound k) (old new : Standing A) (same : k.graph ≡ without_functions old) where
   -- what is kept fits together after a stabilize that was accepted
