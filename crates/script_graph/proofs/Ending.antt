@@ -11,9 +11,10 @@ use Rattle.node_arena.specs.Arena.{Arena, row_at, live}
 use Rattle.script_model.specs.Check.{Unobserve, is_among, names_of}
 use Rattle.script_model.specs.Formula.{State, Observer, Meanings}
 use Rattle.script_model.specs.Step.{Moment, moved}
-use Rattle.script_graph.specs.Kept.{Kept, HasNode, IsSound, arena_of, node_in}
+use Rattle.script_graph.specs.Kept.{Kept, arena_of, node_in}
 use Rattle.script_graph.specs.Represents.{rooted_at, there_in, IsShown, Watches}
 use Rattle.script_graph.specs.Settled.{StillDeclares}
+use Rattle.script_graph.specs.Sound.{HaveNodes, IsSound}
 use Rattle.script_graph.specs.State.{MatchesMoment}
 use Rattle.script_graph.proofs.Carrying.{LeavesBeside, settled_on}
 use Rattle.script_graph.proofs.Held.{rooted_looks, rooted_still, was_still}
@@ -306,7 +307,8 @@ module _ (k : Kept) (name d : List ℕ) (i : ℕ) (o : ObsId) (g : Standing (Uni
   pub ending_sound : IsSound new
   ending_sound = record {
     one_node_each = sound.one_node_each;
-    has_nodes = λ n e at. subst (λ (a : Arena). HasNode a k.nodes n e) (sym ends.nodes) (sound.has_nodes n e at);
+    has_nodes = subst (λ (a : Arena). HaveNodes a k.names.declared k.nodes) (sym ends.nodes) sound.has_nodes;
+    today = sound.today;
     few = subst (λ (a : Arena). live a + k.room ≤ 1048575) (sym ends.nodes) sound.few;
     one_observer_each = swap_length k.observers i o ∙ ap (λ (n : ℕ). n - 1) sound.one_observer_each ∙ sym (swap_length k.names.observers i d);
     looking = looking_left;

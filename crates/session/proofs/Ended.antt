@@ -13,7 +13,8 @@ use Rattle.inc_value.specs.declared.node.ObsId.{ObsId}
 use Rattle.script_model.specs.Check.{Names, Unobserve}
 use Rattle.script_model.specs.Formula.{Meanings}
 use Rattle.script_model.specs.Step.{Moment, moved}
-use Rattle.script_graph.specs.Kept.{Kept, IsSound, without_functions}
+use Rattle.script_graph.specs.Kept.{Kept, without_functions}
+use Rattle.script_graph.specs.Sound.{IsSound}
 use Rattle.script_graph.specs.State.{MatchesMoment}
 use Rattle.script_graph.proofs.Ending.{ending_sound, ending_stands}
 use Rattle.session.proofs.Observed.{among_at, by_position}

@@ -29,7 +29,8 @@ use Rattle.script_graph.specs.Today.{maps_alone}
 use Rattle.session.specs.Today.{HasNoBodies}
 use Rattle.std.proofs.Math.Path.{fun_ext}
 use Rattle.node_arena.specs.Meanings.{KeepsKnown, SameKnown}
-use Rattle.script_graph.specs.Kept.{Kept, HasNode, IsSound, arena_of, without_functions}
+use Rattle.script_graph.specs.Kept.{Kept, arena_of, without_functions}
+use Rattle.script_graph.specs.Sound.{HaveNodes, IsSound}
 use Rattle.script_functions.specs.Bodies.{Body}
 use Rattle.script_functions.specs.Keeping.{Maker, is_known, makers, by_kind, side_in}
 use Rattle.script_functions.specs.KeepingLaws.{map_known, known_map}
@@ -44,7 +45,8 @@ same_sound : (k : Kept) → IsSound k → (g : Standing (Unit {0})) → g.nodes 
     → (accepted : ℕ) (broken : Option ℕ) → (broken ≡ None → IsUnbroken g) → IsSound (record k { accepted = accepted; broken = broken; graph = g })
 same_sound k sound g nodes observers accepted broken unbroken = record {
   one_node_each = sound.one_node_each;
-  has_nodes = λ n d at. subst (λ (a : Arena). HasNode a k.nodes n d) (sym nodes) (sound.has_nodes n d at);
+  has_nodes = subst (λ (a : Arena). HaveNodes a k.names.declared k.nodes) (sym nodes) sound.has_nodes;
+  today = sound.today;
   few = subst (λ (a : Arena). live a + k.room ≤ 1048575) (sym nodes) sound.few;
   one_observer_each = sound.one_observer_each;
   looking = λ o among. subst (λ (os : List Looking). IsSome (node_at os o)) (sym observers) (sound.looking o among);
