@@ -25,7 +25,7 @@ use Rattle.node_arena.specs.Arena.{Arena, row_at, live, IsVariable}
 use Rattle.node_arena.specs.Sound as arena
 use Rattle.node_arena.specs.Typing.{FitsNode, HasType}
 use Rattle.script_model.specs.Check.{Assign, Declare, Declared, Kind, Names, Variable as VariableKind, Grab as GrabKind, is_variable, kind_of_body, target_of_body}
-use Rattle.script_model.specs.Formula.{Body, meanings_of, places_of_body, Literal, Name, Apply, Fold, Variable, Computed}
+use Rattle.script_model.specs.Formula.{Body, meanings_of, places_of_body, Literal, Name, Apply, Fold, Bind, Variable, Computed}
 use Rattle.script_model.specs.Run.{calls_of_body}
 use Rattle.script_model.specs.Step.{Moment, declared_in, moved}
 use Rattle.script_model.specs.Values.{Value}
@@ -85,6 +85,7 @@ variable_of known names a nodes made body ty fits is kind = absurd fits
 -- what is declared is no grab
 no_grab : (known : FnRef → Bool) (names : Names) (body : Body) (ty : Ty) → BodyFits known names body ty → kind_of_body body ≡ GrabKind → ⊥
 no_grab known names (Variable v) ty fits is = cc
+no_grab known names (Computed (Bind left body) kept) ty fits is = fits.0
 no_grab known names (Computed f kept) ty fits is = cc
 no_grab known names body ty fits is = fits
 
