@@ -14,10 +14,8 @@ use Rattle.inc_value.specs.declared.outcome.Outcome as engine
 use Rattle.script_model.specs.Check.{Observe, declared_of, is_among, names_of}
 use Rattle.script_model.specs.Formula.{State, Entry, Body, Observer, Meanings, body_at}
 use Rattle.script_model.specs.Step.{Moment, moved, find_observer, new_observer, shown_by}
-use Rattle.script_model.specs.Values.{Int, Bool as Truth, Text, Reference, Outcome, Val, Invalid}
 use Rattle.script_graph.specs.Kept.{Kept, arena_of, node_in}
 use Rattle.script_graph.specs.Represents.{there_in, AreNames, IsObserver, IsShown, Watches}
-use Rattle.script_graph.specs.Today.{IsBaseOutcome}
 use Rattle.script_graph.specs.Settled.{StillDeclares}
 use Rattle.script_graph.specs.Shown.{ShowsIt}
 use Rattle.script_graph.specs.State.{MatchesMoment}
