@@ -96,14 +96,14 @@ module _ (x : Both) (plain : AllPlain x.state) where
 -- ---- the declarations whose mains are listed
 
 module _ (F : Meanings) (s : State) (k : Kept) (held : Represents F s k) (names : AreNames k.names s) where
-  main_passed : (p q : Point) (n : ℕ) → IsMainOf k q n → IsPassed (beside F s k) p q n
+  main_passed : (p q : Point) (n : ℕ) → IsMainOf k.names.declared k.nodes q n → IsPassed (beside F s k) p q n
   main_passed p q n (d, at, own, is) =
       let e = named_entry k.names s names.declared n d at in
       let target : target_of_body n e.0.body ≡ n = sym (held.targets n e.0 e.1) ∙ (ap (λ (c : Declared). c.target) e.2 ∙ own) in
       let body : body_at s n ≡ Some e.0.body = ap (λ (o : Option Entry). and_then o (λ (x : Entry). Some x.body)) e.1 in
       ((e.0.body, body, own_body s held.today.plain n e.0.body body target), is, no_root (beside F s k) held.today.plain p n)
 
-  passed_main : (p q : Point) (n : ℕ) → IsPassed (beside F s k) p q n → IsMainOf k q n
+  passed_main : (p q : Point) (n : ℕ) → IsPassed (beside F s k) p q n → IsMainOf k.names.declared k.nodes q n
   passed_main p q n ((b, body, own), is, root) =
       let e = body_entry s n b body in
       let target : e.0.target ≡ n = held.targets n e.0 e.1 ∙ (ap (target_of_body n) e.2 ∙ own_target n b own) in
@@ -113,7 +113,7 @@ module _ (F : Meanings) (s : State) (k : Kept) (held : Represents F s k) (names 
       (declared_of e.0, declared, target, is)
 
   -- they are the names that are passed
-  mains_passed : (p : Point) (points : List Point) (targets : List ℕ) → MainsIn k points targets → Passes (beside F s k) p points targets
+  mains_passed : (p : Point) (points : List Point) (targets : List ℕ) → MainsIn k.names.declared k.nodes points targets → Passes (beside F s k) p points targets
   mains_passed p [] targets mains = mains
   mains_passed p (q ∷ points) targets (inl (none, mains)) =
       inl (λ n passed. none n (passed_main p q n passed), mains_passed q points targets mains)
@@ -156,7 +156,7 @@ module _ (named : List ℕ → Option FnRef) (value : FnRef → List GraphValue 
     broken = record k { broken = Some 20; graph = g }
 
     circular : (points : List Point) (targets : List ℕ) → IsListed (graph_functions F) k.graph points
-        → ComesBack points → MainsIn k (behind_first points) targets
+        → ComesBack points → MainsIn k.names.declared k.nodes (behind_first points) targets
         → (first : ℕ) × (more : List ℕ) × (targets ≡ first ∷ more) × IsCircular F m broken (first ∷ (more ++ first ∷ [])) called calls
     circular [] targets listed back mains = absurd back.starts
     circular (p ∷ []) targets listed back mains = absurd (let long = back.long in omega (arith, long))
@@ -175,12 +175,12 @@ module _ (named : List ℕ → Option FnRef) (value : FnRef → List GraphValue 
         )
 
     pub circular_met : (met : Option Refused) (r : Refused) (targets : List ℕ) → met ≡ Some r → kept_of r ≡ fault.Cycle
-        → IsLawful (graph_functions F) k.graph r → CyclePasses k met targets
+        → IsLawful (graph_functions F) k.graph r → CyclePasses k.names.declared k.nodes met targets
         → (first : ℕ) × (more : List ℕ) × (targets ≡ first ∷ more) × IsCircular F m broken (first ∷ (more ++ first ∷ [])) called calls
     circular_met None r targets e cause lawful passes = absurd passes
     circular_met (Some (refused.Cycle points)) (refused.Cycle others) targets e cause lawful passes =
         let same : points ≡ others = cc in
-        circular others.items targets lawful.0 lawful.1 (subst (λ (v : _). MainsIn k (behind_first v.items) targets) same passes)
+        circular others.items targets lawful.0 lawful.1 (subst (λ (v : _). MainsIn k.names.declared k.nodes (behind_first v.items) targets) same passes)
     circular_met (Some (refused.Cycle points)) r targets e cause lawful passes = absurd (cc)
     circular_met (Some other) r targets e cause lawful passes = absurd passes
 
@@ -201,7 +201,7 @@ module _ {A : Type 0} (named : List ℕ → Option FnRef) (value : FnRef → Lis
       (subst (λ (M : Functions). IsLawful M old done.met) (sym (functions_are named value)) done.lawful))
 
   -- a stabilize of a session's graph that was refused for a cycle is one of its script
-  pub session_circular : (targets : List ℕ) (called calls : ℕ) → CyclePasses k new.refused targets
+  pub session_circular : (targets : List ℕ) (called calls : ℕ) → CyclePasses k.names.declared k.nodes new.refused targets
       → HasCalledMet (maps_alone (seen_value value)) old called calls → (first : ℕ) × (more : List ℕ) × (targets ≡ first ∷ more)
       × IsCircular (meanings_of named value) m (record k { broken = Some 20; graph = without_functions new }) (first ∷ (more ++ first ∷ [])) called calls
   session_circular targets called calls passes few =

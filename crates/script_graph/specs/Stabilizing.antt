@@ -1,5 +1,5 @@
 -- How a stabilize of a script ends.
-use Rattle.std.specs.Prelude.{◌≡◌, ◌⊎◌, ◌<◌, ◌≤◌, ◌+◌, ℕ, List, [], ◌∷◌, map, length, Option, Some, slice_get}
+use Rattle.std.specs.Prelude.{◌≡◌, ◌⊎◌, ◌<◌, ◌≤◌, ◌+◌, ℕ, List, [], ◌∷◌, ◌++◌, map, length, Option, Some, slice_get}
 use Rattle.height_order.specs.Chains.{StartsAt}
 use Rattle.inc_value.specs.declared.node.NodeId.{NodeId}
 use Rattle.inc_value.specs.declared.node.Point.{Point}
@@ -54,16 +54,17 @@ abbrev pub ChainBegins : Option Refused → Point → Type 0
 ChainBegins (Some (Height points)) p = StartsAt points.items p
 ChainBegins met p = ⊥
 
--- the point is the main of the node of this declaration, which is its own target
-abbrev pub IsMainOf : Kept → Point → ℕ → Type 0
-IsMainOf k p n = (d : Declared) × (slice_get k.names.declared n ≡ Some d) × (d.target ≡ n) × (p ≡ main (node_in k.nodes n))
+module _ (declared : List Declared) (nodes : List NodeId) where
+  -- the point is the main of the node of this declaration, which is its own target
+  abbrev pub IsMainOf : Point → ℕ → Type 0
+  IsMainOf p n = (d : Declared) × (slice_get declared n ≡ Some d) × (d.target ≡ n) × (p ≡ main (node_in nodes n))
 
--- the declarations whose mains stand in the list, in its order
-abbrev pub MainsIn : Kept → List Point → List ℕ → Type 0
-MainsIn k [] targets = targets ≡ []
-MainsIn k (p ∷ points) targets =
-    (((n : ℕ) → IsMainOf k p n → ⊥) × MainsIn k points targets)
-    ⊎ ((n : ℕ) × (more : List ℕ) × (targets ≡ n ∷ more) × IsMainOf k p n × MainsIn k points more)
+  -- the declarations whose mains stand in the list, in its order
+  abbrev pub MainsIn : List Point → List ℕ → Type 0
+  MainsIn [] targets = targets ≡ []
+  MainsIn (p ∷ points) targets =
+      (((n : ℕ) → IsMainOf p n → ⊥) × MainsIn points targets)
+      ⊎ ((n : ℕ) × (more : List ℕ) × (targets ≡ n ∷ more) × IsMainOf p n × MainsIn points more)
 
 -- the points without the first
 abbrev pub behind_first : List Point → List Point
@@ -71,9 +72,19 @@ behind_first [] = []
 behind_first (p ∷ points) = points
 
 -- the cycle of points that was met passes the mains of these declarations, each once
-abbrev pub CyclePasses : Kept → Option Refused → List ℕ → Type 0
-CyclePasses k (Some (Cycle points)) targets = MainsIn k (behind_first points.items) targets
-CyclePasses k met targets = ⊥
+abbrev pub CyclePasses : List Declared → List NodeId → Option Refused → List ℕ → Type 0
+CyclePasses declared nodes (Some (Cycle points)) targets = MainsIn declared nodes (behind_first points.items) targets
+CyclePasses declared nodes met targets = ⊥
+
+-- it is a cycle of points that was met
+abbrev pub IsCycleMet : Option Refused → Type 0
+IsCycleMet (Some (Cycle points)) = Unit {0}
+IsCycleMet met = ⊥
+
+-- a row of declarations that comes back to its first
+abbrev pub closed : List ℕ → List ℕ
+closed [] = []
+closed (n ∷ targets) = n ∷ (targets ++ n ∷ [])
 
 -- the node outside all scopes in whose right side a live node stands, or the node itself: today none stands in a scope
 abbrev pub IsOwner : Arena → NodeId → NodeId → Type 0

@@ -3,6 +3,7 @@ use Rattle.std.proofs.Common.{◌≡◌, ℕ, ◌≤◌, ◌^◌, Bool, List, []
 use Rattle.std.specs.Result.{IfOk, OnErr, OnOk}
 use Rattle.inc_value.specs.declared.function.FnRef.{FnRef}
 use Rattle.script_graph.specs.Kept.{Script}
+use Rattle.script_graph.specs.Stabilizing.{CyclePasses, IsCycleMet, closed}
 use Rattle.script_graph.specs.State.{MatchesMoment, Stands}
 use Rattle.script_model.specs.Check.{Command}
 use Rattle.script_model.specs.Check as check
@@ -14,18 +15,24 @@ use Rattle.script_model.specs.Step as model
 use Rattle.script_model.specs.Step.{Answers, Follows, Moment, Reply, Refused, Because, LineTooLong, NoCommand, LineTooDeep, number_of, printed}
 use Rattle.session.specs.Answered.{Extends, IsAnswered, verdict_on}
 use Rattle.session.specs.Carried.{CarriesOut, IsBeside, Performs, Refuses, EndsStabilize, TakesBytes, Treats}
-use Rattle.session.specs.Replies.{refused_line, stable_line, too_deep_line, name_in}
+use Rattle.session.specs.Replies.{cycle_line, refused_line, stable_line, too_deep_line, name_in}
 use Rattle.session.specs.Taken.{AsksStabilize, KeepsUnlessAccepted, Stops}
 use Rattle.session.specs.declared.answer.Did.{Did}
 use Rattle.session.specs.declared.answer.Did.TheVariants as did
 use Rattle.session.specs.declared.script.stabilizing.Stabilized.{Stabilized}
-use Rattle.session.specs.declared.script.stabilizing.Stabilized.TheVariants.{Accepted, TooDeep}
+use Rattle.session.specs.declared.script.stabilizing.Stabilized.TheVariants.{Accepted, Circular, TooDeep}
 use Rattle.session.proofs.Answering.{refused_with}
-use Rattle.session.proofs.Following.{followed_stabilize, nothing_more, refused_too_deep, stops_accepted, stops_cut_short, stops_standing, stops_too_deep}
+use Rattle.session.proofs.Failing.{on_ok_from}
+use Rattle.session.proofs.Following.{followed_stabilize, nothing_more, refused_circular, refused_too_deep, stops_accepted, stops_cut_short, stops_standing, stops_too_deep}
 
 -- a script is beside itself
 pub beside_itself : {L : Type 0} (s : Script L) → IsBeside 0 0 s s
 beside_itself s = record { library = refl; accepted = refl; broken = refl; given = omega arith; watching = omega arith }
+
+-- where a stabilize was refused for a cycle the graph has met one
+pub met_circular : {L E : Type 0} (meanings : L → Meanings) (known : L → FnRef → Bool) (calls : L → ℕ) (old there : Script L) (how : Result Stabilized E)
+    → how ≡ Ok Circular → EndsStabilize meanings known calls old there how → IsCycleMet there.kept.graph.refused
+met_circular meanings known calls old there how is done = let s = subst (EndsStabilize meanings known calls old there) is done in (s.circular refl).0
 
 module _ {L E : Type 0} (meanings : L → Meanings) (known : L → FnRef → Bool) (calls : L → ℕ) where
   -- ---- in any form
@@ -293,29 +300,28 @@ module _ {L E : Type 0} (meanings : L → Meanings) (known : L → FnRef → Boo
         st.keep st.valid asks (st.matches.broken ∙ unbroken))
         (nothing_more written appended same) tt
 
-    -- it was refused for the depth of a declaration, or there was no memory to say so, and the session is broken for want of it
-    pub performed_too_deep : (target : ℕ) → how ≡ Ok (TooDeep target) → (new : Script L) (result : Result Did E)
-        → IfOk result (λ h. h ≡ did.Refused 21) → OnOk result (appended ≡ written ++ too_deep_line (name_in there.kept.names target))
+    -- it was refused for what it met, or there was no memory to say so, and the session is broken for want of it
+    refused_so : (number : ℕ) → ((n : ℕ) → n ≡ number → (n ≡ 20 → ⊥) → (n ≡ 21 → ⊥) → ⊥) → (new : Script L) (result : Result Did E)
+        → IfOk result (λ h. h ≡ did.Refused number)
+        → OnOk result ((m : Moment) → Stands (meanings old.library) old.kept m
+        → IsAnswered (meanings old.library) m (Follows (meanings old.library) m (verdict_on m check.Stabilize)) there.kept written appended (calls old.library)
+        (calls there.library) (did.Refused number))
+        → ((m : Moment) (line : List ℕ) → Stands (meanings old.library) old.kept m → AsksStabilize line
+        → Stops (meanings old.library) m line (record there.kept { broken = Some 0 }) (calls old.library) (calls there.library))
         → OnErr result (Extends written appended) → OnOk result (new ≡ there)
         → OnErr result (new ≡ record there { kept = record there.kept { broken = Some 0 } })
         → Performs {E = E} meanings known calls check.Stabilize old new written appended result
-    performed_too_deep target is new (Ok h) number print extended same broken =
-        let s = subst (EndsStabilize meanings known calls old there) is done in
+    refused_so number breaks new (Ok h) is answered stops extended same broken =
         subst (λ (x : Script L). Performs {E = E} meanings known calls check.Stabilize old x written appended (Ok h)) (sym same)
-        (subst (λ (d : Did). Performs {E = E} meanings known calls check.Stabilize old there written appended (Ok d)) (sym number)
-        (carried_stabilize old there written appended how done unbroken (Ok (did.Refused 21))
-        (λ m st. refused_too_deep (meanings old.library) there.kept m target (calls old.library) (calls there.library)
-        (s.too_deep target refl m st) written appended print)
-        tt tt (λ cycle height. absurd (height refl))))
-    performed_too_deep target is new (Err e) number print extended same broken =
-        let s = subst (EndsStabilize meanings known calls old there) is done in
+        (subst (λ (d : Did). Performs {E = E} meanings known calls check.Stabilize old there written appended (Ok d)) (sym is)
+        (carried_stabilize old there written appended how done unbroken (Ok (did.Refused number)) answered tt tt
+        (λ cycle height. absurd (breaks number refl cycle height))))
+    refused_so number breaks new (Err e) is answered stops extended same broken =
         let observers = done.observers in
         let given = done.given in
         subst (λ (x : Script L). Performs {E = E} meanings known calls check.Stabilize old x written appended (Err e)) (sym broken) (record {
           answered = tt;
-          stopped = λ m line st asks.
-              stops_too_deep (meanings old.library) there.kept m target (calls old.library) (calls there.library) (s.too_deep target refl m st) line
-              st.keep st.valid (asks refl) (st.matches.broken ∙ unbroken);
+          stopped = λ m line st asks. stops m line st (asks refl);
           extended = extended;
           accepted = done.count;
           given = omega (arith, given);
@@ -327,3 +333,35 @@ module _ {L E : Type 0} (meanings : L → Meanings) (known : L → FnRef → Boo
           broken = λ broken. absurd (broken unbroken);
           functions = done.functions;
         })
+
+    -- it was refused for the depth of a declaration
+    pub performed_too_deep : (target : ℕ) → how ≡ Ok (TooDeep target) → (new : Script L) (result : Result Did E)
+        → IfOk result (λ h. h ≡ did.Refused 21) → OnOk result (appended ≡ written ++ too_deep_line (name_in there.kept.names target))
+        → OnErr result (Extends written appended) → OnOk result (new ≡ there)
+        → OnErr result (new ≡ record there { kept = record there.kept { broken = Some 0 } })
+        → Performs {E = E} meanings known calls check.Stabilize old new written appended result
+    performed_too_deep target is new result number print extended same broken =
+        let s = subst (EndsStabilize meanings known calls old there) is done in
+        refused_so 21 (λ n here cycle height. height here) new result number
+        (on_ok_from result print (λ print m st. refused_too_deep (meanings old.library) there.kept m target (calls old.library) (calls there.library)
+        (s.too_deep target refl m st) written appended print))
+        (λ m line st asks. stops_too_deep (meanings old.library) there.kept m target (calls old.library) (calls there.library)
+        (s.too_deep target refl m st) line st.keep st.valid asks (st.matches.broken ∙ unbroken))
+        extended same broken
+
+    -- it was refused for a cycle
+    pub performed_circular : how ≡ Ok Circular → (new : Script L) (result : Result Did E)
+        → IfOk result (λ h. h ≡ did.Refused 20)
+        → OnOk result ((targets : List ℕ) × CyclePasses there.kept.names.declared there.kept.nodes there.kept.graph.refused targets
+        × (appended ≡ written ++ cycle_line (name_in there.kept.names) (closed targets)))
+        → OnErr result (Extends written appended) → OnOk result (new ≡ there)
+        → OnErr result (new ≡ record there { kept = record there.kept { broken = Some 0 } })
+        → Performs {E = E} meanings known calls check.Stabilize old new written appended result
+    performed_circular is new result number print extended same broken =
+        let s = subst (EndsStabilize meanings known calls old there) is done in
+        refused_so 20 (λ n here cycle height. cycle here) new result number
+        (on_ok_from result print (λ told m st. refused_circular (meanings old.library) there.kept m (closed told.0) (calls old.library) (calls there.library)
+        ((s.circular refl).1 m told.0 st told.1) written appended told.2))
+        (λ m line st asks. stops_cut_short (meanings old.library) (record there.kept { broken = Some 0 }) m line (calls old.library) (calls there.library)
+        (s.unwritten refl m st) st.keep st.valid asks (st.matches.broken ∙ unbroken))
+        extended same broken

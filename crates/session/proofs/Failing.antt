@@ -1,6 +1,6 @@
 -- What holds where a call has failed, or has not.
 use Rattle.std.proofs.Common.{◌≡◌, true, false, Option, None, Some, refl}
-use Rattle.std.specs.Prelude.{Result, Ok, Err, is_err}
+use Rattle.std.specs.Prelude.{Result, Ok, Err, is_err, IfNone}
 use Rattle.std.specs.Result.{IfOk, OnErr, OnOk}
 
 -- what follows from what a call ensures, by how it ended
@@ -15,6 +15,10 @@ on_ok_from (Err e) a f = tt
 pub err_from : {T E P Q : Type 0} (r : Result T E) → OnErr r P → (P → Q) → OnErr r Q
 err_from (Ok x) p f = tt
 err_from (Err e) p f = f p
+
+pub if_none_from : {T P Q : Type 0} (o : Option T) → IfNone o P → (P → Q) → IfNone o Q
+if_none_from None p f = f p
+if_none_from (Some x) p f = tt
 
 -- what a call that failed doesn't owe
 pub no_ok : {T E : Type 0} (r : Result T E) (P : T → Type 0) → is_err r ≡ true → IfOk r P

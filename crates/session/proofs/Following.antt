@@ -17,7 +17,7 @@ use Rattle.script_model.specs.Laws.{ValidMoment}
 use Rattle.script_model.specs.Run as run
 use Rattle.script_model.specs.Run.{Halts, most_calls}
 use Rattle.script_model.specs.Settle.{Notice}
-use Rattle.script_model.specs.Step.{Moment, Reply, name_of, moved, reply_to, Done, Stable, Shown, Tells, Refused, Height, Because, Settle, Act, Refuse, printed, Follows, Stabilizes, settles, by_cycle, by_height, verdict_of}
+use Rattle.script_model.specs.Step.{Moment, Reply, name_of, moved, reply_to, Done, Stable, Shown, Tells, Refused, Height, Because, Cycle, Settle, Act, Refuse, printed, Follows, Stabilizes, settles, by_cycle, by_height, verdict_of}
 use Rattle.script_model.specs.Values.{Outcome, Val, Invalid, Int, Text, Reference, printed_outcome}
 use Rattle.script_model.specs.Valid.{KeepToTypes}
 use Rattle.script_model.specs.Values as values
@@ -26,12 +26,12 @@ use Rattle.script_graph.specs.Kept.{Kept, node_in}
 use Rattle.script_graph.specs.Represents.{AreNames}
 use Rattle.script_graph.specs.Today.{IsBaseOutcome}
 use Rattle.script_graph.specs.Shown.{ShowsIt, ShowsNothing}
-use Rattle.script_graph.specs.Stabilizing.{IsAccepted, IsTooDeep, IsCutShort}
+use Rattle.script_graph.specs.Stabilizing.{IsAccepted, IsCircular, IsTooDeep, IsCutShort}
 use Rattle.script_graph.specs.State.{MatchesMoment, Stands}
 use Rattle.script_graph.proofs.CuttingShort.{broken_matches}
 use Rattle.transfer.specs.Both.{graph_outcome, graph_value}
 use Rattle.session.specs.Answered.{Extends, IsAnswered, verdict_on}
-use Rattle.session.specs.Replies.{line_of, done_line, shown_line, refused_line, stable_line, too_deep_line, name_in}
+use Rattle.session.specs.Replies.{line_of, cycle_line, done_line, named_of, shown_line, refused_line, stable_line, too_deep_line, name_in}
 use Rattle.session.specs.Taken.{AsksStabilize, Stops}
 use Rattle.session.specs.declared.answer.Did.TheVariants as did
 
@@ -257,6 +257,35 @@ module _ (F : Meanings) (new : Kept) (m : Moment) (target called calls : ℕ) (h
       broken_matches F h.after new new.graph 0 (record { nodes = refl; observers = refl; rooted = refl }) h.matches in
       stops_broken F (record new { broken = Some 0 }) m line called calls keep valid asks unbroken
       (subst (λ (x : Moment). MatchesMoment F (record new { broken = Some 0 }) (record x { broken = Some 0 })) is there) h.within
+
+-- names of declarations that are the same give the same line
+cycle_names : (names names' : ℕ → List ℕ) → ((n : ℕ) → names n ≡ names' n) → (targets : List ℕ)
+    → flat_map (named_of names) targets ≡ flat_map (named_of names') targets
+cycle_names names names' same [] = refl
+cycle_names names names' same (n ∷ targets) =
+    ap (λ (l : List ℕ). (codes " " ++ l) ++ flat_map (named_of names) targets) (same n)
+    ∙ ap (λ (l : List ℕ). named_of names' n ++ l) (cycle_names names names' same targets)
+
+module _ (F : Meanings) (new : Kept) (m : Moment) (targets : List ℕ) (called calls : ℕ) (h : IsCircular F m new targets called calls) where
+  abbrev cycle : Reply
+  cycle = Refused (Cycle targets)
+
+  pub refused_circular : (written appended : List ℕ) → appended ≡ written ++ cycle_line (name_in new.names) targets
+      → IsAnswered F m (Follows F m (verdict_on m Stabilize)) new written appended called calls (did.Refused 20)
+  refused_circular written appended print =
+      let same = cycle_names (name_in new.names) (name_of h.after.present) (λ n. name_there new.names h.after.present n h.matches.names) targets in
+      record {
+        after = h.after;
+        replies = cycle ∷ [];
+        leads = h.stabilizes;
+        work = most_calls m.present;
+        due = omega arith;
+        matches = h.matches;
+        printed_are = appended_one h.after.present written appended cycle
+            (print ∙ ap (λ (l : List ℕ). written ++ line_of (codes "refused 20 cycle" ++ l)) same);
+        within = h.within;
+        says = (Cycle targets, refl, refl);
+      }
 
 -- where the stabilize itself finds none
 pub stops_cut_short : (F : Meanings) (new : Kept) (m : Moment) (line : List ℕ) (called calls : ℕ) → IsCutShort F m new called calls

@@ -7,6 +7,7 @@ mod Failing
 mod Following
 mod InTurn
 mod Keeping
+mod Passing
 mod Observed
 mod Requests
 mod Stabilized

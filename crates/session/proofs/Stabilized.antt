@@ -1,5 +1,5 @@
 -- What is kept of a script once a stabilize ended, and the faults that don't come.
-use Rattle.std.proofs.Common.{◌≡◌, Bool, ℕ, ◌+◌, ◌≤◌, ◌^◌, List, [], ◌∷◌, arith, Option, None, Some, IsSome, Result, Err, IsErrOf, IsTrue, refl, ap, sym, subst, ◌∙◌}
+use Rattle.std.proofs.Common.{◌≡◌, Bool, ℕ, ◌+◌, ◌≤◌, ◌^◌, List, [], ◌∷◌, ◌++◌, arith, Option, None, Some, IsSome, Result, Err, IsErrOf, IsTrue, refl, ap, sym, subst, ◌∙◌}
 use Rattle.graph.specs.Fault.{kept_of}
 use Rattle.graph.specs.Stabilizes.{Stabilizes, IsRefusedFor, HasCalledMet, left_by}
 use Rattle.graph.proofs.Still as still
@@ -34,7 +34,9 @@ use Rattle.script_graph.specs.Sound.{HaveNodes, IsSound}
 use Rattle.script_functions.specs.Bodies.{Body}
 use Rattle.script_functions.specs.Keeping.{Maker, is_known, makers, by_kind, side_in}
 use Rattle.script_functions.specs.KeepingLaws.{map_known, known_map}
-use Rattle.script_graph.specs.Stabilizing.{ChainBegins, IsFirstNotOlder, AllOlder}
+use Rattle.script_graph.specs.Stabilizing.{ChainBegins, IsCircular, IsCycleMet, IsFirstNotOlder, AllOlder, closed}
+use Rattle.script_model.specs.Formula.{Meanings}
+use Rattle.script_model.specs.Step.{Moment}
 use Rattle.stabilizer.specs.declared.refused.Refused.{Refused}
 use Rattle.stabilizer.specs.declared.refused.Refused.TheVariants as refused
 
@@ -88,6 +90,22 @@ met_memory refused.Memory e = refl
 
 pub memory_met : {A : Type 0} (M : Functions) (old new : Standing A) → IsRefusedFor M old new cause.Memory → new.refused ≡ Some refused.Memory
 memory_met M old new done = done.broken ∙ ap (λ (r : Refused). Some r) (met_memory done.met done.is_cause)
+
+-- what was met where it was a cycle
+met_cycle : (met : Refused) → kept_of met ≡ cause.Cycle → IsCycleMet (Some met)
+met_cycle (refused.Cycle points) e = tt
+met_cycle (refused.Height points) e = absurd (cc)
+met_cycle refused.Full e = absurd (cc)
+met_cycle refused.Memory e = absurd (cc)
+
+pub cycle_met : {A : Type 0} (M : Functions) (old new : Standing A) → IsRefusedFor M old new cause.Cycle → IsCycleMet new.refused
+cycle_met M old new done = subst IsCycleMet (sym done.broken) (met_cycle done.met done.is_cause)
+
+-- the declarations that it passes are told with the first once more at their end
+pub circular_closed : (F : Meanings) (m : Moment) (k : Kept) (targets : List ℕ) (first : ℕ) (more : List ℕ) (called calls : ℕ) → targets ≡ first ∷ more
+    → IsCircular F m k (first ∷ (more ++ first ∷ [])) called calls → IsCircular F m k (closed targets) called calls
+circular_closed F m k targets first more called calls is circular =
+    subst (λ (ts : List ℕ). IsCircular F m k (closed ts) called calls) (sym is) circular
 
 -- ---- where a chain begins
 

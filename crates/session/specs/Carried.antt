@@ -2,7 +2,7 @@
 use Rattle.std.specs.Prelude.{◌≡◌, ◌≤◌, ◌<◌, ◌+◌, ◌-◌, ◌^◌, ◌++◌, ℕ, Bool, List, length, None, Some, IfOk, OnOk, OnErr, IsTrue, Result}
 use Rattle.inc_value.specs.declared.function.FnRef.{FnRef}
 use Rattle.script_graph.specs.Kept.{Kept, Script, arena_of}
-use Rattle.script_graph.specs.Stabilizing.{IsAccepted, IsCutShort, IsTooDeep}
+use Rattle.script_graph.specs.Stabilizing.{CyclePasses, IsAccepted, IsCircular, IsCutShort, IsCycleMet, IsTooDeep, closed}
 use Rattle.script_graph.specs.State.{Stands}
 use Rattle.script_model.specs.Check as check
 use Rattle.script_model.specs.Check.{Command}
@@ -15,7 +15,7 @@ use Rattle.session.specs.Taken.{AsksStabilize, KeepsUnlessAccepted, Stops}
 use Rattle.session.specs.declared.answer.Did.{Did}
 use Rattle.session.specs.declared.answer.Did.TheVariants as did
 use Rattle.session.specs.declared.script.stabilizing.Stabilized.{Stabilized}
-use Rattle.session.specs.declared.script.stabilizing.Stabilized.TheVariants.{Accepted, TooDeep}
+use Rattle.session.specs.declared.script.stabilizing.Stabilized.TheVariants.{Accepted, Circular, TooDeep}
 use Rattle.stabilizer.specs.declared.refused.Refused.TheVariants.{Memory}
 
 -- what is kept is within the bounds of one line more: the count of stabilizes, ids of nodes and observers are not at their last
@@ -95,7 +95,14 @@ module _ {L E : Type 0} (meanings : L → Meanings) (known : L → FnRef → Boo
     -- or it was refused for the depth of a declaration
     pub too_deep : IfOk result (λ how. (target : ℕ) → how ≡ TooDeep target → (m : Moment) → Stands (meanings old.library) old.kept m
         → IsTooDeep (meanings old.library) m new.kept target (calls old.library) (calls new.library))
-    -- which is one of the declarations
+    -- or it was refused for a cycle: the graph tells one, and the declarations whose mains it passes are one of the script, the first once more at its end
+    pub circular : IfOk result (λ how. how ≡ Circular → IsCycleMet new.kept.graph.refused
+        × ((m : Moment) (targets : List ℕ) → Stands (meanings old.library) old.kept m → CyclePasses new.kept.names.declared new.kept.nodes new.kept.graph.refused targets
+        → IsCircular (meanings old.library) m new.kept (closed targets) (calls old.library) (calls new.library)))
+    -- where no memory is found for the names of a cycle it is cut short
+    pub unwritten : IfOk result (λ how. how ≡ Circular → (m : Moment) → Stands (meanings old.library) old.kept m
+        → IsCutShort (meanings old.library) m (record new.kept { broken = Some 0 }) (calls old.library) (calls new.library))
+    -- too deep is one of the declarations
     pub target : IfOk result (λ how. (target : ℕ) → how ≡ TooDeep target → target < length new.kept.names.declared)
     -- or cut short
     pub cut_short : OnErr result ((m : Moment) → Stands (meanings old.library) old.kept m

@@ -1,5 +1,5 @@
 //! What a line is answered with, and what it does.
-ghost use Rattle.std.specs.Prelude.{IsTrue, true, ◌≡◌, ◌<◌, ◌+◌, ◌-◌, ◌++◌, ◌^◌, None, Some, length, IfOk, OnOk, OnErr};
+ghost use Rattle.std.specs.Prelude.{IsTrue, true, ◌≡◌, ◌<◌, ◌+◌, ◌-◌, ◌++◌, ◌^◌, ℕ, List, None, Some, length, IfOk, OnOk, OnErr};
 ghost use Rattle.formula_lang.specs.CommandView.{body_view, command_view, constant_view};
 ghost use Rattle.formula_lang.specs.Fits.{AssignmentFits, DeclarationFits, FitsNames, ObserverFits};
 ghost use Rattle.line_parser.specs.TreeView.{line_view};
@@ -10,10 +10,11 @@ ghost use Rattle.script_model.specs.Request.{IsRequest};
 ghost use Rattle.script_model.specs.Values.{type_of};
 ghost use Rattle.session.specs.Answered.{Extends};
 ghost use Rattle.session.specs.Carried.{HasRoom, Performs, Refuses, TakesBytes, Treats};
-ghost use Rattle.session.specs.Replies.{broken_line, refused_line, too_deep_line, name_in};
+ghost use Rattle.session.specs.Replies.{broken_line, cycle_line, refused_line, too_deep_line, name_in};
 ghost use Rattle.session.specs.RequestView.{request_view};
 ghost use Rattle.session.specs.declared.answer.Did.TheVariants.{Refused};
 ghost use Rattle.script_graph.specs.Kept.{arena_of};
+ghost use Rattle.script_graph.specs.Stabilizing.{CyclePasses, IsCycleMet, closed};
 
 use crate::places::room_behind_body;
 use crate::refusal::Refusal;
@@ -264,8 +265,34 @@ fn stabilize<L: Library>(
             Ok(()) => Ok(Did::Accepted),
             Err(fault) => Err(fault),
         },
+        Ok(Stabilized::Circular) => refuse_circular(alloc, script, out),
         Ok(Stabilized::TooDeep { target }) => refuse_too_deep(alloc, script, target, out),
         Err(fault) => Err(fault),
+    }
+}
+
+/// Refuses a stabilize for a cycle of declarations. Without memory the session is broken for want of it.
+fn refuse_circular<L: Library>(
+    alloc: Global,
+    script: &mut Script<L>,
+    out: &mut Vec<u8>,
+) -> Result<Did, AllocError>
+    requires met { IsCycleMet script.old.kept.graph.refused }
+    ensures how { IfOk result (λ how. how ≡ Refused 20) }
+    ensures written { OnOk result ((targets : List ℕ) × CyclePasses script.old.kept.names.declared script.old.kept.nodes
+        script.old.kept.graph.refused targets
+        × (out.new.items ≡ out.old.items ++ cycle_line (name_in script.old.kept.names) (closed targets))) }
+    ensures unwritten { OnErr result (Extends out.old.items out.new.items) }
+    ensures ok { OnOk result (script.new ≡ script.old) }
+    ensures broken { OnErr result (script.new ≡ record script.old { kept = record script.old.kept { broken = Some 0 } }) }
+{
+    let written = script.write_cycle(out);
+    match written {
+        Ok(()) => Ok(Did::Refused(20)),
+        Err(fault) => {
+            script.break_with(0);
+            Err(fault)
+        }
     }
 }
 

@@ -7,6 +7,7 @@ ghost use Rattle.script_graph.specs.State.{Stands};
 ghost use Rattle.session.specs.Replies.{name_in};
 
 mod declaring;
+mod naming;
 mod observing;
 mod setting;
 mod stabilizing;
@@ -14,6 +15,7 @@ mod stabilizing;
 use formula_lang::Names;
 use graph::{Graph, GraphFault};
 use inc_value::{NodeId, ObsId};
+use naming::name_at;
 use node_arena::Library;
 use script_functions::ScriptFns;
 pub(crate) use stabilizing::Stabilized;
@@ -115,10 +117,7 @@ impl<L: Library> Script<L> {
     pub(crate) fn name_at(&self, position: usize) -> &[u8]
         ensures { result.now ≡ name_in self.now.kept.names position }
     {
-        if position < self.names.len() {
-            return self.names.get(position).name.bytes();
-        }
-        b""
+        name_at(&self.names, position)
     }
 
     /// The node of each declaration.

@@ -1,5 +1,5 @@
 //! Observers of a script.
-ghost use Rattle.std.specs.Prelude.{ℕ, ◌≡◌, ◌<◌, ◌+◌, ◌-◌, ◌^◌, ◌++◌, ◌∷◌, [], length, None, Some, IfSome, IfNone, OnOk, OnErr, IsTrue, IsFalse};
+ghost use Rattle.std.specs.Prelude.{ℕ, ◌≡◌, ◌<◌, ◌+◌, ◌-◌, ◌^◌, ◌++◌, ◌∷◌, [], length, None, Some, IfSome, IfNone, OnOk, OnErr, IsTrue};
 ghost use Rattle.formula_lang.specs.Fits.{ObserverFits};
 ghost use Rattle.graph.specs.Effects.{Observes};
 ghost use Rattle.graph.specs.Standing.{IsUnbroken};
@@ -12,12 +12,10 @@ ghost use Rattle.script_model.specs.Check.{Observe, Unobserve, is_among};
 ghost use Rattle.script_model.specs.Formula.{Meanings};
 ghost use Rattle.script_model.specs.Step.{Moment, moved};
 ghost use Rattle.session.specs.Carried.{IsBeside};
-ghost use Rattle.session.specs.Replies.{IsOwnNode, IsReferredName, referred_node};
 
 use super::{Script, or_no_memory};
-use formula_lang::Names;
 use graph::Graph;
-use inc_value::{NodeId, ObsId, Outcome, Value};
+use inc_value::{NodeId, ObsId, Outcome};
 use node_arena::Library;
 use script_functions::ScriptFns;
 use std::alloc::AllocError;
@@ -65,19 +63,6 @@ impl<L: Library> Script<L> {
         self.names.end(name);
     }
 
-    /// The name that is printed of a reference: that of the declaration whose own node it is to; nothing of what is none.
-    pub(crate) fn referred_name(&self, outcome: &Outcome) -> &[u8]
-        ensures { IsReferredName self.now.kept.names self.now.kept.nodes (referred_node outcome.now) result.now }
-    {
-        let Some(node) = referred_node(outcome) else {
-            return b"";
-        };
-        match own_declaration(&self.names, &self.nodes, node) {
-            Some(position) => self.name_at(position),
-            None => b"",
-        }
-    }
-
     /// What the observer of a name in use shows, once a stabilize was accepted since it was made.
     pub(crate) fn shown(&self, name: &[u8]) -> Option<&Outcome>
         requires in_use { IsTrue (is_among self.now.kept.names.observers name.now) }
@@ -94,40 +79,6 @@ impl<L: Library> Script<L> {
             Err(_) => None,
         }
     }
-}
-
-/// The node that a reference is to; none of what is no reference.
-fn referred_node(outcome: &Outcome) -> Option<NodeId>
-    ensures { result ≡ referred_node outcome.now }
-{
-    match outcome {
-        Outcome::Val(Value::Node(node, _)) => Some(*node),
-        _ => None,
-    }
-}
-
-/// The declaration that stands for itself whose node it is.
-fn own_declaration(names: &Names, nodes: &[NodeId], node: NodeId) -> Option<usize>
-    requires one_each { length nodes.now ≡ length names.now.declared }
-    ensures some { IfSome result (IsOwnNode names.entry.now nodes.now node) }
-    ensures none { IfNone result ((position : ℕ) → IsOwnNode names.entry.now nodes.now node position → ⊥) }
-{
-    for position in 0..nodes.len() {
-        if is_own_node(names, nodes, node, position) {
-            return Some(position);
-        }
-    }
-    None
-}
-
-/// Whether the declaration at a position stands for itself and has the node.
-fn is_own_node(names: &Names, nodes: &[NodeId], node: NodeId, position: usize) -> bool
-    requires one_each { length nodes.now ≡ length names.now.declared }
-    requires within { position < length nodes.now }
-    ensures yes { IsTrue result → IsOwnNode names.entry.now nodes.now node position }
-    ensures no { IsFalse result → IsOwnNode names.entry.now nodes.now node position → ⊥ }
-{
-    names.get(position).target == position && nodes[position] == node
 }
 
 /// Observes a node, as the last observer's. Without memory nothing changes.

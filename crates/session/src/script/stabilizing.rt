@@ -17,6 +17,8 @@ use std::alloc::AllocError;
 pub(crate) enum Stabilized {
     /// It was accepted.
     Accepted,
+    /// It was refused for a cycle, which the graph tells.
+    Circular,
     /// It was refused for a chain of points that is too long, which begins in the formula of this declaration.
     TooDeep { target: usize },
 }
@@ -51,10 +53,9 @@ impl<L: Library> Script<L> {
                 self.broken = Some(0);
                 Err(AllocError)
             }
-            // No name of a script leads back to itself, so that this never comes.
             Err(StabilizeFault::Refused(Kept::Cycle)) => {
-                self.broken = Some(0);
-                Err(AllocError)
+                self.broken = Some(20);
+                Ok(Stabilized::Circular)
             }
             // An unbroken graph meets none of these.
             Err(StabilizeFault::Refused(Kept::Full)) => unreachable!(),

@@ -2,14 +2,14 @@ use Rattle.std.proofs.Common.{◌≡◌, Err, refl, ap, ◌∙◌, arith}
 use Rattle.graph.specs.declared.fault.Kept.TheVariants as cause
 use Rattle.graph.specs.declared.fault.StabilizeFault.{StabilizeFault}
 use Rattle.script_graph.proofs.Accepting.{session_accepted}
-use Rattle.script_graph.proofs.Circling.{session_no_cycle}
+use Rattle.script_graph.proofs.Circling.{session_circular}
 use Rattle.script_graph.proofs.CuttingShort.{refused_keeps, session_cut_short, never_for_full}
 use Rattle.script_graph.proofs.Functions.{same_meanings}
 use Rattle.script_graph.proofs.TooDeep.{session_too_deep, session_not_all_older}
 use Rattle.script_model.specs.Formula.{meanings_of}
 use Rattle.script_model.specs.Values.{seen_value}
 use Rattle.session.proofs.Observed.{not_broken}
-use Rattle.session.proofs.Stabilized.{library_still_knows, accepted_sound, few_given, refused_sound, refused_for, memory_met, first_of, none_of}
+use Rattle.session.proofs.Stabilized.{library_still_knows, accepted_sound, few_given, refused_sound, refused_for, circular_closed, cycle_met, memory_met, first_of, none_of}
 use Rattle.session.proofs.Stabilized.{alone_stabilizes, alone_refused, alone_called, costs_still}
 use Rattle.session.proofs.script.Script.stabilize.Goals as goal
 
@@ -34,6 +34,8 @@ returns-in-Ok g c =
           (costs_still c.self.inside.graph new c.in-Ok.ensures.brought.nodes new.ran (g.L.Library.calls l) (g.L.Library.calls new.functions.library)
           c.in-Ok.ensures.calls) m stands;
       too_deep = λ target is. absurd (cc);
+      circular = λ is. absurd (cc);
+      unwritten = λ is. absurd (cc);
       target = λ target is. absurd (cc);
       cut_short = tt;
       for_memory = tt;
@@ -74,6 +76,8 @@ returns-in-Some g c =
           (first_of new.refused c.self.inside.nodes.items c.deref.result.now c.deref.ensures.value c.in-Some.target target same
           c.in-Some.ensures.found) (alone_called (g.L.Library.value l) c.self.inside.graph.functions.bodies.items c.self.invariant.1 c.self.inside.graph new done.nodes (g.L.Library.calls l)
           (g.L.Library.calls new.functions.library) (c.stabilize.ensures.few cause.Height for)) m stands;
+      circular = λ is. absurd (cc);
+      unwritten = λ is. absurd (cc);
       target = λ target is.
           let same : c.in-Some.target ≡ target = cc in
           let many = c.self.invariant.0.one_node_each in
@@ -112,6 +116,8 @@ returns-in-None g c =
     rw (← c.self.view_is) (record {
       accepted = tt;
       too_deep = tt;
+      circular = tt;
+      unwritten = tt;
       target = tt;
       cut_short = λ m stands.
           session_cut_short (meanings_of (g.L.Library.named l) (g.L.Library.value l)) _ c.self.inside.graph new (g.L.Library.calls l)
@@ -151,6 +157,8 @@ returns-in-Err-Refused-Memory g c =
     rw (← c.self.view_is) (record {
       accepted = tt;
       too_deep = tt;
+      circular = tt;
+      unwritten = tt;
       target = tt;
       cut_short = λ m stands.
           session_cut_short (meanings_of (g.L.Library.named l) (g.L.Library.value l)) _ c.self.inside.graph new (g.L.Library.calls l)
@@ -166,7 +174,7 @@ returns-in-Err-Refused-Memory g c =
       functions = same_meanings _ _ (g.L.Library.value l) (g.L.Library.value new.functions.library) c.stabilize.ensures.names c.stabilize.ensures.values;
     })
 
--- ---- refused for a cycle, which never comes
+-- ---- refused for a cycle
 
 pub invariant_of-self-in-Err-Refused-Cycle : goal.invariant_of-self-in-Err-Refused-Cycle
 invariant_of-self-in-Err-Refused-Cycle g c =
@@ -185,17 +193,25 @@ returns-in-Err-Refused-Cycle g c =
     let l = c.self.inside.graph.functions.library in
     let new = c.stabilize.new.self in
     let unbroken = rw (← c.self.view_is) at c.requires.unbroken in
+    let called = alone_called (g.L.Library.value l) c.self.inside.graph.functions.bodies.items c.self.invariant.1 c.self.inside.graph new done.nodes
+    (g.L.Library.calls l) (g.L.Library.calls new.functions.library) (c.stabilize.ensures.few cause.Cycle for) in
     rw (← c.self.view_is) (record {
-      accepted = tt;
-      too_deep = tt;
-      target = tt;
-      cut_short = λ m stands.
+      accepted = λ is. absurd (cc);
+      too_deep = λ target is. absurd (cc);
+      circular = λ is. (
+        cycle_met _ c.self.inside.graph new done,
+        λ m targets stands passes.
+            let c' = session_circular (g.L.Library.named l) (g.L.Library.value l) _ _ c.self.inside.graph new refl unbroken
+            c.keeps_sound.ensures.sound (alone_refused (g.L.Library.value l) c.self.inside.graph.functions.bodies.items c.self.invariant.1
+            c.self.inside.graph new cause.Cycle done) m stands targets (g.L.Library.calls l) (g.L.Library.calls new.functions.library) passes called in
+            circular_closed _ m _ targets c'.0 c'.1 _ _ c'.2 c'.3,
+      );
+      unwritten = λ is m stands.
           session_cut_short (meanings_of (g.L.Library.named l) (g.L.Library.value l)) _ c.self.inside.graph new (g.L.Library.calls l)
-          (g.L.Library.calls new.functions.library) refl (refused_keeps done) (alone_called (g.L.Library.value l) c.self.inside.graph.functions.bodies.items c.self.invariant.1 c.self.inside.graph new done.nodes (g.L.Library.calls l)
-          (g.L.Library.calls new.functions.library) (c.stabilize.ensures.few cause.Cycle for)) m stands.matches;
-      for_memory = λ m stands. absurd (
-          session_no_cycle (g.L.Library.named l) (g.L.Library.value l) _ _ c.self.inside.graph new refl unbroken
-          c.keeps_sound.ensures.sound (alone_refused (g.L.Library.value l) c.self.inside.graph.functions.bodies.items c.self.invariant.1 c.self.inside.graph new cause.Cycle done) m stands);
+          (g.L.Library.calls new.functions.library) refl (refused_keeps done) called m stands.matches;
+      target = λ target is. absurd (cc);
+      cut_short = tt;
+      for_memory = tt;
       count = omega arith;
       names = refl;
       given = few_given _ _ done.nodes;

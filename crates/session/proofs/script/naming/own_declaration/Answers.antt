@@ -1,6 +1,6 @@
 use Rattle.std.proofs.Common.{arith}
 use Rattle.std.proofs.lemmas.Option.{slice_get_within}
-use Rattle.session.proofs.script.observing.own_declaration.Goals as goal
+use Rattle.session.proofs.script.naming.own_declaration.Goals as goal
 
 pub returns-clause-none : goal.returns-clause-none
 returns-clause-none c position own =

@@ -1,0 +1,189 @@
+//! The declarations whose nodes a graph tells: those that references are to, and those that a cycle passes.
+ghost use Rattle.std.specs.Prelude.{ℕ, ◌≡◌, ◌<◌, ◌++◌, List, [], length, IfOk, IfSome, IfNone, OnOk, OnErr, IsTrue, IsFalse, None, Some};
+ghost use Rattle.script_graph.specs.Stabilizing.{CyclePasses, IsCycleMet, IsMainOf, MainsIn, behind_first, closed};
+ghost use Rattle.session.specs.Naming.{NamesMain, closing_name, either_of};
+ghost use Rattle.session.specs.Replies.{IsOwnNode, IsReferredName, cycle_line, name_in, named_of, referred_node};
+
+use super::Script;
+use formula_lang::Names;
+use graph::Refused;
+use inc_value::{NodeId, Outcome, Part, Point, Value};
+use node_arena::Library;
+use std::alloc::{AllocError, Global};
+
+impl<L: Library> Script<L> {
+    /// The name that is printed of a reference: that of the declaration whose own node it is to; nothing of what is none.
+    pub(crate) fn referred_name(&self, outcome: &Outcome) -> &[u8]
+        ensures { IsReferredName self.now.kept.names self.now.kept.nodes (referred_node outcome.now) result.now }
+    {
+        let Some(node) = referred_node(outcome) else {
+            return b"";
+        };
+        match own_declaration(&self.names, &self.nodes, node) {
+            Some(position) => self.name_at(position),
+            None => b"",
+        }
+    }
+
+    /// Appends the reply to a stabilize that was refused for a cycle: the declarations whose mains it passes, by their names, and the first of them
+    /// once more.
+    pub(crate) fn write_cycle(&self, out: &mut Vec<u8>) -> Result<(), AllocError>
+        requires met { IsCycleMet self.now.kept.graph.refused }
+        ensures ok { OnOk result ((targets : List ℕ) × CyclePasses self.now.kept.names.declared self.now.kept.nodes
+            self.now.kept.graph.refused targets
+            × (out.new.items ≡ out.old.items ++ cycle_line (name_in self.now.kept.names) (closed targets))) }
+        ensures err { OnErr result (out.new.items ≡ out.old.items) }
+    {
+        match self.graph.broken() {
+            Some(Refused::Cycle(points)) => {
+                write_passed(
+                    self.alloc,
+                    &self.names,
+                    &self.nodes,
+                    behind_first(points),
+                    out,
+                )
+            }
+            _ => unreachable!(),
+        }
+    }
+}
+
+/// The node that a reference is to; none of what is no reference.
+fn referred_node(outcome: &Outcome) -> Option<NodeId>
+    ensures { result ≡ referred_node outcome.now }
+{
+    match outcome {
+        Outcome::Val(Value::Node(node, _)) => Some(*node),
+        _ => None,
+    }
+}
+
+/// The declaration that stands for itself whose node it is.
+fn own_declaration(names: &Names, nodes: &[NodeId], node: NodeId) -> Option<usize>
+    requires one_each { length nodes.now ≡ length names.now.declared }
+    ensures some { IfSome result (IsOwnNode names.entry.now nodes.now node) }
+    ensures none { IfNone result ((position : ℕ) → IsOwnNode names.entry.now nodes.now node position → ⊥) }
+{
+    for position in 0..nodes.len() {
+        if is_own_node(names, nodes, node, position) {
+            return Some(position);
+        }
+    }
+    None
+}
+
+/// Whether the declaration at a position stands for itself and has the node.
+fn is_own_node(names: &Names, nodes: &[NodeId], node: NodeId, position: usize) -> bool
+    requires one_each { length nodes.now ≡ length names.now.declared }
+    requires within { position < length nodes.now }
+    ensures yes { IsTrue result → IsOwnNode names.entry.now nodes.now node position }
+    ensures no { IsFalse result → IsOwnNode names.entry.now nodes.now node position → ⊥ }
+{
+    names.get(position).target == position && nodes[position] == node
+}
+
+/// The points without the first.
+fn behind_first(points: &[Point]) -> &[Point]
+    ensures { result.now ≡ behind_first points.now }
+{
+    match points {
+        [_, rest @ ..] => rest,
+        [] => points,
+    }
+}
+
+/// The declaration whose main the point is, which stands for itself.
+fn main_of(names: &Names, nodes: &[NodeId], point: Point) -> Option<usize>
+    requires one_each { length nodes.now ≡ length names.now.declared }
+    ensures some { IfSome result (IsMainOf names.entry.now.declared nodes.now point) }
+    ensures none { IfNone result ((n : ℕ) → IsMainOf names.entry.now.declared nodes.now point n → ⊥) }
+{
+    match point.part {
+        Part::Main => own_declaration(names, nodes, point.node),
+        Part::Change => None,
+    }
+}
+
+/// Appends the reply to a stabilize that was refused for a cycle: the declarations whose mains stand among the points, by their names, and the first
+/// of them once more.
+fn write_passed(
+    alloc: Global,
+    names: &Names,
+    nodes: &[NodeId],
+    points: &[Point],
+    out: &mut Vec<u8>,
+) -> Result<(), AllocError>
+    requires one_each { length nodes.now ≡ length names.now.declared }
+    ensures ok { OnOk result ((targets : List ℕ) × MainsIn names.entry.now.declared nodes.now points.now targets
+        × (out.new.items ≡ out.old.items ++ cycle_line (name_in names.entry.now) (closed targets))) }
+    ensures err { OnErr result (out.new.items ≡ out.old.items) }
+{
+    let mut line = Vec::new(alloc);
+    line.extend_from_slice(b"refused 20 cycle")?;
+    let mut first = None;
+    for point in points {
+        first = write_main(names, nodes, *point, first, &mut line)?;
+    }
+    write_first(names, first, &mut line)?;
+    line.push(b'\n')?;
+    out.extend_from_slice(&line)
+}
+
+/// Appends a space and the name of the declaration whose main the point is, if it is that of one. The answer is the first that was named.
+fn write_main(
+    names: &Names,
+    nodes: &[NodeId],
+    point: Point,
+    first: Option<usize>,
+    line: &mut Vec<u8>,
+) -> Result<Option<usize>, AllocError>
+    requires one_each { length nodes.now ≡ length names.now.declared }
+    ensures { IfOk result (λ now. NamesMain (name_in names.entry.now) names.entry.now.declared nodes.now point first line.old.items now line.new.items) }
+{
+    match main_of(names, nodes, point) {
+        Some(position) => {
+            write_name(names, position, line)?;
+            Ok(either_of(first, position))
+        }
+        None => Ok(first),
+    }
+}
+
+/// The first of declarations, and of one more.
+fn either_of(first: Option<usize>, position: usize) -> Option<usize>
+    ensures { result ≡ either_of first position }
+{
+    match first {
+        Some(_) => first,
+        None => Some(position),
+    }
+}
+
+/// Appends a space and the name of the declaration that was named first, if one was.
+fn write_first(names: &Names, first: Option<usize>, line: &mut Vec<u8>) -> Result<(), AllocError>
+    ensures ok { OnOk result (line.new.items ≡ line.old.items ++ closing_name (name_in names.entry.now) first) }
+{
+    match first {
+        Some(position) => write_name(names, position, line),
+        None => Ok(()),
+    }
+}
+
+/// Appends a space and the name of the declaration at a position; no name where there is none.
+fn write_name(names: &Names, position: usize, line: &mut Vec<u8>) -> Result<(), AllocError>
+    ensures ok { OnOk result (line.new.items ≡ line.old.items ++ named_of (name_in names.entry.now) position) }
+{
+    line.push(b' ')?;
+    line.extend_from_slice(name_at(names, position))
+}
+
+/// The name of the declaration at a position; nothing where there is none.
+pub(super) fn name_at(names: &Names, position: usize) -> &[u8]
+    ensures { result.now ≡ name_in names.entry.now position }
+{
+    if position < names.len() {
+        return names.get(position).name.bytes();
+    }
+    b""
+}
