@@ -28,7 +28,7 @@ RESERVED = (b"if then else bind in join fold from at steps now freeze when after
             b" int bool text node").split()
 NUMBERS = b"0 1 -1 2 7 -0 007 -000 4294967296 -4294967297".split() + [b"%d" % edge for edge in EDGES] * 2
 TEXTS = [b'""', b'"a"', b'"a \\"b\\" \\\\"', b'"# ~ ( )"', b'"' + b"t" * 300 + b'"']
-NO_LITERALS = (b'+1 --1 - 1x 0x10 1_000 1.5 1e3 &x 3ns -3s 99999999999999999999999 "open "\\n" "\x7f" true1'
+NO_LITERALS = (b'+1 --1 - 1x 0x10 1_000 1.5 1e3 & &1 3ns -3s 99999999999999999999999 "open "\\n" "\x7f" true1'
                b" \xd9\xa3").split() + [b"%d" % (EDGES[0] - 1), b"%d" % (EDGES[1] + 1)]
 BYTES = b" ,()-_019azAZ\n\r\t\x00#\"\\=&[]{}:@\x7f\x80\xff"
 SEPARATORS = (b"", b"", b" ", b"   ", b"\t", b"\r")
@@ -40,9 +40,12 @@ FUNCTIONS = {b"neg": (INT, (INT,)), b"clamp": (INT, (INT,) * 3), b"pick": (INT, 
 FUNCTIONS |= {name: (INT, (INT, INT)) for name in b"add sub mul div rem min max".split()}
 FUNCTIONS |= {name: (BOOL, (INT, INT)) for name in b"eq lt le".split()}
 FOLDS = {name: (gives, takes[1]) for name, (gives, takes) in FUNCTIONS.items() if len(takes) == 2 and takes[0] == gives}
-TYPES = (INT, BOOL, TEXT)
+BASES = (INT, BOOL, TEXT)
+REFERENCES = {base: b"node " + base for base in BASES}
+TYPES = (*BASES, *REFERENCES.values())
 LEVELS = ((b"neg(", b")"), (b"add(1, ", b")"), (b"add(", b", d0)"), (b"pick(true, ", b", 2)"), (b"clamp(-9, ", b", 9)"),
-          (b"rem(", b", 5)"), (b"sum9(1, 2, 3, 4, ", b", 6, 7, 8, d0)"), (b"fold sub from 1 [2, ", b", d0]"), (b"fold max from -9 [", b"]"))
+          (b"rem(", b", 5)"), (b"sum9(1, 2, 3, 4, ", b", 6, 7, 8, d0)"), (b"fold sub from 1 [2, ", b", d0]"), (b"fold max from -9 [", b"]"),
+          (b"if true then ", b" else d0"), (b"if lt(d0, d0) then 4 else ", b""))
 
 
 class Disagreement(Exception):
@@ -74,6 +77,8 @@ class Generator:
             return self.chance.choice(NO_LITERALS)
         if self.chance.random() < 0.03:
             ty = self.chance.choice(TYPES)
+        if ty in REFERENCES.values():
+            return b"&" + self.name([name for name, (of, _) in self.nodes.items() if REFERENCES.get(of) == ty])
         return self.chance.choice({b"int": NUMBERS, b"bool": (b"true", b"false"), b"text": TEXTS}[ty])
 
     def formula(self, ty, room):
@@ -82,6 +87,11 @@ class Generator:
         functions = [name for name, (gives, _) in FUNCTIONS.items() if gives == ty]
         folds = [name for name, (gives, _) in FOLDS.items() if gives == ty]
         draw = self.chance.random()
+        if room > 0 and self.chance.random() < 0.12:
+            return self.choice(ty, room)
+        if room > 0 and ty in REFERENCES and self.chance.random() < 0.12:
+            child = self.formula(REFERENCES[ty if self.chance.random() < 0.97 else self.chance.choice(BASES)], room - 1)
+            return [b"join", b"("] + child + [b")"]
         if folds and room > 0 and draw < 0.1:
             return self.fold(self.chance.choice(folds), ty, room)
         if functions and room > 0 and draw < 0.6:
@@ -97,6 +107,13 @@ class Generator:
                 words += ([b","] if number else []) + part
             return words + [b")"]
         return [self.name(known) if draw < 0.85 and known or draw < 0.62 else self.literal(ty)]
+
+    def choice(self, ty, room):
+        """The words of an `if`, mostly of the type."""
+        test = BOOL if self.chance.random() < 0.97 else self.chance.choice(TYPES)
+        other = ty if self.chance.random() < 0.97 else self.chance.choice(TYPES)
+        sides = [self.formula(of, room - 1) for of in (test, ty, other)]
+        return [b"if", *sides[0], b"then", *sides[1], b"else", *sides[2]]
 
     def fold(self, function, ty, room):
         """The words of a fold, mostly of the type."""
@@ -126,6 +143,9 @@ class Generator:
         while points < count:
             levels = chance.randint(1, min(longest, count - points))
             formula = last
+            if levels == 1 and chance.random() < 0.2:
+                levels, formula = 0, chance.choice((b"join(&%s)", b"join(if true then &%s else &d0)")) % last
+                points += 1
             for _ in range(levels):
                 start, end = chance.choice(LEVELS)
                 formula = start + formula + end
@@ -156,13 +176,13 @@ class Generator:
         if form == "var":
             ty, name = self.chance.choice(TYPES), self.new_name(self.nodes)
             self.nodes.setdefault(name, (ty, True))
-            return [b"var", name, ty, self.literal(ty)]
+            return [b"var", name, *ty.split(), self.literal(ty)]
         if form == "set":
             variables = [name for name, (_, variable) in self.nodes.items() if variable]
             name = self.name(variables if self.chance.random() < 0.9 else self.nodes)
             return [b"set", name, self.literal(self.nodes.get(name, (b"int",))[0])]
         if form == "let":
-            ty, name = self.chance.choices(TYPES, (5, 2, 1))[0], self.new_name(self.nodes)
+            ty, name = self.chance.choices(TYPES, (15, 6, 3, 2, 1, 1))[0], self.new_name(self.nodes)
             words = self.deep() if self.chance.random() < 0.02 else self.formula(ty, self.chance.randint(0, 4))
             self.nodes.setdefault(name, (ty, False))
             return [b"let", name] + words
@@ -298,7 +318,7 @@ def compare(programs, judge, chance, script, through):
     whole = subprocess.run([program, "run"], input=script, stdout=subprocess.PIPE, timeout=PATIENCE)
     calls = profiled(profile, script, whole.stdout) if profile else None
     told = "status %d, transcript %r, calls %s" % (whole.returncode, whole.stdout, calls)
-    verdict = judge(script, whole.stdout, through, calls)
+    verdict = judge(script, whole.stdout, through, calls, walks=True)
     if not verdict.ok:
         raise Disagreement("%s: line %d of the script, %d of the transcript, where one of %s may stand; %s" % (
             verdict.message, verdict.script_line, verdict.transcript_line, list(verdict.allowed), told))
@@ -317,7 +337,7 @@ def main():
     parser.add_argument("--program", default=REPOSITORY / "crates/incr/out/incr", help="default: incr of this repository")
     parser.add_argument("--profile", default=REPOSITORY / "crates/incr_profile/out/incr_profile",
                         help="default: incr_profile of this repository; an empty word for none")
-    parser.add_argument("--through", type=int, default=3, help="the model's stage of the language (default 3)")
+    parser.add_argument("--through", type=int, default=4, help="the model's stage of the language (default 4)")
     parser.add_argument("--written", type=int, help="the stage that the model's own scripts are written for (default: that of --through): "
                         "lines of forms that come behind --through are to be refused with 1")
     parser.add_argument("--seed", type=int, default=1)
