@@ -50,7 +50,7 @@ use Rattle.transfer.specs.Both.{graph_value}
 
 -- ---- the nodes of names
 
-same_default : (nodes : List NodeId) (n : ℕ) → n < length nodes → node_at nodes n ≡ node_in nodes n
+pub same_default : (nodes : List NodeId) (n : ℕ) → n < length nodes → node_at nodes n ≡ node_in nodes n
 same_default nodes n low =
     let e : Some (node_at nodes n) ≡ Some (node_in nodes n) = sym (slice_get-get_or nodes n _ low) ∙ slice_get-get_or nodes n _ low in cc
 

@@ -24,14 +24,14 @@ use Rattle.script_model.specs.Values as values
 use Rattle.script_model.proofs.Validity.{halts_keep_validity}
 use Rattle.script_graph.specs.Kept.{Kept, node_in}
 use Rattle.script_graph.specs.Represents.{AreNames}
-use Rattle.script_graph.specs.Today.{IsBaseOutcome}
 use Rattle.script_graph.specs.Shown.{ShowsIt, ShowsNothing}
 use Rattle.script_graph.specs.Stabilizing.{IsAccepted, IsCircular, IsTooDeep, IsCutShort}
 use Rattle.script_graph.specs.State.{MatchesMoment, Stands}
 use Rattle.script_graph.proofs.CuttingShort.{broken_matches}
 use Rattle.transfer.specs.Both.{graph_outcome, graph_value}
 use Rattle.session.specs.Answered.{Extends, IsAnswered, verdict_on}
-use Rattle.session.specs.Replies.{line_of, cycle_line, done_line, named_of, shown_line, refused_line, stable_line, too_deep_line, name_in}
+use Rattle.session.proofs.Referred.{name_there, printed_same}
+use Rattle.session.specs.Replies.{IsReferredName, line_of, cycle_line, done_line, named_of, referred_node, shown_line, refused_line, stable_line, too_deep_line, name_in}
 use Rattle.session.specs.Taken.{AsksStabilize, Stops}
 use Rattle.session.specs.declared.answer.Did.TheVariants as did
 
@@ -119,27 +119,17 @@ module _ (F : Meanings) (k : Kept) (m : Moment) (st : Stands F k m) (unbroken : 
 
 -- ---- showing
 
--- an outcome that is no reference prints the same in the model, whatever a reference's name is
-printed_same : (nodes : ℕ → NodeId) (names : ℕ → List ℕ) (referred : List ℕ) (p : Outcome) → IsBaseOutcome p
-    → printed_outcome names p ≡ engine.printed_outcome referred (graph_outcome nodes p)
-printed_same nodes names referred (Val (Int z)) base = refl
-printed_same nodes names referred (Val (values.Bool b)) base = refl
-printed_same nodes names referred (Val (Text bytes)) base = refl
-printed_same nodes names referred (Val (Reference n b)) base = absurd base
-printed_same nodes names referred Invalid base = refl
-
-shown_same : (nodes : ℕ → NodeId) (s : State) (name referred : List ℕ) (o : declared.Outcome) (h : ShowsIt nodes s name o)
-    → shown_line name referred o ≡ printed s (Shown name h.outcome)
-shown_same nodes s name referred o h =
-    ap (λ l. line_of (name ++ codes " = " ++ l))
-    (ap (engine.printed_outcome referred) (sym h.same) ∙ sym (printed_same nodes (name_of s) referred h.outcome h.base))
-
 pub followed_show : (F : Meanings) (k : Kept) (m : Moment) (name referred : List ℕ) (o : declared.Outcome) (calls : ℕ) (written appended : List ℕ)
-    → Stands F k m → ShowsIt (node_in k.nodes) m.present name o → appended ≡ written ++ shown_line name referred o
+    → Stands F k m → ShowsIt (node_in k.nodes) m.present name o → IsReferredName k.names k.nodes (referred_node o) referred
+    → appended ≡ written ++ shown_line name referred o
     → IsAnswered F m (Follows F m (verdict_on m (Show name))) k written appended calls calls did.Accepted
-followed_show F k m name referred o calls written appended st h print =
+followed_show F k m name referred o calls written appended st h told print =
     let reply = Shown name h.outcome in
     let acts : verdict_on m (Show name) ≡ Act (Show name) = rw h.is_shown refl in
+    let same : shown_line name referred o ≡ printed m.present reply =
+    ap (λ l. line_of (name ++ codes " = " ++ l)) (ap (engine.printed_outcome referred) (sym h.same)
+    ∙ sym (printed_same F k m st.matches referred h.outcome h.refers
+    (subst (λ (x : declared.Outcome). IsReferredName k.names k.nodes (referred_node x) referred) (sym h.same) told))) in
     record {
       after = m;
       replies = reply ∷ [];
@@ -147,7 +137,7 @@ followed_show F k m name referred o calls written appended st h print =
       work = 0;
       due = refl;
       matches = st.matches;
-      printed_are = appended_one m.present written appended reply (print ∙ ap (λ l. written ++ l) (shown_same (node_in k.nodes) m.present name referred o h));
+      printed_are = appended_one m.present written appended reply (print ∙ ap (λ l. written ++ l) same);
       within = omega arith;
       says = (reply, [], refl, refl);
     }
@@ -208,18 +198,6 @@ module _ (F : Meanings) (new : Kept) (m : Moment) (called calls : ℕ) (h : IsAc
         stands = record { keep = keep; valid = halts_keep_validity F m h.after line h.work keep valid halts; matches = h.matches };
         within = h.within;
       }
-
--- the name at a position is that of the entry there
-name_of_entry : (es : List Entry) (n : ℕ) → ◌≡◌ {A = List ℕ} (elim (slice_get (map declared_of es) n) [ None ↦ [] | Some d ↦ d.name ])
-    (elim (slice_get es n) [ None ↦ [] | Some e ↦ e.name ])
-name_of_entry [] n = refl
-name_of_entry (e ∷ es) zero = refl
-name_of_entry (e ∷ es) (suc n) = name_of_entry es n
-
-name_there : (names : Names) (s : State) (n : ℕ) → AreNames names s → name_in names n ≡ name_of s n
-name_there names s n are =
-    let declared : name_in names n ≡ name_in (names_of s) n = ap (λ (ds : List Declared). name_in (record names { declared = ds }) n) are.declared in
-    declared ∙ name_of_entry s.entries n
 
 -- a refusal for depth changes the number alone
 broken_by_height : (F : Meanings) (m after : Moment) (target : ℕ) → Stabilizes F m after (Refused (Height target) ∷ [])
@@ -292,10 +270,3 @@ pub stops_cut_short : (F : Meanings) (new : Kept) (m : Moment) (line : List ℕ)
     → KeepToTypes F → ValidMoment F m → AsksStabilize line → m.broken ≡ None → Stops F m line new called calls
 stops_cut_short F new m line called calls h keep valid asks unbroken =
     stops_broken F new m line called calls keep valid asks unbroken h.matches h.within
-
--- the graph's value of a constant is of its type
-pub type_held : (nodes : ℕ → NodeId) (v : values.Value) → held.type_of (graph_value nodes v) ≡ values.type_of v
-type_held nodes (Int z) = refl
-type_held nodes (values.Bool b) = refl
-type_held nodes (Text bytes) = refl
-type_held nodes (Reference n b) = refl

@@ -9,5 +9,6 @@ mod InTurn
 mod Keeping
 mod Passing
 mod Observed
+mod Referred
 mod Requests
 mod Stabilized

@@ -34,7 +34,7 @@ use Rattle.script_graph.specs.Sound.{HaveNodes, IsSound}
 use Rattle.script_functions.specs.Bodies.{Body}
 use Rattle.script_functions.specs.Keeping.{Maker, is_known, makers, by_kind, side_in}
 use Rattle.script_functions.specs.KeepingLaws.{map_known, known_map}
-use Rattle.script_graph.specs.Stabilizing.{ChainBegins, IsCircular, IsCycleMet, IsFirstNotOlder, AllOlder, closed}
+use Rattle.script_graph.specs.Stabilizing.{ChainBegins, IsCircular, IsCycleMet, IsFirstOwned, NoneOwns, closed}
 use Rattle.script_model.specs.Formula.{Meanings}
 use Rattle.script_model.specs.Step.{Moment}
 use Rattle.stabilizer.specs.declared.refused.Refused.{Refused}
@@ -110,13 +110,13 @@ circular_closed F m k targets first more called calls is circular =
 -- ---- where a chain begins
 
 module _ (met : Option Refused) (nodes others : List NodeId) (same : others ≡ nodes) where
-  pub first_of : (owner target : ℕ) → owner ≡ target → ((p : Point) → ChainBegins met p → IsFirstNotOlder others p.node owner)
-      → (p : Point) → ChainBegins met p → IsFirstNotOlder nodes p.node target
-  first_of owner target is first p begins =
-      subst (λ (ns : List NodeId). IsFirstNotOlder ns p.node target) same (subst (IsFirstNotOlder others p.node) is (first p begins))
+  pub first_of : (a : Arena) (owner target : ℕ) → owner ≡ target → ((p : Point) → ChainBegins met p → IsFirstOwned others a p.node owner)
+      → (p : Point) → ChainBegins met p → IsFirstOwned nodes a p.node target
+  first_of a owner target is first p begins =
+      subst (λ (ns : List NodeId). IsFirstOwned ns a p.node target) same (subst (IsFirstOwned others a p.node) is (first p begins))
 
-  pub none_of : ((p : Point) → ChainBegins met p → AllOlder others p.node) → (p : Point) → ChainBegins met p → AllOlder nodes p.node
-  none_of none p begins = subst (λ (ns : List NodeId). AllOlder ns p.node) same (none p begins)
+  pub none_of : (a : Arena) → ((p : Point) → ChainBegins met p → NoneOwns others a p.node) → (p : Point) → ChainBegins met p → NoneOwns nodes a p.node
+  none_of a none p begins = subst (λ (ns : List NodeId). NoneOwns ns a p.node) same (none p begins)
 
 -- ---- the library
 

@@ -7,7 +7,6 @@ ghost use Rattle.script_model.specs.Check.{Assign, Declare, Observe, Show, Stabi
 ghost use Rattle.script_model.specs.Formula.{meanings_of};
 ghost use Rattle.script_model.specs.Here.{is_here};
 ghost use Rattle.script_model.specs.Request.{IsRequest};
-ghost use Rattle.script_model.specs.Values.{type_of};
 ghost use Rattle.session.specs.Answered.{Extends};
 ghost use Rattle.session.specs.Carried.{HasRoom, Performs, Refuses, TakesBytes, Treats};
 ghost use Rattle.session.specs.Replies.{broken_line, cycle_line, refused_line, too_deep_line, name_in};
@@ -23,7 +22,6 @@ use crate::reply::{
 };
 use crate::request::{Request, read_request};
 use crate::script::{Script, Stabilized};
-use formula_elab::value_of;
 use formula_lang::{CheckFault, Command, Constant, Declaration, Names, check};
 use inc_value::Ty;
 use line_parser::Line;
@@ -123,7 +121,7 @@ fn perform<L: Library>(
         Command::Declare { name, ty, body } => {
             declare(alloc, script, name.bytes(), *ty, body, out)
         }
-        Command::Assign { target, value } => set(alloc, script, *target, value, out),
+        Command::Assign { target, value } => set(script, *target, value, out),
         Command::Observe { observer, target } => observe(script, observer.bytes(), *target, out),
         Command::Unobserve { observer } => unobserve(script, observer.bytes(), out),
         Command::Stabilize => stabilize(alloc, script, out),
@@ -160,23 +158,19 @@ fn declare<L: Library>(
 
 /// Gives a variable a value.
 fn set<L: Library>(
-    alloc: Global,
     script: &mut Script<L>,
     target: usize,
     value: &Constant,
     out: &mut Vec<u8>,
 ) -> Result<Did, AllocError>
     requires unbroken { script.old.kept.broken ≡ None }
-    requires fits { AssignmentFits script.old.kept.names target (type_of (constant_view value.now)) }
+    requires fits { AssignmentFits script.old.kept.names target (constant_view value.now) }
     ensures { Performs (λ l. meanings_of (L.named l) (L.value l)) L.known L.calls (Assign target (constant_view value.now))
         script.old script.new out.old.items out.new.items result }
 {
     match write_done(out) {
-        Ok(()) => match value_of(alloc, value, script.nodes()) {
-            Ok(value) => {
-                script.set(target, value);
-                Ok(Did::Accepted)
-            }
+        Ok(()) => match script.set(target, value) {
+            Ok(()) => Ok(Did::Accepted),
             Err(fault) => Err(fault),
         },
         Err(fault) => Err(fault),

@@ -120,13 +120,6 @@ impl<L: Library> Script<L> {
         name_at(&self.names, position)
     }
 
-    /// The node of each declaration.
-    pub(crate) fn nodes(&self) -> &[NodeId]
-        ensures { result.now ≡ self.now.kept.nodes }
-    {
-        &self.nodes
-    }
-
     /// How many places the script may still have.
     pub(crate) fn room(&self) -> usize
         ensures { result ≡ self.now.kept.room }

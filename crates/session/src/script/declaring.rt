@@ -1,6 +1,6 @@
 //! Declarations in a script.
 ghost use Rattle.std.specs.Prelude.{◌≡◌, ◌<◌, ◌≤◌, ◌+◌, ◌-◌, ◌^◌, ◌++◌, ◌∷◌, [], ℕ, List, length, slice_get, Some, None, IfOk, OnOk, OnErr, Ok, false};
-ghost use Rattle.formula_elab.specs.Laying.{laid_body};
+ghost use Rattle.formula_elab.specs.Laying.{laid_body, type_at};
 ghost use Rattle.formula_elab.specs.Make.{make_view};
 ghost use Rattle.formula_elab.specs.Opened.{AreInOrder, node_at, node_of};
 ghost use Rattle.formula_elab.specs.declared.make.Made.{Made};
@@ -12,7 +12,7 @@ ghost use Rattle.graph.specs.Standing.{IsUnbroken};
 ghost use Rattle.inc_terms.specs.Code.{def_of};
 ghost use Rattle.inc_value.specs.declared.ty.Ty.{Ty};
 ghost use Rattle.node_arena.specs.Arena.{live};
-ghost use Rattle.script_graph.specs.Growing.{def_ty, AllOpenFit, Extends, IsMadeIn, IsMaking, IsWelcome, IsWelcomeMake};
+ghost use Rattle.script_graph.specs.Growing.{AllOpenFit, Extends, IsMadeIn, IsMaking, IsWelcome, IsWelcomeMake};
 ghost use Rattle.script_graph.specs.Kept.{arena_of};
 ghost use Rattle.script_graph.specs.Sound.{HaveNodes};
 ghost use Rattle.script_graph.specs.State.{MatchesMoment};
@@ -96,9 +96,9 @@ fn add_declared<L: Library>(
     requires room { live graph.old.nodes + places_of_body (body_view body.now) ≤ 1048575 }
     requires ids { graph.old.nodes.given + 2 ^ 20 < 2 ^ 64 - 1 }
     ensures made { OnOk result ((made : List Made)
-        × IsMaking graph.old graph.new (laid_body (node_at nodes.old.items) 0 (body_view body.now)).makes made
-        × (length made ≡ length (laid_body (node_at nodes.old.items) 0 (body_view body.now)).makes)
-        × (nodes.new.items ≡ nodes.old.items ++ node_of made (laid_body (node_at nodes.old.items) 0 (body_view body.now)).root ∷ [])) }
+        × IsMaking graph.old graph.new (laid_body (node_at nodes.old.items) (type_at names.old) 0 (body_view body.now)).makes made
+        × (length made ≡ length (laid_body (node_at nodes.old.items) (type_at names.old) 0 (body_view body.now)).makes)
+        × (nodes.new.items ≡ nodes.old.items ++ node_of made (laid_body (node_at nodes.old.items) (type_at names.old) 0 (body_view body.now)).root ∷ [])) }
     ensures names { OnOk result (names.new ≡ record names.old {
       declared = names.old.declared ++ record {
         name = name.now;
@@ -144,13 +144,13 @@ fn make_declared<L: Library>(
     requires room { live graph.old.nodes + places_of_body (body_view body.now) ≤ 1048575 }
     requires ids { graph.old.nodes.given + 2 ^ 20 < 2 ^ 64 - 1 }
     ensures made { IfOk result (λ node. (made : List Made)
-        × IsMaking graph.old graph.new (laid_body (node_at nodes.now) 0 (body_view body.now)).makes made
-        × (length made ≡ length (laid_body (node_at nodes.now) 0 (body_view body.now)).makes)
-        × (node ≡ node_of made (laid_body (node_at nodes.now) 0 (body_view body.now)).root)) }
+        × IsMaking graph.old graph.new (laid_body (node_at nodes.now) (type_at names.now) 0 (body_view body.now)).makes made
+        × (length made ≡ length (laid_body (node_at nodes.now) (type_at names.now) 0 (body_view body.now)).makes)
+        × (node ≡ node_of made (laid_body (node_at nodes.now) (type_at names.now) 0 (body_view body.now)).root)) }
     ensures kept { OnErr result (Extends graph.old graph.new) }
     ensures given { graph.new.nodes.given ≤ graph.old.nodes.given + 2 ^ 20 }
 {
-    match elaborate(alloc, body, nodes) {
+    match elaborate(alloc, body, names, nodes) {
         Ok(plan) => {
             let mut plan = plan;
             let made = make_all(graph, &mut plan);
@@ -205,20 +205,24 @@ fn make_one<L: Library>(graph: &mut Graph<ScriptFns<L>>, make: Make) -> Result<M
     ensures kept { OnErr result (KeepsAll graph.old graph.new) }
 {
     match make {
-        Make::Node(def) => match add(graph, def) {
+        Make::Node(def, ty) => match add(graph, def, ty) {
             Ok(node) => Ok(Made::Node(node)),
             Err(fault) => Err(fault),
         },
     }
 }
 
-/// Adds a node whose children are there and fit.
-fn add<L: Library>(graph: &mut Graph<ScriptFns<L>>, def: Def) -> Result<NodeId, AllocError>
+/// Adds a node of a type, whose children are there and fit.
+fn add<L: Library>(
+    graph: &mut Graph<ScriptFns<L>>,
+    def: Def,
+    ty: Ty,
+) -> Result<NodeId, AllocError>
     requires unbroken { IsUnbroken graph.old }
-    requires welcome { IsWelcome (L.known graph.old.functions.library) graph.old.nodes (def_of def) }
+    requires welcome { IsWelcome (L.known graph.old.functions.library) graph.old.nodes (def_of def) ty }
     requires room { live graph.old.nodes < 1048576 }
     requires ids { graph.old.nodes.given < 2 ^ 64 - 1 }
-    ensures added { IfOk result (λ node. Adds graph.old graph.new node (top (def_of def) (def_ty (def_of def)))) }
+    ensures added { IfOk result (λ node. Adds graph.old graph.new node (top (def_of def) ty)) }
     ensures kept { OnErr result (KeepsAll graph.old graph.new) }
 {
     match def {
@@ -228,7 +232,9 @@ fn add<L: Library>(graph: &mut Graph<ScriptFns<L>>, def: Def) -> Result<NodeId, 
         Def::Fold(function, initial, kids) => {
             or_no_memory(graph.fold(function, initial, kids.as_slice()))
         }
-        Def::If { .. } | Def::Join(_) | Def::Bind { .. } => unreachable!(),
+        Def::If { test, yes, no } => or_no_memory(graph.if_(ty, test, yes, no)),
+        Def::Join(child) => or_no_memory(graph.join(ty, child)),
+        Def::Bind { .. } => unreachable!(),
     }
 }
 
@@ -239,7 +245,12 @@ fn kind_of(body: &Declaration) -> Kind
     match body {
         Declaration::Variable(_) => Kind::Var,
         Declaration::Computed(
-            Formula::Literal(_) | Formula::Name(_) | Formula::Apply { .. } | Formula::Fold { .. },
+            Formula::Literal(_)
+            | Formula::Name(_)
+            | Formula::Apply { .. }
+            | Formula::Fold { .. }
+            | Formula::If { .. }
+            | Formula::Join(_),
         ) => Kind::Let,
     }
 }

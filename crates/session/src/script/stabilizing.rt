@@ -2,7 +2,7 @@
 ghost use Rattle.std.specs.Prelude.{◌≡◌, ◌<◌, ◌+◌, ◌^◌, length, None, IfSome, IfNone};
 ghost use Rattle.inc_value.specs.declared.node.Point.{Point};
 ghost use Rattle.script_model.specs.Formula.{meanings_of};
-ghost use Rattle.script_graph.specs.Stabilizing.{ChainBegins, IsFirstNotOlder, AllOlder};
+ghost use Rattle.script_graph.specs.Stabilizing.{AllOlder, ChainBegins, IsFirstNotOlder, IsFirstOwned, NoneOwns};
 ghost use Rattle.session.specs.Carried.{EndsStabilize};
 
 use super::Script;
@@ -67,16 +67,32 @@ impl<L: Library> Script<L> {
 /// The declaration in whose formula the chain of points begins that was too long. A chain begins in one of a script's
 /// formulas, so that there is none only where nothing is too deep.
 fn deep_owner<L: Library>(graph: &Graph<ScriptFns<L>>, nodes: &[NodeId]) -> Option<usize>
-    ensures found { IfSome result (λ i. (p : Point) → ChainBegins graph.now.refused p → IsFirstNotOlder nodes.now p.node i) }
+    ensures found { IfSome result (λ i. (p : Point) → ChainBegins graph.now.refused p → IsFirstOwned nodes.now graph.now.nodes p.node i) }
     ensures within { IfSome result (λ i. i < length nodes.now) }
-    ensures none { IfNone result ((p : Point) → ChainBegins graph.now.refused p → AllOlder nodes.now p.node) }
+    ensures none { IfNone result ((p : Point) → ChainBegins graph.now.refused p → NoneOwns nodes.now graph.now.nodes p.node) }
 {
     match graph.broken() {
         Some(Refused::Height(points)) => match points.first() {
-            Some(point) => first_not_older(nodes, point.node),
+            Some(point) => owned_by(graph, nodes, point.node),
             None => None,
         },
         _ => None,
+    }
+}
+
+/// The first declaration whose node isn't older than the node's owner.
+fn owned_by<L: Library>(
+    graph: &Graph<ScriptFns<L>>,
+    nodes: &[NodeId],
+    node: NodeId,
+) -> Option<usize>
+    ensures found { IfSome result (IsFirstOwned nodes.now graph.now.nodes node) }
+    ensures within { IfSome result (λ i. i < length nodes.now) }
+    ensures none { IfNone result (NoneOwns nodes.now graph.now.nodes node) }
+{
+    match graph.owner(node) {
+        Some(top) => first_not_older(nodes, top),
+        None => None,
     }
 }
 

@@ -73,7 +73,7 @@ returns-in-Some g c =
           let same : c.in-Some.target ≡ target = cc in
           session_too_deep (g.L.Library.named l) (g.L.Library.value l) _ _ c.self.inside.graph new refl unbroken
           c.keeps_sound.ensures.sound (alone_refused (g.L.Library.value l) c.self.inside.graph.functions.bodies.items c.self.invariant.1 c.self.inside.graph new cause.Height done) target (g.L.Library.calls l) (g.L.Library.calls new.functions.library)
-          (first_of new.refused c.self.inside.nodes.items c.deref.result.now c.deref.ensures.value c.in-Some.target target same
+          (first_of new.refused c.self.inside.nodes.items c.deref.result.now c.deref.ensures.value new.nodes c.in-Some.target target same
           c.in-Some.ensures.found) (alone_called (g.L.Library.value l) c.self.inside.graph.functions.bodies.items c.self.invariant.1 c.self.inside.graph new done.nodes (g.L.Library.calls l)
           (g.L.Library.calls new.functions.library) (c.stabilize.ensures.few cause.Height for)) m stands;
       circular = λ is. absurd (cc);
@@ -126,7 +126,7 @@ returns-in-None g c =
       for_memory = λ m stands. absurd (
           session_not_all_older (g.L.Library.named l) (g.L.Library.value l) _ _ c.self.inside.graph new refl unbroken
           c.keeps_sound.ensures.sound (alone_refused (g.L.Library.value l) c.self.inside.graph.functions.bodies.items c.self.invariant.1 c.self.inside.graph new cause.Height done)
-          (none_of new.refused c.self.inside.nodes.items c.deref.result.now c.deref.ensures.value c.in-None.ensures.none) m stands);
+          (none_of new.refused c.self.inside.nodes.items c.deref.result.now c.deref.ensures.value new.nodes c.in-None.ensures.none) m stands);
       count = omega arith;
       names = refl;
       given = few_given _ _ done.nodes;
