@@ -1,9 +1,9 @@
 -- A script after a declaration, after one that was taken back, and after an assignment, over a graph with its functions.
-use Rattle.std.proofs.Common.{◌≡◌, ◌⊎◌, inl, inr, ℕ, ◌+◌, ◌<◌, ◌≤◌, Bool, List, [], ◌∷◌, ◌++◌, length, Option, None, Some, IfSome, IsTrue, refl, ap, sym, subst, ◌∙◌, arith, slice_get}
+use Rattle.std.proofs.Common.{◌≡◌, ◌⊎◌, inl, inr, ℕ, zero, suc, ◌+◌, ◌<◌, ◌≤◌, Bool, List, [], ◌∷◌, ◌++◌, length, Option, None, Some, IfSome, IsTrue, refl, ap, sym, subst, ◌∙◌, arith, slice_get}
 use Rattle.std.proofs.lemmas.List.{get_or_append_left, get_or_at}
 use Rattle.std.proofs.lemmas.Option.{none-some, slice_get-get_or}
 use Rattle.formula_lang.specs.Fits.{AssignmentFits, BodyFits, DeclarationFits, NameFits, ReferenceFits}
-use Rattle.formula_elab.specs.Laying.{laid_body}
+use Rattle.formula_elab.specs.Laying.{laid_body, type_at}
 use Rattle.formula_elab.specs.Names.{EveryNameOf}
 use Rattle.formula_elab.specs.Opened.{node_at, node_of}
 use Rattle.formula_elab.specs.declared.opened.Open.{Open}
@@ -18,6 +18,7 @@ use Rattle.inc_value.specs.declared.node.ObsId.{ObsId}
 use Rattle.inc_value.specs.declared.ty.Base.{Base}
 use Rattle.inc_value.specs.declared.ty.Base.TheVariants as base
 use Rattle.inc_value.specs.declared.ty.Ty.{Ty}
+use Rattle.inc_value.specs.declared.ty.Ty.TheVariants as types
 use Rattle.inc_value.specs.declared.value.Value.{Value as GraphValue}
 use Rattle.inc_value.specs.Choice.{and_then}
 use Rattle.inc_terms.specs.Graph.{Row}
@@ -27,7 +28,7 @@ use Rattle.node_arena.specs.Sound as arena
 use Rattle.node_arena.specs.Typing as typing
 use Rattle.node_arena.specs.Typing.{FitsNode, HasType}
 use Rattle.script_model.specs.Check.{Assign, Declare, Declared, Kind, Names, Variable as VariableKind, is_variable, kind_of_body, target_of_body, type_of_base}
-use Rattle.script_model.specs.Formula.{Body, meanings_of, places_of_body, Literal, Name, Apply, Fold, Variable, Computed}
+use Rattle.script_model.specs.Formula.{Body, meanings_of, places_of_body, Literal, Name, Apply, Fold, If, Join, Variable, Computed}
 use Rattle.script_model.specs.Run.{calls_of_body}
 use Rattle.script_model.specs.Step.{Moment, declared_in, moved}
 use Rattle.script_model.specs.Values.{Value, Int, Bool as Truth, Text, Reference, type_of}
@@ -62,6 +63,25 @@ names_there a names nodes one_each has position t fits =
     same_default nodes position low ∙ (ap (node_in nodes) (sym fits.target) ∙ node.target) in
     (node.row, ap (row_at a) same ∙ node.is_row, node.typed ∙ fits.typed)
 
+declared_there : (ds : List Declared) (i : ℕ) → i < length ds → (d : Declared) × (slice_get ds i ≡ Some d)
+declared_there [] i low = absurd (omega (arith, low))
+declared_there (d ∷ ds) zero low = (d, refl)
+declared_there (d ∷ ds) (suc i) low = declared_there ds i (omega (arith, low))
+
+-- it is declared with the name's type
+pub names_typed : (a : Arena) (names : Names) (nodes : List NodeId)
+    → ((n : ℕ) (d : Declared) → slice_get names.declared n ≡ Some d → HasNode a nodes n d)
+    → (position : ℕ) (t : Ty) → NameFits names position t → type_at names position ≡ t
+names_typed a names nodes has position t fits =
+    let d = declared_there names.declared position fits.earlier in
+    let here = has position d.0 d.1 in
+    let node = has fits.place fits.declared fits.stands in
+    let same : node_in nodes position ≡ node_in nodes fits.place = ap (node_in nodes) (sym fits.target) ∙ node.target in
+    let row : here.row ≡ node.row =
+    (let e : Some here.row ≡ Some node.row = sym here.is_row ∙ (ap (row_at a) same ∙ node.is_row) in cc) in
+    ap (λ (o : Option Declared). elim o [ None ↦ types.Int | Some d ↦ d.ty ]) d.1
+    ∙ (sym here.typed ∙ (ap (λ (r : Row). r.ty) row ∙ (node.typed ∙ fits.typed)))
+
 -- the positions of names are those of nodes
 pub names_within : (known : FnRef → Bool) (names : Names) (nodes : List NodeId) → length nodes ≡ length names.declared → (body : Body) (ty : Ty)
     → BodyFits known names body ty → EveryNameOf (λ n. n < length nodes) body
@@ -70,24 +90,26 @@ names_within known names nodes one_each body ty fits =
 
 -- ---- after a declaration
 
-variable_of : (known : FnRef → Bool) (names : Names) (a : Arena) (nodes : ℕ → NodeId) (made : List Made) (body : Body) (ty : Ty) → BodyFits known names body ty
-    → ((v : Value) → body ≡ Variable v → IsVariable a (node_of made (laid_body nodes 0 body).root))
-    → kind_of_body body ≡ VariableKind → IsVariable a (node_of made (laid_body nodes 0 body).root)
-variable_of known names a nodes made (Variable v) ty fits is kind = is v refl
-variable_of known names a nodes made (Computed (Literal v) kept) ty fits is kind = absurd (cc)
-variable_of known names a nodes made (Computed (Name n) kept) ty fits is kind = absurd (cc)
-variable_of known names a nodes made (Computed (Apply f arguments) kept) ty fits is kind = absurd (cc)
-variable_of known names a nodes made (Computed (Fold f first elements) kept) ty fits is kind = absurd (cc)
-variable_of known names a nodes made (Computed f kept) ty fits is kind = absurd fits.0
-variable_of known names a nodes made body ty fits is kind = absurd fits
+variable_of : (known : FnRef → Bool) (names : Names) (a : Arena) (nodes : ℕ → NodeId) (tys : ℕ → Ty) (made : List Made) (body : Body) (ty : Ty) → BodyFits known names body ty
+    → ((v : Value) → body ≡ Variable v → IsVariable a (node_of made (laid_body nodes tys 0 body).root))
+    → kind_of_body body ≡ VariableKind → IsVariable a (node_of made (laid_body nodes tys 0 body).root)
+variable_of known names a nodes tys made (Variable v) ty fits is kind = is v refl
+variable_of known names a nodes tys made (Computed (Literal v) kept) ty fits is kind = absurd (cc)
+variable_of known names a nodes tys made (Computed (Name n) kept) ty fits is kind = absurd (cc)
+variable_of known names a nodes tys made (Computed (Apply f arguments) kept) ty fits is kind = absurd (cc)
+variable_of known names a nodes tys made (Computed (Fold f first elements) kept) ty fits is kind = absurd (cc)
+variable_of known names a nodes tys made (Computed (If test x y) kept) ty fits is kind = absurd (cc)
+variable_of known names a nodes tys made (Computed (Join child) kept) ty fits is kind = absurd (cc)
+variable_of known names a nodes tys made (Computed f kept) ty fits is kind = absurd fits.0
+variable_of known names a nodes tys made body ty fits is kind = absurd fits
 
 -- the target of what is declared has its node
 target_node : (known : FnRef → Bool) (names : Names) (nodes : List NodeId) (made : List Made) (body : Body) (ty : Ty) → BodyFits known names body ty
     → ((position : ℕ) → position < length names.declared
-    → node_at nodes position ≡ node_in (nodes ++ node_of made (laid_body (node_at nodes) 0 body).root ∷ []) position)
-    → node_in (nodes ++ node_of made (laid_body (node_at nodes) 0 body).root ∷ []) (length names.declared) ≡ node_of made (laid_body (node_at nodes) 0 body).root
-    → node_in (nodes ++ node_of made (laid_body (node_at nodes) 0 body).root ∷ []) (target_of_body (length names.declared) body)
-    ≡ node_of made (laid_body (node_at nodes) 0 body).root
+    → node_at nodes position ≡ node_in (nodes ++ node_of made (laid_body (node_at nodes) (type_at names) 0 body).root ∷ []) position)
+    → node_in (nodes ++ node_of made (laid_body (node_at nodes) (type_at names) 0 body).root ∷ []) (length names.declared) ≡ node_of made (laid_body (node_at nodes) (type_at names) 0 body).root
+    → node_in (nodes ++ node_of made (laid_body (node_at nodes) (type_at names) 0 body).root ∷ []) (target_of_body (length names.declared) body)
+    ≡ node_of made (laid_body (node_at nodes) (type_at names) 0 body).root
 target_node known names nodes made (Computed (Name t) kept) ty fits same new = sym (same t fits.0.earlier)
 target_node known names nodes made (Computed f kept) ty fits same new = new
 target_node known names nodes made body ty fits same new = new
@@ -113,10 +135,10 @@ module _ {F : Type 0} (first now : Standing F) (names : Names) (nodes : List Nod
     module _ (known : FnRef → Bool) (name : List ℕ) (ty : Ty) (body : Body) (fits : DeclarationFits known names name ty body)
         (made : List Made) (less : ℕ) (room_is : less + places_of_body body ≡ room) where
       abbrev makes : List Open
-      makes = (laid_body (node_at nodes) 0 body).makes
+      makes = (laid_body (node_at nodes) (type_at names) 0 body).makes
 
       abbrev root : NodeId
-      root = node_of made (laid_body (node_at nodes) 0 body).root
+      root = node_of made (laid_body (node_at nodes) (type_at names) 0 body).root
 
       abbrev after : Kept
       after = with_declared before name ty body root less (without_functions now)
@@ -128,11 +150,14 @@ module _ {F : Type 0} (first now : Standing F) (names : Names) (nodes : List Nod
         there : (position : ℕ) (t : Ty) → NameFits names position t → (r : Row) × (row_at first.nodes (node_at nodes position) ≡ Some r) × (r.ty ≡ t)
         there = names_there first.nodes names nodes h.one_node_each h.has_nodes
 
-        laid : AllOpenFit known first.nodes makes × PartFits first.nodes makes ty (laid_body (node_at nodes) 0 body).root
-        laid = laid_fits known first.nodes (node_at nodes) names there body ty fits.body_fits
+        declared_type : (position : ℕ) (t : Ty) → NameFits names position t → type_at names position ≡ t
+        declared_type = names_typed first.nodes names nodes h.has_nodes
+
+        laid : AllOpenFit known first.nodes makes × PartFits first.nodes makes ty (laid_body (node_at nodes) (type_at names) 0 body).root
+        laid = laid_fits known first.nodes (node_at nodes) (type_at names) names there declared_type body ty fits.body_fits
 
         typed : (r : Row) × (row_at now.nodes root ≡ Some r) × (r.ty ≡ ty)
-        typed = made_root known names first now (node_at nodes) made sound body ty making whole laid.1
+        typed = made_root known names first now (node_at nodes) (type_at names) made sound body ty making whole laid.1
 
         node_new : node_in (nodes ++ root ∷ []) (length names.declared) ≡ root
         node_new = get_or_at nodes root [] kept.no_node (length names.declared) h.one_node_each
@@ -143,7 +168,7 @@ module _ {F : Type 0} (first now : Standing F) (names : Names) (nodes : List Nod
             same_default nodes position inside ∙ sym (get_or_append_left nodes (root ∷ []) kept.no_node position inside)
 
         size : length makes ≤ places_of_body body
-        size = few_of_body (λ n. n < length nodes) (node_at nodes) body (names_within known names nodes h.one_node_each body ty fits.body_fits)
+        size = few_of_body (λ n. n < length nodes) (node_at nodes) (type_at names) body (names_within known names nodes h.one_node_each body ty fits.body_fits)
 
         few : live now.nodes + less ≤ 1048575
         few = let room = h.few in omega (arith, making.few, room, room_is, whole, size)
@@ -152,24 +177,24 @@ module _ {F : Type 0} (first now : Standing F) (names : Names) (nodes : List Nod
             → MatchesMoment (meanings_of named value) before m → MatchesMoment (meanings_of named value) after (moved m (Declare name ty body))
         declared_stands named value m unbroken =
             declaring_stands named value known before (without_functions now) sound sound' more m name ty body root less fits room_is
-            (made_new_calls first now makes made (calls_of_body body) making whole (calls_laid_body (node_at nodes) body))
-            (made_owned known names first now (node_at nodes) made sound body ty fits.body_fits making whole)
-            (made_declares known names (beside (meanings_of named value) (declared_in m.present name ty body) after) (node_at nodes) made body ty fits.body_fits
+            (made_new_calls first now makes made (calls_of_body body) making whole (calls_laid_body (node_at nodes) (type_at names) body))
+            (made_owned known names first now (node_at nodes) (type_at names) made sound body ty fits.body_fits making whole)
+            (made_declares known names (beside (meanings_of named value) (declared_in m.present name ty body) after) (node_at nodes) (type_at names) made body ty fits.body_fits
             (λ position t fine. node_same position fine.earlier) making.stands whole) unbroken
 
         pub declared_sound : IsSound after
         declared_sound =
             sound_declared before h sound (without_functions now) more name ty body root less typed.0 typed.1 typed.2
-            (variable_of known names now.nodes (node_at nodes) made body ty fits.body_fits (λ v is. variable_here v body is making whole))
+            (variable_of known names now.nodes (node_at nodes) (type_at names) made body ty fits.body_fits (λ v is. variable_here v body is making whole))
             (target_node known names nodes made body ty fits.body_fits node_same node_new) few
           where
-            variable_here : (v : Value) (b : Body) → b ≡ Variable v → IsMaking first now (laid_body (node_at nodes) 0 b).makes made
-                → length made ≡ length (laid_body (node_at nodes) 0 b).makes → IsVariable now.nodes (node_of made (laid_body (node_at nodes) 0 b).root)
+            variable_here : (v : Value) (b : Body) → b ≡ Variable v → IsMaking first now (laid_body (node_at nodes) (type_at names) 0 b).makes made
+                → length made ≡ length (laid_body (node_at nodes) (type_at names) 0 b).makes → IsVariable now.nodes (node_of made (laid_body (node_at nodes) (type_at names) 0 b).root)
             variable_here v b is making whole =
-                subst (λ (c : Body). IsVariable now.nodes (node_of made (laid_body (node_at nodes) 0 c).root)) (sym is)
-                (made_variable known names first now (node_at nodes) made sound v
-                (subst (λ (c : Body). IsMaking first now (laid_body (node_at nodes) 0 c).makes made) is making)
-                (subst (λ (c : Body). length made ≡ length (laid_body (node_at nodes) 0 c).makes) is whole))
+                subst (λ (c : Body). IsVariable now.nodes (node_of made (laid_body (node_at nodes) (type_at names) 0 c).root)) (sym is)
+                (made_variable known names first now (node_at nodes) (type_at names) made sound v
+                (subst (λ (c : Body). IsMaking first now (laid_body (node_at nodes) (type_at names) 0 c).makes made) is making)
+                (subst (λ (c : Body). length made ≡ length (laid_body (node_at nodes) (type_at names) 0 c).makes) is whole))
 
   -- ---- after an assignment
 

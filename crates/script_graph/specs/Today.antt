@@ -86,15 +86,6 @@ pub record IsTodaysObserver (x : Observer) : Type 0 where
 abbrev pub NoNotices : List Notice → Type 0
 NoNotices notices = notices ≡ []
 
--- ---- nodes that are made: each is of one point
-
-abbrev pub IsOfOnePoint : Def → Type 0
-IsOfOnePoint def = subject_of def ≡ None
-
--- the type of a node of another form, which none is
-abbrev pub other_ty : Ty
-other_ty = ty.Int
-
 -- ---- beside the graph: no freezes, and no experts that were made stale
 
 -- for which node a freeze has put need on
