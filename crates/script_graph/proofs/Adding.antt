@@ -7,11 +7,12 @@ use Rattle.graph.specs.declared.fault.GraphFault.TheVariants as fault
 use Rattle.graph.specs.declared.fault.Kept.{Kept}
 use Rattle.inc_value.specs.declared.function.FnRef.{FnRef}
 use Rattle.inc_value.specs.declared.node.NodeId.{NodeId}
+use Rattle.inc_value.specs.declared.ty.Ty.{Ty}
 use Rattle.inc_terms.specs.Graph.{Def}
 use Rattle.node_arena.specs.Arena.{live, IsFull}
-use Rattle.script_graph.specs.Growing.{def_ty, IsWelcome}
+use Rattle.script_graph.specs.Growing.{IsWelcome}
 
-module _ {F : Type 0} (s : Standing F) (known : FnRef → Bool) (d : Def) (whole : IsUnbroken s) (welcome : IsWelcome known s.nodes d)
+module _ {F : Type 0} (s : Standing F) (known : FnRef → Bool) (d : Def) (ty : Ty) (whole : IsUnbroken s) (welcome : IsWelcome known s.nodes d ty)
     (room : live s.nodes < 1048576) (ids : s.nodes.given < 2 ^ 64 - 1) where
   not_broken : (cause : Kept) → IsBroken s cause → ⊥
   not_broken cause (r, is, of) = let clash : None ≡ Some r = sym whole ∙ is in cc
@@ -24,8 +25,8 @@ module _ {F : Type 0} (s : Standing F) (known : FnRef → Bool) (d : Def) (whole
   pub memory_alone : (r : Result NodeId GraphFault) → IfErr r IsAddFault
       → ((cause : Kept) → IsErrOf r (fault.Broken cause) → IsBroken s cause)
       → (IsErrOf r fault.Unknown → IsUnbroken s × NamesUnknown s d)
-      → (IsErrOf r fault.WrongType → IsUnbroken s × IsMistyped s d (def_ty d))
-      → (IsErrOf r fault.Full → IsUnbroken s × HasNoRoom s d (def_ty d))
+      → (IsErrOf r fault.WrongType → IsUnbroken s × IsMistyped s d ty)
+      → (IsErrOf r fault.Full → IsUnbroken s × HasNoRoom s d ty)
       → IfErr r (λ e. e ≡ fault.Memory)
   memory_alone (Ok n) adding broken unknown wrong full = adding
   memory_alone (Err e) adding broken unknown wrong full =
@@ -35,8 +36,8 @@ module _ {F : Type 0} (s : Standing F) (known : FnRef → Bool) (d : Def) (whole
       by_fault : (e : GraphFault) → IsAddFault e
           → ((cause : Kept) → e ≡ (fault.Broken cause) → IsBroken s cause)
           → (e ≡ fault.Unknown → IsUnbroken s × NamesUnknown s d)
-          → (e ≡ fault.WrongType → IsUnbroken s × IsMistyped s d (def_ty d))
-          → (e ≡ fault.Full → IsUnbroken s × HasNoRoom s d (def_ty d))
+          → (e ≡ fault.WrongType → IsUnbroken s × IsMistyped s d ty)
+          → (e ≡ fault.Full → IsUnbroken s × HasNoRoom s d ty)
           → e ≡ fault.Memory
       by_fault e (inl (cause, is)) broken unknown wrong full = absurd (not_broken cause (broken cause is))
       by_fault e (inr (inl is)) broken unknown wrong full = absurd ((unknown is).1 welcome.named)

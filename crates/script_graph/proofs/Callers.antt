@@ -3,13 +3,13 @@ use Rattle.std.proofs.Common.{◌≡◌, ◌⊎◌, inl, inr, ℕ, zero, suc, �
 use Rattle.std.specs.List.{sum_by}
 use Rattle.std.proofs.lemmas.List.{length-map}
 use Rattle.std.proofs.lemmas.List.Sums.{sum_by-append, sum_by-cons}
-use Rattle.formula_elab.specs.Laying.{laid, laid_each, laid_body}
+use Rattle.formula_elab.specs.Laying.{formula_ty, joined_ty, laid, laid_each, laid_body}
 use Rattle.formula_elab.specs.Make.{node_made}
 use Rattle.formula_elab.specs.Opened.{made_node, node_of, filled}
 use Rattle.formula_elab.specs.declared.make.Made.{Made}
 use Rattle.formula_elab.specs.declared.make.Made.TheVariants.{Node as NodeMade}
 use Rattle.formula_elab.specs.declared.opened.Open.{Open}
-use Rattle.formula_elab.specs.declared.opened.Open.TheVariants.{Const, Var, Map, Fold as OpenFold}
+use Rattle.formula_elab.specs.declared.opened.Open.TheVariants.{Const, Var, Map, Fold as OpenFold, If as OpenIf, Join as OpenJoin}
 use Rattle.graph.specs.Standing.{Standing}
 use Rattle.inc_terms.specs.Graph as graph
 use Rattle.inc_terms.specs.Graph.{Graph, Row, Def}
@@ -17,9 +17,10 @@ use Rattle.inc_terms.specs.Work.{cost_of}
 use Rattle.inc_terms.proofs.Plan.{among_left, among_right}
 use Rattle.inc_value.specs.Choice.{Among}
 use Rattle.inc_value.specs.declared.node.NodeId.{NodeId}
+use Rattle.inc_value.specs.declared.ty.Ty.{Ty}
 use Rattle.node_arena.specs.Arena.{Arena, row_at}
 use Rattle.node_arena.specs.Graph.{graph_of}
-use Rattle.script_model.specs.Formula.{State, Body, Formula, Formulas, Literal, Name, Apply, Fold, End, More, Variable, Computed}
+use Rattle.script_model.specs.Formula.{State, Body, Formula, Formulas, Literal, Name, Apply, Fold, If, Join, End, More, Variable, Computed}
 use Rattle.script_model.specs.Run.{calls_in, calls_in_all, count_in, calls_of_body, most_calls}
 use Rattle.script_graph.specs.Growing.{IsMaking}
 use Rattle.script_graph.specs.Today.{Caller, IsCaller, HasFewCalls}
@@ -72,6 +73,8 @@ open_cost (Const v) = None
 open_cost (Var v) = None
 open_cost (Map f parts) = Some 1
 open_cost (OpenFold f v parts) = Some (length parts)
+open_cost (OpenIf ty test a b) = None
+open_cost (OpenJoin ty child) = None
 
 -- the node, where it calls
 caller_of : NodeId → Option ℕ → List Caller
@@ -132,41 +135,58 @@ unfolding calls_of_opens
 calls_append [] ys = omega arith
 calls_append (x ∷ xs) ys = let rest = calls_append xs ys in omega (arith, rest)
 
-module _ (nodes : ℕ → NodeId) where
-  one_root_each : (start : ℕ) (fs : Formulas) → length (laid_each nodes start fs).roots ≡ count_in fs
+module _ (nodes : ℕ → NodeId) (tys : ℕ → Ty) where
+  one_root_each : (start : ℕ) (fs : Formulas) → length (laid_each nodes tys start fs).roots ≡ count_in fs
   one_root_each start End = refl
-  one_root_each start (More f rest) = let others = one_root_each (start + length (laid nodes start f).makes) rest in omega (arith, others)
+  one_root_each start (More f rest) = let others = one_root_each (start + length (laid nodes tys start f).makes) rest in omega (arith, others)
 
   mutual
     unfolding calls_of_opens open_cost or_none
 
-    calls_laid : (start : ℕ) (f : Formula) → calls_of_opens (laid nodes start f).makes ≤ calls_in f
+    calls_laid : (start : ℕ) (f : Formula) → calls_of_opens (laid nodes tys start f).makes ≤ calls_in f
     calls_laid start (Literal v) = omega arith
     calls_laid start (Name n) = omega arith
     calls_laid start (Apply function arguments) =
-        let each = laid_each nodes start arguments in
+        let each = laid_each nodes tys start arguments in
         let size = calls_append each.makes (Map function each.roots ∷ []) in
         let rest = calls_laid_each start arguments in
         omega (arith, size, rest)
     calls_laid start (Fold function first elements) =
-        let each = laid_each nodes start elements in
+        let each = laid_each nodes tys start elements in
         let size = calls_append each.makes (OpenFold function (graph_value nodes first) each.roots ∷ []) in
         let rest = calls_laid_each start elements in
         let count = one_root_each start elements in
         omega (arith, size, rest, count)
+    calls_laid start (If test a b) =
+        let first = laid nodes tys start test in
+        let second = laid nodes tys (start + length first.makes) a in
+        let third = laid nodes tys (start + (length first.makes + length second.makes)) b in
+        let whole = OpenIf (formula_ty tys a) first.root second.root third.root in
+        let size = calls_append first.makes (second.makes ++ (third.makes ++ whole ∷ [])) in
+        let size_a = calls_append second.makes (third.makes ++ whole ∷ []) in
+        let size_b = calls_append third.makes (whole ∷ []) in
+        let here = calls_laid start test in
+        let there = calls_laid (start + length first.makes) a in
+        let behind = calls_laid (start + (length first.makes + length second.makes)) b in
+        omega (arith, size, size_a, size_b, here, there, behind)
+    calls_laid start (Join child) =
+        let under = laid nodes tys start child in
+        let size = calls_append under.makes (OpenJoin (joined_ty (formula_ty tys child)) under.root ∷ []) in
+        let rest = calls_laid start child in
+        omega (arith, size, rest)
     calls_laid start f = omega arith
 
-    calls_laid_each : (start : ℕ) (fs : Formulas) → calls_of_opens (laid_each nodes start fs).makes ≤ calls_in_all fs
+    calls_laid_each : (start : ℕ) (fs : Formulas) → calls_of_opens (laid_each nodes tys start fs).makes ≤ calls_in_all fs
     calls_laid_each start End = omega arith
     calls_laid_each start (More f rest) =
-        let first = laid nodes start f in
+        let first = laid nodes tys start f in
         let next = start + length first.makes in
-        let size = calls_append first.makes (laid_each nodes next rest).makes in
+        let size = calls_append first.makes (laid_each nodes tys next rest).makes in
         let here = calls_laid start f in
         let there = calls_laid_each next rest in
         omega (arith, size, here, there)
 
-  pub calls_laid_body : (body : Body) → calls_of_opens (laid_body nodes 0 body).makes ≤ calls_of_body body
+  pub calls_laid_body : (body : Body) → calls_of_opens (laid_body nodes tys 0 body).makes ≤ calls_of_body body
   unfolding calls_of_opens open_cost or_none
   calls_laid_body (Variable v) = omega arith
   calls_laid_body (Computed f kept) = calls_laid 0 f
@@ -179,6 +199,8 @@ unfolding open_cost
 filled_cost G n made (Const v) = refl
 filled_cost G n made (Var v) = refl
 filled_cost G n made (Map f parts) = refl
+filled_cost G n made (OpenIf ty test a b) = refl
+filled_cost G n made (OpenJoin ty child) = refl
 filled_cost G n made (OpenFold f v parts) = ap (λ (k : ℕ). Some k) (length-map parts (node_of made))
 
 open_at : (xs : List Open) (i : ℕ) → i < length xs → (x : Open) × (slice_get xs i ≡ Some x)

@@ -1,9 +1,9 @@
 -- A script after a declaration, after one that was taken back, and after an assignment, over a graph with its functions.
-use Rattle.std.proofs.Common.{◌≡◌, ◌⊎◌, inl, inr, ℕ, ◌+◌, ◌<◌, ◌≤◌, Bool, List, [], ◌∷◌, ◌++◌, length, Option, None, Some, IfSome, IsTrue, refl, ap, sym, subst, ◌∙◌, arith, slice_get}
+use Rattle.std.proofs.Common.{◌≡◌, ◌⊎◌, inl, inr, ℕ, zero, suc, ◌+◌, ◌<◌, ◌≤◌, Bool, List, [], ◌∷◌, ◌++◌, length, Option, None, Some, IfSome, IsTrue, refl, ap, sym, subst, ◌∙◌, arith, slice_get}
 use Rattle.std.proofs.lemmas.List.{get_or_append_left, get_or_at}
 use Rattle.std.proofs.lemmas.Option.{none-some, slice_get-get_or}
 use Rattle.formula_lang.specs.Fits.{AssignmentFits, BodyFits, DeclarationFits, NameFits, ReferenceFits}
-use Rattle.formula_elab.specs.Laying.{laid_body}
+use Rattle.formula_elab.specs.Laying.{laid_body, type_at}
 use Rattle.formula_elab.specs.Names.{EveryNameOf}
 use Rattle.formula_elab.specs.Opened.{node_at, node_of}
 use Rattle.formula_elab.specs.declared.opened.Open.{Open}
@@ -11,13 +11,11 @@ use Rattle.formula_elab.specs.declared.make.Made.{Made}
 use Rattle.formula_elab.proofs.Places.{few_of_body}
 use Rattle.graph.specs.Effects.{Sets, TakesBack}
 use Rattle.graph.specs.Standing.{Standing}
-use Rattle.inc_value.specs.Value as engine
 use Rattle.inc_value.specs.declared.function.FnRef.{FnRef}
 use Rattle.inc_value.specs.declared.node.NodeId.{NodeId}
 use Rattle.inc_value.specs.declared.node.ObsId.{ObsId}
-use Rattle.inc_value.specs.declared.ty.Base.{Base}
-use Rattle.inc_value.specs.declared.ty.Base.TheVariants as base
 use Rattle.inc_value.specs.declared.ty.Ty.{Ty}
+use Rattle.inc_value.specs.declared.ty.Ty.TheVariants as types
 use Rattle.inc_value.specs.declared.value.Value.{Value as GraphValue}
 use Rattle.inc_value.specs.Choice.{and_then}
 use Rattle.inc_terms.specs.Graph.{Row}
@@ -28,7 +26,7 @@ use Rattle.node_arena.specs.Sound as arena
 use Rattle.node_arena.specs.Typing as typing
 use Rattle.node_arena.specs.Typing.{FitsNode, HasType}
 use Rattle.script_model.specs.Check.{Assign, Declare, Declared, Kind, Names, Variable as VariableKind, Grab as GrabKind, is_variable, kind_of_body, target_of_body, type_of_base}
-use Rattle.script_model.specs.Formula.{Body, meanings_of, places_of_body, Literal, Name, Apply, Fold, Bind, Variable, Computed}
+use Rattle.script_model.specs.Formula.{Body, meanings_of, places_of_body, Literal, Name, Apply, Fold, If, Join, Bind, Variable, Computed}
 use Rattle.script_model.specs.Run.{calls_of_body}
 use Rattle.script_model.specs.Step.{Moment, declared_in, moved}
 use Rattle.script_model.specs.Values.{Value, Int, Bool as Truth, Text, Reference, type_of}
@@ -42,7 +40,8 @@ use Rattle.script_graph.specs.Today.{NoGrabs}
 use Rattle.script_graph.proofs.Counting.{live_within}
 use Rattle.script_graph.proofs.Declaring.{declaring_stands, with_declared}
 use Rattle.script_graph.proofs.Extending.{beside_without, extends_without, stands_on, taken_back_extends}
-use Rattle.script_graph.proofs.Laying.{every_name_of, laid_fits, made_declares, made_owned, made_root, made_variable}
+use Rattle.script_graph.proofs.Laying.{every_name_of, graph_type, laid_fits, made_declares, made_owned, made_root, made_variable}
+use Rattle.script_graph.proofs.Making.{base_is}
 use Rattle.script_graph.proofs.Callers.{HasNewCalls, WereLive, made_new_calls, caller_live, calls_laid_body}
 use Rattle.script_graph.proofs.Setting.{setting_stands}
 use Rattle.script_graph.proofs.Sounding.{declared_at, declared_still, sound_declared, sound_on, sound_set, target_live}
@@ -65,6 +64,14 @@ names_there a names nodes one_each has none position t fits =
     let same : node_at nodes position ≡ node_in nodes fits.declared.target = same_default nodes position low ∙ ap (node_in nodes) (sym fits.target) in
     (node.row, ap (row_at a) same ∙ node.is_row, node.typed ∙ (own.2 ∙ fits.typed))
 
+-- it is declared with the name's type
+pub names_typed : (a : Arena) (names : Names) (nodes : List NodeId) → HaveNodes a names.declared nodes → NoGrabs names.declared
+    → (position : ℕ) (t : Ty) → NameFits names position t → type_at names position ≡ t
+names_typed a names nodes has none position t fits =
+    let own = target_live a names.declared nodes has none fits.place fits.declared fits.stands in
+    ap (λ (o : Option Declared). elim o [ None ↦ types.Int | Some d ↦ d.ty ])
+    (subst (λ (j : ℕ). slice_get names.declared j ≡ Some own.0) fits.target own.1) ∙ (own.2 ∙ fits.typed)
+
 -- the positions of names are those of nodes
 pub names_within : (known : FnRef → Bool) (names : Names) (nodes : List NodeId) → length nodes ≡ length names.declared → (body : Body) (ty : Ty)
     → BodyFits known names body ty → EveryNameOf (λ n. n < length nodes) body
@@ -73,16 +80,18 @@ names_within known names nodes one_each body ty fits =
 
 -- ---- after a declaration
 
-variable_of : (known : FnRef → Bool) (names : Names) (a : Arena) (nodes : ℕ → NodeId) (made : List Made) (body : Body) (ty : Ty) → BodyFits known names body ty
-    → ((v : Value) → body ≡ Variable v → IsVariable a (node_of made (laid_body nodes 0 body).root))
-    → kind_of_body body ≡ VariableKind → IsVariable a (node_of made (laid_body nodes 0 body).root)
-variable_of known names a nodes made (Variable v) ty fits is kind = is v refl
-variable_of known names a nodes made (Computed (Literal v) kept) ty fits is kind = absurd (cc)
-variable_of known names a nodes made (Computed (Name n) kept) ty fits is kind = absurd (cc)
-variable_of known names a nodes made (Computed (Apply f arguments) kept) ty fits is kind = absurd (cc)
-variable_of known names a nodes made (Computed (Fold f first elements) kept) ty fits is kind = absurd (cc)
-variable_of known names a nodes made (Computed f kept) ty fits is kind = absurd fits.0
-variable_of known names a nodes made body ty fits is kind = absurd fits
+variable_of : (known : FnRef → Bool) (names : Names) (a : Arena) (nodes : ℕ → NodeId) (tys : ℕ → Ty) (made : List Made) (body : Body) (ty : Ty) → BodyFits known names body ty
+    → ((v : Value) → body ≡ Variable v → IsVariable a (node_of made (laid_body nodes tys 0 body).root))
+    → kind_of_body body ≡ VariableKind → IsVariable a (node_of made (laid_body nodes tys 0 body).root)
+variable_of known names a nodes tys made (Variable v) ty fits is kind = is v refl
+variable_of known names a nodes tys made (Computed (Literal v) kept) ty fits is kind = absurd (cc)
+variable_of known names a nodes tys made (Computed (Name n) kept) ty fits is kind = absurd (cc)
+variable_of known names a nodes tys made (Computed (Apply f arguments) kept) ty fits is kind = absurd (cc)
+variable_of known names a nodes tys made (Computed (Fold f first elements) kept) ty fits is kind = absurd (cc)
+variable_of known names a nodes tys made (Computed (If test x y) kept) ty fits is kind = absurd (cc)
+variable_of known names a nodes tys made (Computed (Join child) kept) ty fits is kind = absurd (cc)
+variable_of known names a nodes tys made (Computed f kept) ty fits is kind = absurd fits.0
+variable_of known names a nodes tys made body ty fits is kind = absurd fits
 
 -- what is declared is no grab
 no_grab : (known : FnRef → Bool) (names : Names) (body : Body) (ty : Ty) → BodyFits known names body ty → kind_of_body body ≡ GrabKind → ⊥
@@ -95,9 +104,9 @@ no_grab known names body ty fits is = fits
 new_target : (known : FnRef → Bool) (a : Arena) (names : Names) (nodes : List NodeId) → HaveNodes a names.declared nodes → (made : List Made)
     (name : List ℕ) (body : Body) (ty : Ty) → BodyFits known names body ty
     → ((position : ℕ) → position < length names.declared
-    → node_at nodes position ≡ node_in (nodes ++ node_of made (laid_body (node_at nodes) 0 body).root ∷ []) position)
-    → node_in (nodes ++ node_of made (laid_body (node_at nodes) 0 body).root ∷ []) (length names.declared) ≡ node_of made (laid_body (node_at nodes) 0 body).root
-    → HasTarget (names.declared ++ declared_at (length names.declared) name ty body ∷ []) (nodes ++ node_of made (laid_body (node_at nodes) 0 body).root ∷ [])
+    → node_at nodes position ≡ node_in (nodes ++ node_of made (laid_body (node_at nodes) (type_at names) 0 body).root ∷ []) position)
+    → node_in (nodes ++ node_of made (laid_body (node_at nodes) (type_at names) 0 body).root ∷ []) (length names.declared) ≡ node_of made (laid_body (node_at nodes) (type_at names) 0 body).root
+    → HasTarget (names.declared ++ declared_at (length names.declared) name ty body ∷ []) (nodes ++ node_of made (laid_body (node_at nodes) (type_at names) 0 body).root ∷ [])
     (length names.declared) (declared_at (length names.declared) name ty body)
 new_target known a names nodes has made name (Computed (Name t) kept) ty fits same new =
     let own = (has fits.0.place fits.0.declared fits.0.stands).target in
@@ -136,10 +145,10 @@ module _ {F : Type 0} (first now : Standing F) (names : Names) (nodes : List Nod
     module _ (known : FnRef → Bool) (name : List ℕ) (ty : Ty) (body : Body) (fits : DeclarationFits known names name ty body)
         (made : List Made) (less : ℕ) (room_is : less + places_of_body body ≡ room) where
       abbrev makes : List Open
-      makes = (laid_body (node_at nodes) 0 body).makes
+      makes = (laid_body (node_at nodes) (type_at names) 0 body).makes
 
       abbrev root : NodeId
-      root = node_of made (laid_body (node_at nodes) 0 body).root
+      root = node_of made (laid_body (node_at nodes) (type_at names) 0 body).root
 
       abbrev after : Kept
       after = with_declared before name ty body root less (without_functions now)
@@ -151,11 +160,14 @@ module _ {F : Type 0} (first now : Standing F) (names : Names) (nodes : List Nod
         there : (position : ℕ) (t : Ty) → NameFits names position t → (r : Row) × (row_at first.nodes (node_at nodes position) ≡ Some r) × (r.ty ≡ t)
         there = names_there first.nodes names nodes h.one_node_each h.has_nodes h.today
 
-        laid : AllOpenFit known first.nodes makes × PartFits first.nodes makes ty (laid_body (node_at nodes) 0 body).root
-        laid = laid_fits known first.nodes (node_at nodes) names there body ty fits.body_fits
+        declared_type : (position : ℕ) (t : Ty) → NameFits names position t → type_at names position ≡ t
+        declared_type = names_typed first.nodes names nodes h.has_nodes h.today
+
+        laid : AllOpenFit known first.nodes makes × PartFits first.nodes makes ty (laid_body (node_at nodes) (type_at names) 0 body).root
+        laid = laid_fits known first.nodes (node_at nodes) (type_at names) names there declared_type body ty fits.body_fits
 
         typed : (r : Row) × (row_at now.nodes root ≡ Some r) × (r.ty ≡ ty)
-        typed = made_root known names first now (node_at nodes) made sound body ty making whole laid.1
+        typed = made_root known names first now (node_at nodes) (type_at names) made sound body ty making whole laid.1
 
         node_new : node_in (nodes ++ root ∷ []) (length names.declared) ≡ root
         node_new = get_or_at nodes root [] kept.no_node (length names.declared) h.one_node_each
@@ -166,7 +178,7 @@ module _ {F : Type 0} (first now : Standing F) (names : Names) (nodes : List Nod
             same_default nodes position inside ∙ sym (get_or_append_left nodes (root ∷ []) kept.no_node position inside)
 
         size : length makes ≤ places_of_body body
-        size = few_of_body (λ n. n < length nodes) (node_at nodes) body (names_within known names nodes h.one_node_each body ty fits.body_fits)
+        size = few_of_body (λ n. n < length nodes) (node_at nodes) (type_at names) body (names_within known names nodes h.one_node_each body ty fits.body_fits)
 
         few : live now.nodes + less ≤ 1048575
         few = let room = h.few in omega (arith, making.few, room, room_is, whole, size)
@@ -175,25 +187,25 @@ module _ {F : Type 0} (first now : Standing F) (names : Names) (nodes : List Nod
             → MatchesMoment (meanings_of named value) before m → MatchesMoment (meanings_of named value) after (moved m (Declare name ty body))
         declared_stands named value m unbroken =
             declaring_stands named value known before (without_functions now) sound sound' more m name ty body root less fits room_is
-            (made_new_calls first now makes made (calls_of_body body) making whole (calls_laid_body (node_at nodes) body))
-            (made_owned known names first now (node_at nodes) made sound body ty fits.body_fits making whole)
-            (made_declares known names (beside (meanings_of named value) (declared_in m.present name ty body) after) (node_at nodes) made body ty fits.body_fits
+            (made_new_calls first now makes made (calls_of_body body) making whole (calls_laid_body (node_at nodes) (type_at names) body))
+            (made_owned known names first now (node_at nodes) (type_at names) made sound body ty fits.body_fits making whole)
+            (made_declares known names (beside (meanings_of named value) (declared_in m.present name ty body) after) (node_at nodes) (type_at names) made body ty fits.body_fits
             (λ position t fine. node_same position fine.earlier) making.stands whole) unbroken
 
         pub declared_sound : IsSound after
         declared_sound =
             sound_declared before h sound (without_functions now) more name ty body root less typed.0 typed.1 typed.2
-            (variable_of known names now.nodes (node_at nodes) made body ty fits.body_fits (λ v is. variable_here v body is making whole))
+            (variable_of known names now.nodes (node_at nodes) (type_at names) made body ty fits.body_fits (λ v is. variable_here v body is making whole))
             (no_grab known names body ty fits.body_fits)
             (new_target known first.nodes names nodes h.has_nodes made name body ty fits.body_fits node_same node_new) few
           where
-            variable_here : (v : Value) (b : Body) → b ≡ Variable v → IsMaking first now (laid_body (node_at nodes) 0 b).makes made
-                → length made ≡ length (laid_body (node_at nodes) 0 b).makes → IsVariable now.nodes (node_of made (laid_body (node_at nodes) 0 b).root)
+            variable_here : (v : Value) (b : Body) → b ≡ Variable v → IsMaking first now (laid_body (node_at nodes) (type_at names) 0 b).makes made
+                → length made ≡ length (laid_body (node_at nodes) (type_at names) 0 b).makes → IsVariable now.nodes (node_of made (laid_body (node_at nodes) (type_at names) 0 b).root)
             variable_here v b is making whole =
-                subst (λ (c : Body). IsVariable now.nodes (node_of made (laid_body (node_at nodes) 0 c).root)) (sym is)
-                (made_variable known names first now (node_at nodes) made sound v
-                (subst (λ (c : Body). IsMaking first now (laid_body (node_at nodes) 0 c).makes made) is making)
-                (subst (λ (c : Body). length made ≡ length (laid_body (node_at nodes) 0 c).makes) is whole))
+                subst (λ (c : Body). IsVariable now.nodes (node_of made (laid_body (node_at nodes) (type_at names) 0 c).root)) (sym is)
+                (made_variable known names first now (node_at nodes) (type_at names) made sound v
+                (subst (λ (c : Body). IsMaking first now (laid_body (node_at nodes) (type_at names) 0 c).makes made) is making)
+                (subst (λ (c : Body). length made ≡ length (laid_body (node_at nodes) (type_at names) 0 c).makes) is whole))
 
   -- ---- after an assignment
 
@@ -276,17 +288,6 @@ module _ (a : Arena) (names : Names) (nodes : List NodeId) (sound : arena.IsSoun
   named_row : (position : ℕ) (ty : Ty) → NameFits names position ty → (r : Row) × (row_at a (node_in nodes position) ≡ Some r) × (r.ty ≡ ty)
   named_row position ty fits = let own = named_live position ty fits in (own.3.row, own.3.is_row, own.3.typed ∙ own.2)
 
-  base_is : (b : Base) → type_of_base b ≡ typing.ty_of b
-  base_is base.Int = refl
-  base_is base.Bool = refl
-  base_is base.Text = refl
-
-  graph_type : (v : Value) → type_of v ≡ engine.type_of (graph_value (node_in nodes) v)
-  graph_type (Int z) = refl
-  graph_type (Truth b) = refl
-  graph_type (Text bytes) = refl
-  graph_type (Reference target b) = refl
-
   -- what a value that fits refers to is given
   value_within : (v : Value) → ReferenceFits names v → ValueWithin (Given a.given) (graph_value (node_in nodes) v)
   value_within (Int z) fits = tt
@@ -315,5 +316,5 @@ module _ (a : Arena) (names : Names) (nodes : List NodeId) (sound : arena.IsSoun
         given = sound.given (node_in nodes target) (rw own.3.is_row refl);
         within = value_within v fits.refers;
         fits = subst (λ (o : Option Row). IfSome o (λ (r : Row). HasType a (graph_value (node_in nodes) v) r.ty)) (sym own.3.is_row)
-            (record { type = sym (graph_type v) ∙ sym (own.3.typed ∙ own.2); reference = value_fits v fits.refers });
+            (record { type = graph_type (node_in nodes) v ∙ sym (own.3.typed ∙ own.2); reference = value_fits v fits.refers });
       }

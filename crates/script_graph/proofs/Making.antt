@@ -6,12 +6,12 @@ use Rattle.std.proofs.lemmas.List.Elements.{All-head, All-tail}
 use Rattle.std.proofs.lemmas.Option.{slice_get_within}
 use Rattle.formula_elab.specs.Make as make
 use Rattle.formula_elab.specs.Make.{Make}
-use Rattle.formula_elab.specs.Opened.{made_node, node_of, filled, to_make, IsEarlier, NeedsEarlier, AreInOrder}
+use Rattle.formula_elab.specs.Opened.{made_node, node_of, filled, open_ty, to_make, IsEarlier, NeedsEarlier, AreInOrder}
 use Rattle.formula_elab.specs.Plan.{next_make}
 use Rattle.formula_elab.specs.declared.make.Made.{Made}
 use Rattle.formula_elab.specs.declared.make.Made.TheVariants.{Node as NodeMade}
 use Rattle.formula_elab.specs.declared.opened.Open.{Open}
-use Rattle.formula_elab.specs.declared.opened.Open.TheVariants.{Const, Var, Map, Fold}
+use Rattle.formula_elab.specs.declared.opened.Open.TheVariants.{Const, Var, Map, Fold, If, Join}
 use Rattle.formula_elab.specs.declared.opened.Part.{Part}
 use Rattle.formula_elab.specs.declared.opened.Part.TheVariants.{Given as Named, Made as Numbered}
 use Rattle.formula_elab.proofs.InOrder.{order_of}
@@ -25,7 +25,10 @@ use Rattle.inc_value.specs.Ty.{IsBase}
 use Rattle.inc_value.specs.Value.{type_of}
 use Rattle.inc_value.specs.declared.function.FnRef.{FnRef}
 use Rattle.inc_value.specs.declared.node.NodeId.{NodeId}
+use Rattle.inc_value.specs.declared.ty.Base.{Base}
+use Rattle.inc_value.specs.declared.ty.Base.TheVariants as base
 use Rattle.inc_value.specs.declared.ty.Ty.{Ty}
+use Rattle.inc_value.specs.declared.ty.Ty.TheVariants as types
 use Rattle.inc_value.specs.declared.value.Value.{Value}
 use Rattle.inc_value.specs.declared.value.Value.TheVariants as value
 use Rattle.inc_terms.specs.Graph.{Row}
@@ -33,18 +36,13 @@ use Rattle.inc_terms.specs.Within.{Given, ValueWithin}
 use Rattle.node_arena.specs.Arena.{Arena, row_at}
 use Rattle.node_arena.specs.Graph.{graph_of}
 use Rattle.node_arena.specs.Sound as arena
-use Rattle.node_arena.specs.Typing.{Fits, FoldTakes, ReferenceFits}
-use Rattle.script_graph.specs.Growing.{Extends, IsMadeIn, IsMaking, IsWelcome, IsWelcomeMake, PartFits, OpenFits, AllOpenFit, def_ty, open_ty}
+use Rattle.node_arena.specs.Typing.{Fits, FoldTakes, ReferenceFits, base_of, ty_of}
+use Rattle.script_model.specs.Check.{type_of_base}
+use Rattle.script_graph.specs.Growing.{Extends, IsMadeIn, IsMaking, IsWelcome, IsWelcomeMake, PartFits, OpenFits, AllOpenFit, RefersToLive}
 use Rattle.script_graph.proofs.Counting.{live_more}
 use Rattle.script_graph.proofs.Extending.{extends_itself, extends_on, adds_extends, live_stays}
 
 -- ---- what is to be made next
-
-filled_ty : (made : List Made) (x : Open) → def_ty (filled made x) ≡ open_ty x
-filled_ty made (Const v) = refl
-filled_ty made (Var v) = refl
-filled_ty made (Map f parts) = refl
-filled_ty made (Fold f v parts) = refl
 
 next_open : (makes : List Open) (made : List Made) (m : Make) → next_make makes made ≡ Some m
     → (x : Open) × (slice_get makes (length made) ≡ Some x) × (to_make made x ≡ m)
@@ -59,25 +57,68 @@ next_open makes made m e = go (slice_get makes (length made)) refl e
 pub next_within : (makes : List Open) (made : List Made) (m : Make) → next_make makes made ≡ Some m → length made < length makes
 next_within makes made m e = let x = next_open makes made m e in slice_get_within makes (length made) x.0 x.1
 
-pub value_given : (P : NodeId → Type 0) (v : Value) → IsBase (type_of v) → ValueWithin P v
+-- ---- values
+
+-- a value of a base type refers to nothing
+value_given : (P : NodeId → Type 0) (v : Value) → IsBase (type_of v) → ValueWithin P v
 value_given P (value.Int z) base = tt
 value_given P (value.Bool b) base = tt
 value_given P (value.Text bytes) base = tt
 value_given P (value.Node n b) base = absurd base
 
-pub reference_fits : (a : Arena) (v : Value) → IsBase (type_of v) → ReferenceFits a v
+reference_fits : (a : Arena) (v : Value) → IsBase (type_of v) → ReferenceFits a v
 reference_fits a (value.Int z) base = tt
 reference_fits a (value.Bool b) base = tt
 reference_fits a (value.Text bytes) base = tt
 reference_fits a (value.Node n b) base = absurd base
 
+-- the graph's base types are those of scripts
+pub base_is : (b : Base) → type_of_base b ≡ ty_of b
+base_is base.Int = refl
+base_is base.Bool = refl
+base_is base.Text = refl
+
+base_back : (b : Base) → base_of (type_of_base b) ≡ Some b
+base_back base.Int = refl
+base_back base.Bool = refl
+base_back base.Text = refl
+
+row_fits : (a : Arena) (n : NodeId) (t : Ty) (r : Row) → row_at a n ≡ Some r → r.ty ≡ t → Fits a n t
+row_fits a n t r row ty = subst (λ (o : Option Row). IfSome o (λ (q : Row). q.ty ≡ t)) (sym row) ty
+
+-- what a value refers to is of its type
+live_fits : (a : Arena) (v : Value) → RefersToLive a v → ReferenceFits a v
+live_fits a (value.Int z) live = tt
+live_fits a (value.Bool b) live = tt
+live_fits a (value.Text bytes) live = tt
+live_fits a (value.Node n b) live = row_fits a n (ty_of b) live.0 live.1 (live.2 ∙ base_is b)
+
+-- ---- nodes
+
 module _ {F : Type 0} (first now : Standing F) (makes : List Open) (made : List Made) (h : IsMaking first now makes made)
     (sound : arena.IsSound first.nodes) where
+  -- what values refer to is live still
+  value_live : (v : Value) → RefersToLive first.nodes v → RefersToLive now.nodes v
+  value_live (value.Int z) live = tt
+  value_live (value.Bool b) live = tt
+  value_live (value.Text bytes) live = tt
+  value_live (value.Node n b) live = (live.0, live_stays first now sound h.extends n live.0 live.1, live.2)
+
+  -- and given
+  live_within : (v : Value) → RefersToLive first.nodes v → ValueWithin (Given now.nodes.given) v
+  live_within (value.Int z) live = tt
+  live_within (value.Bool b) live = tt
+  live_within (value.Text bytes) live = tt
+  live_within (value.Node n b) live = let low = sound.given n (rw live.1 refl) in omega (arith, low, h.extends.given)
+
   -- a part's node is there with its type
   pub part_row : (p : Part) (t : Ty) → PartFits first.nodes makes t p → IsEarlier (length made) p
       → (r : Row) × (row_at now.nodes (node_of made p) ≡ Some r) × (r.ty ≡ t)
   part_row (Named n) t (r, row, ty) early = (r, live_stays first now sound h.extends n r row, ty)
   part_row (Numbered i) t (x, at, ty) early = let r = h.types i x at early in (r.0, r.1, r.2 ∙ ty)
+
+  part_typed : (p : Part) (t : Ty) → PartFits first.nodes makes t p → IsEarlier (length made) p → Fits now.nodes (node_of made p) t
+  part_typed p t fits early = let r = part_row p t fits early in row_fits now.nodes (node_of made p) t r.0 r.1 r.2
 
   part_given : (p : Part) (t : Ty) → PartFits first.nodes makes t p → IsEarlier (length made) p → Given now.nodes.given (node_of made p)
   part_given (Named n) t (r, row, ty) early = let low = sound.given n (rw row refl) in omega (arith, low, h.extends.given)
@@ -122,24 +163,21 @@ module _ {F : Type 0} (first now : Standing F) (makes : List Open) (made : List 
   )
 
   open_welcome : (known : FnRef → Bool) (x : Open) → OpenFits known first.nodes makes x → NeedsEarlier (length made) x
-      → IsWelcome known now.nodes (filled made x)
+      → IsWelcome known now.nodes (filled made x) (open_ty x)
   open_welcome known (Const v) fits early = record {
-    named = value_given (Given now.nodes.given) v fits;
-    makes = record { type = refl; reference = reference_fits now.nodes v fits };
+    named = live_within v fits;
+    makes = record { type = refl; reference = live_fits now.nodes v (value_live v fits) };
     calls = tt;
-    one_point = refl;
   }
   open_welcome known (Var v) fits early = record {
-    named = value_given (Given now.nodes.given) v fits;
-    makes = record { type = refl; reference = reference_fits now.nodes v fits };
+    named = live_within v fits;
+    makes = record { type = refl; reference = live_fits now.nodes v (value_live v fits) };
     calls = tt;
-    one_point = refl;
   }
   open_welcome known (Map f parts) fits early = record {
     named = (tt, parts_given parts f.sig.takes fits.2 early);
     makes = record { kind = fits.1; children = parts_fit parts f.sig.takes fits.2 early; gives = refl };
     calls = fits.0;
-    one_point = refl;
   }
   open_welcome known (Fold f v parts) fits early = record {
     named = (tt, value_given (Given now.nodes.given) v fits.base, each_given parts fits.element fits.parts_fit early);
@@ -151,7 +189,16 @@ module _ {F : Type 0} (first now : Standing F) (makes : List Open) (made : List 
       initial = record { type = fits.initial; reference = reference_fits now.nodes v fits.base };
     };
     calls = fits.is_known;
-    one_point = refl;
+  }
+  open_welcome known (If ty test left right) fits early = record {
+    named = (part_given test types.Bool fits.0 early.0, part_given left ty fits.1 early.1, part_given right ty fits.2 early.2);
+    makes = (part_typed test types.Bool fits.0 early.0, part_typed left ty fits.1 early.1, part_typed right ty fits.2 early.2);
+    calls = tt;
+  }
+  open_welcome known (Join ty child) fits early = record {
+    named = part_given child (types.Node fits.0) fits.1 early;
+    makes = (fits.0, ap base_of (sym fits.2) ∙ base_back fits.0, part_typed child (types.Node fits.0) fits.1 early);
+    calls = tt;
   }
 
   -- the graph takes what is to be made next
@@ -181,10 +228,10 @@ module _ {F : Type 0} where
   pub one_more_made : (first now new : Standing F) (makes : List Open) (made : List Made) → IsMaking first now makes made
       → arena.IsSound now.nodes → (m : Make) → next_make makes made ≡ Some m → (one : Made) → IsMadeIn now new m one
       → IsMaking first new makes (made ++ one ∷ [])
-  one_more_made first now new makes made h sound (make.Node d) next (NodeMade id) adds = record {
+  one_more_made first now new makes made h sound (make.Node d ty) next (NodeMade id) adds = record {
     extends = extends_on first now new h.extends more;
-    stands = one_more_stands (graph_of now.nodes) (graph_of new.nodes) makes made d id h.stands (live_stays now new sound more) next
-        (top d (def_ty d), adds.changes.changed, refl, refl);
+    stands = one_more_stands (graph_of now.nodes) (graph_of new.nodes) makes made d ty id h.stands (live_stays now new sound more) next
+        (top d ty, adds.changes.changed, refl, refl);
     types = λ i x at less. type_at i x at (below i (length made) (omega (arith, less, size)));
     ids = λ i less. id_at i (below i (length made) (omega (arith, less, size)));
     given = omega (arith, adds.given, h.given, size);
@@ -195,7 +242,7 @@ module _ {F : Type 0} where
         | inr new ↦ inr (among_left (NodeMade n) made (one ∷ []) new)
       ]
     ];
-    few = let more_live = live_more now.nodes new.nodes id (Some (top d (def_ty d))) adds.changes in
+    few = let more_live = live_more now.nodes new.nodes id (Some (top d ty)) adds.changes in
         omega (arith, h.few, more_live, size);
   }
     where
@@ -203,7 +250,7 @@ module _ {F : Type 0} where
       one = NodeMade id
 
       more : Extends now new
-      more = adds_extends now new id (top d (def_ty d)) adds
+      more = adds_extends now new id (top d ty) adds
 
       size : length (made ++ one ∷ []) ≡ length made + 1
       size = length-append made (one ∷ [])
@@ -217,13 +264,10 @@ module _ {F : Type 0} where
           let r = h.types i x at less in
           (r.0, ap (row_at new.nodes) (made_append made one i less) ∙ live_stays now new sound more (made_node made i) r.0 r.1, r.2)
       type_at i x at (inr is) =
-          let y = next_open makes made (make.Node d) next in
+          let y = next_open makes made (make.Node d ty) next in
           let same : y.0 ≡ x = let e : Some y.0 ≡ Some x = sym y.1 ∙ (ap (slice_get makes) (sym is) ∙ at) in cc in
-          let def : filled made y.0 ≡ d = let e : make.Node (filled made y.0) ≡ make.Node d = y.2 in cc in (
-            top d (def_ty d),
-            ap (row_at new.nodes) (made_last made one i is) ∙ adds.changes.changed,
-            ap def_ty (sym def) ∙ (filled_ty made y.0 ∙ ap open_ty same),
-          )
+          let typed : open_ty y.0 ≡ ty = let e : make.Node (filled made y.0) (open_ty y.0) ≡ make.Node d ty = y.2 in cc in
+          (top d ty, ap (row_at new.nodes) (made_last made one i is) ∙ adds.changes.changed, sym typed ∙ ap open_ty same)
 
       id_at : (i : ℕ) → (i < length made) ⊎ (i ≡ length made) → (made_node (made ++ one ∷ []) i).gen_ ≡ first.nodes.given + i
       id_at i (inl less) = ap (λ (n : NodeId). n.gen_) (made_append made one i less) ∙ h.ids i less

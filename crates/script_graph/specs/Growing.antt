@@ -7,15 +7,17 @@ use Rattle.inc_value.specs.Value.{type_of}
 use Rattle.inc_value.specs.declared.function.FnKind.TheVariants as kind
 use Rattle.inc_value.specs.declared.function.FnRef.{FnRef}
 use Rattle.inc_value.specs.declared.node.NodeId.{NodeId}
+use Rattle.inc_value.specs.declared.ty.Base.{Base}
 use Rattle.inc_value.specs.declared.ty.Ty.{Ty}
+use Rattle.inc_value.specs.declared.ty.Ty.TheVariants as types
 use Rattle.inc_value.specs.declared.value.Value.{Value}
-use Rattle.inc_terms.specs.Graph as graph
+use Rattle.inc_value.specs.declared.value.Value.TheVariants as value
 use Rattle.inc_terms.specs.Graph.{Row, Def}
 use Rattle.inc_terms.specs.Within.{Given}
 use Rattle.formula_elab.specs.Made.{StandsIn}
 use Rattle.formula_elab.specs.Make as make
 use Rattle.formula_elab.specs.Make.{Make}
-use Rattle.formula_elab.specs.Opened.{made_node}
+use Rattle.formula_elab.specs.Opened.{made_node, open_ty}
 use Rattle.formula_elab.specs.declared.make.Made.{Made}
 use Rattle.formula_elab.specs.declared.make.Made.TheVariants.{Node as NodeMade}
 use Rattle.formula_elab.specs.declared.opened.Open.{Open}
@@ -28,22 +30,12 @@ use Rattle.graph.specs.Known.{CallsKnown}
 use Rattle.node_arena.specs.Arena.{Arena, row_at, live, NamesGiven}
 use Rattle.node_arena.specs.Graph.{graph_of}
 use Rattle.node_arena.specs.Typing.{Makes}
-use Rattle.script_graph.specs.Today.{IsOfOnePoint, other_ty}
+use Rattle.script_model.specs.Check.{type_of_base}
 
--- the type of the node that is made of such a definition
-abbrev pub def_ty : Def → Ty
-def_ty (graph.Const v) = type_of v
-def_ty (graph.Var v) = type_of v
-def_ty (graph.Map f kids) = f.sig.gives
-def_ty (graph.Fold f v kids) = f.sig.gives
-def_ty def = other_ty
-
--- so of what is to be made
-abbrev pub open_ty : Open → Ty
-open_ty (open_def.Const v) = type_of v
-open_ty (open_def.Var v) = type_of v
-open_ty (open_def.Map f parts) = f.sig.gives
-open_ty (open_def.Fold f v parts) = f.sig.gives
+-- a value refers to a live node of its base type, if to any
+abbrev pub RefersToLive : Arena → Value → Type 0
+RefersToLive a (value.Node n base) = (r : Row) × (row_at a n ≡ Some r) × (r.ty ≡ type_of_base base)
+RefersToLive a v = Unit {0}
 
 -- the part is a live node of the type, or made as the i-th, of that type
 abbrev pub PartFits : Arena → List Open → Ty → Part → Type 0
@@ -60,32 +52,35 @@ pub record FoldFits (known : FnRef → Bool) (a : Arena) (makes : List Open) (f 
   pub base : IsBase (type_of v)
   pub parts_fit : Every (PartFits a makes element) parts
 
--- what is to be made fits: no value is a reference, and functions are known maps whose arguments have the types that they take
+-- what is to be made fits: values refer to live nodes, functions are known maps whose arguments have the types that they take, an if has a test and
+-- branches of its type, and a join a child whose references lead to its type
 abbrev pub OpenFits : (FnRef → Bool) → Arena → List Open → Open → Type 0
-OpenFits known a makes (open_def.Const v) = IsBase (type_of v)
-OpenFits known a makes (open_def.Var v) = IsBase (type_of v)
+OpenFits known a makes (open_def.Const v) = RefersToLive a v
+OpenFits known a makes (open_def.Var v) = RefersToLive a v
 OpenFits known a makes (open_def.Map f parts) =
     IsTrue (known f) × (f.id.kind ≡ kind.Map) × AllZip (λ (p : Part) (t : Ty). PartFits a makes t p) parts f.sig.takes
 OpenFits known a makes (open_def.Fold f v parts) = FoldFits known a makes f v parts
+OpenFits known a makes (open_def.If ty test left right) =
+    PartFits a makes types.Bool test × PartFits a makes ty left × PartFits a makes ty right
+OpenFits known a makes (open_def.Join ty child) = (base : Base) × PartFits a makes (types.Node base) child × (type_of_base base ≡ ty)
 
 abbrev pub AllOpenFit : (FnRef → Bool) → Arena → List Open → Type 0
 AllOpenFit known a makes = (i : ℕ) (x : Open) → slice_get makes i ≡ Some x → OpenFits known a makes x
 
--- a definition that a graph takes: it names given nodes, makes its type, and calls known functions; and it is of one point
-pub record IsWelcome (known : FnRef → Bool) (a : Arena) (d : Def) : Type 0 where
+-- a definition that a graph takes with the type: it names given nodes, makes the type, and calls known functions
+pub record IsWelcome (known : FnRef → Bool) (a : Arena) (d : Def) (ty : Ty) : Type 0 where
   pub named : NamesGiven a.given d
-  pub makes : Makes a d (def_ty d)
+  pub makes : Makes a d ty
   pub calls : CallsKnown known d
-  pub one_point : IsOfOnePoint d
 
 -- what is to be made is such a definition
 abbrev pub IsWelcomeMake : (FnRef → Bool) → Arena → Make → Type 0
-IsWelcomeMake known a (make.Node d) = IsWelcome known a d
+IsWelcomeMake known a (make.Node d ty) = IsWelcome known a d ty
 
 module _ {F : Type 0} where
   -- it was made: a node that is so defined was added
   abbrev pub IsMadeIn : Standing F → Standing F → Make → Made → Type 0
-  IsMadeIn old new (make.Node d) (NodeMade n) = Adds old new n (top d (def_ty d))
+  IsMadeIn old new (make.Node d ty) (NodeMade n) = Adds old new n (top d ty)
 
   -- nodes were added: what was given before is as it was
   pub record Extends (old new : Standing F) : Type 0 where

@@ -5,10 +5,7 @@ use Rattle.inc_value.specs.Choice.{Among}
 use Rattle.inc_value.specs.Ty.{IsBase}
 use Rattle.inc_value.specs.declared.function.FnRef.{FnRef}
 use Rattle.inc_value.specs.declared.node.NodeId.{NodeId}
-use Rattle.inc_value.specs.declared.ty.Ty.{Ty}
-use Rattle.inc_value.specs.declared.ty.Ty.TheVariants as ty
 use Rattle.inc_value.specs.declared.value.Value.{Value}
-use Rattle.inc_terms.specs.Depend.{subject_of}
 use Rattle.inc_terms.specs.Graph as graph
 use Rattle.inc_terms.specs.Graph.{Graph, Row, Def}
 use Rattle.inc_terms.specs.Term.{Functions}
@@ -92,15 +89,6 @@ pub record IsTodaysObserver (x : Observer) : Type 0 where
 -- no notice comes
 abbrev pub NoNotices : List Notice → Type 0
 NoNotices notices = notices ≡ []
-
--- ---- nodes that are made: each is of one point
-
-abbrev pub IsOfOnePoint : Def → Type 0
-IsOfOnePoint def = subject_of def ≡ None
-
--- the type of a node of another form, which none is
-abbrev pub other_ty : Ty
-other_ty = ty.Int
 
 -- ---- beside the graph: no freezes, and no experts that were made stale
 

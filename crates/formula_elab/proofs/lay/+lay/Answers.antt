@@ -1,4 +1,4 @@
-use Rattle.std.proofs.Common.{◌≡◌, ◌<◌, length, ap, subst, sym, ◌∙◌}
+use Rattle.std.proofs.Common.{◌<◌, length, ap, subst, sym, ◌∙◌}
 use Rattle.formula_lang.specs.CommandView.{formula_level, formula_view}
 use Rattle.formula_lang.specs.declared.command.Formula.TheFolds.{fold-roll-Formula}
 use Rattle.formula_lang.specs.declared.command.Formula.TheOpen as level
