@@ -1,6 +1,6 @@
 -- A graph takes a welcome definition, unless there is no memory.
-use Rattle.std.proofs.Common.{◌≡◌, inl, inr, ◌-◌, ◌^◌, ◌<◌, Bool, None, Some, Result, Ok, Err, IfErr, IsErrOf, ap, sym, ◌∙◌, arith}
-use Rattle.graph.specs.Effects.{IsAddFault, NamesUnknown, IsMistyped, HasNoRoom}
+use Rattle.std.proofs.Common.{◌≡◌, inl, inr, ◌-◌, ◌^◌, ◌<◌, Bool, None, Some, Result, Ok, Err, IfErr, IsErrOf, ap, sym, subst, ◌∙◌, arith}
+use Rattle.graph.specs.Effects.{top, Adds, IsAddFault, NamesUnknown, IsMistyped, HasNoRoom}
 use Rattle.graph.specs.Standing.{Standing, IsUnbroken, IsBroken}
 use Rattle.graph.specs.declared.fault.GraphFault.{GraphFault}
 use Rattle.graph.specs.declared.fault.GraphFault.TheVariants as fault
@@ -9,8 +9,16 @@ use Rattle.inc_value.specs.declared.function.FnRef.{FnRef}
 use Rattle.inc_value.specs.declared.node.NodeId.{NodeId}
 use Rattle.inc_value.specs.declared.ty.Ty.{Ty}
 use Rattle.inc_terms.specs.Graph.{Def}
-use Rattle.node_arena.specs.Arena.{live, IsFull}
+use Rattle.node_arena.specs.Arena.{Arena, live, IsFull}
 use Rattle.script_graph.specs.Growing.{IsWelcome}
+
+-- a welcome definition is so with each type that is the same
+pub welcome_as : (known : FnRef → Bool) (a : Arena) (d : Def) (own ty : Ty) → IsWelcome known a d ty → own ≡ ty → IsWelcome known a d own
+welcome_as known a d own ty welcome same = subst (IsWelcome known a d) (sym same) welcome
+
+-- what was added with its own type was added with each that is the same
+pub added_as : {F : Type 0} (old new : Standing F) (n : NodeId) (d : Def) (own ty : Ty) → own ≡ ty → Adds old new n (top d own) → Adds old new n (top d ty)
+added_as old new n d own ty same added = subst (λ (t : Ty). Adds old new n (top d t)) same added
 
 module _ {F : Type 0} (s : Standing F) (known : FnRef → Bool) (d : Def) (ty : Ty) (whole : IsUnbroken s) (welcome : IsWelcome known s.nodes d ty)
     (room : live s.nodes < 1048576) (ids : s.nodes.given < 2 ^ 64 - 1) where

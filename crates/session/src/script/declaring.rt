@@ -144,9 +144,9 @@ fn make_declared<L: Library>(
     requires room { live graph.old.nodes + places_of_body (body_view body.now) ≤ 1048575 }
     requires ids { graph.old.nodes.given + 2 ^ 20 < 2 ^ 64 - 1 }
     ensures made { IfOk result (λ node. (made : List Made)
-        × IsMaking graph.old graph.new (laid_body (node_at nodes.now) (type_at names.now) 0 (body_view body.now)).makes made
-        × (length made ≡ length (laid_body (node_at nodes.now) (type_at names.now) 0 (body_view body.now)).makes)
-        × (node ≡ node_of made (laid_body (node_at nodes.now) (type_at names.now) 0 (body_view body.now)).root)) }
+        × IsMaking graph.old graph.new (laid_body (node_at nodes.now) (type_at names.entry.now) 0 (body_view body.now)).makes made
+        × (length made ≡ length (laid_body (node_at nodes.now) (type_at names.entry.now) 0 (body_view body.now)).makes)
+        × (node ≡ node_of made (laid_body (node_at nodes.now) (type_at names.entry.now) 0 (body_view body.now)).root)) }
     ensures kept { OnErr result (Extends graph.old graph.new) }
     ensures given { graph.new.nodes.given ≤ graph.old.nodes.given + 2 ^ 20 }
 {

@@ -25,6 +25,12 @@ assign-requires-clause-given g c =
     let value = rw c.deref.ensures.value at c.in-Ok.ensures in
     (node_takes _ c.self.invariant.0 c.args.target _ fits c.keeps_sound.ensures.sound.nodes _ value c.index.result.now c.index.ensures).given
 
+pub assign-requires-clause-within : goal.assign-requires-clause-within
+assign-requires-clause-within g c =
+    let fits = rw (← c.self.view_is) at c.requires.fits in
+    let value = rw c.deref.ensures.value at c.in-Ok.ensures in
+    (node_takes _ c.self.invariant.0 c.args.target _ fits c.keeps_sound.ensures.sound.nodes _ value c.index.result.now c.index.ensures).within
+
 pub assign-requires-clause-fits : goal.assign-requires-clause-fits
 assign-requires-clause-fits g c =
     let fits = rw (← c.self.view_is) at c.requires.fits in
@@ -38,7 +44,7 @@ invariant_of-self g c =
     let node = target_node _ c.self.invariant.0 c.args.target fits.name.earlier c.index.result.now c.index.ensures in
     let sets = subst (λ (n : NodeId). Sets s.graph c.assign.new.self n c.in-Ok.value) node c.assign.ensures in (
       set_sound s.graph c.assign.new.self s.names s.nodes.items s.observers.items s.room s.accepted s.broken c.self.invariant.0
-          c.keeps_sound.ensures.sound.nodes c.keeps_sound-2.ensures.sound.nodes c.args.target c.in-Ok.value sets,
+          c.keeps_sound.ensures.sound.nodes c.keeps_sound-in-Ok.ensures.sound.nodes c.args.target c.in-Ok.value sets,
       ap (λ fs. length fs.bodies.items) c.assign.ensures.beside.functions ∙ c.self.invariant.1,
     )
 
@@ -50,6 +56,6 @@ returns-in-Ok-clause-set g c =
     let node = target_node _ c.self.invariant.0 c.args.target fits.name.earlier c.index.result.now c.index.ensures in
     let sets = subst (λ (n : NodeId). Sets s.graph c.assign.new.self n c.in-Ok.value) node c.assign.ensures in
     rw (← c.self.view_is) (λ m. set_stands s.graph c.assign.new.self s.names s.nodes.items s.observers.items s.room s.accepted s.broken c.self.invariant.0
-    c.keeps_sound.ensures.sound.nodes c.keeps_sound-2.ensures.sound.nodes c.args.target c.in-Ok.value sets (constant_view c.args.value.now) fits
+    c.keeps_sound.ensures.sound.nodes c.keeps_sound-in-Ok.ensures.sound.nodes c.args.target c.in-Ok.value sets (constant_view c.args.value.now) fits
     (g.L.Library.named s.graph.functions.library) (g.L.Library.value s.graph.functions.library) m
     (value_is _ c.self.invariant.0 c.args.target _ fits ∙ sym value))
