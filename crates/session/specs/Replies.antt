@@ -1,6 +1,7 @@
 -- The lines that a session writes.
 use Rattle.std.specs.Prelude.{◌≡◌, ◌⊎◌, ℕ, Option, None, Some, slice_get, List, [], ◌∷◌, ◌++◌, codes}
 use Rattle.std.specs.Fmt.{decimal}
+use Rattle.std.specs.List.{flat_map}
 use Rattle.script_model.specs.Check.{Names, Declared}
 use Rattle.inc_value.specs.Outcome.{printed_outcome}
 use Rattle.inc_value.specs.declared.node.NodeId.{NodeId}
@@ -36,6 +37,14 @@ shown_line observer referred outcome = line_of (observer ++ codes " = " ++ print
 -- to a stabilize that was refused for the depth of a declaration
 abbrev pub too_deep_line : List ℕ → List ℕ
 too_deep_line name = line_of (codes "refused 21 height " ++ name)
+
+-- a name behind a space
+abbrev pub behind_space : List ℕ → List ℕ
+behind_space name = codes " " ++ name
+
+-- to a stabilize that was refused for a cycle of declarations of these names, the last of which is the first again
+abbrev pub cycle_line : List (List ℕ) → List ℕ
+cycle_line names = line_of (codes "refused 20 cycle" ++ flat_map behind_space names)
 
 -- the name of the declaration at a position; nothing where there is none
 abbrev pub name_in : Names → ℕ → List ℕ

@@ -15,6 +15,12 @@ pub(crate) fn room_behind(formula: &Formula, room: usize) -> Option<usize>
         Formula::Name(_) => Some(room),
         Formula::Apply { arguments, .. } => room_behind_each(arguments, room)?.checked_sub(1),
         Formula::Fold { elements, .. } => room_behind_each(elements, room)?.checked_sub(1),
+        Formula::If { test, yes, no } => {
+            let left = room_behind(test, room)?;
+            let left = room_behind(yes, left)?;
+            room_behind(no, left)?.checked_sub(1)
+        }
+        Formula::Join(child) => room_behind(child, room)?.checked_sub(1),
     }
 }
 

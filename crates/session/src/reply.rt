@@ -1,7 +1,8 @@
 //! The lines that a session writes.
-ghost use Rattle.std.specs.Prelude.{◌≡◌, ◌++◌, OnOk, OnErr};
-ghost use Rattle.session.specs.Replies.{broken_line, done_line, refused_line, shown_line, stable_line, too_deep_line};
+ghost use Rattle.std.specs.Prelude.{◌≡◌, ◌++◌, map, OnOk, OnErr};
+ghost use Rattle.session.specs.Replies.{broken_line, cycle_line, done_line, name_in, refused_line, shown_line, stable_line, too_deep_line};
 
+use formula_lang::Names;
 use inc_value::Outcome;
 use std::alloc::{AllocError, Global};
 
@@ -46,6 +47,36 @@ pub(crate) fn write_too_deep(
     line.extend_from_slice(name)?;
     line.push(b'\n')?;
     out.extend_from_slice(&line)
+}
+
+/// Appends the reply to a stabilize that is refused for a cycle of declarations, whose last is the first again.
+pub(crate) fn write_circular(
+    alloc: Global,
+    names: &Names,
+    targets: &[usize],
+    out: &mut Vec<u8>,
+) -> Result<(), AllocError>
+    ensures ok { OnOk result (out.new.items ≡ out.old.items ++ cycle_line (map (name_in names.entry.now) targets.now)) }
+    ensures err { OnErr result (out.new.items ≡ out.old.items) }
+{
+    let mut line = Vec::new(alloc);
+    line.extend_from_slice(b"refused 20 cycle")?;
+    for target in targets {
+        line.push(b' ')?;
+        line.extend_from_slice(name_at(names, *target))?;
+    }
+    line.push(b'\n')?;
+    out.extend_from_slice(&line)
+}
+
+/// The name of the declaration at a position; nothing where there is none.
+pub(crate) fn name_at(names: &Names, position: usize) -> &[u8]
+    ensures { result.now ≡ name_in names.entry.now position }
+{
+    if position < names.len() {
+        return names.get(position).name.bytes();
+    }
+    b""
 }
 
 /// Appends the reply to an accepted stabilize, the `round`-th of them.

@@ -11,6 +11,7 @@ mod observing;
 mod setting;
 mod stabilizing;
 
+use crate::reply::name_at;
 use formula_lang::Names;
 use graph::{Graph, GraphFault};
 use inc_value::{NodeId, ObsId};
@@ -114,10 +115,7 @@ impl<L: Library> Script<L> {
     pub(crate) fn name_at(&self, position: usize) -> &[u8]
         ensures { result.now ≡ name_in self.now.kept.names position }
     {
-        if position < self.names.len() {
-            return self.names.get(position).name.bytes();
-        }
-        b""
+        name_at(&self.names, position)
     }
 
     /// The node of each declaration.
