@@ -5,7 +5,7 @@ use Rattle.inc_value.specs.declared.node.ObsId.{ObsId}
 use Rattle.inc_value.specs.declared.outcome.Outcome.{Outcome}
 use Rattle.inc_value.specs.declared.outcome.Outcome.TheVariants.{Val}
 use Rattle.inc_value.specs.declared.value.Value.TheVariants.{Int, Bool, Node}
-use Rattle.graph.specs.Standing.{Standing, node_at, shown_of}
+use Rattle.graph.specs.Standing.{Standing, node_at, shown_of, without_functions}
 
 -- a graph, of whose functions the count of calls alone is seen
 pub record Measured : Type 0 where
@@ -14,18 +14,7 @@ pub record Measured : Type 0 where
 
 -- a graph as it is measured, after so many calls
 abbrev pub measured : {F : Type 0} → ℕ → Standing F → Measured
-measured calls s = record {
-  calls = calls;
-  graph = record {
-    functions = tt;
-    nodes = s.nodes;
-    observers = s.observers;
-    rooted = s.rooted;
-    ran = s.ran;
-    refused = s.refused;
-    work = s.work;
-  };
-}
+measured calls s = record { calls = calls; graph = without_functions s }
 
 -- the number of an outcome: a truth counts as 1, its contrary and what refers to a node as 0; a text and no value have none
 abbrev pub number_in : Outcome → Option ℤ

@@ -12,9 +12,10 @@ use Rattle.script_model.specs.Formula.{Meanings, meanings_of, start}
 use Rattle.script_model.specs.Step.{first_moment}
 use Rattle.script_model.specs.Valid.{KeepToTypes}
 use Rattle.script_model.proofs.Validity.{start_is_valid}
-use Rattle.script_graph.specs.Kept.{Kept, IsSound}
+use Rattle.script_graph.specs.Kept.{Kept}
 use Rattle.script_graph.specs.Represents.{Represents}
 use Rattle.script_graph.specs.Settled.{root_of, Settled}
+use Rattle.script_graph.specs.Sound.{IsSound}
 use Rattle.script_graph.specs.State.{Stands}
 use Rattle.script_graph.proofs.Beside.{represented_fits}
 use Rattle.script_graph.proofs.Held.{looked_within, rooted_looks}
@@ -36,6 +37,7 @@ module _ (g : Standing (Unit {0})) (nodes : (n : NodeId) → row_at g.nodes n �
   first_sound none unbroken = record {
     one_node_each = refl;
     has_nodes = λ n d is. absurd (cc);
+    today = λ n d is grab. cc;
     few = omega (arith, none);
     one_observer_each = refl;
     looking = λ o among. absurd among;

@@ -1,5 +1,5 @@
 -- What observers show, and what is kept of the last accepted stabilize, after a call that keeps both.
-use Rattle.std.proofs.Common.{◌≡◌, ℕ, ◌<◌, ◌≤◌, List, take, length, Some, IsSome, ap, sym, subst, ◌∙◌, arith, slice_get}
+use Rattle.std.proofs.Common.{◌≡◌, ℕ, ◌≤◌, List, length, Some, IsSome, ap, sym, subst, ◌∙◌, arith, slice_get}
 use Rattle.inc_value.specs.Choice.{Among}
 use Rattle.inc_value.specs.declared.node.NodeId.{NodeId}
 use Rattle.inc_value.specs.declared.node.ObsId.{ObsId}
@@ -15,10 +15,10 @@ use Rattle.script_model.specs.Formula.{State, Body, Meanings, Observer, body_at}
 use Rattle.script_model.specs.Need.{Visit}
 use Rattle.script_model.specs.Values.{Outcome}
 use Rattle.script_graph.specs.Kept.{Kept, arena_of, node_in}
-use Rattle.script_graph.specs.Represents.{besides, IsShown, IsObserver, Watches}
+use Rattle.script_graph.specs.Represents.{besides, rooted_at, IsShown, IsObserver, Watches}
 use Rattle.script_graph.specs.Today.{IsDeclaredTarget, RefersTo}
-use Rattle.script_graph.specs.Settled.{rooted_at, StillDeclares, WasRun, Settled}
-use Rattle.script_graph.proofs.Held.{link_less, held_less}
+use Rattle.script_graph.specs.Settled.{StillDeclares, WasRun, Settled}
+use Rattle.script_graph.proofs.Held.{rooted_still, was_still, link_less, held_less}
 use Rattle.script_graph.proofs.Referring.{outcome_agrees, outcome_refers_more}
 
 -- ---- observers
@@ -29,22 +29,22 @@ module _ (s s' : State) (k k' : Kept) (beside : KeepsBesideGiven k.graph k'.grap
     (given : (n : ℕ) (b : Body) → body_at s n ≡ Some b → Given (arena_of k).given (node_in k.nodes n))
     (stays : (n : ℕ) (b : Body) → body_at s n ≡ Some b → (c : Body) × (body_at s' n ≡ Some c))
     (targets : (t : ℕ) → IsDeclaredTarget s t → IsDeclaredTarget s' t) where
+  looks_on : (o : ObsId) → standing.node_at k'.graph.observers o ≡ standing.node_at k.graph.observers o
+  looks_on o = ap (λ (os : List Looking). standing.node_at os o) beside.observers
+
   shown_on : (o : ObsId) (x : Observer) (b : Body) → body_at s x.target ≡ Some b
       → ((p : Outcome) → x.shown ≡ Some p → RefersTo (IsDeclaredTarget s) p) → IsShown k o x → IsShown k' o x
   shown_on o x b is refers h = record {
-    earlier = λ low.
-        let e = h.earlier (subst (λ (r : ℕ). o.0 < r) beside.rooted low) in (
+    earlier = λ was.
+        let e = h.earlier (was_still k'.graph k.graph o (sym beside.rooted) (sym (looks_on o)) was) in (
           e.0,
           e.1,
           λ whole. ap (shown_of k'.graph) (nodes x.target b is) ∙ (beside.shown (node_in k.nodes x.target) (given x.target b is)
               ∙ (e.2 (sym broken ∙ whole) ∙ ap (λ p. Some p)
               (outcome_agrees (IsDeclaredTarget s) (node_in k.nodes) (node_in k'.nodes) (λ t own. nodes t own.0 own.1) e.0 (refers e.0 e.1)))),
         );
-    later = λ high. h.later (subst (λ (r : ℕ). r ≤ o.0) beside.rooted high);
+    later = λ never. h.later (λ was. never (was_still k.graph k'.graph o beside.rooted (looks_on o) was));
   }
-
-  looks_on : (o : ObsId) → standing.node_at k'.graph.observers o ≡ standing.node_at k.graph.observers o
-  looks_on o = ap (λ (os : List Looking). standing.node_at os o) beside.observers
 
   observer_on : (o : ObsId) (x : Observer) → IsObserver s k o x → IsObserver s' k' o x
   observer_on o x h = record {
@@ -94,8 +94,7 @@ pub record LeavesBeside (k k' : Kept) : Type 0 where
 -- a call that keeps what is beside the graph
 pub leaves_beside : (k k' : Kept) → KeepsBesideGiven k.graph k'.graph → (arena_of k).given ≤ (arena_of k').given → LeavesBeside k k'
 leaves_beside k k' keeps given = record {
-  rooted = λ o n at. subst (λ (r : ℕ). standing.node_at (take r k.graph.observers) o ≡ Some n) keeps.rooted
-      (subst (λ (os : List Looking). standing.node_at (take k'.graph.rooted os) o ≡ Some n) keeps.observers at);
+  rooted = λ o n at. rooted_still k'.graph k.graph o (sym keeps.rooted) (ap (λ (os : List Looking). standing.node_at os o) (sym keeps.observers)) n at;
   fewer = λ p q. let same = keeps.links p q in omega (arith, same);
   given = given;
   last = keeps.last;

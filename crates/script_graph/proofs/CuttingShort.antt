@@ -1,5 +1,5 @@
 -- A stabilize that was cut short, and a refusal that never comes.
-use Rattle.std.proofs.Common.{◌≡◌, ◌<◌, ◌≤◌, ℕ, List, length, Option, Some, refl, ap, sym, subst, ◌∙◌}
+use Rattle.std.proofs.Common.{◌≡◌, ℕ, List, length, Option, Some, refl, ap, sym, subst, ◌∙◌}
 use Rattle.inc_value.specs.declared.function.FnRef.{FnRef}
 use Rattle.inc_value.specs.declared.node.NodeId.{NodeId}
 use Rattle.inc_value.specs.declared.node.ObsId.{ObsId}
@@ -21,6 +21,7 @@ use Rattle.script_graph.specs.Stabilizing.{IsCutShort}
 use Rattle.script_graph.specs.State.{MatchesMoment}
 use Rattle.script_graph.specs.Today.{maps_alone}
 use Rattle.script_graph.proofs.Calling.{few_calls}
+use Rattle.script_graph.proofs.Held.{was_still}
 use Rattle.script_graph.proofs.Same.{represents_so}
 use Rattle.script_graph.proofs.Without.{few_without}
 use Rattle.stabilizer.specs.declared.refused.Refused.{Refused}
@@ -58,8 +59,8 @@ watches_broken s k g number keeps w = record {
 
     still_shown : (o : ObsId) (x : Observer) → IsShown k o x → IsShown (record k { broken = Some number; graph = g }) o x
     still_shown o x h = record {
-      earlier = λ low. let e = h.earlier (subst (λ (r : ℕ). o.0 < r) keeps.rooted low) in (e.0, e.1, λ whole. absurd (cc));
-      later = λ high. h.later (subst (λ (r : ℕ). r ≤ o.0) keeps.rooted high);
+      earlier = λ was. let e = h.earlier (was_still g k.graph o (sym keeps.rooted) (sym (looks o)) was) in (e.0, e.1, λ whole. absurd (cc));
+      later = λ never. h.later (λ was. never (was_still k.graph g o keeps.rooted (looks o) was));
     }
 
 -- what is kept of a script that broke matches the broken moment, where nodes and observers stayed

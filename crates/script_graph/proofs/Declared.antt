@@ -22,28 +22,31 @@ use Rattle.inc_value.specs.declared.ty.Ty.TheVariants as types
 use Rattle.inc_value.specs.declared.value.Value.{Value as GraphValue}
 use Rattle.inc_value.specs.Choice.{and_then}
 use Rattle.inc_terms.specs.Graph.{Row}
+use Rattle.link_table.proofs.Lists.{get_append_last}
 use Rattle.inc_terms.specs.Within.{Given, ValueWithin}
 use Rattle.node_arena.specs.Arena.{Arena, row_at, live, IsVariable}
 use Rattle.node_arena.specs.Sound as arena
 use Rattle.node_arena.specs.Typing as typing
 use Rattle.node_arena.specs.Typing.{FitsNode, HasType}
-use Rattle.script_model.specs.Check.{Assign, Declare, Declared, Kind, Names, Variable as VariableKind, is_variable, kind_of_body, target_of_body, type_of_base}
-use Rattle.script_model.specs.Formula.{Body, meanings_of, places_of_body, Literal, Name, Apply, Fold, If, Join, Variable, Computed}
+use Rattle.script_model.specs.Check.{Assign, Declare, Declared, Kind, Names, Variable as VariableKind, Grab as GrabKind, is_variable, kind_of_body, type_of_base}
+use Rattle.script_model.specs.Formula.{Body, meanings_of, places_of_body, Literal, Name, Apply, Fold, If, Join, Bind, Variable, Computed}
 use Rattle.script_model.specs.Run.{calls_of_body}
 use Rattle.script_model.specs.Step.{Moment, declared_in, moved}
 use Rattle.script_model.specs.Values.{Value, Int, Bool as Truth, Text, Reference, type_of}
 use Rattle.script_graph.specs.Growing.{Extends, IsMaking, PartFits, AllOpenFit}
 use Rattle.script_graph.specs.Kept as kept
-use Rattle.script_graph.specs.Kept.{Kept, node_in, HasNode, IsSound, without_functions}
+use Rattle.script_graph.specs.Kept.{Kept, node_in, without_functions}
 use Rattle.script_graph.specs.Represents.{beside}
+use Rattle.script_graph.specs.Sound.{HasLiveNode, HasTarget, HaveNodes, IsSound}
 use Rattle.script_graph.specs.State.{MatchesMoment}
+use Rattle.script_graph.specs.Today.{NoGrabs}
 use Rattle.script_graph.proofs.Counting.{live_within}
 use Rattle.script_graph.proofs.Declaring.{declaring_stands, with_declared}
 use Rattle.script_graph.proofs.Extending.{beside_without, extends_without, stands_on, taken_back_extends}
 use Rattle.script_graph.proofs.Laying.{every_name_of, laid_fits, made_declares, made_owned, made_root, made_variable}
 use Rattle.script_graph.proofs.Callers.{HasNewCalls, WereLive, made_new_calls, caller_live, calls_laid_body}
 use Rattle.script_graph.proofs.Setting.{setting_stands}
-use Rattle.script_graph.proofs.Sounding.{sound_declared, sound_on, sound_set}
+use Rattle.script_graph.proofs.Sounding.{declared_at, declared_still, sound_declared, sound_on, sound_set, target_live}
 use Rattle.transfer.specs.Both.{graph_value}
 
 -- ---- the nodes of names
@@ -53,34 +56,24 @@ same_default nodes n low =
     let e : Some (node_at nodes n) ≡ Some (node_in nodes n) = sym (slice_get-get_or nodes n _ low) ∙ slice_get-get_or nodes n _ low in cc
 
 -- what a name that fits stands for has its node, which has the name's type
-pub names_there : (a : Arena) (names : Names) (nodes : List NodeId) → length nodes ≡ length names.declared
-    → ((n : ℕ) (d : Declared) → slice_get names.declared n ≡ Some d → HasNode a nodes n d)
+pub names_there : (a : Arena) (names : Names) (nodes : List NodeId) → length nodes ≡ length names.declared → HaveNodes a names.declared nodes
+    → NoGrabs names.declared
     → (position : ℕ) (t : Ty) → NameFits names position t → (r : Row) × (row_at a (node_at nodes position) ≡ Some r) × (r.ty ≡ t)
-names_there a names nodes one_each has position t fits =
-    let node = has fits.place fits.declared fits.stands in
+names_there a names nodes one_each has none position t fits =
+    let own = target_live a names.declared nodes has none fits.place fits.declared fits.stands in
+    let node = own.3 in
     let low : position < length nodes = omega (arith, fits.earlier, one_each) in
-    let same : node_at nodes position ≡ node_in nodes fits.place =
-    same_default nodes position low ∙ (ap (node_in nodes) (sym fits.target) ∙ node.target) in
-    (node.row, ap (row_at a) same ∙ node.is_row, node.typed ∙ fits.typed)
-
-declared_there : (ds : List Declared) (i : ℕ) → i < length ds → (d : Declared) × (slice_get ds i ≡ Some d)
-declared_there [] i low = absurd (omega (arith, low))
-declared_there (d ∷ ds) zero low = (d, refl)
-declared_there (d ∷ ds) (suc i) low = declared_there ds i (omega (arith, low))
+    let same : node_at nodes position ≡ node_in nodes fits.declared.target = same_default nodes position low ∙ ap (node_in nodes) (sym fits.target) in
+    (node.row, ap (row_at a) same ∙ node.is_row, node.typed ∙ (own.2 ∙ fits.typed))
 
 -- it is declared with the name's type
-pub names_typed : (a : Arena) (names : Names) (nodes : List NodeId)
-    → ((n : ℕ) (d : Declared) → slice_get names.declared n ≡ Some d → HasNode a nodes n d)
-    → (position : ℕ) (t : Ty) → NameFits names position t → type_at names position ≡ t
+pub names_typed : (a : Arena) (names : Names) (nodes : List NodeId) → HaveNodes a names.declared nodes → (position : ℕ) (t : Ty)
+    → NameFits names position t → type_at names position ≡ t
 names_typed a names nodes has position t fits =
-    let d = declared_there names.declared position fits.earlier in
-    let here = has position d.0 d.1 in
-    let node = has fits.place fits.declared fits.stands in
-    let same : node_in nodes position ≡ node_in nodes fits.place = ap (node_in nodes) (sym fits.target) ∙ node.target in
-    let row : here.row ≡ node.row =
-    (let e : Some here.row ≡ Some node.row = sym here.is_row ∙ (ap (row_at a) same ∙ node.is_row) in cc) in
-    ap (λ (o : Option Declared). elim o [ None ↦ types.Int | Some d ↦ d.ty ]) d.1
-    ∙ (sym here.typed ∙ (ap (λ (r : Row). r.ty) row ∙ (node.typed ∙ fits.typed)))
+    let own = (has fits.place fits.declared fits.stands).target in
+    let there : slice_get names.declared position ≡ Some own.target =
+    subst (λ (j : ℕ). slice_get names.declared j ≡ Some own.target) fits.target own.is_target in
+    ap (λ (o : Option Declared). elim o [ None ↦ types.Int | Some d ↦ d.ty ]) there ∙ (own.typed ∙ fits.typed)
 
 -- the positions of names are those of nodes
 pub names_within : (known : FnRef → Bool) (names : Names) (nodes : List NodeId) → length nodes ≡ length names.declared → (body : Body) (ty : Ty)
@@ -103,16 +96,36 @@ variable_of known names a nodes tys made (Computed (Join child) kept) ty fits is
 variable_of known names a nodes tys made (Computed f kept) ty fits is kind = absurd fits.0
 variable_of known names a nodes tys made body ty fits is kind = absurd fits
 
--- the target of what is declared has its node
-target_node : (known : FnRef → Bool) (names : Names) (nodes : List NodeId) (made : List Made) (body : Body) (ty : Ty) → BodyFits known names body ty
+-- what is declared is no grab
+no_grab : (known : FnRef → Bool) (names : Names) (body : Body) (ty : Ty) → BodyFits known names body ty → kind_of_body body ≡ GrabKind → ⊥
+no_grab known names (Variable v) ty fits is = cc
+no_grab known names (Computed (Bind left body) kept) ty fits is = fits.0
+no_grab known names (Computed f kept) ty fits is = cc
+no_grab known names body ty fits is = fits
+
+-- it has its target
+new_target : (known : FnRef → Bool) (a : Arena) (names : Names) (nodes : List NodeId) → HaveNodes a names.declared nodes → (made : List Made)
+    (name : List ℕ) (body : Body) (ty : Ty) → BodyFits known names body ty
     → ((position : ℕ) → position < length names.declared
     → node_at nodes position ≡ node_in (nodes ++ node_of made (laid_body (node_at nodes) (type_at names) 0 body).root ∷ []) position)
     → node_in (nodes ++ node_of made (laid_body (node_at nodes) (type_at names) 0 body).root ∷ []) (length names.declared) ≡ node_of made (laid_body (node_at nodes) (type_at names) 0 body).root
-    → node_in (nodes ++ node_of made (laid_body (node_at nodes) (type_at names) 0 body).root ∷ []) (target_of_body (length names.declared) body)
-    ≡ node_of made (laid_body (node_at nodes) (type_at names) 0 body).root
-target_node known names nodes made (Computed (Name t) kept) ty fits same new = sym (same t fits.0.earlier)
-target_node known names nodes made (Computed f kept) ty fits same new = new
-target_node known names nodes made body ty fits same new = new
+    → HasTarget (names.declared ++ declared_at (length names.declared) name ty body ∷ []) (nodes ++ node_of made (laid_body (node_at nodes) (type_at names) 0 body).root ∷ [])
+    (length names.declared) (declared_at (length names.declared) name ty body)
+new_target known a names nodes has made name (Computed (Name t) kept) ty fits same new =
+    let own = (has fits.0.place fits.0.declared fits.0.stands).target in
+    let last = declared_at (length names.declared) name ty (Computed (Name t) kept) in
+    record {
+      target = own.target;
+      is_target = subst (λ (j : ℕ). slice_get (names.declared ++ last ∷ []) j ≡ Some own.target) fits.0.target
+          (declared_still names.declared last fits.0.declared.target own.target own.is_target);
+      itself = own.itself ∙ fits.0.target;
+      typed = own.typed ∙ fits.0.typed;
+      node = sym (same t fits.0.earlier) ∙ sym new;
+    }
+new_target known a names nodes has made name (Computed f kept) ty fits same new =
+    record { target = _; is_target = get_append_last names.declared _; itself = refl; typed = refl; node = refl }
+new_target known a names nodes has made name body ty fits same new =
+    record { target = _; is_target = get_append_last names.declared _; itself = refl; typed = refl; node = refl }
 
 module _ {F : Type 0} (first now : Standing F) (names : Names) (nodes : List NodeId) (observers : List ObsId) (room accepted : ℕ) (broken : Option ℕ) where
   abbrev before : Kept
@@ -148,7 +161,7 @@ module _ {F : Type 0} (first now : Standing F) (names : Names) (nodes : List Nod
         more = extends_without first now making.extends
 
         there : (position : ℕ) (t : Ty) → NameFits names position t → (r : Row) × (row_at first.nodes (node_at nodes position) ≡ Some r) × (r.ty ≡ t)
-        there = names_there first.nodes names nodes h.one_node_each h.has_nodes
+        there = names_there first.nodes names nodes h.one_node_each h.has_nodes h.today
 
         declared_type : (position : ℕ) (t : Ty) → NameFits names position t → type_at names position ≡ t
         declared_type = names_typed first.nodes names nodes h.has_nodes
@@ -186,7 +199,8 @@ module _ {F : Type 0} (first now : Standing F) (names : Names) (nodes : List Nod
         declared_sound =
             sound_declared before h sound (without_functions now) more name ty body root less typed.0 typed.1 typed.2
             (variable_of known names now.nodes (node_at nodes) (type_at names) made body ty fits.body_fits (λ v is. variable_here v body is making whole))
-            (target_node known names nodes made body ty fits.body_fits node_same node_new) few
+            (no_grab known names body ty fits.body_fits)
+            (new_target known first.nodes names nodes h.has_nodes made name body ty fits.body_fits node_same node_new) few
           where
             variable_here : (v : Value) (b : Body) → b ≡ Variable v → IsMaking first now (laid_body (node_at nodes) (type_at names) 0 b).makes made
                 → length made ≡ length (laid_body (node_at nodes) (type_at names) 0 b).makes → IsVariable now.nodes (node_of made (laid_body (node_at nodes) (type_at names) 0 b).root)
@@ -261,14 +275,21 @@ kind_known (Some d) is = (d, refl, by_kind d.kind is)
     by_kind VariableKind is = refl
     by_kind k is = absurd (cc)
 
-module _ (a : Arena) (names : Names) (nodes : List NodeId) (sound : arena.IsSound a)
-    (has : (n : ℕ) (d : Declared) → slice_get names.declared n ≡ Some d → HasNode a nodes n d) where
-  -- what a name that fits stands for has a live node, of its type
+module _ (a : Arena) (names : Names) (nodes : List NodeId) (sound : arena.IsSound a) (has : HaveNodes a names.declared nodes)
+    (none : NoGrabs names.declared) where
+  -- what a name that fits stands for is declared with its type, and has a live node
+  named : (position : ℕ) (ty : Ty) → NameFits names position ty
+      → (t : Declared) × (slice_get names.declared position ≡ Some t) × (t.ty ≡ ty) × HasLiveNode a nodes position t
+  named position ty fits =
+      let own = target_live a names.declared nodes has none fits.place fits.declared fits.stands in (
+        own.0,
+        subst (λ (j : ℕ). slice_get names.declared j ≡ Some own.0) fits.target own.1,
+        own.2 ∙ fits.typed,
+        subst (λ (j : ℕ). HasLiveNode a nodes j own.0) fits.target own.3,
+      )
+
   named_row : (position : ℕ) (ty : Ty) → NameFits names position ty → (r : Row) × (row_at a (node_in nodes position) ≡ Some r) × (r.ty ≡ ty)
-  named_row position ty fits =
-      let place = has fits.place fits.declared fits.stands in
-      let same : node_in nodes position ≡ node_in nodes fits.place = ap (node_in nodes) (sym fits.target) ∙ place.target in
-      (place.row, ap (row_at a) same ∙ place.is_row, place.typed ∙ fits.typed)
+  named_row position ty fits = let t = named position ty fits in (t.3.row, t.3.is_row, t.3.typed ∙ t.2)
 
   base_is : (b : Base) → type_of_base b ≡ typing.ty_of b
   base_is base.Int = refl
@@ -302,10 +323,11 @@ module _ (a : Arena) (names : Names) (nodes : List NodeId) (sound : arena.IsSoun
   pub assigned_takes : (target : ℕ) (v : Value) → AssignmentFits names target v → TakesValue a (node_in nodes target) (graph_value (node_in nodes) v)
   assigned_takes target v fits =
       let d = kind_known (slice_get names.declared target) fits.variable in
-      let here = has target d.0 d.1 in
+      let t = named target (type_of v) fits.name in
+      let is : t.0 ≡ d.0 = (let e : Some t.0 ≡ Some d.0 = sym t.1 ∙ d.1 in cc) in
       let row = named_row target (type_of v) fits.name in
       record {
-        variable = here.variable d.2;
+        variable = t.3.variable (ap (λ (e : Declared). e.kind) is ∙ d.2);
         given = sound.given (node_in nodes target) (rw row.1 refl);
         within = value_within v fits.refers;
         fits = subst (λ (o : Option Row). IfSome o (λ (r : Row). HasType a (graph_value (node_in nodes) v) r.ty)) (sym row.1)

@@ -11,12 +11,13 @@ use Rattle.node_arena.specs.Arena.{Arena, row_at, live}
 use Rattle.script_model.specs.Check.{Unobserve, is_among, names_of}
 use Rattle.script_model.specs.Formula.{State, Observer, Meanings}
 use Rattle.script_model.specs.Step.{Moment, moved}
-use Rattle.script_graph.specs.Kept.{Kept, HasNode, IsSound, arena_of, node_in}
-use Rattle.script_graph.specs.Represents.{there_in, IsShown, Watches}
-use Rattle.script_graph.specs.Settled.{rooted_at, StillDeclares}
+use Rattle.script_graph.specs.Kept.{Kept, arena_of, node_in}
+use Rattle.script_graph.specs.Represents.{rooted_at, there_in, IsShown, Watches}
+use Rattle.script_graph.specs.Settled.{StillDeclares}
+use Rattle.script_graph.specs.Sound.{HaveNodes, IsSound}
 use Rattle.script_graph.specs.State.{MatchesMoment}
 use Rattle.script_graph.proofs.Carrying.{LeavesBeside, settled_on}
-use Rattle.script_graph.proofs.Held.{rooted_looks, looks_rooted}
+use Rattle.script_graph.proofs.Held.{rooted_looks, rooted_still, was_still}
 use Rattle.script_graph.proofs.Observing.{get_some, there_is_among}
 use Rattle.script_graph.proofs.Same.{represents_so}
 
@@ -306,7 +307,8 @@ module _ (k : Kept) (name d : List ℕ) (i : ℕ) (o : ObsId) (g : Standing (Uni
   pub ending_sound : IsSound new
   ending_sound = record {
     one_node_each = sound.one_node_each;
-    has_nodes = λ n e at. subst (λ (a : Arena). HasNode a k.nodes n e) (sym ends.nodes) (sound.has_nodes n e at);
+    has_nodes = subst (λ (a : Arena). HaveNodes a k.names.declared k.nodes) (sym ends.nodes) sound.has_nodes;
+    today = sound.today;
     few = subst (λ (a : Arena). live a + k.room ≤ 1048575) (sym ends.nodes) sound.few;
     one_observer_each = swap_length k.observers i o ∙ ap (λ (n : ℕ). n - 1) sound.one_observer_each ∙ sym (swap_length k.names.observers i d);
     looking = looking_left;
@@ -349,11 +351,11 @@ module _ (k : Kept) (name d : List ℕ) (i : ℕ) (o : ObsId) (g : Standing (Uni
     alone : (j : ℕ) (y : Observer) → slice_get w.made j ≡ Some (Some y) → y.name ≡ name → j ≡ o.0
     alone j y at same = ap (λ (q : ObsId). q.0) (w.apart (record { 0 = j }) o y ended_one.0 at ended_one.1 (same ∙ sym ended_one.2))
 
-    shown_still : (p : ObsId) (y : Observer) → IsShown k p y → IsShown new p y
-    shown_still p y h = record {
-      earlier = λ less. let e = h.earlier (subst (λ (n : ℕ). p.0 < n) ends.rooted less) in
+    shown_still : (p : ObsId) (y : Observer) → (p.0 ≡ o.0 → ⊥) → IsShown k p y → IsShown new p y
+    shown_still p y ne h = record {
+      earlier = λ was. let e = h.earlier (was_still g k.graph p (sym ends.rooted) (sym (looks_old p ne)) was) in
           (e.0, e.1, λ whole. ends.shown (node_in k.nodes y.target) ∙ e.2 whole);
-      later = λ more. h.later (subst (λ (n : ℕ). n ≤ p.0) ends.rooted more);
+      later = λ never. h.later (λ was. never (was_still k.graph g p ends.rooted (looks_old p ne) was));
     }
 
     looks_ended : (p : ObsId) → p.0 ≡ o.0 → node_at g.observers p ≡ None
@@ -369,7 +371,7 @@ module _ (k : Kept) (name d : List ℕ) (i : ℕ) (o : ObsId) (g : Standing (Uni
       in_order = ap (filter (is_other name)) w.in_order ∙ one_leaves name w.made o.0 ended_one.0 ended_one.1 ended_one.2 alone;
       ended = λ p at. was_ended p at (same_or p.0 o.0);
       observing = λ p y at. let old = was_made p.0 y at in let h = w.observing p y old.1 in
-          record { looks = looks_old p old.0 ∙ h.looks; target = h.target; shown = shown_still p y h.shown; refers = h.refers; today = h.today };
+          record { looks = looks_old p old.0 ∙ h.looks; target = h.target; shown = shown_still p y old.0 h.shown; refers = h.refers; today = h.today };
       named = λ j p n at_p at_n. let a = id_at j p at_p in let b = name_at j n at_n in let h = w.named (source last i j) p n a.1 b.1 in
           (h.0, left_other p.0 (other_id j p at_p) ∙ h.1, h.2);
       apart = λ p q y z at_p at_q same. w.apart p q y z (was_made p.0 y at_p).1 (was_made q.0 z at_q).1 same;
@@ -412,18 +414,16 @@ module _ (k : Kept) (name d : List ℕ) (i : ℕ) (o : ObsId) (g : Standing (Uni
 
     leaves : LeavesBeside k new
     leaves = record {
-      rooted = λ p n at. rooted_still p n (rooted_looks g p n at) (same_or p.0 o.0);
+      rooted = λ p n at. rooted_left p n at (same_or p.0 o.0);
       fewer = ends.fewer_links;
       given = let same = ap (λ (a : Arena). a.given) ends.nodes in omega (arith, same);
       last = λ n given. ends.last n;
       no_more_cutoffs = λ n equal. ends.cutoff n ∙ equal;
     }
       where
-        rooted_still : (p : ObsId) (n : NodeId) → (p.0 < g.rooted) × (node_at g.observers p ≡ Some n) → (p.0 ≡ o.0) ⊎ (p.0 ≡ o.0 → ⊥)
-            → rooted_at k.graph p ≡ Some n
-        rooted_still p n is (inl e) = absurd (let none = sym (looks_ended p e) ∙ is.1 in cc)
-        rooted_still p n is (inr ne) =
-            looks_rooted k.graph p n (subst (λ (r : ℕ). p.0 < r) ends.rooted is.0) (sym (looks_old p ne) ∙ is.1)
+        rooted_left : (p : ObsId) (n : NodeId) → rooted_at g p ≡ Some n → (p.0 ≡ o.0) ⊎ (p.0 ≡ o.0 → ⊥) → rooted_at k.graph p ≡ Some n
+        rooted_left p n at (inl e) = absurd (let none = sym (looks_ended p e) ∙ (rooted_looks g p n at).1 in cc)
+        rooted_left p n at (inr ne) = rooted_still g k.graph p (sym ends.rooted) (sym (looks_old p ne)) n at
 
     still : StillDeclares s k.nodes (arena_of k) then new
     still = record {

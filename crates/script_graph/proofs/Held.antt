@@ -13,7 +13,8 @@ use Rattle.graph.specs.declared.observer.Observer.{Observer as Looking}
 use Rattle.graph.specs.Stabilizes.{StoodBeside}
 use Rattle.graph.proofs.Needing.{needed_root, needed_linked, needed_has}
 use Rattle.stabilize_round.proofs.Points.{count_among, among_count}
-use Rattle.script_graph.specs.Settled.{observed_from, rooted_at, root_of, side_of, observed_by}
+use Rattle.script_graph.specs.Represents.{rooted_at, WasThere}
+use Rattle.script_graph.specs.Settled.{observed_from, root_of, side_of, observed_by}
 
 -- ---- observers
 
@@ -114,6 +115,13 @@ module _ {A : Type 0} where
   pub looks_rooted : (g : Standing A) (o : ObsId) (n : NodeId) → o.0 < g.rooted → node_at g.observers o ≡ Some n → rooted_at g o ≡ Some n
   looks_rooted g o n low e = looks_taken g.rooted g.observers o.0 low ∙ e
 
+  -- one that looks at a node was there then, if there were more observers
+  pub was_there : (g : Standing A) (o : ObsId) (n : NodeId) → o.0 < g.rooted → node_at g.observers o ≡ Some n → WasThere g o
+  was_there g o n low e = (n, looks_rooted g o n low e)
+
+  pub wasnt_there : (g : Standing A) (o : ObsId) → g.rooted ≤ o.0 → WasThere g o → ⊥
+  wasnt_there g o high was = let low = (rooted_looks g o was.0 was.1).0 in absurd (omega (arith, low, high))
+
   -- so it is in use
   root_holds : (g : Standing A) (holder : Holder) (n : NodeId) → root_of g holder ≡ Some n → StillHolds (observed_by g) holder
   root_holds g (Observing o) n e =
@@ -121,6 +129,16 @@ module _ {A : Type 0} where
       subst (λ (i : ℕ). Among (record { 0 = i }) (map (λ (x : Observed). x.observer) (observed_by g))) same
       (observed_there 0 g.observers o.0 n (rooted_looks g o n e).1)
   root_holds g (Freezing m) n e = absurd (cc)
+
+  -- where no other observers were there then, and the observer looks at what it did, it was there as it was
+  pub rooted_still : (g h : Standing A) (o : ObsId) → h.rooted ≡ g.rooted → node_at h.observers o ≡ node_at g.observers o
+      → (n : NodeId) → rooted_at g o ≡ Some n → rooted_at h o ≡ Some n
+  rooted_still g h o same looks n was =
+      let then = rooted_looks g o n was in
+      looks_rooted h o n (subst (λ (r : ℕ). o.0 < r) (sym same) then.0) (looks ∙ then.1)
+
+  pub was_still : (g h : Standing A) (o : ObsId) → h.rooted ≡ g.rooted → node_at h.observers o ≡ node_at g.observers o → WasThere g o → WasThere h o
+  was_still g h o same looks was = (was.0, rooted_still g h o same looks was.0 was.1)
 
   -- what is needed is held beside the graph
   module _ (g : Standing A) (roots : AreRooted g (rooted_nodes g)) where

@@ -20,7 +20,7 @@ use Rattle.script_graph.specs.Settled.{StillDeclares}
 use Rattle.script_graph.specs.Shown.{ShowsIt}
 use Rattle.script_graph.specs.State.{MatchesMoment}
 use Rattle.script_graph.proofs.Carrying.{LeavesBeside, settled_on}
-use Rattle.script_graph.proofs.Held.{rooted_looks, looks_rooted}
+use Rattle.script_graph.proofs.Held.{rooted_looks, rooted_still, was_still, was_there, wasnt_there}
 use Rattle.script_graph.proofs.Same.{represents_so}
 use Rattle.transfer.specs.Both.{graph_outcome}
 
@@ -176,18 +176,18 @@ module _ (F : Meanings) (k : Kept) (m : Moment) (name : List ℕ) (target : ℕ)
   looks_old : (p : ObsId) → p.0 < length k.graph.observers → node_at g.observers p ≡ node_at k.graph.observers p
   looks_old p less = rw observers_more (ap looked_at (get_within k.graph.observers _ p.0 less))
 
-  old_shown : (p : ObsId) (y : Observer) → IsShown k p y → IsShown new p y
-  old_shown p y h = record {
-    earlier = λ less. let e = h.earlier (subst (λ (n : ℕ). p.0 < n) rooted_same less) in
+  old_shown : (p : ObsId) (y : Observer) → p.0 < length k.graph.observers → IsShown k p y → IsShown new p y
+  old_shown p y less h = record {
+    earlier = λ was. let e = h.earlier (was_still g k.graph p (sym rooted_same) (sym (looks_old p less)) was) in
         (e.0, e.1, λ whole. ap (λ (h : Standing (Unit {0})). shown_of h (node_in k.nodes y.target)) observes.rest ∙ e.2 whole);
-    later = λ more. h.later (subst (λ (n : ℕ). n ≤ p.0) rooted_same more);
+    later = λ never. h.later (λ was. never (was_still k.graph g p rooted_same (looks_old p less) was));
   }
 
   old_observer : (p : ObsId) (y : Observer) → slice_get w.made p.0 ≡ Some (Some y) → IsObserver then new p y
   old_observer p y at =
       let h = w.observing p y at in
       let less : p.0 < length k.graph.observers = let c = get_some w.made p.0 (Some y) at in let e = w.one_each in omega (arith, c, e) in
-      record { looks = looks_old p less ∙ h.looks; target = h.target; shown = old_shown p y h.shown; refers = h.refers; today = h.today }
+      record { looks = looks_old p less ∙ h.looks; target = h.target; shown = old_shown p y less h.shown; refers = h.refers; today = h.today }
 
   new_looks : (p : ObsId) → p.0 ≡ length w.made → node_at g.observers p ≡ Some (node_in k.nodes target)
   new_looks p e = rw (observers_more, e, w.one_each) (ap looked_at (get_end k.graph.observers (record { node = node_in k.nodes target; in_use = true })))
@@ -204,8 +204,8 @@ module _ (F : Meanings) (k : Kept) (m : Moment) (name : List ℕ) (target : ℕ)
     looks = new_looks p e;
     target = target_there;
     shown = record {
-      earlier = λ less. absurd (let r = rooted in let c = w.one_each in let same = rooted_same in omega (arith, less, e, r, c, same));
-      later = λ more. refl;
+      earlier = λ was. absurd (wasnt_there g p (let r = rooted in let c = w.one_each in let same = rooted_same in omega (arith, e, r, c, same)) was);
+      later = λ never. refl;
     };
     refers = λ q is. absurd (cc);
     today = record { unwatched = refl };
@@ -266,8 +266,8 @@ module _ (F : Meanings) (k : Kept) (m : Moment) (name : List ℕ) (target : ℕ)
   leaves = record {
     rooted = λ p n at.
         let is = rooted_looks g p n at in
-        let low : p.0 < k.graph.rooted = subst (λ (r : ℕ). p.0 < r) rooted_same is.0 in
-        looks_rooted k.graph p n low (sym (looks_old p (let r = rooted in omega (arith, low, r))) ∙ is.1);
+        let low : p.0 < length k.graph.observers = (let less = is.0 in let r = rooted in let same = rooted_same in omega (arith, less, r, same)) in
+        rooted_still g k.graph p (sym rooted_same) (sym (looks_old p low)) n at;
     fewer = λ p q. let same = ap (λ (h : Standing (Unit {0})). times_linked h p q) observes.rest in omega (arith, same);
     given = let same = ap (λ (a : Arena). a.given) nodes_same in omega (arith, same);
     last = λ n given. ap (λ (h : Standing (Unit {0})). called_last h n) observes.rest;
@@ -321,7 +321,7 @@ module _ (F : Meanings) (k : Kept) (m : Moment) (stands : MatchesMoment F k m) (
       → ShowsIt (node_in k.nodes) m.present name out
   shows_it n out looks shows earlier =
       let f = found in
-      let e = f.1.shown.earlier earlier in
+      let e = f.1.shown.earlier (was_there k.graph o n earlier looks) in
       let same_node : node_in k.nodes f.0.target ≡ n = let l = sym f.1.looks ∙ looks in cc in
       let same : graph_outcome (node_in k.nodes) e.0 ≡ out =
       let l = sym (e.2 (sym stands.broken ∙ unbroken)) ∙ ap (shown_of k.graph) same_node ∙ shows in cc in
@@ -329,4 +329,4 @@ module _ (F : Meanings) (k : Kept) (m : Moment) (stands : MatchesMoment F k m) (
 
   -- nothing where it was made later
   pub shows_nothing : k.graph.rooted ≤ o.0 → shown_by m.present name ≡ None
-  shows_nothing later = let f = found in rw f.2 (f.1.shown.later later)
+  shows_nothing later = let f = found in rw f.2 (f.1.shown.later (wasnt_there k.graph o later))

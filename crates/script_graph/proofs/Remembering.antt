@@ -186,7 +186,7 @@ module _ (named : List ℕ → Option FnRef) (value : FnRef → List GraphValue 
       let w = stands.matches.watches in
       let z = made_there s k w o n looks.1 in
       let is = w.observing o z.0 z.1 in
-      let p = is.shown.earlier looks.0 in
+      let p = is.shown.earlier (n, root) in
       let among : Among z.0 s.observers = subst (Among z.0) (sym w.in_order) (among_there w.made o.0 z.0 z.1) in
       let root_then = st.watched z.0 among (subst (λ (x : Option _). IsSome x) (sym p.1) refl) in
       let entry = root_entry F before st.today.plain stands.valid.0 z.0.target root_then in

@@ -11,6 +11,7 @@ use Rattle.script_model.specs.Values.{Outcome}
 use Rattle.script_graph.specs.Kept.{Kept, node_in}
 use Rattle.script_graph.specs.Represents.{there_in, IsObserver, Watches}
 use Rattle.script_graph.specs.Today.{IsDeclaredTarget, RefersTo}
+use Rattle.script_graph.proofs.Held.{was_there}
 use Rattle.script_graph.proofs.Same.{observed_so}
 use Rattle.transfer.specs.Both.{graph_outcome}
 
@@ -95,17 +96,20 @@ module _ (F : Meanings) (s : State) (k : Kept) (g : Standing (Unit {0})) where
     abbrev new : Kept
     new = record k { accepted = count; graph = g }
 
+    looks_so : (o : ObsId) (x : Observer) → slice_get w.made o.0 ≡ Some (Some x) → node_at g.observers o ≡ Some (node_in k.nodes x.target)
+    looks_so o x at = subst (λ (os : List Looking). node_at os o ≡ Some (node_in k.nodes x.target)) (sym same) (w.observing o x at).looks
+
     looks_then : (o : ObsId) (x : Observer) (p : Outcome) → slice_get w.made o.0 ≡ Some (Some x) → ShowsThen x p → IsObserver then new o (showing x p)
     looks_then o x p at shows = record {
-      looks = subst (λ (os : List Looking). node_at os o ≡ Some (node_in k.nodes x.target)) (sym same) (w.observing o x at).looks;
+      looks = looks_so o x at;
       target = (w.observing o x at).target;
       shown = record {
         earlier = λ before. (p, refl, λ whole. shows.shown);
-        later = λ le.
+        later = λ never.
             let within : o.0 < length w.made = slice_get_within w.made o.0 (Some x) at in
             let each = w.one_each in
             let all_of : length g.observers ≡ length k.graph.observers = ap length same in
-            absurd (omega (arith, within, each, all_of, le, rooted));
+            absurd (never (was_there g o (node_in k.nodes x.target) (omega (arith, within, each, all_of, rooted)) (looks_so o x at)));
       };
       refers = λ q is. let same : p ≡ q = (let e : Some p ≡ Some q = is in cc) in subst (RefersTo (IsDeclaredTarget then)) same shows.refers;
       today = record { unwatched = ap (λ (v : Watch). watch_after v p) shows.unwatched };

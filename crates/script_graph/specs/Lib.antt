@@ -4,5 +4,6 @@ pub mod Kept
 pub mod Represents
 pub mod Settled
 pub mod Shown
+pub mod Sound
 pub mod Stabilizing
 pub mod State

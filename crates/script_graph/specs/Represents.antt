@@ -1,10 +1,10 @@
 -- What a graph has to do with the state of a script.
-use Rattle.std.specs.Prelude.{◌≡◌, ◌+◌, ◌<◌, ◌≤◌, ℕ, pos, List, [], ◌∷◌, map, length, Option, None, Some, slice_get}
+use Rattle.std.specs.Prelude.{◌≡◌, ◌+◌, ℕ, pos, List, [], ◌∷◌, map, take, length, Option, None, Some, slice_get}
 use Rattle.inc_value.specs.declared.node.NodeId.{NodeId}
 use Rattle.inc_value.specs.declared.node.ObsId.{ObsId}
 use Rattle.inc_terms.specs.Depend.{none_died}
 use Rattle.inc_terms.specs.Term.{Functions}
-use Rattle.graph.specs.Standing.{node_at, shown_of}
+use Rattle.graph.specs.Standing.{Standing, node_at, shown_of}
 use Rattle.node_arena.specs.Arena.{Arena}
 use Rattle.node_arena.specs.Graph.{graph_of}
 use Rattle.script_model.specs.Check.{Names, names_of, is_among, target_of_body}
@@ -55,12 +55,21 @@ there_in [] = []
 there_in (None ∷ xs) = there_in xs
 there_in (Some x ∷ xs) = x ∷ there_in xs
 
+module _ {A : Type 0} where
+  -- the node of an observer in use that was there when a stabilize was accepted last
+  abbrev pub rooted_at : Standing A → ObsId → Option NodeId
+  rooted_at g o = node_at (take g.rooted g.observers) o
+
+  -- an observer in use was there then
+  abbrev pub WasThere : Standing A → ObsId → Type 0
+  WasThere g o = (n : NodeId) × (rooted_at g o ≡ Some n)
+
 -- an observer that was there when a stabilize was accepted last shows an outcome, which is what the graph shows of its node unless the session is broken; a
 -- later one shows nothing yet
 pub record IsShown (k : Kept) (o : ObsId) (x : Observer) : Type 0 where
-  pub earlier : o.0 < k.graph.rooted → (p : Outcome) × (x.shown ≡ Some p)
+  pub earlier : WasThere k.graph o → (p : Outcome) × (x.shown ≡ Some p)
       × (k.broken ≡ None → shown_of k.graph (node_in k.nodes x.target) ≡ Some (graph_outcome (node_in k.nodes) p))
-  pub later : k.graph.rooted ≤ o.0 → x.shown ≡ None
+  pub later : (WasThere k.graph o → ⊥) → x.shown ≡ None
 
 -- an observer of the script is one of the graph; what it shows refers to what is declared
 pub record IsObserver (s : State) (k : Kept) (o : ObsId) (x : Observer) : Type 0 where

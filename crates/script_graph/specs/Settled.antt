@@ -1,12 +1,11 @@
 -- What is kept of the last accepted stabilize: the pair of state and graph as it left them, and what stands beside the graph since.
-use Rattle.std.specs.Prelude.{◌≡◌, ℕ, suc, cond, List, [], ◌∷◌, map, take, length, Option, Some, IsSome}
+use Rattle.std.specs.Prelude.{◌≡◌, ℕ, suc, cond, List, [], ◌∷◌, map, length, Option, Some, IsSome}
 use Rattle.inc_value.specs.Choice.{Among}
 use Rattle.inc_value.specs.declared.node.NodeId.{NodeId}
-use Rattle.inc_value.specs.declared.node.ObsId.{ObsId}
 use Rattle.inc_terms.specs.Graph.{Graph, Row}
 use Rattle.inc_terms.specs.Need.{Beside, Holder, Observing, Freezing, Observed}
 use Rattle.inc_terms.specs.Within.{Given}
-use Rattle.graph.specs.Standing.{Standing, node_at, called_last, cutoff_of, times_linked}
+use Rattle.graph.specs.Standing.{Standing, called_last, cutoff_of, times_linked}
 use Rattle.graph.specs.declared.observer.Observer.{Observer as Looking}
 use Rattle.node_arena.specs.Arena.{Arena}
 use Rattle.node_arena.specs.Graph.{graph_of}
@@ -14,7 +13,7 @@ use Rattle.node_outcomes.specs.Row.{is_never}
 use Rattle.script_model.specs.Formula.{State, Entry, Observer, Meanings, entry_at}
 use Rattle.script_model.specs.Need.{Named, Needed, Visit, IsVisit, roots}
 use Rattle.script_graph.specs.Kept.{Kept, arena_of, node_in}
-use Rattle.script_graph.specs.Represents.{besides}
+use Rattle.script_graph.specs.Represents.{besides, rooted_at}
 use Rattle.script_graph.specs.Today.{frozen_root, none_stale, WasTodays}
 use Rattle.stabilize_round.specs.Calls.{arguments_of}
 use Rattle.stabilize_round.specs.State.{Call}
@@ -32,10 +31,6 @@ observed_from i [] = []
 observed_from i (o ∷ os) = cond o.in_use (record { observer = record { 0 = i }; node = o.node } ∷ observed_from (suc i) os) (observed_from (suc i) os)
 
 module _ {A : Type 0} where
-  -- the node of an observer in use that was there when a stabilize was accepted last
-  abbrev pub rooted_at : Standing A → ObsId → Option NodeId
-  rooted_at g o = node_at (take g.rooted g.observers) o
-
   -- for which node a holder has put need on
   abbrev pub root_of : Standing A → Holder → Option NodeId
   root_of g (Observing o) = rooted_at g o

@@ -1,5 +1,5 @@
 -- What is so of scripts of today's forms alone, and goes with one later form or another.
-use Rattle.std.specs.Prelude.{◌≡◌, ◌<◌, ◌≤◌, ℕ, Bool, false, List, [], ◌∷◌, Option, None, Some}
+use Rattle.std.specs.Prelude.{◌≡◌, ◌<◌, ◌≤◌, ℕ, Bool, false, List, [], ◌∷◌, Option, None, Some, slice_get}
 use Rattle.std.specs.List.{sum_by}
 use Rattle.inc_value.specs.Choice.{Among}
 use Rattle.inc_value.specs.Ty.{IsBase}
@@ -20,6 +20,7 @@ use Rattle.node_arena.specs.Arena.{Arena, row_at}
 use Rattle.node_arena.specs.Graph.{graph_of}
 use Rattle.node_arena.specs.RightSide.{no_side}
 use Rattle.node_arena.specs.RightSideLaws.{meaning}
+use Rattle.script_model.specs.Check.{Declared, Grab}
 use Rattle.script_model.specs.Formula.{Formula, Formulas, Body, State, Observer, body_at, Literal, Name, Apply, Fold, If, Join, End, More, Variable, Computed, Unwatched, nothing_kept}
 use Rattle.script_model.specs.Need.{Item, Named, Place, formula_at}
 use Rattle.script_model.specs.Run.{most_calls}
@@ -70,6 +71,12 @@ IsEarlierTarget s n t = (t < n) × IsOwn (body_at s t)
 -- each declaration is of today's forms, over earlier ones; what it refers to is declared
 abbrev pub AllPlain : State → Type 0
 AllPlain s = (n : ℕ) (body : Body) → body_at s n ≡ Some body → IsPlainBody (IsEarlierTarget s n) (IsDeclaredTarget s) body
+
+-- ---- declarations: none is a grab
+
+-- none of the declarations is a grab
+abbrev pub NoGrabs : List Declared → Type 0
+NoGrabs declared = (n : ℕ) (d : Declared) → slice_get declared n ≡ Some d → d.kind ≡ Grab → ⊥
 
 -- ---- values: none is told
 

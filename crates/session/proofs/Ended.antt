@@ -1,5 +1,5 @@
 -- What is kept once an observer is ended.
-use Rattle.std.proofs.Common.{◌≡◌, ◌↔◌, inl, inr, ℕ, zero, suc, ◌+◌, ◌<◌, Bool, true, false, cond, not, nat_lt, List, [], ◌∷◌, length, Option, None, Some, IsSome, Result, Err, IfErr, IsErrOf, refl, ap, sym, subst, ◌∙◌, arith, swap_remove, slice_get, slice_index_or}
+use Rattle.std.proofs.Common.{◌≡◌, ℕ, zero, suc, ◌+◌, ◌<◌, Bool, true, false, cond, not, nat_lt, List, [], ◌∷◌, length, None, Some, IsSome, refl, ap, sym, subst, ◌∙◌, arith, swap_remove, slice_get, slice_index_or}
 use Rattle.std.proofs.lemmas.Bool.{lt-ltb}
 use Rattle.std.proofs.lemmas.Option.{slice_get_read, slice_get_within}
 use Rattle.std.proofs.lemmas.Slice.Eq.{bytes_eq-Decides}
@@ -7,13 +7,13 @@ use Rattle.std.specs.List.{position_or_len}
 use Rattle.std.specs.Str.{bytes_eq}
 use Rattle.indexmap.specs.IndexMap.{swap_remove_by}
 use Rattle.graph.specs.Effects.{Ends}
-use Rattle.graph.specs.Standing.{Standing, node_at, IsUnbroken, IsBroken}
-use Rattle.inc_value.specs.declared.node.NodeId.{NodeId}
+use Rattle.graph.specs.Standing.{Standing, node_at}
 use Rattle.inc_value.specs.declared.node.ObsId.{ObsId}
 use Rattle.script_model.specs.Check.{Names, Unobserve}
 use Rattle.script_model.specs.Formula.{Meanings}
 use Rattle.script_model.specs.Step.{Moment, moved}
-use Rattle.script_graph.specs.Kept.{Kept, IsSound, without_functions}
+use Rattle.script_graph.specs.Kept.{Kept, without_functions}
+use Rattle.script_graph.specs.Sound.{IsSound}
 use Rattle.script_graph.specs.State.{MatchesMoment}
 use Rattle.script_graph.proofs.Ending.{ending_sound, ending_stands}
 use Rattle.session.proofs.Observed.{among_at, by_position}

@@ -24,10 +24,12 @@ use Rattle.node_arena.specs.Sound.{IsSound as IsSoundArena}
 use Rattle.script_model.specs.Check.{Names, Declared, Observe, is_among}
 use Rattle.script_model.specs.Formula.{Meanings}
 use Rattle.script_model.specs.Step.{Moment, moved}
-use Rattle.script_graph.specs.Kept.{Kept, HasNode, IsSound, arena_of, no_node, node_in, without_functions}
+use Rattle.script_graph.specs.Kept.{Kept, arena_of, no_node, node_in, without_functions}
+use Rattle.script_graph.specs.Sound.{HaveNodes, IsSound}
 use Rattle.script_graph.specs.Shown.{ShowsIt, ShowsNothing}
 use Rattle.script_graph.specs.State.{MatchesMoment}
 use Rattle.script_graph.proofs.Observing.{get_end, get_within, observing_stands, shows_it, shows_nothing, with_observer}
+use Rattle.script_graph.proofs.Sounding.{node_live}
 
 -- ---- a name that is put in use and taken out again
 
@@ -163,7 +165,7 @@ target_given k sound arena target less = arena.given (node_in k.nodes target) is
         there (d ∷ ds) (suc i) within = there ds i (omega (arith, within))
 
     is_live : IsLive (arena_of k) (node_in k.nodes target)
-    is_live = let has = sound.has_nodes target declared.0 declared.1 in rw has.is_row refl
+    is_live = node_live (arena_of k) k.names.declared k.nodes sound.has_nodes sound.today target declared.0 declared.1
 
 -- the node that stands at a target's place, whatever is read elsewhere
 pub target_node : (k : Kept) → IsSound k → (target : ℕ) → target < length k.names.declared → (node : NodeId) → node ≡ slice_index_or k.nodes target node
@@ -214,7 +216,8 @@ module _ (k : Kept) (name : List ℕ) (target : ℕ) (o : ObsId) (g : Standing (
   sound_observed : IsSound (with_observer k name o g)
   sound_observed = record {
     one_node_each = sound.one_node_each;
-    has_nodes = λ n d at. subst (λ (a : Arena). HasNode a k.nodes n d) (sym arena_same) (sound.has_nodes n d at);
+    has_nodes = subst (λ (a : Arena). HaveNodes a k.names.declared k.nodes) (sym arena_same) sound.has_nodes;
+    today = sound.today;
     few = subst (λ (a : Arena). live a + k.room ≤ 1048575) (sym arena_same) sound.few;
     one_observer_each = length_more k.observers o ∙ ap (λ (n : ℕ). n + 1) sound.one_observer_each ∙ sym (length_more k.names.observers name);
     looking = λ p among. looks p (among_push k.observers o p among);

@@ -1,5 +1,5 @@
 -- What is kept of a script once a stabilize ended, and the faults that don't come.
-use Rattle.std.proofs.Common.{◌≡◌, Bool, ℕ, ◌+◌, ◌≤◌, List, [], ◌∷◌, arith, Option, None, Some, IsSome, Result, Err, IsErrOf, IsTrue, refl, ap, sym, subst, ◌∙◌}
+use Rattle.std.proofs.Common.{◌≡◌, Bool, ℕ, ◌+◌, ◌≤◌, ◌^◌, List, [], ◌∷◌, arith, Option, None, Some, IsSome, Result, Err, IsErrOf, IsTrue, refl, ap, sym, subst, ◌∙◌}
 use Rattle.graph.specs.Fault.{kept_of}
 use Rattle.graph.specs.Stabilizes.{Stabilizes, IsRefusedFor, HasCalledMet, left_by}
 use Rattle.graph.proofs.Still as still
@@ -29,7 +29,8 @@ use Rattle.script_graph.specs.Today.{maps_alone}
 use Rattle.session.specs.Today.{HasNoBodies}
 use Rattle.std.proofs.Math.Path.{fun_ext}
 use Rattle.node_arena.specs.Meanings.{KeepsKnown, SameKnown}
-use Rattle.script_graph.specs.Kept.{Kept, HasNode, IsSound, arena_of, without_functions}
+use Rattle.script_graph.specs.Kept.{Kept, arena_of, without_functions}
+use Rattle.script_graph.specs.Sound.{HaveNodes, IsSound}
 use Rattle.script_functions.specs.Bodies.{Body}
 use Rattle.script_functions.specs.Keeping.{Maker, is_known, makers, by_kind, side_in}
 use Rattle.script_functions.specs.KeepingLaws.{map_known, known_map}
@@ -44,13 +45,18 @@ same_sound : (k : Kept) → IsSound k → (g : Standing (Unit {0})) → g.nodes 
     → (accepted : ℕ) (broken : Option ℕ) → (broken ≡ None → IsUnbroken g) → IsSound (record k { accepted = accepted; broken = broken; graph = g })
 same_sound k sound g nodes observers accepted broken unbroken = record {
   one_node_each = sound.one_node_each;
-  has_nodes = λ n d at. subst (λ (a : Arena). HasNode a k.nodes n d) (sym nodes) (sound.has_nodes n d at);
+  has_nodes = subst (λ (a : Arena). HaveNodes a k.names.declared k.nodes) (sym nodes) sound.has_nodes;
+  today = sound.today;
   few = subst (λ (a : Arena). live a + k.room ≤ 1048575) (sym nodes) sound.few;
   one_observer_each = sound.one_observer_each;
   looking = λ o among. subst (λ (os : List Looking). IsSome (node_at os o)) (sym observers) (sound.looking o among);
   apart = sound.apart;
   unbroken = unbroken;
 }
+
+-- over the same nodes few ids were given
+pub few_given : (old new : Arena) → new ≡ old → new.given ≤ old.given + 2 ^ 20
+few_given old new same = let given = ap (λ (a : Arena). a.given) same in omega (arith, given)
 
 module _ {A : Type 0} (M : Functions) (k : Kept) (sound : IsSound k) (old new : Standing A) (same : k.graph ≡ without_functions old) where
   -- what is kept fits together after a stabilize that was accepted

@@ -105,7 +105,8 @@ module _ {L E : Type 0} (meanings : L → Meanings) (known : L → FnRef → Boo
     -- at most one stabilize was accepted
     pub count : new.kept.accepted ≤ old.kept.accepted + 1
     pub names : new.kept.names ≡ old.kept.names
-    pub given : (arena_of new.kept).given ≡ (arena_of old.kept).given
+    -- few ids of nodes were given
+    pub given : (arena_of new.kept).given ≤ (arena_of old.kept).given + 2 ^ 20
     pub observers : new.kept.graph.observers ≡ old.kept.graph.observers
     -- the library knows what it knew
     pub known_still : (f : FnRef) → IsTrue (known old.library f) → IsTrue (known new.library f)

@@ -40,7 +40,8 @@ pub(crate) struct Script<L: Library> {
 
 impl<L: Library> Model for Script<L> {
     ghost use Rattle.script_graph.specs.Kept as kept;
-    ghost use Rattle.script_graph.specs.Kept.{IsSound, without_functions};
+    ghost use Rattle.script_graph.specs.Kept.{without_functions};
+    ghost use Rattle.script_graph.specs.Sound.{IsSound};
     ghost use Rattle.session.specs.Today.{HasNoBodies};
 
     ghost Value = { kept.Script L };

@@ -13,8 +13,10 @@ ghost use Rattle.inc_terms.specs.Code.{def_of};
 ghost use Rattle.inc_value.specs.declared.ty.Ty.{Ty};
 ghost use Rattle.node_arena.specs.Arena.{live};
 ghost use Rattle.script_graph.specs.Growing.{def_ty, AllOpenFit, Extends, IsMadeIn, IsMaking, IsWelcome, IsWelcomeMake};
-ghost use Rattle.script_graph.specs.Kept.{arena_of, HasNode};
+ghost use Rattle.script_graph.specs.Kept.{arena_of};
+ghost use Rattle.script_graph.specs.Sound.{HaveNodes};
 ghost use Rattle.script_graph.specs.State.{MatchesMoment};
+ghost use Rattle.script_graph.specs.Today.{NoGrabs};
 ghost use Rattle.script_model.specs.Check.{Declare, Declared, kind_of_body, target_of_body};
 ghost use Rattle.script_model.specs.Formula.{meanings_of, places_of_body};
 ghost use Rattle.script_model.specs.Step.{Moment, moved};
@@ -89,8 +91,8 @@ fn add_declared<L: Library>(
     requires fits { DeclarationFits (L.known graph.old.functions.library) names.old name.now ty (body_view body.now) }
     requires unbroken { IsUnbroken graph.old }
     requires one_each { length nodes.old.items ≡ length names.old.declared }
-    requires has_nodes { (n : ℕ) (d : Declared) → slice_get names.old.declared n ≡ Some d
-        → HasNode graph.old.nodes nodes.old.items n d }
+    requires has_nodes { HaveNodes graph.old.nodes names.old.declared nodes.old.items }
+    requires no_grabs { NoGrabs names.old.declared }
     requires room { live graph.old.nodes + places_of_body (body_view body.now) ≤ 1048575 }
     requires ids { graph.old.nodes.given + 2 ^ 20 < 2 ^ 64 - 1 }
     ensures made { OnOk result ((made : List Made)
@@ -137,8 +139,8 @@ fn make_declared<L: Library>(
     requires fits { (ty : Ty) × BodyFits (L.known graph.old.functions.library) names.now (body_view body.now) ty }
     requires unbroken { IsUnbroken graph.old }
     requires one_each { length nodes.now ≡ length names.now.declared }
-    requires has_nodes { (n : ℕ) (d : Declared) → slice_get names.now.declared n ≡ Some d
-        → HasNode graph.old.nodes nodes.now n d }
+    requires has_nodes { HaveNodes graph.old.nodes names.now.declared nodes.now }
+    requires no_grabs { NoGrabs names.now.declared }
     requires room { live graph.old.nodes + places_of_body (body_view body.now) ≤ 1048575 }
     requires ids { graph.old.nodes.given + 2 ^ 20 < 2 ^ 64 - 1 }
     ensures made { IfOk result (λ node. (made : List Made)

@@ -1,7 +1,6 @@
 use Rattle.std.proofs.Common.{◌≡◌, Err, refl, ap, ◌∙◌, arith}
 use Rattle.graph.specs.declared.fault.Kept.TheVariants as cause
 use Rattle.graph.specs.declared.fault.StabilizeFault.{StabilizeFault}
-use Rattle.node_arena.specs.Arena.{Arena}
 use Rattle.script_graph.proofs.Accepting.{session_accepted}
 use Rattle.script_graph.proofs.Circling.{session_no_cycle}
 use Rattle.script_graph.proofs.CuttingShort.{refused_keeps, session_cut_short, never_for_full}
@@ -10,7 +9,7 @@ use Rattle.script_graph.proofs.TooDeep.{session_too_deep, session_not_all_older}
 use Rattle.script_model.specs.Formula.{meanings_of}
 use Rattle.script_model.specs.Values.{seen_value}
 use Rattle.session.proofs.Observed.{not_broken}
-use Rattle.session.proofs.Stabilized.{library_still_knows, accepted_sound, refused_sound, refused_for, memory_met, first_of, none_of}
+use Rattle.session.proofs.Stabilized.{library_still_knows, accepted_sound, few_given, refused_sound, refused_for, memory_met, first_of, none_of}
 use Rattle.session.proofs.Stabilized.{alone_stabilizes, alone_refused, alone_called, costs_still}
 use Rattle.session.proofs.script.Script.stabilize.Goals as goal
 
@@ -40,7 +39,7 @@ returns-in-Ok g c =
       for_memory = tt;
       count = omega arith;
       names = refl;
-      given = ap (λ (a : Arena). a.given) c.in-Ok.ensures.brought.nodes;
+      given = few_given _ _ c.in-Ok.ensures.brought.nodes;
       observers = c.in-Ok.ensures.brought.observers;
       known_still = library_still_knows _ _ _ _ (g.met.L.Library.maps_alone l) c.stabilize.ensures.known;
       calls_grow = c.stabilize.ensures.calls_grow;
@@ -84,7 +83,7 @@ returns-in-Some g c =
       for_memory = tt;
       count = omega arith;
       names = refl;
-      given = ap (λ (a : Arena). a.given) done.nodes;
+      given = few_given _ _ done.nodes;
       observers = done.observers;
       known_still = library_still_knows _ _ _ _ (g.met.L.Library.maps_alone l) c.stabilize.ensures.known;
       calls_grow = c.stabilize.ensures.calls_grow;
@@ -124,7 +123,7 @@ returns-in-None g c =
           (none_of new.refused c.self.inside.nodes.items c.deref.result.now c.deref.ensures.value c.in-None.ensures.none) m stands);
       count = omega arith;
       names = refl;
-      given = ap (λ (a : Arena). a.given) done.nodes;
+      given = few_given _ _ done.nodes;
       observers = done.observers;
       known_still = library_still_knows _ _ _ _ (g.met.L.Library.maps_alone l) c.stabilize.ensures.known;
       calls_grow = c.stabilize.ensures.calls_grow;
@@ -160,7 +159,7 @@ returns-in-Err-Refused-Memory g c =
       for_memory = λ m stands. memory_met _ c.self.inside.graph new done;
       count = omega arith;
       names = refl;
-      given = ap (λ (a : Arena). a.given) done.nodes;
+      given = few_given _ _ done.nodes;
       observers = done.observers;
       known_still = library_still_knows _ _ _ _ (g.met.L.Library.maps_alone l) c.stabilize.ensures.known;
       calls_grow = c.stabilize.ensures.calls_grow;
@@ -199,7 +198,7 @@ returns-in-Err-Refused-Cycle g c =
           c.keeps_sound.ensures.sound (alone_refused (g.L.Library.value l) c.self.inside.graph.functions.bodies.items c.self.invariant.1 c.self.inside.graph new cause.Cycle done) m stands);
       count = omega arith;
       names = refl;
-      given = ap (λ (a : Arena). a.given) done.nodes;
+      given = few_given _ _ done.nodes;
       observers = done.observers;
       known_still = library_still_knows _ _ _ _ (g.met.L.Library.maps_alone l) c.stabilize.ensures.known;
       calls_grow = c.stabilize.ensures.calls_grow;
