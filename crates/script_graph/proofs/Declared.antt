@@ -11,12 +11,9 @@ use Rattle.formula_elab.specs.declared.make.Made.{Made}
 use Rattle.formula_elab.proofs.Places.{few_of_body}
 use Rattle.graph.specs.Effects.{Sets, TakesBack}
 use Rattle.graph.specs.Standing.{Standing}
-use Rattle.inc_value.specs.Value as engine
 use Rattle.inc_value.specs.declared.function.FnRef.{FnRef}
 use Rattle.inc_value.specs.declared.node.NodeId.{NodeId}
 use Rattle.inc_value.specs.declared.node.ObsId.{ObsId}
-use Rattle.inc_value.specs.declared.ty.Base.{Base}
-use Rattle.inc_value.specs.declared.ty.Base.TheVariants as base
 use Rattle.inc_value.specs.declared.ty.Ty.{Ty}
 use Rattle.inc_value.specs.declared.ty.Ty.TheVariants as types
 use Rattle.inc_value.specs.declared.value.Value.{Value as GraphValue}
@@ -43,7 +40,8 @@ use Rattle.script_graph.specs.Today.{NoGrabs}
 use Rattle.script_graph.proofs.Counting.{live_within}
 use Rattle.script_graph.proofs.Declaring.{declaring_stands, with_declared}
 use Rattle.script_graph.proofs.Extending.{beside_without, extends_without, stands_on, taken_back_extends}
-use Rattle.script_graph.proofs.Laying.{every_name_of, laid_fits, made_declares, made_owned, made_root, made_variable}
+use Rattle.script_graph.proofs.Laying.{every_name_of, graph_type, laid_fits, made_declares, made_owned, made_root, made_variable}
+use Rattle.script_graph.proofs.Making.{base_is}
 use Rattle.script_graph.proofs.Callers.{HasNewCalls, WereLive, made_new_calls, caller_live, calls_laid_body}
 use Rattle.script_graph.proofs.Setting.{setting_stands}
 use Rattle.script_graph.proofs.Sounding.{declared_at, declared_still, sound_declared, sound_on, sound_set, target_live}
@@ -291,17 +289,6 @@ module _ (a : Arena) (names : Names) (nodes : List NodeId) (sound : arena.IsSoun
   named_row : (position : ℕ) (ty : Ty) → NameFits names position ty → (r : Row) × (row_at a (node_in nodes position) ≡ Some r) × (r.ty ≡ ty)
   named_row position ty fits = let t = named position ty fits in (t.3.row, t.3.is_row, t.3.typed ∙ t.2)
 
-  base_is : (b : Base) → type_of_base b ≡ typing.ty_of b
-  base_is base.Int = refl
-  base_is base.Bool = refl
-  base_is base.Text = refl
-
-  graph_type : (v : Value) → type_of v ≡ engine.type_of (graph_value (node_in nodes) v)
-  graph_type (Int z) = refl
-  graph_type (Truth b) = refl
-  graph_type (Text bytes) = refl
-  graph_type (Reference target b) = refl
-
   -- what a value that fits refers to is given
   value_within : (v : Value) → ReferenceFits names v → ValueWithin (Given a.given) (graph_value (node_in nodes) v)
   value_within (Int z) fits = tt
@@ -331,5 +318,5 @@ module _ (a : Arena) (names : Names) (nodes : List NodeId) (sound : arena.IsSoun
         given = sound.given (node_in nodes target) (rw row.1 refl);
         within = value_within v fits.refers;
         fits = subst (λ (o : Option Row). IfSome o (λ (r : Row). HasType a (graph_value (node_in nodes) v) r.ty)) (sym row.1)
-            (record { type = sym (graph_type v) ∙ sym row.2; reference = value_fits v fits.refers });
+            (record { type = graph_type (node_in nodes) v ∙ sym row.2; reference = value_fits v fits.refers });
       }

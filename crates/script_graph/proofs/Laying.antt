@@ -3,7 +3,7 @@ use Rattle.std.proofs.Common.{◌≡◌, ℕ, zero, suc, ◌+◌, ◌-◌, ◌<�
 use Rattle.std.specs.List.{AllZip}
 use Rattle.std.proofs.lemmas.List.{length-append}
 use Rattle.std.proofs.lemmas.Option.{slice_get_within}
-use Rattle.formula_lang.specs.Fits.{ArgumentsFit, BodyFits, ElementsFit, FormulaFits, NameFits, ReferenceFits, ValueFits}
+use Rattle.formula_lang.specs.Fits.{ArgumentsFit, BodyFits, ElementsFit, FormulaFits, NameFits, ReferenceFits}
 use Rattle.formula_elab.specs.Laying.{formula_ty, joined_ty, laid, laid_each, laid_body}
 use Rattle.formula_elab.specs.Made.{StandsIn}
 use Rattle.formula_elab.specs.Names.{EveryReference, EveryName, EveryNameOfAll, EveryNameOf}
@@ -20,7 +20,6 @@ use Rattle.inc_value.specs.Ty.{IsBase}
 use Rattle.inc_value.specs.Value as engine
 use Rattle.inc_value.specs.declared.function.FnRef.{FnRef}
 use Rattle.inc_value.specs.declared.node.NodeId.{NodeId}
-use Rattle.inc_value.specs.declared.ty.Base.{Base}
 use Rattle.inc_value.specs.declared.ty.Ty.{Ty}
 use Rattle.inc_value.specs.declared.ty.Ty.TheVariants as types
 use Rattle.inc_terms.specs.Graph.{Graph, Row}
@@ -39,7 +38,7 @@ use Rattle.transfer.specs.Shows.{Declares}
 
 -- ---- values
 
-graph_type : (nodes : ℕ → NodeId) (v : Value) → engine.type_of (graph_value nodes v) ≡ type_of v
+pub graph_type : (nodes : ℕ → NodeId) (v : Value) → engine.type_of (graph_value nodes v) ≡ type_of v
 graph_type nodes (Int z) = refl
 graph_type nodes (Truth b) = refl
 graph_type nodes (Text bytes) = refl
@@ -49,7 +48,7 @@ graph_base : (nodes : ℕ → NodeId) (v : Value) (ty : Ty) → type_of v ≡ ty
 graph_base nodes v ty is base = subst (λ (t : Ty). IsBase t) (sym (graph_type nodes v ∙ is)) base
 
 -- what a value refers to has what names that fit have
-pub refers_fitting : (names : Names) (P : ℕ → Type 0) → ((position : ℕ) (t : Ty) → NameFits names position t → P position)
+refers_fitting : (names : Names) (P : ℕ → Type 0) → ((position : ℕ) (t : Ty) → NameFits names position t → P position)
     → (v : Value) → ReferenceFits names v → EveryReference P v
 refers_fitting names P named (Int z) fits = tt
 refers_fitting names P named (Truth b) fits = tt
@@ -202,17 +201,17 @@ module _ (known : FnRef → Bool) (a : Arena) (all : List Open) (nodes : ℕ →
         )
     formula_fits start f ty fits sits = absurd fits
 
-    arguments_fit : (start : ℕ) (fs : Formulas) (tys : List Ty) → ArgumentsFit known names fs tys → SitsAt all start (laid_each nodes tys start fs).makes
-        → Every (OpenFits known a all) (laid_each nodes tys start fs).makes × AllZip (λ (p : Part) (t : Ty). PartFits a all t p) (laid_each nodes tys start fs).roots tys
+    arguments_fit : (start : ℕ) (fs : Formulas) (takes : List Ty) → ArgumentsFit known names fs takes → SitsAt all start (laid_each nodes tys start fs).makes
+        → Every (OpenFits known a all) (laid_each nodes tys start fs).makes × AllZip (λ (p : Part) (t : Ty). PartFits a all t p) (laid_each nodes tys start fs).roots takes
     arguments_fit start End [] fits sits = (tt, tt)
-    arguments_fit start End (ty ∷ tys) fits sits = absurd fits
+    arguments_fit start End (ty ∷ takes) fits sits = absurd fits
     arguments_fit start (More f rest) [] fits sits = absurd fits
-    arguments_fit start (More f rest) (ty ∷ tys) fits sits =
+    arguments_fit start (More f rest) (ty ∷ takes) fits sits =
         let here = laid nodes tys start f in
         let next = start + length here.makes in
         let parts = sits_split all start here.makes (laid_each nodes tys next rest).makes sits in
         let one = formula_fits start f ty fits.0 parts.0 in
-        let others = arguments_fit next rest tys fits.1 parts.1 in
+        let others = arguments_fit next rest takes fits.1 parts.1 in
         (every_append (OpenFits known a all) here.makes (laid_each nodes tys next rest).makes one.0 others.0, (one.1, others.1))
 
     elements_fit : (start : ℕ) (fs : Formulas) (ty : Ty) → ElementsFit known names fs ty → SitsAt all start (laid_each nodes tys start fs).makes
@@ -359,18 +358,18 @@ module _ (known : FnRef → Bool) (G : Graph) (all : List Open) (made : List Mad
         )
     formula_owns start bound f ty fits sits low = absurd fits
 
-    arguments_own : (start bound : ℕ) (fs : Formulas) (tys : List Ty) → ArgumentsFit known names fs tys
+    arguments_own : (start bound : ℕ) (fs : Formulas) (takes : List Ty) → ArgumentsFit known names fs takes
         → SitsAt all start (laid_each nodes tys start fs).makes → start + length (laid_each nodes tys start fs).makes ≤ bound
         → OwnNodesOfAll G (IsMade made bound) (map (node_of made) (laid_each nodes tys start fs).roots) fs
     arguments_own start bound End [] fits sits low = tt
-    arguments_own start bound End (ty ∷ tys) fits sits low = absurd fits
+    arguments_own start bound End (ty ∷ takes) fits sits low = absurd fits
     arguments_own start bound (More f rest) [] fits sits low = absurd fits
-    arguments_own start bound (More f rest) (ty ∷ tys) fits sits low =
+    arguments_own start bound (More f rest) (ty ∷ takes) fits sits low =
         let here = laid nodes tys start f in
         let next = start + length here.makes in
         let parts = sits_split all start here.makes (laid_each nodes tys next rest).makes sits in
         let size = length-append here.makes (laid_each nodes tys next rest).makes in
-        (formula_owns start bound f ty fits.0 parts.0 (omega (arith, low, size)), arguments_own next bound rest tys fits.1 parts.1 (omega (arith, low, size)))
+        (formula_owns start bound f ty fits.0 parts.0 (omega (arith, low, size)), arguments_own next bound rest takes fits.1 parts.1 (omega (arith, low, size)))
 
     elements_own : (start bound : ℕ) (fs : Formulas) (ty : Ty) → ElementsFit known names fs ty → SitsAt all start (laid_each nodes tys start fs).makes
         → start + length (laid_each nodes tys start fs).makes ≤ bound

@@ -59,13 +59,14 @@ next_within makes made m e = let x = next_open makes made m e in slice_get_withi
 
 -- ---- values
 
-pub value_given : (P : NodeId → Type 0) (v : Value) → IsBase (type_of v) → ValueWithin P v
+-- a value of a base type refers to nothing
+value_given : (P : NodeId → Type 0) (v : Value) → IsBase (type_of v) → ValueWithin P v
 value_given P (value.Int z) base = tt
 value_given P (value.Bool b) base = tt
 value_given P (value.Text bytes) base = tt
 value_given P (value.Node n b) base = absurd base
 
-pub reference_fits : (a : Arena) (v : Value) → IsBase (type_of v) → ReferenceFits a v
+reference_fits : (a : Arena) (v : Value) → IsBase (type_of v) → ReferenceFits a v
 reference_fits a (value.Int z) base = tt
 reference_fits a (value.Bool b) base = tt
 reference_fits a (value.Text bytes) base = tt

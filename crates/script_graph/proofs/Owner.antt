@@ -4,7 +4,7 @@ use Rattle.inc_value.specs.Choice.{Among, NoRepeats, and_then}
 use Rattle.inc_value.specs.declared.function.FnRef.{FnRef}
 use Rattle.inc_value.specs.declared.node.NodeId.{NodeId}
 use Rattle.inc_value.specs.declared.node.Point.{Point as GraphPoint}
-use Rattle.inc_terms.specs.Depend.{main, change}
+use Rattle.inc_terms.specs.Depend.{change}
 use Rattle.inc_terms.specs.Graph as graph
 use Rattle.inc_terms.specs.Graph.{Row}
 use Rattle.inc_terms.specs.Term as term
