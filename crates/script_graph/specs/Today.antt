@@ -179,25 +179,6 @@ pub record IsPartWithin (nodes : List NodeId) (owner : ℕ) (n : NodeId) : Type 
   pub within : IsWithin nodes owner n
   pub earlier : n.gen_ < (node_in nodes owner).gen_
 
--- ---- calls: each node that calls a function is that of a place
-
--- a node, and how many calls of its function one visit makes
-pub record Caller : Type 0 where
-  pub node : NodeId
-  pub cost : ℕ
-
--- it is live, and so many are made
-pub record IsCaller (a : Arena) (c : Caller) : Type 0 where
-  pub row : Row
-  pub is_row : row_at a c.node ≡ Some row
-  pub calls : cost_of (graph_of a) c.node row.def ≡ Some c.cost
-
--- the nodes of the graph that call functions are among these, whose visits make no more calls than one of each place
-pub record HasFewCalls (s : State) (a : Arena) : Type 0 where
-  pub callers : List Caller
-  pub few : sum_by (λ (c : Caller). c.cost) callers ≤ most_calls s
-  pub all : (c : Caller) → IsCaller a c → Among c callers
-
 -- ---- what is kept
 
 -- a state of today's forms beside the graph that is kept
@@ -205,7 +186,6 @@ pub record IsTodaysScript (s : State) (k : Kept) : Type 0 where
   pub plain : AllPlain s
   pub aged : (n : ℕ) (b : Body) → body_at s n ≡ Some b
       → OwnNodesOf (graph_of (arena_of k)) (IsWithin k.nodes n) (IsPartWithin k.nodes n) (node_in k.nodes n) b
-  pub calls : HasFewCalls s (arena_of k)
 
 -- the state was of today's forms as the last accepted stabilize left it, and each node has cutoff Equal
 pub record WasTodays (before : State) (k : Kept) : Type 0 where
