@@ -2,7 +2,6 @@
 use Rattle.std.proofs.Common.{◌≡◌, ◌⊎◌, inl, inr, ℕ, pos, ◌+◌, ◌≤◌, List, [], ◌∷◌, length, Option, None, Some, refl, ap, sym, subst, ◌∙◌, arith}
 use Rattle.std.specs.List.{sum_by}
 use Rattle.std.proofs.lemmas.List.Sums.{sum_by-cons}
-use Rattle.std.proofs.lemmas.Option.{none-some}
 use Rattle.inc_value.specs.Choice.{Among, NoRepeats}
 use Rattle.inc_value.specs.declared.function.FnRef.{FnRef}
 use Rattle.inc_value.specs.declared.node.NodeId.{NodeId}
@@ -12,13 +11,11 @@ use Rattle.inc_terms.specs.Graph as graph
 use Rattle.inc_terms.specs.Graph.{Graph, Row, Def}
 use Rattle.inc_terms.specs.Term as term
 use Rattle.inc_terms.specs.Term.{Functions, Term, Terms, refs}
-use Rattle.inc_terms.specs.Work.{cost_of, taken_by}
-use Rattle.graph.specs.Standing as standing
+use Rattle.inc_terms.specs.Work.{taken_by}
 use Rattle.graph.proofs.Still.{HasCalledMet}
-use Rattle.node_arena.specs.Arena.{row_at}
 use Rattle.node_arena.specs.Graph.{graph_of}
 use Rattle.script_model.specs.Formula.{State, Body, Formula, Formulas, Meanings, meanings_of, body_at, Literal, Name, Apply, Fold, If, Join, End, More, Variable}
-use Rattle.script_model.specs.Need.{Edge, Item, Named, Place, formula_at}
+use Rattle.script_model.specs.Need.{Edge, Named, Place, formula_at}
 use Rattle.script_model.specs.Run.{count_in, most_calls}
 use Rattle.script_graph.specs.Kept.{Kept, arena_of, node_in}
 use Rattle.script_graph.specs.Represents.{beside, Represents, IsOfItem}
@@ -27,12 +24,12 @@ use Rattle.script_graph.proofs.Beside.{represented_fits}
 use Rattle.script_graph.proofs.Extending.{declares_still}
 use Rattle.script_graph.proofs.Placed.{item_still}
 use Rattle.script_graph.proofs.Plain.{plain_place}
-use Rattle.script_graph.proofs.Spots.{Spot, costs, spots, spots_in, most_costs, place_among}
-use Rattle.stabilize_round.specs.Calling.{or_none, row_cost, cost_at}
+use Rattle.script_graph.proofs.Spots.{Spot, spots, spots_in, most_costs, place_among}
+use Rattle.stabilize_round.specs.Calling.{cost_at}
 use Rattle.transfer.specs.Both.{Both, graph_value}
 use Rattle.transfer.specs.Items.{around, node_at, node_of, scope_at}
-use Rattle.transfer.specs.Shows.{Binding, Built, Declares, Fits, Mode, Opens, Shows, ShowsAll, plain}
-use Rattle.transfer.proofs.Places.{Opened, opened, place_shows, plain_map, plain_fold}
+use Rattle.transfer.specs.Shows.{Binding, Built, Declares, Mode, Opens, Shows, ShowsAll, plain}
+use Rattle.transfer.proofs.Places.{opened, place_shows}
 
 -- ---- lists
 

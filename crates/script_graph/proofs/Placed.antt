@@ -7,7 +7,7 @@ use Rattle.inc_terms.specs.Graph.{Row, Def}
 use Rattle.inc_terms.specs.Term.{Term}
 use Rattle.script_model.specs.Formula as script
 use Rattle.script_model.specs.Formula.{Body, Formula, body_at, formula_of_body, Computed, Variable}
-use Rattle.script_model.specs.Need.{Edge, Argument, Test, Then, Else, Child, Left, Inside, Item, Named, Place, part_of, formula_at}
+use Rattle.script_model.specs.Need.{Edge, Argument, Test, Then, Else, Child, Left, Inside, Named, Place, part_of, formula_at}
 use Rattle.script_model.specs.Values.{Value}
 use Rattle.script_graph.specs.Represents.{IsOfItem}
 use Rattle.script_graph.specs.Today.{AllPlain, IsOwnFormula, IsVariableBody}

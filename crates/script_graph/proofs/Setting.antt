@@ -10,7 +10,6 @@ use Rattle.inc_value.specs.declared.node.NodeId.{NodeId}
 use Rattle.inc_value.specs.declared.value.Value.{Value as GraphValue}
 use Rattle.inc_terms.specs.Graph as graph
 use Rattle.inc_terms.specs.Graph.{Row}
-use Rattle.inc_terms.specs.Work.{cost_of}
 use Rattle.graph.specs.Effects.{Sets}
 use Rattle.graph.specs.Standing.{Standing}
 use Rattle.node_arena.specs.Arena.{row_at, with_value}
@@ -20,7 +19,6 @@ use Rattle.script_model.specs.Check.{Assign, Declared, Names, declared_of, kind_
 use Rattle.script_model.specs.Formula as script
 use Rattle.script_model.specs.Formula.{State, Body, Entry, Formula, Meanings, meanings_of, body_at, entry_at, formula_of_body, places_of_body, Bind, Variable, Computed}
 use Rattle.script_model.specs.Need.{Edge, part_of, formula_at}
-use Rattle.script_model.specs.Run.{calls_of_body}
 use Rattle.script_model.specs.Step.{Moment, changed_at, with_body, moved}
 use Rattle.script_model.specs.Values.{Value}
 use Rattle.script_graph.specs.Kept.{Kept, arena_of, node_in, no_node}
