@@ -1,12 +1,12 @@
 //! A plan carried out.
-ghost use Rattle.std.specs.Prelude.{◌≡◌, ◌<◌, false, IfSome, IsTrue};
+ghost use Rattle.std.specs.Prelude.{◌≡◌, ◌<◌, false, length, IfSome, IsTrue};
 ghost use Rattle.formula_lang.specs.CommandView.{formula_view};
 ghost use Rattle.formula_elab.specs.Names.{EveryName};
 
 use formula_elab::{Made, Make, Plan, elaborate};
-use formula_lang::{Constant, Declaration, Formula};
+use formula_lang::{Constant, Declaration, Formula, Kind, Names};
 use inc_terms::Def;
-use inc_value::{FnRef, NodeId, Value};
+use inc_value::{FnRef, NodeId, Ty, Value};
 use std::alloc::Global;
 use std_library::Function;
 
@@ -79,8 +79,8 @@ fn begins_with_two(plan: &mut Plan) -> bool
     ensures { IsTrue result → IsTrue plan.new.is_waiting }
 {
     match plan.next(None) {
-        Ok(Some(Make::Node(def))) => {
-            let is = matches!(def, Def::Const(Value::Int(2)));
+        Ok(Some(Make::Node(def, ty))) => {
+            let is = matches!(def, Def::Const(Value::Int(2))) && ty == Ty::Int;
             drop(def);
             is
         }
@@ -111,8 +111,8 @@ fn goes_on_with(
     ensures { IsTrue result → IsTrue plan.new.is_waiting }
 {
     match plan.next(Some(Made::Node(made))) {
-        Ok(Some(Make::Node(def))) => {
-            let is = is_made_by(&def, f, number, kids);
+        Ok(Some(Make::Node(def, ty))) => {
+            let is = is_made_by(&def, f, number, kids) && ty == Ty::Int;
             drop(def);
             is
         }
@@ -145,15 +145,29 @@ fn makes_total(plan: &mut Plan, add: &FnRef, neg: &FnRef) -> bool
         && ends_with(plan, node(23))
 }
 
+/// One declared name, of an Int.
+fn names(alloc: Global) -> Option<Names>
+    ensures { IfSome result (λ names. length names.declared ≡ 1) }
+{
+    let mut names = Names::new(alloc);
+    match names.declare(b"a".as_slice(), Ty::Int, Kind::Var, 0) {
+        Ok(()) => Some(names),
+        Err(_) => None,
+    }
+}
+
 /// The plan of the declaration of a formula over one node.
 fn planned(alloc: Global, formula: Formula) -> Option<Plan>
     requires { EveryName (λ n. n < 1) (formula_view formula) }
     ensures { IfSome result (λ plan. plan.is_waiting ≡ false) }
 {
     let body = Declaration::Computed(formula);
-    let plan = elaborate(alloc, &body, &[node(7)]);
+    let plan = match names(alloc) {
+        Some(names) => elaborate(alloc, &body, &names, &[node(7)]).ok(),
+        None => None,
+    };
     drop(body);
-    plan.ok()
+    plan
 }
 
 /// Whether the total is made so.

@@ -1,7 +1,7 @@
-//! Each byte alone and between others, lines that are longer than a session takes, each kind of token, folds and their
-//! faults.
+//! Each byte alone and between others, lines that are longer than a session takes, each kind of token, and which folds,
+//! tests, joins and references are refused.
 use formula_lang::{CheckFault, Kind, Names, check};
-use inc_value::Ty;
+use inc_value::{Base, Ty};
 use line_parser::{ParseFault, is_here, parse};
 use std::alloc::{AllocError, Global};
 use std_library::StdLib;
@@ -176,6 +176,41 @@ const CHECKED_FOLDS: &[(&str, Option<CheckFault>)] = &[
     ("let x fold foo from 0 [q]", TAKEN),
 ];
 
+/// Lines with tests, joins and references where `x`, `p`, `t`, and `r` of references to integers, are declared, with why
+/// each is refused.
+const CHECKED_LINKS: &[(&str, Option<CheckFault>)] = &[
+    ("let y if p then x else 1", None),
+    ("let y if p then &x else r", None),
+    ("let y join(if p then &x else r)", None),
+    ("let y if join(&p) then \"a\" else t", None),
+    ("let y neg(join(r))", None),
+    ("var y node int &x", None),
+    ("var y node text &t", None),
+    ("set r &x", None),
+    ("let y if x then x else x", UNFIT),
+    ("let y if p then x else p", UNFIT),
+    ("let y if p then x else &x", UNFIT),
+    ("let y if p then &x else &p", UNFIT),
+    ("let y join(x)", UNFIT),
+    ("let y join(join(r))", UNFIT),
+    ("let y neg(r)", UNFIT),
+    ("let y neg(join(&p))", UNFIT),
+    ("let y &r", UNFIT),
+    ("let y fold add from &x []", UNFIT),
+    ("let y fold add from 0 [r]", UNFIT),
+    ("var y node int &p", UNFIT),
+    ("var y int &x", UNFIT),
+    ("var y node int 1", UNFIT),
+    ("set r &p", UNFIT),
+    ("set x &x", UNFIT),
+    ("let y if p then foo(x) else true", NO_FUNCTION),
+    ("let y fold foo from &q []", UNKNOWN),
+    ("let y if foo(x) then x else &q", UNKNOWN),
+    ("var y node int &y", UNKNOWN),
+    ("set r &q", UNKNOWN),
+    ("let x if foo(x) then q else 1", TAKEN),
+];
+
 impl Kinds {
     /// Whether the byte is of these kinds.
     fn has(self, byte: u8) -> bool {
@@ -289,12 +324,15 @@ fn declare(names: &mut Names, name: &str, ty: Ty) -> bool {
         .is_ok()
 }
 
-/// Declares a variable of each plain type, and tells whether there was memory.
+/// Declares a variable of each base type and one of references, and tells whether there was memory.
 fn declare_all(names: &mut Names) -> bool {
-    declare(names, "x", Ty::Int) && declare(names, "p", Ty::Bool) && declare(names, "t", Ty::Text)
+    declare(names, "x", Ty::Int)
+        && declare(names, "p", Ty::Bool)
+        && declare(names, "t", Ty::Text)
+        && declare(names, "r", Ty::Node(Base::Int))
 }
 
-/// Why the declaration is refused, if it is.
+/// Why the line is refused, if it is.
 fn refusal(alloc: Global, names: &Names, line: &[u8]) -> Option<CheckFault> {
     match parse(alloc, line) {
         Ok(parsed) => {
@@ -310,10 +348,10 @@ fn refusal(alloc: Global, names: &Names, line: &[u8]) -> Option<CheckFault> {
     }
 }
 
-/// Whether folds are refused as their rows say.
-fn judges_folds(alloc: Global, names: &Names) -> bool {
-    for (declaration, wanted) in CHECKED_FOLDS {
-        if refusal(alloc, names, declaration.as_bytes()) != *wanted {
+/// Whether lines are refused as their rows say.
+fn judges(alloc: Global, names: &Names, rows: &[(&str, Option<CheckFault>)]) -> bool {
+    for (line, wanted) in rows {
+        if refusal(alloc, names, line.as_bytes()) != *wanted {
             return false;
         }
     }
@@ -323,7 +361,9 @@ fn judges_folds(alloc: Global, names: &Names) -> bool {
 /// The same with names of its own.
 fn judges_well(alloc: Global) -> bool {
     let mut names = Names::new(alloc);
-    let well = declare_all(&mut names) && judges_folds(alloc, &names);
+    let well = declare_all(&mut names)
+        && judges(alloc, &names, CHECKED_FOLDS)
+        && judges(alloc, &names, CHECKED_LINKS);
     drop(names);
     well
 }

@@ -57,10 +57,10 @@ module _ (g : Standing (Unit {0})) (nodes : (n : NodeId) → row_at g.nodes n �
       declares = λ n. (nodes _, refl);
       targets = λ n e is. absurd (cc);
       apart = λ i j d e at_i at_j own_i own_j same. absurd (cc);
+      of_items = λ n r is. absurd (none-some r (sym (nodes n) ∙ is));
       today = record {
         plain = λ n body is. absurd (cc);
         aged = λ n b is. absurd (cc);
-        calls = record { callers = []; few = omega arith; all = λ c is. absurd (none-some is.row (sym (nodes c.node) ∙ is.is_row)) };
       };
     }
 

@@ -169,7 +169,7 @@ module _ (named : List ℕ → Option FnRef) (value : FnRef → List GraphValue 
           record {
             after = record m { broken = Some 20 };
             stabilizes = by_cycle (c.0 ∷ (c.1 ++ c.0 ∷ [])) c.0 c.3 (inl refl) met.0 refl refl;
-            within = few_calls N s k.graph called calls stands.matches.represents.today.calls few;
+            within = few_calls N F s k stands.matches.represents called calls few;
             matches = broken_matches F m k g 20 keeps stands.matches;
           },
         )

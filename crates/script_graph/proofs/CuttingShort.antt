@@ -81,7 +81,7 @@ pub cut_short_matches : {M : Functions} (F : Meanings) (m : Moment) (k : Kept) (
     → MatchesMoment F k m → HasCalledMet M k.graph called calls → IsCutShort F m (record k { broken = Some 0; graph = g }) called calls
 cut_short_matches {M} F m k g called calls keeps matches few = record {
   matches = broken_matches F m k g 0 keeps matches;
-  within = few_calls M m.present k.graph called calls matches.represents.today.calls few;
+  within = few_calls M F m.present k matches.represents called calls few;
 }
 
 -- ---- what never comes

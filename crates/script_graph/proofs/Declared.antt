@@ -1,5 +1,5 @@
 -- A script after a declaration, after one that was taken back, and after an assignment, over a graph with its functions.
-use Rattle.std.proofs.Common.{◌≡◌, ◌⊎◌, inl, inr, ℕ, zero, suc, ◌+◌, ◌<◌, ◌≤◌, Bool, List, [], ◌∷◌, ◌++◌, length, Option, None, Some, IfSome, IsTrue, refl, ap, sym, subst, ◌∙◌, arith, slice_get}
+use Rattle.std.proofs.Common.{◌≡◌, ◌⊎◌, inl, inr, ℕ, ◌+◌, ◌<◌, ◌≤◌, Bool, List, [], ◌∷◌, ◌++◌, length, Option, None, Some, IfSome, IsTrue, refl, ap, sym, subst, ◌∙◌, arith, slice_get}
 use Rattle.std.proofs.lemmas.List.{get_or_append_left, get_or_at}
 use Rattle.std.proofs.lemmas.Option.{none-some, slice_get-get_or}
 use Rattle.formula_lang.specs.Fits.{AssignmentFits, BodyFits, DeclarationFits, NameFits, ReferenceFits}
@@ -27,7 +27,6 @@ use Rattle.node_arena.specs.Typing as typing
 use Rattle.node_arena.specs.Typing.{FitsNode, HasType}
 use Rattle.script_model.specs.Check.{Assign, Declare, Declared, Kind, Names, Variable as VariableKind, Grab as GrabKind, is_variable, kind_of_body, target_of_body, type_of_base}
 use Rattle.script_model.specs.Formula.{Body, meanings_of, places_of_body, Literal, Name, Apply, Fold, If, Join, Bind, Variable, Computed}
-use Rattle.script_model.specs.Run.{calls_of_body}
 use Rattle.script_model.specs.Step.{Moment, declared_in, moved}
 use Rattle.script_model.specs.Values.{Value, Int, Bool as Truth, Text, Reference, type_of}
 use Rattle.script_graph.specs.Growing.{Extends, IsMaking, PartFits, AllOpenFit}
@@ -39,10 +38,10 @@ use Rattle.script_graph.specs.State.{MatchesMoment}
 use Rattle.script_graph.specs.Today.{NoGrabs}
 use Rattle.script_graph.proofs.Counting.{live_within}
 use Rattle.script_graph.proofs.Declaring.{declaring_stands, with_declared}
-use Rattle.script_graph.proofs.Extending.{beside_without, extends_without, stands_on, taken_back_extends}
+use Rattle.script_graph.proofs.Extending.{WereLive, beside_without, extends_without, stands_on, taken_back_extends}
 use Rattle.script_graph.proofs.Laying.{every_name_of, graph_type, laid_fits, made_declares, made_owned, made_root, made_variable}
 use Rattle.script_graph.proofs.Making.{base_is}
-use Rattle.script_graph.proofs.Callers.{HasNewCalls, WereLive, made_new_calls, caller_live, calls_laid_body}
+use Rattle.script_graph.proofs.Placing.{made_items}
 use Rattle.script_graph.proofs.Setting.{setting_stands}
 use Rattle.script_graph.proofs.Sounding.{declared_at, declared_still, sound_declared, sound_on, sound_set, target_live}
 use Rattle.transfer.specs.Both.{graph_value}
@@ -65,12 +64,13 @@ names_there a names nodes one_each has none position t fits =
     (node.row, ap (row_at a) same ∙ node.is_row, node.typed ∙ (own.2 ∙ fits.typed))
 
 -- it is declared with the name's type
-pub names_typed : (a : Arena) (names : Names) (nodes : List NodeId) → HaveNodes a names.declared nodes → NoGrabs names.declared
-    → (position : ℕ) (t : Ty) → NameFits names position t → type_at names position ≡ t
-names_typed a names nodes has none position t fits =
-    let own = target_live a names.declared nodes has none fits.place fits.declared fits.stands in
-    ap (λ (o : Option Declared). elim o [ None ↦ types.Int | Some d ↦ d.ty ])
-    (subst (λ (j : ℕ). slice_get names.declared j ≡ Some own.0) fits.target own.1) ∙ (own.2 ∙ fits.typed)
+pub names_typed : (a : Arena) (names : Names) (nodes : List NodeId) → HaveNodes a names.declared nodes → (position : ℕ) (t : Ty)
+    → NameFits names position t → type_at names position ≡ t
+names_typed a names nodes has position t fits =
+    let own = (has fits.place fits.declared fits.stands).target in
+    let there : slice_get names.declared position ≡ Some own.target =
+    subst (λ (j : ℕ). slice_get names.declared j ≡ Some own.target) fits.target own.is_target in
+    ap (λ (o : Option Declared). elim o [ None ↦ types.Int | Some d ↦ d.ty ]) there ∙ (own.typed ∙ fits.typed)
 
 -- the positions of names are those of nodes
 pub names_within : (known : FnRef → Bool) (names : Names) (nodes : List NodeId) → length nodes ≡ length names.declared → (body : Body) (ty : Ty)
@@ -137,10 +137,10 @@ module _ {F : Type 0} (first now : Standing F) (names : Names) (nodes : List Nod
     returned_sound more few =
         sound_on before h sound (without_functions now) (extends_without first now more) (let room = h.few in omega (arith, few, room))
 
-    pub returned_stands : Extends first now → HasNewCalls first.nodes now.nodes 0 → (named : List ℕ → Option FnRef) (value : FnRef → List GraphValue → GraphValue) (m : Moment)
+    pub returned_stands : Extends first now → WereLive first.nodes now.nodes → (named : List ℕ → Option FnRef) (value : FnRef → List GraphValue → GraphValue) (m : Moment)
         → MatchesMoment (meanings_of named value) before m → MatchesMoment (meanings_of named value) returned m
-    returned_stands more fewer named value m =
-        stands_on named value before (without_functions now) sound sound' (extends_without first now more) fewer m
+    returned_stands more were named value m =
+        stands_on named value before (without_functions now) sound sound' (extends_without first now more) were m
 
     module _ (known : FnRef → Bool) (name : List ℕ) (ty : Ty) (body : Body) (fits : DeclarationFits known names name ty body)
         (made : List Made) (less : ℕ) (room_is : less + places_of_body body ≡ room) where
@@ -187,7 +187,7 @@ module _ {F : Type 0} (first now : Standing F) (names : Names) (nodes : List Nod
             → MatchesMoment (meanings_of named value) before m → MatchesMoment (meanings_of named value) after (moved m (Declare name ty body))
         declared_stands named value m unbroken =
             declaring_stands named value known before (without_functions now) sound sound' more m name ty body root less fits room_is
-            (made_new_calls first now makes made (calls_of_body body) making whole (calls_laid_body (node_at nodes) (type_at names) body))
+            (made_items first now made (node_at nodes) (type_at names) body making whole)
             (made_owned known names first now (node_at nodes) (type_at names) made sound body ty fits.body_fits making whole)
             (made_declares known names (beside (meanings_of named value) (declared_in m.present name ty body) after) (node_at nodes) (type_at names) made body ty fits.body_fits
             (λ position t fine. node_same position fine.earlier) making.stands whole) unbroken
@@ -236,7 +236,7 @@ module _ {F : Type 0} (first full now : Standing F) (count : ℕ) (more : Extend
   below_or i j = grind arith
 
   -- what is live was live first
-  back_live : WereLive first.nodes now.nodes
+  pub back_live : WereLive first.nodes now.nodes
   back_live n r is = elim (below_or n.gen_ count) [
     | inl low ↦ sym (more.rows n (omega (arith, low, since))) ∙ (sym (back.older n low) ∙ is)
     | inr high ↦ absurd (none-some r (sym (back.dropped n high) ∙ is))
@@ -245,14 +245,6 @@ module _ {F : Type 0} (first full now : Standing F) (count : ℕ) (more : Extend
   -- no more nodes are live
   pub back_few : live now.nodes ≤ live first.nodes
   back_few = live_within first.nodes now.nodes (λ n r is. (r, back_live n r is))
-
-  -- nor is a caller that wasn't
-  pub back_calls : HasNewCalls first.nodes now.nodes 0
-  back_calls = record {
-    callers = [];
-    few = omega arith;
-    all = λ c is. inl (caller_live first.nodes now.nodes back_live c is);
-  }
 
 -- ---- a variable that may be set
 

@@ -13,23 +13,24 @@ use Rattle.inc_value.specs.declared.ty.Ty.{Ty}
 use Rattle.inc_value.specs.declared.value.Value.{Value as GraphValue}
 use Rattle.graph.specs.Standing.{Standing}
 use Rattle.link_table.proofs.Lists.{get_append_last, get_append_other}
+use Rattle.inc_terms.specs.Graph.{Row}
 use Rattle.node_arena.specs.Arena.{row_at}
 use Rattle.node_arena.specs.Graph.{graph_of}
 use Rattle.node_arena.specs.Sound as arena
 use Rattle.script_model.specs.Check.{Declare, Declared, Names, declared_of, kind_of_body, names_of, target_of_body}
 use Rattle.script_model.specs.Formula.{State, Body, Entry, Formula, Formulas, Meanings, meanings_of, body_at, entry_at, formula_of_body, places_of_body, Literal, Name, Apply, Fold, If, Join, End, More, Variable, Computed}
 use Rattle.script_model.specs.Need.{part_of}
-use Rattle.script_model.specs.Run.{calls_of_body}
 use Rattle.script_model.specs.Step.{Moment, declared_in, moved}
 use Rattle.script_model.specs.Values.{Value, Int, Bool as Truth, Text, Reference, type_of}
 use Rattle.script_graph.specs.Growing.{Extends}
 use Rattle.script_graph.specs.Kept.{Kept, arena_of, node_in, no_node}
-use Rattle.script_graph.specs.Represents.{AreNames, beside, Represents}
+use Rattle.script_graph.specs.Represents.{AreNames, beside, IsOfItem, Represents}
 use Rattle.script_graph.specs.Today.{IsPlain, ArePlain, IsPlainBody, IsEarlierTarget, IsDeclaredTarget, AllPlain, IsWithin, IsPartWithin, OwnNodesOf}
 use Rattle.script_graph.specs.State.{MatchesMoment}
 use Rattle.script_graph.proofs.Carrying.{watches_on, leaves_beside, settled_on}
 use Rattle.script_graph.proofs.Extending.{live_stays, declares_still, body_within, body_there, node_given, never_given, body_past, node_past}
-use Rattle.script_graph.proofs.Callers.{HasNewCalls, few_calls_on}
+use Rattle.script_graph.proofs.Placed.{item_still}
+use Rattle.script_graph.proofs.Placing.{AddsItems}
 use Rattle.script_graph.proofs.Owning.{own_body, own_node, own_nodes_of_on}
 use Rattle.script_graph.proofs.Referring.{value_refers_more}
 use Rattle.transfer.specs.Items.{FormulasStay}
@@ -222,7 +223,7 @@ module _ (named : List ℕ → Option FnRef) (value : FnRef → List GraphValue 
     (sound : arena.IsSound (arena_of k)) (sound' : arena.IsSound g.nodes) (more : Extends k.graph g) (m : Moment)
     (name : List ℕ) (ty : Ty) (body : Body) (root : NodeId) (room : ℕ) (fits : DeclarationFits known k.names name ty body)
     (room_is : room + places_of_body body ≡ k.room)
-    (fewer : HasNewCalls (arena_of k) g.nodes (calls_of_body body))
+    (adds : AddsItems (arena_of k) g.nodes root body)
     (owned : OwnNodesOf (graph_of g.nodes) (λ (n : NodeId). ((arena_of k).given ≤ n.gen_) × (n.gen_ ≤ root.gen_))
     (λ (n : NodeId). ((arena_of k).given ≤ n.gen_) × (n.gen_ < root.gen_)) root body) where
   abbrev F : Meanings
@@ -391,6 +392,18 @@ module _ (named : List ℕ → Option FnRef) (value : FnRef → List GraphValue 
         by_place (inr a) (inl b) = absurd (later j i d b.0 a.0 a.1 own_i (sym same))
         by_place (inr a) (inr b) = a.0 ∙ sym b.0
 
+    -- each live node is that of an item: one that was there, or one of the new declaration
+    of_items_each : (n : NodeId) (r : Row) → row_at g.nodes n ≡ Some r → IsOfItem (beside F s' new) n
+    of_items_each n r is = elim (adds n r is) [
+      | inl old ↦ item_still (beside F s k) (beside F s' new) stays (λ b. refl) held.today.plain
+          (λ j f kept body_is. still j (Computed f kept) body_is)
+          (λ j v body_is. let there = still j (Variable v) body_is in (v, there.0, there.1)) n (held.of_items n r old)
+      | inr made ↦ made (beside F s' new) (length s.entries) refl node_new (body_new s name ty body)
+    ]
+      where
+        still : (j : ℕ) (b : Body) → body_at s j ≡ Some b → (body_at s' j ≡ Some b) × (node_in new.nodes j ≡ node_in k.nodes j)
+        still j b is = let low = body_within F s k held j b is in (body_old s name ty body j low ∙ is, node_old j low)
+
     pub declared_represents : Represents F s' new
     declared_represents = record {
       room = let places = sum_by_push (λ (e : Entry). places_of_body e.body) s.entries (entry s name ty body) in omega (arith, room_is, held.room, places);
@@ -402,11 +415,10 @@ module _ (named : List ℕ → Option FnRef) (value : FnRef → List GraphValue 
       declares = λ n. declares_each n (body_at s' n) refl;
       targets = targets_each;
       apart = apart_each;
+      of_items = of_items_each;
       today = record {
         plain = plain_each;
         aged = aged_each;
-        calls = few_calls_on s s' (arena_of k) g.nodes (calls_of_body body) fewer
-            (let calls = sum_by_push (λ (e : Entry). calls_of_body e.body) s.entries (entry s name ty body) in omega (arith, calls)) held.today.calls;
       };
     }
 

@@ -24,7 +24,7 @@ use Rattle.script_graph.specs.Represents.{beside, Represents}
 use Rattle.script_graph.specs.Today.{IsPlain, ArePlain, IsPlainBody, IsEarlierTarget, IsDeclaredTarget, IsWithin, IsPartWithin}
 use Rattle.script_graph.specs.State.{MatchesMoment}
 use Rattle.script_graph.proofs.Carrying.{watches_on, leaves_beside, settled_on}
-use Rattle.script_graph.proofs.Callers.{HasNewCalls, few_calls_on}
+use Rattle.script_graph.proofs.Placed.{item_still}
 use Rattle.script_graph.proofs.Owning.{own_nodes_of_on}
 use Rattle.script_graph.proofs.Referring.{base_value, value_agrees}
 use Rattle.transfer.specs.Both.{Both, graph_value}
@@ -275,9 +275,13 @@ node_past (x ∷ ns) (suc i) high = node_past ns i (omega (arith, high))
 
 -- ---- what is kept
 
+-- live nodes were live before
+abbrev pub WereLive : Arena → Arena → Type 0
+WereLive old new = (n : NodeId) (r : Row) → row_at new n ≡ Some r → row_at old n ≡ Some r
+
 module _ (named : List ℕ → Option FnRef) (value : FnRef → List GraphValue → GraphValue) (k : Kept) (g : Standing (Unit {0}))
     (sound : arena.IsSound (arena_of k)) (sound' : arena.IsSound g.nodes) (more : Extends k.graph g)
-    (fewer : HasNewCalls (arena_of k) g.nodes 0) (m : Moment) where
+    (were : WereLive (arena_of k) g.nodes) (m : Moment) where
   abbrev F : Meanings
   F = meanings_of named value
 
@@ -306,11 +310,12 @@ module _ (named : List ℕ → Option FnRef) (value : FnRef → List GraphValue 
       declares = λ n. declares_each n (body_at m.present n) refl;
       targets = held.targets;
       apart = held.apart;
+      of_items = λ n r is. item_still (beside F m.present k) (beside F m.present new) stays (λ b. refl) held.today.plain (λ j f kept body. (body, refl))
+          (λ j v body. (v, body, refl)) n (held.of_items n r (were n r is));
       today = record {
         plain = held.today.plain;
         aged = λ n b is. own_nodes_of_on (graph_of (arena_of k)) (graph_of g.nodes) (IsWithin k.nodes n) (IsWithin k.nodes n)
             (IsPartWithin k.nodes n) (IsPartWithin k.nodes n) (λ q h. h) (λ q h. h) stays (node_in k.nodes n) b (held.today.aged n b is);
-        calls = few_calls_on m.present m.present (arena_of k) g.nodes 0 fewer (omega arith) held.today.calls;
       };
     }
 

@@ -65,7 +65,7 @@ refers_nowhere P (Reference target b) ty is base = absurd (subst (λ (t : Ty). I
 -- ---- lists in a list
 
 -- from the start on they stand in the list
-abbrev SitsAt : List Open → ℕ → List Open → Type 0
+abbrev pub SitsAt : List Open → ℕ → List Open → Type 0
 SitsAt all start [] = Unit {0}
 SitsAt all start (x ∷ xs) = (slice_get all start ≡ Some x) × SitsAt all (suc start) xs
 
@@ -79,7 +79,7 @@ module _ (all : List Open) where
             let there : start + suc j ≡ suc start + j = omega arith in subst (λ i. slice_get all i ≡ Some y) there (h (suc j) y at)),
       )
 
-  sits_split : (start : ℕ) (xs ys : List Open) → SitsAt all start (xs ++ ys) → SitsAt all start xs × SitsAt all (start + length xs) ys
+  pub sits_split : (start : ℕ) (xs ys : List Open) → SitsAt all start (xs ++ ys) → SitsAt all start xs × SitsAt all (start + length xs) ys
   sits_split start [] ys h = let same : start ≡ start + 0 = omega arith in (tt, subst (λ i. SitsAt all i ys) same h)
   sits_split start (x ∷ xs) ys h =
       let rest = sits_split (suc start) xs ys h.1 in
@@ -87,7 +87,7 @@ module _ (all : List Open) where
       ((h.0, rest.0), subst (λ i. SitsAt all i ys) same rest.1)
 
 -- an if behind its test and its branches
-if_sits : (all : List Open) (start : ℕ) (ty : Ty) (xs ys zs : List Open) (test a b : Part)
+pub if_sits : (all : List Open) (start : ℕ) (ty : Ty) (xs ys zs : List Open) (test a b : Part)
     → SitsAt all start (xs ++ (ys ++ (zs ++ OpenIf ty test a b ∷ [])))
     → SitsAt all start xs × SitsAt all (start + length xs) ys × SitsAt all (start + (length xs + length ys)) zs
     × (slice_get all (start + (length xs + (length ys + length zs))) ≡ Some (OpenIf ty test a b))
@@ -104,7 +104,7 @@ if_sits all start ty xs ys zs test a b sits =
       subst (λ i. slice_get all i ≡ Some whole) last third.1.0,
     )
 
-sits_itself : (all : List Open) → SitsAt all 0 all
+pub sits_itself : (all : List Open) → SitsAt all 0 all
 sits_itself all = sits_each all 0 all (λ j x at. let same : j ≡ 0 + j = omega arith in subst (λ i. slice_get all i ≡ Some x) same at)
 
 every_append : (P : Open → Type 0) (xs ys : List Open) → Every P xs → Every P ys → Every P (xs ++ ys)
@@ -275,7 +275,7 @@ module _ (known : FnRef → Bool) (names : Names) (P : ℕ → Type 0) (named : 
 abbrev IsMade : List Made → ℕ → NodeId → Type 0
 IsMade made bound n = (i : ℕ) × (i < bound) × (n ≡ made_node made i)
 
-if_size : (xs ys zs : List Open) (whole : Open)
+pub if_size : (xs ys zs : List Open) (whole : Open)
     → length (xs ++ (ys ++ (zs ++ whole ∷ []))) ≡ length xs + (length ys + length zs) + 1
 if_size xs ys zs whole =
     let first = length-append xs (ys ++ (zs ++ whole ∷ [])) in

@@ -2,7 +2,6 @@ pub mod Accepting
 pub mod Adding
 pub mod Beginning
 pub mod Beside
-pub mod Callers
 pub mod Calling
 pub mod Carrying
 mod ComingBack
@@ -22,6 +21,8 @@ pub mod Making
 pub mod Observing
 pub mod Owner
 pub mod Owning
+pub mod Placed
+pub mod Placing
 pub mod Plain
 pub mod Recalling
 pub mod Referring
@@ -30,6 +31,7 @@ pub mod Same
 pub mod Setting
 pub mod Showing
 pub mod Sounding
+pub mod Spots
 pub mod TooDeep
 pub mod Watching
 pub mod Without

@@ -28,7 +28,7 @@ module _ (P R : ℕ → Type 0) where
   plain_part (Name n) plain edge g e = absurd (cc)
   plain_part f plain edge g e = absurd plain
 
-  plain_within : (f : Formula) → IsPlain P R f → (path : List Edge) (g : Formula) → part_of f path ≡ Some g → IsPlain P R g
+  pub plain_within : (f : Formula) → IsPlain P R f → (path : List Edge) (g : Formula) → part_of f path ≡ Some g → IsPlain P R g
   plain_within f plain [] g e = let same : f ≡ g = cc in subst (IsPlain P R) same plain
   plain_within f plain (edge ∷ path) g e = above (part_of f path) (plain_within f plain path) e
     where

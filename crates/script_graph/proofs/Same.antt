@@ -3,12 +3,13 @@ use Rattle.std.proofs.Common.{◌≡◌, ℕ, ◌+◌, List, [], length, Option,
 use Rattle.inc_value.specs.declared.node.NodeId.{NodeId}
 use Rattle.inc_terms.specs.Term as term
 use Rattle.inc_terms.specs.Term.{Term, Terms}
-use Rattle.node_arena.specs.Arena.{Arena}
+use Rattle.node_arena.specs.Arena.{Arena, row_at}
 use Rattle.node_arena.specs.Graph.{graph_of}
 use Rattle.script_model.specs.Formula.{State, Body, Formula, Formulas, Observer, Meanings, body_at, places_of, Literal, Name, Apply, Fold, If, Join, End, More, Variable, Computed}
 use Rattle.script_graph.specs.Kept.{Kept, arena_of, node_in}
-use Rattle.script_graph.specs.Represents.{besides, Represents}
-use Rattle.script_graph.specs.Today.{IsPlain, ArePlain, IsPlainBody, IsEarlierTarget, IsDeclaredTarget, IsCaller, IsWithin, IsPartWithin, OwnNodesOf}
+use Rattle.script_graph.specs.Represents.{besides, IsOfItem, Represents}
+use Rattle.script_graph.specs.Today.{IsPlain, ArePlain, IsPlainBody, IsEarlierTarget, IsDeclaredTarget, IsWithin, IsPartWithin, OwnNodesOf}
+use Rattle.script_graph.proofs.Placed.{item_still}
 use Rattle.transfer.specs.Both.{Both}
 use Rattle.transfer.specs.Keeping.{NodesApart}
 use Rattle.transfer.specs.Shows.{Mode, Built, Binding, Shows, ShowsAll, Declares}
@@ -68,16 +69,17 @@ represents_so F s observers accepted k new room nodes arena held = record {
       (declares_so F s observers accepted k.nodes (arena_of k) (IsEarlierTarget s n) (IsDeclaredTarget s) (node_in k.nodes n) (body_at s n) (held.today.plain n) (held.declares n)));
   targets = held.targets;
   apart = subst (λ (ns : List NodeId). NodesApart (observed_so s observers accepted) (node_in ns)) (sym nodes) held.apart;
+  of_items = λ n r is.
+      subst (λ (ns : List NodeId). IsOfItem (besides F (observed_so s observers accepted) ns (arena_of new)) n) (sym nodes)
+      (subst (λ (a : Arena). IsOfItem (besides F (observed_so s observers accepted) k.nodes a) n) (sym arena)
+      (item_still (besides F s k.nodes (arena_of k)) (besides F (observed_so s observers accepted) k.nodes (arena_of k)) (λ m q u row def. row) (λ b. refl)
+      held.today.plain (λ m f kept body. (body, refl)) (λ m v body. (v, body, refl)) n
+      (held.of_items n r (subst (λ (a : Arena). row_at a n ≡ Some r) arena is))));
   today = record {
     plain = held.today.plain;
     aged = λ n b is.
         subst (λ (ns : List NodeId). OwnNodesOf (graph_of (arena_of new)) (IsWithin ns n) (IsPartWithin ns n) (node_in ns n) b) (sym nodes)
         (subst (λ (a : Arena). OwnNodesOf (graph_of a) (IsWithin k.nodes n) (IsPartWithin k.nodes n) (node_in k.nodes n) b) (sym arena)
         (held.today.aged n b is));
-    calls = record {
-      callers = held.today.calls.callers;
-      few = held.today.calls.few;
-      all = λ c is. held.today.calls.all c (subst (λ (a : Arena). IsCaller a c) arena is);
-    };
   };
 }

@@ -10,27 +10,26 @@ use Rattle.inc_value.specs.declared.node.NodeId.{NodeId}
 use Rattle.inc_value.specs.declared.value.Value.{Value as GraphValue}
 use Rattle.inc_terms.specs.Graph as graph
 use Rattle.inc_terms.specs.Graph.{Row}
-use Rattle.inc_terms.specs.Work.{cost_of}
 use Rattle.graph.specs.Effects.{Sets}
 use Rattle.graph.specs.Standing.{Standing}
 use Rattle.node_arena.specs.Arena.{row_at, with_value}
 use Rattle.node_arena.specs.Graph.{graph_of}
 use Rattle.node_arena.specs.Sound as arena
 use Rattle.script_model.specs.Check.{Assign, Declared, Names, declared_of, kind_of_body, is_variable, names_of, target_of_body}
+use Rattle.script_model.specs.Formula as script
 use Rattle.script_model.specs.Formula.{State, Body, Entry, Formula, Meanings, meanings_of, body_at, entry_at, formula_of_body, places_of_body, Bind, Variable, Computed}
 use Rattle.script_model.specs.Need.{Edge, part_of, formula_at}
-use Rattle.script_model.specs.Run.{calls_of_body}
 use Rattle.script_model.specs.Step.{Moment, changed_at, with_body, moved}
 use Rattle.script_model.specs.Values.{Value}
 use Rattle.script_graph.specs.Kept.{Kept, arena_of, node_in, no_node}
-use Rattle.script_graph.specs.Represents.{AreNames, beside, Represents, Watches}
+use Rattle.script_graph.specs.Represents.{AreNames, beside, IsOfItem, Represents, Watches}
 use Rattle.script_graph.specs.Settled.{Settled}
 use Rattle.script_graph.specs.Today.{IsPlainBody, IsEarlierTarget, IsDeclaredTarget, AllPlain, IsWithin, IsPartWithin, OwnNodesOf}
 use Rattle.script_graph.specs.State.{MatchesMoment}
 use Rattle.script_graph.proofs.Carrying.{watches_on, leaves_beside, settled_on}
 use Rattle.script_graph.proofs.Declaring.{plain_body_more, fitting_refers}
 use Rattle.script_graph.proofs.Extending.{declares_still, node_given, never_given, body_past, node_past}
-use Rattle.script_graph.proofs.Callers.{HasNewCalls, few_calls_on, caller_in}
+use Rattle.script_graph.proofs.Placed.{item_still}
 use Rattle.script_graph.proofs.Owning.{own_nodes_of_on}
 use Rattle.script_graph.proofs.Referring.{value_refers_more}
 use Rattle.transfer.specs.Both.{graph_value}
@@ -271,18 +270,30 @@ module _ (named : List ℕ → Option FnRef) (value : FnRef → List GraphValue 
           let b = was_entry j c at_j in
           held.apart i j a.0 b.0 a.1 b.1 (a.2 ∙ own_i) (b.2 ∙ own_j) same
 
-      no_new_call : HasNewCalls (arena_of k) g.nodes 0
-      no_new_call = record {
-        callers = [];
-        few = omega arith;
-        all = λ c is. elim (node_or c.node (node_in k.nodes target)) [
-          | inl same ↦ absurd (
-              let row : with_value sets.set.row w ≡ is.row =
-              (let h : Some (with_value sets.set.row w) ≡ Some is.row = sym sets.set.changes.changed ∙ (ap (row_at g.nodes) (sym same) ∙ is.is_row) in cc) in
-              let cost : None ≡ Some c.cost = ap (λ (r : Row). cost_of (graph_of g.nodes) c.node r.def) row ∙ is.calls in cc)
-          | inr other ↦ inl (caller_in (arena_of k) g.nodes c is (sym (sets.set.changes.others c.node other) ∙ is.is_row))
-        ];
-      }
+      of_items_each : (n : NodeId) (r : Row) → row_at g.nodes n ≡ Some r → IsOfItem (beside F s' new) n
+      of_items_each n r is =
+          let row = row_back n r is in
+          item_still (beside F s k) (beside F s' new) stays (λ b. refl) held.today.plain computed_still variable_still n (held.of_items n row.0 row.1)
+        where
+          row_back : (n : NodeId) (r : Row) → row_at g.nodes n ≡ Some r → (q : Row) × (row_at (arena_of k) n ≡ Some q)
+          row_back n r is = elim (node_or n (node_in k.nodes target)) [
+            | inl same ↦ (sets.set.row, ap (row_at (arena_of k)) same ∙ sets.set.there)
+            | inr other ↦ (r, sym (sets.set.changes.others n other) ∙ is)
+          ]
+
+          computed_still : (j : ℕ) (f : Formula) (kept : script.Kept) → body_at s j ≡ Some (Computed f kept)
+              → (body_at s' j ≡ Some (Computed f kept)) × (node_in k.nodes j ≡ node_in k.nodes j)
+          computed_still j f kept is = elim (cases_eq j target) [
+            | inl same ↦ absurd (let e : Some (Variable u) ≡ Some (Computed f kept) = sym was ∙ (ap (body_at s) (sym same) ∙ is) in cc)
+            | inr other ↦ (others j other ∙ is, refl)
+          ]
+
+          variable_still : (j : ℕ) (w : Value) → body_at s j ≡ Some (Variable w)
+              → (z : Value) × (body_at s' j ≡ Some (Variable z)) × (node_in k.nodes j ≡ node_in k.nodes j)
+          variable_still j w is = elim (cases_eq j target) [
+            | inl same ↦ (v, ap (body_at s') same ∙ now, refl)
+            | inr other ↦ (w, others j other ∙ is, refl)
+          ]
 
       set_represents : AreNames k.names s → Represents F s' new
       set_represents names = record {
@@ -292,12 +303,10 @@ module _ (named : List ℕ → Option FnRef) (value : FnRef → List GraphValue 
         declares = λ n. declares_each n (body_at s' n) refl;
         targets = targets_each;
         apart = apart_each;
+        of_items = of_items_each;
         today = record {
           plain = plain_each names;
           aged = aged_each;
-          calls = few_calls_on s s' (arena_of k) g.nodes 0 no_new_call
-              (let calls = with_amounts calls_of_body (λ body. Variable v) s.entries target e there (sym (ap calls_of_body variable)) in omega (arith, calls))
-              held.today.calls;
         };
       }
 

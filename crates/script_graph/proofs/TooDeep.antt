@@ -161,7 +161,7 @@ module _ (named : List ℕ → Option FnRef) (value : FnRef → List GraphValue 
           stabilizes = by_height target deep.item deep.met deep.deep
               (own (holds_owner target deep.item (first_is_owner k.nodes p.node target (owner_of deep.item)
               (subst (λ (q : NodeId). IsFirstNotOlder k.nodes q target) first.1.0 first.2) within))) refl refl;
-          within = few_calls N s k.graph called calls stands.matches.represents.today.calls few;
+          within = few_calls N F s k stands.matches.represents called calls few;
           matches = broken_matches F m k g 21 (refused_keeps done) stands.matches;
         }
 

@@ -3,16 +3,19 @@ use Rattle.std.specs.Prelude.{◌≡◌, ◌+◌, ℕ, pos, List, [], ◌∷◌,
 use Rattle.inc_value.specs.declared.node.NodeId.{NodeId}
 use Rattle.inc_value.specs.declared.node.ObsId.{ObsId}
 use Rattle.inc_terms.specs.Depend.{none_died}
+use Rattle.inc_terms.specs.Graph.{Row}
 use Rattle.inc_terms.specs.Term.{Functions}
 use Rattle.graph.specs.Standing.{Standing, node_at, shown_of}
-use Rattle.node_arena.specs.Arena.{Arena}
+use Rattle.node_arena.specs.Arena.{Arena, row_at}
 use Rattle.node_arena.specs.Graph.{graph_of}
 use Rattle.script_model.specs.Check.{Names, names_of, is_among, target_of_body}
 use Rattle.script_model.specs.Formula.{Body, Entry, State, Observer, Meanings, body_at, entry_at, places_of}
+use Rattle.script_model.specs.Need.{Item}
 use Rattle.script_model.specs.Values.{Outcome, to_engine, from_engine}
 use Rattle.script_graph.specs.Kept.{Kept, arena_of, node_in}
-use Rattle.script_graph.specs.Today.{maps_alone, IsDeclaredTarget, RefersTo, IsTodaysObserver, IsTodaysScript}
+use Rattle.script_graph.specs.Today.{Computes, maps_alone, IsDeclaredTarget, RefersTo, IsTodaysObserver, IsTodaysScript}
 use Rattle.transfer.specs.Both.{Both, graph_outcome}
+use Rattle.transfer.specs.Items.{node_of}
 use Rattle.transfer.specs.Keeping.{NodesApart}
 use Rattle.transfer.specs.Shows.{Declares}
 
@@ -37,7 +40,12 @@ beside F s k = besides F s k.nodes (arena_of k)
 
 -- ---- declarations
 
--- the graph holds the declarations, at the script's time: each has its node, which shows what is declared, and two that are no other names have two nodes
+-- the node is that of an item that computes something itself
+abbrev pub IsOfItem : Both → NodeId → Type 0
+IsOfItem x n = (i : Item) × Computes x.state i × (node_of x i ≡ Some n)
+
+-- the graph holds the declarations, at the script's time: each has its node, which shows what is declared; two that are no other names have two nodes; and
+-- each live node is that of an item
 pub record Represents (F : Meanings) (s : State) (k : Kept) : Type 0 where
   pub room : k.room + places_of s ≡ 1048575
   pub clock : (beside F s k).graph.now ≡ pos s.now
@@ -45,6 +53,7 @@ pub record Represents (F : Meanings) (s : State) (k : Kept) : Type 0 where
   pub declares : (n : ℕ) → Declares (beside F s k) (node_in k.nodes n) (body_at s n)
   pub targets : (n : ℕ) (e : Entry) → entry_at s n ≡ Some e → e.target ≡ target_of_body n e.body
   pub apart : NodesApart s (node_in k.nodes)
+  pub of_items : (n : NodeId) (r : Row) → row_at (arena_of k) n ≡ Some r → IsOfItem (beside F s k) n
   pub today : IsTodaysScript s k
 
 -- ---- observers

@@ -1,7 +1,5 @@
 -- What is so of scripts of today's forms alone, and goes with one later form or another.
 use Rattle.std.specs.Prelude.{◌≡◌, ◌<◌, ◌≤◌, ℕ, Bool, false, List, [], ◌∷◌, Option, None, Some, slice_get}
-use Rattle.std.specs.List.{sum_by}
-use Rattle.inc_value.specs.Choice.{Among}
 use Rattle.inc_value.specs.Ty.{IsBase}
 use Rattle.inc_value.specs.declared.function.FnRef.{FnRef}
 use Rattle.inc_value.specs.declared.node.NodeId.{NodeId}
@@ -9,18 +7,15 @@ use Rattle.inc_value.specs.declared.value.Value.{Value}
 use Rattle.inc_terms.specs.Graph as graph
 use Rattle.inc_terms.specs.Graph.{Graph, Row, Def}
 use Rattle.inc_terms.specs.Term.{Functions}
-use Rattle.inc_terms.specs.Work.{cost_of}
 use Rattle.formula_elab.specs.Names.{EveryReference}
 use Rattle.graph.specs.Standing.{cutoff_of}
 use Rattle.map_nodes.specs.declared.cutoff.Cutoff.TheVariants.{Equal}
-use Rattle.node_arena.specs.Arena.{Arena, row_at}
 use Rattle.node_arena.specs.Graph.{graph_of}
 use Rattle.node_arena.specs.RightSide.{no_side}
 use Rattle.node_arena.specs.RightSideLaws.{meaning}
 use Rattle.script_model.specs.Check.{Declared, Grab}
 use Rattle.script_model.specs.Formula.{Formula, Formulas, Body, State, Observer, body_at, Literal, Name, Apply, Fold, If, Join, End, More, Variable, Computed, Unwatched, nothing_kept}
 use Rattle.script_model.specs.Need.{Item, Named, Place, formula_at}
-use Rattle.script_model.specs.Run.{most_calls}
 use Rattle.script_model.specs.Settle.{Notice}
 use Rattle.script_model.specs.Values.{Outcome, Val, Invalid, type_of}
 use Rattle.script_graph.specs.Kept.{Kept, arena_of, node_in}
@@ -179,25 +174,6 @@ pub record IsPartWithin (nodes : List NodeId) (owner : ℕ) (n : NodeId) : Type 
   pub within : IsWithin nodes owner n
   pub earlier : n.gen_ < (node_in nodes owner).gen_
 
--- ---- calls: each node that calls a function is that of a place
-
--- a node, and how many calls of its function one visit makes
-pub record Caller : Type 0 where
-  pub node : NodeId
-  pub cost : ℕ
-
--- it is live, and so many are made
-pub record IsCaller (a : Arena) (c : Caller) : Type 0 where
-  pub row : Row
-  pub is_row : row_at a c.node ≡ Some row
-  pub calls : cost_of (graph_of a) c.node row.def ≡ Some c.cost
-
--- the nodes of the graph that call functions are among these, whose visits make no more calls than one of each place
-pub record HasFewCalls (s : State) (a : Arena) : Type 0 where
-  pub callers : List Caller
-  pub few : sum_by (λ (c : Caller). c.cost) callers ≤ most_calls s
-  pub all : (c : Caller) → IsCaller a c → Among c callers
-
 -- ---- what is kept
 
 -- a state of today's forms beside the graph that is kept
@@ -205,7 +181,6 @@ pub record IsTodaysScript (s : State) (k : Kept) : Type 0 where
   pub plain : AllPlain s
   pub aged : (n : ℕ) (b : Body) → body_at s n ≡ Some b
       → OwnNodesOf (graph_of (arena_of k)) (IsWithin k.nodes n) (IsPartWithin k.nodes n) (node_in k.nodes n) b
-  pub calls : HasFewCalls s (arena_of k)
 
 -- the state was of today's forms as the last accepted stabilize left it, and each node has cutoff Equal
 pub record WasTodays (before : State) (k : Kept) : Type 0 where

@@ -1,7 +1,7 @@
 -- With the nodes made for it a declaration is stood for; without memory they are taken back, and what is kept stands for what it stood for.
 use Rattle.std.proofs.Common.{ap, ◌∙◌, length}
 use Rattle.formula_lang.specs.CommandView.{body_view}
-use Rattle.script_graph.proofs.Declared.{back_extends, back_few, back_calls, declared_sound, declared_stands, returned_sound, returned_stands}
+use Rattle.script_graph.proofs.Declared.{back_extends, back_few, back_live, declared_sound, declared_stands, returned_sound, returned_stands}
 use Rattle.graph.proofs.TakingBack.{below_still}
 use Rattle.session.proofs.script.Script.declare.Goals as goal
 
@@ -57,5 +57,5 @@ returns-in-Err-clause-kept g c =
     let more = back_extends s.graph full now count kept c.take_back.ensures since in
     rw (← c.self.view_is, c.in-Err.ensures.names_kept, c.in-Err.ensures.nodes_kept) (returned_stands s.graph now s.names s.nodes.items
     s.observers.items s.room s.accepted s.broken c.self.invariant.0 c.keeps_sound.ensures.sound.nodes c.keeps_sound-in-Err.ensures.sound.nodes more
-    (back_calls s.graph full now count kept c.take_back.ensures since) (g.L.Library.named s.graph.functions.library)
+    (back_live s.graph full now count kept c.take_back.ensures since) (g.L.Library.named s.graph.functions.library)
     (g.L.Library.value s.graph.functions.library))

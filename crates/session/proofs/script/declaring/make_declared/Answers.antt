@@ -22,7 +22,7 @@ make_all-made-requires g c =
       order = e.order;
       fit = rw e.makes (laid_fits _ c.args.graph.now.nodes (node_at c.args.nodes.now) (type_at c.args.names.now) c.args.names.now
           (names_there c.args.graph.now.nodes c.args.names.now c.args.nodes.now c.requires.one_each c.requires.has_nodes c.requires.no_grabs)
-          (names_typed c.args.graph.now.nodes c.args.names.now c.args.nodes.now c.requires.has_nodes c.requires.no_grabs)
+          (names_typed c.args.graph.now.nodes c.args.names.now c.args.nodes.now c.requires.has_nodes)
           (body_view c.args.body.now) c.requires.fits.0 c.requires.fits.1).0;
       room = omega (arith, e.places, c.requires.room);
       ids = omega (arith, e.places, c.requires.room, c.requires.ids);
