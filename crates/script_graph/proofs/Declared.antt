@@ -161,7 +161,7 @@ module _ {F : Type 0} (first now : Standing F) (names : Names) (nodes : List Nod
         there = names_there first.nodes names nodes h.one_node_each h.has_nodes h.today
 
         declared_type : (position : ℕ) (t : Ty) → NameFits names position t → type_at names position ≡ t
-        declared_type = names_typed first.nodes names nodes h.has_nodes h.today
+        declared_type = names_typed first.nodes names nodes h.has_nodes
 
         laid : AllOpenFit known first.nodes makes × PartFits first.nodes makes ty (laid_body (node_at nodes) (type_at names) 0 body).root
         laid = laid_fits known first.nodes (node_at nodes) (type_at names) names there declared_type body ty fits.body_fits

@@ -12,7 +12,6 @@ mod observing;
 mod setting;
 mod stabilizing;
 
-use crate::reply::name_at;
 use formula_lang::Names;
 use graph::{Graph, GraphFault};
 use inc_value::{NodeId, ObsId};
