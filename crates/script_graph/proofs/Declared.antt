@@ -25,7 +25,7 @@ use Rattle.node_arena.specs.Arena.{Arena, row_at, live, IsVariable}
 use Rattle.node_arena.specs.Sound as arena
 use Rattle.node_arena.specs.Typing as typing
 use Rattle.node_arena.specs.Typing.{FitsNode, HasType}
-use Rattle.script_model.specs.Check.{Assign, Declare, Declared, Kind, Names, Variable as VariableKind, Grab as GrabKind, is_variable, kind_of_body, target_of_body, type_of_base}
+use Rattle.script_model.specs.Check.{Assign, Declare, Declared, Kind, Names, Variable as VariableKind, Grab as GrabKind, is_variable, kind_of_body, type_of_base}
 use Rattle.script_model.specs.Formula.{Body, meanings_of, places_of_body, Literal, Name, Apply, Fold, If, Join, Bind, Variable, Computed}
 use Rattle.script_model.specs.Step.{Moment, declared_in, moved}
 use Rattle.script_model.specs.Values.{Value, Int, Bool as Truth, Text, Reference, type_of}

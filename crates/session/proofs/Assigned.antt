@@ -1,5 +1,5 @@
 -- The node that is set, and the value that it is given.
-use Rattle.std.proofs.Common.{◌≡◌, ◌<◌, ℕ, length, refl, ap, sym, subst, ◌∙◌, arith}
+use Rattle.std.proofs.Common.{◌≡◌, ◌<◌, ℕ, length, sym, subst, ◌∙◌, arith}
 use Rattle.formula_lang.specs.Fits.{AssignmentFits}
 use Rattle.formula_elab.specs.Names.{EveryReference}
 use Rattle.formula_elab.specs.Opened.{node_at}

@@ -1,34 +1,28 @@
 -- What commands that are carried out or refused lead to.
-use Rattle.std.proofs.Common.{◌≡◌, ℕ, zero, suc, ◌+◌, ◌<◌, ◌≤◌, true, false, List, [], ◌∷◌, ◌++◌, map, slice_get, None, Some, refl, sym, ◌∙◌, ap, subst, append-nil, arith}
+use Rattle.std.proofs.Common.{◌≡◌, ℕ, ◌+◌, ◌<◌, ◌≤◌, true, false, List, [], ◌∷◌, ◌++◌, map, None, Some, refl, sym, ◌∙◌, ap, subst, append-nil, arith}
 use Rattle.std.proofs.lemmas.Bool.{le-ltb, lt-ltb}
 use Rattle.std.proofs.Math.Dec.{ltb}
 use Rattle.std.specs.List.{flat_map}
 use Rattle.std.specs.Prelude.{codes}
 use Rattle.inc_value.specs.Outcome as engine
 use Rattle.inc_value.specs.declared.outcome.Outcome as declared
-use Rattle.inc_value.specs.Value as held
-use Rattle.inc_value.specs.declared.node.NodeId.{NodeId}
 use Rattle.inc_value.specs.declared.ty.Ty.{Ty}
 use Rattle.script_model.specs.Check as check
 use Rattle.script_model.specs.Check.{Command, Declare, Declared, Names, Show, Stabilize, NotStabilized, TooManyPlaces, declared_of, names_of}
-use Rattle.script_model.specs.Formula.{Body, Entry, Meanings, State, places_of, places_of_body}
+use Rattle.script_model.specs.Formula.{Body, Meanings, State, places_of, places_of_body}
 use Rattle.script_model.specs.Grammar as grammar
 use Rattle.script_model.specs.Laws.{ValidMoment}
 use Rattle.script_model.specs.Run as run
 use Rattle.script_model.specs.Run.{Halts, most_calls}
 use Rattle.script_model.specs.Settle.{Notice}
 use Rattle.script_model.specs.Step.{Moment, Reply, name_of, moved, reply_to, Done, Stable, Shown, Tells, Refused, Height, Because, Cycle, Settle, Act, Refuse, printed, Follows, Stabilizes, settles, by_cycle, by_height, verdict_of}
-use Rattle.script_model.specs.Values.{Outcome, Val, Invalid, Int, Text, Reference, printed_outcome}
 use Rattle.script_model.specs.Valid.{KeepToTypes}
-use Rattle.script_model.specs.Values as values
 use Rattle.script_model.proofs.Validity.{halts_keep_validity}
 use Rattle.script_graph.specs.Kept.{Kept, node_in}
-use Rattle.script_graph.specs.Represents.{AreNames}
 use Rattle.script_graph.specs.Shown.{ShowsIt, ShowsNothing}
 use Rattle.script_graph.specs.Stabilizing.{IsAccepted, IsCircular, IsTooDeep, IsCutShort}
 use Rattle.script_graph.specs.State.{MatchesMoment, Stands}
 use Rattle.script_graph.proofs.CuttingShort.{broken_matches}
-use Rattle.transfer.specs.Both.{graph_outcome, graph_value}
 use Rattle.session.specs.Answered.{Extends, IsAnswered, verdict_on}
 use Rattle.session.proofs.Referred.{name_there, printed_same}
 use Rattle.session.specs.Replies.{IsReferredName, line_of, cycle_line, done_line, named_of, referred_node, shown_line, refused_line, stable_line, too_deep_line, name_in}

@@ -1,11 +1,9 @@
 -- The name that is printed of a reference is that of the declaration that it is to.
-use Rattle.std.proofs.Common.{◌≡◌, ◌⊎◌, inl, inr, ℕ, zero, suc, List, [], ◌∷◌, map, slice_get, Option, None, Some, option_map, refl, sym, ◌∙◌, ap, subst}
+use Rattle.std.proofs.Common.{◌≡◌, inl, inr, ℕ, zero, suc, List, [], ◌∷◌, map, slice_get, Option, None, Some, option_map, refl, sym, ◌∙◌, ap}
 use Rattle.std.proofs.lemmas.Option.{slice_get-map}
-use Rattle.inc_value.specs.Choice.{and_then}
 use Rattle.inc_value.specs.Outcome as engine
-use Rattle.inc_value.specs.declared.node.NodeId.{NodeId}
 use Rattle.script_model.specs.Check.{Declared, Names, declared_of, names_of, target_of_body}
-use Rattle.script_model.specs.Formula.{Body, Entry, Meanings, State, body_at, entry_at}
+use Rattle.script_model.specs.Formula.{Entry, Meanings, State, entry_at}
 use Rattle.script_model.specs.Step.{Moment, name_of}
 use Rattle.script_model.specs.Values as values
 use Rattle.script_model.specs.Values.{Outcome, Val, Invalid, Int, Text, Reference, printed_outcome}
@@ -15,7 +13,6 @@ use Rattle.script_graph.specs.State.{MatchesMoment}
 use Rattle.script_graph.specs.Today.{IsDeclaredTarget, RefersTo}
 use Rattle.script_graph.proofs.Declaring.{named_entry}
 use Rattle.transfer.specs.Both.{graph_outcome}
-use Rattle.transfer.specs.Shows.{IsOwn}
 use Rattle.transfer.proofs.Commands.{own_target}
 use Rattle.transfer.proofs.Typed.{body_entry}
 use Rattle.session.specs.Replies.{IsOwnNode, IsReferredName, name_in, referred_node}

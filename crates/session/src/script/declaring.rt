@@ -213,11 +213,7 @@ fn make_one<L: Library>(graph: &mut Graph<ScriptFns<L>>, make: Make) -> Result<M
 }
 
 /// Adds a node of a type, whose children are there and fit.
-fn add<L: Library>(
-    graph: &mut Graph<ScriptFns<L>>,
-    def: Def,
-    ty: Ty,
-) -> Result<NodeId, AllocError>
+fn add<L: Library>(graph: &mut Graph<ScriptFns<L>>, def: Def, ty: Ty) -> Result<NodeId, AllocError>
     requires unbroken { IsUnbroken graph.old }
     requires welcome { IsWelcome (L.known graph.old.functions.library) graph.old.nodes (def_of def) ty }
     requires room { live graph.old.nodes < 1048576 }

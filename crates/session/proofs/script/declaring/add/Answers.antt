@@ -29,7 +29,7 @@ or_no_memory-requires-in-Map g c = record {
       let a = c.map.ensures in
       let named = rw c.in-Map.is at c.requires.welcome in
       let welcome = subst (λ (ks : List NodeId). IsWelcome (g.L.Library.known c.args.graph.now.functions.library) c.args.graph.now.nodes (graph.Map c.in-Map.function ks) c.args.ty)
-          (sym c.as_slice.ensures) named in
+      (sym c.as_slice.ensures) named in
       memory_alone c.args.graph.now _ (graph.Map c.in-Map.function c.as_slice.result.now) _ c.requires.unbroken
       (welcome_as _ _ _ _ _ welcome welcome.makes.gives) c.requires.room c.requires.ids
       c.map.result a.adding (λ cause. (a.broken cause).0) a.unknown a.wrong_type a.full;
@@ -41,7 +41,7 @@ or_no_memory-requires-in-Fold g c = record {
       let a = c.fold.ensures in
       let named = rw c.in-Fold.is at c.requires.welcome in
       let welcome = subst (λ (ks : List NodeId). IsWelcome (g.L.Library.known c.args.graph.now.functions.library) c.args.graph.now.nodes
-          (graph.Fold c.in-Fold.function c.in-Fold.initial ks) c.args.ty) (sym c.as_slice-in-Fold.ensures) named in
+      (graph.Fold c.in-Fold.function c.in-Fold.initial ks) c.args.ty) (sym c.as_slice-in-Fold.ensures) named in
       memory_alone c.args.graph.now _ (graph.Fold c.in-Fold.function c.in-Fold.initial c.as_slice-in-Fold.result.now) _ c.requires.unbroken
       (welcome_as _ _ _ _ _ welcome welcome.makes.gives) c.requires.room c.requires.ids
       c.fold.result a.adding (λ cause. (a.broken cause).0) a.unknown a.wrong_type a.full;
