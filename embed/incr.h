@@ -63,7 +63,8 @@ int32_t incr_open(incr_slot *slot);
    Where it is more, `out` stays as it was and nothing is lost: incr_rest, or the next line with enough room, hands all of it out.
 
    The answer tells how the line was taken, and not whether there was room: INCR_BLANK, INCR_ACCEPTED, INCR_REFUSED + n;
-   INCR_NO_SESSION with 0 to be read; INCR_TOO_MANY. With INCR_NO_MEMORY the line printed nothing: either the line changed nothing
+   INCR_NO_SESSION with 0 to be read; INCR_TOO_MANY. INCR_REFUSED + 20 and + 21 come from a stabilize, and break the session: it answers
+   each later command with INCR_REFUSED + 22. With INCR_NO_MEMORY the line printed nothing: either the line changed nothing
    and may be given again, or it is a stabilize that was carried out, or one that broke the session (docs/embedding.md). */
 int32_t incr_line(incr_slot *slot, const uint8_t *text, size_t length, uint8_t *out, size_t room, size_t *count);
 

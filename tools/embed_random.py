@@ -21,7 +21,7 @@ def main():
     parser = argparse.ArgumentParser(description=__doc__)
     parser.add_argument("model", nargs="?", type=Path, help="the folder of the reference model, for its scripts")
     parser.add_argument("--program", default=REPOSITORY / "crates/incr/out/incr", help="default: incr of this repository")
-    parser.add_argument("--through", type=int, default=2, help="the model's stage of the language (default 2)")
+    parser.add_argument("--through", type=int, default=4, help="the model's stage of the language (default 4)")
     parser.add_argument("--seed", type=int, default=1)
     parser.add_argument("--count", type=int, default=1000, help="how many scripts (default 1000)")
     options = parser.parse_args()
