@@ -21,7 +21,7 @@ COLUMNS = ("crate", "call", "clause", "definitions")
 
 # Words in backticks that are of the world outside, and where from.
 OUTSIDE = {
-    "the kit": "rt rattle-kit-13b logic dac8208d650f15bf",
+    "the kit": "rt rattle-kit-13f logic dac8208d650f15bf",
     "examples": "mine.c mine.cpp mine.rs mine.py -Iembed -Iembed/cpp _p",
     "other libraries": "react QProperty swap_remove",
 }
