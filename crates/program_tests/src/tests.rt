@@ -1,5 +1,6 @@
 //! Scripts with their transcripts, and what their runs are like.
 
+use crate::choices::CHOICE_SCRIPTS;
 use crate::runs::{Outside, Wanted, is_answered};
 use crate::scripts::{Rows, are_answered};
 use std::alloc::Global;
@@ -16,7 +17,7 @@ const WIDE: Outside = Outside {
 };
 
 /// With room for a short script.
-const USUAL: Outside = Outside {
+pub(super) const USUAL: Outside = Outside {
     limit: 1000,
     piece: 5,
     failing_read: 0,
@@ -267,7 +268,8 @@ const FOLDS: &[(&str, &str)] = &[
     ("let y fold add from true [x]", "refused 6\n"),
     ("let y fold add from 0 [x, p]", "refused 6\n"),
     ("let y fold add from x [x]", "refused 1\n"),
-    ("let y fold add from &x [x]", "refused 1\n"),
+    ("let y fold add from &x [x]", "refused 6\n"),
+    ("let y fold add from &q [x]", "refused 4\n"),
     ("let y fold add from 0 (x)", "refused 1\n"),
     ("let y fold add from 0 [x,]", "refused 1\n"),
     ("let x fold foo from 0 [q]", "refused 3\n"),
@@ -422,8 +424,8 @@ fn are_scripts_answered(alloc: Global) -> bool {
 }
 
 /// Whether each script of rows is.
-fn are_rows_answered(alloc: Global) -> bool {
-    for (rows, outside, status, calls) in LONG_SCRIPTS {
+fn are_rows_answered(alloc: Global, scripts: &[(&[Rows], Outside, u8, u64)]) -> bool {
+    for (rows, outside, status, calls) in scripts {
         if !are_answered(alloc, rows, outside, *status, *calls) {
             return false;
         }
@@ -434,7 +436,8 @@ fn are_rows_answered(alloc: Global) -> bool {
 #[test]
 fn scripts_are_answered(rt: HostRuntime) {
     assert!(rt; are_scripts_answered(rt.alloc()));
-    assert!(rt; are_rows_answered(rt.alloc()));
+    assert!(rt; are_rows_answered(rt.alloc(), LONG_SCRIPTS));
+    assert!(rt; are_rows_answered(rt.alloc(), CHOICE_SCRIPTS));
 }
 
 #[test]
