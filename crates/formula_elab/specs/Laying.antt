@@ -1,11 +1,12 @@
 -- The nodes to be made for a formula: those of its parts before its own, and none for a bare name.
 use Rattle.std.specs.Prelude.{◌+◌, ℕ, List, [], ◌∷◌, ◌++◌, length, None, Some, slice_get}
 use Rattle.inc_value.specs.declared.function.FnRef.{FnRef}
+use Rattle.inc_value.specs.Ty.{type_of_base}
 use Rattle.inc_value.specs.declared.node.NodeId.{NodeId}
 use Rattle.inc_value.specs.declared.ty.Ty.{Ty}
 use Rattle.inc_value.specs.declared.ty.Ty.TheVariants as types
 use Rattle.inc_value.specs.declared.value.Value.{Value}
-use Rattle.script_model.specs.Check.{Names, type_of_base}
+use Rattle.script_model.specs.Check.{Names}
 use Rattle.script_model.specs.Formula as script
 use Rattle.script_model.specs.Formula.{Formula, Formulas, Body, Literal, Name, Apply, End, More, Variable, Computed}
 use Rattle.script_model.specs.Values.{type_of}

@@ -1,13 +1,12 @@
 //! Types of formulas.
 ghost use Rattle.std.specs.Prelude.{◌≡◌, ◌<◌, length};
 ghost use Rattle.formula_lang.specs.CommandView.{constant_view, formula_view};
-ghost use Rattle.script_model.specs.Check.{type_of_base};
 ghost use Rattle.script_model.specs.Values.{type_of};
 ghost use Rattle.formula_elab.specs.Laying.{formula_ty, joined_ty, type_at};
 ghost use Rattle.formula_elab.specs.Names.{EveryName};
 
 use formula_lang::{Constant, Formula, Names};
-use inc_value::{Base, Ty};
+use inc_value::Ty;
 
 /// The type of a formula whose names are declared.
 #[cycle(types)]
@@ -45,17 +44,6 @@ pub(crate) fn joined_type(ty: Ty) -> Ty
         Ty::Int => Ty::Int,
         Ty::Bool => Ty::Bool,
         Ty::Text => Ty::Text,
-        Ty::Node(base) => type_of_base(base),
-    }
-}
-
-/// The type that the base type is.
-fn type_of_base(base: Base) -> Ty
-    ensures { result ≡ type_of_base base }
-{
-    match base {
-        Base::Int => Ty::Int,
-        Base::Bool => Ty::Bool,
-        Base::Text => Ty::Text,
+        Ty::Node(base) => base.ty(),
     }
 }

@@ -4,13 +4,13 @@ use Rattle.std.proofs.lemmas.Option.{slice_get_within}
 use Rattle.std.specs.List.{list_any, slice_get}
 use Rattle.std.specs.Str.{bytes_eq}
 use Rattle.inc_value.proofs.SameTypes.{ty_true, types_true}
-use Rattle.inc_value.specs.Ty.{same_ty, same_types}
+use Rattle.inc_value.specs.Ty.{same_ty, same_types, base_of, type_of_base}
 use Rattle.inc_value.specs.declared.function.FnRef.{FnRef}
 use Rattle.inc_value.specs.declared.ty.Base.TheVariants as bases
 use Rattle.inc_value.specs.declared.ty.Base.{Base}
 use Rattle.inc_value.specs.declared.ty.Ty.TheVariants as types
 use Rattle.inc_value.specs.declared.ty.Ty.{Ty}
-use Rattle.script_model.specs.Check.{Command, Declare, Assign, Observe, Unobserve, Stabilize, Show, Declared, Names, Reason, NameTaken, ObserverTaken, NotVariable, ObserverUnknown, TypedFormula, TypedFormulas, TypedValue, first_named, find_declared, is_among, is_variable, kind_of, typed, typed_each, typed_as, typed_literal, literal_of_type, where_same, applied, are_all, base_of, before, branched, element_of, folded, join_of, type_of_base, command_of, body_as, target_of_body, first_that, is_against, line_order}
+use Rattle.script_model.specs.Check.{Command, Declare, Assign, Observe, Unobserve, Stabilize, Show, Declared, Names, Reason, NameTaken, ObserverTaken, NotVariable, ObserverUnknown, TypedFormula, TypedFormulas, TypedValue, first_named, find_declared, is_among, is_variable, kind_of, typed, typed_each, typed_as, typed_literal, literal_of_type, where_same, applied, are_all, before, branched, element_of, folded, join_of, command_of, body_as, target_of_body, first_that, is_against, line_order}
 use Rattle.inc_value.specs.Choice.{and_then}
 use Rattle.script_model.specs.Formula as model
 use Rattle.script_model.specs.Formula.{Formula, Meanings, nothing_kept}

@@ -1,13 +1,13 @@
 -- What is true of every command that is allowed: its names, functions and types fit together.
 use Rattle.std.specs.Prelude.{◌≡◌, ◌<◌, ◌≤◌, ℕ, Bool, List, [], ◌∷◌, length, None, Some, slice_get, IsTrue, IsFalse}
 use Rattle.inc_value.specs.Sig.{IsMapSig}
-use Rattle.inc_value.specs.Ty.{IsBase}
+use Rattle.inc_value.specs.Ty.{IsBase, type_of_base}
 use Rattle.inc_value.specs.declared.function.FnKind.TheVariants.{Map}
 use Rattle.inc_value.specs.declared.function.FnRef.{FnRef}
 use Rattle.inc_value.specs.declared.ty.Base.{Base}
 use Rattle.inc_value.specs.declared.ty.Ty.{Ty}
 use Rattle.inc_value.specs.declared.ty.Ty.TheVariants as types
-use Rattle.script_model.specs.Check.{type_of_base, Command, Declare, Assign, Observe, Unobserve, Stabilize, Show, Declared, Names, first_named, is_among, is_variable, target_of_body}
+use Rattle.script_model.specs.Check.{Command, Declare, Assign, Observe, Unobserve, Stabilize, Show, Declared, Names, first_named, is_among, is_variable, target_of_body}
 use Rattle.inc_value.specs.Choice.{and_then}
 use Rattle.script_model.specs.Formula.{Formula, Formulas, Body, Literal, Name, Apply, Fold, If, Join, End, More, Variable, Computed, nothing_kept}
 use Rattle.script_model.specs.Valid.{FoldsOver}

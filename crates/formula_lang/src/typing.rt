@@ -1,7 +1,7 @@
 //! Names, functions and types of formulas.
 ghost use Rattle.std.specs.Prelude.{◌≡◌, ◌<◌, length, map, option_map, IfOk, IfSome};
 ghost use Rattle.std.specs.List.{list_any};
-ghost use Rattle.script_model.specs.Check.{applied as applied_to, are_all, base_of, branched, element_of, find_declared, folded, is_declared, join_of, literal_of_type, referred_names, type_of_base, typed_as, typed_literal};
+ghost use Rattle.script_model.specs.Check.{applied as applied_to, are_all, branched, element_of, find_declared, folded, is_declared, join_of, literal_of_type, referred_names, typed_as, typed_literal};
 ghost use Rattle.formula_lang.specs.Here.{functions_here, functions_here_in_all, names_here, names_here_in_all, typed_each_here, typed_here};
 ghost use Rattle.script_model.specs.Literals.{Referred};
 ghost use Rattle.script_model.specs.Parsing.{trees_of};
@@ -17,7 +17,7 @@ ghost use Rattle.formula_lang.specs.Typing.{named_formula, part_view, typed_view
 
 use crate::command::{Constant, Formula};
 use crate::names::{Declared, Names};
-use inc_value::{Base, FnRef, Ty};
+use inc_value::{FnRef, Ty};
 use line_parser::{Literal, Name, Tree};
 use node_arena::Library;
 use std::alloc::{AllocError, Global};
@@ -366,7 +366,7 @@ fn joined(child: TypedPart) -> Option<TypedFormula>
     match child.ty {
         Ty::Node(base) => Some(TypedFormula {
             formula: Formula::Join(child.formula),
-            ty: type_of_base(base),
+            ty: base.ty(),
         }),
         Ty::Int | Ty::Bool | Ty::Text => None,
     }
@@ -408,29 +408,6 @@ fn is_same_type(left: Ty, right: Ty) -> bool
     left == right
 }
 
-/// The base type that a type is.
-fn base_of(ty: Ty) -> Option<Base>
-    ensures { result ≡ base_of ty }
-{
-    match ty {
-        Ty::Int => Some(Base::Int),
-        Ty::Bool => Some(Base::Bool),
-        Ty::Text => Some(Base::Text),
-        Ty::Node(_) => None,
-    }
-}
-
-/// A base type as a type.
-fn type_of_base(base: Base) -> Ty
-    ensures { result ≡ type_of_base base }
-{
-    match base {
-        Base::Int => Ty::Int,
-        Base::Bool => Ty::Bool,
-        Base::Text => Ty::Text,
-    }
-}
-
 /// The type of a literal, unless it refers to nothing of a base type.
 fn type_of_literal(names: &Names, literal: &Literal) -> Option<Ty>
     ensures { result ≡ option_map (λ v. v.ty) (typed_literal names.entry.now (literal_view literal.now)) }
@@ -439,7 +416,7 @@ fn type_of_literal(names: &Names, literal: &Literal) -> Option<Ty>
         Literal::Integer(_) => Some(Ty::Int),
         Literal::Bool(_) => Some(Ty::Bool),
         Literal::Text(_) => Some(Ty::Text),
-        Literal::Reference(name) => Some(Ty::Node(base_of(declared_as(names, name)?.ty)?)),
+        Literal::Reference(name) => Some(Ty::Node(declared_as(names, name)?.ty.base()?)),
     }
 }
 
@@ -466,7 +443,7 @@ fn reference_to(names: &Names, name: &Name) -> Option<Constant>
     let declared = declared_as(names, name)?;
     Some(Constant::Reference {
         target: declared.target,
-        base: base_of(declared.ty)?,
+        base: declared.ty.base()?,
     })
 }
 

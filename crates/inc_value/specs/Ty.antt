@@ -1,6 +1,6 @@
 -- Types of values.
 use Rattle.std.specs.Prelude as std
-use Rattle.std.specs.Prelude.{true, false, ◌&&◌, List, [], ◌∷◌}
+use Rattle.std.specs.Prelude.{true, false, ◌&&◌, List, [], ◌∷◌, Option, None, Some}
 use Rattle.inc_value.specs.declared.ty.Base.TheVariants as base
 use Rattle.inc_value.specs.declared.ty.Base.{Base}
 use Rattle.inc_value.specs.declared.ty.Ty.{Ty}
@@ -12,6 +12,19 @@ IsBase Int = Unit {0}
 IsBase Bool = Unit {0}
 IsBase Text = Unit {0}
 IsBase (Node base) = ⊥
+
+-- the base type that a type is; none of references
+abbrev pub base_of : Ty → Option Base
+base_of Int = Some base.Int
+base_of Bool = Some base.Bool
+base_of Text = Some base.Text
+base_of (Node b) = None
+
+-- a base type as a type
+abbrev pub type_of_base : Base → Ty
+type_of_base base.Int = Int
+type_of_base base.Bool = Bool
+type_of_base base.Text = Text
 
 -- the same base type
 abbrev pub same_base : Base → Base → std.Bool

@@ -5,6 +5,7 @@
 mod top;
 
 use std::alloc::AllocError;
+use std::env;
 use std::process::ExitCode;
 use std_library::StdLib;
 use std_streams::{StdSink, StdSource, words};
@@ -13,7 +14,7 @@ use std_streams::{StdSink, StdSource, words};
 const NO_MEMORY: u8 = 5;
 
 fn main(rt: HostRuntime) -> ExitCode {
-    let words = match words(&rt) {
+    let words = match words(rt.alloc(), env::args(&rt)) {
         Ok(words) => words,
         Err(AllocError) => return ExitCode::from(NO_MEMORY),
     };

@@ -18,6 +18,7 @@ use crate::perform::perform;
 use bench_engine::{Fault, status};
 use script_io::tell_usage;
 use std::alloc::AllocError;
+use std::env;
 use std::process::ExitCode;
 use std_streams::{StdSink, words};
 
@@ -26,7 +27,7 @@ const USAGE: &[u8] =
     b"usage: incr_bench chain|fan|tree|fold|cut|never|idle|flip|flipx|aside|switch|random SIZE ROUNDS | incr_bench needs SIZE\n";
 
 fn main(rt: HostRuntime) -> ExitCode {
-    let words = match words(&rt) {
+    let words = match words(rt.alloc(), env::args(&rt)) {
         Ok(words) => words,
         Err(AllocError) => return ExitCode::from(Fault::Memory.status()),
     };

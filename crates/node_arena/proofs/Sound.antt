@@ -4,6 +4,7 @@ use Rattle.std.specs.List.{AllZip, Contains}
 use Rattle.std.proofs.lemmas.List.Elements.{All-push, Contains-append_left, Contains-push}
 use Rattle.std.proofs.lemmas.List.Sorted.{IsNonDecreasingBy-push}
 use Rattle.inc_value.specs.declared.node.NodeId.{NodeId}
+use Rattle.inc_value.specs.Ty.{type_of_base}
 use Rattle.inc_value.specs.declared.ty.Ty.{Ty}
 use Rattle.inc_value.specs.declared.ty.Ty.TheVariants as ty
 use Rattle.inc_value.specs.declared.value.Value.{Value}
@@ -16,7 +17,7 @@ use Rattle.inc_terms.specs.Within.{Given}
 use Rattle.inc_terms.specs.Within.{ValueWithin}
 use Rattle.node_arena.specs.Arena.{Arena, row_at, IsLive, live, NamesGiven, with_value}
 use Rattle.node_arena.specs.Sound.{IsSound, IsOrder, IsKept}
-use Rattle.node_arena.specs.Typing.{Fits, FitsNode, BindTakes, FoldTakes, ReferenceFits, HasType, Makes, ty_of}
+use Rattle.node_arena.specs.Typing.{Fits, FitsNode, BindTakes, FoldTakes, ReferenceFits, HasType, Makes}
 
 -- ---- what was given stays given
 
@@ -63,7 +64,7 @@ module _ (a a' : Arena) (fits : (n : NodeId) (t : Ty) → Given a.given n → Fi
   all_fit (n ∷ ns) (t ∷ ts) given h = (fits n t given.0 h.0, all_fit ns ts given.1 h.1)
 
   reference_fit : (v : Value) → ValueWithin (Given a.given) v → ReferenceFits a v → ReferenceFits a' v
-  reference_fit (value.Node n base) given h = fits n (ty_of base) given h
+  reference_fit (value.Node n base) given h = fits n (type_of_base base) given h
   reference_fit (value.Int z) given h = tt
   reference_fit (value.Bool z) given h = tt
   reference_fit (value.Text z) given h = tt

@@ -2,6 +2,7 @@
 use Rattle.std.specs.Prelude.{◌≡◌, ◌≤◌, ◌⊎◌, ◌+◌, ◌-◌, ◌^◌, ℕ, min, Bool, List, [], ◌∷◌, Some, Result, Ok, Err, IsTrue, slice_get}
 use Rattle.std.specs.List.{AllZip}
 use Rattle.inc_value.specs.Choice.{Among, Every}
+use Rattle.inc_value.specs.Ty.{type_of_base}
 use Rattle.inc_value.specs.Sig.{Signature, IsMapSig}
 use Rattle.inc_value.specs.Counts.{raised}
 use Rattle.inc_value.specs.Value.{type_of, IsProper}
@@ -21,7 +22,7 @@ use Rattle.node_arena.specs.Arena.{Arena, row_at}
 use Rattle.node_arena.specs.Building.{Building, Use, IsListed}
 use Rattle.node_arena.specs.Graph.{graph_of}
 use Rattle.node_arena.specs.Listing.{Listed, IsNamed}
-use Rattle.node_arena.specs.Typing.{Fits, HasType, ty_of}
+use Rattle.node_arena.specs.Typing.{Fits, HasType}
 
 -- what a function makes of a left value: a term over captures; the functions that its nodes may call; the nodes that its
 -- terms may name; and how many nodes it takes at most, with those of the scopes within
@@ -39,7 +40,7 @@ no_side = record { term = λ v. Const v; uses = []; ids = []; size = 0 }
 
 -- a reference names a node that has its base type
 abbrev pub ReferenceHas : (NodeId → Ty → Type 0) → Value → Type 0
-ReferenceHas N (Node n b) = N n (ty_of b)
+ReferenceHas N (Node n b) = N n (type_of_base b)
 ReferenceHas N v = Unit {0}
 
 -- the value is of the type, and so is the node that it names
@@ -61,7 +62,7 @@ abbrev mutual
   TermHas N caps (Fold f v ts) t =
       (element : Ty) × (f.sig.gives ≡ t) × Folds f.sig.takes t element × ValueHas N v t × TermsAre N caps ts element
   TermHas N caps (If c a b) t = TermHas N caps c ty.Bool × TermHas N caps a t × TermHas N caps b t
-  TermHas N caps (Join s) t = (b : _) × (ty_of b ≡ t) × TermHas N caps s (ty.Node b)
+  TermHas N caps (Join s) t = (b : _) × (type_of_base b ≡ t) × TermHas N caps s (ty.Node b)
   TermHas N caps (Bind l f ts) t =
       (first : Ty) × (rest : List Ty) × (f.sig.gives ≡ t) × (f.sig.takes ≡ first ∷ rest)
       × TermHas N caps l first × TermsHave N caps ts rest
@@ -83,7 +84,7 @@ abbrev mutual
 
 -- the node that the left value names has its base type
 abbrev pub LeftHas : Value → NodeId → Ty → Type 0
-LeftHas (Node m b) n t = (n ≡ m) × (ty_of b ≡ t)
+LeftHas (Node m b) n t = (n ≡ m) × (type_of_base b ≡ t)
 LeftHas v n t = ⊥
 
 -- a node of a term has the type: it is the left value's, or is listed with it

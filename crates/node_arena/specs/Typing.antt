@@ -2,6 +2,7 @@
 use Rattle.std.specs.Prelude.{◌≡◌, ◌<◌, ◌-◌, ◌^◌, List, [], ◌∷◌, Option, None, Some, IfSome}
 use Rattle.std.specs.List.{AllZip}
 use Rattle.inc_value.specs.Choice.{Every}
+use Rattle.inc_value.specs.Ty.{base_of, type_of_base}
 use Rattle.inc_value.specs.Value.{type_of}
 use Rattle.inc_value.specs.declared.function.FnKind.TheVariants as kind
 use Rattle.inc_value.specs.declared.function.FnRef.{FnRef}
@@ -15,19 +16,13 @@ use Rattle.inc_value.specs.declared.value.Value.TheVariants.{Node}
 use Rattle.inc_terms.specs.Graph.{Row, Def, Const, Var, Map, Fold, If, Join, Bind}
 use Rattle.node_arena.specs.Arena.{Arena, row_at, live, NamesGiven}
 
--- the type that a base type is
-abbrev pub ty_of : Base → Ty
-ty_of base.Int = ty.Int
-ty_of base.Bool = ty.Bool
-ty_of base.Text = ty.Text
-
 -- the node is of the type, or dead
 abbrev pub Fits : Arena → NodeId → Ty → Type 0
 Fits a n t = IfSome (row_at a n) (λ (r : Row). r.ty ≡ t)
 
 -- a reference names a node of its base type, or a dead one
 abbrev pub ReferenceFits : Arena → Value → Type 0
-ReferenceFits a (Node n b) = Fits a n (ty_of b)
+ReferenceFits a (Node n b) = Fits a n (type_of_base b)
 ReferenceFits a v = Unit {0}
 
 -- a value of the type
@@ -56,13 +51,6 @@ pub record FoldMakes (a : Arena) (f : FnRef) (v : Value) (kids : List NodeId) (t
   pub takes : FoldTakes a t kids f.sig.takes
   pub gives : f.sig.gives ≡ t
   pub initial : HasType a v t
-
--- the base type that a type is, if it is one
-abbrev pub base_of : Ty → Option Base
-base_of ty.Int = Some base.Int
-base_of ty.Bool = Some base.Bool
-base_of ty.Text = Some base.Text
-base_of (ty.Node b) = None
 
 -- a test of truth values, and two branches of the type
 abbrev pub IfMakes : Arena → NodeId → NodeId → NodeId → Ty → Type 0

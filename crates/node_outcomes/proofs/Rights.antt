@@ -1,6 +1,7 @@
 -- The right side that a subject's outcome chooses was given, and fits its node.
 use Rattle.std.proofs.Common.{◌≡◌, ◌⊎◌, inl, inr, sym, ap, subst, None, Some, true, false}
 use Rattle.inc_value.specs.declared.node.NodeId.{NodeId}
+use Rattle.inc_value.specs.Ty.{base_of, type_of_base}
 use Rattle.inc_value.specs.declared.outcome.Outcome.{Outcome}
 use Rattle.inc_value.specs.declared.outcome.Outcome.TheVariants.{Val, Invalid}
 use Rattle.inc_value.specs.declared.ty.Base.{Base}
@@ -17,16 +18,16 @@ use Rattle.point_map.specs.Rows.{Rows, at}
 use Rattle.node_arena.specs.Arena.{Arena, row_at, NamesGiven}
 use Rattle.node_arena.specs.Graph.{graph_of}
 use Rattle.node_arena.specs.Sound.{IsSound}
-use Rattle.node_arena.specs.Typing.{Fits, Makes, ty_of, base_of}
+use Rattle.node_arena.specs.Typing.{Fits, Makes}
 use Rattle.node_outcomes.specs.Computing.{seen, KeepsTypes, IsOfType}
 use Rattle.node_outcomes.specs.declared.row.Progress.{Progress}
 use Rattle.node_outcomes.proofs.Computing.{shown_of_type, seen_is_shown}
 
 -- the type of a base type is that base type's
-base_back : (t : Ty) (b : Base) → base_of t ≡ Some b → ty_of b ≡ t
-base_back ty.Int b e = let is : base.Int ≡ b = cc in ap ty_of (sym is)
-base_back ty.Bool b e = let is : base.Bool ≡ b = cc in ap ty_of (sym is)
-base_back ty.Text b e = let is : base.Text ≡ b = cc in ap ty_of (sym is)
+base_back : (t : Ty) (b : Base) → base_of t ≡ Some b → type_of_base b ≡ t
+base_back ty.Int b e = let is : base.Int ≡ b = cc in ap type_of_base (sym is)
+base_back ty.Bool b e = let is : base.Bool ≡ b = cc in ap type_of_base (sym is)
+base_back ty.Text b e = let is : base.Text ≡ b = cc in ap type_of_base (sym is)
 base_back (ty.Node c) b e = cc
 
 module _ (arena : Arena) (rows : Rows Progress) (kept : KeepsTypes arena rows) where
@@ -40,11 +41,11 @@ module _ (arena : Arena) (rows : Rows Progress) (kept : KeepsTypes arena rows) w
   value_of_type s t v fits (inr h) = absurd (let e = h.1 in cc)
 
   -- a reference leads to a node of the base type
-  leads : (s m : NodeId) (b c : Base) → Fits arena s (ty.Node b) → Shown s (Val (value.Node m c)) → Given arena.given m × Fits arena m (ty_of b)
+  leads : (s m : NodeId) (b c : Base) → Fits arena s (ty.Node b) → Shown s (Val (value.Node m c)) → Given arena.given m × Fits arena m (type_of_base b)
   leads s m b c fits shows =
       let of_type = value_of_type s (ty.Node b) (value.Node m c) fits shows in
       let same : c ≡ b = let e = of_type.type.type in cc in
-      (of_type.within, subst (λ (x : Base). Fits arena m (ty_of x)) same of_type.type.reference)
+      (of_type.within, subst (λ (x : Base). Fits arena m (type_of_base x)) same of_type.type.reference)
 
   fits_so : (n s m : NodeId) (t : Ty) (def : Def) (o : Outcome) → NamesGiven arena.given def → Makes arena def t → subject_of def ≡ Some s → Shown s o
       → right_of (graph_of arena) n def o ≡ Some m → Given arena.given m × Fits arena m t

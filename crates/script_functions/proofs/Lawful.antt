@@ -4,6 +4,7 @@ use Rattle.std.proofs.Common.{inl, inr, refl, sym, subst, ap, append_assoc, unwr
 use Rattle.std.proofs.lemmas.List.{append-nil}
 use Rattle.std.specs.List.{AllZip}
 use Rattle.inc_value.specs.Choice.{Among, Every}
+use Rattle.inc_value.specs.Ty.{base_of, type_of_base}
 use Rattle.inc_value.specs.declared.function.FnKind.TheVariants as kind
 use Rattle.inc_value.specs.declared.function.FnRef.{FnRef}
 use Rattle.inc_value.specs.declared.node.NodeId.{NodeId}
@@ -18,7 +19,6 @@ use Rattle.inc_terms.specs.Within.{TermWithin, TermsWithin, ValueWithin}
 use Rattle.node_arena.specs.Building.{Use, IsListed}
 use Rattle.node_arena.specs.Listing.{Listed, nodes_of, IsNamed}
 use Rattle.node_arena.specs.RightSide.{AreOfType, IsLawful, ReferenceHas, SideHas, TermHas, TermsHave, TermsAre, ValueHas}
-use Rattle.node_arena.specs.Typing.{base_of, ty_of}
 use Rattle.node_arena.proofs.Growing.{left_has, left_named}
 use Rattle.script_functions.specs.Bodies as spec
 use Rattle.script_functions.specs.Bodies.{all_terms, captured, line_types, side_of, term_at, IsWhole}
@@ -65,7 +65,7 @@ module _ (listed : List Listed) (uses : List Use) (left : Value) where
     parts_within (p ∷ ps) = (part_within p, parts_within ps)
 
     value_within : (v : Value) → ReferenceHas (IsListedAs listed) v → ValueWithin (IsNamed listed left) v
-    value_within (value.Node n b) h = inr (listed_node listed (record { node = n; ty = ty_of b }) h)
+    value_within (value.Node n b) h = inr (listed_node listed (record { node = n; ty = type_of_base b }) h)
     value_within (value.Int z) h = tt
     value_within (value.Bool z) h = tt
     value_within (value.Text z) h = tt
@@ -145,7 +145,7 @@ module _ (listed : List Listed) (captures : List Ty) (left : Value) where
     value_has (value.Bool z) t h = record { type = h.type; reference = tt }
     value_has (value.Text z) t h = record { type = h.type; reference = tt }
 
-    base_back : (t : Ty) (b : Base) → base_of t ≡ Some b → ty_of b ≡ t
+    base_back : (t : Ty) (b : Base) → base_of t ≡ Some b → type_of_base b ≡ t
     base_back ty.Int b e = let same : base.Int ≡ b = cc in rw (← same)
     base_back ty.Bool b e = let same : base.Bool ≡ b = cc in rw (← same)
     base_back ty.Text b e = let same : base.Text ≡ b = cc in rw (← same)

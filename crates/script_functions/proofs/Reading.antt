@@ -3,6 +3,7 @@ use Rattle.std.proofs.Common.{arith, ◌≡◌, ℕ, List, [], ◌∷◌, map, o
 use Rattle.std.proofs.Common.{refl, sym, subst, unwrap_or}
 use Rattle.std.specs.List.{AllZip}
 use Rattle.inc_value.specs.Choice.{Among, Every}
+use Rattle.inc_value.specs.Ty.{type_of_base}
 use Rattle.inc_value.specs.declared.node.NodeId.{NodeId}
 use Rattle.inc_value.specs.declared.ty.Ty.{Ty}
 use Rattle.inc_value.specs.declared.ty.Ty.TheVariants as ty
@@ -18,7 +19,7 @@ use Rattle.node_arena.specs.Graph.{graph_of}
 use Rattle.node_arena.specs.Listing.{Listed}
 use Rattle.node_arena.specs.RightSide.{AreTaken, IsRoot, MayBuild, ReferenceHas, ValueHas}
 use Rattle.node_arena.specs.Typing as typing
-use Rattle.node_arena.specs.Typing.{Fits, HasType, Makes, ReferenceFits, ty_of}
+use Rattle.node_arena.specs.Typing.{Fits, HasType, Makes, ReferenceFits}
 use Rattle.node_arena.proofs.Growing.{outside_grown}
 use Rattle.script_functions.specs.Bodies as spec
 use Rattle.script_functions.specs.Bodies.{captured, side_of}
@@ -160,14 +161,14 @@ module _ (body : spec.Body) (start : Building) (left : Value) (captures : List N
   -- ---- it can be added
 
   value_given : (v : Value) → ReferenceHas (IsListedAs listed) v → ValueWithin (Given b.arena.given) v
-  value_given (value.Node n base) h = given_before n ((ready.fit (record { node = n; ty = ty_of base }) h).0)
+  value_given (value.Node n base) h = given_before n ((ready.fit (record { node = n; ty = type_of_base base }) h).0)
   value_given (value.Int z) h = tt
   value_given (value.Bool z) h = tt
   value_given (value.Text z) h = tt
 
   value_fits : (v : Value) → ReferenceHas (IsListedAs listed) v → ReferenceFits b.arena v
   value_fits (value.Node n base) h =
-      let f = ready.fit (record { node = n; ty = ty_of base }) h in fits_before n (ty_of base) f.0 f.1
+      let f = ready.fit (record { node = n; ty = type_of_base base }) h in fits_before n (type_of_base base) f.0 f.1
   value_fits (value.Int z) h = tt
   value_fits (value.Bool z) h = tt
   value_fits (value.Text z) h = tt

@@ -3,6 +3,7 @@
 use Rattle.std.specs.Prelude.{◌≡◌, ◌+◌, ◌++◌, ℕ, List, [], ◌∷◌, Option, Some, option_map, slice_get, sum_by, unwrap_or}
 use Rattle.std.specs.List.{AllZip}
 use Rattle.inc_value.specs.Choice.{Among, Every}
+use Rattle.inc_value.specs.Ty.{base_of}
 use Rattle.inc_value.specs.declared.function.FnKind.TheVariants as kind
 use Rattle.inc_value.specs.declared.function.FnRef.{FnRef}
 use Rattle.inc_value.specs.declared.node.NodeId.{NodeId}
@@ -15,7 +16,6 @@ use Rattle.inc_terms.specs.Term.{Term, Terms, End, More}
 use Rattle.node_arena.specs.Building.{Use}
 use Rattle.node_arena.specs.Listing.{Listed}
 use Rattle.node_arena.specs.RightSide.{ValueHas}
-use Rattle.node_arena.specs.Typing.{base_of}
 use Rattle.script_functions.specs.declared.line.Line as lines
 use Rattle.script_functions.specs.declared.line.Line.TheVariants.{Const, Map, Fold, If, Join, Bind}
 use Rattle.script_functions.specs.declared.line.Part as parts

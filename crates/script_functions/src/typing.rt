@@ -1,26 +1,15 @@
 //! The types of lines, over what stands before them.
 ghost use Rattle.std.specs.Prelude.{◌≡◌, ◌≤◌, ◌+◌, ◌^◌, ◌↔◌, Any, Some, IfOk, IfSome, IfNone, IsErrOf, IsTrue};
 ghost use Rattle.inc_value.specs.Choice.{Every};
+ghost use Rattle.inc_value.specs.Ty.{base_of};
 ghost use Rattle.inc_value.specs.declared.ty.Ty.{Ty};
 ghost use Rattle.node_arena.specs.RightSide.{ReferenceHas, ValueHas};
-ghost use Rattle.node_arena.specs.Typing.{base_of, ty_of};
 ghost use Rattle.script_functions.specs.Bodies.{type_at, IsThere, IsTypable, NextHas, size_of};
 ghost use Rattle.script_functions.specs.Lines.{IsListedAs, PartsHave, MapHas, FoldTakes, FoldHas, JoinHas, BindTakes, BindHas};
 ghost use Rattle.script_functions.specs.Lines.{line_size, parts_of};
 
 use crate::{Draft, Line, LineFault, ListedNode, Part};
-use inc_value::{Base, FnKind, FnRef, NodeId, Ty, Value};
-
-/// The type that the base type is.
-fn type_of_base(base: Base) -> Ty
-    ensures { result ≡ ty_of base }
-{
-    match base {
-        Base::Int => Ty::Int,
-        Base::Bool => Ty::Bool,
-        Base::Text => Ty::Text,
-    }
-}
+use inc_value::{FnKind, FnRef, NodeId, Ty, Value};
 
 /// Whether one of the listed nodes is the wanted one, of the same type.
 fn holds(listed: &[ListedNode], wanted: ListedNode) -> bool
@@ -41,7 +30,7 @@ fn names_listed(listed: &[ListedNode], value: &Value) -> bool
     ensures { IsTrue result ↔ ReferenceHas (IsListedAs listed.now) value.now }
 {
     match value {
-        Value::Node(node, base) => lists(listed, *node, type_of_base(*base)),
+        Value::Node(node, base) => lists(listed, *node, base.ty()),
         _ => true,
     }
 }
@@ -123,23 +112,11 @@ fn folds(draft: &Draft, f: FnRef, initial: &Value, parts: &[Part], ty: Ty) -> bo
         && fold_takes(draft, ty, parts, f.sig.takes())
 }
 
-/// The base type that a type is.
-fn base_of(ty: Ty) -> Option<Base>
-    ensures { result ≡ base_of ty }
-{
-    match ty {
-        Ty::Int => Some(Base::Int),
-        Ty::Bool => Some(Base::Bool),
-        Ty::Text => Some(Base::Text),
-        Ty::Node(_) => None,
-    }
-}
-
 /// Whether references of the part lead to nodes of the type.
 fn leads_to(draft: &Draft, part: Part, ty: Ty) -> bool
     ensures { IsTrue result ↔ JoinHas (type_at draft.now) part ty }
 {
-    match base_of(ty) {
+    match ty.base() {
         Some(base) => has(draft, part, Ty::Node(base)),
         None => false,
     }
@@ -190,7 +167,7 @@ fn referred(ty: Option<Ty>) -> Option<Ty>
     ensures { (b : Base) (t : Ty) → base_of t ≡ Some b → ty ≡ Some (Ty.Node b) → result ≡ Some t }
 {
     match ty {
-        Some(Ty::Node(base)) => Some(type_of_base(base)),
+        Some(Ty::Node(base)) => Some(base.ty()),
         _ => None,
     }
 }

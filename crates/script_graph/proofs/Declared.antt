@@ -12,6 +12,7 @@ use Rattle.formula_elab.proofs.Places.{few_of_body}
 use Rattle.graph.specs.Effects.{Sets, TakesBack}
 use Rattle.graph.specs.Standing.{Standing}
 use Rattle.inc_value.specs.declared.function.FnRef.{FnRef}
+use Rattle.inc_value.specs.Ty.{type_of_base}
 use Rattle.inc_value.specs.declared.node.NodeId.{NodeId}
 use Rattle.inc_value.specs.declared.node.ObsId.{ObsId}
 use Rattle.inc_value.specs.declared.ty.Ty.{Ty}
@@ -25,7 +26,7 @@ use Rattle.node_arena.specs.Arena.{Arena, row_at, live, IsVariable}
 use Rattle.node_arena.specs.Sound as arena
 use Rattle.node_arena.specs.Typing as typing
 use Rattle.node_arena.specs.Typing.{FitsNode, HasType}
-use Rattle.script_model.specs.Check.{Assign, Declare, Declared, Kind, Names, Variable as VariableKind, Grab as GrabKind, is_variable, kind_of_body, type_of_base}
+use Rattle.script_model.specs.Check.{Assign, Declare, Declared, Kind, Names, Variable as VariableKind, Grab as GrabKind, is_variable, kind_of_body}
 use Rattle.script_model.specs.Formula.{Body, meanings_of, places_of_body, Literal, Name, Apply, Fold, If, Join, Bind, Variable, Computed}
 use Rattle.script_model.specs.Step.{Moment, declared_in, moved}
 use Rattle.script_model.specs.Values.{Value, Int, Bool as Truth, Text, Reference, type_of}
@@ -295,7 +296,7 @@ module _ (a : Arena) (names : Names) (nodes : List NodeId) (sound : arena.IsSoun
   value_fits (Text bytes) fits = tt
   value_fits (Reference target b) fits =
       let r = named_row target (type_of_base b) fits in
-      subst (λ (o : Option Row). IfSome o (λ (q : Row). q.ty ≡ typing.ty_of b)) (sym r.1) (r.2 ∙ base_is b)
+      subst (λ (o : Option Row). IfSome o (λ (q : Row). q.ty ≡ typing.type_of_base b)) (sym r.1) (r.2 ∙ base_is b)
 
   -- an assignment that fits
   pub assigned_takes : (target : ℕ) (v : Value) → AssignmentFits names target v → TakesValue a (node_in nodes target) (graph_value (node_in nodes) v)

@@ -16,7 +16,7 @@ use Rattle.formula_elab.proofs.InOrder.{body_in_order}
 use Rattle.formula_elab.proofs.Showing.{root_declares}
 use Rattle.graph.specs.Standing.{Standing}
 use Rattle.inc_value.specs.Choice.{Every}
-use Rattle.inc_value.specs.Ty.{IsBase}
+use Rattle.inc_value.specs.Ty.{IsBase, type_of_base}
 use Rattle.inc_value.specs.Value as engine
 use Rattle.inc_value.specs.declared.function.FnRef.{FnRef}
 use Rattle.inc_value.specs.declared.node.NodeId.{NodeId}
@@ -26,7 +26,7 @@ use Rattle.inc_terms.specs.Graph.{Graph, Row}
 use Rattle.node_arena.specs.Arena.{Arena, row_at, IsVariable}
 use Rattle.node_arena.specs.Graph.{graph_of}
 use Rattle.node_arena.specs.Sound as arena
-use Rattle.script_model.specs.Check.{Names, type_of_base}
+use Rattle.script_model.specs.Check.{Names}
 use Rattle.script_model.specs.Formula.{Formula, Formulas, Body, Literal, Name, Apply, Fold, If, Join, End, More, Variable, Computed}
 use Rattle.script_model.specs.Values.{Value, Int, Bool as Truth, Text, Reference, type_of}
 use Rattle.script_graph.specs.Growing.{IsMaking, PartFits, OpenFits, AllOpenFit, RefersToLive}

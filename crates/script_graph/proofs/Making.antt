@@ -21,7 +21,7 @@ use Rattle.graph.specs.Standing.{Standing}
 use Rattle.inc_value.specs.Choice.{Every}
 use Rattle.stabilize_round.proofs.Points.{node_or_other}
 use Rattle.inc_terms.proofs.Plan.{among_left, among_right}
-use Rattle.inc_value.specs.Ty.{IsBase}
+use Rattle.inc_value.specs.Ty.{IsBase, base_of, type_of_base}
 use Rattle.inc_value.specs.Value.{type_of}
 use Rattle.inc_value.specs.declared.function.FnRef.{FnRef}
 use Rattle.inc_value.specs.declared.node.NodeId.{NodeId}
@@ -36,8 +36,7 @@ use Rattle.inc_terms.specs.Within.{Given, ValueWithin}
 use Rattle.node_arena.specs.Arena.{Arena, row_at}
 use Rattle.node_arena.specs.Graph.{graph_of}
 use Rattle.node_arena.specs.Sound as arena
-use Rattle.node_arena.specs.Typing.{Fits, FoldTakes, ReferenceFits, base_of, ty_of}
-use Rattle.script_model.specs.Check.{type_of_base}
+use Rattle.node_arena.specs.Typing.{Fits, FoldTakes, ReferenceFits}
 use Rattle.script_graph.specs.Growing.{Extends, IsMadeIn, IsMaking, IsWelcome, IsWelcomeMake, PartFits, OpenFits, AllOpenFit, RefersToLive}
 use Rattle.script_graph.proofs.Counting.{live_more}
 use Rattle.script_graph.proofs.Extending.{extends_itself, extends_on, adds_extends, live_stays}
@@ -73,7 +72,7 @@ reference_fits a (value.Text bytes) base = tt
 reference_fits a (value.Node n b) base = absurd base
 
 -- the graph's base types are those of scripts
-pub base_is : (b : Base) → type_of_base b ≡ ty_of b
+pub base_is : (b : Base) → type_of_base b ≡ type_of_base b
 base_is base.Int = refl
 base_is base.Bool = refl
 base_is base.Text = refl
@@ -91,7 +90,7 @@ live_fits : (a : Arena) (v : Value) → RefersToLive a v → ReferenceFits a v
 live_fits a (value.Int z) live = tt
 live_fits a (value.Bool b) live = tt
 live_fits a (value.Text bytes) live = tt
-live_fits a (value.Node n b) live = row_fits a n (ty_of b) live.0 live.1 (live.2 ∙ base_is b)
+live_fits a (value.Node n b) live = row_fits a n (type_of_base b) live.0 live.1 (live.2 ∙ base_is b)
 
 -- ---- nodes
 

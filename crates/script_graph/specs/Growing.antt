@@ -2,7 +2,7 @@
 use Rattle.std.specs.Prelude.{◌≡◌, ◌⊎◌, ◌+◌, ◌<◌, ◌≤◌, ℕ, Bool, List, [], ◌∷◌, length, Some, IsTrue, slice_get}
 use Rattle.std.specs.List.{AllZip}
 use Rattle.inc_value.specs.Choice.{Among, Every}
-use Rattle.inc_value.specs.Ty.{IsBase}
+use Rattle.inc_value.specs.Ty.{IsBase, type_of_base}
 use Rattle.inc_value.specs.Value.{type_of}
 use Rattle.inc_value.specs.declared.function.FnKind.TheVariants as kind
 use Rattle.inc_value.specs.declared.function.FnRef.{FnRef}
@@ -30,7 +30,6 @@ use Rattle.graph.specs.Known.{CallsKnown}
 use Rattle.node_arena.specs.Arena.{Arena, row_at, live, NamesGiven}
 use Rattle.node_arena.specs.Graph.{graph_of}
 use Rattle.node_arena.specs.Typing.{Makes}
-use Rattle.script_model.specs.Check.{type_of_base}
 
 -- a value refers to a live node of its base type, if to any
 abbrev pub RefersToLive : Arena → Value → Type 0

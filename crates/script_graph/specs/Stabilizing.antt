@@ -4,7 +4,7 @@ use Rattle.height_order.specs.Chains.{StartsAt}
 use Rattle.inc_value.specs.declared.node.NodeId.{NodeId}
 use Rattle.inc_value.specs.declared.node.Point.{Point}
 use Rattle.inc_terms.specs.Depend.{main}
-use Rattle.node_arena.specs.Arena.{Arena, IsLive}
+use Rattle.node_arena.specs.Arena.{Arena}
 use Rattle.script_model.specs.Check.{Declared}
 use Rattle.script_model.specs.Formula.{Meanings}
 use Rattle.script_model.specs.Need.{WithinWork}
@@ -14,7 +14,7 @@ use Rattle.script_model.specs.Step as step
 use Rattle.script_model.specs.Step.{Moment, Stable, Stabilizes, Tells}
 use Rattle.script_graph.specs.Kept.{Kept, node_in}
 use Rattle.script_graph.specs.State.{MatchesMoment}
-use Rattle.script_graph.specs.Today.{NoNotices}
+use Rattle.script_graph.specs.Today.{IsOwner, NoNotices}
 use Rattle.stabilizer.specs.declared.refused.Refused.{Refused}
 use Rattle.stabilizer.specs.declared.refused.Refused.TheVariants.{Cycle, Height}
 
@@ -85,10 +85,6 @@ IsCycleMet met = ⊥
 abbrev pub closed : List ℕ → List ℕ
 closed [] = []
 closed (n ∷ targets) = n ∷ (targets ++ n ∷ [])
-
--- the node outside all scopes in whose right side a live node stands, or the node itself: today none stands in a scope
-abbrev pub IsOwner : Arena → NodeId → NodeId → Type 0
-IsOwner a n top = (top ≡ n) × IsLive a n
 
 -- the declaration's node was given no earlier than the node, and those of earlier declarations were given earlier
 pub record IsFirstNotOlder (nodes : List NodeId) (n : NodeId) (target : ℕ) : Type 0 where

@@ -10,6 +10,7 @@ use Rattle.inc_terms.specs.Term.{Functions}
 use Rattle.formula_elab.specs.Names.{EveryReference}
 use Rattle.graph.specs.Standing.{cutoff_of}
 use Rattle.map_nodes.specs.declared.cutoff.Cutoff.TheVariants.{Equal}
+use Rattle.node_arena.specs.Arena.{Arena, IsLive}
 use Rattle.node_arena.specs.Graph.{graph_of}
 use Rattle.node_arena.specs.RightSide.{no_side}
 use Rattle.node_arena.specs.RightSideLaws.{meaning}
@@ -94,6 +95,12 @@ frozen_root n = None
 -- whether a node was asked to run anew
 abbrev pub none_stale : NodeId → Bool
 none_stale n = false
+
+-- ---- whose node a node is: none stands in a scope
+
+-- the node outside all scopes in whose right side a live node stands, or the node itself
+abbrev pub IsOwner : Arena → NodeId → NodeId → Type 0
+IsOwner a n top = (top ≡ n) × IsLive a n
 
 -- ---- items that compute: variables, and formulas that are no bare names
 

@@ -4,6 +4,7 @@ use Rattle.std.proofs.lemmas.Bool.{eqb-true, leb-true}
 use Rattle.std.proofs.lemmas.Slice.Eq.{bytes_eq-Decides}
 use Rattle.std.specs.Str.{bytes_eq}
 use Rattle.inc_value.specs.declared.ty.Base.TheVariants as base
+use Rattle.inc_value.specs.Ty.{type_of_base}
 use Rattle.inc_value.specs.declared.ty.Base.{Base}
 use Rattle.inc_value.specs.declared.ty.Ty.TheVariants as ty
 use Rattle.inc_value.specs.declared.ty.Ty.{Ty}
@@ -13,7 +14,6 @@ use Rattle.script_model.specs.Grammar.{Tree, Trees, TimedLiteral, Line, IsName, 
 use Rattle.script_model.specs.Literals as literals
 use Rattle.script_model.specs.Literals.{Literal, Integer, Referred}
 use Rattle.script_model.specs.Language.{is_name, integer_of, number_from}
-use Rattle.script_model.specs.Check.{type_of_base}
 use Rattle.script_model.specs.Parsing.{Read, then_read, read, expect, is_word, is_sign, name_front, time_front, base_named, base_front, type_front, literal_front, behind_element, list_front, tally, or_read, any_front, step_front, trees_of, named_front, written_front, word_front, formula_front, formula_read, if_front, bind_front, join_front, fold_head, fold_front, steps_front, when_front, freeze_front, whole, one_name, two_names, var_read, expert_read, command_with, command_read}
 use Rattle.script_model.specs.Reading.{sign_of}
 use Rattle.script_model.specs.Tokens as token

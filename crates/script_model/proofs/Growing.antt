@@ -2,7 +2,7 @@
 use Rattle.std.proofs.Common.{◌≡◌, ◌⊎◌, inl, inr, ℕ, ◌≤◌, true, List, [], ◌∷◌, length, Some, refl, ◌∙◌, arith}
 use Rattle.std.specs.Prelude as std
 use Rattle.inc_value.specs.declared.ty.Ty.{Ty}
-use Rattle.script_model.specs.Check.{type_of_base}
+use Rattle.inc_value.specs.Ty.{type_of_base}
 use Rattle.inc_value.specs.Choice.{Every}
 use Rattle.script_model.specs.Values as value
 use Rattle.script_model.specs.Values.{Value, Outcome, Val, Invalid}

@@ -1,12 +1,11 @@
 -- What evaluation gives has the type of what gives it.
 use Rattle.std.proofs.Common.{◌≡◌, ℕ, zero, suc, ◌<◌, ◌≤◌, ◌^◌, ◌-◌, ◌/◌, pos, cond, Bool, true, false, nat_le, List, [], ◌∷◌, map, length, slice_get, Option, None, Some, option_map, refl, ◌∙◌, arith}
 use Rattle.std.proofs.lemmas.Option.{slice_get_within}
-use Rattle.inc_value.specs.Ty.{IsBase}
+use Rattle.inc_value.specs.Ty.{IsBase, type_of_base}
 use Rattle.inc_value.specs.declared.function.FnRef.{FnRef}
 use Rattle.inc_value.specs.declared.ty.Base.{Base}
 use Rattle.inc_value.specs.declared.ty.Ty.TheVariants as ty
 use Rattle.inc_value.specs.declared.ty.Ty.{Ty}
-use Rattle.script_model.specs.Check.{type_of_base}
 use Rattle.inc_value.specs.Choice as choice
 use Rattle.inc_value.specs.Choice.{and_then}
 use Rattle.script_model.specs.Values as value

@@ -8,13 +8,13 @@ use Rattle.std.proofs.lemmas.Bool.{ltb-true}
 use Rattle.std.proofs.lemmas.List.Folds.{list_any-append}
 use Rattle.std.proofs.lemmas.Option.{slice_get_within}
 use Rattle.inc_value.proofs.SameTypes.{ty_true, types_true}
-use Rattle.inc_value.specs.Ty.{same_ty, same_types}
+use Rattle.inc_value.specs.Ty.{same_ty, same_types, base_of, type_of_base}
 use Rattle.inc_value.specs.declared.function.FnRef.{FnRef}
 use Rattle.inc_value.specs.declared.ty.Base.{Base}
 use Rattle.inc_value.specs.declared.ty.Ty.TheVariants as ty
 use Rattle.inc_value.specs.declared.ty.Ty.{Ty}
 use Rattle.script_model.specs.Check as check
-use Rattle.script_model.specs.Check.{Declared, Names, TypedValue, TypedFormula, TypedFormulas, TypedBody, first_named, find_declared, base_of, type_of_base, typed_literal, where_same, literal_of_type, steps_of_type, typed_as, before, applied, typed_name, element_of, are_all, folded, branched, join_of, typed, typed_each, body_as, frozen_when, typed_top, expert_of, names_of, declared_of, kind_of_body, target_of_body, trees_in, trees_in_all, has_falling_times, times_rise, is_empty_interval}
+use Rattle.script_model.specs.Check.{Declared, Names, TypedValue, TypedFormula, TypedFormulas, TypedBody, first_named, find_declared, typed_literal, where_same, literal_of_type, steps_of_type, typed_as, before, applied, typed_name, element_of, are_all, folded, branched, join_of, typed, typed_each, body_as, frozen_when, typed_top, expert_of, names_of, declared_of, kind_of_body, target_of_body, trees_in, trees_in_all, has_falling_times, times_rise, is_empty_interval}
 use Rattle.inc_value.specs.Choice.{and_then}
 use Rattle.script_model.specs.Values.{Value}
 use Rattle.script_model.specs.Formula as model

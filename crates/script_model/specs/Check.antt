@@ -3,7 +3,7 @@ use Rattle.std.specs.Prelude as std
 use Rattle.std.specs.Prelude.{ℕ, ◌+◌, ◌^◌, true, false, not, ◌&&◌, ◌||◌, nat_lt, nat_eq, List, [], ◌∷◌, ◌++◌, length, map, cond, if◌then◌else◌, Option, None, Some, is_some, is_none, unwrap_or, slice_get}
 use Rattle.std.specs.List.{list_any, flat_map}
 use Rattle.std.specs.Str.{bytes_eq}
-use Rattle.inc_value.specs.Ty.{same_ty, same_types}
+use Rattle.inc_value.specs.Ty.{same_ty, same_types, base_of, type_of_base}
 use Rattle.inc_value.specs.declared.function.FnRef.{FnRef}
 use Rattle.inc_value.specs.declared.ty.Base.TheVariants as base
 use Rattle.inc_value.specs.declared.ty.Base.{Base}
@@ -227,19 +227,6 @@ observers_of _ = []
 pub record TypedValue : Type 0 where
   pub value : Value
   pub ty : Ty
-
--- a base type
-abbrev pub base_of : Ty → Option Base
-base_of ty.Int = Some base.Int
-base_of ty.Bool = Some base.Bool
-base_of ty.Text = Some base.Text
-base_of (ty.Node b) = None
-
--- a base type as a type
-abbrev pub type_of_base : Base → Ty
-type_of_base base.Int = ty.Int
-type_of_base base.Bool = ty.Bool
-type_of_base base.Text = ty.Text
 
 -- the constant that a literal stands for; none where it refers to nothing of a base type
 abbrev pub typed_literal : Names → Literal → Option TypedValue

@@ -1,12 +1,12 @@
 -- Well-typed states: what every line of a script keeps.
 use Rattle.std.specs.Prelude.{◌≡◌, ℕ, ◌<◌, ◌≤◌, ◌^◌, Bool, true, List, [], ◌∷◌, length, Option, None, Some, slice_get, All}
-use Rattle.inc_value.specs.Ty.{IsBase}
+use Rattle.inc_value.specs.Ty.{IsBase, type_of_base}
 use Rattle.inc_value.specs.Value as engine
 use Rattle.inc_value.specs.declared.function.FnRef.{FnRef}
 use Rattle.inc_value.specs.declared.ty.Ty.TheVariants as ty
 use Rattle.inc_value.specs.declared.ty.Ty.{Ty}
 use Rattle.inc_value.specs.declared.value.Value as declared
-use Rattle.script_model.specs.Check.{target_of_body, type_of_base}
+use Rattle.script_model.specs.Check.{target_of_body}
 use Rattle.inc_value.specs.Choice.{Every}
 use Rattle.script_model.specs.Values as value
 use Rattle.script_model.specs.Values.{Value, Outcome, Val, Invalid, type_of, IsProper}

@@ -2,13 +2,14 @@
 use Rattle.std.proofs.Common.{◌≡◌, ◌≤◌, Option, None, Some, refl, sym, subst, ◌∙◌, arith}
 use Rattle.std.specs.Prelude.{IfSome}
 use Rattle.inc_value.specs.declared.node.NodeId.{NodeId}
+use Rattle.inc_value.specs.Ty.{type_of_base}
 use Rattle.inc_value.specs.declared.ty.Ty.{Ty}
 use Rattle.inc_value.specs.declared.value.Value.{Value}
 use Rattle.inc_value.specs.declared.value.Value.TheVariants as value
 use Rattle.inc_terms.specs.Graph.{Row}
 use Rattle.inc_terms.specs.Within.{Given, ValueWithin}
 use Rattle.node_arena.specs.Arena.{Arena, row_at}
-use Rattle.node_arena.specs.Typing.{Fits, ReferenceFits, ty_of}
+use Rattle.node_arena.specs.Typing.{Fits, ReferenceFits}
 use Rattle.node_outcomes.specs.Computing.{IsOfType}
 
 -- a live node that was given before is of the type that it had
@@ -31,7 +32,7 @@ module _ (before arena : Arena) (more : before.given ≤ arena.given) (types : K
   fits_still n t given fits = by_row n t (row_at arena n) refl given fits
 
   reference_still : (v : Value) → ValueWithin (Given before.given) v → ReferenceFits before v → ReferenceFits arena v
-  reference_still (value.Node n base) given fits = fits_still n (ty_of base) given fits
+  reference_still (value.Node n base) given fits = fits_still n (type_of_base base) given fits
   reference_still (value.Int z) given fits = tt
   reference_still (value.Bool z) given fits = tt
   reference_still (value.Text z) given fits = tt

@@ -18,9 +18,9 @@ fn words_of(alloc: Global, args: env::Args) -> Result<Vec<Word>, AllocError>
     Ok(words)
 }
 
-/// The words where the system told them, one for one and in order. Where it told none for another cause than want of
-/// memory, or one that is not UTF-8, there are none.
-fn words_told(alloc: Global, told: io::Result<env::Args>) -> Result<Vec<Word>, AllocError>
+/// The words of the command line, of which the first is the program's name, one for one and in order, as `std::env::args`
+/// told them. There are none where it told none for another cause than want of memory, or one that is not UTF-8.
+pub fn words(alloc: Global, told: io::Result<env::Args>) -> Result<Vec<Word>, AllocError>
     ensures words { MatchResult told (λ args. IfOk result (λ words. words.items ≡ map string_bytes (into_iter_items args)))
         (λ _. IfOk result (λ words. words.items ≡ [])) }
 {
@@ -29,10 +29,4 @@ fn words_told(alloc: Global, told: io::Result<env::Args>) -> Result<Vec<Word>, A
         Err(error) if error.kind() == ErrorKind::OutOfMemory => Err(AllocError),
         Err(_) => Ok(Vec::new(alloc)),
     }
-}
-
-/// The words of the command line, of which the first is the program's name. There are none where the
-/// system does not tell them, or one is not UTF-8.
-pub fn words(rt: &HostRuntime) -> Result<Vec<Word>, AllocError> {
-    words_told(rt.alloc(), env::args(rt))
 }

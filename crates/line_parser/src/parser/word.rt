@@ -3,7 +3,6 @@ ghost use Rattle.std.specs.Prelude.{◌≡◌, map, option_map};
 ghost use Rattle.line_parser.specs.Reading.{base_in, name_in, time_in, word_in};
 ghost use Rattle.line_parser.specs.View.{time_view};
 ghost use Rattle.line_tokens.specs.View.{token_view};
-ghost use Rattle.script_model.specs.Check.{type_of_base};
 ghost use Rattle.script_model.specs.Parsing.{base_front, base_named, name_front, time_front, type_front};
 
 use super::cursor::Cursor;
@@ -69,17 +68,6 @@ fn base_of(tokens: &mut Cursor<'_, '_>) -> Option<Base>
     base_in(tokens.next()?)
 }
 
-/// The type of values of a base type.
-fn type_of_base(base: Base) -> Ty
-    ensures { result ≡ type_of_base base }
-{
-    match base {
-        Base::Int => Ty::Int,
-        Base::Bool => Ty::Bool,
-        Base::Text => Ty::Text,
-    }
-}
-
 /// Reads a type.
 pub(super) fn type_of(tokens: &mut Cursor<'_, '_>) -> Option<Ty>
     ensures { option_map (λ ty. (ty, tokens.new)) result ≡ type_front tokens.old }
@@ -88,7 +76,7 @@ pub(super) fn type_of(tokens: &mut Cursor<'_, '_>) -> Option<Ty>
     if word == b"node".as_slice() {
         Some(Ty::Node(base_of(tokens)?))
     } else {
-        Some(type_of_base(base_named(word)?))
+        Some(base_named(word)?.ty())
     }
 }
 

@@ -1,27 +1,17 @@
 //! Whether what a node names was given, and is of the types that the node wants.
 ghost use Rattle.std.specs.Prelude.{◌≡◌, ◌↔◌, IsTrue};
 ghost use Rattle.inc_value.specs.Choice.{Every};
+ghost use Rattle.inc_value.specs.Ty.{base_of};
 ghost use Rattle.std.specs.List.{AllZip};
 ghost use Rattle.inc_terms.specs.Code.{def_of};
 ghost use Rattle.inc_terms.specs.Within.{Given};
 ghost use Rattle.inc_terms.specs.Within.{ValueWithin};
 ghost use Rattle.node_arena.specs.Arena.{NamesGiven};
-ghost use Rattle.node_arena.specs.Typing.{Makes, Fits, BindMakes, BindTakes, FoldMakes, FoldTakes, JoinMakes, HasType, ReferenceFits, ty_of, base_of};
+ghost use Rattle.node_arena.specs.Typing.{Makes, Fits, BindMakes, BindTakes, FoldMakes, FoldTakes, JoinMakes, HasType, ReferenceFits};
 
 use super::Arena;
 use inc_terms::Def;
-use inc_value::{Base, FnKind, FnRef, NodeId, Ty, Value};
-
-/// The type that the base type is.
-fn type_of_base(base: Base) -> Ty
-    ensures { result ≡ ty_of base }
-{
-    match base {
-        Base::Int => Ty::Int,
-        Base::Bool => Ty::Bool,
-        Base::Text => Ty::Text,
-    }
-}
+use inc_value::{FnKind, FnRef, NodeId, Ty, Value};
 
 /// Whether each of the nodes was given, of so many.
 fn all_given(given: u64, nodes: &[NodeId]) -> bool
@@ -73,20 +63,8 @@ fn reference_fits(arena: &Arena, value: &Value) -> bool
     ensures { IsTrue result ↔ ReferenceFits arena.now value.now }
 {
     match value {
-        Value::Node(node, base) => fits(arena, *node, type_of_base(*base)),
+        Value::Node(node, base) => fits(arena, *node, base.ty()),
         _ => true,
-    }
-}
-
-/// The base type that a type is.
-fn base_of(ty: Ty) -> Option<Base>
-    ensures { result ≡ base_of ty }
-{
-    match ty {
-        Ty::Int => Some(Base::Int),
-        Ty::Bool => Some(Base::Bool),
-        Ty::Text => Some(Base::Text),
-        Ty::Node(_) => None,
     }
 }
 
@@ -94,7 +72,7 @@ fn base_of(ty: Ty) -> Option<Base>
 fn leads_to(arena: &Arena, node: NodeId, ty: Ty) -> bool
     ensures { IsTrue result ↔ JoinMakes arena.now node ty }
 {
-    match base_of(ty) {
+    match ty.base() {
         Some(base) => fits(arena, node, Ty::Node(base)),
         None => false,
     }
