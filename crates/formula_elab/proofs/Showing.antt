@@ -17,7 +17,8 @@ use Rattle.transfer.specs.Both.{Both, graph_value}
 use Rattle.transfer.specs.Shows.{Built, Shows, ShowsAll, Opens, IsTop, Declares, plain}
 use Rattle.formula_elab.specs.Laying.{formula_ty, joined_ty, laid, laid_each, laid_body}
 use Rattle.formula_elab.specs.Made.{RootDeclares}
-use Rattle.formula_elab.specs.Names.{EveryReference, EveryName, EveryNameOfAll, EveryNameOf}
+use Rattle.formula_elab.specs.Names.{EveryName, EveryNameOfAll, EveryNameOf}
+use Rattle.script_model.specs.Leaves.{EveryReference}
 use Rattle.formula_elab.specs.Opened.{made_node, node_of, filled}
 use Rattle.formula_elab.specs.declared.make.Made.{Made}
 use Rattle.formula_elab.specs.declared.opened.Open.{Open}
@@ -104,9 +105,9 @@ module _ (x : Both) (nodes : ℕ → NodeId) (tys : ℕ → Ty) (made : List Mad
         → AreTop x.graph made start (laid nodes tys start f).makes
         → Shows x (Built None) [] (term.Ref (node_of made (laid nodes tys start f).root)) f
     shows start (Literal v) names top =
-        let same = value_same nodes x.nodes v names in
+        let same = value_same nodes x.nodes v names.1 in
         opens_const x.graph (made_node made start) (graph_value nodes v) (graph_value x.nodes v) same top.0
-    shows start (Name n) names top = ap term.Ref names
+    shows start (Name n) names top = ap term.Ref names.1
     shows start (Apply function arguments) names top =
         let each = laid_each nodes tys start arguments in
         let kids = map (node_of made) each.roots in
@@ -119,11 +120,11 @@ module _ (x : Both) (nodes : ℕ → NodeId) (tys : ℕ → Ty) (made : List Mad
         let each = laid_each nodes tys start elements in
         let kids = map (node_of made) each.roots in
         let parts = top_split x.graph made start each.makes (Fold function (graph_value nodes first) each.roots ∷ []) top in
-        let same = value_same nodes x.nodes first names.0 in (
+        let same = value_same nodes x.nodes first names.1.0 in (
           refs kids,
           opens_fold x.graph (made_node made (start + length each.makes)) function (graph_value nodes first)
               (graph_value x.nodes first) kids same parts.1.0,
-          shows_each start elements names.1 parts.0,
+          shows_each start elements (names.0, names.1.1) parts.0,
         )
     shows start (script.If test a b) names top =
         let first = laid nodes tys start test in
@@ -135,9 +136,9 @@ module _ (x : Both) (nodes : ℕ → NodeId) (tys : ℕ → Ty) (made : List Mad
           term.Ref (node_of made third.root),
           opens_if x.graph (made_node made (start + (length first.makes + (length second.makes + length third.makes))))
               (node_of made first.root) (node_of made second.root) (node_of made third.root) tops.3,
-          shows start test names.0 tops.0,
-          shows (start + length first.makes) a names.1 tops.1,
-          shows (start + (length first.makes + length second.makes)) b names.2 tops.2,
+          shows start test (names.0.0, names.1.0) tops.0,
+          shows (start + length first.makes) a (names.0.1, names.1.1) tops.1,
+          shows (start + (length first.makes + length second.makes)) b (names.0.2, names.1.2) tops.2,
         )
     shows start (script.Join child) names top =
         let under = laid nodes tys start child in
@@ -146,7 +147,7 @@ module _ (x : Both) (nodes : ℕ → NodeId) (tys : ℕ → Ty) (made : List Mad
           opens_join x.graph (made_node made (start + length under.makes)) (node_of made under.root) parts.1.0,
           shows start child names parts.0,
         )
-    shows start f names top = absurd names
+    shows start f names top = absurd names.0
 
     shows_each : (start : ℕ) (fs : Formulas) → EveryNameOfAll (λ n. nodes n ≡ x.nodes n) fs
         → AreTop x.graph made start (laid_each nodes tys start fs).makes
@@ -156,15 +157,15 @@ module _ (x : Both) (nodes : ℕ → NodeId) (tys : ℕ → Ty) (made : List Mad
         let first = laid nodes tys start f in
         let next = start + length first.makes in
         let parts = top_split x.graph made start first.makes (laid_each nodes tys next rest).makes top in
-        (shows start f names.0 parts.0, shows_each next rest names.1 parts.1)
+        (shows start f (names.0.0, names.1.0) parts.0, shows_each next rest (names.0.1, names.1.1) parts.1)
 
   body_declares : (body : Body) → EveryNameOf (λ n. nodes n ≡ x.nodes n) body
       → AreTop x.graph made 0 (laid_body nodes tys 0 body).makes
       → Declares x (node_of made (laid_body nodes tys 0 body).root) (Some body)
   body_declares (Variable v) names top =
-      (top.0.0, top.0.1, top.0.2, top.0.3 ∙ ap graph.Var (value_same nodes x.nodes v names))
+      (top.0.0, top.0.1, top.0.2, top.0.3 ∙ ap graph.Var (value_same nodes x.nodes v names.1))
   body_declares (Computed f kept) names top = shows 0 f names top
-  body_declares body names top = absurd names
+  body_declares body names top = absurd names.0
 
 pub root_declares : RootDeclares
 root_declares nodes tys body x made names stands all =

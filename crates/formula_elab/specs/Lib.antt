@@ -4,3 +4,4 @@ pub mod Make
 pub mod Names
 pub mod Opened
 pub mod Plan
+pub mod Today

@@ -11,6 +11,7 @@ use Rattle.formula_elab.specs.Names.{EveryNameOf}
 use Rattle.formula_elab.specs.Make as make
 use Rattle.formula_elab.specs.Opened.{made_node, node_of, filled, AreInOrder}
 use Rattle.formula_elab.specs.Plan.{next_make}
+use Rattle.formula_elab.specs.Today.{IsLaidOutBody}
 use Rattle.formula_elab.specs.declared.make.Made.{Made}
 use Rattle.formula_elab.specs.declared.make.Made.TheVariants.{Node}
 use Rattle.formula_elab.specs.declared.opened.Open.{Open}
@@ -41,9 +42,9 @@ ShowsOnceMade nodes body makes root =
 abbrev pub LaidInOrder : Type 0
 LaidInOrder = (nodes : ℕ → NodeId) (tys : ℕ → Ty) (body : Body) → AreInOrder 0 (laid_body nodes tys 0 body).makes
 
--- one node is made for each place
+-- one node is made for each place of what is laid out
 abbrev pub OneMakeEach : Type 0
-OneMakeEach = (nodes : ℕ → NodeId) (tys : ℕ → Ty) (body : Body) → EveryNameOf (λ n. Unit {0}) body
+OneMakeEach = (nodes : ℕ → NodeId) (tys : ℕ → Ty) (body : Body) → IsLaidOutBody body
     → length (laid_body nodes tys 0 body).makes ≡ places_of_body body
 
 -- before anything is made, nothing has to stand

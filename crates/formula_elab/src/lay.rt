@@ -4,7 +4,8 @@ ghost use Rattle.formula_lang.specs.CommandView.{body_view, constant_view, formu
 ghost use Rattle.script_model.specs.Formula.{Apply, Fold, Join, places_of_body};
 ghost use Rattle.formula_elab.specs.Laying.{laid_body, laid_next, each_laid_next, body_laid_next, type_at};
 ghost use Rattle.formula_elab.specs.Made.{ShowsOnceMade};
-ghost use Rattle.formula_elab.specs.Names.{EveryReference, EveryName, EveryNameOfAll, EveryNameOf};
+ghost use Rattle.formula_elab.specs.Names.{EveryName, EveryNameOfAll, EveryNameOf};
+ghost use Rattle.script_model.specs.Leaves.{EveryReference};
 ghost use Rattle.formula_elab.specs.Opened.{node_at, AreInOrder};
 
 use crate::opened::{Open, Part, Parts};

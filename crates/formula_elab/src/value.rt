@@ -1,7 +1,7 @@
 //! Values of commands in a graph.
 ghost use Rattle.std.specs.Prelude.{◌≡◌, ◌<◌, length, IfOk};
 ghost use Rattle.formula_lang.specs.CommandView.{constant_view};
-ghost use Rattle.formula_elab.specs.Names.{EveryReference};
+ghost use Rattle.script_model.specs.Leaves.{EveryReference};
 ghost use Rattle.formula_elab.specs.Opened.{node_at};
 ghost use Rattle.transfer.specs.Both.{graph_value};
 

@@ -2,6 +2,7 @@
 ghost use Rattle.std.specs.Prelude.{◌≡◌, ◌≤◌, ◌+◌, ◌^◌, ◌↔◌, Any, Some, IfOk, IfSome, IfNone, IsErrOf, IsTrue};
 ghost use Rattle.inc_value.specs.Choice.{Every};
 ghost use Rattle.inc_value.specs.Ty.{base_of};
+ghost use Rattle.inc_value.specs.declared.ty.Base.{Base};
 ghost use Rattle.inc_value.specs.declared.ty.Ty.{Ty};
 ghost use Rattle.node_arena.specs.RightSide.{ReferenceHas, ValueHas};
 ghost use Rattle.script_functions.specs.Bodies.{type_at, IsThere, IsTypable, NextHas, size_of};

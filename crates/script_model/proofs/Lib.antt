@@ -37,3 +37,4 @@ pub mod Forgetting
 pub mod Transcripts
 pub mod Refusing
 pub mod Names
+pub mod Leaves

@@ -10,6 +10,7 @@ pub mod GrammarLaws
 pub mod Here
 pub mod Language
 pub mod Laws
+pub mod Leaves
 pub mod Literals
 pub mod Need
 pub mod Parsing

@@ -15,7 +15,7 @@ lay-formula_type-ty-requires t c =
     ∙ fold-roll-Formula model.Formula formula_level (level.If h.test h.yes h.no) in
     let parts = subst (λ (f : model.Formula). EveryName (λ n. n < length c.args.ids.now) f) written c.requires.names in
     rw c.deref-in-If.ensures record {
-      names = subst (λ k. EveryName (λ n. n < k) (formula_view h.yes.value)) c.requires.one_each parts.1;
+      names = subst (λ k. EveryName (λ n. n < k) (formula_view h.yes.value)) c.requires.one_each (parts.0.1, parts.1.1);
     }
 
 pub lay-returns-in_ok-push-in-If-clause-makes : goal.lay-returns-in_ok-push-in-If-clause-makes

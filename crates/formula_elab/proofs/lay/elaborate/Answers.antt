@@ -27,7 +27,7 @@ returns-clause-order c =
 pub returns-clause-places : goal.returns-clause-places
 returns-clause-places c =
     let ids = c.args.ids.now in
-    let few = few_of_body (λ n. n < length ids) (node_at ids) (type_at c.args.names.now) (body_view c.args.body.now) c.requires.names in
+    let few = few_of_body (node_at ids) (type_at c.args.names.now) (body_view c.args.body.now) c.requires.names.0 in
     rw (c.new.ensures, c.in_ok-root.ensures.makes, c.new-makes.ensures.items) few
 
 pub returns-clause-declares : goal.returns-clause-declares
