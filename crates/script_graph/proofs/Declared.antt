@@ -296,7 +296,7 @@ module _ (a : Arena) (names : Names) (nodes : List NodeId) (sound : arena.IsSoun
   value_fits (Text bytes) fits = tt
   value_fits (Reference target b) fits =
       let r = named_row target (type_of_base b) fits in
-      subst (λ (o : Option Row). IfSome o (λ (q : Row). q.ty ≡ typing.type_of_base b)) (sym r.1) (r.2 ∙ base_is b)
+      subst (λ (o : Option Row). IfSome o (λ (q : Row). q.ty ≡ type_of_base b)) (sym r.1) (r.2 ∙ base_is b)
 
   -- an assignment that fits
   pub assigned_takes : (target : ℕ) (v : Value) → AssignmentFits names target v → TakesValue a (node_in nodes target) (graph_value (node_in nodes) v)
