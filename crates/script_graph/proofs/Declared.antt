@@ -179,7 +179,7 @@ module _ {F : Type 0} (first now : Standing F) (names : Names) (nodes : List Nod
             same_default nodes position inside ∙ sym (get_or_append_left nodes (root ∷ []) kept.no_node position inside)
 
         size : length makes ≤ places_of_body body
-        size = few_of_body (λ n. n < length nodes) (node_at nodes) (type_at names) body (names_within known names nodes h.one_node_each body ty fits.body_fits)
+        size = few_of_body (node_at nodes) (type_at names) body (names_within known names nodes h.one_node_each body ty fits.body_fits).0
 
         few : live now.nodes + less ≤ 1048575
         few = let room = h.few in omega (arith, making.few, room, room_is, whole, size)
