@@ -19,7 +19,8 @@ use Rattle.node_arena.specs.Arena.{Arena, row_at}
 use Rattle.node_arena.specs.Graph.{graph_of, NoScopes}
 use Rattle.stabilize_round.specs.Calling.{costs_of}
 use Rattle.stabilize_round.specs.Counts.{RoseBy}
-use Rattle.script_graph.specs.Today.{maps_alone, IsPlain, IsPlainBody, IsEarlierTarget, IsDeclaredTarget, RefersTo, AllPlain}
+use Rattle.formula_elab.specs.Today.{IsLaidOut, IsLaidOutBody}
+use Rattle.script_graph.specs.Today.{maps_alone, IsDeclaredTarget, RefersTo, AllPlain}
 use Rattle.script_model.specs.Blocked.{InTheWay, on_cycle, too_deep}
 use Rattle.script_model.specs.Check.{is_among}
 use Rattle.script_model.specs.Evaluate.{NameGives}
@@ -55,21 +56,21 @@ use Rattle.transfer.proofs.Typed.{body_entry}
 
 -- ---- declarations
 
--- what is kept of a plain formula stays
-plain_builds : (F : Meanings) (before s : State) (n : ℕ) (f : Formula) (P R : ℕ → Type 0) → IsPlain P R f → (was : Option Outcome)
+-- what is kept of a formula that is laid out stays
+plain_builds : (F : Meanings) (before s : State) (n : ℕ) (f : Formula) → IsLaidOut f → (was : Option Outcome)
     → Builds F before s n f was was
-plain_builds F before s n (Literal v) P R fine was = refl
-plain_builds F before s n (Name m) P R fine was = refl
-plain_builds F before s n (Apply g arguments) P R fine was = refl
-plain_builds F before s n (Fold g first elements) P R fine was = refl
-plain_builds F before s n (If test a b) P R fine was = refl
-plain_builds F before s n (Join child) P R fine was = refl
-plain_builds F before s n f P R fine was = absurd fine
+plain_builds F before s n (Literal v) fine was = refl
+plain_builds F before s n (Name m) fine was = refl
+plain_builds F before s n (Apply g arguments) fine was = refl
+plain_builds F before s n (Fold g first elements) fine was = refl
+plain_builds F before s n (If test a b) fine was = refl
+plain_builds F before s n (Join child) fine was = refl
+plain_builds F before s n f fine was = absurd fine
 
-plain_becomes : (F : Meanings) (before s after : State) (n : ℕ) (b : Body) (P R : ℕ → Type 0) → IsPlainBody P R b → Becomes F before s after n b b
-plain_becomes F before s after n (Variable v) P R fine = refl
-plain_becomes F before s after n (Computed f kept) P R fine = (kept, refl, record { built = plain_builds F before s n f P R fine.0 kept.built })
-plain_becomes F before s after n b P R fine = absurd fine
+plain_becomes : (F : Meanings) (before s after : State) (n : ℕ) (b : Body) → IsLaidOutBody b → Becomes F before s after n b b
+plain_becomes F before s after n (Variable v) fine = refl
+plain_becomes F before s after n (Computed f kept) fine = (kept, refl, record { built = plain_builds F before s n f fine kept.built })
+plain_becomes F before s after n b fine = absurd fine
 
 all_become : (F : Meanings) (before s after : State) (n : ℕ) (es : List Entry)
     → ((j : ℕ) (e : Entry) → slice_get es j ≡ Some e → (m : ℕ) → Becomes F before s after m e.body e.body) → BecomeAll F before s after n es es
@@ -80,8 +81,8 @@ all_become F before s after n (e ∷ es) each =
 -- the declarations of a plain state stay
 entries_become : (F : Meanings) (before s after : State) → AllPlain s → BecomeAll F before s after 0 s.entries s.entries
 entries_become F before s after plain = all_become F before s after 0 s.entries
-    (λ j e at m. plain_becomes F before s after m e.body (IsEarlierTarget s j) (IsDeclaredTarget s)
-    (plain j e.body (ap (λ (x : Option Entry). and_then x (λ (y : Entry). Some y.body)) at)))
+    (λ j e at m. plain_becomes F before s after m e.body
+    (plain j e.body (ap (λ (x : Option Entry). and_then x (λ (y : Entry). Some y.body)) at)).0.0)
 
 -- ---- the stabilize
 

@@ -34,7 +34,7 @@ not_frozen a n r kid f e def = let d = code_row a n r e in no_freeze d.0 kid f (
 
 -- no grab is there
 pub no_grab : (s : State) → AllPlain s → (k b : ℕ) (v : Value) → body_at s k ≡ Some (Grab b v true) → ⊥
-no_grab s plain k b v e = plain k (Grab b v true) e
+no_grab s plain k b v e = (plain k (Grab b v true) e).0.0
 
 -- so grabs are of binds
 pub grabs_bind : (s : State) → AllPlain s → GrabsBind s
@@ -42,7 +42,7 @@ grabs_bind s plain k b v e = absurd (no_grab s plain k b v e)
 
 -- a name's target is no other name
 pub targets_own : (s : State) → AllPlain s → (k t : ℕ) (kept : script.Kept) → body_at s k ≡ Some (Computed (Name t) kept) → IsOwn (body_at s t)
-targets_own s plain k t kept e = (plain k (Computed (Name t) kept) e).0.1
+targets_own s plain k t kept e = (plain k (Computed (Name t) kept) e).0.1.1
 
 -- ---- the two together
 

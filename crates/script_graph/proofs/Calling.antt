@@ -19,7 +19,8 @@ use Rattle.script_model.specs.Need.{Edge, Named, Place, formula_at}
 use Rattle.script_model.specs.Run.{count_in, most_calls}
 use Rattle.script_graph.specs.Kept.{Kept, arena_of, node_in}
 use Rattle.script_graph.specs.Represents.{beside, Represents, IsOfItem}
-use Rattle.script_graph.specs.Today.{IsPlain, IsOwnFormula, IsVariableBody, IsEarlierTarget, IsDeclaredTarget}
+use Rattle.formula_elab.specs.Today.{IsLaidOut}
+use Rattle.script_graph.specs.Today.{IsOwnFormula, IsVariableBody, IsEarlierTarget, IsDeclaredTarget}
 use Rattle.script_graph.proofs.Beside.{represented_fits}
 use Rattle.script_graph.proofs.Extending.{declares_still}
 use Rattle.script_graph.proofs.Placed.{item_still}
@@ -136,33 +137,33 @@ module _ (s : State) (k : Kept) (held : Represents any_meanings s k) where
         taken_plain G n r.def kids u takes (ap (λ (q : Row). plain q.def) (sym same) ∙ o.3)
 
     -- the node of a formula that is no bare name is that of a place which calls as often
-    formula_spot : (P R : ℕ → Type 0) (owner : ℕ) (path : List Edge) (S : Option NodeId) (E : List Binding) (f : Formula) → IsPlain P R f → IsOwnFormula (Some f)
+    formula_spot : (owner : ℕ) (path : List Edge) (S : Option NodeId) (E : List Binding) (f : Formula) → IsLaidOut f → IsOwnFormula (Some f)
         → Shows x (Built S) E (term.Ref n) f → (y : Spot) × Among y (spots_in owner path f) × (y.item ≡ Place owner path) × (cost_at G n ≡ y.cost)
-    formula_spot P R owner path S E (Apply g arguments) fine own h = elim (reads_so S (term.Map g h.0) h.1) [
+    formula_spot owner path S E (Apply g arguments) fine own h = elim (reads_so S (term.Map g h.0) h.1) [
       | inl m ↦ (record { item = Place owner path; cost = 1 }, inl refl, refl, rw (row, m.1) refl)
       | inr m ↦ let e = m.3 in absurd (cc)
     ]
-    formula_spot P R owner path S E (Fold g first elements) fine own h = elim (reads_so S (term.Fold g (graph_value x.nodes first) h.0) h.1) [
+    formula_spot owner path S E (Fold g first elements) fine own h = elim (reads_so S (term.Fold g (graph_value x.nodes first) h.0) h.1) [
       | inl m ↦ let e = m.2 in absurd (cc)
       | inr m ↦
           let same : h.0 ≡ refs kids = (let e = m.3 in cc) in
           let count = shows_count x (Built S) E kids elements (subst (λ (ts : Terms). ShowsAll x (Built S) E ts elements) same h.2) in
           (record { item = Place owner path; cost = count_in elements }, inl refl, refl, rw (row, m.2) count)
     ]
-    formula_spot P R owner path S E (Literal v) fine own h = elim (reads_so S (term.Const (graph_value x.nodes v)) h) [
+    formula_spot owner path S E (Literal v) fine own h = elim (reads_so S (term.Const (graph_value x.nodes v)) h) [
       | inl m ↦ let e = m.2 in absurd (cc)
       | inr m ↦ let e = m.3 in absurd (cc)
     ]
-    formula_spot P R owner path S E (If test a b) fine own h = elim (reads_so S (term.If h.0 h.1 h.2) h.3) [
+    formula_spot owner path S E (If test a b) fine own h = elim (reads_so S (term.If h.0 h.1 h.2) h.3) [
       | inl m ↦ let e = m.2 in absurd (cc)
       | inr m ↦ let e = m.3 in absurd (cc)
     ]
-    formula_spot P R owner path S E (Join child) fine own h = elim (reads_so S (term.Join h.0) h.1) [
+    formula_spot owner path S E (Join child) fine own h = elim (reads_so S (term.Join h.0) h.1) [
       | inl m ↦ let e = m.2 in absurd (cc)
       | inr m ↦ let e = m.3 in absurd (cc)
     ]
-    formula_spot P R owner path S E (Name t) fine own h = absurd own
-    formula_spot P R owner path S E f fine own h = absurd fine
+    formula_spot owner path S E (Name t) fine own h = absurd own
+    formula_spot owner path S E f fine own h = absurd fine
 
     -- a variable calls nothing
     no_variable : (m : ℕ) (b : Option Body) → IsVariableBody b → Declares x (node_in k.nodes m) b → node_in k.nodes m ≡ n → ⊥
@@ -177,8 +178,8 @@ module _ (s : State) (k : Kept) (held : Represents any_meanings s k) where
         → (y : Spot) × Among y (spots s) × (node_of x y.item ≡ Some n) × (cost_at G n ≡ y.cost)
     place_spot owner path None is own at = absurd own
     place_spot owner path (Some f) is own at =
-        let spot = formula_spot (IsEarlierTarget s owner) (IsDeclaredTarget s) owner path (scope_at x owner path) (around x owner path) f
-        (plain_place s held.today.plain owner path f is) own (place_shows x (represented_fits (λ name. None) (λ g values. GraphInt (pos 0)) s k held) owner path n f is at) in
+        let spot = formula_spot owner path (scope_at x owner path) (around x owner path) f
+        (plain_place s held.today.plain owner path f is).0 own (place_shows x (represented_fits (λ name. None) (λ g values. GraphInt (pos 0)) s k held) owner path n f is at) in
         (spot.0, place_among s held.today.plain spot.0 owner path f is spot.1, ap (node_of x) spot.2 ∙ at, spot.3)
 
     item_spot : IsOfItem x n → (y : Spot) × Among y (spots s) × (node_of x y.item ≡ Some n) × (cost_at G n ≡ y.cost)

@@ -16,7 +16,8 @@ use Rattle.inc_value.specs.declared.node.Point.{Point}
 use Rattle.inc_value.specs.declared.value.Value.{Value as GraphValue}
 use Rattle.inc_terms.specs.Term.{Functions}
 use Rattle.node_arena.specs.Graph.{graph_of}
-use Rattle.script_graph.specs.Today.{maps_alone, IsPlainBody, IsEarlierTarget, IsDeclaredTarget, AllPlain, IsWithin, IsPartWithin, IsOwnFormula}
+use Rattle.formula_elab.specs.Today.{IsLaidOutBody}
+use Rattle.script_graph.specs.Today.{maps_alone, AllPlain, IsWithin, IsPartWithin, IsOwnFormula}
 use Rattle.script_model.specs.Blocked.{IsCycle}
 use Rattle.script_model.specs.Check.{Declared, declared_of, target_of_body}
 use Rattle.script_model.specs.Formula as script
@@ -60,7 +61,7 @@ module _ (F : Meanings) (s : State) (k : Kept) (held : Represents F s k) where
       → IsWithin k.nodes owner n
   place_within owner path f n is form at = aged_item F s k held (Place owner path) n (subst IsOwnFormula (sym is) (form_own f form)) at
 
-  whole_body : (owner : ℕ) (f : Formula) (b : Body) → formula_at s owner [] ≡ Some f → body_at s owner ≡ Some b → IsPlainBody (IsEarlierTarget s owner) (IsDeclaredTarget s) b
+  whole_body : (owner : ℕ) (f : Formula) (b : Body) → formula_at s owner [] ≡ Some f → body_at s owner ≡ Some b → IsLaidOutBody b
       → (g : Formula) × (kept : _) × (b ≡ Computed g kept)
   whole_body owner f (Computed g kept) is at fine = (g, kept, refl)
   whole_body owner f (Variable v) is at fine = absurd (let e = rw at at is in cc)
@@ -80,7 +81,7 @@ module _ (F : Meanings) (s : State) (k : Kept) (held : Represents F s k) where
           ⊎ ((v : Value) × (b ≡ Grab owner v true) × (path ≡ Inside v ∷ []))
       by_path [] is at same =
           let here : body_at s owner ≡ Some b = ap (body_at s) same ∙ body in
-          let whole = whole_body owner f b is here (held.today.plain owner b here) in
+          let whole = whole_body owner f b is here (held.today.plain owner b here).0.0 in
           inl (same, refl, whole.0, whole.1, whole.2)
       by_path (edge ∷ path) is at same =
           let low = aged_part F s k held owner edge path f n is (form_own f form) at in
@@ -91,7 +92,7 @@ module _ (F : Meanings) (s : State) (k : Kept) (held : Represents F s k) where
 
 module _ (x : Both) (plain : AllPlain x.state) where
   no_root : (p : Point) (n : ℕ) → IsOwnRoot x p n → ⊥
-  no_root p n (b, v, is_live, body, at) = plain n (Grab b v is_live) body
+  no_root p n (b, v, is_live, body, at) = (plain n (Grab b v is_live) body).0.0
 
 -- ---- the declarations whose mains are listed
 

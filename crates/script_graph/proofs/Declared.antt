@@ -179,7 +179,7 @@ module _ {F : Type 0} (first now : Standing F) (names : Names) (nodes : List Nod
             same_default nodes position inside ∙ sym (get_or_append_left nodes (root ∷ []) kept.no_node position inside)
 
         size : length makes ≤ places_of_body body
-        size = few_of_body (λ n. n < length nodes) (node_at nodes) (type_at names) body (names_within known names nodes h.one_node_each body ty fits.body_fits)
+        size = few_of_body (node_at nodes) (type_at names) body (names_within known names nodes h.one_node_each body ty fits.body_fits).0
 
         few : live now.nodes + less ≤ 1048575
         few = let room = h.few in omega (arith, making.few, room, room_is, whole, size)
@@ -296,7 +296,7 @@ module _ (a : Arena) (names : Names) (nodes : List NodeId) (sound : arena.IsSoun
   value_fits (Text bytes) fits = tt
   value_fits (Reference target b) fits =
       let r = named_row target (type_of_base b) fits in
-      subst (λ (o : Option Row). IfSome o (λ (q : Row). q.ty ≡ typing.type_of_base b)) (sym r.1) (r.2 ∙ base_is b)
+      subst (λ (o : Option Row). IfSome o (λ (q : Row). q.ty ≡ type_of_base b)) (sym r.1) (r.2 ∙ base_is b)
 
   -- an assignment that fits
   pub assigned_takes : (target : ℕ) (v : Value) → AssignmentFits names target v → TakesValue a (node_in nodes target) (graph_value (node_in nodes) v)

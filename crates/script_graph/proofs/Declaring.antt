@@ -3,10 +3,11 @@ use Rattle.std.proofs.Common.{◌≡◌, ◌⊎◌, inl, inr, ℕ, zero, suc, �
 use Rattle.std.proofs.lemmas.Option.{slice_get_within, slice_get-map}
 use Rattle.std.proofs.lemmas.List.{length-append, map-append, get_or_append_left, get_or_at}
 use Rattle.std.proofs.lemmas.List.Sums.{sum_by_push}
-use Rattle.formula_lang.specs.Fits.{ArgumentsFit, BodyFits, DeclarationFits, ElementsFit, FormulaFits, NameFits, ReferenceFits}
-use Rattle.formula_elab.specs.Names.{EveryReference}
+use Rattle.formula_lang.specs.Fits.{DeclarationFits, NameFits, ReferenceFits}
+use Rattle.script_model.proofs.Leaves.{leaves_more_of}
+use Rattle.script_model.specs.Leaves.{EveryReference}
+use Rattle.script_graph.proofs.Laying.{body_plain}
 use Rattle.inc_value.specs.Choice.{and_then}
-use Rattle.inc_value.specs.Ty.{IsBase}
 use Rattle.inc_value.specs.declared.function.FnRef.{FnRef}
 use Rattle.inc_value.specs.declared.node.NodeId.{NodeId}
 use Rattle.inc_value.specs.declared.ty.Ty.{Ty}
@@ -18,14 +19,14 @@ use Rattle.node_arena.specs.Arena.{row_at}
 use Rattle.node_arena.specs.Graph.{graph_of}
 use Rattle.node_arena.specs.Sound as arena
 use Rattle.script_model.specs.Check.{Declare, Declared, Names, declared_of, kind_of_body, names_of, target_of_body}
-use Rattle.script_model.specs.Formula.{State, Body, Entry, Formula, Formulas, Meanings, meanings_of, body_at, entry_at, formula_of_body, places_of_body, Literal, Name, Apply, Fold, If, Join, End, More, Variable, Computed}
+use Rattle.script_model.specs.Formula.{State, Body, Entry, Meanings, meanings_of, body_at, entry_at, formula_of_body, places_of_body, Name, Variable, Computed}
 use Rattle.script_model.specs.Need.{part_of}
 use Rattle.script_model.specs.Step.{Moment, declared_in, moved}
-use Rattle.script_model.specs.Values.{Value, Int, Bool as Truth, Text, Reference, type_of}
+use Rattle.script_model.specs.Values.{Value, Int, Bool as Truth, Text, Reference}
 use Rattle.script_graph.specs.Growing.{Extends}
 use Rattle.script_graph.specs.Kept.{Kept, arena_of, node_in, no_node}
 use Rattle.script_graph.specs.Represents.{AreNames, beside, IsOfItem, Represents}
-use Rattle.script_graph.specs.Today.{IsPlain, ArePlain, IsPlainBody, IsEarlierTarget, IsDeclaredTarget, AllPlain, IsWithin, IsPartWithin, OwnNodesOf}
+use Rattle.script_graph.specs.Today.{IsPlainBody, IsEarlierTarget, IsDeclaredTarget, AllPlain, IsWithin, IsPartWithin, OwnNodesOf}
 use Rattle.script_graph.specs.State.{MatchesMoment}
 use Rattle.script_graph.proofs.Carrying.{watches_on, leaves_beside, settled_on}
 use Rattle.script_graph.proofs.Extending.{live_stays, declares_still, body_within, body_there, node_given, never_given, body_past, node_past}
@@ -41,56 +42,9 @@ use Rattle.transfer.proofs.Typed.{body_entry}
 
 -- ---- plain formulas
 
-module _ (P Q R S : ℕ → Type 0) (more : (n : ℕ) → P n → Q n) (refers : (n : ℕ) → R n → S n) where
-  mutual
-    plain_more : (f : Formula) → IsPlain P R f → IsPlain Q S f
-    plain_more (Literal v) fine = value_refers_more R S refers v fine
-    plain_more (Name n) fine = more n fine
-    plain_more (Apply f arguments) fine = plain_all_more arguments fine
-    plain_more (Fold f first elements) fine = (fine.0, plain_all_more elements fine.1)
-    plain_more (If test a b) fine = (plain_more test fine.0, plain_more a fine.1, plain_more b fine.2)
-    plain_more (Join child) fine = plain_more child fine
-    plain_more f fine = absurd fine
-
-    plain_all_more : (fs : Formulas) → ArePlain P R fs → ArePlain Q S fs
-    plain_all_more End fine = tt
-    plain_all_more (More f rest) fine = (plain_more f fine.0, plain_all_more rest fine.1)
-
-  pub plain_body_more : (b : Body) → IsPlainBody P R b → IsPlainBody Q S b
-  plain_body_more (Variable v) fine = value_refers_more R S refers v fine
-  plain_body_more (Computed f kept) fine = (plain_more f fine.0, fine.1)
-  plain_body_more b fine = absurd fine
-
-value_base : (v : Value) (ty : Ty) → type_of v ≡ ty → IsBase ty → IsBase (type_of v)
-value_base v ty is base = subst (λ (t : Ty). IsBase t) (sym is) base
-
-module _ (known : FnRef → Bool) (names : Names) (P R : ℕ → Type 0) (named : (position : ℕ) (ty : Ty) → NameFits names position ty → P position)
-    (refers : (v : Value) → ReferenceFits names v → EveryReference R v) where
-  mutual
-    fitting_plain : (f : Formula) (ty : Ty) → FormulaFits known names f ty → IsPlain P R f
-    fitting_plain (Literal v) ty fits = refers v fits.1
-    fitting_plain (Name n) ty fits = named n ty fits
-    fitting_plain (Apply f arguments) ty fits = fitting_all_plain arguments f.sig.takes fits.1
-    fitting_plain (Fold f first elements) ty fits = (value_base first ty fits.3 fits.4, fitting_each_plain elements fits.0 fits.5)
-    fitting_plain (If test a b) ty fits = (fitting_plain test _ fits.0, fitting_plain a ty fits.1, fitting_plain b ty fits.2)
-    fitting_plain (Join child) ty fits = fitting_plain child _ fits.1
-    fitting_plain f ty fits = absurd fits
-
-    fitting_all_plain : (fs : Formulas) (tys : List Ty) → ArgumentsFit known names fs tys → ArePlain P R fs
-    fitting_all_plain End [] fits = tt
-    fitting_all_plain End (ty ∷ tys) fits = absurd fits
-    fitting_all_plain (More f rest) [] fits = absurd fits
-    fitting_all_plain (More f rest) (ty ∷ tys) fits = (fitting_plain f ty fits.0, fitting_all_plain rest tys fits.1)
-
-    fitting_each_plain : (fs : Formulas) (ty : Ty) → ElementsFit known names fs ty → ArePlain P R fs
-    fitting_each_plain End ty fits = tt
-    fitting_each_plain (More f rest) ty fits = (fitting_plain f ty fits.0, fitting_each_plain rest ty fits.1)
-
-  -- what fits the names is plain
-  pub body_plain : (b : Body) (ty : Ty) → BodyFits known names b ty → IsPlainBody P R b
-  body_plain (Variable v) ty fits = refers v fits.1
-  body_plain (Computed f kept) ty fits = (fitting_plain f ty fits.0, fits.1)
-  body_plain b ty fits = absurd fits
+-- what is plain stays so where more has the properties
+pub plain_body_more : (P Q R S : ℕ → Type 0) → ((n : ℕ) → P n → Q n) → ((n : ℕ) → R n → S n) → (b : Body) → IsPlainBody P R b → IsPlainBody Q S b
+plain_body_more P Q R S more refers b fine = ((fine.0.0, leaves_more_of P Q R S more refers b fine.0.1), fine.1)
 
 -- ---- names stand for declarations that are no other names
 
@@ -98,7 +52,7 @@ own_or_name : (s : State) (n : ℕ) (e : Entry) → entry_at s n ≡ Some e → 
     → IsOwn (body_at s e.target)
 own_or_name s n e is plain (Computed (Name t) kept) body target =
     let here : body_at s n ≡ Some (Computed (Name t) kept) = ap (λ (o : Option Entry). and_then o (λ (d : Entry). Some d.body)) is ∙ ap (λ b. Some b) body in
-    subst (λ (j : ℕ). IsOwn (body_at s j)) (sym target) (plain n (Computed (Name t) kept) here).0.1
+    subst (λ (j : ℕ). IsOwn (body_at s j)) (sym target) (plain n (Computed (Name t) kept) here).0.1.1
 own_or_name s n e is plain (Computed f kept) body target = itself s n e is (Computed f kept) body target tt
   where
     itself : (s : State) (n : ℕ) (e : Entry) → entry_at s n ≡ Some e → (b : Body) → e.body ≡ b → e.target ≡ n → IsOwn (Some b) → IsOwn (body_at s e.target)
@@ -110,7 +64,7 @@ own_or_name s n e is plain (Variable v) body target =
     subst (λ (j : ℕ). IsOwn (body_at s j)) (sym target) (subst IsOwn (sym here) tt)
 own_or_name s n e is plain b body target =
     let here : body_at s n ≡ Some b = ap (λ (o : Option Entry). and_then o (λ (d : Entry). Some d.body)) is ∙ ap (λ b. Some b) body in
-    absurd (plain n b here)
+    absurd (plain n b here).0.0
 
 -- an entry of a declared name
 pub named_entry : (names : Names) (s : State) → names.declared ≡ (names_of s).declared → (place : ℕ) (d : Declared) → slice_get names.declared place ≡ Some d

@@ -26,7 +26,7 @@ use Rattle.script_graph.specs.State.{MatchesMoment}
 use Rattle.script_graph.proofs.Carrying.{watches_on, leaves_beside, settled_on}
 use Rattle.script_graph.proofs.Placed.{item_still}
 use Rattle.script_graph.proofs.Owning.{own_nodes_of_on}
-use Rattle.script_graph.proofs.Referring.{base_value, value_agrees}
+use Rattle.script_graph.proofs.Referring.{value_agrees}
 use Rattle.transfer.specs.Both.{Both, graph_value}
 use Rattle.transfer.specs.Keeping.{RowsStay}
 use Rattle.transfer.specs.Shows.{Built, Opens, Shows, ShowsAll, IsTop, Declares, IsOwn}
@@ -150,43 +150,43 @@ module _ (x y : Both) (P R : ℕ → Type 0) (same : (n : ℕ) → P n → y.nod
   mutual
     pub shows_still : (t : Term) (f : Formula) → IsPlain P R f → Shows x (Built None) [] t f → Shows y (Built None) [] t f
     shows_still t (Literal v) fine h =
-        subst (λ (w : GraphValue). Opens y.graph (Built None) t (term.Const w)) (value_agrees R x.nodes y.nodes refers v fine)
+        subst (λ (w : GraphValue). Opens y.graph (Built None) t (term.Const w)) (value_agrees R x.nodes y.nodes refers v fine.1)
         (opens_still t (term.Const (graph_value x.nodes v)) h)
-    shows_still t (Name k) fine h = h ∙ ap (λ (n : NodeId). term.Ref n) (sym (same k fine))
+    shows_still t (Name k) fine h = h ∙ ap (λ (n : NodeId). term.Ref n) (sym (same k fine.1))
     shows_still t (Apply g fs) fine h = (h.0, opens_still t (term.Map g h.0) h.1, all_show_still h.0 fs fine h.2)
     shows_still t (Fold g v fs) fine h = (
       h.0,
-      subst (λ (w : GraphValue). Opens y.graph (Built None) t (term.Fold g w h.0)) (base_value x.nodes y.nodes v fine.0)
+      subst (λ (w : GraphValue). Opens y.graph (Built None) t (term.Fold g w h.0)) (value_agrees R x.nodes y.nodes refers v fine.1.0)
           (opens_still t (term.Fold g (graph_value x.nodes v) h.0) h.1),
-      all_show_still h.0 fs fine.1 h.2,
+      all_show_still h.0 fs (fine.0, fine.1.1) h.2,
     )
     shows_still t (If test a b) fine h = (
       h.0,
       h.1,
       h.2,
       opens_still t (term.If h.0 h.1 h.2) h.3,
-      shows_still h.0 test fine.0 h.4,
-      shows_still h.1 a fine.1 h.5,
-      shows_still h.2 b fine.2 h.6,
+      shows_still h.0 test (fine.0.0, fine.1.0) h.4,
+      shows_still h.1 a (fine.0.1, fine.1.1) h.5,
+      shows_still h.2 b (fine.0.2, fine.1.2) h.6,
     )
     shows_still t (Join child) fine h = (h.0, opens_still t (term.Join h.0) h.1, shows_still h.0 child fine h.2)
-    shows_still t f fine h = absurd fine
+    shows_still t f fine h = absurd fine.0
 
     all_show_still : (ts : Terms) (fs : Formulas) → ArePlain P R fs → ShowsAll x (Built None) [] ts fs → ShowsAll y (Built None) [] ts fs
     all_show_still term.End End fine h = h
     all_show_still term.End (More f fs) fine h = h
     all_show_still (term.More t ts) End fine h = h
-    all_show_still (term.More t ts) (More f fs) fine h = (shows_still t f fine.0 h.0, all_show_still ts fs fine.1 h.1)
+    all_show_still (term.More t ts) (More f fs) fine h = (shows_still t f (fine.0.0, fine.1.0) h.0, all_show_still ts fs (fine.0.1, fine.1.1) h.1)
 
   -- the node of a plain declaration shows it still
   pub declares_still : (n m : NodeId) (b : Body) → m ≡ n → IsPlainBody P R b → ((v : Value) → b ≡ Variable v → (r : Row) → x.graph.row n ≡ Some r
       → y.graph.row n ≡ Some r) → Declares x n (Some b) → Declares y m (Some b)
   declares_still n m (Variable v) node fine top (r, row, scope, def) =
       subst (λ (q : NodeId). IsTop y.graph q (graph.Var (graph_value y.nodes v))) (sym node)
-      (r, top v refl r row, scope, def ∙ ap (λ w. graph.Var w) (value_agrees R x.nodes y.nodes refers v fine))
+      (r, top v refl r row, scope, def ∙ ap (λ w. graph.Var w) (value_agrees R x.nodes y.nodes refers v fine.0.1))
   declares_still n m (Computed f kept) node fine top h =
       subst (λ (q : NodeId). Shows y (Built None) [] (term.Ref q) f) (sym node) (shows_still (term.Ref n) f fine.0 h)
-  declares_still n m b node fine top h = absurd fine
+  declares_still n m b node fine top h = absurd fine.0.0
 
 -- ---- the node of a declaration is live
 
@@ -234,13 +234,13 @@ module _ (F : Meanings) (s : State) (k : Kept) (held : Represents F s k) where
       let o = d.1 in
       let same = ref_same (node_in k.nodes n) o.0 o.2 in (o.1, ap (row_at (arena_of k)) same ∙ o.3)
   own_live n (Computed (Name t) kept) own is = absurd own
-  own_live n (Computed f kept) own is = absurd (held.today.plain n (Computed f kept) is).0
-  own_live n b own is = absurd (held.today.plain n b is)
+  own_live n (Computed f kept) own is = absurd (held.today.plain n (Computed f kept) is).0.0
+  own_live n b own is = absurd (held.today.plain n b is).0.0
 
   -- the node of a declaration is live
   pub node_live : (n : ℕ) (b : Body) → body_at s n ≡ Some b → (r : Row) × (row_at (arena_of k) (node_in k.nodes n) ≡ Some r)
   node_live n (Computed (Name t) kept) is =
-      let fine = (held.today.plain n (Computed (Name t) kept) is).0 in
+      let fine = (held.today.plain n (Computed (Name t) kept) is).0.1 in
       let b = body_there t (omega (arith, fine.0, body_within n (Computed (Name t) kept) is)) in
       let live = own_live t b.0 (subst IsOwn b.1 fine.1) b.1 in
       let d = rw is at (held.declares n) in

@@ -6,7 +6,7 @@ use Rattle.std.proofs.lemmas.Option.{slice_get_within}
 use Rattle.formula_lang.specs.Fits.{ArgumentsFit, BodyFits, ElementsFit, FormulaFits, NameFits, ReferenceFits}
 use Rattle.formula_elab.specs.Laying.{formula_ty, joined_ty, laid, laid_each, laid_body}
 use Rattle.formula_elab.specs.Made.{StandsIn}
-use Rattle.formula_elab.specs.Names.{EveryReference, EveryName, EveryNameOfAll, EveryNameOf}
+use Rattle.formula_elab.specs.Names.{EveryNameOf}
 use Rattle.formula_elab.specs.Opened.{made_node, node_of, IsEarlier}
 use Rattle.formula_elab.specs.declared.make.Made.{Made}
 use Rattle.formula_elab.specs.declared.opened.Open.{Open}
@@ -30,6 +30,8 @@ use Rattle.script_model.specs.Check.{Names}
 use Rattle.script_model.specs.Formula.{Formula, Formulas, Body, Literal, Name, Apply, Fold, If, Join, End, More, Variable, Computed}
 use Rattle.script_model.specs.Values.{Value, Int, Bool as Truth, Text, Reference, type_of}
 use Rattle.script_graph.specs.Growing.{IsMaking, PartFits, OpenFits, AllOpenFit, RefersToLive}
+use Rattle.script_graph.specs.Today.{IsPlain, ArePlain, IsPlainBody}
+use Rattle.script_model.specs.Leaves.{EveryReference}
 use Rattle.script_graph.specs.Today.{OwnNodes, OwnNodesOfAll, WholeNodes, OwnNodesOf}
 use Rattle.script_graph.proofs.Making.{part_row}
 use Rattle.script_graph.proofs.Owning.{own_nodes_of_on}
@@ -242,32 +244,47 @@ laid_fits known a nodes tys names there typed body ty fits =
     let h = body_fits known a all nodes tys names there typed body ty fits (sits_itself all) in
     (every_at (OpenFits known a all) all h.0, h.1)
 
--- the names of what fits have what names that fit have
-module _ (known : FnRef → Bool) (names : Names) (P : ℕ → Type 0) (named : (position : ℕ) (t : Ty) → NameFits names position t → P position) where
+-- what fits is of forms that are laid out; its names have what names that fit have, and so has what its values refer to
+module _ (known : FnRef → Bool) (names : Names) (P R : ℕ → Type 0) (named : (position : ℕ) (ty : Ty) → NameFits names position ty → P position)
+    (refers : (v : Value) → ReferenceFits names v → EveryReference R v) where
   mutual
-    every_name : (f : Formula) (ty : Ty) → FormulaFits known names f ty → EveryName P f
-    every_name (Literal v) ty fits = refers_fitting names P named v fits.1
-    every_name (Name n) ty fits = named n ty fits
-    every_name (Apply f arguments) ty fits = every_name_of_all arguments f.sig.takes fits.1
-    every_name (Fold f first elements) ty fits = (refers_nowhere P first ty fits.3 fits.4, every_name_of_each elements fits.0 fits.5)
-    every_name (If test a b) ty fits = (every_name test types.Bool fits.0, every_name a ty fits.1, every_name b ty fits.2)
-    every_name (Join child) ty fits = every_name child (types.Node fits.0) fits.1
-    every_name f ty fits = absurd fits
+    fitting_plain : (f : Formula) (ty : Ty) → FormulaFits known names f ty → IsPlain P R f
+    fitting_plain (Literal v) ty fits = (tt, refers v fits.1)
+    fitting_plain (Name n) ty fits = (tt, named n ty fits)
+    fitting_plain (Apply f arguments) ty fits = fitting_all_plain arguments f.sig.takes fits.1
+    fitting_plain (Fold f first elements) ty fits =
+        let each = fitting_each_plain elements fits.0 fits.5 in (each.0, (refers_nowhere R first ty fits.3 fits.4, each.1))
+    fitting_plain (If test a b) ty fits =
+        let first = fitting_plain test types.Bool fits.0 in
+        let second = fitting_plain a ty fits.1 in
+        let third = fitting_plain b ty fits.2 in ((first.0, second.0, third.0), (first.1, second.1, third.1))
+    fitting_plain (Join child) ty fits = fitting_plain child (types.Node fits.0) fits.1
+    fitting_plain f ty fits = absurd fits
 
-    every_name_of_all : (fs : Formulas) (tys : List Ty) → ArgumentsFit known names fs tys → EveryNameOfAll P fs
-    every_name_of_all End [] fits = tt
-    every_name_of_all End (ty ∷ tys) fits = absurd fits
-    every_name_of_all (More f rest) [] fits = absurd fits
-    every_name_of_all (More f rest) (ty ∷ tys) fits = (every_name f ty fits.0, every_name_of_all rest tys fits.1)
+    fitting_all_plain : (fs : Formulas) (tys : List Ty) → ArgumentsFit known names fs tys → ArePlain P R fs
+    fitting_all_plain End [] fits = (tt, tt)
+    fitting_all_plain End (ty ∷ tys) fits = absurd fits
+    fitting_all_plain (More f rest) [] fits = absurd fits
+    fitting_all_plain (More f rest) (ty ∷ tys) fits =
+        let here = fitting_plain f ty fits.0 in
+        let there = fitting_all_plain rest tys fits.1 in ((here.0, there.0), (here.1, there.1))
 
-    every_name_of_each : (fs : Formulas) (ty : Ty) → ElementsFit known names fs ty → EveryNameOfAll P fs
-    every_name_of_each End ty fits = tt
-    every_name_of_each (More f rest) ty fits = (every_name f ty fits.0, every_name_of_each rest ty fits.1)
+    fitting_each_plain : (fs : Formulas) (ty : Ty) → ElementsFit known names fs ty → ArePlain P R fs
+    fitting_each_plain End ty fits = (tt, tt)
+    fitting_each_plain (More f rest) ty fits =
+        let here = fitting_plain f ty fits.0 in
+        let there = fitting_each_plain rest ty fits.1 in ((here.0, there.0), (here.1, there.1))
 
-  pub every_name_of : (body : Body) (ty : Ty) → BodyFits known names body ty → EveryNameOf P body
-  every_name_of (Variable v) ty fits = refers_fitting names P named v fits.1
-  every_name_of (Computed f kept) ty fits = every_name f ty fits.0
-  every_name_of body ty fits = absurd fits
+  -- what fits the names is plain
+  pub body_plain : (b : Body) (ty : Ty) → BodyFits known names b ty → IsPlainBody P R b
+  body_plain (Variable v) ty fits = ((tt, refers v fits.1), tt)
+  body_plain (Computed f kept) ty fits = (fitting_plain f ty fits.0, fits.1)
+  body_plain b ty fits = absurd fits
+
+-- the names of what fits have what names that fit have
+pub every_name_of : (known : FnRef → Bool) (names : Names) (P : ℕ → Type 0) → ((position : ℕ) (t : Ty) → NameFits names position t → P position)
+    → (body : Body) (ty : Ty) → BodyFits known names body ty → EveryNameOf P body
+every_name_of known names P named body ty fits = (body_plain known names P P named (refers_fitting names P named) body ty fits).0
 
 -- ---- its nodes
 

@@ -8,7 +8,8 @@ use Rattle.script_model.specs.Formula.{State, Body, Formula, Meanings, body_at, 
 use Rattle.script_model.specs.Need.{Edge, Item, Named, Place, formula_at}
 use Rattle.script_graph.specs.Kept.{Kept, node_in}
 use Rattle.script_graph.specs.Represents.{beside, Represents}
-use Rattle.script_graph.specs.Today.{IsPlain, IsOwnFormula, IsVariableBody, Computes}
+use Rattle.formula_elab.specs.Today.{IsLaidOut}
+use Rattle.script_graph.specs.Today.{IsOwnFormula, IsVariableBody, Computes}
 use Rattle.script_graph.proofs.Plain.{plain_place}
 use Rattle.transfer.specs.Both.{Both}
 use Rattle.transfer.specs.Items.{around, node_at, node_of, scope_at}
@@ -19,16 +20,16 @@ module _ (x : Both) (S : Option NodeId) (E : List Binding) (n : NodeId) where
   open_live : (u : Term) → Opens x.graph (Built S) (term.Ref n) u → (r : Row) × (x.graph.row n ≡ Some r)
   open_live u h = let o = opened x.graph S n u h in (o.0, o.1)
 
-  -- a plain formula that is no bare name is shown by a live node
-  shown_live : (P R : ℕ → Type 0) (f : Formula) → IsPlain P R f → IsOwnFormula (Some f) → Shows x (Built S) E (term.Ref n) f
+  -- a formula that is laid out and is no bare name is shown by a live node
+  shown_live : (f : Formula) → IsLaidOut f → IsOwnFormula (Some f) → Shows x (Built S) E (term.Ref n) f
       → (r : Row) × (x.graph.row n ≡ Some r)
-  shown_live P R (Literal v) fine own h = open_live _ h
-  shown_live P R (Name t) fine own h = absurd own
-  shown_live P R (Apply g arguments) fine own h = open_live _ h.1
-  shown_live P R (Fold g first elements) fine own h = open_live _ h.1
-  shown_live P R (If test a b) fine own h = open_live _ h.3
-  shown_live P R (Join child) fine own h = open_live _ h.1
-  shown_live P R f fine own h = absurd fine
+  shown_live (Literal v) fine own h = open_live _ h
+  shown_live (Name t) fine own h = absurd own
+  shown_live (Apply g arguments) fine own h = open_live _ h.1
+  shown_live (Fold g first elements) fine own h = open_live _ h.1
+  shown_live (If test a b) fine own h = open_live _ h.3
+  shown_live (Join child) fine own h = open_live _ h.1
+  shown_live f fine own h = absurd fine
 
 module _ (F : Meanings) (s : State) (k : Kept) (held : Represents F s k) (fits : Fits (beside F s k)) where
   abbrev x : Both
@@ -43,7 +44,7 @@ module _ (F : Meanings) (s : State) (k : Kept) (held : Represents F s k) (fits :
       → (r : Row) × (x.graph.row n ≡ Some r)
   by_formula owner path n None is own at = absurd own
   by_formula owner path n (Some f) is own at =
-      shown_live x (scope_at x owner path) (around x owner path) n _ _ f (plain_place s held.today.plain owner path f is) own
+      shown_live x (scope_at x owner path) (around x owner path) n f (plain_place s held.today.plain owner path f is).0 own
       (place_shows x fits owner path n f is at)
 
   pub own_item_live : (i : Item) (n : NodeId) → Computes s i → node_of x i ≡ Some n → (r : Row) × (x.graph.row n ≡ Some r)

@@ -7,7 +7,8 @@ use Rattle.graph.specs.declared.observer.Observer.{Observer as Looking}
 use Rattle.inc_terms.proofs.Plan.{among_map}
 use Rattle.script_model.specs.Formula.{State, Entry, Body, Observer, Variable, Computed}
 use Rattle.script_model.specs.Need.{Item, Named, own_root, own_roots, roots}
-use Rattle.script_graph.specs.Today.{IsPlainBody, IsEarlierTarget, IsDeclaredTarget, AllPlain}
+use Rattle.formula_elab.specs.Today.{IsLaidOutBody}
+use Rattle.script_graph.specs.Today.{AllPlain}
 use Rattle.script_graph.specs.Represents.{there_in}
 
 -- ---- in order
@@ -39,10 +40,10 @@ looked_all nodes (Some x ∷ made) (o ∷ os) same ended looks =
 
 -- ---- roots
 
-no_own_root : (s : State) (n : ℕ) (b : Body) (P R : ℕ → Type 0) → IsPlainBody P R b → own_root s n b ≡ []
-no_own_root s n (Variable v) P R fine = refl
-no_own_root s n (Computed f kept) P R fine = refl
-no_own_root s n b P R fine = absurd fine
+no_own_root : (s : State) (n : ℕ) (b : Body) → IsLaidOutBody b → own_root s n b ≡ []
+no_own_root s n (Variable v) fine = refl
+no_own_root s n (Computed f kept) fine = refl
+no_own_root s n b fine = absurd fine
 
 no_own_roots : (s : State) (n : ℕ) (es : List Entry) → ((j : ℕ) (e : Entry) → slice_get es j ≡ Some e → (m : ℕ) → own_root s m e.body ≡ [])
     → own_roots s n es ≡ []
@@ -58,8 +59,8 @@ nothing_more (x ∷ xs) = ap (λ (r : List _). x ∷ r) (nothing_more xs)
 pub roots_are : (s : State) → AllPlain s → roots s ≡ map (λ (o : Observer). Named o.target) s.observers
 roots_are s plain =
     ap (λ (is : List Item). map (λ (o : Observer). Named o.target) s.observers ++ is)
-    (no_own_roots s 0 s.entries (λ j e at m. no_own_root s m e.body (IsEarlierTarget s j) (IsDeclaredTarget s)
-    (plain j e.body (ap (λ (x : Option Entry). and_then x (λ (y : Entry). Some y.body)) at))))
+    (no_own_roots s 0 s.entries (λ j e at m. no_own_root s m e.body
+    (plain j e.body (ap (λ (x : Option Entry). and_then x (λ (y : Entry). Some y.body)) at)).0.0))
     ∙ nothing_more (map (λ (o : Observer). Named o.target) s.observers)
 
 -- what stands in the image of a list

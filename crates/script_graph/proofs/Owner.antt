@@ -14,7 +14,8 @@ use Rattle.script_model.specs.Depth.{Point, node_of_body, node_of_formula, point
 use Rattle.script_model.specs.Evaluate.{chosen, value_at}
 use Rattle.script_model.specs.Formula.{State, Body, Formula, Meanings, body_at, formula_of_body, Literal, Name, Apply, Fold, If, Join, Variable, Computed, Grab}
 use Rattle.script_model.specs.Need.{Edge, Left, Item, Named, Place, Met, Needed, environment, rounds, part_at, part_of, formula_at, place_reads, name_reads, Reads}
-use Rattle.script_graph.specs.Today.{IsPlain, IsPlainBody, IsEarlierTarget, IsDeclaredTarget, AllPlain, Computes, IsOwnFormula}
+use Rattle.formula_elab.specs.Today.{IsLaidOut, IsLaidOutBody}
+use Rattle.script_graph.specs.Today.{AllPlain, Computes, IsOwnFormula}
 use Rattle.script_graph.proofs.Plain.{plain_place}
 use Rattle.transfer.specs.Both.{Both}
 use Rattle.transfer.specs.Deep.{IsOfBind, IsToldOf, of_node, of_bind, of_grab}
@@ -33,11 +34,11 @@ chosen_none true q among = among
 chosen_none false q among = among
 
 -- a variable, and what isn't declared, depends on nothing
-name_alone : (F : Meanings) (s : State) (n : ℕ) (b : Option Body) → body_at s n ≡ b → ((c : Body) → b ≡ Some c → IsPlainBody (IsEarlierTarget s n) (IsDeclaredTarget s) c)
+name_alone : (F : Meanings) (s : State) (n : ℕ) (b : Option Body) → body_at s n ≡ b → ((c : Body) → b ≡ Some c → IsLaidOutBody c)
     → (q : Point) → Depends F s (depth.Main (Named n)) q → ⊥
 name_alone F s n b is fine q (d, among) = go b fine (subst (λ (c : Option Body). Among q (body_points s n c)) is among)
   where
-    go : (b : Option Body) → ((c : Body) → b ≡ Some c → IsPlainBody (IsEarlierTarget s n) (IsDeclaredTarget s) c) → Among q (body_points s n b) → ⊥
+    go : (b : Option Body) → ((c : Body) → b ≡ Some c → IsLaidOutBody c) → Among q (body_points s n b) → ⊥
     go None fine among = among
     go (Some (Variable v)) fine among = among
     go (Some (Computed f kept)) fine among = among
@@ -122,7 +123,7 @@ module _ (x : Both) (fits : Fits x) (plain : AllPlain x.state) (before : State) 
       itself f own = refl
 
   -- no name that computes nothing is too deep
-  named_none : (t : ℕ) → ((c : Body) → body_at s t ≡ Some c → IsPlainBody (IsEarlierTarget s t) (IsDeclaredTarget s) c) → (first : Point) (rest : List Point)
+  named_none : (t : ℕ) → ((c : Body) → body_at s t ≡ Some c → IsLaidOutBody c) → (first : Point) (rest : List Point)
       → Among first (points_of s (Named t)) → IsWalk F s first rest → length rest ≡ 129 → ⊥
   named_none t fine first rest (inl e) walk long =
       let q = begins_walk F s first rest walk long in
@@ -133,7 +134,7 @@ module _ (x : Both) (fits : Fits x) (plain : AllPlain x.state) (before : State) 
   by_named : (t : ℕ) (n : NodeId) (b : Option Body) → body_at s t ≡ b → x.nodes t ≡ n → IsMet (Named t) → (first : Point) (rest : List Point)
       → Among first (points_of s (node_of_body t b)) → IsWalk F s first rest → NoRepeats rest → length rest ≡ 129 → IsTooDeepAt x before n
   by_named t n (Some (Computed f kept)) is node met first rest begins walk distinct long =
-      by_formula f (whole_formula t f kept is) (plain t (Computed f kept) is).0
+      by_formula f (whole_formula t f kept is) (plain t (Computed f kept) is).0.0
     where
       at : node_at x t [] ≡ Some n
       at = rw is (ap (λ (q : NodeId). Some q) node)
@@ -141,7 +142,7 @@ module _ (x : Both) (fits : Fits x) (plain : AllPlain x.state) (before : State) 
       met_place : IsMet (Place t [])
       met_place = met_reads F before s (Named t) (Place t []) met (reads_whole t f kept is)
 
-      by_formula : (g : Formula) → formula_at s t [] ≡ Some g → IsPlain (IsEarlierTarget s t) (IsDeclaredTarget s) g → IsTooDeepAt x before n
+      by_formula : (g : Formula) → formula_at s t [] ≡ Some g → IsLaidOut g → IsTooDeepAt x before n
       by_formula (Name u) formula fine =
           let p = alias_points s t u [] formula first begins in
           let q = begins_walk F s first rest walk long in
@@ -152,10 +153,10 @@ module _ (x : Both) (fits : Fits x) (plain : AllPlain x.state) (before : State) 
       by_formula (If test a b) formula fine = own_place t [] (If test a b) n tt formula at met_place first rest begins walk distinct long
       by_formula (Join child) formula fine = own_place t [] (Join child) n tt formula at met_place first rest begins walk distinct long
       by_formula g formula fine = absurd fine
-  by_named t n None is node met first rest begins walk distinct long = absurd (named_none t (λ c e. plain t c e) first rest begins walk long)
+  by_named t n None is node met first rest begins walk distinct long = absurd (named_none t (λ c e. (plain t c e).0.0) first rest begins walk long)
   by_named t n (Some (Variable v)) is node met first rest begins walk distinct long =
-      absurd (named_none t (λ c e. plain t c e) first rest begins walk long)
-  by_named t n (Some b) is node met first rest begins walk distinct long = absurd (plain t b is)
+      absurd (named_none t (λ c e. (plain t c e).0.0) first rest begins walk long)
+  by_named t n (Some b) is node met first rest begins walk distinct long = absurd (plain t b is).0.0
 
   -- an item that is met and too deep has one that computes what its node gives
   pub deep_owner : (i : Item) (n : NodeId) → IsMet i → node_of x i ≡ Some n → TooDeep F s i → IsTooDeepAt x before n
@@ -164,12 +165,12 @@ module _ (x : Both) (fits : Fits x) (plain : AllPlain x.state) (before : State) 
       by_named t n (body_at s t) refl node met deep.first deep.rest deep.begins deep.walk deep.distinct deep.long
   deep_owner (Place owner path) n met at deep =
       let f = (met_closed x before grabs grabs' keeps).there owner path met in
-      by_formula f.0 f.1 (plain_place s plain owner path f.0 f.1)
+      by_formula f.0 f.1 (plain_place s plain owner path f.0 f.1).0
     where
       begins_at : (f : Formula) → formula_at s owner path ≡ Some f → Among deep.first (points_of s (node_of_formula s (Place owner path) (Some f)))
       begins_at f is = subst (λ (i : Item). Among deep.first (points_of s i)) (ap (node_of_formula s (Place owner path)) is) deep.begins
 
-      by_formula : (f : Formula) → formula_at s owner path ≡ Some f → IsPlain (IsEarlierTarget s owner) (IsDeclaredTarget s) f → IsTooDeepAt x before n
+      by_formula : (f : Formula) → formula_at s owner path ≡ Some f → IsLaidOut f → IsTooDeepAt x before n
       by_formula (Name t) is fine =
           let shows = place_shows x fits owner path n (Name t) is at in
           let node : x.nodes t ≡ n = cc in
@@ -200,24 +201,24 @@ told_node x no_scope plain p i (of_bind {owner} {path} {b} is at of) = ap (node_
     by_kind : IsOfBind x b p → Some b ≡ Some p.node
     by_kind (inl e) = ap (λ (q : GraphPoint). Some q.node) (sym e)
     by_kind (inr r) = absurd (let none = no_scope p.node r.0 r.1 in let some = r.2 in cc)
-told_node x no_scope plain p i (of_grab {k} {bind} {v} is body of) = absurd (plain k (Grab bind v true) body)
+told_node x no_scope plain p i (of_grab {k} {bind} {v} is body of) = absurd (plain k (Grab bind v true) body).0.0
 
 module _ (x : Both) (fits : Fits x) (plain : AllPlain x.state) (X : Item → Type 0) (closed : Closed x X) where
-  -- no plain formula has a left
-  no_left : (P R : ℕ → Type 0) (g f : Formula) → IsPlain P R g → part_at g Left ≡ Some f → ⊥
-  no_left P R (Literal v) f fine e = cc
-  no_left P R (Name t) f fine e = cc
-  no_left P R (Apply h fs) f fine e = cc
-  no_left P R (Fold h v fs) f fine e = cc
-  no_left P R (If test a b) f fine e = cc
-  no_left P R (Join child) f fine e = cc
-  no_left P R g f fine e = absurd fine
+  -- no formula that is laid out has a left
+  no_left : (g f : Formula) → IsLaidOut g → part_at g Left ≡ Some f → ⊥
+  no_left (Literal v) f fine e = cc
+  no_left (Name t) f fine e = cc
+  no_left (Apply h fs) f fine e = cc
+  no_left (Fold h v fs) f fine e = cc
+  no_left (If test a b) f fine e = cc
+  no_left (Join child) f fine e = cc
+  no_left g f fine e = absurd fine
 
   left_of_none : (i : Item) (owner : ℕ) (path : List Edge) → X i → i ≡ Place owner (Left ∷ path) → ⊥
   left_of_none i owner path is e =
       let f = closed.there owner (Left ∷ path) (subst X e is) in
       let above = part_above x.state owner path Left f.0 f.1 in
-      no_left (IsEarlierTarget x.state owner) (IsDeclaredTarget x.state) above.0 f.0 (plain_place x.state plain owner path above.0 above.1) above.2
+      no_left above.0 f.0 (plain_place x.state plain owner path above.0 above.1).0 above.2
 
   -- the node of an if or a join is no bind
   choice_no_bind : (owner : ℕ) (path : List Edge) (n l : NodeId) (r : Row) (g : FnRef) (caps : List NodeId) (f : Formula)

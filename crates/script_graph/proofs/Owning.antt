@@ -272,7 +272,7 @@ own_node G P Q n b is own = absurd own
 -- a declaration that is its own target is no other name
 pub own_body : (s : State) → AllPlain s → (n : ℕ) (b : Body) → body_at s n ≡ Some b → target_of_body n b ≡ n → IsOwn (Some b)
 own_body s plain n (Computed (Name t) kept) is e =
-    let low = (plain n (Computed (Name t) kept) is).0.0 in
+    let low = (plain n (Computed (Name t) kept) is).0.1.0 in
     let same : t ≡ n = e in absurd (omega (arith, low, same))
 own_body s plain n b is e = tt
 

@@ -47,7 +47,7 @@ module _ (x y : Both) (stays : RowsStay x.graph y.graph) (unbuilt : (b : NodeId)
   whole_still owner None is n at = absurd (cc)
   whole_still owner (Some (Computed f kept)) is n at = let c = computed owner f kept is in rw c.0 (ap (λ q. Some q) c.1 ∙ at)
   whole_still owner (Some (Variable v)) is n at = absurd (cc)
-  whole_still owner (Some b) is n at = absurd (fine owner b is)
+  whole_still owner (Some b) is n at = absurd (fine owner b is).0.0
 
   node_still : (owner : ℕ) (path : List Edge) (n : NodeId) → node_at x owner path ≡ Some n → node_at y owner path ≡ Some n
   node_still owner [] n at = whole_still owner (body_at x.state owner) refl n at
@@ -72,7 +72,7 @@ module _ (x y : Both) (stays : RowsStay x.graph y.graph) (unbuilt : (b : NodeId)
           → formula_at y.state owner path ≡ Some f
       by_body (Computed g kept) is part = rw (computed owner g kept is).0 part
       by_body (Variable v) is part = absurd (cc)
-      by_body b is part = absurd (fine owner b is)
+      by_body b is part = absurd (fine owner b is).0.0
 
   variable_still : (k : ℕ) (b : Option Body) → body_at x.state k ≡ b → IsVariableBody b → IsVariableBody (body_at y.state k) × (y.nodes k ≡ x.nodes k)
   variable_still k None is own = absurd own

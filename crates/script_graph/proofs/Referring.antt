@@ -1,8 +1,8 @@
 -- What values refer to.
 use Rattle.std.proofs.Common.{◌≡◌, ℕ, Option, Some, refl, ap, sym, ◌∙◌}
-use Rattle.formula_elab.specs.Names.{EveryReference}
+use Rattle.script_model.proofs.Leaves.{reference_more}
+use Rattle.script_model.specs.Leaves.{EveryReference}
 use Rattle.inc_value.specs.Choice.{and_then}
-use Rattle.inc_value.specs.Ty.{IsBase}
 use Rattle.inc_value.specs.declared.node.NodeId.{NodeId}
 use Rattle.inc_value.specs.declared.ty.Ty.{Ty}
 use Rattle.inc_value.specs.declared.outcome.Outcome.TheVariants as outcome
@@ -10,7 +10,7 @@ use Rattle.inc_value.specs.declared.value.Value.TheVariants as engine
 use Rattle.script_model.specs.Check.{target_of_body}
 use Rattle.script_model.specs.Formula.{State, Entry, entry_at}
 use Rattle.script_model.specs.Valid.{NameHasType, ValueHasType, OutcomeHasType}
-use Rattle.script_model.specs.Values.{Value, Int, Bool, Text, Reference, Outcome, Val, Invalid, type_of}
+use Rattle.script_model.specs.Values.{Value, Int, Bool, Text, Reference, Outcome, Val, Invalid}
 use Rattle.script_graph.specs.Today.{AllPlain, IsDeclaredTarget, RefersTo}
 use Rattle.script_graph.proofs.Owning.{own_body}
 use Rattle.transfer.specs.Both.{graph_value, graph_outcome}
@@ -30,19 +30,11 @@ module _ (P : ℕ → Type 0) (nodes nodes' : ℕ → NodeId) (same : (t : ℕ) 
   outcome_agrees (Val v) refers = ap (λ w. outcome.Val w) (value_agrees v refers)
   outcome_agrees Invalid refers = refl
 
--- a value that is no reference is the same in every graph
-pub base_value : (nodes nodes' : ℕ → NodeId) (v : Value) → IsBase (type_of v) → graph_value nodes v ≡ graph_value nodes' v
-base_value nodes nodes' (Int z) base = refl
-base_value nodes nodes' (Bool b) base = refl
-base_value nodes nodes' (Text bytes) base = refl
-base_value nodes nodes' (Reference target b) base = absurd base
-
 -- ---- what has the one property has the other
 
 module _ (P Q : ℕ → Type 0) (more : (t : ℕ) → P t → Q t) where
   pub value_refers_more : (v : Value) → EveryReference P v → EveryReference Q v
-  value_refers_more (Reference target base) refers = more target refers
-  value_refers_more v refers = tt
+  value_refers_more v refers = reference_more P Q more v refers
 
   pub outcome_refers_more : (o : Outcome) → RefersTo P o → RefersTo Q o
   outcome_refers_more (Val v) refers = value_refers_more v refers

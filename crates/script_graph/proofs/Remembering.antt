@@ -27,7 +27,8 @@ use Rattle.script_model.specs.Valid.{Valid, ValidObserver}
 use Rattle.stabilize_round.specs.Calls.{arguments_of}
 use Rattle.script_graph.specs.Kept.{Kept, arena_of, node_in, no_node}
 use Rattle.script_graph.specs.Represents.{graph_functions, besides, beside, there_in, Watches}
-use Rattle.script_graph.specs.Today.{IsPlainBody, IsEarlierTarget, IsDeclaredTarget, AllPlain, IsWithin}
+use Rattle.formula_elab.specs.Today.{IsLaidOutBody}
+use Rattle.script_graph.specs.Today.{AllPlain, IsWithin}
 use Rattle.script_graph.specs.Settled.{side_of, observed_by, Settled}
 use Rattle.script_graph.specs.State.{Stands}
 use Rattle.script_graph.proofs.Beside.{represented_fits}
@@ -135,7 +136,7 @@ module _ (named : List ℕ → Option FnRef) (value : FnRef → List GraphValue 
 
   -- ---- the state is a later one
 
-  by_body : (owner : ℕ) (n : NodeId) (b : Option Body) → body_at s owner ≡ b → ((c : Body) → b ≡ Some c → IsPlainBody (IsEarlierTarget s owner) (IsDeclaredTarget s) c)
+  by_body : (owner : ℕ) (n : NodeId) (b : Option Body) → body_at s owner ≡ b → ((c : Body) → b ≡ Some c → IsLaidOutBody c)
       → node_in k.nodes owner ≡ n → (f : Formula) → and_then b (λ c. and_then (formula_of_body c) (λ g. part_of g [])) ≡ Some f
       → place_node then owner [] ≡ Some n
   by_body owner n None is fine node f e = absurd (cc)
@@ -144,9 +145,9 @@ module _ (named : List ℕ → Option FnRef) (value : FnRef → List GraphValue 
   by_body owner n (Some b) is fine node f e = absurd (fine b refl)
 
   whole_on : (owner : ℕ) (n : NodeId) → place_node left owner [] ≡ Some n → place_node then owner [] ≡ Some n
-  whole_on owner n at = go (body_at before owner) refl (λ c is. st.today.plain owner c is) at
+  whole_on owner n at = go (body_at before owner) refl (λ c is. (st.today.plain owner c is).0.0) at
     where
-      go : (b : Option Body) → body_at before owner ≡ b → ((c : Body) → b ≡ Some c → IsPlainBody (IsEarlierTarget before owner) (IsDeclaredTarget before) c)
+      go : (b : Option Body) → body_at before owner ≡ b → ((c : Body) → b ≡ Some c → IsLaidOutBody c)
           → place_node left owner [] ≡ Some n → place_node then owner [] ≡ Some n
       go None is fine at = absurd (let e = rw is at at in cc)
       go (Some (Variable v)) is fine at = absurd (let e = rw is at at in cc)
@@ -155,7 +156,7 @@ module _ (named : List ℕ → Option FnRef) (value : FnRef → List GraphValue 
           let entry = body_entry before owner (Computed f kept) is in
           let formula : formula_at before owner [] ≡ Some f =
           ap (λ (b : Option Body). and_then b (λ c. and_then (formula_of_body c) (λ g. part_of g []))) is in
-          by_body owner n (body_at s owner) refl (λ c at. stands.matches.represents.today.plain owner c at)
+          by_body owner n (body_at s owner) refl (λ c at. (stands.matches.represents.today.plain owner c at).0.0)
           (st.still.names owner entry.0 entry.1 ∙ (cc)) f (st.still.formulas owner [] f formula)
       go (Some b) is fine at = absurd (fine b refl)
 

@@ -8,7 +8,8 @@ use Rattle.node_arena.specs.Graph.{graph_of}
 use Rattle.script_model.specs.Formula.{State, Body, Formula, Formulas, Observer, Meanings, body_at, places_of, Literal, Name, Apply, Fold, If, Join, End, More, Variable, Computed}
 use Rattle.script_graph.specs.Kept.{Kept, arena_of, node_in}
 use Rattle.script_graph.specs.Represents.{besides, IsOfItem, Represents}
-use Rattle.script_graph.specs.Today.{IsPlain, ArePlain, IsPlainBody, IsEarlierTarget, IsDeclaredTarget, IsWithin, IsPartWithin, OwnNodesOf}
+use Rattle.formula_elab.specs.Today.{IsLaidOut, AreLaidOut, IsLaidOutBody}
+use Rattle.script_graph.specs.Today.{IsWithin, IsPartWithin, OwnNodesOf}
 use Rattle.script_graph.proofs.Placed.{item_still}
 use Rattle.transfer.specs.Both.{Both}
 use Rattle.transfer.specs.Keeping.{NodesApart}
@@ -26,35 +27,35 @@ module _ (F : Meanings) (s : State) (observers : List Observer) (accepted : ℕ)
   y = besides F (observed_so s observers accepted) nodes a
 
   mutual
-    shows_so : (P R : ℕ → Type 0) (m : Mode) (E : List Binding) (t : Term) (f : Formula) → IsPlain P R f → Shows x m E t f → Shows y m E t f
-    shows_so P R m E t (Literal v) fine h = h
-    shows_so P R m E t (Name n) fine h = h
-    shows_so P R m E t (Apply g arguments) fine h = (h.0, h.1, all_show_so P R m E h.0 arguments fine h.2)
-    shows_so P R m E t (Fold g first elements) fine h = (h.0, h.1, all_show_so P R m E h.0 elements fine.1 h.2)
-    shows_so P R m E t (If test a b) fine h = (
+    shows_so : (m : Mode) (E : List Binding) (t : Term) (f : Formula) → IsLaidOut f → Shows x m E t f → Shows y m E t f
+    shows_so m E t (Literal v) fine h = h
+    shows_so m E t (Name n) fine h = h
+    shows_so m E t (Apply g arguments) fine h = (h.0, h.1, all_show_so m E h.0 arguments fine h.2)
+    shows_so m E t (Fold g first elements) fine h = (h.0, h.1, all_show_so m E h.0 elements fine h.2)
+    shows_so m E t (If test a b) fine h = (
       h.0,
       h.1,
       h.2,
       h.3,
-      shows_so P R m E h.0 test fine.0 h.4,
-      shows_so P R m E h.1 a fine.1 h.5,
-      shows_so P R m E h.2 b fine.2 h.6,
+      shows_so m E h.0 test fine.0 h.4,
+      shows_so m E h.1 a fine.1 h.5,
+      shows_so m E h.2 b fine.2 h.6,
     )
-    shows_so P R m E t (Join child) fine h = (h.0, h.1, shows_so P R m E h.0 child fine h.2)
-    shows_so P R m E t f fine h = absurd fine
+    shows_so m E t (Join child) fine h = (h.0, h.1, shows_so m E h.0 child fine h.2)
+    shows_so m E t f fine h = absurd fine
 
-    all_show_so : (P R : ℕ → Type 0) (m : Mode) (E : List Binding) (ts : Terms) (fs : Formulas) → ArePlain P R fs → ShowsAll x m E ts fs
+    all_show_so : (m : Mode) (E : List Binding) (ts : Terms) (fs : Formulas) → AreLaidOut fs → ShowsAll x m E ts fs
         → ShowsAll y m E ts fs
-    all_show_so P R m E term.End End fine h = h
-    all_show_so P R m E term.End (More f fs) fine h = h
-    all_show_so P R m E (term.More t ts) End fine h = h
-    all_show_so P R m E (term.More t ts) (More f fs) fine h = (shows_so P R m E t f fine.0 h.0, all_show_so P R m E ts fs fine.1 h.1)
+    all_show_so m E term.End End fine h = h
+    all_show_so m E term.End (More f fs) fine h = h
+    all_show_so m E (term.More t ts) End fine h = h
+    all_show_so m E (term.More t ts) (More f fs) fine h = (shows_so m E t f fine.0 h.0, all_show_so m E ts fs fine.1 h.1)
 
-  declares_so : (P R : ℕ → Type 0) (n : NodeId) (b : Option Body) → ((c : Body) → b ≡ Some c → IsPlainBody P R c) → Declares x n b → Declares y n b
-  declares_so P R n None fine h = h
-  declares_so P R n (Some (Variable v)) fine h = h
-  declares_so P R n (Some (Computed f kept)) fine h = shows_so P R (Built None) [] (term.Ref n) f (fine (Computed f kept) refl).0 h
-  declares_so P R n (Some b) fine h = absurd (fine b refl)
+  declares_so : (n : NodeId) (b : Option Body) → ((c : Body) → b ≡ Some c → IsLaidOutBody c) → Declares x n b → Declares y n b
+  declares_so n None fine h = h
+  declares_so n (Some (Variable v)) fine h = h
+  declares_so n (Some (Computed f kept)) fine h = shows_so (Built None) [] (term.Ref n) f (fine (Computed f kept) refl) h
+  declares_so n (Some b) fine h = absurd (fine b refl)
 
 -- what has the same room, nodes of names and arena represents it
 pub represents_so : (F : Meanings) (s : State) (observers : List Observer) (accepted : ℕ) (k new : Kept) → new.room ≡ k.room → new.nodes ≡ k.nodes
@@ -66,7 +67,7 @@ represents_so F s observers accepted k new room nodes arena held = record {
   declares = λ n.
       subst (λ (ns : List NodeId). Declares (besides F (observed_so s observers accepted) ns (arena_of new)) (node_in ns n) (body_at s n)) (sym nodes)
       (subst (λ (a : Arena). Declares (besides F (observed_so s observers accepted) k.nodes a) (node_in k.nodes n) (body_at s n)) (sym arena)
-      (declares_so F s observers accepted k.nodes (arena_of k) (IsEarlierTarget s n) (IsDeclaredTarget s) (node_in k.nodes n) (body_at s n) (held.today.plain n) (held.declares n)));
+      (declares_so F s observers accepted k.nodes (arena_of k) (node_in k.nodes n) (body_at s n) (λ b is. (held.today.plain n b is).0.0) (held.declares n)));
   targets = held.targets;
   apart = subst (λ (ns : List NodeId). NodesApart (observed_so s observers accepted) (node_in ns)) (sym nodes) held.apart;
   of_items = λ n r is.

@@ -227,9 +227,9 @@ module _ (named : List ℕ → Option FnRef) (value : FnRef → List GraphValue 
       plain_each names n b is = elim (cases_eq n target) [
         | inl same ↦
             let body : Variable v ≡ b = let e : Some (Variable v) ≡ Some b = sym now ∙ (ap (body_at s') (sym same) ∙ is) in cc in
-            subst (λ (c : Body). IsPlainBody (IsEarlierTarget s' n) (IsDeclaredTarget s') c) body
-            (value_refers_more (IsDeclaredTarget s) (IsDeclaredTarget s') target_on v
-            (fitting_refers k.names s names.declared held.today.plain held.targets v fits.refers))
+            let refers = value_refers_more (IsDeclaredTarget s) (IsDeclaredTarget s') target_on v
+            (fitting_refers k.names s names.declared held.today.plain held.targets v fits.refers) in
+            subst (λ (c : Body). IsPlainBody (IsEarlierTarget s' n) (IsDeclaredTarget s') c) body ((tt, refers), tt)
         | inr other ↦ plain_body_more (IsEarlierTarget s n) (IsEarlierTarget s' n) (IsDeclaredTarget s) (IsDeclaredTarget s') (early_on n) target_on b
             (held.today.plain n b (sym (others n other) ∙ is))
       ]

@@ -7,8 +7,9 @@ use Rattle.inc_value.specs.Choice.{Among, and_then}
 use Rattle.script_model.specs.Formula.{State, Entry, Body, Formula, Formulas, body_at, formula_of_body, Literal, Name, Apply, Fold, If, Join, End, More, Variable, Computed}
 use Rattle.script_model.specs.Need.{Edge, Argument, Test, Then, Else, Child, Item, Place, argument_at, part_at, part_of, formula_at}
 use Rattle.script_model.specs.Run.{calls_in, calls_in_all, count_in, calls_of_body, most_calls}
-use Rattle.script_graph.specs.Today.{AllPlain, IsPlain, IsEarlierTarget, IsDeclaredTarget}
-use Rattle.script_graph.proofs.Plain.{plain_within}
+use Rattle.formula_elab.specs.Today.{IsLaidOut}
+use Rattle.script_graph.specs.Today.{AllPlain}
+use Rattle.script_graph.proofs.Plain.{laid_within}
 use Rattle.transfer.proofs.Places.{then_some}
 use Rattle.transfer.proofs.Typed.{body_entry}
 
@@ -90,36 +91,35 @@ module _ (owner : ℕ) (y : Spot) where
       let same : j ≡ 0 + j = omega arith in
       among_each path 0 fs j g at (subst (λ (i : ℕ). Among y (spots_in owner (Argument i ∷ path) g)) same among)
 
-  module _ (P R : ℕ → Type 0) where
-    among_part : (path : List Edge) (h : Formula) (edge : Edge) (g : Formula) → part_at h edge ≡ Some g → IsPlain P R h
-        → Among y (spots_in owner (edge ∷ path) g) → Among y (spots_in owner path h)
-    among_part path (Apply f arguments) (Argument j) g at fine among = inr (among_first path arguments j g at among)
-    among_part path (Apply f arguments) edge g at fine among = absurd (cc)
-    among_part path (Fold f first elements) (Argument j) g at fine among = inr (among_first path elements j g at among)
-    among_part path (Fold f first elements) edge g at fine among = absurd (cc)
-    among_part path (If test a b) Test g at fine among =
-        among_left y (spots_in owner (Test ∷ path) test) (spots_in owner (Then ∷ path) a ++ spots_in owner (Else ∷ path) b)
-        (among_same (Test ∷ path) test g at among)
-    among_part path (If test a b) Then g at fine among =
-        among_right y (spots_in owner (Test ∷ path) test) (spots_in owner (Then ∷ path) a ++ spots_in owner (Else ∷ path) b)
-        (among_left y (spots_in owner (Then ∷ path) a) (spots_in owner (Else ∷ path) b) (among_same (Then ∷ path) a g at among))
-    among_part path (If test a b) Else g at fine among =
-        among_right y (spots_in owner (Test ∷ path) test) (spots_in owner (Then ∷ path) a ++ spots_in owner (Else ∷ path) b)
-        (among_right y (spots_in owner (Then ∷ path) a) (spots_in owner (Else ∷ path) b) (among_same (Else ∷ path) b g at among))
-    among_part path (If test a b) edge g at fine among = absurd (cc)
-    among_part path (Join child) Child g at fine among = among_same (Child ∷ path) child g at among
-    among_part path (Join child) edge g at fine among = absurd (cc)
-    among_part path (Literal v) edge g at fine among = absurd (cc)
-    among_part path (Name n) edge g at fine among = absurd (cc)
-    among_part path h edge g at fine among = absurd fine
+  among_part : (path : List Edge) (h : Formula) (edge : Edge) (g : Formula) → part_at h edge ≡ Some g → IsLaidOut h
+      → Among y (spots_in owner (edge ∷ path) g) → Among y (spots_in owner path h)
+  among_part path (Apply f arguments) (Argument j) g at fine among = inr (among_first path arguments j g at among)
+  among_part path (Apply f arguments) edge g at fine among = absurd (cc)
+  among_part path (Fold f first elements) (Argument j) g at fine among = inr (among_first path elements j g at among)
+  among_part path (Fold f first elements) edge g at fine among = absurd (cc)
+  among_part path (If test a b) Test g at fine among =
+      among_left y (spots_in owner (Test ∷ path) test) (spots_in owner (Then ∷ path) a ++ spots_in owner (Else ∷ path) b)
+      (among_same (Test ∷ path) test g at among)
+  among_part path (If test a b) Then g at fine among =
+      among_right y (spots_in owner (Test ∷ path) test) (spots_in owner (Then ∷ path) a ++ spots_in owner (Else ∷ path) b)
+      (among_left y (spots_in owner (Then ∷ path) a) (spots_in owner (Else ∷ path) b) (among_same (Then ∷ path) a g at among))
+  among_part path (If test a b) Else g at fine among =
+      among_right y (spots_in owner (Test ∷ path) test) (spots_in owner (Then ∷ path) a ++ spots_in owner (Else ∷ path) b)
+      (among_right y (spots_in owner (Then ∷ path) a) (spots_in owner (Else ∷ path) b) (among_same (Else ∷ path) b g at among))
+  among_part path (If test a b) edge g at fine among = absurd (cc)
+  among_part path (Join child) Child g at fine among = among_same (Child ∷ path) child g at among
+  among_part path (Join child) edge g at fine among = absurd (cc)
+  among_part path (Literal v) edge g at fine among = absurd (cc)
+  among_part path (Name n) edge g at fine among = absurd (cc)
+  among_part path h edge g at fine among = absurd fine
 
-    -- a part's places are places of the whole
-    among_whole : (f : Formula) → IsPlain P R f → (path : List Edge) (g : Formula) → part_of f path ≡ Some g
-        → Among y (spots_in owner path g) → Among y (spots_in owner [] f)
-    among_whole f fine [] g at among = among_same [] f g at among
-    among_whole f fine (edge ∷ path) g at among =
-        let h = then_some (part_of f path) (λ h. part_at h edge) g at in
-        among_whole f fine path h.0 h.1 (among_part path h.0 edge g h.2 (plain_within P R f fine path h.0 h.1) among)
+  -- a part's places are places of the whole
+  among_whole : (f : Formula) → IsLaidOut f → (path : List Edge) (g : Formula) → part_of f path ≡ Some g
+      → Among y (spots_in owner path g) → Among y (spots_in owner [] f)
+  among_whole f fine [] g at among = among_same [] f g at among
+  among_whole f fine (edge ∷ path) g at among =
+      let h = then_some (part_of f path) (λ h. part_at h edge) g at in
+      among_whole f fine path h.0 h.1 (among_part path h.0 edge g h.2 (laid_within f fine path h.0 h.1) among)
 
 -- ---- of a state
 
@@ -178,6 +178,6 @@ place_among s plain y owner path g at among =
   where
     by_body : (b : Body) → body_at s owner ≡ Some b → and_then (formula_of_body b) (λ f. part_of f path) ≡ Some g → Among y (spots_of_body owner b)
     by_body (Computed f kept) is part =
-        among_whole owner y (IsEarlierTarget s owner) (IsDeclaredTarget s) f (plain owner (Computed f kept) is).0 path g part among
+        among_whole owner y f (plain owner (Computed f kept) is).0.0 path g part among
     by_body (Variable v) is part = absurd (cc)
-    by_body b is part = absurd (plain owner b is)
+    by_body b is part = absurd (plain owner b is).0.0

@@ -107,7 +107,7 @@ module _ (named : List ℕ → Option FnRef) (value : FnRef → List GraphValue 
 
   -- no grab lived then
   grabs_stay : GrabsStay before s
-  grabs_stay n b v is = absurd ((stands.matches.settled unbroken).today.plain n (Grab b v true) is)
+  grabs_stay n b v is = absurd ((stands.matches.settled unbroken).today.plain n (Grab b v true) is).0.0
 
   listed_is_deep : (points : List Point) → IsListed (graph_functions F) k.graph points → length points ≡ 130
       → NoRepeats points → (p : Point) → StartsAt points p → IsTooDeepAt x before p.node

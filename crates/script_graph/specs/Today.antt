@@ -1,13 +1,12 @@
 -- What is so of scripts of today's forms alone, and goes with one later form or another.
 use Rattle.std.specs.Prelude.{◌≡◌, ◌<◌, ◌≤◌, ℕ, Bool, false, List, [], ◌∷◌, Option, None, Some, slice_get}
-use Rattle.inc_value.specs.Ty.{IsBase}
 use Rattle.inc_value.specs.declared.function.FnRef.{FnRef}
 use Rattle.inc_value.specs.declared.node.NodeId.{NodeId}
 use Rattle.inc_value.specs.declared.value.Value.{Value}
 use Rattle.inc_terms.specs.Graph as graph
 use Rattle.inc_terms.specs.Graph.{Graph, Row, Def}
 use Rattle.inc_terms.specs.Term.{Functions}
-use Rattle.formula_elab.specs.Names.{EveryReference}
+use Rattle.formula_elab.specs.Today.{IsLaidOut, AreLaidOut, IsLaidOutBody}
 use Rattle.graph.specs.Standing.{cutoff_of}
 use Rattle.map_nodes.specs.declared.cutoff.Cutoff.TheVariants.{Equal}
 use Rattle.node_arena.specs.Arena.{Arena, IsLive}
@@ -16,9 +15,10 @@ use Rattle.node_arena.specs.RightSide.{no_side}
 use Rattle.node_arena.specs.RightSideLaws.{meaning}
 use Rattle.script_model.specs.Check.{Declared, Grab}
 use Rattle.script_model.specs.Formula.{Formula, Formulas, Body, State, Observer, body_at, Literal, Name, Apply, Fold, If, Join, End, More, Variable, Computed, Unwatched, nothing_kept}
+use Rattle.script_model.specs.Leaves.{EveryReference, EveryLeaf, EveryLeafOfAll, EveryLeafOf}
 use Rattle.script_model.specs.Need.{Item, Named, Place, formula_at}
 use Rattle.script_model.specs.Settle.{Notice}
-use Rattle.script_model.specs.Values.{Outcome, Val, Invalid, type_of}
+use Rattle.script_model.specs.Values.{Outcome, Val, Invalid}
 use Rattle.script_graph.specs.Kept.{Kept, arena_of, node_in}
 use Rattle.transfer.specs.Shows.{IsOwn}
 
@@ -34,28 +34,22 @@ maps_alone value = meaning value (λ f. no_side)
 abbrev pub IsDeclaredTarget : State → ℕ → Type 0
 IsDeclaredTarget s t = (b : Body) × (body_at s t ≡ Some b) × IsOwn (Some b)
 
-abbrev mutual
-  -- the formula is of literals that refer to what has the one property, of names that have the other, of applications, folds from values of base types, ifs
-  -- and joins
-  pub IsPlain : (ℕ → Type 0) → (ℕ → Type 0) → Formula → Type 0
-  IsPlain P R (Literal v) = EveryReference R v
-  IsPlain P R (Name n) = P n
-  IsPlain P R (Apply function arguments) = ArePlain P R arguments
-  IsPlain P R (Fold function first elements) = IsBase (type_of first) × ArePlain P R elements
-  IsPlain P R (If test a b) = IsPlain P R test × IsPlain P R a × IsPlain P R b
-  IsPlain P R (Join child) = IsPlain P R child
-  IsPlain P R f = ⊥
+-- the formula is of forms that are laid out, the names that it reads have the one property, and what its values refer to has the other
+abbrev pub IsPlain : (ℕ → Type 0) → (ℕ → Type 0) → Formula → Type 0
+IsPlain P R f = IsLaidOut f × EveryLeaf P R f
 
-  -- so are all of the formulas
-  pub ArePlain : (ℕ → Type 0) → (ℕ → Type 0) → Formulas → Type 0
-  ArePlain P R End = Unit {0}
-  ArePlain P R (More f rest) = IsPlain P R f × ArePlain P R rest
+-- so are all of the formulas
+abbrev pub ArePlain : (ℕ → Type 0) → (ℕ → Type 0) → Formulas → Type 0
+ArePlain P R fs = AreLaidOut fs × EveryLeafOfAll P R fs
 
--- so is what is declared, and nothing is kept of it
+-- no stabilize keeps anything of what is declared
+abbrev pub NothingKept : Body → Type 0
+NothingKept (Computed f kept) = kept ≡ nothing_kept
+NothingKept body = Unit {0}
+
+-- what is declared is of such forms and has such names and references, and nothing is kept of it
 abbrev pub IsPlainBody : (ℕ → Type 0) → (ℕ → Type 0) → Body → Type 0
-IsPlainBody P R (Variable v) = EveryReference R v
-IsPlainBody P R (Computed f kept) = IsPlain P R f × (kept ≡ nothing_kept)
-IsPlainBody P R body = ⊥
+IsPlainBody P R body = (IsLaidOutBody body × EveryLeafOf P R body) × NothingKept body
 
 -- an earlier declaration that is no other name
 abbrev pub IsEarlierTarget : State → ℕ → ℕ → Type 0
