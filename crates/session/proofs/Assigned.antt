@@ -1,7 +1,7 @@
 -- The node that is set, and the value that it is given.
 use Rattle.std.proofs.Common.{◌≡◌, ◌<◌, ℕ, length, sym, subst, ◌∙◌, arith}
 use Rattle.formula_lang.specs.Fits.{AssignmentFits}
-use Rattle.formula_elab.specs.Names.{EveryReference}
+use Rattle.script_model.specs.Leaves.{EveryReference}
 use Rattle.formula_elab.specs.Opened.{node_at}
 use Rattle.formula_elab.proofs.Showing.{value_same}
 use Rattle.inc_value.specs.declared.node.NodeId.{NodeId}
