@@ -13,7 +13,7 @@ use Rattle.node_arena.specs.declared.arena.AddFault.{AddFault}
 use Rattle.node_arena.specs.declared.arena.AddFault.TheVariants as add
 use Rattle.node_arena.specs.Arena.{IsFull}
 use Rattle.node_arena.specs.Building.{Building, Use, Answers, Adds, IsListed, CallsListed, Weighs, Grows}
-use Rattle.node_arena.specs.Graph.{graph_of}
+use Rattle.node_arena.specs.Graph.{graph_of, nothing_held}
 use Rattle.node_arena.specs.Typing.{Fits}
 use Rattle.node_arena.proofs.Growing.{grown_more, grown_most, given_added, fits_added, outside_grown}
 use Rattle.closure_tests.specs.declared.table.Captured.{Captured}
@@ -45,7 +45,7 @@ module _ (uses : List Use) (size : ℕ) (old mid new : Building) (k : ℕ) (grow
     (captures : List NodeId) (t : Term) (def : Def) (type : Ty) (is_int : type ≡ ty.Int)
     (w : ℕ) (calls : CallsListed uses def) (weighs : Weighs uses def w) (few : k + w ≤ size)
     (unfolds : (id : NodeId) → Adds mid new id def type → Grows uses old new (k + w)
-    → Unfolds (graph_of new.arena) (Some new.scope) captures id t) where
+    → Unfolds (graph_of new.arena nothing_held) (Some new.scope) captures id t) where
   -- a node that was
   is_added : (id : NodeId) → Adds mid new id def type → BuildsTerm uses size old new captures t (Ok id)
   is_added id adds =
@@ -73,11 +73,11 @@ module _ (uses : List Use) (size : ℕ) (old mid new : Building) (k : ℕ) (grow
 
 module _ (uses : List Use) (old new : Building) (k : ℕ) (grows : Grows uses old new k)
     (c : Captured) (ready : IsReady old c) where
-  pub x_read : Unfolds (graph_of new.arena) (Some new.scope) (captured c) c.x (Cap 0)
+  pub x_read : Unfolds (graph_of new.arena nothing_held) (Some new.scope) (captured c) c.x (Cap 0)
   x_read = (refl, outside_grown uses old new k grows ready.empty c.x ready.x_given)
 
-  pub c_read : Unfolds (graph_of new.arena) (Some new.scope) (captured c) c.c (Cap 1)
+  pub c_read : Unfolds (graph_of new.arena nothing_held) (Some new.scope) (captured c) c.c (Cap 1)
   c_read = (refl, outside_grown uses old new k grows ready.empty c.c ready.c_given)
 
-  pub h_read : Unfolds (graph_of new.arena) (Some new.scope) (captured c) c.h (Cap 2)
+  pub h_read : Unfolds (graph_of new.arena nothing_held) (Some new.scope) (captured c) c.h (Cap 2)
   h_read = (refl, outside_grown uses old new k grows ready.empty c.h ready.h_given)

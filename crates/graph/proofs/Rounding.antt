@@ -10,7 +10,6 @@ use Rattle.inc_terms.specs.Term.{Functions}
 use Rattle.necessary_graph.specs.Part as part
 use Rattle.node_arena.specs.Arena.{Arena, row_at}
 use Rattle.stabilize_round.specs.Laws.{GraphStays}
-use Rattle.node_arena.specs.Graph.{graph_of}
 use Rattle.point_map.specs.Rows.{at}
 use Rattle.stabilizer.specs.Round as round
 use Rattle.stabilizer.specs.declared.parts.Parts.{Parts}
@@ -25,6 +24,10 @@ use Rattle.graph.specs.declared.fault.Kept.{Kept}
 use Rattle.graph.specs.declared.observer.Observer.{Observer}
 use Rattle.graph.proofs.Observing.{looked_among}
 use Rattle.graph.proofs.Seeing.{seen_as, needed_in, needed_out, cutoff_never, never_is, settled_once}
+use Rattle.stabilizer.specs.Graph.{graph_at}
+use Rattle.stabilizer.specs.Round.{graph_in}
+use Rattle.stabilizer.specs.Today.{NoBinds}
+use Rattle.stabilizer.proofs.Holding.{graph_any}
 
 -- more that was held, more is met
 met_more : (M : Functions) (G : Graph) (died : NodeId → Option NodeId) (observed : List NodeId) (held more : Point → Type 0)
@@ -49,7 +52,7 @@ comes_back points c = record {
 }
 
 -- nodes that are the same stay
-nodes_stay : (old new : Arena) → new ≡ old → GraphStays old.given new.given (graph_of old) (graph_of new)
+nodes_stay : (old new : Parts) → new.arena ≡ old.arena → GraphStays old.arena.given new.arena.given (graph_in old) (graph_in new)
 nodes_stay old new same = record {
   given = rw same (omega arith);
   clock = refl;
@@ -57,6 +60,10 @@ nodes_stay old new same = record {
   lists = λ n given. refl;
   rows = λ n given. inl (ap (λ (a : Arena). row_at a n) same);
 }
+
+-- where none of them is a bind, so does the graph
+pub graph_stays : (old new : Parts) → new.arena ≡ old.arena → NoBinds old.arena → graph_in new ≡ graph_in old
+graph_stays old new same no_binds = ap (λ (a : Arena). graph_at a new.work) same ∙ graph_any old.arena no_binds old.work new.work
 
 -- ---- what was before the round
 
@@ -131,13 +138,14 @@ module _ {F : Type 0} (M : Functions) (functions functions' : F) (old new : Part
       met = met_in M G died functions old observers rooted refused (main n) w.met;
     }
 
-    pub accepted_in : (after : Graph) → new.arena ≡ old.arena
+    pub accepted_in : (after : Graph) → new.arena ≡ old.arena → NoBinds old.arena
         → round.IsUpToDateIn M G died after old.work new.work (in_use observers) new.ran.items → StabilizesIn M G died after was now
-    accepted_in after arena right = record {
+    accepted_in after arena no_binds right = record {
       was = still;
       unbroken = still;
-      stays = nodes_stay old.arena new.arena arena;
+      stays = nodes_stay old new arena;
       nodes = arena;
+      same = graph_stays old new arena no_binds;
       observers = refl;
       rooted = are_all;
       shows = λ o n is. let s = right.sees n (n, inl (looked_among observers o.0 n is), here) in (s.0, s.1, s.2);
@@ -160,10 +168,10 @@ module _ {F : Type 0} (M : Functions) (functions functions' : F) (old new : Part
       work = λ beside observed stood. right.work beside observed (stood_in M G died functions old observers rooted refused beside observed stood);
     }
 
-  pub accepted : 0 < old.work.round → new.work.round ≡ old.work.round + 1 → new.arena ≡ old.arena → round.IsUpToDate M old new (in_use observers)
-      → Stabilizes M was now
-  accepted numbered next arena right =
-      accepted_in (left_by was now) (died_by was now) numbered next (graph now) arena right
+  pub accepted : 0 < old.work.round → new.work.round ≡ old.work.round + 1 → new.arena ≡ old.arena → NoBinds old.arena
+      → round.IsUpToDate M old new (in_use observers) → Stabilizes M was now
+  accepted numbered next arena no_binds right =
+      accepted_in (left_by was now) (died_by was now) numbered next (graph now) arena no_binds right
 
 -- ---- a refused round
 
@@ -188,15 +196,16 @@ module _ {F : Type 0} (functions : F) (parts : Parts) (observers : List Observer
 
 module _ {F : Type 0} (M : Functions) (functions functions' : F) (old new : Parts) (observers : List Observer) (rooted : ℕ) (refused : Option Refused)
     (still : refused ≡ None) where
-  pub refused_in : (met : Refused) (cause : Kept) → kept_of met ≡ cause → new.arena ≡ old.arena → new.ran ≡ old.ran
+  pub refused_in : (met : Refused) (cause : Kept) → kept_of met ≡ cause → new.arena ≡ old.arena → NoBinds old.arena → new.ran ≡ old.ran
       → ((n : NodeId) → round.cutoff_at new.work n ≡ round.cutoff_at old.work n)
       → ((n : NodeId) → round.ShowsStill M old new n)
       → round.IsLawful M old new (in_use observers) met → round.LeavesTried new.arena new.work met
       → IsRefusedFor M (seen_as functions old observers rooted refused) (seen_as functions' new observers rooted (Some met)) cause
-  refused_in met cause is arena ran cutoffs shows lawful tried = record {
+  refused_in met cause is arena no_binds ran cutoffs shows lawful tried = record {
     was = still;
-    stays = nodes_stay old.arena new.arena arena;
+    stays = nodes_stay old new arena;
     nodes = arena;
+    same = graph_stays old new arena no_binds;
     observers = refl;
     rooted = refl;
     ran = ap (λ v. v.items) ran;

@@ -42,5 +42,6 @@ sound_of functions M parts observers rooted refused fits = record {
   earlier = fits.earlier;
   nodes = fits.kept.sound;
   flat = fits.kept.today.flat;
+  no_binds = fits.kept.today.no_binds;
   whole = λ whole. let can = fits.unbroken whole in record { roots = can.roots; fit = can.ready.fit; given = can.given; shown = can.shown };
 }

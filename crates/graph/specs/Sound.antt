@@ -6,6 +6,7 @@ use Rattle.inc_terms.specs.Within.{Given}
 use Rattle.node_arena.specs.Graph.{AllCallFit, NoScopes}
 use Rattle.node_arena.specs.Sound as arena
 use Rattle.node_outcomes.specs.Meaning.{Meaning}
+use Rattle.stabilizer.specs.Today.{NoBinds}
 use Rattle.graph.specs.Standing.{Standing, shown_of, in_use, rooted_nodes, AreRooted, IsUnbroken}
 
 module _ {F : Type 0} where
@@ -17,10 +18,11 @@ module _ {F : Type 0} where
     pub given : (n : NodeId) → Among n (in_use s.observers) → Given s.nodes.given n
     pub shown : (n : NodeId) → Among n (rooted_nodes s) → IsSome (shown_of s n)
 
-  -- what every graph keeps. No node stands in a scope yet
+  -- what every graph keeps. No node stands in a scope yet, and none is a bind
   pub record IsSound (M : Meaning) (s : Standing F) : Type 0 where
     pub few : length s.observers ≤ 2 ^ 32 - 1
     pub earlier : s.rooted ≤ length s.observers
     pub nodes : arena.IsSound s.nodes
     pub flat : NoScopes s.nodes
+    pub no_binds : NoBinds s.nodes
     pub whole : IsUnbroken s → IsWhole M s

@@ -88,12 +88,14 @@ module _ {F : Type 0} where
 
     -- an accepted stabilize: each observer in use shows what its node gives, evaluated from scratch; observers stay, and of nodes what a round leaves; and
     -- what is needed, linked and called is right: need, links and last calls are those of the graph after it. The last call of a node that wasn't called
-    -- stays, but for a fold of no nodes, which keeps that it was computed on none. No node of today dies or is built, so the nodes are the same
+    -- stays, but for a fold of no nodes, which keeps that it was computed on none. No node of today dies or is built, so the nodes are the same,
+    -- and so is the graph
     pub record StabilizesIn (after : Graph) (old new : Standing F) : Type 0 where
       pub was : IsUnbroken old
       pub unbroken : IsUnbroken new
       pub stays : GraphStays old.nodes.given new.nodes.given (graph old) (graph new)
       pub nodes : new.nodes ≡ old.nodes
+      pub same : graph new ≡ graph old
       pub observers : new.observers ≡ old.observers
       pub rooted : new.rooted ≡ length new.observers
       pub shows : (o : ObsId) (n : NodeId) → node_at new.observers o ≡ Some n → (x : Outcome) × (shown_of new n ≡ Some x) × NodeGives M G n x
@@ -171,6 +173,7 @@ module _ {F : Type 0} where
     pub was : IsUnbroken old
     pub stays : GraphStays old.nodes.given new.nodes.given (graph old) (graph new)
     pub nodes : new.nodes ≡ old.nodes
+    pub same : graph new ≡ graph old
     pub observers : new.observers ≡ old.observers
     pub rooted : new.rooted ≡ old.rooted
     pub ran : new.ran ≡ old.ran

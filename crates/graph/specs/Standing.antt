@@ -11,12 +11,12 @@ use Rattle.link_table.specs.Links.{times}
 use Rattle.map_nodes.specs.declared.cutoff.Cutoff.{Cutoff}
 use Rattle.necessity.specs.Need.{root_times}
 use Rattle.node_arena.specs.Arena.{Arena}
-use Rattle.node_arena.specs.Graph.{graph_of}
 use Rattle.node_outcomes.specs.Computing.{seen}
 use Rattle.node_outcomes.specs.Row.{outcome_in, settled_in}
 use Rattle.node_outcomes.specs.declared.row.Progress.{Progress}
 use Rattle.point_map.specs.Rows.{at}
 use Rattle.stabilize_round.specs.State.{Call, count}
+use Rattle.stabilizer.specs.Graph.{graph_at}
 use Rattle.stabilizer.specs.Round.{last_call, cutoff_at}
 use Rattle.stabilizer.specs.declared.work.Work.{Work}
 use Rattle.stabilizer.specs.declared.refused.Refused.{Refused}
@@ -119,9 +119,9 @@ module _ {F : Type 0} where
   abbrev pub IsBroken : Standing F → Kept → Type 0
   IsBroken s cause = (r : Refused) × (s.refused ≡ Some r) × (kept_of r ≡ cause)
 
-  -- the nodes as a graph, whose evaluation from scratch says what is shown
+  -- the nodes as a graph, with what binds are built for. Its evaluation from scratch says what is shown
   abbrev pub graph : Standing F → Graph
-  graph s = graph_of s.nodes
+  graph s = graph_at s.nodes s.work
 
   -- the nodes of the observers in use that were there when a stabilize was accepted last
   abbrev pub rooted_nodes : Standing F → List NodeId

@@ -13,7 +13,7 @@ use Rattle.inc_terms.specs.Unfold.{IsIn, Outside}
 use Rattle.inc_terms.specs.Within.{Given, ValueWithin}
 use Rattle.node_arena.specs.Arena.{row_at}
 use Rattle.node_arena.specs.Building.{Building, Adds, Use, CallsListed, Weighs, Weighed, IsBuilt, Grows}
-use Rattle.node_arena.specs.Graph.{graph_of}
+use Rattle.node_arena.specs.Graph.{graph_of, nothing_held}
 use Rattle.node_arena.specs.Listing.{Listed, IsNamed}
 use Rattle.node_arena.specs.RightSide.{IsEmpty, SideHas, ValueHas}
 use Rattle.node_arena.specs.Typing.{Fits}
@@ -164,11 +164,11 @@ module _ (old new : Building) (id : NodeId) (def : Def) (t : Ty) (adds : Adds ol
   pub given_still : (n : NodeId) → Given old.arena.given n → Given new.arena.given n
   given_still n h = let e' = adds.given in omega (arith, h, e')
 
-  pub in_added : IsIn (graph_of new.arena) (Some new.scope) id def
+  pub in_added : IsIn (graph_of new.arena nothing_held) (Some new.scope) id def
   in_added = (record { def = def; ty = t; scope = Some old.scope }, adds.changes.changed, ap Some (sym adds.scope), refl)
 
-  pub in_still : (n : NodeId) (d : Def) → Given old.arena.given n → IsIn (graph_of old.arena) (Some old.scope) n d
-      → IsIn (graph_of new.arena) (Some new.scope) n d
+  pub in_still : (n : NodeId) (d : Def) → Given old.arena.given n → IsIn (graph_of old.arena nothing_held) (Some old.scope) n d
+      → IsIn (graph_of new.arena nothing_held) (Some new.scope) n d
   in_still n d given h = (h.0, adds.keeps n given ∙ h.1, h.2 ∙ ap Some (sym adds.scope), h.3)
 
   pub fits_added : Fits new.arena id t
@@ -176,7 +176,7 @@ module _ (old new : Building) (id : NodeId) (def : Def) (t : Ty) (adds : Adds ol
 
 -- a node that was given before, when its scope was empty, is outside of it
 pub outside_grown : (uses : List Use) (old new : Building) (k : ℕ) → Grows uses old new k → IsEmpty old.arena old.scope
-    → (n : NodeId) → Given old.arena.given n → Outside (graph_of new.arena) (Some new.scope) n
+    → (n : NodeId) → Given old.arena.given n → Outside (graph_of new.arena nothing_held) (Some new.scope) n
 outside_grown uses old new k g empty n given r is s = empty n r (sym (g.keeps n given) ∙ is) (s ∙ ap Some g.scope)
 
 -- ---- what a value names

@@ -17,7 +17,7 @@ use Rattle.inc_terms.proofs.Staying.{unfolds_stay}
 use Rattle.inc_terms.proofs.Within.{term_more, names_kept}
 use Rattle.node_arena.specs.Arena.{Arena, row_at}
 use Rattle.node_arena.specs.Building.{Building, Use, IsListed, Grows}
-use Rattle.node_arena.specs.Graph.{graph_of}
+use Rattle.node_arena.specs.Graph.{graph_of, nothing_held}
 use Rattle.node_arena.specs.Listing.{Listed, nodes_of, IsNamed}
 use Rattle.node_arena.specs.RightSide.{RightSide, AreFit, SidesHold}
 use Rattle.node_arena.specs.RightSideLaws.{SidesAreLawful, ids_of, IsFitIn, FitListsGiven, FitLasts, SidesLast, RowsLast, BuildingFits, SameRowsUnfold, NewInScope, KilledAndBuilt}
@@ -94,14 +94,14 @@ building_fits known known' right right' old new f most last hold is fit grows al
 -- ---- the same rows
 
 module _ (a : Arena) (G : Graph) (same : (n : NodeId) → G.row n ≡ row_at a n) (S : Option NodeId) (caps : List NodeId) where
-  in_same : (n : NodeId) (d : Def) → IsIn (graph_of a) S n d → IsIn G S n d
+  in_same : (n : NodeId) (d : Def) → IsIn (graph_of a nothing_held) S n d → IsIn G S n d
   in_same n d h = (h.0, same n ∙ h.1, h.2, h.3)
 
-  out_same : (n : NodeId) → Outside (graph_of a) S n → Outside G S n
+  out_same : (n : NodeId) → Outside (graph_of a nothing_held) S n → Outside G S n
   out_same n h r is = h r (sym (same n) ∙ is)
 
   mutual
-    unfolds : (t : Term) (n : NodeId) → Unfolds (graph_of a) S caps n t → Unfolds G S caps n t
+    unfolds : (t : Term) (n : NodeId) → Unfolds (graph_of a nothing_held) S caps n t → Unfolds G S caps n t
     unfolds (Const v) n h = in_same n _ h
     unfolds (Ref m) n h = (h.0, out_same n h.1)
     unfolds (Cap i) n h = (h.0, out_same n h.1)
@@ -114,7 +114,7 @@ module _ (a : Arena) (G : Graph) (same : (n : NodeId) → G.row n ≡ row_at a n
     unfolds (Steps v ss) n h = in_same n _ h
     unfolds Now n h = in_same n _ h
 
-    unfolds_all : (ts : Terms) (ns : List NodeId) → UnfoldsAll (graph_of a) S caps ns ts → UnfoldsAll G S caps ns ts
+    unfolds_all : (ts : Terms) (ns : List NodeId) → UnfoldsAll (graph_of a nothing_held) S caps ns ts → UnfoldsAll G S caps ns ts
     unfolds_all End [] h = tt
     unfolds_all End (n ∷ ns) h = absurd h
     unfolds_all (More t ts) [] h = absurd h
@@ -158,8 +158,8 @@ killed_and_built F G G' before killed built b f captures v root uses most type r
 -- ---- what was built before stays while more is built
 
 -- the graph of a sound arena names given nodes
-names_of : (a : Arena) → IsSound a → Names (Given a.given) (λ k f. Unit {0}) (graph_of a)
-names_of a sound = names_kept (Given a.given) (λ k f. Unit {0}) (graph_of a) (record {
+names_of : (a : Arena) → IsSound a → Names (Given a.given) (λ k f. Unit {0}) (graph_of a nothing_held)
+names_of a sound = names_kept (Given a.given) (λ k f. Unit {0}) (graph_of a nothing_held) (record {
   live = λ n r is. sound.given n (rw is refl);
   defs = sound.names;
   scope = sound.scopes;
@@ -169,11 +169,11 @@ names_of a sound = names_kept (Given a.given) (λ k f. Unit {0}) (graph_of a) (r
 
 pub unfolds_grown : (uses : List Use) (mid new : Building) (most : ℕ) → IsSound mid.arena → Grows uses mid new most
     → (captures : List NodeId) (n : NodeId) (t : Term) → Given mid.arena.given n
-    → Unfolds (graph_of mid.arena) (Some mid.scope) captures n t → Unfolds (graph_of new.arena) (Some new.scope) captures n t
+    → Unfolds (graph_of mid.arena nothing_held) (Some mid.scope) captures n t → Unfolds (graph_of new.arena nothing_held) (Some new.scope) captures n t
 unfolds_grown uses mid new most sound grows captures n t given h =
-    let keeps : KeepsScope (Given mid.arena.given) (graph_of mid.arena) (graph_of new.arena) (Some mid.scope) = record {
+    let keeps : KeepsScope (Given mid.arena.given) (graph_of mid.arena nothing_held) (graph_of new.arena nothing_held) (Some mid.scope) = record {
       rows = λ m r is scope. grows.keeps m (sound.given m (rw is refl)) ∙ is;
       outside = λ m g out r is. out r (sym (grows.keeps m g) ∙ is);
     } in
-    subst (λ (s : NodeId). Unfolds (graph_of new.arena) (Some s) captures n t) (sym grows.scope)
-    (unfolds_stay (Given mid.arena.given) (λ k f. Unit {0}) (graph_of mid.arena) (graph_of new.arena) (names_of mid.arena sound) (Some mid.scope) keeps captures t n given h)
+    subst (λ (s : NodeId). Unfolds (graph_of new.arena nothing_held) (Some s) captures n t) (sym grows.scope)
+    (unfolds_stay (Given mid.arena.given) (λ k f. Unit {0}) (graph_of mid.arena nothing_held) (graph_of new.arena nothing_held) (names_of mid.arena sound) (Some mid.scope) keeps captures t n given h)

@@ -2,16 +2,24 @@
 use Rattle.std.specs.Prelude.{◌≡◌, ◌≤◌, ℕ, pos, Bool, List, [], Option, None, Some, IfSome}
 use Rattle.inc_value.specs.declared.function.FnRef.{FnRef}
 use Rattle.inc_value.specs.declared.node.NodeId.{NodeId}
-use Rattle.inc_terms.specs.Graph.{Graph, Row, Def}
+use Rattle.inc_terms.specs.Graph.{Graph, Row, Built, Def}
 use Rattle.inc_terms.specs.Rebuild.{Keeping, Names}
 use Rattle.inc_terms.specs.Within.{DefWithin, Given, Fit}
 use Rattle.node_arena.specs.Arena.{Arena, row_at, Changes}
 use Rattle.node_arena.specs.Meanings.{KeepsKnown}
 use Rattle.node_arena.specs.Sound.{IsSound}
 
--- the graph of the nodes. No bind is built, the clock stands at 0, no freeze keeps a value, and no expert has a list
-abbrev pub graph_of : Arena → Graph
-graph_of a = record { row = row_at a; built = λ n. None; now = pos 0; frozen = λ n. None; lists = λ n. [] }
+-- what a graph holds beside its nodes: what each bind is built for
+pub record Holdings : Type 0 where
+  pub built : NodeId → Option Built
+
+-- no bind is built
+abbrev pub nothing_held : Holdings
+nothing_held = record { built = λ n. None }
+
+-- the graph of the nodes, with what is held beside them. The clock stands at 0, no freeze keeps a value, and no expert has a list
+abbrev pub graph_of : Arena → Holdings → Graph
+graph_of a held = record { row = row_at a; built = held.built; now = pos 0; frozen = λ n. None; lists = λ n. [] }
 
 -- each function of the definition is known and of the kind that stands there, and of so many ids each that it lists was given
 abbrev pub CallsFit : ℕ → (FnRef → Bool) → (FnRef → List NodeId) → Def → Type 0
@@ -28,11 +36,12 @@ StillFit =
     → KeepsKnown known known' → Changes old new id row → old.given ≤ new.given
     → IfSome row (λ (r : Row). CallsFit new.given known' ids r.def) → AllCallFit known ids old → AllCallFit known' ids new
 
--- a sound arena whose live nodes call known functions, which list given nodes alone, keeps enough that its graph names given nodes and such functions alone
+-- a sound arena whose live nodes call known functions, which list given nodes alone, keeps enough that its graph names given nodes and such functions alone,
+-- whatever binds are built for
 abbrev pub NamesAreGiven : Type 0
 NamesAreGiven =
-    (a : Arena) (known : FnRef → Bool) (ids : FnRef → List NodeId) → IsSound a → AllCallFit known ids a
-    → Keeping (Given a.given) (Fit a.given known ids) (graph_of a) × Names (Given a.given) (Fit a.given known ids) (graph_of a)
+    (a : Arena) (held : Holdings) (known : FnRef → Bool) (ids : FnRef → List NodeId) → IsSound a → AllCallFit known ids a
+    → Keeping (Given a.given) (Fit a.given known ids) (graph_of a held) × Names (Given a.given) (Fit a.given known ids) (graph_of a held)
 
 -- no node stands in a scope
 abbrev pub NoScopes : Arena → Type 0

@@ -20,7 +20,7 @@ use Rattle.inc_terms.specs.Unfold.{Unfolds}
 use Rattle.inc_terms.specs.Within.{Given, KnownAs, ValueWithin, TermWithin}
 use Rattle.node_arena.specs.Arena.{Arena, row_at}
 use Rattle.node_arena.specs.Building.{Building, Use, IsListed}
-use Rattle.node_arena.specs.Graph.{graph_of}
+use Rattle.node_arena.specs.Graph.{graph_of, nothing_held}
 use Rattle.node_arena.specs.Listing.{Listed, IsNamed}
 use Rattle.node_arena.specs.Typing.{Fits, HasType}
 
@@ -129,7 +129,7 @@ pub record MayBuild (b : Building) (sig : Signature) (side : RightSide) (left : 
 
 -- in the scope the node reads back as the term; it was given, and is of the type or dead
 pub record IsRoot (b : Building) (captures : List NodeId) (n : NodeId) (t : Term) (type : Ty) : Type 0 where
-  pub unfolds : Unfolds (graph_of b.arena) (Some b.scope) captures n t
+  pub unfolds : Unfolds (graph_of b.arena nothing_held) (Some b.scope) captures n t
   pub given : Given b.arena.given n
   pub fits : Fits b.arena n type
 

@@ -15,7 +15,7 @@ use Rattle.inc_terms.specs.Unfold.{Unfolds}
 use Rattle.inc_terms.specs.Within.{DefWithin, FunctionLaws, Given, KnownAs}
 use Rattle.node_arena.specs.Arena.{Arena, row_at}
 use Rattle.node_arena.specs.Building.{Building, building_in, Use, Grows}
-use Rattle.node_arena.specs.Graph.{graph_of, AllCallFit}
+use Rattle.node_arena.specs.Graph.{graph_of, nothing_held, AllCallFit}
 use Rattle.node_arena.specs.Listing.{nodes_of}
 use Rattle.node_arena.specs.Meanings.{KeepsKnown, GiveNoReference}
 use Rattle.node_arena.specs.RightSide.{RightSide, AreFit, IsRoot, SidesHold}
@@ -77,7 +77,7 @@ abbrev pub SameRowsUnfold : Type 0
 SameRowsUnfold =
     (a : Arena) (G : Graph) → ((n : NodeId) → G.row n ≡ row_at a n)
     → (S : Option NodeId) (captures : List NodeId) (n : NodeId) (t : Term)
-    → Unfolds (graph_of a) S captures n t → Unfolds G S captures n t
+    → Unfolds (graph_of a nothing_held) S captures n t → Unfolds G S captures n t
 
 -- what was not given before stands in the scope, and is given
 abbrev pub NewInScope : Type 0

@@ -7,7 +7,7 @@ ghost use Rattle.node_arena.specs.RightSideLaws.{SidesAreLawful, FitListsGiven, 
 ghost use Rattle.node_arena.specs.RightSideLaws.{SameRowsUnfold, NewInScope, KilledAndBuilt};
 
 /// A sound arena whose live nodes call known functions, which list given nodes alone, keeps enough that
-/// its graph names given nodes and such functions alone.
+/// its graph names given nodes and such functions alone, whatever binds are built for.
 pub fn names_are_given()
     ensures { NamesAreGiven }
 {}

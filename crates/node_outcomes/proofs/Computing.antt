@@ -28,7 +28,7 @@ use Rattle.inc_terms.specs.Work.{cost_of}
 use Rattle.inc_terms.specs.Local.{own, see_right}
 use Rattle.point_map.specs.Rows.{Rows, at, Holds}
 use Rattle.node_arena.specs.Arena.{Arena, row_at, NamesGiven}
-use Rattle.node_arena.specs.Graph.{graph_of, AllCallFit, CallsFit}
+use Rattle.node_arena.specs.Graph.{Holdings, graph_of, AllCallFit, CallsFit}
 use Rattle.node_arena.specs.Meanings.{HaveMapSigs}
 use Rattle.node_arena.specs.Sound.{IsSound}
 use Rattle.node_arena.specs.Typing.{Fits, Makes, MapMakes, FoldMakes, FoldTakes}
@@ -39,9 +39,10 @@ use Rattle.stabilize_round.specs.Moves.{calls_of}
 use Rattle.stabilize_round.specs.State.{Call}
 use Rattle.node_outcomes.specs.Computing.{seen, seen_of, seen_together, value_shown, ShowsValue, IsForcedBy, CallsSeen, Noted, KeepsTypes, IsOfType, LooksAtSeen, has_part}
 use Rattle.node_outcomes.specs.Computing.{ran_then, IsCalled, Calls, IsKnown, AllShow, LastWas, FoldFits, KeepsAllButCount, ComputesCall, CallComputes, Computes, NotComputed, Ends}
-use Rattle.node_outcomes.specs.Choosing.{no_graph, right_in}
+use Rattle.node_outcomes.specs.Choosing.{built_by, held_in, right_in}
 use Rattle.node_outcomes.specs.Row.{IsRewritten, with_last, value_of, value_in, outcome_in}
 use Rattle.node_outcomes.specs.declared.row.Progress.{Progress}
+use Rattle.node_outcomes.proofs.Held.{built_live, right_is}
 use Rattle.node_outcomes.proofs.Pairs.{IsPair, ShowsRight, gives_own_right, right_shows}
 
 some_is : {A : Type 0} (x : Option A) → IsSome x → (a : A) × (x ≡ Some a)
@@ -330,7 +331,7 @@ base_of_type arena (value.Bool z) t type base = record { type = record { type = 
 base_of_type arena (value.Text z) t type base = record { type = record { type = type; reference = tt }; within = tt }
 base_of_type arena (value.Node m b) t type base = absurd (subst IsBase (sym type) base)
 
-module _ (arena : Arena) (rows : Rows Progress) (kept : KeepsTypes arena rows) where
+module _ (arena : Arena) (held : Holdings) (rows : Rows Progress) (kept : KeepsTypes arena held rows) where
   -- what a node shows is of the type that it fits
   pub shown_of_type : (n : NodeId) (t : Ty) (v : Value) → Fits arena n t → ShowsValue rows n v → IsOfType arena v t
   shown_of_type n t v fits shows =
@@ -380,8 +381,14 @@ pub holds_value : (d : declared.Def) (v w : Value) → w ≡ v → (d ≡ form.C
 holds_value d v w same (inl h) = inl (ap def_of h ∙ ap Const (sym same))
 holds_value d v w same (inr h) = inr (ap def_of h ∙ ap Var (sym same))
 
-module _ (F : Functions) (arena : Arena) (round : ℕ) (old : Noted) (n : NodeId) (row : Row) (kept : KeepsTypes arena old.rows)
-    (sound : IsSound arena) (is_row : row_at arena n ≡ Some row) where
+module _ (F : Functions) (arena : Arena) (roots : Rows NodeId) (round : ℕ) (old : Noted) (n : NodeId) (row : Row)
+    (kept : KeepsTypes arena (held_in arena old.rows roots) old.rows) (sound : IsSound arena) (is_row : row_at arena n ≡ Some row) where
+  abbrev held : Holdings
+  held = held_in arena old.rows roots
+
+  abbrev G : Graph
+  G = graph_of arena held
+
   there : Holds old.rows (main n)
   there = kept.rows (main n) ∙ has_main (row_at arena n) ∙ ap is_some is_row
 
@@ -395,12 +402,12 @@ module _ (F : Functions) (arena : Arena) (round : ℕ) (old : Noted) (n : NodeId
   same_row r e = same_Some row r (sym is_row ∙ e)
 
   abbrev gives_own : Def → Option Outcome
-  gives_own d = own F (graph_of arena) (seen old.rows) n d
+  gives_own d = own F G (seen old.rows) n d
 
   -- a node none of whose functions is called
-  uncalled_computes : (o : Outcome) → taken_by (graph_of arena) n row.def ≡ None
-      → (LooksAtSeen old.rows (graph_of arena) n row.def → gives_own row.def ≡ Some o) → ((v : Value) → o ≡ Val v → IsOfType arena v row.ty)
-      → Computes F arena round old old n o
+  uncalled_computes : (o : Outcome) → taken_by G n row.def ≡ None
+      → (LooksAtSeen old.rows G n row.def → gives_own row.def ≡ Some o) → ((v : Value) → o ≡ Val v → IsOfType arena v row.ty)
+      → Computes F arena held round old old n o
   uncalled_computes o none gives typed = record {
     last = progress.last;
     called = false;
@@ -420,13 +427,13 @@ module _ (F : Functions) (arena : Arena) (round : ℕ) (old : Noted) (n : NodeId
   }
 
   -- what holds a value gives it
-  pub holder_computes : (v : Value) → (row.def ≡ Const v) ⊎ (row.def ≡ Var v) → Computes F arena round old old n (Val v)
+  pub holder_computes : (v : Value) → (row.def ≡ Const v) ⊎ (row.def ≡ Var v) → Computes F arena held round old old n (Val v)
   holder_computes v holds = uncalled_computes (Val v) (none_taken holds) (λ looks. gives holds)
       (λ w e. let value_is : v ≡ w = cc in subst (λ (x : Value). IsOfType arena x row.ty) value_is (typed holds))
     where
-      none_taken : (row.def ≡ Const v) ⊎ (row.def ≡ Var v) → taken_by (graph_of arena) n row.def ≡ None
-      none_taken (inl h) = ap (taken_by (graph_of arena) n) h
-      none_taken (inr h) = ap (taken_by (graph_of arena) n) h
+      none_taken : (row.def ≡ Const v) ⊎ (row.def ≡ Var v) → taken_by G n row.def ≡ None
+      none_taken (inl h) = ap (taken_by G n) h
+      none_taken (inr h) = ap (taken_by G n) h
 
       gives : (row.def ≡ Const v) ⊎ (row.def ≡ Var v) → gives_own row.def ≡ Some (Val v)
       gives (inl h) = ap gives_own h
@@ -453,38 +460,40 @@ module _ (F : Functions) (arena : Arena) (round : ℕ) (old : Noted) (n : NodeId
     is_changed : at old.rows (change n) ≡ Some changed
     is_changed = (some_is (at old.rows (change n)) there_change).1
 
-    chooses : (o : Outcome) → ShowsRight old.rows (right_in old.rows n (def_of d)) o
-        → ShowsRight old.rows (and_then changed.outcome (λ (c : Outcome). right_of no_graph n (def_of d) c)) o
-    chooses o shows = subst (λ (x : Option Progress). ShowsRight old.rows (and_then (outcome_in x) (λ (c : Outcome). right_of no_graph n (def_of d) c)) o)
-        is_changed shows
+    chooses : (o : Outcome) → ShowsRight old.rows (right_in old.rows roots n (def_of d)) o
+        → ShowsRight old.rows (and_then changed.outcome (λ (c : Outcome). right_of G n (def_of d) c)) o
+    chooses o shows =
+        subst (λ (x : Option Progress). ShowsRight old.rows (and_then (outcome_in x) (λ (c : Outcome). right_of G n (def_of d) c)) o) is_changed
+        (subst (λ (x : Option NodeId). ShowsRight old.rows x o) (right_is old.rows roots n G (def_of d) (built_live old.rows roots n arena row is_row
+        ∙ ap (λ (x : Def). built_by x (outcome_in (at old.rows (change n))) (at roots (change n))) is_def)) shows)
 
-    gives_right : (o : Outcome) → ShowsRight old.rows (right_in old.rows n (def_of d)) o → LooksAtSeen old.rows (graph_of arena) n (def_of d)
+    gives_right : (o : Outcome) → ShowsRight old.rows (right_in old.rows roots n (def_of d)) o → LooksAtSeen old.rows G n (def_of d)
         → gives_own (def_of d) ≡ Some o
     gives_right o shows looks =
         let changes_outcome : outcome_in (at old.rows (change n)) ≡ changed.outcome = ap outcome_in is_changed in
-        pair.gives_right F (graph_of arena) (seen old.rows) n
-        ∙ ap (λ (x : Option Outcome). with_value x (λ (v : Value). see_right (seen old.rows) (right_of (graph_of arena) n (def_of d) (Val v))))
+        pair.gives_right F G (seen old.rows) n
+        ∙ ap (λ (x : Option Outcome). with_value x (λ (v : Value). see_right (seen old.rows) (right_of G n (def_of d) (Val v))))
         (ap seen_of is_changed)
-        ∙ gives_own_right old.rows (graph_of arena) n refl d o changed.outcome (subst IsSome changes_outcome (looks.choice pair.subject))
+        ∙ gives_own_right old.rows G n (def_of d) (kept.rootless n) o changed.outcome (subst IsSome changes_outcome (looks.choice pair.subject))
         (λ m c e right. looks.right m c (changes_outcome ∙ e) right) (chooses o shows)
 
-    right_typed : (v : Value) → ShowsRight old.rows (right_in old.rows n (def_of d)) (Val v) → IsOfType arena v row.ty
+    right_typed : (v : Value) → ShowsRight old.rows (right_in old.rows roots n (def_of d)) (Val v) → IsOfType arena v row.ty
     right_typed v shows =
-        let right = right_shows old.rows (graph_of arena) n refl d v changed.outcome (chooses (Val v) shows) in
+        let right = right_shows old.rows G n (def_of d) v changed.outcome (chooses (Val v) shows) in
         let its = kept.rights n right.node row changed right.given is_row is_changed right.is_given
-        (ap (λ (x : Def). right_of (graph_of arena) n x right.given) is_def ∙ right.is_right) in
-        shown_of_type arena old.rows kept right.node row.ty v its.1 (seen_is_shown (at old.rows (main right.node)) v right.shows)
+        (ap (λ (x : Def). right_of G n x right.given) is_def ∙ right.is_right) in
+        shown_of_type arena held old.rows kept right.node row.ty v its.1 (seen_is_shown (at old.rows (main right.node)) v right.shows)
 
     -- a node of two points gives what the right side shows that its change chose
-    pub pair_computes : (o : Outcome) → ShowsRight old.rows (right_in old.rows n (def_of d)) o → Computes F arena round old old n o
-    pair_computes o shows = uncalled_computes o (ap (taken_by (graph_of arena) n) is_def ∙ pair.none_taken (graph_of arena) n)
-        (λ looks. subst (λ (x : Def). LooksAtSeen old.rows (graph_of arena) n x → gives_own x ≡ Some o) (sym is_def) (gives_right o shows) looks)
-        (λ v e. right_typed v (subst (λ (x : Outcome). ShowsRight old.rows (right_in old.rows n (def_of d)) x) e shows))
+    pub pair_computes : (o : Outcome) → ShowsRight old.rows (right_in old.rows roots n (def_of d)) o → Computes F arena held round old old n o
+    pair_computes o shows = uncalled_computes o (ap (taken_by G n) is_def ∙ pair.none_taken G n)
+        (λ looks. subst (λ (x : Def). LooksAtSeen old.rows G n x → gives_own x ≡ Some o) (sym is_def) (gives_right o shows) looks)
+        (λ v e. right_typed v (subst (λ (x : Outcome). ShowsRight old.rows (right_in old.rows roots n (def_of d)) x) e shows))
 
     -- so it ends that copies what a right side shows
-    pub pair_ends : {E : Type 0} (m : NodeId) (result : Result Outcome E) → right_in old.rows n (def_of d) ≡ Some m
+    pub pair_ends : {E : Type 0} (m : NodeId) (result : Result Outcome E) → right_in old.rows roots n (def_of d) ≡ Some m
         → IfOk result (λ (o : Outcome). (seen old.rows (main m) ≡ Some o) ⊎ ((seen old.rows (main m) ≡ None) × (o ≡ Invalid)))
-        → Ends F arena round old old n result
+        → Ends F arena held round old old n result
     pair_ends m (Ok o) is shows = pair_computes o (subst (λ (x : Option NodeId). ShowsRight old.rows x o) (sym is) shows)
     pair_ends m (Err e) is h = record { rows = λ p. refl; ran = refl; count = inl refl }
 
@@ -494,7 +503,7 @@ module _ (F : Functions) (arena : Arena) (round : ℕ) (old : Noted) (n : NodeId
 
     -- what the children of a map show has the types that its function takes
     pub map_fits : (values : List Value) → AllZip (ShowsValue old.rows) nodes values → HaveTypes values f.sig.takes
-    map_fits values shows = types_fit arena old.rows kept nodes f.sig.takes values map_makes.children shows
+    map_fits values shows = types_fit arena held old.rows kept nodes f.sig.takes values map_makes.children shows
 
     pub map_gives : f.sig.gives ≡ row.ty
     map_gives = map_makes.gives
@@ -513,7 +522,7 @@ module _ (F : Functions) (arena : Arena) (round : ℕ) (old : Noted) (n : NodeId
     -- what the children of a fold show fits it
     pub fold_fits : (values : List Value) → AllZip (ShowsValue old.rows) nodes values → FoldFits f from values
     fold_fits values shows =
-        fold_shown arena old.rows kept f from nodes row.ty f.sig.takes values refl fold_makes.takes fold_makes.gives fold_makes.initial.type shows
+        fold_shown arena held old.rows kept f from nodes row.ty f.sig.takes values refl fold_makes.takes fold_makes.gives fold_makes.initial.type shows
 
     pub fold_gives : f.sig.gives ≡ row.ty
     fold_gives = fold_makes.gives
@@ -525,9 +534,6 @@ module _ (F : Functions) (arena : Arena) (round : ℕ) (old : Noted) (n : NodeId
         subst (CallsFit arena.given known ids) is_fold (fit n row is_row) in
         (sigs f calls.0.0.0 calls.0.0.1).2
 
-  abbrev G : Graph
-  G = graph_of arena
-
   module _ (answer : List Value → Value) (t : Ty) (def : Def) (nodes : List NodeId) (cost : ℕ) (is_def : row.def ≡ def) (takes : taken_by G n def ≡ Some nodes)
       (from_answer : (values : List Value) (w : Value) → IsAnswer F def values w → w ≡ answer values)
       (own_is : gives_own def ≡ given answer (seen_together old.rows nodes)) (kids_are : kids def ≡ nodes) (cost_is : or_none (cost_of G n def) ≡ cost)
@@ -536,7 +542,7 @@ module _ (F : Functions) (arena : Arena) (round : ℕ) (old : Noted) (n : NodeId
     cost_here = sym cost_is ∙ sym (ap (λ (d : Def). or_none (cost_of G n d)) is_def) ∙ sym (ap (λ (x : Option Row). row_cost G n x) is_row)
 
     -- a live node was computed
-    call_computes : (new : Noted) (o : Outcome) → ComputesCall F answer t round old new n def nodes o cost → Computes F arena round old new n o
+    call_computes : (new : Noted) (o : Outcome) → ComputesCall F answer t round old new n def nodes o cost → Computes F arena held round old new n o
     call_computes new o m = record {
       last = m.last;
       called = m.called;
@@ -564,7 +570,7 @@ module _ (F : Functions) (arena : Arena) (round : ℕ) (old : Noted) (n : NodeId
       ]
 
     -- it wasn't
-    call_fails : (new : Noted) → KeepsAllButCount old new cost → NotComputed arena old new n
+    call_fails : (new : Noted) → KeepsAllButCount old new cost → NotComputed G old new n
     call_fails new m = record {
       rows = m.rows;
       ran = m.ran;
@@ -576,6 +582,6 @@ module _ (F : Functions) (arena : Arena) (round : ℕ) (old : Noted) (n : NodeId
 
     -- so it ends
     pub call_ends : {E : Type 0} (new : Noted) (result : Result Outcome E) → CallComputes F answer t round old new n def nodes cost result
-        → Ends F arena round old new n result
+        → Ends F arena held round old new n result
     call_ends new (Ok o) m = call_computes new o m
     call_ends new (Err e) m = call_fails new m

@@ -1,6 +1,7 @@
 pub mod Keeping
 pub mod Folding
 pub mod Rewriting
+pub mod Held
 pub mod Pairs
 pub mod Computing
 pub mod Rights

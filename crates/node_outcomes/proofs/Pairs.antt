@@ -1,56 +1,26 @@
 -- What nodes of two points read of the graph.
-use Rattle.std.proofs.Common.{◌≡◌, ◌⊎◌, inl, inr, refl, sym, ap, subst, ◌∙◌, Option, None, Some, true, false, IsSome}
+use Rattle.std.proofs.Common.{◌≡◌, ◌⊎◌, inl, inr, refl, sym, ap, subst, List, Option, None, Some, IsSome}
 use Rattle.std.specs.Prelude.{is_some}
 use Rattle.inc_value.specs.Choice.{and_then}
+use Rattle.inc_value.specs.declared.function.FnRef.{FnRef}
 use Rattle.inc_value.specs.declared.node.NodeId.{NodeId}
 use Rattle.inc_value.specs.declared.node.Point.{Point}
 use Rattle.inc_value.specs.declared.outcome.Outcome.{Outcome}
 use Rattle.inc_value.specs.declared.outcome.Outcome.TheVariants.{Val, Invalid}
 use Rattle.inc_value.specs.declared.value.Value.{Value}
-use Rattle.inc_value.specs.declared.value.Value.TheVariants as value
 use Rattle.inc_terms.specs.declared.def.Def as declared
 use Rattle.inc_terms.specs.declared.def.Def.TheVariants as form
 use Rattle.inc_terms.specs.Code.{def_of}
-use Rattle.inc_terms.specs.Depend.{main, subject_of, right_of, root_for}
+use Rattle.inc_terms.specs.Depend.{main, subject_of, right_of}
 use Rattle.inc_terms.specs.Evaluate.{with_value}
-use Rattle.inc_terms.specs.Graph.{Graph, Built, Def, If, Join}
+use Rattle.inc_terms.specs.Graph.{Graph, Built, Def, If, Join, Bind}
 use Rattle.inc_terms.specs.Local.{own, own_right, see_right}
 use Rattle.inc_terms.specs.Term.{Functions}
 use Rattle.inc_terms.specs.Work.{taken_by}
 use Rattle.point_map.specs.Rows.{Rows}
-use Rattle.node_outcomes.specs.Choosing.{no_graph}
 use Rattle.node_outcomes.specs.Computing.{seen}
 use Rattle.node_outcomes.specs.declared.row.Progress.{Progress}
-
--- where a bind isn't built no form asks the graph for its right side
-pub right_any : (G : Graph) (n : NodeId) → G.built n ≡ None → (d : declared.Def) (o : Outcome)
-    → right_of G n (def_of d) o ≡ right_of no_graph n (def_of d) o
-right_any G n built (form.Const v) o = refl
-right_any G n built (form.Var v) o = refl
-right_any G n built (form.Map f ks) o = refl
-right_any G n built (form.Fold f v ks) o = refl
-right_any G n built (form.If t a b) Invalid = refl
-right_any G n built (form.If t a b) (Val (value.Bool true)) = refl
-right_any G n built (form.If t a b) (Val (value.Bool false)) = refl
-right_any G n built (form.If t a b) (Val (value.Int z)) = refl
-right_any G n built (form.If t a b) (Val (value.Text x)) = refl
-right_any G n built (form.If t a b) (Val (value.Node m base)) = refl
-right_any G n built (form.Join k) Invalid = refl
-right_any G n built (form.Join k) (Val (value.Bool b)) = refl
-right_any G n built (form.Join k) (Val (value.Int z)) = refl
-right_any G n built (form.Join k) (Val (value.Text x)) = refl
-right_any G n built (form.Join k) (Val (value.Node m base)) = refl
-right_any G n built (form.Bind l f caps) o = ap (λ (w : Option Built). root_for w o) built
-
--- there an outcome of the subject that is Invalid chooses nothing
-invalid_chooses_none : (n : NodeId) (d : declared.Def) → right_of no_graph n (def_of d) Invalid ≡ None
-invalid_chooses_none n (form.Const v) = refl
-invalid_chooses_none n (form.Var v) = refl
-invalid_chooses_none n (form.Map f ks) = refl
-invalid_chooses_none n (form.Fold f v ks) = refl
-invalid_chooses_none n (form.If t a b) = refl
-invalid_chooses_none n (form.Join k) = refl
-invalid_chooses_none n (form.Bind l f caps) = refl
+use Rattle.node_outcomes.proofs.Held.{invalid_chooses_none}
 
 -- a node of two points gives what its right side shows, and no function of it is called
 pub record IsPair (def : Def) : Type 0 where
@@ -64,9 +34,14 @@ if_is_pair t a b = record { subject = refl; none_taken = λ G n. refl; gives_rig
 pub join_is_pair : (k : NodeId) → IsPair (Join k)
 join_is_pair k = record { subject = refl; none_taken = λ G n. refl; gives_right = λ F G see n. refl }
 
-pub pair_of : (d : declared.Def) → ((t a b : NodeId) × (d ≡ form.If t a b)) ⊎ ((k : NodeId) × (d ≡ form.Join k)) → IsPair (def_of d)
+pub bind_is_pair : (l : NodeId) (f : FnRef) (caps : List NodeId) → IsPair (Bind l f caps)
+bind_is_pair l f caps = record { subject = refl; none_taken = λ G n. refl; gives_right = λ F G see n. refl }
+
+pub pair_of : (d : declared.Def) → ((t a b : NodeId) × (d ≡ form.If t a b)) ⊎ ((k : NodeId) × (d ≡ form.Join k))
+    ⊎ ((l : NodeId) × (f : FnRef) × (caps : List NodeId) × (d ≡ form.Bind l f caps)) → IsPair (def_of d)
 pair_of d (inl h) = subst IsPair (sym (ap def_of h.3)) (if_is_pair h.0 h.1 h.2)
-pair_of d (inr h) = subst IsPair (sym (ap def_of h.1)) (join_is_pair h.0)
+pair_of d (inr (inl h)) = subst IsPair (sym (ap def_of h.1)) (join_is_pair h.0)
+pair_of d (inr (inr h)) = subst IsPair (sym (ap def_of h.3)) (bind_is_pair h.0 h.1 h.2)
 
 -- ---- what a right side shows
 
@@ -83,18 +58,17 @@ sees_right rows (Some m) o is_seen (inl e) = e
 sees_right rows (Some m) o is_seen (inr h) = absurd (let some = is_seen m refl in let none = ap is_some h.0 in cc)
 
 -- so it is the own function's outcome
-pub gives_own_right : (rows : Rows Progress) (G : Graph) (n : NodeId) → G.built n ≡ None → (d : declared.Def) (o : Outcome) (choice : Option Outcome)
-    → IsSome choice
-    → ((m : NodeId) (c : Outcome) → choice ≡ Some c → right_of G n (def_of d) c ≡ Some m → IsSome (seen rows (main m)))
-    → ShowsRight rows (and_then choice (λ (c : Outcome). right_of no_graph n (def_of d) c)) o
-    → with_value choice (λ (v : Value). see_right (seen rows) (right_of G n (def_of d) (Val v))) ≡ Some o
-gives_own_right rows G n built d o None some is_seen shows = cc
-gives_own_right rows G n built d o (Some Invalid) some is_seen shows =
-    let none : o ≡ Invalid = subst (λ (x : Option NodeId). ShowsRight rows x o) (invalid_chooses_none n d) shows in
+pub gives_own_right : (rows : Rows Progress) (G : Graph) (n : NodeId) (def : Def)
+    → ((w : Built) → G.built n ≡ Some w → w.outcome ≡ Invalid → w.root ≡ None) → (o : Outcome) (choice : Option Outcome) → IsSome choice
+    → ((m : NodeId) (c : Outcome) → choice ≡ Some c → right_of G n def c ≡ Some m → IsSome (seen rows (main m)))
+    → ShowsRight rows (and_then choice (λ (c : Outcome). right_of G n def c)) o
+    → with_value choice (λ (v : Value). see_right (seen rows) (right_of G n def (Val v))) ≡ Some o
+gives_own_right rows G n def rootless o None some is_seen shows = cc
+gives_own_right rows G n def rootless o (Some Invalid) some is_seen shows =
+    let none : o ≡ Invalid = subst (λ (x : Option NodeId). ShowsRight rows x o) (invalid_chooses_none G n def rootless) shows in
     ap Some (sym none)
-gives_own_right rows G n built d o (Some (Val v)) some is_seen shows =
-    sees_right rows (right_of G n (def_of d) (Val v)) o (λ m e. is_seen m (Val v) refl e)
-    (subst (λ (x : Option NodeId). ShowsRight rows x o) (sym (right_any G n built d (Val v))) shows)
+gives_own_right rows G n def rootless o (Some (Val v)) some is_seen shows =
+    sees_right rows (right_of G n def (Val v)) o (λ m e. is_seen m (Val v) refl e) shows
 
 -- a value that a right side shows
 pub record RightShows (rows : Rows Progress) (choice : Option Outcome) (G : Graph) (n : NodeId) (def : Def) (v : Value) : Type 0 where
@@ -111,9 +85,9 @@ value_of_right rows None v shows = cc
 value_of_right rows (Some m) v (inl e) = (m, refl, e)
 value_of_right rows (Some m) v (inr h) = absurd (let e = h.1 in cc)
 
-pub right_shows : (rows : Rows Progress) (G : Graph) (n : NodeId) → G.built n ≡ None → (d : declared.Def) (v : Value) (choice : Option Outcome)
-    → ShowsRight rows (and_then choice (λ (c : Outcome). right_of no_graph n (def_of d) c)) (Val v) → RightShows rows choice G n (def_of d) v
-right_shows rows G n built d v None shows = cc
-right_shows rows G n built d v (Some c) shows =
-    let m = value_of_right rows (right_of no_graph n (def_of d) c) v shows in
-    record { given = c; node = m.0; is_given = refl; is_right = right_any G n built d c ∙ m.1; shows = m.2 }
+pub right_shows : (rows : Rows Progress) (G : Graph) (n : NodeId) (def : Def) (v : Value) (choice : Option Outcome)
+    → ShowsRight rows (and_then choice (λ (c : Outcome). right_of G n def c)) (Val v) → RightShows rows choice G n def v
+right_shows rows G n def v None shows = cc
+right_shows rows G n def v (Some c) shows =
+    let m = value_of_right rows (right_of G n def c) v shows in
+    record { given = c; node = m.0; is_given = refl; is_right = m.1; shows = m.2 }

@@ -1,17 +1,38 @@
--- The right side that a node's change chose.
-use Rattle.std.specs.Prelude.{pos, [], Option, None}
+-- What binds are built for, and the right side that a node's change chose.
+use Rattle.std.specs.Prelude.{pos, [], Option, None, Some}
 use Rattle.inc_value.specs.Choice.{and_then}
 use Rattle.inc_value.specs.declared.node.NodeId.{NodeId}
+use Rattle.inc_value.specs.declared.outcome.Outcome.{Outcome}
 use Rattle.inc_terms.specs.Depend.{change, right_of}
-use Rattle.inc_terms.specs.Graph.{Graph, Def}
+use Rattle.inc_terms.specs.Graph.{Graph, Row, Built, Def, Bind}
 use Rattle.point_map.specs.Rows.{Rows, at}
+use Rattle.node_arena.specs.Arena.{Arena, row_at}
+use Rattle.node_arena.specs.Graph.{Holdings}
 use Rattle.node_outcomes.specs.Row.{outcome_in}
 use Rattle.node_outcomes.specs.declared.row.Progress.{Progress}
 
--- a graph without nodes
-abbrev pub no_graph : Graph
-no_graph = record { row = λ n. None; built = λ n. None; now = pos 0; frozen = λ n. None; lists = λ n. [] }
+-- what a node so defined is built for: a bind for the outcome of its left with which its change ran last, with this root; a bind whose change never ran,
+-- and what is no bind, for none
+abbrev pub built_by : Def → Option Outcome → Option NodeId → Option Built
+built_by (Bind left function captures) (Some o) root = Some (record { outcome = o; root = root })
+built_by def o root = None
 
--- the right side of a node that its change's outcome chose, where no bind is built: then no form asks the graph for it
-abbrev pub right_in : Rows Progress → NodeId → Def → Option NodeId
-right_in rows n def = and_then (outcome_in (at rows (change n))) (λ o. right_of no_graph n def o)
+-- so it is of a node that has the row, if it has one
+abbrev pub built_in : Option Row → Option Outcome → Option NodeId → Option Built
+built_in row o root = and_then row (λ (r : Row). built_by r.def o root)
+
+-- what the graph of an arena holds, by what is kept of points and by the roots of binds, each of which stands by its bind's change
+abbrev pub held_in : Arena → Rows Progress → Rows NodeId → Holdings
+held_in a rows roots = record { built = λ n. built_in (row_at a n) (outcome_in (at rows (change n))) (at roots (change n)) }
+
+-- a graph without nodes, in which each id is built so
+abbrev pub built_alone : Option Built → Graph
+built_alone built = record { row = λ n. None; built = λ n. built; now = pos 0; frozen = λ n. None; lists = λ n. [] }
+
+-- the right side of a node so defined that was chosen, by what its change's row keeps and by its root
+abbrev pub right_by : Def → NodeId → Option Outcome → Option NodeId → Option NodeId
+right_by def n o root = and_then o (λ (c : Outcome). right_of (built_alone (built_by def o root)) n def c)
+
+-- the right side of a node so defined that its change's outcome chose: a bind's is its root
+abbrev pub right_in : Rows Progress → Rows NodeId → NodeId → Def → Option NodeId
+right_in rows roots n def = right_by def n (outcome_in (at rows (change n))) (at roots (change n))

@@ -14,13 +14,13 @@ use Rattle.inc_value.specs.declared.outcome.Outcome.TheVariants.{Invalid}
 use Rattle.inc_value.specs.declared.value.Value.{Value}
 use Rattle.inc_terms.specs.Depend.{main, change, subject_of, right_of}
 use Rattle.inc_terms.specs.Evaluate.{Gathered, Unknown, Values, gathered, given}
-use Rattle.inc_terms.specs.Graph.{Graph, Row, Def, kids}
+use Rattle.inc_terms.specs.Graph.{Graph, Row, Built, Def, kids}
 use Rattle.inc_terms.specs.Local.{by_sight, own}
 use Rattle.inc_terms.specs.Term.{Functions, refs}
 use Rattle.inc_terms.specs.Within.{Given, ValueWithin}
 use Rattle.point_map.specs.Rows.{Rows, at}
 use Rattle.node_arena.specs.Arena.{Arena, row_at}
-use Rattle.node_arena.specs.Graph.{graph_of}
+use Rattle.node_arena.specs.Graph.{Holdings, graph_of}
 use Rattle.node_arena.specs.Typing.{Fits, HasType}
 use Rattle.inc_terms.specs.Work.{taken_by}
 use Rattle.stabilize_round.specs.Calling.{IsAnswer, cost_at}
@@ -55,9 +55,9 @@ abbrev pub seen_together : Rows Progress → List NodeId → Gathered
 seen_together rows nodes = gathered (by_sight (seen rows)) (refs nodes)
 
 -- what is kept of calls is what the functions give
-abbrev pub KeepsAnswers : Functions → Arena → Rows Progress → Type 0
-KeepsAnswers F arena rows =
-    (n : NodeId) (r : Row) (nodes : List NodeId) (k : Progress) (c : Call) → row_at arena n ≡ Some r → taken_by (graph_of arena) n r.def ≡ Some nodes
+abbrev pub KeepsAnswers : Functions → Graph → Rows Progress → Type 0
+KeepsAnswers F G rows =
+    (n : NodeId) (r : Row) (nodes : List NodeId) (k : Progress) (c : Call) → G.row n ≡ Some r → taken_by G n r.def ≡ Some nodes
     → at rows (main n) ≡ Some k → k.last ≡ Some c → IsAnswer F r.def c.arguments c.result
 
 -- one of the nodes has cutoff Never and was settled in the round, as a test
@@ -90,15 +90,14 @@ pub record LooksAtSeen (rows : Rows Progress) (G : Graph) (n : NodeId) (def : De
   pub right : (m : NodeId) (o : Outcome) → outcome_in (at rows (change n)) ≡ Some o → right_of G n def o ≡ Some m → IsSome (seen rows (main m))
 
 -- a live node was computed: its outcome is its own function of what is seen, where something is seen of all that it looks at
-pub record IsComputed (F : Functions) (arena : Arena) (round : ℕ) (rows : Rows Progress) (n : NodeId) (o : Outcome)
+pub record IsComputed (F : Functions) (G : Graph) (round : ℕ) (rows : Rows Progress) (n : NodeId) (o : Outcome)
     (last' : Option Call) (called : Bool) : Type 0 where
   pub row : Row
-  pub is_row : row_at arena n ≡ Some row
+  pub is_row : G.row n ≡ Some row
   pub kept : Progress
   pub is_kept : at rows (main n) ≡ Some kept
-  pub calls : CallsSeen F (graph_of arena) n round rows row.def kept.last last' called
-  pub own : KeepsAnswers F arena rows → LooksAtSeen rows (graph_of arena) n row.def
-      → own F (graph_of arena) (seen rows) n row.def ≡ Some o
+  pub calls : CallsSeen F G n round rows row.def kept.last last' called
+  pub own : KeepsAnswers F G rows → LooksAtSeen rows G n row.def → own F G (seen rows) n row.def ≡ Some o
 
 -- a live node whose function is called on its children's values
 pub record IsCallerAt (G : Graph) (n : NodeId) : Type 0 where
@@ -127,13 +126,15 @@ pub record IsOfType (a : Arena) (v : Value) (t : Ty) : Type 0 where
   pub type : HasType a v t
   pub within : ValueWithin (Given a.given) v
 
--- the points of live nodes are what has rows; outcomes and results of calls have their nodes' types, and so have right sides
-pub record KeepsTypes (arena : Arena) (kept : Rows Progress) : Type 0 where
+-- the points of live nodes are what has rows; outcomes and results of calls have their nodes' types, and so have right sides; a bind that is built for
+-- Invalid has no root
+pub record KeepsTypes (arena : Arena) (held : Holdings) (kept : Rows Progress) : Type 0 where
   pub rows : (p : Point) → is_some (at kept p) ≡ has_part (row_at arena p.node) p.part
   pub outcomes : (n : NodeId) (r : Row) (k : Progress) (v : Value) → row_at arena n ≡ Some r → at kept (main n) ≡ Some k
       → k.outcome ≡ Some (Val v) → IsOfType arena v r.ty
   pub rights : (n m : NodeId) (r : Row) (k : Progress) (o : Outcome) → row_at arena n ≡ Some r → at kept (change n) ≡ Some k
-      → k.outcome ≡ Some o → right_of (graph_of arena) n r.def o ≡ Some m → Given arena.given m × Fits arena m r.ty
+      → k.outcome ≡ Some o → right_of (graph_of arena held) n r.def o ≡ Some m → Given arena.given m × Fits arena m r.ty
+  pub rootless : (n : NodeId) (w : Built) → held.built n ≡ Some w → w.outcome ≡ Invalid → w.root ≡ None
   pub calls : (n : NodeId) (r : Row) (k : Progress) (c : Call) → row_at arena n ≡ Some r → at kept (main n) ≡ Some k
       → k.last ≡ Some c → IsOfType arena c.result r.ty
 
@@ -143,31 +144,31 @@ ran_then zero ran n = ran
 ran_then (suc k) ran n = ran ++ n ∷ []
 
 -- a live node was computed: what its function was last called on is kept, the node is listed where a call was made, and the count of calls rose so
-pub record Computes (F : Functions) (arena : Arena) (round : ℕ) (old new : Noted) (n : NodeId) (o : Outcome) : Type 0 where
+pub record Computes (F : Functions) (arena : Arena) (held : Holdings) (round : ℕ) (old new : Noted) (n : NodeId) (o : Outcome) : Type 0 where
   pub last : Option Call
   pub called : Bool
-  pub computed : IsComputed F arena round old.rows n o last called
+  pub computed : IsComputed F (graph_of arena held) round old.rows n o last called
   pub row : IsRewritten old.rows new.rows (main n) (with_last last)
-  pub ran : new.ran ≡ ran_then (calls_of called (cost_at (graph_of arena) n)) old.ran n
-  pub count : RoseBy old.calls (calls_of called (cost_at (graph_of arena) n)) new.calls
+  pub ran : new.ran ≡ ran_then (calls_of called (cost_at (graph_of arena held) n)) old.ran n
+  pub count : RoseBy old.calls (calls_of called (cost_at (graph_of arena held) n)) new.calls
   pub typed : (r : Row) (v : Value) → row_at arena n ≡ Some r → o ≡ Val v → IsOfType arena v r.ty
   pub answer_typed : (r : Row) (c : Call) → row_at arena n ≡ Some r → last ≡ Some c → IsOfType arena c.result r.ty
 
 -- calls of a node's function, some of those that it takes
-pub record HasCalledSome (arena : Arena) (n : NodeId) (before after : ℕ) : Type 0 where
-  pub caller : IsCallerAt (graph_of arena) n
-  pub count : RoseAtMost before (cost_at (graph_of arena) n) after
+pub record HasCalledSome (G : Graph) (n : NodeId) (before after : ℕ) : Type 0 where
+  pub caller : IsCallerAt G n
+  pub count : RoseAtMost before (cost_at G n) after
 
 -- without memory nothing is kept of it; some of the calls that it takes may have been made
-pub record NotComputed (arena : Arena) (old new : Noted) (n : NodeId) : Type 0 where
+pub record NotComputed (G : Graph) (old new : Noted) (n : NodeId) : Type 0 where
   pub rows : KeepsRows old.rows new.rows
   pub ran : new.ran ≡ old.ran
-  pub count : (new.calls ≡ old.calls) ⊎ HasCalledSome arena n old.calls new.calls
+  pub count : (new.calls ≡ old.calls) ⊎ HasCalledSome G n old.calls new.calls
 
 -- how computing a node ends: it is computed, or there was no memory
-abbrev pub Ends : Functions → Arena → ℕ → Noted → Noted → NodeId → {E : Type 0} → Result Outcome E → Type 0
-Ends F arena round old new n (Ok o) = Computes F arena round old new n o
-Ends F arena round old new n (Err e) = NotComputed arena old new n
+abbrev pub Ends : Functions → Arena → Holdings → ℕ → Noted → Noted → NodeId → {E : Type 0} → Result Outcome E → Type 0
+Ends F arena held round old new n (Ok o) = Computes F arena held round old new n o
+Ends F arena held round old new n (Err e) = NotComputed (graph_of arena held) old new n
 
 -- ---- the parts of it
 

@@ -1,5 +1,4 @@
 pub mod Meaning
-pub mod Today
 pub mod LastCall
 pub mod Row
 pub mod Choosing

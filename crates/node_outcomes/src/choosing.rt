@@ -11,12 +11,27 @@ use inc_terms::Def;
 use inc_value::{NodeId, Outcome};
 use point_map::PointMap;
 
-/// The right side of a node that is so defined: the one that its change's outcome chooses, if it ran and chose one.
-pub fn right_side(rows: &PointMap<Progress>, node: NodeId, def: &Def) -> Option<NodeId>
-    ensures { result ≡ right_in rows.now node (def_of def.now) }
+/// The right side of a node that is so defined: the one that its change's outcome chooses, if it ran and chose one. A
+/// bind's is its root, which stands among the roots by its change.
+pub fn right_side(
+    rows: &PointMap<Progress>,
+    roots: &PointMap<NodeId>,
+    node: NodeId,
+    def: &Def,
+) -> Option<NodeId>
+    ensures { result ≡ right_in rows.now roots.now node (def_of def.now) }
 {
-    let row = rows.get(change_point(node))?;
-    def.right_side(row.outcome.as_ref()?)
+    let own = change_point(node);
+    let given = rows.get(own)?.outcome.as_ref()?;
+    match def {
+        Def::Bind { .. } => roots.get(own).copied(),
+        Def::Const(_)
+        | Def::Var(_)
+        | Def::Map(_, _)
+        | Def::Fold(_, _, _)
+        | Def::If { .. }
+        | Def::Join(_) => def.right_side(given),
+    }
 }
 
 /// Whether a node's change ran last with this outcome of its subject.

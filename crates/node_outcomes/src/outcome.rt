@@ -10,10 +10,10 @@ ghost use Rattle.node_arena.specs.Arena.{IsLive};
 ghost use Rattle.node_arena.specs.Graph.{AllCallFit};
 ghost use Rattle.node_arena.specs.RightSideLaws.{ids_of};
 ghost use Rattle.node_arena.specs.Sound.{IsSound};
+ghost use Rattle.node_outcomes.specs.Choosing.{held_in};
 ghost use Rattle.node_outcomes.specs.Computing.{CallComputes, Ends, IsKnown, KeepsTypes};
 ghost use Rattle.node_outcomes.specs.Computing.{FoldFits, ShowsValue, noted};
 ghost use Rattle.node_outcomes.specs.Meaning.{functions_of, KeepsFunctions};
-ghost use Rattle.node_outcomes.specs.Today.{NoBinds};
 
 use crate::call::{call_fold, call_map};
 use crate::choosing::right_side;
@@ -27,25 +27,25 @@ use std::alloc::{AllocError, Global};
 
 /// What a node gives. A map's or a fold's function is called unless it was last called on the same
 /// values of its children, none of which has cutoff Never and was settled in this round. A node of two
-/// points gives what the right side shows that its change chose, and Invalid where it chose none. No node is
-/// a bind.
+/// points gives what the right side shows that its change chose, and Invalid where it chose none; a bind's is
+/// its root, which stands among the roots by its change.
 pub fn compute<F: Functions>(
     alloc: Global,
     arena: &Arena,
     rows: &mut PointMap<Progress>,
+    roots: &PointMap<NodeId>,
     ran: &mut Vec<NodeId>,
     round: u64,
     functions: &mut F,
     node: NodeId,
 ) -> Result<Outcome, AllocError>
-    requires types { KeepsTypes arena.now rows.old }
+    requires types { KeepsTypes arena.now (held_in arena.now rows.old roots.now) rows.old }
     requires live { IsLive arena.now node }
     requires sound { F.is_sound functions.old }
     requires fit { AllCallFit (F.known functions.old) (ids_of (F.right functions.old)) arena.now }
     requires arena { IsSound arena.now }
-    requires no_binds { NoBinds arena.now }
-    ensures computed { Ends (functions_of F.Functions functions.old) arena.now round
-        (noted rows.old ran.old.items (F.calls functions.old))
+    ensures computed { Ends (functions_of F.Functions functions.old) arena.now
+        (held_in arena.now rows.old roots.now) round (noted rows.old ran.old.items (F.calls functions.old))
         (noted rows.new ran.new.items (F.calls functions.new)) node result }
     ensures functions { KeepsFunctions F.Functions functions.old functions.new }
 {
@@ -69,11 +69,12 @@ pub fn compute<F: Functions>(
             initial,
             kids.as_slice(),
         ),
-        Def::If { .. } | Def::Join(_) => match right_side(rows, node, &row.def) {
-            Some(target) => shown(alloc, rows, target),
-            None => Ok(Outcome::Invalid),
-        },
-        Def::Bind { .. } => unreachable!(),
+        Def::If { .. } | Def::Join(_) | Def::Bind { .. } => {
+            match right_side(rows, roots, node, &row.def) {
+                Some(target) => shown(alloc, rows, target),
+                None => Ok(Outcome::Invalid),
+            }
+        }
     }
 }
 

@@ -15,7 +15,7 @@ use Rattle.inc_terms.specs.Unfold.{IsIn, Outside, Unfolds, UnfoldsAll}
 use Rattle.inc_terms.specs.Within.{Given, ValueWithin}
 use Rattle.node_arena.specs.Arena.{Arena, row_at, NamesGiven}
 use Rattle.node_arena.specs.Building.{Building, Use, Grows}
-use Rattle.node_arena.specs.Graph.{graph_of}
+use Rattle.node_arena.specs.Graph.{graph_of, nothing_held}
 use Rattle.node_arena.specs.Listing.{Listed}
 use Rattle.node_arena.specs.RightSide.{AreTaken, IsRoot, MayBuild, ReferenceHas, ValueHas}
 use Rattle.node_arena.specs.Typing as typing
@@ -76,7 +76,7 @@ module _ (body : spec.Body) (start : Building) (left : Value) (captures : List N
   given_before : (n : NodeId) → Given start.arena.given n → Given b.arena.given n
   given_before n h = let le = grows.later in omega (arith, h, le)
 
-  outside : (n : NodeId) → Given start.arena.given n → Outside (graph_of b.arena) (Some b.scope) n
+  outside : (n : NodeId) → Given start.arena.given n → Outside (graph_of b.arena nothing_held) (Some b.scope) n
   outside n h = outside_grown uses start b taken grows ready.empty n h
 
   fits_before : (n : NodeId) (t : Ty) → Given start.arena.given n → Fits start.arena n t → Fits b.arena n t
@@ -122,14 +122,14 @@ module _ (body : spec.Body) (start : Building) (left : Value) (captures : List N
   a_type (Some t) h = (t, refl)
 
   there_reads : (p : parts.Part) → IsSome (T p)
-      → Unfolds (graph_of b.arena) (Some b.scope) captures (node p) (term_of listed terms p)
+      → Unfolds (graph_of b.arena nothing_held) (Some b.scope) captures (node p) (term_of listed terms p)
   there_reads p h = let t = a_type (T p) h in (part_is p t.0 t.1).unfolds
 
   there_given : (p : parts.Part) → IsSome (T p) → Given b.arena.given (node p)
   there_given p h = let t = a_type (T p) h in (part_is p t.0 t.1).given
 
   all_read : (ps : List parts.Part) → Every (λ p. IsSome (T p)) ps
-      → UnfoldsAll (graph_of b.arena) (Some b.scope) captures (map node ps) (terms_of listed terms ps)
+      → UnfoldsAll (graph_of b.arena nothing_held) (Some b.scope) captures (map node ps) (terms_of listed terms ps)
   all_read [] h = tt
   all_read (p ∷ ps) h = (there_reads p h.0, all_read ps h.1)
 
@@ -149,8 +149,8 @@ module _ (body : spec.Body) (start : Building) (left : Value) (captures : List N
 
   -- a node that is the line's reads back as its term
   pub line_reads : (id : NodeId) (x : lines.Line) → Every (λ p. IsSome (T p)) (parts_of x)
-      → IsIn (graph_of b.arena) (Some b.scope) id (filled listed captures made x)
-      → Unfolds (graph_of b.arena) (Some b.scope) captures id (line_term listed terms x)
+      → IsIn (graph_of b.arena nothing_held) (Some b.scope) id (filled listed captures made x)
+      → Unfolds (graph_of b.arena nothing_held) (Some b.scope) captures id (line_term listed terms x)
   line_reads id (Const v) h is = is
   line_reads id (Map f ps) h is = (map node ps, is, all_read ps h)
   line_reads id (Fold f v ps) h is = (map node ps, is, all_read ps h)

@@ -10,7 +10,7 @@ use Rattle.inc_terms.specs.Term.{Term}
 use Rattle.inc_terms.specs.Unfold.{Unfolds}
 use Rattle.inc_terms.specs.Within.{Given}
 use Rattle.node_arena.specs.Building.{Building, Adds, Use, Grows}
-use Rattle.node_arena.specs.Graph.{graph_of}
+use Rattle.node_arena.specs.Graph.{graph_of, nothing_held}
 use Rattle.node_arena.specs.Sound.{IsSound}
 use Rattle.node_arena.specs.Typing.{Fits}
 use Rattle.script_functions.specs.Bodies.{Body, captured, line_types, all_terms, size_of}
@@ -20,7 +20,7 @@ use Rattle.script_functions.specs.declared.line.TypedLine.{TypedLine}
 -- a node that was given and reads back as the term
 pub record Reads (b : Building) (captures : List NodeId) (n : NodeId) (t : Term) : Type 0 where
   pub given : Given b.arena.given n
-  pub unfolds : Unfolds (graph_of b.arena) (Some b.scope) captures n t
+  pub unfolds : Unfolds (graph_of b.arena nothing_held) (Some b.scope) captures n t
 
 -- the nodes that were made read back as the terms, and are of the types or dead
 pub record AreMade (b : Building) (captures made : List NodeId) (terms : List Term) (types : List Ty) : Type 0 where

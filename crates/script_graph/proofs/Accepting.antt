@@ -12,11 +12,11 @@ use Rattle.inc_terms.specs.Term.{Functions}
 use Rattle.inc_terms.specs.Within.{Given}
 use Rattle.node_outcomes.specs.Meaning.{Meaning}
 use Rattle.graph.specs.Sound.{IsSound, IsWhole}
-use Rattle.graph.proofs.Still.{Stabilizes as GraphStabilizes, IsObserved}
-use Rattle.graph.specs.Standing.{Standing, graph, in_use, node_at, AreRooted}
+use Rattle.graph.proofs.Still.{nodes_alone, Stabilizes as GraphStabilizes, IsObserved}
+use Rattle.graph.specs.Standing.{Standing, in_use, node_at, AreRooted}
 use Rattle.graph.specs.declared.observer.Observer.{Observer as Looking}
 use Rattle.node_arena.specs.Arena.{Arena, row_at}
-use Rattle.node_arena.specs.Graph.{graph_of, NoScopes}
+use Rattle.node_arena.specs.Graph.{graph_of, nothing_held, NoScopes}
 use Rattle.stabilize_round.specs.Calling.{costs_of}
 use Rattle.stabilize_round.specs.Counts.{RoseBy}
 use Rattle.formula_elab.specs.Today.{IsLaidOut, IsLaidOutBody}
@@ -90,7 +90,7 @@ module _ (named : List ℕ → Option FnRef) (value : FnRef → List GraphValue 
     (g : Standing (Unit {0})) (called calls : ℕ) (stands : Stands (meanings_of named value) k m) (unbroken : m.broken ≡ None)
     (sound : IsSound W k.graph)
     (done : GraphStabilizes (graph_functions (meanings_of named value)) k.graph g)
-    (rose : RoseBy called (costs_of (graph k.graph) g.ran) calls) where
+    (rose : RoseBy called (costs_of (nodes_alone k.graph) g.ran) calls) where
   abbrev F : Meanings
   F = meanings_of named value
 
@@ -135,7 +135,7 @@ module _ (named : List ℕ → Option FnRef) (value : FnRef → List GraphValue 
 
   -- ---- what is needed
 
-  exact : (p : Point) → IsObserved M k.graph p → Exact M (graph_of nodes_now) (shown_at g) p
+  exact : (p : Point) → IsObserved M k.graph p → Exact M (graph_of nodes_now nothing_held) (shown_at g) p
   exact = needed_is_right M k.graph g no_scopes
       (λ n l r f caps need row def. no_bind_needed x fits stands.matches.represents.today.plain grabs observed
       (watched_roots_are F s k stands.matches.represents.today.plain stands.matches.watches) n l r f caps need row def) done
@@ -151,10 +151,10 @@ module _ (named : List ℕ → Option FnRef) (value : FnRef → List GraphValue 
 
   -- ---- calls
 
-  due : WithinWork F before s (costs_of (graph_of nodes_now) ran)
-  due = due_is_covered named value W m k stands unbroken sound whole (costs_of (graph_of nodes_now) ran)
+  due : WithinWork F before s (costs_of (graph_of nodes_now nothing_held) ran)
+  due = due_is_covered named value W m k stands unbroken sound whole (costs_of (graph_of nodes_now nothing_held) ran)
       (done.work (side_of k.graph) (observed_by k.graph) (stood named value W m k stands unbroken sound whole)
-      (observed_among named value W m k stands unbroken sound whole) (costs_of (graph_of nodes_now) ran) (omega arith))
+      (observed_among named value W m k stands unbroken sound whole) (costs_of (graph_of nodes_now nothing_held) ran) (omega arith))
 
   -- ---- observers
 
@@ -232,7 +232,7 @@ module _ (named : List ℕ → Option FnRef) (value : FnRef → List GraphValue 
       rows = λ n r u is def. is;
     };
     links = λ p q held link.
-        subst (λ (a : Arena). Depends M (graph_of a) none_died p q) (sym done.nodes) ((done.links p q (held_needed g rooted p held)).0 link);
+        subst (λ (a : Arena). Depends M (graph_of a nothing_held) none_died p q) (sym done.nodes) ((done.links p q (held_needed g rooted p held)).0 link);
     ran = recalled;
     watched = λ z among is. observed_root then z among;
     today = record { plain = represented.today.plain; equal = λ n. done.cutoff n ∙ (stands.matches.settled unbroken).today.equal n };
@@ -273,7 +273,7 @@ module _ (named : List ℕ → Option FnRef) (value : FnRef → List GraphValue 
       accepted = refl;
     }) refl refl refl;
     today = refl;
-    work = costs_of (graph_of nodes_now) ran;
+    work = costs_of (graph_of nodes_now nothing_held) ran;
     due = due;
     within = rose.most;
     matches = matches_then;
@@ -286,7 +286,7 @@ module _ {A : Type 0} where
   pub session_accepted : (named : List ℕ → Option FnRef) (value : FnRef → List GraphValue → GraphValue) (W : Meaning) (k : Kept)
       (old new : Standing A) (called calls : ℕ) → k.graph ≡ without_functions old → k.broken ≡ None
       → IsSound W old → GraphStabilizes (maps_alone (seen_value value)) old new
-      → RoseBy called (costs_of (graph old) new.ran) calls → (m : Moment) → Stands (meanings_of named value) k m
+      → RoseBy called (costs_of (nodes_alone old) new.ran) calls → (m : Moment) → Stands (meanings_of named value) k m
       → IsAccepted (meanings_of named value) m (record k { accepted = k.accepted + 1; graph = without_functions new }) called calls
   session_accepted named value W k old new called calls same unbroken sound done rose m stands =
       accepted_stands named value W m k (without_functions new) called calls stands (stands.matches.broken ∙ unbroken)
@@ -294,4 +294,4 @@ module _ {A : Type 0} where
       (subst (λ (h : Standing (Unit {0})). GraphStabilizes (graph_functions (meanings_of named value)) h (without_functions new)) (sym same)
       (subst (λ (M : Functions). GraphStabilizes M (without_functions old) (without_functions new)) (sym (functions_are named value))
       (stabilizes_without (maps_alone (seen_value value)) old new done)))
-      (subst (λ (h : Standing (Unit {0})). RoseBy called (costs_of (graph h) new.ran) calls) (sym same) rose)
+      (subst (λ (h : Standing (Unit {0})). RoseBy called (costs_of (nodes_alone h) new.ran) calls) (sym same) rose)

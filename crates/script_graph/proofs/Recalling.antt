@@ -13,8 +13,8 @@ use Rattle.inc_terms.specs.Graph.{Graph, Row, Def, Map, Fold, Bind, Freeze, Expe
 use Rattle.inc_terms.specs.Local.{PartExact, Exact, IsBuilt, shown_of as shown_as}
 use Rattle.inc_terms.specs.Term.{Functions}
 use Rattle.inc_terms.specs.Work.{cost_of, predicate_cost, predicate_kids}
-use Rattle.graph.specs.Standing.{Standing, graph, in_use, shown_of, chosen_by, called_last}
-use Rattle.graph.proofs.Still.{Stabilizes, IsObserved}
+use Rattle.graph.specs.Standing.{Standing, in_use, shown_of, chosen_by, called_last}
+use Rattle.graph.proofs.Still.{nodes_alone, Stabilizes, IsObserved}
 use Rattle.node_arena.specs.Arena.{Arena, row_at}
 use Rattle.node_arena.specs.Graph.{NoScopes}
 use Rattle.script_model.specs.Formula.{State, Meanings}
@@ -51,17 +51,17 @@ module _ {A : Type 0} (M : Functions) (old new : Standing A) (no_scopes : NoScop
     → r.def ≡ Bind l f caps → ⊥)
     (done : Stabilizes M old new) where
   part_right : (n : NodeId) (part : Part) → IsObserved M old (record { node = n; part = part }) → (r : Row)
-      → row_at old.nodes n ≡ Some r → PartExact M (graph old) (shown_at new) n r.def part
+      → row_at old.nodes n ≡ Some r → PartExact M (nodes_alone old) (shown_at new) n r.def part
   part_right n Main need r row = let s = done.sees n need in (s.0, ap (λ (x : Option Row). shown_as x (shown_of new n)) row ∙ s.1, s.2)
   part_right n Change need r row = λ k is.
       let c = done.chose n k r row is need in
-      (c.0, c.1, c.2, built_of M (graph old) n r.def c.0 (λ l f caps def. no_binds n l r f caps need row def))
+      (c.0, c.1, c.2, built_of M (nodes_alone old) n r.def c.0 (λ l f caps def. no_binds n l r f caps need row def))
 
-  stands : (S : Option NodeId) → S ≡ None → Stands M (graph old) S
+  stands : (S : Option NodeId) → S ≡ None → Stands M (nodes_alone old) S
   unfolding answer
   stands S none = (1, rw none refl)
 
-  pub needed_is_right : (p : Point) → IsObserved M old p → Exact M (graph old) (shown_at new) p
+  pub needed_is_right : (p : Point) → IsObserved M old p → Exact M (nodes_alone old) (shown_at new) p
   needed_is_right p need r row = (stands r.scope (no_scopes p.node r row), part_right p.node p.part need r row)
 
 -- ---- what calls
@@ -99,12 +99,12 @@ pub record IsRecalled {A : Type 0} (x : Both) (arena : Arena) (g : Standing A) (
 
 module _ {A : Type 0} (F : Meanings) (s : State) (nodes : List NodeId) (old new : Standing A) (fits : Fits (besides F s nodes old.nodes))
     (grabs : GrabsBind s) (have : RootsHave (besides F s nodes old.nodes) (in_use old.observers))
-    (exact : (p : Point) → IsObserved (graph_functions F) old p → Exact (graph_functions F) (graph old) (shown_at new) p)
+    (exact : (p : Point) → IsObserved (graph_functions F) old p → Exact (graph_functions F) (nodes_alone old) (shown_at new) p)
     (done : Stabilizes (graph_functions F) old new) where
   pub visit_is_recalled : (v : Visit) → IsVisit F s v → Needed F s v.item → IsRecalled (besides F s nodes old.nodes) old.nodes new v
   visit_is_recalled v is need =
       let h = visits_have_nodes (besides F s nodes old.nodes) fits grabs (in_use old.observers) have (shown_at new) exact v is need in
-      let m = called_on (graph_functions F) (graph old) h.0 (map (graph_value (node_in nodes)) v.values) v.cost h.3.row.def h.3.values h.3.cost in
+      let m = called_on (graph_functions F) (nodes_alone old) h.0 (map (graph_value (node_in nodes)) v.values) v.cost h.3.row.def h.3.values h.3.cost in
       let c = done.recalls h.0 h.3.row m.kids (map (graph_value (node_in nodes)) v.values) ((done.needs (main h.0)).1 h.2) h.3.is_row m.takes
       m.give in
       record { node = h.0; is_node = h.1; row = h.3.row; is_row = h.3.is_row; call = c.0; is_last = c.1; values_are = c.2 }

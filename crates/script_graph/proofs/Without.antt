@@ -9,8 +9,8 @@ use Rattle.inc_terms.specs.Term.{Functions}
 use Rattle.node_outcomes.specs.Meaning.{Meaning}
 use Rattle.graph.specs.Sound.{IsWhole, IsSound}
 use Rattle.graph.specs.Stabilizes.{StoodBeside, AllButLast, IsTried, LeavesTried}
-use Rattle.graph.proofs.Still.{IsMet, WasCalled, Stabilizes, IsListed, IsLawful, HasCalledMet, IsRefusedFor}
-use Rattle.graph.specs.Standing.{Standing, graph, in_use, IsNeeded}
+use Rattle.graph.proofs.Still.{nodes_alone, IsMet, WasCalled, Stabilizes, IsListed, IsLawful, HasCalledMet, IsRefusedFor}
+use Rattle.graph.specs.Standing.{Standing, in_use, IsNeeded}
 use Rattle.graph.specs.declared.fault.Kept.{Kept}
 use Rattle.script_graph.specs.Kept.{without_functions}
 use Rattle.stabilizer.specs.declared.refused.Refused.{Refused}
@@ -56,7 +56,7 @@ module _ {A : Type 0} where
 
   module _ (M : Functions) where
     met_without : (s : Standing A) (p : Point) → IsMet M s p → IsMet M (without_functions s) p
-    met_without s p met = met_more M (graph s) none_died (in_use s.observers) (IsNeeded s) (IsNeeded (without_functions s)) (needed_without s) p met
+    met_without s p met = met_more M (nodes_alone s) none_died (in_use s.observers) (IsNeeded s) (IsNeeded (without_functions s)) (needed_without s) p met
 
     -- ---- an accepted stabilize
 
@@ -81,6 +81,7 @@ module _ {A : Type 0} where
       unbroken = done.unbroken;
       stays = done.stays;
       nodes = done.nodes;
+      same = done.same;
       observers = done.observers;
       rooted = done.rooted;
       shows = done.shows;
@@ -141,6 +142,7 @@ module _ {A : Type 0} where
     was = done.was;
     stays = done.stays;
     nodes = done.nodes;
+    same = done.same;
     observers = done.observers;
     rooted = done.rooted;
     ran = done.ran;

@@ -7,7 +7,7 @@ use Rattle.inc_terms.specs.Graph.{Row}
 use Rattle.inc_terms.specs.Term.{Functions}
 use Rattle.graph.specs.Standing.{Standing, node_at, shown_of}
 use Rattle.node_arena.specs.Arena.{Arena, row_at}
-use Rattle.node_arena.specs.Graph.{graph_of}
+use Rattle.node_arena.specs.Graph.{graph_of, nothing_held}
 use Rattle.script_model.specs.Check.{Names, names_of, is_among, target_of_body}
 use Rattle.script_model.specs.Formula.{Body, Entry, State, Observer, Meanings, body_at, entry_at, places_of}
 use Rattle.script_model.specs.Need.{Item}
@@ -29,7 +29,7 @@ besides F s nodes a = record {
   meanings = F;
   state = s;
   functions = graph_functions F;
-  graph = graph_of a;
+  graph = graph_of a nothing_held;
   nodes = node_in nodes;
   died = none_died;
 }

@@ -10,7 +10,7 @@ use Rattle.formula_elab.specs.Today.{IsLaidOut, AreLaidOut, IsLaidOutBody}
 use Rattle.graph.specs.Standing.{cutoff_of}
 use Rattle.map_nodes.specs.declared.cutoff.Cutoff.TheVariants.{Equal}
 use Rattle.node_arena.specs.Arena.{Arena, IsLive}
-use Rattle.node_arena.specs.Graph.{graph_of}
+use Rattle.node_arena.specs.Graph.{graph_of, nothing_held}
 use Rattle.node_arena.specs.RightSide.{no_side}
 use Rattle.node_arena.specs.RightSideLaws.{meaning}
 use Rattle.script_model.specs.Check.{Declared, Grab}
@@ -181,7 +181,7 @@ pub record IsPartWithin (nodes : List NodeId) (owner : ℕ) (n : NodeId) : Type 
 pub record IsTodaysScript (s : State) (k : Kept) : Type 0 where
   pub plain : AllPlain s
   pub aged : (n : ℕ) (b : Body) → body_at s n ≡ Some b
-      → OwnNodesOf (graph_of (arena_of k)) (IsWithin k.nodes n) (IsPartWithin k.nodes n) (node_in k.nodes n) b
+      → OwnNodesOf (graph_of (arena_of k) nothing_held) (IsWithin k.nodes n) (IsPartWithin k.nodes n) (node_in k.nodes n) b
 
 -- the state was of today's forms as the last accepted stabilize left it, and each node has cutoff Equal
 pub record WasTodays (before : State) (k : Kept) : Type 0 where

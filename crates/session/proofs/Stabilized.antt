@@ -2,8 +2,9 @@
 use Rattle.std.proofs.Common.{◌≡◌, Bool, ℕ, ◌+◌, ◌≤◌, ◌^◌, List, [], ◌∷◌, ◌++◌, arith, Option, None, Some, IsSome, Result, Err, IsErrOf, IsTrue, refl, ap, sym, subst, ◌∙◌}
 use Rattle.graph.specs.Fault.{kept_of}
 use Rattle.graph.specs.Stabilizes.{Stabilizes, IsRefusedFor, HasCalledMet, left_by}
+use Rattle.inc_terms.specs.Graph.{Graph}
 use Rattle.graph.proofs.Still as still
-use Rattle.graph.proofs.Still.{still_stabilizes, still_refused, still_called, from_graphs}
+use Rattle.graph.proofs.Still.{nodes_alone, is_alone, still_stabilizes, still_refused, still_called, from_graphs}
 use Rattle.graph.specs.Standing.{Standing, graph, IsUnbroken, node_at}
 use Rattle.graph.specs.declared.fault.Kept.{Kept as Cause}
 use Rattle.graph.specs.declared.fault.Kept.TheVariants as cause
@@ -19,7 +20,7 @@ use Rattle.inc_value.specs.declared.function.FnRef.{FnRef}
 use Rattle.inc_value.specs.declared.node.NodeId.{NodeId}
 use Rattle.inc_value.specs.declared.node.Point.{Point}
 use Rattle.node_arena.specs.Arena.{Arena, live}
-use Rattle.node_arena.specs.Graph.{graph_of}
+use Rattle.stabilizer.specs.Today.{NoBinds}
 use Rattle.node_arena.specs.RightSide.{RightSide, no_side}
 use Rattle.node_arena.specs.RightSideLaws.{meaning}
 use Rattle.stabilize_round.specs.Calling.{costs_of}
@@ -137,7 +138,8 @@ alone : (value : FnRef → List GraphValue → GraphValue) (bodies : List Body) 
 alone value [] none = ap (λ (r : FnRef → RightSide). meaning (seen_value value) r) (fun_ext (λ f. none_made f.id.kind))
 alone value (b ∷ bs) none = absurd (omega (arith, none))
 
-module _ {A : Type 0} (value : FnRef → List GraphValue → GraphValue) (bodies : List Body) (none : HasNoBodies bodies) (old new : Standing A) where
+module _ {A : Type 0} (value : FnRef → List GraphValue → GraphValue) (bodies : List Body) (none : HasNoBodies bodies) (old new : Standing A)
+    (no_binds : NoBinds old.nodes) where
   abbrev kept_functions : Functions
   kept_functions = meaning (seen_value value) (side_in (makers bodies))
 
@@ -145,18 +147,18 @@ module _ {A : Type 0} (value : FnRef → List GraphValue → GraphValue) (bodies
   its_functions = maps_alone (seen_value value)
 
   pub alone_stabilizes : Stabilizes kept_functions old new → still.Stabilizes its_functions old new
-  alone_stabilizes done = still_stabilizes its_functions old new (subst (λ (F : Functions). Stabilizes F old new) (alone value bodies none) done)
+  alone_stabilizes done = still_stabilizes its_functions old new no_binds (subst (λ (F : Functions). Stabilizes F old new) (alone value bodies none) done)
 
   pub alone_refused : (why : Cause) → IsRefusedFor kept_functions old new why → still.IsRefusedFor its_functions old new why
-  alone_refused why done = still_refused its_functions old new why (subst (λ (F : Functions). IsRefusedFor F old new why) (alone value bodies none) done)
+  alone_refused why done = still_refused its_functions old new no_binds why (subst (λ (F : Functions). IsRefusedFor F old new why) (alone value bodies none) done)
 
-  pub alone_called : new.nodes ≡ old.nodes → (before after : ℕ) → HasCalledMet kept_functions old new before after
+  pub alone_called : graph new ≡ graph old → (before after : ℕ) → HasCalledMet kept_functions old new before after
       → still.HasCalledMet its_functions old before after
-  alone_called nodes before after few = still_called its_functions old new nodes before after
+  alone_called same before after few = still_called its_functions old new no_binds same before after
       (subst (λ (F : Functions). HasCalledMet F old new before after) (alone value bodies none) few)
 
 -- what was called in it
-pub costs_still : {A : Type 0} (old new : Standing A) → new.nodes ≡ old.nodes → (ran : List NodeId) (before after : ℕ)
-    → RoseBy before (costs_of (left_by old new) ran) after → RoseBy before (costs_of (graph old) ran) after
-costs_still old new nodes ran before after rose =
-    from_graphs (λ G died later. RoseBy before (costs_of G ran) after) (graph old) (graph new) (ap graph_of nodes) rose
+pub costs_still : {A : Type 0} (old new : Standing A) → NoBinds old.nodes → graph new ≡ graph old → (ran : List NodeId) (before after : ℕ)
+    → RoseBy before (costs_of (left_by old new) ran) after → RoseBy before (costs_of (nodes_alone old) ran) after
+costs_still old new no_binds same ran before after rose = subst (λ (G : Graph). RoseBy before (costs_of G ran) after) (is_alone old no_binds)
+    (from_graphs (λ G died later. RoseBy before (costs_of G ran) after) (graph old) (graph new) same rose)

@@ -29,6 +29,9 @@ use Rattle.stabilizer.proofs.Between.{same_some, need_same, row_of}
 use Rattle.stabilizer.proofs.Linking.{some_or_none}
 use Rattle.stabilizer.proofs.Placing.{unsettled, at_node, has_parts, one_for_all, came_and_went, pair_stays, pair_listed}
 use Rattle.stabilizer.proofs.Typing.{KeepsTypes, typed_still, right_still}
+use Rattle.stabilizer.proofs.Holding.{held_rows, built_same, right_as, unran_unbuilt}
+use Rattle.stabilizer.specs.Graph.{held_at}
+use Rattle.node_arena.specs.Graph.{Holdings}
 
 -- what is there is of another node than a new one
 pub other_node : (arena : Arena) (work : Work) (id : NodeId) → IsKept arena work → id.gen_ ≡ arena.given → (p : Point) → Holds work.graph.heights p
@@ -93,6 +96,16 @@ module _ (before arena : Arena) (old work : Work) (id : NodeId) (row : Row) (hei
   more : before.given ≤ arena.given
   more = omega (arith, given)
 
+  never_ran : (n : NodeId) → n ≡ id → out_of work (change n) ≡ None
+  never_ran n same = elim (some_or_none (at work.rows (change n))) [
+    | inl k ↦ ap outcome_in k.1 ∙ sym (ap (λ (x : Progress). x.outcome) (is_unsettled (change n) k.0 same k.1))
+    | inr none ↦ ap outcome_in none
+  ]
+
+  -- another node is built as it was
+  built_as : (n : NodeId) → n ≢ id → (held_at arena work).built n ≡ (held_at before old).built n
+  built_as n ne = built_same before arena old work n (added.others n ne) (rows.others (change n) ne) round.roots
+
   pub added_kept : IsKept arena work
   added_kept = record {
     step = step;
@@ -133,7 +146,12 @@ module _ (before arena : Arena) (old work : Work) (id : NodeId) (row : Row) (hei
     rights = λ n m r k o e is shows right. elim (node_or_other n id) [
       | inl same ↦ absurd (none-some _ (ap (λ (x : Progress). x.outcome) (is_unsettled (change n) k same is) ∙ shows))
       | inr ne ↦ right_still before arena more types m r.ty
-          (kept.rights n m r k o (row_was n r ne e) (sym (rows.others (change n) ne) ∙ is) shows right)
+          (kept.rights n m r k o (row_was n r ne e) (sym (rows.others (change n) ne) ∙ is) shows
+          (right_as before arena old work n m r.def o (built_as n ne) right))
+    ];
+    rootless = λ n w is. elim (node_or_other n id) [
+      | inl same ↦ absurd (none-some w (sym (unran_unbuilt arena work n (never_ran n same)) ∙ is))
+      | inr ne ↦ kept.rootless n w (sym (built_as n ne) ∙ is)
     ];
     calls = λ n r k c e is last. elim (node_or_other n id) [
       | inl same ↦ absurd (none-some _ (ap (λ (x : Progress). x.last) (is_unsettled (main n) k same is) ∙ last))
@@ -156,12 +174,6 @@ module _ (before arena : Arena) (old work : Work) (id : NodeId) (row : Row) (hei
 
   needed_other : (p : Point) → Needed work.graph p → p.node ≢ id
   needed_other p n = other_node before old id kept gen p (kept.step.there p (need_before p n))
-
-  never_ran : (n : NodeId) → n ≡ id → out_of work (change n) ≡ None
-  never_ran n same = elim (some_or_none (at work.rows (change n))) [
-    | inl k ↦ ap outcome_in k.1 ∙ sym (ap (λ (x : Progress). x.outcome) (is_unsettled (change n) k.0 same k.1))
-    | inr none ↦ ap outcome_in none
-  ]
 
   pub added_stays : Stays before arena old work
   added_stays = record {
@@ -202,7 +214,9 @@ module _ (arena : Arena) (old work : Work) (kept : IsKept arena old) (same : Kee
     sound = kept.sound;
     today = kept.today;
     outcomes = λ n r k v e is shows. kept.outcomes n r k v e (sym (same.rows (main n)) ∙ is) shows;
-    rights = λ n m r k o e is shows right. kept.rights n m r k o e (sym (same.rows (change n)) ∙ is) shows right;
+    rights = λ n m r k o e is shows right. kept.rights n m r k o e (sym (same.rows (change n)) ∙ is) shows
+        (right_as arena arena old work n m r.def o (ap (λ (h : Holdings). h.built n) (held_rows arena old work same.rows same.round.roots)) right);
+    rootless = λ n w is. kept.rootless n w (subst (λ (h : Holdings). h.built n ≡ Some w) (held_rows arena old work same.rows same.round.roots) is);
     calls = λ n r k c e is last. kept.calls n r k c e (sym (same.rows (main n)) ∙ is) last;
     rounds = λ p k e. rw same.round.round (kept.rounds p k (sym (same.rows p) ∙ e));
     pairs = λ n r e some. pairs n (live_given arena old kept n r e) (kept.pairs n r e some);
@@ -239,5 +253,5 @@ module _ (arena : Arena) (old mid : Work) (id : NodeId) (rows : Part → Option 
     roots = roots' ∙ roots;
     heap = λ p. ap (λ (h : Rows ℕ). at h p) heap' ∙ heap p;
     todo = todo' ∙ todo;
-    round = record { ran = round'.ran ∙ round.ran; strict = round'.strict ∙ round.strict; round = round'.round ∙ round.round };
+    round = record { roots = round'.roots ∙ round.roots; ran = round'.ran ∙ round.ran; strict = round'.strict ∙ round.strict; round = round'.round ∙ round.round };
   }

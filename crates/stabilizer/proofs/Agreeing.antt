@@ -1,4 +1,4 @@
--- What a live node's points are linked to, look at and agree with, in two arenas in which its row is the same.
+-- What a live node's points are linked to, look at and agree with, in two arenas in which its row is the same, and in which it is built alike.
 use Rattle.std.proofs.Common.{◌≡◌, inl, ℕ, ◌==◌, Bool, true, false, if◌then◌else◌, slice_index_or, List, [], ◌++◌, map, Option, None, Some, refl, sym, ap, subst, ◌∙◌}
 use Rattle.std.specs.Prelude.{is_some, IsSome}
 use Rattle.std.proofs.lemmas.Option.{none-some}
@@ -26,9 +26,10 @@ use Rattle.inc_terms.proofs.Seeing.{gathered_same, own_same, looks}
 use Rattle.node_arena.specs.declared.arena.Entry.{Entry}
 use Rattle.node_arena.specs.Arena as nodes
 use Rattle.node_arena.specs.Arena.{Arena, row_at}
-use Rattle.node_arena.specs.Graph.{graph_of}
+use Rattle.node_arena.specs.Graph.{Holdings, graph_of}
 use Rattle.stabilize_round.specs.Invariant.{Recalls}
 use Rattle.stabilize_round.specs.State.{Call}
+use Rattle.stabilizer.specs.Today.{IsNoBind}
 
 same_some : {A : Type 0} {x y : A} → ◌≡◌ {A = Option A} (Some x) (Some y) → x ≡ y
 same_some e = cc
@@ -56,23 +57,23 @@ reads_change G n def some = by_subject (subject_of def) some
 
 -- ---- links
 
-module _ (before arena : Arena) (out out' : Point → Option Outcome) (p : Point) (r : Row)
-    (own : p.part ≡ Main → IsSome (subject_of r.def) → out' (change p.node) ≡ out (change p.node)) where
+module _ (before arena : Arena) (held held' : Holdings) (out out' : Point → Option Outcome) (p : Point) (r : Row)
+    (same : held'.built p.node ≡ held.built p.node) (own : p.part ≡ Main → IsSome (subject_of r.def) → out' (change p.node) ≡ out (change p.node)) where
   targets_by : p.part ≡ Main → (x : Option NodeId) → subject_of r.def ≡ x
-      → targets (graph_of arena) p.node r.def (out' (change p.node)) ≡ targets (graph_of before) p.node r.def (out (change p.node))
+      → targets (graph_of arena held') p.node r.def (out' (change p.node)) ≡ targets (graph_of before held) p.node r.def (out (change p.node))
   targets_by is None e =
-      no_target (graph_of arena) p.node r.def e (out' (change p.node)) ∙ sym (no_target (graph_of before) p.node r.def e (out (change p.node)))
+      no_target (graph_of arena held') p.node r.def e (out' (change p.node)) ∙ sym (no_target (graph_of before held) p.node r.def e (out (change p.node)))
   targets_by is (Some m) e =
-      ap (λ (x : Option Outcome). targets (graph_of arena) p.node r.def x) (own is (ap is_some e))
-      ∙ same_targets (graph_of before) (graph_of arena) p.node r.def (out (change p.node)) refl
+      ap (λ (x : Option Outcome). targets (graph_of arena held') p.node r.def x) (own is (ap is_some e))
+      ∙ same_targets (graph_of before held) (graph_of arena held') p.node r.def (out (change p.node)) same
 
   looks_by : (part : Part) → p.part ≡ part
-      → fixed_reads (graph_of arena) p.node r.def part ++ right_links (graph_of arena) out' p.node r.def part
-      ≡ fixed_reads (graph_of before) p.node r.def part ++ right_links (graph_of before) out p.node r.def part
+      → fixed_reads (graph_of arena held') p.node r.def part ++ right_links (graph_of arena held') out' p.node r.def part
+      ≡ fixed_reads (graph_of before held) p.node r.def part ++ right_links (graph_of before held) out p.node r.def part
   looks_by Change is = refl
-  looks_by Main is = ap (λ (xs : List Point). fixed_reads (graph_of before) p.node r.def Main ++ xs) (targets_by is (subject_of r.def) refl)
+  looks_by Main is = ap (λ (xs : List Point). fixed_reads (graph_of before held) p.node r.def Main ++ xs) (targets_by is (subject_of r.def) refl)
 
-  pub plan_same : plan (graph_of arena) out' p r ≡ plan (graph_of before) out p r
+  pub plan_same : plan (graph_of arena held') out' p r ≡ plan (graph_of before held) out p r
   plan_same = ap (λ (xs : List Point). gate_of r.scope ++ xs) (looks_by p.part refl)
 
 -- a point of a node without children and without a subject has no links but its gate's
@@ -100,11 +101,11 @@ pub code_row : (a : Arena) (n : NodeId) (r : Row) → row_at a n ≡ Some r → 
 code_row a n r e = by_entry n.gen_ r (slice_index_or a.slots n.slot None) e
 
 -- what a node's function is called on its main reads
-taken_read : (a : Arena) (n : NodeId) (ns : List NodeId) (d : declared.Def) → taken_by (graph_of a) n (def_of d) ≡ Some ns
-    → fixed_reads (graph_of a) n (def_of d) Main ≡ map main ns
-taken_read a n ns (form.Map g ks) e = ap (map main) (same_some e)
-taken_read a n ns (form.Fold g v ks) e = ap (map main) (same_some e)
-taken_read a n ns _ e = absurd (cc)
+taken_read : (G : Graph) (n : NodeId) (ns : List NodeId) (d : declared.Def) → taken_by G n (def_of d) ≡ Some ns
+    → fixed_reads G n (def_of d) Main ≡ map main ns
+taken_read G n ns (form.Map g ks) e = ap (map main) (same_some e)
+taken_read G n ns (form.Fold g v ks) e = ap (map main) (same_some e)
+taken_read G n ns _ e = absurd (cc)
 
 -- the code has no freezes yet
 pub no_freeze : (a : Arena) (n : NodeId) (r : Row) (kid : NodeId) (f : FnRef) → row_at a n ≡ Some r → r.def ≡ graph.Freeze kid f → ⊥
@@ -119,21 +120,22 @@ pub one_point_built : (F : Functions) (G : Graph) (n : NodeId) (def : Def) (o : 
 one_point_built F G n (graph.Bind l f caps) o one = absurd (none-some l (sym one))
 one_point_built F G n _ o one = tt
 
--- no bind is built of an arena's nodes, so what is built for an outcome in one is so in any other
-pub built_still : (F : Functions) (a a' : Arena) (n : NodeId) (def : Def) (o : Outcome) → IsBuilt F (graph_of a) n def o → IsBuilt F (graph_of a') n def o
-built_still F a a' n (graph.Bind l f caps) o h = absurd (none-some h.0 h.1)
-built_still F a a' n _ o h = tt
+-- what is no bind needn't be built
+pub unbound_built : (F : Functions) (G : Graph) (n : NodeId) (def : Def) (o : Outcome) → IsNoBind def → IsBuilt F G n def o
+unbound_built F G n (graph.Bind l f caps) o unbound = absurd (unbound l f caps refl)
+unbound_built F G n _ o unbound = tt
 
 -- ---- agreement
 
-module _ (F : Functions) (before arena : Arena) (out out' : Point → Option Outcome) (p : Point) (r : Row)
+module _ (F : Functions) (before arena : Arena) (held held' : Holdings) (out out' : Point → Option Outcome) (p : Point) (r : Row)
     (row : row_at before p.node ≡ Some r) (row' : row_at arena p.node ≡ Some r) (here : out' p ≡ out p)
-    (looked : (q : Point) → Among q (looks (graph_of before) out p r) → shown (graph_of arena) out' q ≡ shown (graph_of before) out q) where
+    (same_built : held'.built p.node ≡ held.built p.node) (unbound : IsNoBind r.def)
+    (looked : (q : Point) → Among q (looks (graph_of before held) out p r) → shown (graph_of arena held') out' q ≡ shown (graph_of before held) out q) where
   abbrev G : Graph
-  G = graph_of before
+  G = graph_of before held
 
   abbrev G' : Graph
-  G' = graph_of arena
+  G' = graph_of arena held'
 
   read : (q : Point) → Among q (fixed_reads G p.node r.def p.part) → shown G' out' q ≡ shown G out q
   read q a = looked q (among_left q (fixed_reads G p.node r.def p.part) _ a)
@@ -144,7 +146,7 @@ module _ (F : Functions) (before arena : Arena) (out out' : Point → Option Out
       let same = own_same F G (shown G out) (shown G' out') p.node r.def (λ q a. read q (rw is a))
       (λ q a. looked q (among_right q (fixed_reads G p.node r.def p.part) _ (rw is (rw at_change at a)))) in
       let mine : main p.node ≡ p = λ i. record { node = p.node; part = is' i } in
-      (o.0, rw (mine, here, ← mine) o.1, own_crosses G G' p.node F (shown G' out') refl refl refl refl r.def ∙ (same ∙ o.2))
+      (o.0, rw (mine, here, ← mine) o.1, own_crosses G G' p.node F (shown G' out') refl refl refl same_built r.def ∙ (same ∙ o.2))
     where
       is' : Main ≡ p.part
       is' = sym is
@@ -152,7 +154,7 @@ module _ (F : Functions) (before arena : Arena) (out out' : Point → Option Out
       let x = o s sub in
       let mine : change p.node ≡ p = λ i. record { node = p.node; part = is' i } in
       let seen = read (main s) (rw (is, sub) (inl refl)) in
-      (x.0, rw (mine, here, ← mine) x.1, seen ∙ x.2, built_still F before arena p.node r.def x.0 x.3)
+      (x.0, rw (mine, here, ← mine) x.1, seen ∙ x.2, unbound_built F G' p.node r.def x.0 unbound)
     where
       is' : Change ≡ p.part
       is' = sym is
@@ -171,7 +173,7 @@ module _ (F : Functions) (before arena : Arena) (out out' : Point → Option Out
       let reads : fixed_reads G p.node r.def p.part ≡ map main kids =
       ap (λ (x : Part). fixed_reads G p.node r.def x) part
       ∙ (ap (λ (x : Def). fixed_reads G p.node x Main) d.1
-      ∙ taken_read before p.node kids d.0 (sym (ap (taken_by G p.node) d.1) ∙ takes')) in
+      ∙ taken_read G p.node kids d.0 (sym (ap (taken_by G p.node) d.1) ∙ takes')) in
       let c = recalls r kids values row part takes'
       (sym (gathered_same F G (shown G out) (shown G' out') kids (λ q a. read q (subst (Among q) (sym reads) a))) ∙ values_are) in
       (c.0, lasts part ∙ c.1, c.2)

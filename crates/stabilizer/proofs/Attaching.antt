@@ -7,17 +7,14 @@ use Rattle.inc_value.specs.declared.node.Part.TheVariants.{Change}
 use Rattle.inc_value.specs.declared.node.Point.{Point}
 use Rattle.inc_value.specs.declared.outcome.Outcome.{Outcome}
 use Rattle.inc_value.specs.Choice.{here, step, Among, Reaches, and_then}
-use Rattle.inc_terms.specs.declared.def.Def as declared
-use Rattle.inc_terms.specs.Code.{def_of}
 use Rattle.inc_terms.specs.Depend.{main, change, subject_of, right_of, at_most_one, kids_of}
-use Rattle.inc_terms.specs.Graph.{Graph, Row, Def}
+use Rattle.inc_terms.specs.Graph.{Graph, Row}
 use Rattle.inc_terms.specs.Plan.{targets}
 use Rattle.inc_terms.specs.Term.{Functions}
 use Rattle.inc_terms.specs.Within.{Given}
 use Rattle.point_map.specs.Rows.{Rows, at, Holds}
 use Rattle.necessary_graph.specs.Part.{Needed}
 use Rattle.node_arena.specs.Arena.{Arena, row_at}
-use Rattle.node_arena.specs.Graph.{graph_of}
 use Rattle.stabilize_round.specs.Invariant.{Invariant}
 use Rattle.stabilize_round.specs.Machine as move
 use Rattle.stabilize_round.specs.State as machine
@@ -31,8 +28,7 @@ use Rattle.node_outcomes.specs.Computing.{has_part}
 use Rattle.stabilizer.specs.Kept.{IsKept}
 use Rattle.node_outcomes.specs.Row.{IsRewritten, with_stage, settled_in, stage_in, stage_of, outcome_in}
 use Rattle.stabilizer.specs.Stands.{Stands, hand}
-use Rattle.node_outcomes.specs.Choosing.{right_in, no_graph}
-use Rattle.node_outcomes.proofs.Pairs.{right_any}
+use Rattle.node_outcomes.specs.Choosing.{right_by, right_in}
 use Rattle.stabilizer.specs.Turning.{IsWaiting}
 use Rattle.stabilizer.specs.Wiring.{KeepsRound, IsDue, IsTurnedIn, Attaches, AttachRefused, Connects, LosesNeed, ConnectRefused, AreUnlinked}
 use Rattle.stabilizer.specs.declared.refused.Refused.{Refused}
@@ -42,14 +38,9 @@ use Rattle.node_outcomes.specs.declared.row.Stage.TheVariants as code
 use Rattle.stabilizer.specs.declared.work.Work.{Work}
 use Rattle.stabilizer.proofs.Linking.{some_or_none}
 use Rattle.stabilizer.proofs.Raising.{nothing, wired_before, wired_after, staged_kept, staged_row, up_wiring, up_stands, leaves_hand, no_links, own_alone}
-use Rattle.stabilizer.proofs.Sight.{code_def}
 use Rattle.stabilizer.proofs.Unlinked.{raised_unlinked}
-
--- the right sides of a node, by what is told without its graph
-pub targets_now : (G : Graph) (n : NodeId) → G.built n ≡ None → (d : declared.Def) (x : Option Outcome)
-    → targets G n (def_of d) x ≡ map main (at_most_one (and_then x (λ o. right_of no_graph n (def_of d) o)))
-targets_now G n built d None = refl
-targets_now G n built d (Some o) = ap (λ (y : Option NodeId). map main (at_most_one y)) (right_any G n built d o)
+use Rattle.stabilizer.proofs.Holding.{right_at, targets_at}
+use Rattle.stabilizer.specs.Graph.{graph_at}
 
 -- nothing is to be done
 pub stays_off : (arena : Arena) (work : Work) (n : NodeId) → (Needed work.graph (main n) → (k : Progress) → at work.rows (main n) ≡ Some k → k.stage ≡ code.Static → ⊥)
@@ -143,38 +134,37 @@ module _ (arena : Arena) (n : NodeId) (r : Row) (old : Work) (rows : Rows Progre
   mid = record old { rows = rows }
 
   same_round : KeepsRound old mid
-  same_round = record { ran = refl; strict = refl; round = refl }
+  same_round = record { roots = refl; ran = refl; strict = refl; round = refl }
 
   pub full_kept : IsKept arena mid
   full_kept = staged_kept old mid (main n) code.Full w refl same_round refl arena refl kept
 
   abbrev right : Option NodeId
-  right = right_in old.rows n r.def
+  right = right_in old.rows old.roots n r.def
 
   abbrev owed : List Point
   owed = map main (at_most_one right)
 
   -- it is told by the row of the change, which stays
-  pub right_is : right_in mid.rows n r.def ≡ right
-  right_is = ap (λ (x : Option Progress). and_then (outcome_in x) (λ o. right_of no_graph n r.def o))
+  pub right_is : right_in mid.rows mid.roots n r.def ≡ right
+  right_is = ap (λ (x : Option Progress). right_by r.def n (outcome_in x) (at old.roots (change n)))
       (w.others (change n) (λ e. let x = ap (λ (y : Point). y.part) e in cc))
 
   -- the target is given
   pub right_given : (m : NodeId) → right ≡ Some m → Given arena.given m
   right_given m e = by (at old.rows (change n)) refl
     where
-      asked : (o : Outcome) → right_of (graph_of arena) n r.def o ≡ right_of no_graph n r.def o
-      asked o = let d = code_def arena n r row in
-          subst (λ (x : Def). right_of (graph_of arena) n x o ≡ right_of no_graph n x o) (sym d.1) (right_any (graph_of arena) n refl d.0 o)
+      asked : and_then (outcome_in (at old.rows (change n))) (λ (o : Outcome). right_of (graph_at arena old) n r.def o) ≡ Some m
+      asked = sym (right_at arena old n r row) ∙ e
 
-      chosen : (k : Progress) → at old.rows (change n) ≡ Some k → (x : Option Outcome) → k.outcome ≡ x → and_then x (λ o. right_of no_graph n r.def o) ≡ Some m
+      chosen : (k : Progress) → at old.rows (change n) ≡ Some k → (x : Option Outcome) → k.outcome ≡ x → and_then x (λ o. right_of (graph_at arena old) n r.def o) ≡ Some m
           → Given arena.given m
       chosen k at_row None out h = absurd (none-some m h)
-      chosen k at_row (Some o) out h = (kept.rights n m r k o row at_row out (asked o ∙ h)).0
+      chosen k at_row (Some o) out h = (kept.rights n m r k o row at_row out h).0
 
       by : (x : Option Progress) → at old.rows (change n) ≡ x → Given arena.given m
-      by None eq = absurd (none-some m (ap (λ (x : Option Progress). and_then (outcome_in x) (λ o. right_of no_graph n r.def o)) (sym eq) ∙ e))
-      by (Some k) eq = chosen k eq k.outcome refl (ap (λ (x : Option Progress). and_then (outcome_in x) (λ o. right_of no_graph n r.def o)) (sym eq) ∙ e)
+      by None eq = absurd (none-some m (ap (λ (x : Option Progress). and_then (outcome_in x) (λ o. right_of (graph_at arena old) n r.def o)) (sym eq) ∙ asked))
+      by (Some k) eq = chosen k eq k.outcome refl (ap (λ (x : Option Progress). and_then (outcome_in x) (λ o. right_of (graph_at arena old) n r.def o)) (sym eq) ∙ asked)
 
   module _ (F : Functions) (z : Start) (s : State) (calls : ℕ) (t : IsTurnedIn F z s arena old calls n) where
     abbrev on : Stands arena old calls (Some (hand (main n) [])) s
@@ -197,10 +187,8 @@ module _ (arena : Arena) (n : NodeId) (r : Row) (old : Work) (rows : Rows Progre
 
     pub targets_are_owed : targets s.graph n r.def (s.out (change n)) ≡ owed
     targets_are_owed =
-        let d = code_def arena n r row in
-        ap (targets s.graph n r.def) out_is ∙ subst (λ (x : Def). targets s.graph n x (outcome_in (at old.rows (change n)))
-        ≡ map main (at_most_one (and_then (outcome_in (at old.rows (change n))) (λ o. right_of no_graph n x o)))) (sym d.1)
-        (targets_now s.graph n (ap (λ (G : Graph). G.built n) on.graph) d.0 (outcome_in (at old.rows (change n))))
+        ap (targets s.graph n r.def) out_is
+        ∙ (ap (λ (G : Graph). targets G n r.def (outcome_in (at old.rows (change n)))) on.graph ∙ targets_at arena old n r row)
 
     pub raise_is : Raise s (main n) machine.Full owed
     raise_is = record {

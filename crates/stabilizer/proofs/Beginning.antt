@@ -4,8 +4,8 @@ use Rattle.std.specs.Prelude.{is_some, ◌↔◌}
 use Rattle.inc_value.specs.declared.node.NodeId.{NodeId}
 use Rattle.inc_value.specs.declared.node.Part.TheVariants.{Main}
 use Rattle.inc_value.specs.declared.node.Point.{Point}
-use Rattle.inc_terms.specs.Depend.{main}
-use Rattle.inc_terms.specs.Graph.{Graph, Row}
+use Rattle.inc_terms.specs.Depend.{main, change, right_of, root_for}
+use Rattle.inc_terms.specs.Graph.{Graph, Row, Built}
 use Rattle.inc_terms.specs.Local.{shown}
 use Rattle.inc_terms.specs.Term.{Functions}
 use Rattle.point_map.specs.Rows.{at}
@@ -17,7 +17,6 @@ use Rattle.inc_terms.specs.Need.{Keeps}
 use Rattle.inc_terms.specs.Rebuild.{Names}
 use Rattle.inc_terms.specs.Within.{Given, Fit}
 use Rattle.necessary_graph.proofs.Reaching.{root_needed}
-use Rattle.node_arena.specs.Graph.{graph_of}
 use Rattle.node_arena.proofs.Graph.{names_are_given}
 use Rattle.node_outcomes.specs.Meaning.{Meaning}
 use Rattle.stabilize_round.specs.Ids.{IsStartOf, AllGiven}
@@ -34,6 +33,12 @@ use Rattle.stabilizer.specs.Round.{IsReady, last_of, last_call, never_at}
 use Rattle.node_outcomes.specs.Row.{never_in}
 use Rattle.stabilizer.specs.Stands.{Stands}
 use Rattle.stabilizer.specs.declared.work.Work.{Work}
+use Rattle.stabilizer.specs.Graph.{held_at, graph_at}
+use Rattle.node_outcomes.specs.Choosing.{built_in}
+use Rattle.node_outcomes.specs.Row.{outcome_in}
+use Rattle.node_outcomes.proofs.Held.{built_parts}
+use Rattle.inc_terms.proofs.Same.{outcome_decides}
+use Rattle.inc_value.specs.declared.outcome.Outcome.{Outcome}
 
 -- what there is in one is there in the other
 pub there_as : {A B : Type 0} (x : Option A) (y : Option B) (b : B) → is_some x ≡ is_some y → y ≡ Some b → (a : A) × (x ≡ Some a)
@@ -47,6 +52,27 @@ has_main (Some r) = refl
 
 pub main_there : (arena : Arena) (work : Work) → IsKept arena work → (n : NodeId) → is_some (at work.rows (main n)) ≡ is_some (row_at arena n)
 main_there arena work kept n = kept.rows (main n) ∙ has_main (row_at arena n)
+
+root_there : (w : Built) → root_for (Some w) w.outcome ≡ w.root
+root_there w = let is = (outcome_decides w.outcome w.outcome).1 refl in rw is refl
+
+-- a root that is held was given
+root_held : (arena : Arena) (work : Work) → IsKept arena work → (b : NodeId) (w : Built) (m : NodeId) → (held_at arena work).built b ≡ Some w
+    → w.root ≡ Some m → Given arena.given m
+root_held arena work kept b w m built root = by_row (row_at arena b) refl built
+  where
+    by_kept : (r : Row) → row_at arena b ≡ Some r → ((G : Graph) (n : NodeId) (o : Outcome) → G.built n ≡ Some w → right_of G n r.def o ≡ root_for (Some w) o)
+        → (x : Option Progress) → at work.rows (change b) ≡ x → outcome_in (at work.rows (change b)) ≡ Some w.outcome → Given arena.given m
+    by_kept r row rights None at_row out = absurd (none-some w.outcome (ap outcome_in (sym at_row) ∙ out))
+    by_kept r row rights (Some k) at_row out = (kept.rights b m r k w.outcome row at_row (ap outcome_in (sym at_row) ∙ out)
+        (rights (graph_at arena work) b w.outcome built ∙ (root_there w ∙ root))).0
+
+    by_row : (x : Option Row) → row_at arena b ≡ x → built_in x (outcome_in (at work.rows (change b))) (at work.roots (change b)) ≡ Some w
+        → Given arena.given m
+    by_row None row is = absurd (none-some w is)
+    by_row (Some r) row is =
+        let parts = built_parts r.def (outcome_in (at work.rows (change b))) (at work.roots (change b)) w is in
+        by_kept r row parts.1 (at work.rows (change b)) refl parts.0
 
 -- a round may begin here, and this is what it begins with
 pub record Begun (F : Functions) (arena : Arena) (work : Work) (count : ℕ) : Type 0 where
@@ -174,9 +200,9 @@ module _ (M : Meaning) (arena : Arena) (work : Work) (ready : IsReady M arena wo
   root_given : (p : Point) → 0 < state.root p → Given arena.given p.node
   root_given p h = needed_given p (root_needed work.graph p (subst (λ (k : ℕ). 0 < k) (ready.stands.root p) h))
 
-  keeps : Keeps (Given arena.given) (graph_of arena) state.died
+  keeps : Keeps (Given arena.given) (graph_at arena work) state.died
   keeps = record {
-    roots = λ b w m given built root. absurd (none-some w built);
+    roots = λ b w m given built root. root_held arena work ready.kept b w m built root;
     scopes = λ n b given died. absurd (none-some b (sym (ready.stands.died n) ∙ died));
     freezes = λ n r kid f row is. absurd (no_freeze arena n r kid f row is);
   }
@@ -201,10 +227,10 @@ module _ (M : Meaning) (arena : Arena) (work : Work) (ready : IsReady M arena wo
   given = record {
     laws = ready.laws;
     names = subst (λ (G : Graph). Names (Given old.given) (Fit old.given M.known M.ids) G) (sym ready.stands.graph)
-        (subst (λ (k : ℕ). Names (Given k) (Fit k M.known M.ids) (graph_of arena)) (sym ready.stands.given)
-        (names_are_given arena M.known M.ids ready.kept.sound ready.fit).1);
+        (subst (λ (k : ℕ). Names (Given k) (Fit k M.known M.ids) (graph_at arena work)) (sym ready.stands.given)
+        (names_are_given arena (held_at arena work) M.known M.ids ready.kept.sound ready.fit).1);
     keeps = subst (λ (G : Graph). Keeps (Given old.given) G old.died) (sym ready.stands.graph)
-        (subst (λ (k : ℕ). Keeps (Given k) (graph_of arena) old.died) (sym ready.stands.given) keeps);
+        (subst (λ (k : ℕ). Keeps (Given k) (graph_at arena work) old.died) (sym ready.stands.given) keeps);
     needed = λ p h. as_given p (needed_given p ((ready.stands.needed p).0 h));
     rooted = λ p h. as_given p (root_given p h);
     last = λ n le. ap last_of (row_none n (not_given n le));

@@ -25,7 +25,7 @@ use Rattle.height_order.specs.Levels.{level}
 use Rattle.necessary_graph.specs.Part.{NecessaryPart, Needed}
 use Rattle.necessary_graph.proofs.Reaching.{root_needed, read_needed, needed_more}
 use Rattle.node_arena.specs.Arena.{Arena, row_at}
-use Rattle.node_arena.specs.Graph.{AllCallFit, graph_of}
+use Rattle.node_arena.specs.Graph.{AllCallFit}
 use Rattle.node_outcomes.specs.Meaning.{Meaning}
 use Rattle.node_outcomes.specs.Computing.{has_part}
 use Rattle.node_outcomes.specs.Row.{outcome_in, settled_in, stage_of, never_in}
@@ -44,9 +44,12 @@ use Rattle.node_outcomes.specs.declared.row.Progress.{Progress}
 use Rattle.node_outcomes.specs.declared.row.Stage.{Stage}
 use Rattle.node_outcomes.specs.declared.row.Stage.TheVariants as code
 use Rattle.stabilizer.specs.declared.work.Work.{Work}
-use Rattle.stabilizer.proofs.Agreeing.{one_point_built, built_still, no_freeze, plan_same, var_plan, reads_change, agrees_still, recalls_still}
+use Rattle.stabilizer.proofs.Agreeing.{unbound_built, no_freeze, plan_same, var_plan, reads_change, agrees_still, recalls_still}
 use Rattle.stabilizer.proofs.Deciding.{decides_needed}
 use Rattle.stabilizer.proofs.Linking.{some_or_none}
+use Rattle.stabilizer.proofs.Holding.{none_built}
+use Rattle.stabilizer.specs.Graph.{held_at, graph_at}
+use Rattle.stabilizer.specs.Today.{IsNoBind}
 
 pub same_some : {A : Type 0} {x y : A} → ◌≡◌ {A = Option A} (Some x) (Some y) → x ≡ y
 same_some e = cc
@@ -147,10 +150,10 @@ module _ (M : Meaning) (arena : Arena) (work : Work) (ready : IsReady M arena wo
       → out_of work (change p.node) ≡ s.out (change p.node)
   own_now p r row is some = let k = own_row arena work ready.kept p.node r row some in out_now (change p.node) k.0 k.1
 
-  plan_now : (p : Point) (r : Row) → row_at arena p.node ≡ Some r → plan (graph_of arena) (out_of work) p r ≡ plan (graph_of arena) s.out p r
-  plan_now p r row = plan_same arena arena s.out (out_of work) p r (own_now p r row)
+  plan_now : (p : Point) (r : Row) → row_at arena p.node ≡ Some r → plan (graph_at arena work) (out_of work) p r ≡ plan (graph_at arena work) s.out p r
+  plan_now p r row = plan_same arena arena (held_at arena work) (held_at arena work) s.out (out_of work) p r refl (own_now p r row)
 
-  planned_now : (p : Point) (r : Row) → Needed work.graph p → row_at arena p.node ≡ Some r → planned s p ≡ plan (graph_of arena) s.out p r
+  planned_now : (p : Point) (r : Row) → Needed work.graph p → row_at arena p.node ≡ Some r → planned s p ≡ plan (graph_at arena work) s.out p r
   planned_now p r need row =
       ap (λ (x : Option Row). plan_at s.graph s.out s.died p x (s.stage p)) (row_now p.node r row)
       ∙ (ap (λ (x : machine.Stage). live_plan s.graph s.out p r x) (ready.entry.full p r (row_now p.node r row) ((ready.stands.needed p).1 need))
@@ -160,10 +163,10 @@ module _ (M : Meaning) (arena : Arena) (work : Work) (ready : IsReady M arena wo
   plain_links p q need = let e = ready.entry.links p q need in let o = ready.stands.owed p in let e' = rw o at e in omega arith
 
   links_now : (p : Point) (r : Row) → Needed work.graph p → row_at arena p.node ≡ Some r
-      → (q : Point) → times work.graph.links p q ≡ count q (plan (graph_of arena) s.out p r)
+      → (q : Point) → times work.graph.links p q ≡ count q (plan (graph_at arena work) s.out p r)
   links_now p r need row q = sym (ready.stands.links p q) ∙ (plain_links p q ((ready.stands.needed p).1 need) ∙ ap (count q) (planned_now p r need row))
 
-  seen_now : (q : Point) → Needed work.graph q → shown (graph_of arena) (out_of work) q ≡ shown (graph_of arena) s.out q
+  seen_now : (q : Point) → Needed work.graph q → shown (graph_at arena work) (out_of work) q ≡ shown (graph_at arena work) s.out q
   seen_now q need = elim (some_or_none (row_at arena q.node)) [
     | inl r ↦ let k = needed_row arena work ready.kept q r.0 need r.1 in
         ap (shown_of (row_at arena q.node)) (out_now q k.0 k.1)
@@ -171,8 +174,11 @@ module _ (M : Meaning) (arena : Arena) (work : Work) (ready : IsReady M arena wo
   ]
 
   module _ (p : Point) (r : Row) (need : Needed work.graph p) (row : row_at arena p.node ≡ Some r) where
-    looked_now : (q : Point) → Among q (looks (graph_of arena) s.out p r) → shown (graph_of arena) (out_of work) q ≡ shown (graph_of arena) s.out q
-    looked_now q a = seen_now q (looked_needed work p need (graph_of arena) s.out r (links_now p r need row) q a)
+    looked_now : (q : Point) → Among q (looks (graph_at arena work) s.out p r) → shown (graph_at arena work) (out_of work) q ≡ shown (graph_at arena work) s.out q
+    looked_now q a = seen_now q (looked_needed work p need (graph_at arena work) s.out r (links_now p r need row) q a)
+
+    unbound : IsNoBind r.def
+    unbound = ready.kept.today.no_binds p.node r row
 
     here_now : out_of work p ≡ s.out p
     here_now = let k = needed_row arena work ready.kept p r need row in out_now p k.0 k.1
@@ -180,12 +186,12 @@ module _ (M : Meaning) (arena : Arena) (work : Work) (ready : IsReady M arena wo
     last_now : p.part ≡ Main → last_call work p.node ≡ s.last p.node
     last_now is = let k = row_of arena work ready.kept p.node r row in ap last_of k.1 ∙ sym (ready.stands.last p.node k.0 k.1)
 
-    agrees_now : Agrees F s.graph s.out p → Agrees F (graph_of arena) (out_of work) p
-    agrees_now a = agrees_still F arena arena s.out (out_of work) p r row row here_now looked_now
+    agrees_now : Agrees F s.graph s.out p → Agrees F (graph_at arena work) (out_of work) p
+    agrees_now a = agrees_still F arena arena (held_at arena work) (held_at arena work) s.out (out_of work) p r row row here_now refl unbound looked_now
         (subst (λ (G : Graph). Agrees F G s.out p) ready.stands.graph a)
 
-    recalls_now : Recalls s.graph (shown s.graph s.out) s.last p → Recalls (graph_of arena) (shown (graph_of arena) (out_of work)) (last_call work) p
-    recalls_now a = recalls_still F arena arena s.out (out_of work) p r row row here_now looked_now s.last (last_call work) last_now
+    recalls_now : Recalls s.graph (shown s.graph s.out) s.last p → Recalls (graph_at arena work) (shown (graph_at arena work) (out_of work)) (last_call work) p
+    recalls_now a = recalls_still F arena arena (held_at arena work) (held_at arena work) s.out (out_of work) p r row row here_now refl unbound looked_now s.last (last_call work) last_now
         (subst (λ (G : Graph). Recalls G (shown G s.out) s.last p) ready.stands.graph a)
 
   pub ready_is_between : IsBetween F arena work
@@ -217,7 +223,7 @@ stage_or_full (Some k) = stage_of k.stage
 
 abbrev state_of : (Point → Bool) → Arena → Work → State
 state_of need arena work = record {
-  graph = graph_of arena;
+  graph = graph_at arena work;
   out = out_of work;
   last = last_call work;
   links = times work.graph.links;
@@ -315,7 +321,7 @@ module _ (M : Meaning) (arena : Arena) (work : Work) (laws : FunctionLaws M.func
     full = λ p r row t. stage_then p ((exact p).0 t);
     bare = λ p t e. absurd (let f : now.stage p ≡ machine.Full = stage_then p ((exact p).0 t) in let h = sym f ∙ e in cc);
     scoped = λ n r c row sc. absurd (none-some c (sym (b.kept.today.flat n r row) ∙ sc));
-    rooted = λ n r l f captures w row def built. absurd (none-some w built);
+    rooted = λ n r l f captures w row def built. absurd (none-some w (sym (none_built arena b.kept.today.no_binds work n) ∙ built));
     built = b.built;
     fresh = λ p r row t. elim (b.fresh p r ((exact p).0 t) row) [ inl h ↦ inl h | inr f ↦ inr (f.0, f.1, λ part. refl) ];
     settled = b.unsettled;
@@ -369,21 +375,25 @@ never_settled settled round e h = grind (arith, nat_tests)
 
 module _ (F : Functions) (before arena : Arena) (old work : Work) (b : IsBetween F before old) (kept : IsKept arena work)
     (stays : Stays before arena old work) where
+  -- no node is a bind, so none is built
+  built_as : (n : NodeId) → (held_at arena work).built n ≡ (held_at before old).built n
+  built_as n = none_built arena kept.today.no_binds work n ∙ sym (none_built before b.kept.today.no_binds old n)
+
   links_old : (p : Point) (r : Row) → Needed work.graph p → row_at before p.node ≡ Some r
-      → (q : Point) → times work.graph.links p q ≡ count q (plan (graph_of before) (out_of old) p r)
+      → (q : Point) → times work.graph.links p q ≡ count q (plan (graph_at before old) (out_of old) p r)
   links_old p r need was q = stays.links p q need ∙ b.links p r (stays.needed p need) was q
 
   out_still : (q : Point) → Needed work.graph q → out_of work q ≡ out_of old q
   out_still q need = ap outcome_in (stays.rows q need)
 
   links_still : (p : Point) (r : Row) → Needed work.graph p → row_at arena p.node ≡ Some r
-      → (q : Point) → times work.graph.links p q ≡ count q (plan (graph_of arena) (out_of work) p r)
+      → (q : Point) → times work.graph.links p q ≡ count q (plan (graph_at arena work) (out_of work) p r)
   links_still p r need row q = elim (stays.nodes p r need row) [
-    | inl was ↦ links_old p r need was q ∙ sym (ap (count q) (plan_same before arena (out_of old) (out_of work) p r
-        (λ is some. out_still (change p.node) (change_needed work p need (graph_of before) (out_of old) r (links_old p r need was) is some))))
-    | inr h ↦ links_old p h.1 need h.4 q ∙ ap (count q) (var_plan (graph_of before) (out_of old) p h.1 h.3 h.5
+    | inl was ↦ links_old p r need was q ∙ sym (ap (count q) (plan_same before arena (held_at before old) (held_at arena work) (out_of old) (out_of work) p r (built_as p.node)
+        (λ is some. out_still (change p.node) (change_needed work p need (graph_at before old) (out_of old) r (links_old p r need was) is some))))
+    | inr h ↦ links_old p h.1 need h.4 q ∙ ap (count q) (var_plan (graph_at before old) (out_of old) p h.1 h.3 h.5
         ∙ (ap (λ (x : Row). gate_of x.scope ++ []) (sym h.6)
-        ∙ sym (var_plan (graph_of arena) (out_of work) p r h.2 (ap (λ (x : Row). x.def) h.6))))
+        ∙ sym (var_plan (graph_at arena work) (out_of work) p r h.2 (ap (λ (x : Row). x.def) h.6))))
   ]
 
   -- a needed point's node lives as it did
@@ -406,24 +416,26 @@ module _ (F : Functions) (before arena : Arena) (old work : Work) (b : IsBetween
   shown_as (Some r) None o e = absurd (cc)
   shown_as None (Some r) o e = absurd (cc)
 
-  seen_still : (q : Point) → Needed work.graph q → shown (graph_of arena) (out_of work) q ≡ shown (graph_of before) (out_of old) q
+  seen_still : (q : Point) → Needed work.graph q → shown (graph_at arena work) (out_of work) q ≡ shown (graph_at before old) (out_of old) q
   seen_still q need = ap (shown_of (row_at arena q.node)) (out_still q need)
       ∙ shown_as (row_at arena q.node) (row_at before q.node) (out_of old q) (lives_still q need)
 
   module _ (p : Point) (r : Row) (need : Needed work.graph p) (row : row_at arena p.node ≡ Some r) (was : row_at before p.node ≡ Some r) where
-    looked_still : (q : Point) → Among q (looks (graph_of before) (out_of old) p r)
-        → shown (graph_of arena) (out_of work) q ≡ shown (graph_of before) (out_of old) q
-    looked_still q a = seen_still q (looked_needed work p need (graph_of before) (out_of old) r (links_old p r need was) q a)
+    looked_still : (q : Point) → Among q (looks (graph_at before old) (out_of old) p r)
+        → shown (graph_at arena work) (out_of work) q ≡ shown (graph_at before old) (out_of old) q
+    looked_still q a = seen_still q (looked_needed work p need (graph_at before old) (out_of old) r (links_old p r need was) q a)
 
     last_still : p.part ≡ Main → last_call work p.node ≡ last_call old p.node
     last_still is = ap last_of (subst (λ (x : Point). at work.rows x ≡ at old.rows x) (main_is p is) (stays.rows p need))
 
-    fresh_still : Agrees F (graph_of before) (out_of old) p
-        × Recalls (graph_of before) (shown (graph_of before) (out_of old)) (last_call old) p
-        → Agrees F (graph_of arena) (out_of work) p × Recalls (graph_of arena) (shown (graph_of arena) (out_of work)) (last_call work) p
+    fresh_still : Agrees F (graph_at before old) (out_of old) p
+        × Recalls (graph_at before old) (shown (graph_at before old) (out_of old)) (last_call old) p
+        → Agrees F (graph_at arena work) (out_of work) p × Recalls (graph_at arena work) (shown (graph_at arena work) (out_of work)) (last_call work) p
     fresh_still f = (
-      agrees_still F before arena (out_of old) (out_of work) p r was row (out_still p need) looked_still f.0,
-      recalls_still F before arena (out_of old) (out_of work) p r was row (out_still p need) looked_still (last_call old) (last_call work) last_still f.1,
+      agrees_still F before arena (held_at before old) (held_at arena work) (out_of old) (out_of work) p r was row (out_still p need)
+          (built_as p.node) (kept.today.no_binds p.node r row) looked_still f.0,
+      recalls_still F before arena (held_at before old) (held_at arena work) (out_of old) (out_of work) p r was row (out_still p need)
+          (built_as p.node) (kept.today.no_binds p.node r row) looked_still (last_call old) (last_call work) last_still f.1,
     )
 
   unsettled_still : (p : Point) → settled_in work.round (at work.rows p) ≡ false
@@ -447,10 +459,7 @@ module _ (F : Functions) (before arena : Arena) (old work : Work) (b : IsBetween
         | inr f ↦ inr (fresh_still p r need row same f)
       ]
     ];
-    built = λ n r o row e. elim (some_or_none (subject_of r.def)) [
-      | inl s ↦ let w = stays.runs n s.0 r o row s.1 e in built_still F before arena n r.def o (b.built n r o w.0 w.1)
-      | inr one ↦ one_point_built F (graph_of arena) n r.def o one
-    ];
+    built = λ n r o row e. unbound_built F (graph_at arena work) n r.def o (kept.today.no_binds n r row);
     answers = λ n r nodes k c row def e last. let w = stays.calls n r nodes k c row def e last in
         b.answers n r nodes k c w.0 def w.1 last;
     unsettled = unsettled_still;

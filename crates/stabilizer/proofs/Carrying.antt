@@ -17,15 +17,17 @@ use Rattle.necessary_graph.specs.Part.{NecessaryPart, Needed, IsInStep}
 use Rattle.necessary_graph.proofs.Standing.{has_level, put_in_step, taken_in_step}
 use Rattle.height_order.specs.Levels.{level}
 use Rattle.node_arena.specs.Arena.{Arena, row_at}
-use Rattle.node_arena.specs.Graph.{graph_of}
+use Rattle.node_arena.specs.Graph.{Holdings, graph_of}
 use Rattle.node_arena.specs.Typing.{Fits}
 use Rattle.node_outcomes.specs.Computing.{IsOfType}
 use Rattle.stabilize_round.specs.State.{Call}
+use Rattle.stabilizer.specs.Graph.{held_at}
 use Rattle.stabilizer.specs.Kept.{IsKept}
 use Rattle.stabilizer.specs.Settling.{IsSettled}
 use Rattle.stabilizer.specs.Wiring.{KeepsGraph}
 use Rattle.node_outcomes.specs.declared.row.Progress.{Progress}
 use Rattle.stabilizer.specs.declared.work.Work.{Work}
+use Rattle.stabilizer.proofs.Holding.{held_rows, held_main}
 
 -- what needs the same roots and links is needed alike
 module _ (old new : NecessaryPart) (same : KeepsGraph old new) where
@@ -35,13 +37,14 @@ module _ (old new : NecessaryPart) (same : KeepsGraph old new) where
   pub needed_before : (p : Point) → Needed new p → Needed old p
   needed_before p n = rw (same.roots, same.links) at n
 
--- the same points have rows, and roots, links and heights stay
+-- the same points have rows, roots, links and heights stay, and as much is held
 module _ (arena : Arena) (old new : Work) (kept : IsKept arena old) (rows : (p : Point) → is_some (at new.rows p) ≡ is_some (at old.rows p))
     (same : KeepsGraph old.graph new.graph) (step : IsInStep new.graph) (heap : (p : Point) → Holds new.graph.heap p → Holds old.rows p)
     (outcomes : (n : NodeId) (r : Row) (k : Progress) (v : Value) → row_at arena n ≡ Some r → at new.rows (main n) ≡ Some k
     → k.outcome ≡ Some (Val v) → IsOfType arena v r.ty)
     (rights : (n m : NodeId) (r : Row) (k : Progress) (o : Outcome) → row_at arena n ≡ Some r → at new.rows (change n) ≡ Some k
-    → k.outcome ≡ Some o → right_of (graph_of arena) n r.def o ≡ Some m → Given arena.given m × Fits arena m r.ty)
+    → k.outcome ≡ Some o → right_of (graph_of arena (held_at arena old)) n r.def o ≡ Some m → Given arena.given m × Fits arena m r.ty)
+    (held : held_at arena new ≡ held_at arena old)
     (calls : (n : NodeId) (r : Row) (k : Progress) (c : Call) → row_at arena n ≡ Some r → at new.rows (main n) ≡ Some k
     → k.last ≡ Some c → IsOfType arena c.result r.ty)
     (rounds : (p : Point) (k : Progress) → at new.rows p ≡ Some k → k.settled ≤ new.round)
@@ -67,18 +70,21 @@ module _ (arena : Arena) (old new : Work) (kept : IsKept arena old) (rows : (p :
     sound = kept.sound;
     today = kept.today;
     outcomes = outcomes;
-    rights = rights;
+    rights = λ n m r k o row e out right. rights n m r k o row e out
+        (subst (λ (h : Holdings). right_of (graph_of arena h) n r.def o ≡ Some m) held right);
+    rootless = λ n w is. kept.rootless n w (subst (λ (h : Holdings). h.built n ≡ Some w) held is);
     calls = calls;
     rounds = rounds;
     pairs = λ n r live some. pairs n (kept.pairs n r live some);
   }
 
--- all rows stay
+-- all rows stay, and the roots of binds
 pub kept_same : (arena : Arena) (old new : Work) → IsKept arena old → KeepsRows old.rows new.rows → KeepsGraph old.graph new.graph → IsInStep new.graph
-    → ((p : Point) → Holds new.graph.heap p → Holds old.rows p) → new.round ≡ old.round → new.pairs ≡ old.pairs → IsKept arena new
-kept_same arena old new kept rows same step heap round pairs = kept_with arena old new kept (λ p. ap is_some (rows p)) same step heap
+    → ((p : Point) → Holds new.graph.heap p → Holds old.rows p) → new.round ≡ old.round → new.roots ≡ old.roots → new.pairs ≡ old.pairs → IsKept arena new
+kept_same arena old new kept rows same step heap round roots pairs = kept_with arena old new kept (λ p. ap is_some (rows p)) same step heap
     (λ n r k v live is o. kept.outcomes n r k v live (sym (rows (main n)) ∙ is) o)
     (λ n m r k o live is out right. kept.rights n m r k o live (sym (rows (change n)) ∙ is) out right)
+    (held_rows arena old new rows roots)
     (λ n r k c live is l. kept.calls n r k c live (sym (rows (main n)) ∙ is) l)
     (λ p k is. subst (λ (m : ℕ). k.settled ≤ m) (sym round) (kept.rounds p k (sym (rows p) ∙ is)))
     (λ n a. rw pairs a)
@@ -95,7 +101,7 @@ module _ (arena : Arena) (old : Work) (g : NecessaryPart) (rest : g ≡ record o
 
   heap_kept : IsKept arena old → IsInStep (record old.graph { heap = g.heap }) → ((p : Point) → Holds g.heap p → Holds old.rows p)
       → IsKept arena (record old { graph = g })
-  heap_kept kept step heap = kept_same arena old (record old { graph = g }) kept (λ p. refl) heap_graph (subst IsInStep (sym rest) step) heap refl refl
+  heap_kept kept step heap = kept_same arena old (record old { graph = g }) kept (λ p. refl) heap_graph (subst IsInStep (sym rest) step) heap refl refl refl
 
   pub taken_kept : (p : Point) → IsKept arena old → Changes old.graph.heap g.heap p None → IsKept arena (record old { graph = g })
   taken_kept p kept c = heap_kept kept (taken_in_step old.graph kept.step g.heap p c)
@@ -159,6 +165,7 @@ module _ (arena : Arena) (old new : Work) (n : NodeId) (o : Outcome) (last : Opt
         | inr ne ↦ kept.outcomes m r k v live (sym (w.others (main m) ne) ∙ is) out
       ])
       (λ m i r k x live is out right. kept.rights m i r k x live (sym (w.others (change m) (change_other m)) ∙ is) out right)
+      (held_main arena old new n w.others w.roots)
       (λ m r k c live is l. elim (point_cases (main m) (main n)) [
         | inl e ↦
             let same : m ≡ n = ap (λ (x : Point). x.node) e in

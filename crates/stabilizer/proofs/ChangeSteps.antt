@@ -124,7 +124,7 @@ module _ (arena : Arena) (old : Work) (g : NecessaryPart) (p : Point) (n : NodeI
     two : IsSome (subject_of m.row.def)
     two = ap is_some m.is_subject
 
-    t : HasTurned (record old { graph = g }) turned n (right_in old.rows n m.row.def) m.given
+    t : HasTurned (record old { graph = g }) turned n (right_in old.rows old.roots n m.row.def) m.given
     t = m.turned
 
     pub readied : IsReadied F z s arena turned calls n m.given
@@ -155,17 +155,17 @@ module _ (arena : Arena) (old : Work) (g : NecessaryPart) (p : Point) (n : NodeI
         (subst (λ x. shown x s.out (main m.subject) ≡ Some m.given) (sym k.graph) seen_now)
 
     abbrev woken : Point → Bool
-    woken = todo' ready arena readied.work turned calls readied.stands n m.given readied.there readied.run
+    woken = todo' ready arena kept.today.no_binds readied.work turned calls readied.stands n m.given readied.there readied.run
 
     move_is : StepChange F ready n m.given woken
-    move_is = change_step ready arena readied.work turned calls readied.stands n m.given readied.there readied.run F z ready_inv ready_quiet kept.today.flat kept.today.no_binds
+    move_is = change_step ready arena kept.today.no_binds readied.work turned calls readied.stands n m.given readied.there readied.run F z ready_inv ready_quiet kept.today.flat
         m.row m.subject m.is_row m.is_subject readied.least ready_seen readied.right
 
     abbrev after : State
     after = changed ready n m.given woken
 
     pub in_turn : IsTurnedIn F z after arena turned calls n
-    in_turn = turned_in ready arena readied.work turned calls readied.stands n m.given readied.there readied.run F z ready_inv ready_quiet kept.today.flat kept.today.no_binds
+    in_turn = turned_in ready arena kept.today.no_binds readied.work turned calls readied.stands n m.given readied.there readied.run F z ready_inv ready_quiet kept.today.flat
         m.row m.subject m.is_row m.is_subject readied.least ready_seen readied.right
 
     abbrev it_settles : Move F z ready after
@@ -335,7 +335,7 @@ module _ (arena : Arena) (old : Work) (g : NecessaryPart) (p : Point) (n : NodeI
   change_stops M new e (as_it_was rows only put heap memory) = λ z s begun quiet st. as_it_was
       (subst (λ (x : Work). Stands arena x calls None s) (sym only)
       (refused_stands arena old (record old { graph = g }) g new.graph p n calls calls kept was rest c
-      (record { rows = λ a. refl; graph = refl; todo = refl; ran = refl; strict = refl; round = refl; count = inl refl }) heap
+      (record { rows = λ a. refl; graph = refl; roots = refl; todo = refl; ran = refl; strict = refl; round = refl; count = inl refl }) heap
       (subst (λ (x : Point). Changes g.heap new.graph.heap x (at g.heights x)) (sym same) put) s st))
       (inl refl) memory
 

@@ -3,15 +3,13 @@ use Rattle.std.proofs.Common.{◌≡◌, ◌≢◌, ◌⊎◌, inl, inr, ℕ, Bo
 use Rattle.std.specs.Prelude.{Result, Ok, Err, OnOk, IfErr, is_some, reverse, option_map}
 use Rattle.std.proofs.lemmas.Bool.{and_from, and_parts}
 use Rattle.std.proofs.lemmas.Option.{none-some}
-use Rattle.inc_value.specs.declared.function.FnRef.{FnRef}
 use Rattle.inc_value.specs.declared.node.NodeId.{NodeId}
 use Rattle.inc_value.specs.declared.node.Point.{Point}
 use Rattle.inc_value.specs.declared.outcome.Outcome.{Outcome}
 use Rattle.inc_value.specs.Choice.{Reaches, here, step}
 use Rattle.inc_terms.specs.Depend.{main, change, subject_of}
-use Rattle.inc_terms.specs.Graph as graph
-use Rattle.inc_terms.specs.Graph.{Graph, Row, Def}
-use Rattle.inc_terms.specs.Local.{shown, IsBuilt}
+use Rattle.inc_terms.specs.Graph.{Graph, Row}
+use Rattle.inc_terms.specs.Local.{shown}
 use Rattle.inc_terms.specs.Term.{Functions}
 use Rattle.point_map.specs.Rows.{Rows, at, Holds}
 use Rattle.link_table.specs.Links.{Links, times}
@@ -29,7 +27,7 @@ use Rattle.stabilize_round.proofs.Machine.{moves_keep}
 use Rattle.stabilize_round.proofs.Main.{main_change}
 use Rattle.stabilize_round.proofs.Points.{same_or_other, at_same, at_other}
 use Rattle.node_outcomes.specs.Row.{IsRewritten, with_outcome, settled_in, stage_of}
-use Rattle.node_outcomes.specs.Today.{NoBinds}
+use Rattle.stabilizer.specs.Today.{NoBinds}
 use Rattle.stabilizer.specs.Stands.{Stands, hand}
 use Rattle.stabilizer.specs.Wiring.{KeepsGraph, KeepsRound, IsTurnedIn}
 use Rattle.node_outcomes.specs.declared.row.Progress.{Progress}
@@ -37,6 +35,8 @@ use Rattle.stabilizer.specs.declared.work.Work.{Work}
 use Rattle.stabilizer.proofs.Carrying.{needed_now, needed_before}
 use Rattle.stabilizer.proofs.Settling.{same_number}
 use Rattle.stabilizer.proofs.Retrying.{Keeps}
+use Rattle.stabilizer.proofs.Agreeing.{unbound_built}
+use Rattle.stabilizer.proofs.Holding.{graph_any}
 
 -- of the parts just a change's row and its place in the heap are others: it was settled on this outcome, and left the heap
 pub record IsRun (old new : Work) (n : NodeId) (given : Outcome) : Type 0 where
@@ -97,12 +97,8 @@ run_settled given round None e = absurd (cc)
 run_settled given round (Some row) e = same_number round
 
 -- what is no bind isn't built
-unbound_built : (F : Functions) (G : Graph) (n : NodeId) (def : Def) (o : Outcome)
-    → ((l : NodeId) (f : FnRef) (captures : List NodeId) → def ≡ graph.Bind l f captures → ⊥) → IsBuilt F G n def o
-unbound_built F G n (graph.Bind l f caps) o unbound = absurd (unbound l f caps refl)
-unbound_built F G n _ o unbound = tt
 
-module _ (s : State) (arena : Arena) (old new : Work) (calls : ℕ) (st : Stands arena old calls None s) (n : NodeId) (given : Outcome)
+module _ (s : State) (arena : Arena) (no_binds : NoBinds arena) (old new : Work) (calls : ℕ) (st : Stands arena old calls None s) (n : NodeId) (given : Outcome)
     (there : Holds old.rows (change n)) (run : IsRun old new n given) where
   abbrev pub todo' : Point → Bool
   todo' = at_point (main n) (s.needed (main n) && is_static (s.stage (main n))) nowhere
@@ -122,7 +118,7 @@ module _ (s : State) (arena : Arena) (old new : Work) (calls : ℕ) (st : Stands
   -- the parts stand for it, with the main in hand
   pub run_stands : Stands arena new calls (Some (hand (main n) [])) next
   run_stands = record {
-    graph = st.graph;
+    graph = st.graph ∙ sym (graph_any arena no_binds old new);
     out = λ a k e. elim (same_or_other (change n) a) [
       | inl h ↦ subst (λ (x : Point). at_point (change n) (Some given) s.out x ≡ k.outcome) h
           (at_same (change n) (Some given) s.out ∙ sym (before k (subst (λ (x : Point). at new.rows x ≡ Some k) (sym h) e)).2.outcome)
@@ -186,7 +182,7 @@ module _ (s : State) (arena : Arena) (old new : Work) (calls : ℕ) (st : Stands
   main_woken need stage = at_same (main n) (s.needed (main n) && is_static (s.stage (main n))) nowhere
       ∙ and_from (s.needed (main n)) (is_static (s.stage (main n))) need (ap is_static stage)
 
-  module _ (F : Functions) (z : Start) (inv : Invariant F z s) (quiet : Quiet s) (flat : NoScopes arena) (no_binds : NoBinds arena) (r : Row) (m : NodeId)
+  module _ (F : Functions) (z : Start) (inv : Invariant F z s) (quiet : Quiet s) (flat : NoScopes arena) (r : Row) (m : NodeId)
       (live : row_at arena n ≡ Some r) (sub : subject_of r.def ≡ Some m) (taken : IsLeast s (change n)) (seen : shown s.graph s.out (main m) ≡ Some given)
       (right : (s.out (change n) ≡ Some given) ⊎ (s.needed (main n) ≡ true → s.stage (main n) ≡ machine.Full → ⊥)) where
     pub change_step : StepChange F s n given todo'

@@ -13,7 +13,7 @@ use Rattle.inc_terms.specs.Term.{Functions}
 use Rattle.inc_terms.specs.Work.{Visit, HasReason, other, passed, IsDueVisit, WithinWork}
 use Rattle.necessary_graph.specs.Part.{Needed}
 use Rattle.node_arena.specs.Arena.{Arena}
-use Rattle.node_arena.specs.Graph.{graph_of, NoScopes}
+use Rattle.node_arena.specs.Graph.{graph_of, NoScopes, Holdings}
 use Rattle.stabilize_round.specs.Calling.{cost_at, costs_of}
 use Rattle.stabilize_round.proofs.Calling.{kids_taken, cost_of_taken}
 use Rattle.stabilize_round.specs.Calls.{arguments_of}
@@ -27,14 +27,14 @@ top_stands : (F : Functions) (G : Graph) → Stands F G None
 unfolding answer
 top_stands F G = (1, refl)
 
-module _ (F : Functions) (arena : Arena) (flat : NoScopes arena) (old new : Work) (observed : List NodeId)
-    (roots : (n : NodeId) → IsRoot (graph_of arena) observed n → Among n observed) (before : Beside) (observers : List Observed)
+module _ (F : Functions) (arena : Arena) (held : Holdings) (flat : NoScopes arena) (old new : Work) (observed : List NodeId)
+    (roots : (n : NodeId) → IsRoot (graph_of arena held) observed n → Among n observed) (before : Beside) (observers : List Observed)
     (stood : StoodBeside before old observers) (looks : (n : NodeId) → Among n observed → Among n (nodes_of observers)) where
   abbrev G : Graph
-  G = graph_of arena
+  G = graph_of arena held
 
   abbrev Called : NodeId → Type 0
-  Called n = WasCalled F arena old new observed n
+  Called n = WasCalled F G old new observed n
 
   is_met : (p : Point) → Met F G none_died observed (λ (q : Point). Needed old.graph q) p → Met F G none_died (nodes_of observers) (Held before observers) p
   is_met p (from_root {n} root way) = from_root (inl (looks n (roots n root))) way

@@ -23,6 +23,7 @@ use Rattle.node_outcomes.specs.declared.row.Progress.{Progress}
 use Rattle.stabilizer.specs.declared.work.Work.{Work}
 use Rattle.stabilizer.proofs.Keeping.{kept_rewritten}
 use Rattle.stabilizer.proofs.Placing.{unsettled}
+use Rattle.stabilizer.proofs.Holding.{held_rewritten, graph_rewritten}
 
 -- but for its cutoff a row is what it was
 record WasCut (old : Rows Progress) (p : Point) (k : Progress) : Type 0 where
@@ -49,7 +50,7 @@ module _ (arena : Arena) (old : Work) (rows : Rows Progress) (id : NodeId) (c : 
   new = record old { rows = rows }
 
   pub cut_kept : IsKept arena new
-  cut_kept = kept_rewritten arena old new (main id) (with_cutoff c) kept w refl refl refl
+  cut_kept = kept_rewritten arena old new (main id) (with_cutoff c) kept w refl refl (held_rewritten arena old new (main id) (with_cutoff c) w (λ k is. refl) refl) refl
       (λ k is fit. record { outcome = fit.outcome; right = fit.right; call = fit.call; settled = fit.settled })
 
   row_was : (p : Point) (k : Progress) → at rows p ≡ Some k → WasCut old.rows p k
@@ -82,7 +83,7 @@ module _ (arena : Arena) (old : Work) (rows : Rows Progress) (id : NodeId) (c : 
 
     stands : Stands arena new ready.state.calls None state
     stands = record {
-      graph = ready.stands.graph;
+      graph = ready.stands.graph ∙ sym (graph_rewritten arena old new (main id) (with_cutoff c) w (λ k is. refl) refl);
       out = λ p k e. let b = row_was p k e in ready.stands.out p b.row b.was ∙ sym b.outcome;
       last = λ n k e. let b = row_was (main n) k e in ready.stands.last n b.row b.was ∙ sym b.last;
       never = λ n k e. ap never_in e;

@@ -30,6 +30,8 @@ use Rattle.stabilizer.proofs.Between.{need_same, ready_stays}
 use Rattle.stabilizer.proofs.Linking.{some_or_none}
 use Rattle.stabilizer.proofs.Placing.{at_node}
 use Rattle.stabilizer.proofs.Typing.{KeepsTypes, typed_still, right_still}
+use Rattle.stabilizer.proofs.Holding.{built_same, right_as, dead_unbuilt}
+use Rattle.stabilizer.specs.Graph.{held_at}
 
 module _ (before arena : Arena) (old work : Work) (id : NodeId) (kept : IsKept before old)
     (unneeded : (p : Point) → p.node ≡ id → Needed old.graph p → ⊥)
@@ -83,6 +85,10 @@ module _ (before arena : Arena) (old work : Work) (id : NodeId) (kept : IsKept b
   types : KeepsTypes before arena
   types n r had e = (r, was_row n r e, refl)
 
+  -- another node is built as it was
+  built_as : (n : NodeId) → n ≢ id → (held_at arena work).built n ≡ (held_at before old).built n
+  built_as n ne = built_same before arena old work n (dropped.others n ne) (rows.others (change n) ne) round.roots
+
   pub dropped_kept : IsKept arena work
   dropped_kept = record {
     step = step;
@@ -106,7 +112,12 @@ module _ (before arena : Arena) (old work : Work) (id : NodeId) (kept : IsKept b
     outcomes = λ n r k v e is shows. typed_still before arena more types v r.ty
         (kept.outcomes n r k v (was_row n r e) (was_kept (main n) k (node_left n r e) is) shows);
     rights = λ n m r k o e is shows right. right_still before arena more types m r.ty
-        (kept.rights n m r k o (was_row n r e) (was_kept (change n) k (node_left n r e) is) shows right);
+        (kept.rights n m r k o (was_row n r e) (was_kept (change n) k (node_left n r e) is) shows
+        (right_as before arena old work n m r.def o (built_as n (node_left n r e)) right));
+    rootless = λ n w is. elim (node_or_other n id) [
+      | inl same ↦ absurd (none-some w (sym (dead_unbuilt arena work n (ap (row_at arena) same ∙ dropped.changed)) ∙ is))
+      | inr ne ↦ kept.rootless n w (sym (built_as n ne) ∙ is)
+    ];
     calls = λ n r k c e is last. typed_still before arena more types c.result r.ty
         (kept.calls n r k c (was_row n r e) (was_kept (main n) k (node_left n r e) is) last);
     rounds = λ p k e. rw round.round (kept.rounds p k (was_kept p k (row_left p (ap is_some e)) e));
@@ -176,6 +187,7 @@ module _ (arena : Arena) (old : Work) (work : Work) (kept : IsKept arena old) (r
     today = kept.today;
     outcomes = kept.outcomes;
     rights = kept.rights;
+    rootless = kept.rootless;
     calls = kept.calls;
     rounds = kept.rounds;
     pairs = λ n r e some. live n r e (kept.pairs n r e some);
@@ -191,7 +203,7 @@ module _ (arena : Arena) (old : Work) (work : Work) (kept : IsKept arena old) (r
     calls = λ n r ns k c e def is last. (e, is);
     runs = λ n s r o e def is. (e, is);
     unsettled = λ p k e. inl e;
-    round = record { ran = refl; strict = refl; round = refl };
+    round = record { roots = refl; ran = refl; strict = refl; round = refl };
     todo = refl;
   }
 

@@ -20,6 +20,7 @@ use Rattle.stabilizer.specs.Round.{IsReady}
 use Rattle.node_outcomes.specs.Row.{settled_in}
 use Rattle.stabilizer.specs.declared.work.Work.{Work}
 use Rattle.stabilizer.proofs.Between.{between_is_ready}
+use Rattle.stabilizer.proofs.Holding.{dead_unbuilt}
 
 module _ (arena : Arena) (work : Work) (sound : IsSound arena) (step : IsInStep work.graph) (nodes : (n : NodeId) → row_at arena n ≡ None)
     (rows : (p : Point) → at work.rows p ≡ None) (points : (p : Point) → at work.graph.heights p ≡ None)
@@ -47,6 +48,7 @@ module _ (arena : Arena) (work : Work) (sound : IsSound arena) (step : IsInStep 
     };
     outcomes = λ n r k v e is shows. absurd (none-some r (sym (nodes n) ∙ e));
     rights = λ n m r k o e is shows right. absurd (none-some r (sym (nodes n) ∙ e));
+    rootless = λ n w is. absurd (none-some w (sym (dead_unbuilt arena work n (nodes n)) ∙ is));
     calls = λ n r k c e is last. absurd (none-some r (sym (nodes n) ∙ e));
     rounds = λ p k e. absurd (none-some k (sym (rows p) ∙ e));
     pairs = λ n r e some. absurd (none-some r (sym (nodes n) ∙ e));

@@ -32,7 +32,7 @@ use Rattle.recompute_heap.specs.Agree.{IsEmpty}
 use Rattle.node_arena.specs.Arena.{Arena, row_at}
 use Rattle.inc_value.specs.declared.function.FnRef.{FnRef}
 use Rattle.inc_terms.specs.Within.{FunctionLaws}
-use Rattle.node_arena.specs.Graph.{AllCallFit, graph_of}
+use Rattle.node_arena.specs.Graph.{AllCallFit, Holdings, graph_of}
 use Rattle.stabilize_round.specs.Calling as reason
 use Rattle.stabilize_round.specs.Calling.{Reason, cost_at, costs_of}
 use Rattle.stabilize_round.specs.Freezing.{fires_at}
@@ -61,6 +61,7 @@ use Rattle.stabilizer.specs.declared.work.Work.{Work}
 use Rattle.stabilizer.proofs.Agreeing.{no_freeze}
 use Rattle.stabilizer.proofs.Beginning.{Begun, main_there}
 use Rattle.stabilizer.proofs.Counting.{within}
+use Rattle.stabilizer.specs.Graph.{held_at, graph_at}
 
 -- ---- states
 
@@ -139,9 +140,9 @@ gathered_by F G out (n ∷ ns) (v ∷ vs) gives sees =
     rw (first, rest) refl
 
 -- no node is a freeze that keeps no value yet, so roots are what is observed
-pub root_observed : (arena : Arena) (observed : List NodeId) (n : NodeId) → IsRoot (graph_of arena) observed n → Among n observed
-root_observed arena observed n (inl a) = a
-root_observed arena observed n (inr u) = absurd (no_freeze arena n u.row u.kid u.predicate u.is_row u.is_freeze)
+pub root_observed : (arena : Arena) (held : Holdings) (observed : List NodeId) (n : NodeId) → IsRoot (graph_of arena held) observed n → Among n observed
+root_observed arena held observed n (inl a) = a
+root_observed arena held observed n (inr u) = absurd (no_freeze arena n u.row u.kid u.predicate u.is_row u.is_freeze)
 
 pub among_main : (p : Point) (ns : List NodeId) → Among p (map main ns) → (n : NodeId) × Among n ns × (p ≡ main n)
 among_main p [] a = absurd a
@@ -252,7 +253,7 @@ module _ (F : Functions) (arena : Arena) (old mid : Work) (before after : ℕ) (
     (kept : IsKept arena mid) (t : State) (run : Moves F begun.start begun.state t) (stands : Stands arena mid after None t)
     (idle : mid.todo.items ≡ []) (empty : IsEmpty mid.graph.heap) where
   abbrev G : Graph
-  G = graph_of arena
+  G = graph_at arena mid
 
   abbrev last : State
   last = record t { graph = G; died = none_died }
@@ -296,7 +297,7 @@ module _ (F : Functions) (arena : Arena) (old mid : Work) (before after : ℕ) (
   later : (n m : ℕ) → n ≤ m → (n == m + 1) ≡ false
   later n m le = grind (arith, common_steps)
 
-  module _ (new : Work) (graph : new.graph ≡ mid.graph) (rows : new.rows ≡ mid.rows) (pairs : new.pairs ≡ mid.pairs) (todo : new.todo ≡ mid.todo)
+  module _ (new : Work) (graph : new.graph ≡ mid.graph) (rows : new.rows ≡ mid.rows) (roots : new.roots ≡ mid.roots) (pairs : new.pairs ≡ mid.pairs) (todo : new.todo ≡ mid.todo)
       (ran : new.ran.items ≡ []) (strict : new.strict ≡ false) (round : new.round ≡ mid.round + 1) where
     abbrev next : Work
     next = record mid { ran = new.ran; strict = new.strict; round = new.round }
@@ -304,8 +305,9 @@ module _ (F : Functions) (arena : Arena) (old mid : Work) (before after : ℕ) (
     pub is_next : next ≡ new
     is_next =
         ap (λ g. record next { graph = g }) (sym graph) ∙ (ap (λ r. record next { graph = new.graph; rows = r }) (sym rows)
-        ∙ (ap (λ ps. record next { graph = new.graph; rows = new.rows; pairs = ps }) (sym pairs)
-        ∙ ap (λ x. record next { graph = new.graph; rows = new.rows; pairs = new.pairs; todo = x }) (sym todo)))
+        ∙ (ap (λ m. record next { graph = new.graph; rows = new.rows; roots = m }) (sym roots)
+        ∙ (ap (λ ps. record next { graph = new.graph; rows = new.rows; roots = new.roots; pairs = ps }) (sym pairs)
+        ∙ ap (λ x. record next { graph = new.graph; rows = new.rows; roots = new.roots; pairs = new.pairs; todo = x }) (sym todo))))
 
     unsettled : (x : Option Progress) → ((k : Progress) → x ≡ Some k → k.settled ≤ mid.round) → settled_in (mid.round + 1) x ≡ false
     unsettled None low = refl
@@ -324,6 +326,7 @@ module _ (F : Functions) (arena : Arena) (old mid : Work) (before after : ℕ) (
       today = kept.today;
       outcomes = kept.outcomes;
       rights = kept.rights;
+      rootless = kept.rootless;
       calls = kept.calls;
       rounds = λ p k e. let l = kept.rounds p k e in rw round (omega arith);
       pairs = kept.pairs;
@@ -373,7 +376,7 @@ module _ (F : Functions) (arena : Arena) (old mid : Work) (before after : ℕ) (
     are : RootsAre last observed
     are = record {
       on = λ n r. subst (λ (k : ℕ). 0 < k) (sym (stands.root (main n) ∙ rooted (main n)))
-          (among_count (main n) (map main observed) (among_map main n observed (root_observed arena observed n r)));
+          (among_count (main n) (map main observed) (among_map main n observed (root_observed arena (held_at arena mid) observed n r)));
       listed = λ p h.
           let a = among_main p observed (count_among p (map main observed) (subst (λ (k : ℕ). 0 < k) (stands.root p ∙ rooted p) h)) in (a.0, inl a.1, a.2);
     }
@@ -432,7 +435,7 @@ module _ (F : Functions) (arena : Arena) (old mid : Work) (before after : ℕ) (
         from_root l.1 (subst (λ (y : Point). Reaches (Depends F G none_died) y p) l.2 way)
     is_met p (invariant.from_held {h} held row stands way) = from_held ((begun.held h).0 held) row stands way
 
-    was_called : (n : NodeId) → HasCalled F begun.start G none_died t.root last.settled t.last n → WasCalled F arena old mid observed n
+    was_called : (n : NodeId) → HasCalled F begun.start G none_died t.root last.settled t.last n → WasCalled F G old mid observed n
     was_called n c = record {
       row = c.row;
       nodes = c.kids;
@@ -461,14 +464,14 @@ module _ (F : Functions) (arena : Arena) (old mid : Work) (before after : ℕ) (
     in_state : (n : NodeId) → Among n mid.ran.items → Among n t.ran
     in_state n a = subst (λ (ns : List NodeId). Among n ns) (sym stands.ran) (among_reverse n mid.ran.items a)
 
-    called : (n : NodeId) → Among n mid.ran.items → WasCalled F arena old mid observed n
+    called : (n : NodeId) → Among n mid.ran.items → WasCalled F G old mid observed n
     called n a = was_called n (ended.ran n (in_state n a))
 
     costs : (n : NodeId) → Among n mid.ran.items → 0 < cost_at G n
     costs n a = ended.costs n (in_state n a)
 
     abbrev IsKeptAt : NodeId → Type 0
-    IsKeptAt n = (last_call mid n ≡ last_call old n) ⊎ (WasCalled F arena old mid observed n × (cost_at G n ≡ 0))
+    IsKeptAt n = (last_call mid n ≡ last_call old n) ⊎ (WasCalled F G old mid observed n × (cost_at G n ≡ 0))
 
     uncalled : (n : NodeId) → (Among n mid.ran.items → ⊥) → IsKeptAt n
     uncalled n not = by_row (row_at arena n) refl
@@ -485,7 +488,7 @@ module _ (F : Functions) (arena : Arena) (old mid : Work) (before after : ℕ) (
     once : NoRepeats mid.ran.items
     once = once_reverse mid.ran.items (subst (λ (ns : List NodeId). NoRepeats ns) stands.ran ended.once)
 
-    up_to_date : IsUpToDate F arena old mid observed mid.ran.items
+    up_to_date : IsUpToDate F G old mid observed mid.ran.items
     up_to_date = record {
       rooted = rooted;
       needs = λ p. (wanted p, needed p);
@@ -500,14 +503,14 @@ module _ (F : Functions) (arena : Arena) (old mid : Work) (before after : ℕ) (
       once = once;
       called = called;
       costs = costs;
-      work = λ beside observers stood are_on calls few. within F arena kept.today.flat old mid observed (root_observed arena observed) beside observers stood are_on
+      work = λ beside observers stood are_on calls few. within F arena (held_at arena mid) kept.today.flat old mid observed (root_observed arena (held_at arena mid) observed) beside observers stood are_on
           mid.ran.items once called calls few;
     }
 
-    module _ (new : Work) (graph : new.graph ≡ mid.graph) (rows : new.rows ≡ mid.rows) (pairs : new.pairs ≡ mid.pairs) (todo : new.todo ≡ mid.todo)
+    module _ (new : Work) (graph : new.graph ≡ mid.graph) (rows : new.rows ≡ mid.rows) (roots : new.roots ≡ mid.roots) (pairs : new.pairs ≡ mid.pairs) (todo : new.todo ≡ mid.todo)
         (ran : new.ran.items ≡ []) (strict : new.strict ≡ false) (round : new.round ≡ mid.round + 1) where
-      called_next : (n : NodeId) → WasCalled F arena old mid observed n
-          → WasCalled F arena old (record mid { ran = new.ran; strict = new.strict; round = new.round }) observed n
+      called_next : (n : NodeId) → WasCalled F G old mid observed n
+          → WasCalled F G old (record mid { ran = new.ran; strict = new.strict; round = new.round }) observed n
       called_next n c = record {
         row = c.row;
         nodes = c.nodes;
@@ -522,7 +525,7 @@ module _ (F : Functions) (arena : Arena) (old mid : Work) (before after : ℕ) (
         met = c.met;
       }
 
-      up_next : IsUpToDate F arena old (record mid { ran = new.ran; strict = new.strict; round = new.round }) observed mid.ran.items
+      up_next : IsUpToDate F G old (record mid { ran = new.ran; strict = new.strict; round = new.round }) observed mid.ran.items
       up_next = let up = up_to_date in record {
         rooted = up.rooted;
         needs = up.needs;
@@ -540,6 +543,6 @@ module _ (F : Functions) (arena : Arena) (old mid : Work) (before after : ℕ) (
         work = up.work;
       }
 
-      pub right_again : IsUpToDate F arena old new observed mid.ran.items
-      right_again = subst (λ (w : Work). IsUpToDate F arena old w observed mid.ran.items)
-          (is_next new graph rows pairs todo ran strict round) up_next
+      pub right_again : IsUpToDate F (graph_at arena new) old new observed mid.ran.items
+      right_again = subst (λ (w : Work). IsUpToDate F (graph_at arena w) old w observed mid.ran.items)
+          (is_next new graph rows roots pairs todo ran strict round) up_next

@@ -107,6 +107,7 @@ woken old mid new rows q w e rest there more =
       todo = λ p a. subst (Among p) (sym more) (among_before p q old.todo.items a);
       pairs = ap (λ (k : Work). k.pairs) rest;
       round = record {
+        roots = ap (λ (k : Work). k.roots) rest;
         ran = ap (λ (k : Work). k.ran.items) rest;
         strict = ap (λ (k : Work). k.strict) rest;
         round = ap (λ (k : Work). k.round) rest;

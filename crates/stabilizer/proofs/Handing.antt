@@ -117,7 +117,7 @@ module _ (arena : Arena) (p : Point) (r : Row) (row : row_at arena p.node ≡ So
     mid = record old { rows = rows }
 
     same_round : KeepsRound old mid
-    same_round = record { ran = refl; strict = refl; round = refl }
+    same_round = record { roots = refl; ran = refl; strict = refl; round = refl }
 
     pub full_kept : IsKept arena mid
     full_kept = staged_kept old mid p code.Full w refl same_round refl arena refl kept

@@ -13,7 +13,6 @@ use Rattle.necessary_graph.specs.Part as part
 use Rattle.necessity.specs.Need.{KeepsRoots}
 use Rattle.height_order.specs.Chains.{ReadsWith, IsChain}
 use Rattle.node_arena.specs.Arena.{Arena}
-use Rattle.node_arena.specs.Graph.{graph_of}
 use Rattle.stabilize_round.specs.Invariant as invariant
 use Rattle.stabilize_round.specs.Invariant.{Invariant, MetNow}
 use Rattle.stabilize_round.specs.Machine.{Move, Moves}
@@ -37,12 +36,13 @@ use Rattle.stabilizer.proofs.Began.{round_on}
 use Rattle.node_outcomes.specs.Meaning.{Meaning}
 use Rattle.stabilizer.proofs.Ending.{as_graph, among_main}
 use Rattle.stabilizer.proofs.Once.{once_as}
+use Rattle.stabilizer.specs.Graph.{graph_at}
 
 module _ (F : Functions) (arena : Arena) (old new : Work) (before between : ℕ) (begun : Begun F arena old before) (left : Option Hand) (t : State)
     (run : Moves F begun.start begun.state t) (stands : Stands arena new between left t) (nodes observed : List NodeId)
     (only : OnlyRoots old.graph.roots new.graph.roots (map main nodes)) (rooted : AreRooted old observed) where
   abbrev G : Graph
-  G = graph_of arena
+  G = graph_at arena new
 
   abbrev last : State
   last = record t { graph = G; died = none_died }
@@ -95,7 +95,7 @@ module _ (F : Functions) (arena : Arena) (old new : Work) (before between : ℕ)
     walk (a ∷ b ∷ rest) chain = (linked a b chain.0, walk (b ∷ rest) chain.1)
 
     -- a chain over them of two points or more is a walk of what points depend on, and its first is met
-    listed : (list : List Point) → 2 ≤ length list → IsChain (ReadsWith new.graph.links p q) list → IsListed F arena old (nodes ++ observed) list
+    listed : (list : List Point) → 2 ≤ length list → IsChain (ReadsWith new.graph.links p q) list → IsListed F G old (nodes ++ observed) list
     listed [] long chain = absurd (omega arith)
     listed (a ∷ []) long chain = absurd (omega arith)
     listed (a ∷ b ∷ rest) long chain =
@@ -104,7 +104,7 @@ module _ (F : Functions) (arena : Arena) (old new : Work) (before between : ℕ)
         record { walk = l.0; met = λ x starts. subst IsMet starts (met_as a (l.1 a (inl refl))) }
 
   by_refused : (p q : Point) → t.needed p ≡ true → Depends F t.graph t.died p q → (e : Refused) → RefusedBy new p q e
-      → IsLawful F arena old (nodes ++ observed) e
+      → IsLawful F G old (nodes ++ observed) e
   by_refused p q need tried (Height points) why = (
     listed p q need tried why.strict points.items (let l = why.long in omega arith) why.chain,
     why.long,
@@ -129,7 +129,7 @@ module _ (F : Functions) (arena : Arena) (old new : Work) (before between : ℕ)
 lawful : (F : Functions) (arena : Arena) (old new : Work) (before between : ℕ) (b : Begun F arena old before) (left : Option Hand) (t : State)
     → Moves F b.start b.state t → Stands arena new between left t → (nodes observed : List NodeId)
     → OnlyRoots old.graph.roots new.graph.roots (map main nodes) → AreRooted old observed → (e : Refused) → TellsWhy F t new left e
-    → IsLawful F arena old (nodes ++ observed) e
+    → IsLawful F (graph_at arena new) old (nodes ++ observed) e
 lawful F arena old new before between b left t run stands nodes observed only rooted e no_memory = tt
 lawful F arena old new before between b left t run stands nodes observed only rooted e (by_link {p} {q} {rest} need tried confirmed why) =
     by_refused F arena old new before between b left t run stands nodes observed only rooted p q need tried e why
@@ -137,7 +137,7 @@ lawful F arena old new before between b left t run stands nodes observed only ro
 -- a root or its links were refused
 pub roots_lawful : (M : Meaning) (arena : Arena) (old new : Work) (before : ℕ) → IsReady M arena old → (nodes observed : List NodeId)
     → OnlyRoots old.graph.roots new.graph.roots (map main nodes) → AreRooted old observed → (e : Refused) → RootRefused arena old new e
-    → IsLawful M.functions arena old (nodes ++ observed) e
+    → IsLawful M.functions (graph_at arena new) old (nodes ++ observed) e
 roots_lawful M arena old new before ready nodes observed only rooted e refused =
     let F = M.functions in
     let b = (begun_of M arena old ready before).begun in
@@ -147,7 +147,7 @@ roots_lawful M arena old new before ready nodes observed only rooted e refused =
 -- a step was refused
 pub steps_lawful : (M : Meaning) (arena : Arena) (old mid new : Work) (before after : ℕ) → IsReady M arena old → PutsRoots arena old mid
     → (nodes observed : List NodeId) → OnlyRoots old.graph.roots mid.graph.roots (map main nodes) → KeepsRoots mid.graph.roots new.graph.roots
-    → AreRooted old observed → (e : Refused) → SettleRefused M arena mid new before after e → IsLawful M.functions arena old (nodes ++ observed) e
+    → AreRooted old observed → (e : Refused) → SettleRefused M arena mid new before after e → IsLawful M.functions (graph_at arena new) old (nodes ++ observed) e
 steps_lawful M arena old mid new before after ready put nodes observed only same rooted e refused =
     let F = M.functions in
     let begins = begun_of M arena old ready before in

@@ -235,7 +235,7 @@ pub record IsPopped (old new : Work) (p : Point) : Type 0 where
   pub items : old.todo.items ≡ new.todo.items ++ p ∷ []
 
 pub popped_of : (work : Work) (todo : Vec Point Global) (p : Point) → work.todo.items ≡ todo.items ++ p ∷ [] → IsPopped work (record work { todo = todo }) p
-popped_of work todo p items = record { graph = refl; rows = refl; pairs = refl; round = record { ran = refl; strict = refl; round = refl }; items = items }
+popped_of work todo p items = record { graph = refl; rows = refl; pairs = refl; round = record { roots = refl; ran = refl; strict = refl; round = refl }; items = items }
 
 among_last : (xs : List Point) (p a : Point) → Among a (xs ++ p ∷ []) → Among a xs ⊎ (a ≡ p)
 among_last [] p a (inl e) = inr e
@@ -260,7 +260,8 @@ module _ (arena : Arena) (old new : Work) (p : Point) (popped : IsPopped old new
     sound = k.sound;
     today = k.today;
     outcomes = rw popped.rows k.outcomes;
-    rights = rw popped.rows k.rights;
+    rights = rw (popped.rows, popped.round.roots) k.rights;
+    rootless = rw (popped.rows, popped.round.roots) k.rootless;
     calls = rw popped.rows k.calls;
     rounds = rw (popped.rows, popped.round.round) k.rounds;
     pairs = rw popped.pairs k.pairs;
@@ -361,5 +362,5 @@ looks_empty work todo items = record {
   heap = λ p. refl;
   todo = sym items;
   pairs = refl;
-  round = record { ran = refl; strict = refl; round = refl };
+  round = record { roots = refl; ran = refl; strict = refl; round = refl };
 }

@@ -17,7 +17,6 @@ use Rattle.inc_terms.specs.Work.{taken_by}
 use Rattle.necessary_graph.specs.Part as part
 use Rattle.necessity.specs.Need.{Roots, KeepsRoots}
 use Rattle.node_arena.specs.Arena.{Arena, row_at}
-use Rattle.node_arena.specs.Graph.{graph_of}
 use Rattle.point_map.specs.Rows.{at}
 use Rattle.stabilize_round.specs.Calling.{cost_at, costs_of}
 use Rattle.stabilize_round.specs.Counts.{RoseAtMost}
@@ -41,10 +40,11 @@ use Rattle.node_outcomes.specs.Meaning.{Meaning}
 use Rattle.stabilizer.proofs.Ending.{as_graph, cutoff_case, seen_case}
 use Rattle.stabilizer.proofs.Lawful.{met_as}
 use Rattle.stabilizer.proofs.Remaining.{moves_out}
+use Rattle.stabilizer.specs.Graph.{graph_at}
 
 -- no function was called
-pub none_called : (F : Functions) (arena : Arena) (old : Work) (observed : List NodeId) (count : ℕ) → HasCalledMet F arena old observed count count
-none_called F arena old observed count = record {
+pub none_called : (F : Functions) (G : Graph) (old : Work) (observed : List NodeId) (count : ℕ) → HasCalledMet F G old observed count count
+none_called F G old observed count = record {
   few = record { nodes = []; once = tt; callers = λ n among. absurd among; count = record { kept = omega arith; within = omega arith } };
   met = λ n among. absurd among;
 }
@@ -59,7 +59,7 @@ module _ (F : Functions) (arena : Arena) (old new : Work) (before between : ℕ)
       (λ k e. sym (stands.never n k e) ∙ (inv.accounts.cutoffs n ∙ b.never n))
 
   -- what is shown of a node stays, or is what it gives
-  shows_still : IsKept arena old → IsKept arena new → (n : NodeId) → ShowsStill F arena old new n
+  shows_still : IsKept arena old → IsKept arena new → (n : NodeId) → ShowsStill F (graph_at arena new) old new n
   shows_still first kept n = by_row (row_at arena n) refl
     where
       shows : (work : Work) (calls : ℕ) (h : Option Hand) (s : State) → IsKept arena work → Stands arena work calls h s
@@ -67,7 +67,7 @@ module _ (F : Functions) (arena : Arena) (old new : Work) (before between : ℕ)
       shows work calls h s k w =
           seen_case (at work.rows (main n)) (row_at arena n) (s.out (main n)) (main_there arena work k n) (λ x e. w.out (main n) x e)
 
-      by_row : (x : Option Row) → row_at arena n ≡ x → ShowsStill F arena old new n
+      by_row : (x : Option Row) → row_at arena n ≡ x → ShowsStill F (graph_at arena new) old new n
       by_row None dead = inl (shows new between left t kept stands
           ∙ (subst (λ (x : Option Row). shown_of x (t.out (main n)) ≡ shown_of x (b.state.out (main n))) (sym dead) refl
           ∙ sym (shows old before None b.state first b.stands)))
@@ -91,14 +91,14 @@ module _ (F : Functions) (arena : Arena) (old new : Work) (before between : ℕ)
   -- nodes whose functions were called are met, wherever the round stopped
   module _ (nodes observed : List NodeId) (only : OnlyRoots old.graph.roots new.graph.roots (map main nodes)) (rooted : AreRooted old observed) where
     is_met : (p : Point) → MetNow F b.start t.graph t.died t.root p
-        → Met F (graph_of arena) none_died (nodes ++ observed) (λ (q : Point). part.Needed old.graph q) p
+        → Met F (graph_at arena new) none_died (nodes ++ observed) (λ (q : Point). part.Needed old.graph q) p
     is_met p met =
         met_as F arena old new before between b left t run stands nodes observed only rooted p
-        (subst (λ (x : State). MetNow F b.start x.graph x.died x.root p) (as_graph (graph_of arena) t stands.graph stands.died) met)
+        (subst (λ (x : State). MetNow F b.start x.graph x.died x.root p) (as_graph (graph_at arena new) t stands.graph stands.died) met)
 
-    called_met : (after : ℕ) (u : State) → Stops F b.start t u → u.graph ≡ graph_of arena → u.calls ≡ after
+    called_met : (after : ℕ) (u : State) → Stops F b.start t u → u.graph ≡ graph_at arena new → u.calls ≡ after
         → ((p : Point) → MetNow F b.start u.graph u.died u.root p → MetNow F b.start t.graph t.died t.root p)
-        → HasCalledMet F arena old (nodes ++ observed) before after
+        → HasCalledMet F (graph_at arena new) old (nodes ++ observed) before after
     called_met after u stops graph calls back =
         let k = refused_calls F b.start b.state t u b.entry run stops in
         record {
@@ -111,8 +111,8 @@ module _ (F : Functions) (arena : Arena) (old new : Work) (before between : ℕ)
               is_row = subst (λ (G : Graph). G.row n ≡ Some m.0) graph m.2;
               takes = subst (λ (G : Graph). taken_by G n m.0.def ≡ Some m.1) graph m.3;
             };
-            count = subst (λ (x : ℕ). RoseAtMost before (costs_of (graph_of arena) k.0) x) calls
-                (subst (λ (x : ℕ). RoseAtMost x (costs_of (graph_of arena) k.0) u.calls) b.calls
+            count = subst (λ (x : ℕ). RoseAtMost before (costs_of (graph_at arena new) k.0) x) calls
+                (subst (λ (x : ℕ). RoseAtMost x (costs_of (graph_at arena new) k.0) u.calls) b.calls
                 (subst (λ (G : Graph). RoseAtMost b.start.calls (costs_of G k.0) u.calls) graph k.2));
           };
           met = λ n a. is_met (main n) (back (main n) (k.3 n a).4);
@@ -132,7 +132,7 @@ roots_cutoffs M arena old new before ready kept e refused =
     cutoffs_still F arena old new before before b k.1 k.0 k.2 k.3 ready.kept kept
 
 pub roots_show : (M : Meaning) (arena : Arena) (old new : Work) (before : ℕ) → IsReady M arena old → IsKept arena new → (e : Refused)
-    → RootRefused arena old new e → (n : NodeId) → ShowsStill M.functions arena old new n
+    → RootRefused arena old new e → (n : NodeId) → ShowsStill M.functions (graph_at arena new) old new n
 roots_show M arena old new before ready kept e refused =
     let F = M.functions in
     let b = (begun_of M arena old ready before).begun in
@@ -160,7 +160,7 @@ module _ (M : Meaning) (arena : Arena) (old mid new : Work) (before after : ℕ)
       let k = refused b.start m.0 (round_on M b.start b.state m.0 m.1 begins.round) m.2 in
       cutoffs_still F arena old new before k.between b k.left k.state (joined (Move F b.start) b.state m.0 k.state m.1 k.moves) k.stands ready.kept kept
 
-  pub steps_show : IsKept arena new → (n : NodeId) → ShowsStill M.functions arena old new n
+  pub steps_show : IsKept arena new → (n : NodeId) → ShowsStill M.functions (graph_at arena new) old new n
   steps_show kept =
       let m = put F b.start b.state before inv b.stands in
       let k = refused b.start m.0 (round_on M b.start b.state m.0 m.1 begins.round) m.2 in
@@ -168,7 +168,7 @@ module _ (M : Meaning) (arena : Arena) (old mid new : Work) (before after : ℕ)
 
   -- and some of a least point's calls may have been made
   pub steps_called : (nodes observed : List NodeId) → OnlyRoots old.graph.roots mid.graph.roots (map main nodes) → KeepsRoots mid.graph.roots new.graph.roots
-      → AreRooted old observed → HasCalledMet M.functions arena old (nodes ++ observed) before after
+      → AreRooted old observed → HasCalledMet M.functions (graph_at arena new) old (nodes ++ observed) before after
   steps_called nodes observed only same rooted =
       let m = put F b.start b.state before inv b.stands in
       let k = refused b.start m.0 (round_on M b.start b.state m.0 m.1 begins.round) m.2 in

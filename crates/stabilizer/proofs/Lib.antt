@@ -1,6 +1,7 @@
 pub mod Enqueuing
 pub mod Linking
 pub mod Rooting
+pub mod Holding
 pub mod Wiring
 pub mod Flat
 pub mod Keeping

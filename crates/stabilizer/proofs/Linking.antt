@@ -31,6 +31,7 @@ use Rattle.node_outcomes.specs.declared.row.Stage.{Stage}
 use Rattle.node_outcomes.specs.declared.row.Stage.TheVariants as code
 use Rattle.stabilizer.specs.declared.work.Work.{Work}
 use Rattle.stabilizer.proofs.Unlinked.{newly_unlinked, rested_unlinked}
+use Rattle.stabilizer.proofs.Holding.{graph_staged}
 
 -- one link more is one link more in the state
 pub links_more : (links : Point → Point → ℕ) (old new : Links) (p q : Point) → ((a b : Point) → links a b ≡ times old a b) → OneLinkMore old new p q
@@ -245,7 +246,7 @@ module _ (F : Functions) (z : Start) (s : State) (arena : Arena) (mid new : Work
       → ((a : Point) → owed a ≡ owed_in held a)
       → Stands arena new calls held (record woken { todo = todo; stage = stage; owed = owed })
   woken_with todo stage owed todo_is stage_is owed_is = record {
-    graph = st.graph;
+    graph = st.graph ∙ sym (graph_staged arena mid new q code.Bare w.rows w.round.roots);
     out = λ a k e. let b = row_before mid.rows new.rows q code.Bare w.rows a k e in st.out a b.row b.was ∙ sym b.outcome;
     last = λ n k e. let b = row_before mid.rows new.rows q code.Bare w.rows (main n) k e in st.last n b.row b.was ∙ sym b.last;
     never = λ n k e. let b = row_before mid.rows new.rows q code.Bare w.rows (main n) k e in st.never n b.row b.was ∙ ap is_never (sym b.cutoff);

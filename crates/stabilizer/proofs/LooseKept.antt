@@ -6,7 +6,7 @@ use Rattle.inc_value.specs.declared.node.NodeId.{NodeId}
 use Rattle.inc_value.specs.declared.node.Point.{Point}
 use Rattle.inc_value.specs.declared.outcome.Outcome.{Outcome}
 use Rattle.inc_value.specs.Choice.{Among}
-use Rattle.inc_terms.specs.Depend.{main, change}
+use Rattle.inc_terms.specs.Depend.{main, change, right_of}
 use Rattle.inc_terms.specs.Plan.{targets}
 use Rattle.point_map.specs.Rows.{Rows, at, Holds}
 use Rattle.link_table.specs.Links.{Links, times}
@@ -15,7 +15,7 @@ use Rattle.necessity.specs.Need.{Roots, root_times, KeepsRoots}
 use Rattle.necessary_graph.specs.Part.{NecessaryPart, Needed, IsInStep}
 use Rattle.necessary_graph.proofs.Reaching.{needed_more}
 use Rattle.node_arena.specs.Arena.{Arena}
-use Rattle.node_arena.specs.Graph.{graph_of}
+use Rattle.stabilizer.specs.Graph.{graph_at}
 use Rattle.stabilize_round.proofs.Points.{same_or_other}
 use Rattle.stabilizer.specs.Kept.{IsKept}
 use Rattle.node_outcomes.specs.Row.{IsRewritten, with_stage, settled_in, stage_in, outcome_in}
@@ -24,6 +24,8 @@ use Rattle.stabilizer.specs.Wiring.{IsMarked, KeepsPlaces, IsConfirmedAt}
 use Rattle.node_outcomes.specs.declared.row.Progress.{Progress}
 use Rattle.node_outcomes.specs.declared.row.Stage.TheVariants as code
 use Rattle.stabilizer.specs.declared.work.Work.{Work}
+use Rattle.stabilizer.proofs.Holding.{graph_staged}
+use Rattle.inc_terms.specs.Graph.{Graph}
 
 -- a row with another stage
 pub record IsStaged (k before : Progress) : Type 0 where
@@ -68,6 +70,9 @@ module _ (arena : Arena) (old first new : Work) (n : NodeId) (right : Option Nod
         (ap is_some rows_are.changed ∙ some_mapped (at old.rows (main n)))
     | inr ne ↦ ap is_some (rows_are.others p (λ h. ne (sym h)))
   ]
+
+  roots_are : new.roots ≡ old.roots
+  roots_are = ap (λ (w : Work). w.roots) loose.last ∙ (ap (λ (w : Work). w.roots) loose.rest ∙ ap (λ (w : Work). w.roots) only)
 
   round_is : new.round ≡ old.round
   round_is = ap (λ (w : Work). w.round) loose.last ∙ (ap (λ (w : Work). w.round) loose.rest ∙ ap (λ (w : Work). w.round) only)
@@ -146,7 +151,9 @@ module _ (arena : Arena) (old first new : Work) (n : NodeId) (right : Option Nod
     sound = kept.sound;
     today = kept.today;
     outcomes = λ i r x v row e o. let b = row_was (main i) x e in kept.outcomes i r b.0 v row b.1 (sym b.2.outcome ∙ o);
-    rights = λ i m r x o row e out right. let b = row_was (change i) x e in kept.rights i m r b.0 o row b.1 (sym b.2.outcome ∙ out) right;
+    rights = λ i m r x o row e out right. let b = row_was (change i) x e in kept.rights i m r b.0 o row b.1 (sym b.2.outcome ∙ out)
+        (subst (λ (G : Graph). right_of G i r.def o ≡ Some m) (graph_staged arena old new (main n) code.Static rows_are roots_are) right);
+    rootless = λ i w is. kept.rootless i w (subst (λ (G : Graph). G.built i ≡ Some w) (graph_staged arena old new (main n) code.Static rows_are roots_are) is);
     calls = λ i r x c row e l. let b = row_was (main i) x e in kept.calls i r b.0 c row b.1 (sym b.2.last ∙ l);
     rounds = λ p x e. let b = row_was p x e in let r = kept.rounds p b.0 b.1 in let s = b.2.settled in let q = round_is in omega (arith, r, s, q);
     pairs = λ i r row some. subst (λ (xs : List NodeId). Among i xs) (sym (ap (λ (w : Work). w.pairs.items) loose.last
@@ -160,7 +167,8 @@ module _ (arena : Arena) (old first new : Work) (n : NodeId) (right : Option Nod
   pub loose_confirmed : (i : NodeId) → IsConfirmedAt arena old i → IsConfirmedAt arena new i
   loose_confirmed i confirmed r p row need full among =
       settled_same (confirmed r p row (need_before (main i) need) (full_before full)
-      (subst (λ (x : Option Outcome). Among p (targets (graph_of arena) i r.def x)) out among))
+      (subst (λ (G : Graph). Among p (targets G i r.def (outcome_in (at old.rows (change i))))) (graph_staged arena old new (main n) code.Static rows_are roots_are)
+      (subst (λ (x : Option Outcome). Among p (targets (graph_at arena new) i r.def x)) out among)))
     where
       own_row : at new.rows (change i) ≡ at old.rows (change i)
       own_row = rows_are.others (change i) (λ e. let x = ap (λ (y : Point). y.part) e in absurd (cc))

@@ -3,14 +3,13 @@ use Rattle.std.proofs.Common.{◌≡◌, ◌≢◌, ◌⊎◌, inl, inr, ℕ, Op
 use Rattle.inc_value.specs.declared.node.NodeId.{NodeId}
 use Rattle.inc_value.specs.declared.node.Point.{Point}
 use Rattle.inc_value.specs.declared.outcome.Outcome.{Outcome}
-use Rattle.inc_value.specs.Choice.{and_then}
-use Rattle.inc_terms.specs.Depend.{main, change, right_of}
+use Rattle.inc_terms.specs.Depend.{main, change}
 use Rattle.inc_terms.specs.Graph.{Def}
 use Rattle.point_map.specs.Rows.{Rows, at}
 use Rattle.necessary_graph.specs.Part.{NecessaryPart}
 use Rattle.node_outcomes.specs.Row.{IsRewritten, with_stage, with_outcome, outcome_in}
 use Rattle.stabilizer.specs.Turning.{IsAttached, IsLoosened, IsOff, HasTurned}
-use Rattle.node_outcomes.specs.Choosing.{right_in, no_graph}
+use Rattle.node_outcomes.specs.Choosing.{right_by, right_in}
 use Rattle.stabilizer.specs.Wiring.{IsEnqueued}
 use Rattle.node_outcomes.specs.declared.row.Progress.{Progress}
 use Rattle.node_outcomes.specs.declared.row.Stage.TheVariants as code
@@ -20,13 +19,15 @@ pub change_is_other : (n : NodeId) → change n ≡ main n → ⊥
 change_is_other n e = let p = ap (λ (x : Point). x.part) e in cc
 
 -- a row that isn't the change's is another: the same right side
-pub right_same : (old new : Work) (n : NodeId) (def : Def) → at new.rows (change n) ≡ at old.rows (change n) → right_in new.rows n def ≡ right_in old.rows n def
-right_same old new n def e = ap (λ (x : Option Progress). and_then (outcome_in x) (λ o. right_of no_graph n def o)) e
+pub right_same : (old new : Work) (n : NodeId) (def : Def) → at new.rows (change n) ≡ at old.rows (change n)
+    → new.roots ≡ old.roots → right_in new.rows new.roots n def ≡ right_in old.rows old.roots n def
+right_same old new n def e roots = ap (λ (x : Option Progress). right_by def n (outcome_in x) (at new.roots (change n))) e
+    ∙ ap (λ (m : Rows NodeId). right_by def n (outcome_in (at old.rows (change n))) (at m (change n))) roots
 
 -- the main has its stage, and the right side is off
 pub loosened : (old mid new : Work) (n : NodeId) (def : Def) (right : Option NodeId) → IsEnqueued old mid (main n) → mid ≡ record old { graph = mid.graph }
     → IsRewritten mid.rows new.rows (main n) (with_stage code.Static) → new ≡ record mid { graph = new.graph; rows = new.rows }
-    → right ≡ right_in new.rows n def → IsOff mid.graph new.graph n right → IsLoosened old new n (right_in old.rows n def)
+    → right ≡ right_in new.rows new.roots n def → IsOff mid.graph new.graph n right → IsLoosened old new n (right_in old.rows old.roots n def)
 loosened old mid new n def right enqueued rest rows last is off = record {
   rows = subst (λ (m : Rows Progress). IsRewritten m new.rows (main n) (with_stage code.Static)) rows_of rows;
   mid = mid;
@@ -39,9 +40,9 @@ loosened old mid new n def right enqueued rest rows last is off = record {
     rows_of : mid.rows ≡ old.rows
     rows_of = ap (λ (w : Work). w.rows) rest
 
-    same : right_in new.rows n def ≡ right_in old.rows n def
-    same = right_same old (record mid { rows = new.rows }) n def
-        (rows.others (change n) (change_is_other n) ∙ ap (λ (m : Rows Progress). at m (change n)) rows_of)
+    same : right_in new.rows new.roots n def ≡ right_in old.rows old.roots n def
+    same = right_same old new n def (rows.others (change n) (change_is_other n) ∙ ap (λ (m : Rows Progress). at m (change n)) rows_of)
+        (ap (λ (w : Work). w.roots) last ∙ ap (λ (w : Work). w.roots) rest)
 
 -- there is none
 pub off_none : (g : NecessaryPart) (n : NodeId) (right : Option NodeId) → ((m : NodeId) → right ≡ Some m → ⊥) → IsOff g g n right

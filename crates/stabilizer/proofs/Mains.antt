@@ -15,7 +15,7 @@ use Rattle.link_table.specs.Links.{Reads}
 use Rattle.height_order.specs.Levels.{level}
 use Rattle.necessary_graph.specs.Part.{NecessaryPart, IsInStep}
 use Rattle.node_arena.specs.Arena.{Arena}
-use Rattle.node_arena.specs.Graph.{graph_of}
+use Rattle.stabilizer.specs.Graph.{held_at, graph_at}
 use Rattle.stabilize_round.specs.Calling.{cost_at}
 use Rattle.stabilize_round.specs.Moves.{calls_of}
 use Rattle.node_outcomes.specs.Computing.{Computes, NotComputed, noted}
@@ -38,6 +38,7 @@ is_main p e = ap (λ (x : Part). record { node = p.node; part = x }) e
 -- of what a stabilize works on all stays but rows and the list of nodes whose functions were called
 pub record KeepsRest (old new : Work) : Type 0 where
   pub graph : new.graph ≡ old.graph
+  pub roots : new.roots ≡ old.roots
   pub todo : new.todo.items ≡ old.todo.items
   pub strict : new.strict ≡ old.strict
   pub round : new.round ≡ old.round
@@ -45,7 +46,7 @@ pub record KeepsRest (old new : Work) : Type 0 where
 
 module _ (F : Functions) (arena : Arena) (old mid new : Work) (n : NodeId) (p : Point) (same : p ≡ main n) (o : Outcome) (before after : ℕ)
     (kept : IsKept arena old) (taken : at old.graph.heap (main n) ≡ None)
-    (rest : KeepsRest old mid) (c : Computes F arena old.round (noted old.rows old.ran.items before) (noted mid.rows mid.ran.items after) n o)
+    (rest : KeepsRest old mid) (c : Computes F arena (held_at arena old) old.round (noted old.rows old.ran.items before) (noted mid.rows mid.ran.items after) n o)
     (rewritten : IsRewritten mid.rows new.rows p (with_outcome o mid.round)) (graph : KeepsGraph mid.graph new.graph)
     (tells : IsTold mid new p o) (round : KeepsRound mid new) (todo : new.todo ≡ mid.todo) where
   rows : IsRewritten mid.rows new.rows (main n) (with_outcome o mid.round)
@@ -88,7 +89,7 @@ module _ (F : Functions) (arena : Arena) (old mid new : Work) (n : NodeId) (p : 
   before_in : (p : Point) → Holds mid.graph.heap p → Holds old.graph.heap p
   before_in p h = subst (λ (g : NecessaryPart). Holds g.heap p) graph_is h
 
-  is_settled : IsSettled old new n o c.last (calls_of c.called (cost_at (graph_of arena) n))
+  is_settled : IsSettled old new n o c.last (calls_of c.called (cost_at (graph_at arena old) n))
   is_settled = record {
     row = c.computed.kept;
     was = was;
@@ -113,6 +114,7 @@ module _ (F : Functions) (arena : Arena) (old mid new : Work) (n : NodeId) (p : 
       | inr k ↦ inr (reads p k.0, sym (settled_as p ne) ∙ k.1)
     ];
     stops = λ is equal p ne h. before_in p (told.stops (with_last c.last c.computed.kept, between, (equal, is)) p h);
+    roots = round.roots ∙ rest.roots;
     ran = round.ran ∙ c.ran;
     todo = rw todo rest.todo;
     strict = round.strict ∙ rest.strict;
@@ -141,22 +143,22 @@ module _ (F : Functions) (arena : Arena) (old mid new : Work) (n : NodeId) (p : 
   }
 
   pub main_kept : IsInStep new.graph → new ≡ record mid { graph = new.graph; rows = new.rows } → IsKept arena new
-  main_kept step only = settled_kept arena old new n o c.last (calls_of c.called (cost_at (graph_of arena) n)) kept is_settled step
+  main_kept step only = settled_kept arena old new n o c.last (calls_of c.called (cost_at (graph_at arena old) n)) kept is_settled step
       (ap (λ (w : Work). w.pairs) only ∙ rest.pairs) c.typed c.answer_typed
 
 -- ---- what stays where a main is left
 
 pub left_kept : (arena : Arena) (old new : Work) → IsKept arena old → KeepsRows old.rows new.rows → new.graph ≡ old.graph → new.round ≡ old.round
-    → new.pairs ≡ old.pairs → IsKept arena new
-left_kept arena old new kept rows graph round pairs = kept_same arena old new kept rows
+    → new.roots ≡ old.roots → new.pairs ≡ old.pairs → IsKept arena new
+left_kept arena old new kept rows graph round roots pairs = kept_same arena old new kept rows
     (record {
       links = ap (λ (g : NecessaryPart). g.links) graph;
       roots = ap (λ (g : NecessaryPart). g.roots) graph;
       heights = ap (λ (g : NecessaryPart). g.heights) graph;
     })
     (subst IsInStep (sym graph) kept.step)
-    (λ p h. kept.heap p (subst (λ (g : NecessaryPart). Holds g.heap p) graph h)) round pairs
+    (λ p h. kept.heap p (subst (λ (g : NecessaryPart). Holds g.heap p) graph h)) round roots pairs
 
 pub uncomputed_kept : (arena : Arena) (old mid : Work) (n : NodeId) (before after : ℕ) → IsKept arena old → KeepsRest old mid
-    → NotComputed arena (noted old.rows old.ran.items before) (noted mid.rows mid.ran.items after) n → IsKept arena mid
-uncomputed_kept arena old mid n before after kept rest c = left_kept arena old mid kept c.rows rest.graph rest.round rest.pairs
+    → NotComputed (graph_at arena old) (noted old.rows old.ran.items before) (noted mid.rows mid.ran.items after) n → IsKept arena mid
+uncomputed_kept arena old mid n before after kept rest c = left_kept arena old mid kept c.rows rest.graph rest.round rest.roots rest.pairs

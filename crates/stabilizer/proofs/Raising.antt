@@ -7,7 +7,7 @@ use Rattle.inc_value.specs.declared.node.Part.TheVariants.{Change}
 use Rattle.inc_value.specs.declared.node.Point.{Point}
 use Rattle.inc_value.specs.declared.outcome.Outcome.{Outcome}
 use Rattle.inc_value.specs.Choice.{here, step, Among, Reaches}
-use Rattle.inc_terms.specs.Depend.{Depends, fixed, main, change, subject_of, main_reads, kids_of, rights_of}
+use Rattle.inc_terms.specs.Depend.{Depends, fixed, main, change, subject_of, main_reads, kids_of, rights_of, right_of}
 use Rattle.inc_terms.specs.Graph.{Graph, Row, Def}
 use Rattle.inc_terms.specs.Plan.{gate_of, targets}
 use Rattle.inc_terms.specs.Evaluate.{Stands as StandsIn, answer}
@@ -43,6 +43,8 @@ use Rattle.stabilizer.proofs.Growing.{no_more_unneeded}
 use Rattle.stabilizer.proofs.Linking.{row_before, settled_as, stage_now}
 use Rattle.stabilizer.proofs.Trying.{rewritten_there, same_need}
 use Rattle.stabilizer.proofs.Unlinked.{raised_unlinked, finished_unlinked}
+use Rattle.stabilizer.proofs.Holding.{graph_staged, graph_rows}
+use Rattle.stabilizer.specs.Graph.{graph_at}
 
 -- ---- moves one after the other
 
@@ -148,7 +150,10 @@ module _ (old new : Work) (p : Point) (st : Stage) (w : IsRewritten old.rows new
     sound = k.sound;
     today = k.today;
     outcomes = λ n r x v row e o. let b = row_before old.rows new.rows p st w (main n) x e in k.outcomes n r b.row v row b.was (sym b.outcome ∙ o);
-    rights = λ n m r x o row e out. let b = row_before old.rows new.rows p st w (change n) x e in k.rights n m r b.row o row b.was (sym b.outcome ∙ out);
+    rights = λ n m r x o row e out right. let b = row_before old.rows new.rows p st w (change n) x e in
+        k.rights n m r b.row o row b.was (sym b.outcome ∙ out)
+        (subst (λ (G : Graph). right_of G n r.def o ≡ Some m) (graph_staged arena old new p st w round.roots) right);
+    rootless = λ n x is. k.rootless n x (subst (λ (G : Graph). G.built n ≡ Some x) (graph_staged arena old new p st w round.roots) is);
     calls = λ n r x c row e l. let b = row_before old.rows new.rows p st w (main n) x e in k.calls n r b.row c row b.was (sym b.last ∙ l);
     rounds = λ a x e. let b = row_before old.rows new.rows p st w a x e in let r = k.rounds a b.row b.was in let s = b.settled in let q = round.round in
         omega (arith, r, s, q);
@@ -165,7 +170,7 @@ module _ (old new : Work) (p : Point) (st : Stage) (w : IsRewritten old.rows new
 
     pub up_stands : Stands arena new calls (Some (hand p links)) up
     up_stands = record {
-      graph = on.graph;
+      graph = on.graph ∙ sym (graph_staged arena old new p st w round.roots);
       out = λ a k e. let b = row_before old.rows new.rows p st w a k e in on.out a b.row b.was ∙ sym b.outcome;
       last = λ n k e. let b = row_before old.rows new.rows p st w (main n) k e in on.last n b.row b.was ∙ sym b.last;
       never = λ n k e. let b = row_before old.rows new.rows p st w (main n) k e in on.never n b.row b.was ∙ ap is_never (sym b.cutoff);
@@ -311,6 +316,9 @@ module _ (arena : Arena) (n : NodeId) (r : Row) (row : row_at arena n ≡ Some r
   same_rows : new.rows ≡ old.rows
   same_rows = ap (λ (w : Work). w.rows) rest
 
+  same_graph : graph_at arena new ≡ graph_at arena old
+  same_graph = graph_rows arena old new (λ a. ap (λ (m : Rows Progress). at m a) same_rows) (ap (λ (w : Work). w.roots) rest)
+
   own_row : IsKept arena old → Holds old.rows (change n)
   own_row kept = kept.rows (change n) ∙ (ap (λ (x : Option Row). has_part x Change) row ∙ two)
 
@@ -332,7 +340,9 @@ module _ (arena : Arena) (n : NodeId) (r : Row) (row : row_at arena n ≡ Some r
     sound = k.sound;
     today = k.today;
     outcomes = λ i x w v at_row e. k.outcomes i x w v at_row (sym (ap (λ (m : Rows Progress). at m (main i)) same_rows) ∙ e);
-    rights = λ i j x w o at_row e. k.rights i j x w o at_row (sym (ap (λ (m : Rows Progress). at m (change i)) same_rows) ∙ e);
+    rights = λ i j x w o at_row e out right. k.rights i j x w o at_row (sym (ap (λ (m : Rows Progress). at m (change i)) same_rows) ∙ e) out
+        (subst (λ (G : Graph). right_of G i x.def o ≡ Some j) same_graph right);
+    rootless = λ i w is. k.rootless i w (subst (λ (G : Graph). G.built i ≡ Some w) same_graph is);
     calls = λ i x w c at_row e. k.calls i x w c at_row (sym (ap (λ (m : Rows Progress). at m (main i)) same_rows) ∙ e);
     rounds = λ a w e. subst (λ (i : ℕ). w.settled ≤ i) (sym (ap (λ (x : Work). x.round) rest))
         (k.rounds a w (sym (ap (λ (m : Rows Progress). at m a) same_rows) ∙ e));
@@ -382,7 +392,7 @@ module _ (arena : Arena) (n : NodeId) (r : Row) (row : row_at arena n ≡ Some r
 
     on_put : Stands arena new calls (Some (hand (main n) [])) put_in
     on_put = record {
-      graph = on.graph;
+      graph = on.graph ∙ sym (same_graph);
       out = λ a k e. on.out a k (sym (ap (λ (m : Rows Progress). at m a) same_rows) ∙ e);
       last = λ i k e. on.last i k (sym (ap (λ (m : Rows Progress). at m (main i)) same_rows) ∙ e);
       never = λ i k e. on.never i k (sym (ap (λ (m : Rows Progress). at m (main i)) same_rows) ∙ e);
@@ -456,7 +466,7 @@ module _ (arena : Arena) (n : NodeId) (r : Row) (old : Work) (rows : Rows Progre
   mid = record old { rows = rows }
 
   same_round : KeepsRound old mid
-  same_round = record { ran = refl; strict = refl; round = refl }
+  same_round = record { roots = refl; ran = refl; strict = refl; round = refl }
 
   pub mid_kept : IsKept arena mid
   mid_kept = staged_kept old mid (main n) code.Static w refl same_round refl arena refl now.kept

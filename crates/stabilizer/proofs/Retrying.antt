@@ -35,6 +35,7 @@ use Rattle.stabilizer.specs.declared.work.Work.{Work}
 use Rattle.stabilizer.proofs.Deciding.{decides_needed}
 use Rattle.stabilizer.proofs.TakingOff.{bool_cases}
 use Rattle.stabilizer.proofs.Unlinked.{off_unlinked, turn_unlinked, finished_unlinked}
+use Rattle.stabilizer.proofs.Holding.{graph_rows}
 
 -- ---- what the moves that take off keep
 
@@ -130,7 +131,7 @@ module _ (F : Functions) (z : Start) (s : State) (arena : Arena) (old new : Work
 
   pub low_stands : Stands arena new calls held low
   low_stands = record {
-    graph = st.graph;
+    graph = st.graph ∙ sym (graph_rows arena old new l.rows l.round.roots);
     out = λ p k e. st.out p k (sym (l.rows p) ∙ e);
     last = λ n k e. st.last n k (sym (l.rows _) ∙ e);
     never = λ n k e. st.never n k (sym (l.rows _) ∙ e);

@@ -14,7 +14,6 @@ use Rattle.point_map.proofs.Places.{same_point_eq}
 use Rattle.recompute_heap.specs.Agree.{IsEmpty}
 use Rattle.necessity.specs.Need.{Roots, root_times, KeepsRoots, OneRootMore}
 use Rattle.node_arena.specs.Arena.{Arena}
-use Rattle.node_arena.specs.Graph.{graph_of}
 use Rattle.stabilize_round.specs.Calling.{costs_of}
 use Rattle.stabilize_round.specs.Counts.{RoseBy}
 use Rattle.node_outcomes.specs.Computing.{HasCalledSome}
@@ -39,6 +38,7 @@ use Rattle.stabilizer.specs.declared.work.Work.{Work}
 use Rattle.stabilizer.proofs.Began.{round_on}
 use Rattle.stabilizer.proofs.Beginning.{Begun, BegunOf, begun_of}
 use Rattle.stabilizer.proofs.Ending.{quiet_of, counted, ready_again, right_again}
+use Rattle.stabilizer.specs.Graph.{graph_at}
 
 -- what holds anyhow holds on an error
 pub on_err : {A E P : Type 0} (r : Result A E) → P → OnErr r P
@@ -170,7 +170,7 @@ settle_stops M arena old mid new before between after e first idle next z s begu
       stands = stands;
       calls = elim count [
         | inl same ↦ inl (same ∙ sym calls)
-        | inr c ↦ inr (quiet, c.0, c.1, subst (λ (x : ℕ). HasCalledSome arena c.0 x after) (sym calls) c.2)
+        | inr c ↦ inr (quiet, c.0, c.1, subst (λ (x : ℕ). HasCalledSome (graph_at arena new) c.0 x after) (sym calls) c.2)
       ];
       told = subst (λ (x : Refused). TellsWhy F u new None x) (sym is) no_memory;
     }
@@ -315,13 +315,13 @@ module _ (M : Meaning) (arena : Arena) (old rooted : Work) (before : ℕ) (ready
         let k = steps first.start w.0 (round_on M first.start first.state w.0 w.1 begins.round) w.2 in
         (k.0, joined (Move F first.start) first.state w.0 k.0 w.1 k.1, k.2)
 
-    pub round_counts : RoseBy before (costs_of (graph_of arena) settled.ran.items) after
+    pub round_counts : RoseBy before (costs_of (graph_at arena settled) settled.ran.items) after
     round_counts = counted F arena old settled before after ready.kept first kept last.0 last.1 last.2 idle empty
 
-    module _ (new : Work) (graph : new.graph ≡ settled.graph) (rows : new.rows ≡ settled.rows) (pairs : new.pairs ≡ settled.pairs)
+    module _ (new : Work) (graph : new.graph ≡ settled.graph) (rows : new.rows ≡ settled.rows) (roots_same : new.roots ≡ settled.roots) (pairs : new.pairs ≡ settled.pairs)
         (todo : new.todo ≡ settled.todo) (ran : new.ran.items ≡ []) (strict : new.strict ≡ false) (round : new.round ≡ settled.round + 1) where
       pub round_readies : IsReady M arena new
-      round_readies = ready_again F arena old settled before after ready.kept first kept last.0 last.1 last.2 idle empty new graph rows pairs todo ran
+      round_readies = ready_again F arena old settled before after ready.kept first kept last.0 last.1 last.2 idle empty new graph rows roots_same pairs todo ran
           strict round M.known M.ids ready.laws ready.fit
 
       module _ (same_round : settled.round ≡ old.round) (nodes observed : List NodeId) (roots : KeepsRoots rooted.graph.roots settled.graph.roots)
@@ -335,6 +335,6 @@ module _ (M : Meaning) (arena : Arena) (old rooted : Work) (before : ℕ) (ready
             let f = count_append p (map main nodes) (map main observed) in
             omega arith
 
-        pub round_rights : IsUpToDate F arena old new (nodes ++ observed) settled.ran.items
+        pub round_rights : IsUpToDate F (graph_at arena new) old new (nodes ++ observed) settled.ran.items
         round_rights = right_again F arena old settled before after ready.kept first kept last.0 last.1 last.2 idle empty same_round (nodes ++ observed)
-            all_rooted new graph rows pairs todo ran strict round
+            all_rooted new graph rows roots_same pairs todo ran strict round

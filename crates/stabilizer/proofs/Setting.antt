@@ -1,5 +1,5 @@
 -- A variable is set to another value.
-use Rattle.std.proofs.Common.{◌≡◌, ◌⊎◌, inl, inr, ◌≤◌, false, Option, Some, refl, sym, ap, subst, ◌∙◌, arith}
+use Rattle.std.proofs.Common.{◌≡◌, ◌⊎◌, inl, inr, ◌≤◌, false, Option, Some, refl, sym, ap, subst, ◌∙◌, arith, None}
 use Rattle.std.specs.Prelude.{is_some, IsSome}
 use Rattle.std.proofs.lemmas.Option.{none-some}
 use Rattle.inc_value.specs.declared.node.NodeId.{NodeId}
@@ -20,7 +20,6 @@ use Rattle.point_map.proofs.Places.{point_cases}
 use Rattle.link_table.specs.Links.{Links, times, Reads}
 use Rattle.necessary_graph.specs.Part.{Needed, IsInStep}
 use Rattle.node_arena.specs.Arena.{Arena, row_at, IsSet, IsVariable, with_value}
-use Rattle.node_arena.specs.Graph.{graph_of}
 use Rattle.node_arena.specs.Sound.{IsSound}
 use Rattle.node_arena.specs.Typing.{Fits}
 use Rattle.node_outcomes.specs.Computing.{has_part, IsOfType}
@@ -35,6 +34,10 @@ use Rattle.stabilizer.specs.declared.work.Work.{Work}
 use Rattle.stabilizer.proofs.Agreeing.{code_row}
 use Rattle.stabilizer.proofs.Between.{same_some, need_same, needed_row}
 use Rattle.stabilizer.proofs.Typing.{KeepsTypes, typed_still, right_still}
+use Rattle.stabilizer.proofs.Holding.{built_same, right_as}
+use Rattle.stabilizer.specs.Graph.{held_at, graph_at}
+use Rattle.node_outcomes.specs.Choosing.{built_by}
+use Rattle.node_outcomes.proofs.Held.{built_live}
 
 -- a live node that can't be told not to be a variable is one
 by_form : (a : Arena) (id : NodeId) (row : Row) → row_at a id ≡ Some row → ((IsVariable a id → ⊥) → ⊥) → (d : declared.Def) → row.def ≡ def_of d
@@ -99,12 +102,28 @@ module _ (before arena : Arena) (old work : Work) (id : NodeId) (v : Value) (kep
   more : before.given ≤ arena.given
   more = omega (arith, given)
 
+  same_rows : (p : Point) → at work.rows p ≡ at old.rows p
+  same_rows p = ap (λ (m : Rows Progress). at m p) rows
+
+  -- a variable isn't built, whatever its value, and other nodes are built as they were
+  var_unbuilt : (a : Arena) (x : Work) (r : Row) (w : Value) → row_at a id ≡ Some r → r.def ≡ Var w → (held_at a x).built id ≡ None
+  var_unbuilt a x r w row is = built_live x.rows x.roots id a r row
+      ∙ ap (λ (d : Def). built_by d (outcome_in (at x.rows (change id))) (at x.roots (change id))) is
+
+  built_as : (n : NodeId) → (held_at arena work).built n ≡ (held_at before old).built n
+  built_as n = elim (node_or_other n id) [
+    | inl is ↦ subst (λ (x : NodeId). (held_at arena work).built x ≡ (held_at before old).built x) (sym is)
+        (let variable = is_variable before id set.row set.there not_other in
+        var_unbuilt arena work (with_value set.row v) v set.changes.changed refl ∙ sym (var_unbuilt before old set.row variable.0 set.there variable.1))
+    | inr ne ↦ built_same before arena old work n (set.changes.others n ne) (same_rows (change n)) round.roots
+  ]
+
   -- a right side that is chosen now was chosen before
-  right_was : (n m : NodeId) (r : Row) (o : Outcome) (w : Before before id n v r) → right_of (graph_of arena) n r.def o ≡ Some m
-      → right_of (graph_of before) n w.was.def o ≡ Some m
+  right_was : (n m : NodeId) (r : Row) (o : Outcome) (w : Before before id n v r) → right_of (graph_at arena work) n r.def o ≡ Some m
+      → right_of (graph_at before old) n w.was.def o ≡ Some m
   right_was n m r o w right = elim w.same [
-    | inl same ↦ ap (λ (x : Row). right_of (graph_of before) n x.def o) same ∙ right
-    | inr h ↦ absurd (none-some m (sym (ap (λ (x : Row). right_of (graph_of arena) n x.def o) h.is_now) ∙ right))
+    | inl same ↦ ap (λ (x : Row). right_of (graph_at before old) n x.def o) same ∙ right_as before arena old work n m r.def o (built_as n) right
+    | inr h ↦ absurd (none-some m (sym (ap (λ (x : Row). right_of (graph_at arena work) n x.def o) h.is_now) ∙ right))
   ]
 
   subject_was : (n : NodeId) (r : Row) (w : Before before id n v r) → IsSome (subject_of r.def) → IsSome (subject_of w.was.def)
@@ -112,9 +131,6 @@ module _ (before arena : Arena) (old work : Work) (id : NodeId) (v : Value) (kep
     | inl same ↦ ap (λ (x : Row). is_some (subject_of x.def)) same ∙ some
     | inr h ↦ absurd (let e = sym (ap (λ (x : Row). is_some (subject_of x.def)) h.is_now) ∙ some in cc)
   ]
-
-  same_rows : (p : Point) → at work.rows p ≡ at old.rows p
-  same_rows p = ap (λ (m : Rows Progress). at m p) rows
 
   same_heights : (p : Point) → at work.graph.heights p ≡ at old.graph.heights p
   same_heights p = ap (λ (m : Rows _). at m p) marked.graph.heights
@@ -146,6 +162,7 @@ module _ (before arena : Arena) (old work : Work) (id : NodeId) (v : Value) (kep
         subst (λ (t : Ty). Given arena.given m × Fits arena m t) w.type
         (right_still before arena more types m w.was.ty
         (kept.rights n m w.was k o w.is_was (sym (same_rows (change n)) ∙ is) shows (right_was n m r o w right)));
+    rootless = λ n w is. kept.rootless n w (sym (built_as n) ∙ is);
     calls = λ n r k l e is last. let w = row_was n r e in
         subst (IsOfType arena l.result) w.type
         (typed_still before arena more types l.result w.was.ty (kept.calls n w.was k l w.is_was (sym (same_rows (main n)) ∙ is) last));
@@ -188,7 +205,7 @@ module _ (before arena : Arena) (old work : Work) (id : NodeId) (v : Value) (kep
     ];
     calls = λ n r nodes k l e def is last. let w = row_was n r e in elim w.same [
       | inl same ↦ (w.is_was ∙ ap Some same, sym (same_rows (main n)) ∙ is)
-      | inr h ↦ absurd (none-some nodes (sym (ap (λ (x : Row). taken_by (graph_of arena) n x.def) h.is_now) ∙ def))
+      | inr h ↦ absurd (none-some nodes (sym (ap (λ (x : Row). taken_by (graph_at arena work) n x.def) h.is_now) ∙ def))
     ];
     runs = λ n s r o e def is. let w = row_was n r e in elim w.same [
       | inl same ↦ (w.is_was ∙ ap Some same, ap outcome_in (sym (same_rows (change n))) ∙ is)

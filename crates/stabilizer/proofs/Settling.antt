@@ -14,7 +14,7 @@ use Rattle.necessity.specs.Need.{Roots, root_times}
 use Rattle.height_order.specs.Levels.{level}
 use Rattle.necessary_graph.specs.Part.{Needed}
 use Rattle.node_arena.specs.Arena.{Arena}
-use Rattle.node_arena.specs.Graph.{graph_of}
+use Rattle.stabilizer.specs.Graph.{graph_at}
 use Rattle.inc_terms.specs.Graph.{Graph}
 use Rattle.stabilize_round.specs.State.{State, Call, Linked, at_point, at_node}
 use Rattle.stabilize_round.specs.Moves.{Enqueues, computed, calls_of, ran_more}
@@ -26,6 +26,7 @@ use Rattle.stabilizer.specs.Settling.{IsSettled}
 use Rattle.stabilizer.specs.Stands.{Stands}
 use Rattle.node_outcomes.specs.declared.row.Progress.{Progress}
 use Rattle.stabilizer.specs.declared.work.Work.{Work}
+use Rattle.stabilizer.proofs.Holding.{graph_main}
 
 pub same_number : (n : ℕ) → (n == n) ≡ true
 same_number n = grind (arith, common_steps)
@@ -38,10 +39,10 @@ some_row : (a b : Progress) → ◌≡◌ {A = Option Progress} (Some a) (Some b
 some_row a b e = cc
 
 module _ (s : State) (arena : Arena) (old new : Work) (calls calls' : ℕ) (n : NodeId) (o : Outcome) (last' : Option Call) (called : Bool)
-    (st : Stands arena old calls None s) (w : IsSettled old new n o last' (calls_of called (cost_at (graph_of arena) n)))
+    (st : Stands arena old calls None s) (w : IsSettled old new n o last' (calls_of called (cost_at (graph_at arena old) n)))
     (needs : (a : Point) → (Needed new.graph a → Needed old.graph a) × (Needed old.graph a → Needed new.graph a)) where
   abbrev made : ℕ
-  made = calls_of called (cost_at (graph_of arena) n)
+  made = calls_of called (cost_at (graph_at arena old) n)
 
   abbrev heap' : Point → Bool
   heap' a = is_some (at new.graph.heap a)
@@ -54,7 +55,7 @@ module _ (s : State) (arena : Arena) (old new : Work) (calls calls' : ℕ) (n : 
 
   pub settled_stands : Stands arena new calls' None (computed s n o heap' last' called calls')
   settled_stands = record {
-    graph = st.graph;
+    graph = st.graph ∙ sym (graph_main arena old new n w.others w.roots);
     out = λ a k e. elim (same_or_other (main n) a) [
       | inl h ↦ subst (λ (x : Point). at_point (main n) (Some o) s.out x ≡ k.outcome) h
           (at_same (main n) (Some o) s.out ∙ ap (λ (x : Progress). x.outcome) (row_now k (subst (λ (x : Point). at new.rows x ≡ Some k) (sym h) e)))

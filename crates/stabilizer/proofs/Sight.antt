@@ -21,7 +21,7 @@ use Rattle.inc_terms.specs.Term.{Functions, refs}
 use Rattle.point_map.specs.Rows.{Rows, at}
 use Rattle.node_arena.specs.declared.arena.Entry.{Entry}
 use Rattle.node_arena.specs.Arena.{Arena, row_at, row_of}
-use Rattle.node_arena.specs.Graph.{graph_of}
+use Rattle.stabilizer.specs.Graph.{graph_at}
 use Rattle.inc_terms.specs.Work.{taken_by}
 use Rattle.stabilize_round.specs.Invariant.{Invariant}
 use Rattle.stabilize_round.specs.Laws as law
@@ -172,29 +172,29 @@ module _ (s : State) (arena : Arena) (work : Work) (calls : ℕ) (kept : IsKept 
 
   by_form : (F : Functions) (n : NodeId) (d : declared.Def)
       → (IsSome (subject_of (def_of d)) → shown s.graph s.out (change n) ≡ seen work.rows (change n))
-      → own F (graph_of arena) (shown s.graph s.out) n (def_of d) ≡ own F (graph_of arena) (seen work.rows) n (def_of d)
+      → own F (graph_at arena work) (shown s.graph s.out) n (def_of d) ≡ own F (graph_at arena work) (seen work.rows) n (def_of d)
   by_form F n (form.Const v) own_change = refl
   by_form F n (form.Var v) own_change = refl
   by_form F n (form.Map f ns) own_change = let e = sees_together ns in rw e refl
   by_form F n (form.Fold f v ns) own_change = let e = sees_together ns in rw e refl
   by_form F n (form.If t a b) own_change =
-      own_right_same (graph_of arena) (shown s.graph s.out) (seen work.rows) n (def_of (form.If t a b)) sees (own_change refl)
+      own_right_same (graph_at arena work) (shown s.graph s.out) (seen work.rows) n (def_of (form.If t a b)) sees (own_change refl)
   by_form F n (form.Join k) own_change =
-      own_right_same (graph_of arena) (shown s.graph s.out) (seen work.rows) n (def_of (form.Join k)) sees (own_change refl)
+      own_right_same (graph_at arena work) (shown s.graph s.out) (seen work.rows) n (def_of (form.Join k)) sees (own_change refl)
   by_form F n (form.Bind l f caps) own_change =
-      own_right_same (graph_of arena) (shown s.graph s.out) (seen work.rows) n (def_of (form.Bind l f caps)) sees (own_change refl)
+      own_right_same (graph_at arena work) (shown s.graph s.out) (seen work.rows) n (def_of (form.Bind l f caps)) sees (own_change refl)
 
   -- a live node's own function sees the same in the state
   pub own_sees : (F : Functions) (n : NodeId) (r : Row) → row_at arena n ≡ Some r
-      → own F s.graph (shown s.graph s.out) n r.def ≡ own F (graph_of arena) (seen work.rows) n r.def
+      → own F s.graph (shown s.graph s.out) n r.def ≡ own F (graph_at arena work) (seen work.rows) n r.def
   own_sees F n r live =
       let d = code_def arena n r live in
       ap (λ (G : Graph). own F G (shown s.graph s.out) n r.def) st.graph
       ∙ subst (λ (x : Def). (IsSome (subject_of x) → shown s.graph s.out (change n) ≡ seen work.rows (change n))
-      → own F (graph_of arena) (shown s.graph s.out) n x ≡ own F (graph_of arena) (seen work.rows) n x) (sym d.1) (by_form F n d.0) (sees_change n r live)
+      → own F (graph_at arena work) (shown s.graph s.out) n x ≡ own F (graph_at arena work) (seen work.rows) n x) (sym d.1) (by_form F n d.0) (sees_change n r live)
 
   -- what a call gave is kept
-  pub keeps_answers : (F : Functions) (z : Start) → Invariant F z s → KeepsAnswers F arena work.rows
+  pub keeps_answers : (F : Functions) (z : Start) → Invariant F z s → KeepsAnswers F (graph_at arena work) work.rows
   keeps_answers F z inv n r ns k c live def row last = inv.accounts.answers n r ns c (row_is n ∙ live)
       (subst (λ (G : Graph). taken_by G n r.def ≡ Some ns) (sym st.graph) def) (st.last n k row ∙ last)
 
@@ -264,11 +264,11 @@ module _ (s : State) (arena : Arena) (work : Work) (calls : ℕ) (kept : IsKept 
         let h = ran k.0 k.1 in
         known (outcome_in (at work.rows (change n))) h.0 (sym (change_is n r live two) ∙ h.1)
 
-    right_seen : (m : NodeId) (o : Outcome) → outcome_in (at work.rows (change n)) ≡ Some o → right_of (graph_of arena) n r.def o ≡ Some m
+    right_seen : (m : NodeId) (o : Outcome) → outcome_in (at work.rows (change n)) ≡ Some o → right_of (graph_at arena work) n r.def o ≡ Some m
         → IsSome (seen work.rows (main m))
     right_seen m o is chosen =
         let d = code_def arena n r live in
-        let two = has_subject d.0 (subst (λ (x : Def). right_of (graph_of arena) n x o ≡ Some m) d.1 chosen) in
+        let two = has_subject d.0 (subst (λ (x : Def). right_of (graph_at arena work) n x o ≡ Some m) d.1 chosen) in
         let two' : IsSome (subject_of r.def) = subst (λ (x : Def). IsSome (subject_of x)) (sym d.1) two in
         let k = subject_is (subject_of r.def) refl two' in
         let h = ran k.0 k.1 in
@@ -277,7 +277,7 @@ module _ (s : State) (arena : Arena) (work : Work) (calls : ℕ) (kept : IsKept 
         seen_known m (right_known F z inv quiet (main n) taken r live refl k.0 m o k.1 gives
         (subst (λ (G : Graph). right_of G n r.def o ≡ Some m) (sym st.graph) chosen))
       where
-        has_subject : (d : declared.Def) → right_of (graph_of arena) n (def_of d) o ≡ Some m → IsSome (subject_of (def_of d))
+        has_subject : (d : declared.Def) → right_of (graph_at arena work) n (def_of d) o ≡ Some m → IsSome (subject_of (def_of d))
         has_subject (form.Const v) e = absurd (none-some m e)
         has_subject (form.Var v) e = absurd (none-some m e)
         has_subject (form.Map f ns) e = absurd (none-some m e)
@@ -286,7 +286,7 @@ module _ (s : State) (arena : Arena) (work : Work) (calls : ℕ) (kept : IsKept 
         has_subject (form.Join k) e = refl
         has_subject (form.Bind l f caps) e = refl
 
-    pub looks : LooksAtSeen work.rows (graph_of arena) n r.def
+    pub looks : LooksAtSeen work.rows (graph_at arena work) n r.def
     looks = record { kids = kids_known; choice = choice; right = right_seen }
 
   -- who is forced by rows is forced in the state

@@ -16,8 +16,8 @@ use Rattle.necessity.specs.Need.{Roots, root_times}
 use Rattle.necessary_graph.specs.Part.{NecessaryPart, Needed}
 use Rattle.node_arena.specs.Arena.{Arena}
 use Rattle.inc_terms.specs.Graph.{Graph}
-use Rattle.node_arena.specs.Graph.{graph_of}
-use Rattle.node_outcomes.specs.Computing.{CallsSeen}
+use Rattle.stabilizer.specs.Graph.{graph_at}
+use Rattle.node_outcomes.specs.Computing.{CallsSeen, HasCalledSome}
 use Rattle.stabilize_round.specs.Calling.{cost_at}
 use Rattle.stabilize_round.specs.Counts.{RoseBy, number_of}
 use Rattle.stabilize_round.specs.Invariant.{Invariant}
@@ -42,6 +42,7 @@ use Rattle.stabilizer.proofs.Carrying.{needed_now, needed_before, heap_graph, ba
 use Rattle.stabilizer.proofs.Left.{less_unsettled}
 use Rattle.stabilizer.proofs.Settling.{same_number, settled_stands, settled_enqueues}
 use Rattle.stabilizer.proofs.Sight.{row_is, own_sees, keeps_answers, looks, calls_are}
+use Rattle.stabilizer.proofs.Holding.{graph_rows}
 
 zero_or_more : (n : ℕ) → (n ≡ 0) ⊎ (0 < n)
 zero_or_more zero = inl refl
@@ -69,6 +70,7 @@ module _ (old new : Work) (g : NecessaryPart) (p : Point) (n : NodeId) (o : Outc
       | inr k ↦ inr (subst (λ (l : Links). Reads l a (main n)) graph.links k.0, k.1)
     ];
     stops = λ is equal a ne h. sym (ap is_some (heap_as a ne)) ∙ w.stops is equal a ne h;
+    roots = w.roots;
     ran = w.ran;
     todo = w.todo;
     strict = w.strict;
@@ -105,8 +107,8 @@ module _ (M : Meaning) (arena : Arena) (old new : Work) (g : NecessaryPart) (p :
   abbrev F : Functions
   F = M.functions
 
-  pub w : IsSettled old new n m.outcome m.last (calls_of m.called (cost_at (graph_of arena) n))
-  w = settled_before old new g p n m.outcome m.last (calls_of m.called (cost_at (graph_of arena) n)) same (heap_graph arena old g rest) c m.settled
+  pub w : IsSettled old new n m.outcome m.last (calls_of m.called (cost_at (graph_at arena old) n))
+  w = settled_before old new g p n m.outcome m.last (calls_of m.called (cost_at (graph_at arena old) n)) same (heap_graph arena old g rest) c m.settled
 
   pub steps : Steps M arena old new before after
   steps z s begun quiet st = (
@@ -139,7 +141,7 @@ module _ (M : Meaning) (arena : Arena) (old new : Work) (g : NecessaryPart) (p :
         calls = calls_are s arena old before kept st F n m.computed.row.def m.computed.kept m.last m.called m.computed.is_kept
             (subst (λ (G : Graph). CallsSeen F G n old.round old.rows m.computed.row.def m.computed.kept.last m.last m.called) (sym st.graph) m.computed.calls);
         count = subst (λ (H : Graph). RoseBy s.calls (calls_of m.called (cost_at H n)) after) (sym st.graph)
-            (subst (λ (k : ℕ). RoseBy k (calls_of m.called (cost_at (graph_of arena) n)) after) (sym st.calls) m.count);
+            (subst (λ (k : ℕ). RoseBy k (calls_of m.called (cost_at (graph_at arena old) n)) after) (sym st.calls) m.count);
         heap = settled_enqueues s arena old new before after n m.outcome m.last m.called st w
             (λ a. (needed_before old.graph new.graph w.graph a, needed_now old.graph new.graph w.graph a)) no_loop;
       }
@@ -230,7 +232,7 @@ module _ (arena : Arena) (old mid : Work) (g g' : NecessaryPart) (p : Point) (n 
   -- the state can't tell
   pub refused_stands : (s : State) → Stands arena old before None s → Stands arena back before None s
   refused_stands s st = record {
-    graph = st.graph;
+    graph = st.graph ∙ sym (graph_rows arena old back left.rows left.roots);
     out = λ a k e. st.out a k (sym (left.rows a) ∙ e);
     last = λ m k e. st.last m k (sym (left.rows (main m)) ∙ e);
     never = λ m k e. st.never m k (sym (left.rows (main m)) ∙ e);
@@ -256,7 +258,11 @@ module _ (arena : Arena) (old mid : Work) (g g' : NecessaryPart) (p : Point) (n 
   step_refused same M e memory low z s begun quiet st = as_it_was (refused_stands s st)
       (elim left.count [
         | inl same_count ↦ inl same_count
-        | inr k ↦ inr (n, subst (IsLeast s) same (is_least s arena old before kept st p was low), k)
+        | inr k ↦ inr (
+          n,
+          subst (IsLeast s) same (is_least s arena old before kept st p was low),
+          subst (λ (G : Graph). HasCalledSome G n before after) (sym (graph_rows arena old back left.rows left.roots)) k,
+        )
       ])
       memory
 

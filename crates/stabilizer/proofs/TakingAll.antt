@@ -13,7 +13,7 @@ use Rattle.inc_terms.specs.Plan.{targets}
 use Rattle.point_map.specs.Rows.{at}
 use Rattle.necessary_graph.specs.Part.{Needed, IsInStep}
 use Rattle.node_arena.specs.Arena.{Arena, row_at}
-use Rattle.node_arena.specs.Graph.{graph_of}
+use Rattle.stabilizer.specs.Graph.{graph_at}
 use Rattle.stabilize_round.specs.Invariant.{Strict}
 use Rattle.stabilize_round.specs.Machine as move
 use Rattle.stabilize_round.specs.Machine.{Move, Moves}
@@ -215,7 +215,7 @@ module _ (arena : Arena) (old last new : Work) (so : AreTaken arena old last (le
               so.kept.rows (change n) ∙ (ap (λ (x : Option Row). has_part x Change) row ∙ sub) in
               let mine : is_some (at last.rows (main n)) ≡ true = so.kept.rows (main n) ∙ ap (λ (x : Option Row). has_part x Main) row in
               k.settled (change n) ∙ c r p row ((k.needed (main n)).0 need) (full_stage (at last.rows (main n)) refl mine)
-              (subst (λ (x : Option Outcome). Among p (targets (graph_of arena) n r.def x)) (out_is (at last.rows (change n)) refl own)
+              (subst (λ (x : Option Outcome). Among p (targets (graph_at arena last) n r.def x)) (out_is (at last.rows (change n)) refl own)
               (subst (λ (G : Graph). Among p (targets G n r.def (t.out (change n)))) k.graph among))
             where
               full_stage : (x : Option Progress) → at last.rows (main n) ≡ x → is_some x ≡ true → stage_in (at last.rows (main n)) ≡ Some code.Full

@@ -33,6 +33,7 @@ use Rattle.node_outcomes.specs.declared.row.Stage.TheVariants as code
 use Rattle.stabilizer.specs.declared.work.Work.{Work}
 use Rattle.stabilizer.proofs.Deciding.{decides_needed}
 use Rattle.stabilizer.proofs.Linking.{row_before, settled_as, stage_now}
+use Rattle.stabilizer.proofs.Holding.{graph_staged}
 
 pub bool_cases : (b : Bool) → (b ≡ true) ⊎ (b ≡ false)
 bool_cases true = inl refl
@@ -267,7 +268,7 @@ module _ (F : Functions) (z : Start) (s : State) (inv : Invariant F z s) (arena 
 
   pub stands_off : Stands arena new calls (hand_now new.graph held) last
   stands_off = record {
-    graph = st.graph;
+    graph = st.graph ∙ sym (graph_staged arena old new (main n) code.Static k.rows k.round.roots);
     out = λ a x e. let b = row_before old.rows new.rows (main n) code.Static k.rows a x e in st.out a b.row b.was ∙ sym b.outcome;
     last = λ i x e. let b = row_before old.rows new.rows (main n) code.Static k.rows (main i) x e in st.last i b.row b.was ∙ sym b.last;
     never = λ i x e. let b = row_before old.rows new.rows (main n) code.Static k.rows (main i) x e in st.never i b.row b.was ∙ ap is_never (sym b.cutoff);

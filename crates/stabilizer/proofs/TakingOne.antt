@@ -10,8 +10,8 @@ use Rattle.inc_value.specs.Choice.{here, Among, Reaches, and_then}
 use Rattle.inc_terms.specs.declared.def.Def as declared
 use Rattle.inc_terms.specs.declared.def.Def.TheVariants as form
 use Rattle.inc_terms.specs.Code.{def_of}
-use Rattle.inc_terms.specs.Depend.{main, change, subject_of, fixed_reads, right_of, at_most_one}
-use Rattle.inc_terms.specs.Graph.{Graph, Row, Def}
+use Rattle.inc_terms.specs.Depend.{main, change, subject_of, fixed_reads, at_most_one}
+use Rattle.inc_terms.specs.Graph.{Graph, Row}
 use Rattle.inc_terms.specs.Plan.{targets, gate_of}
 use Rattle.inc_terms.specs.Term.{Functions}
 use Rattle.point_map.specs.Rows.{Rows, at, Holds}
@@ -30,23 +30,18 @@ use Rattle.stabilize_round.proofs.Points.{same_or_other, at_other, count_append,
 use Rattle.stabilizer.specs.Deciding.{is_needed}
 use Rattle.node_outcomes.specs.Row.{IsRewritten, with_stage, settled_in, stage_in, stage_of, outcome_in}
 use Rattle.stabilizer.specs.Stands.{Stands, Hand, hand, owed_in}
-use Rattle.node_outcomes.proofs.Pairs.{right_any}
 use Rattle.stabilizer.specs.Turning.{IsLoosened, IsAttached, IsOff}
-use Rattle.node_outcomes.specs.Choosing.{right_in, no_graph}
+use Rattle.node_outcomes.specs.Choosing.{right_in}
 use Rattle.stabilizer.specs.Wiring.{IsMarked, IsSpared, TakesOne, HandIsSpared, hand_now}
 use Rattle.node_outcomes.specs.declared.row.Progress.{Progress}
 use Rattle.node_outcomes.specs.declared.row.Stage.TheVariants as code
 use Rattle.stabilizer.specs.declared.work.Work.{Work}
 use Rattle.stabilizer.proofs.Deciding.{decides_needed}
 use Rattle.stabilizer.proofs.TakingOff.{bool_cases, IsTakenOff, takes, stands_off}
+use Rattle.stabilizer.proofs.Holding.{targets_at}
 
 abbrev nothing : Point → List Point
 nothing p = []
-
-pub targets_are : (G : Graph) (n : NodeId) → G.built n ≡ None → (d : declared.Def) (x : Option Outcome) (m : NodeId)
-    → and_then x (λ o. right_of no_graph n (def_of d) o) ≡ Some m → targets G n (def_of d) x ≡ main m ∷ []
-targets_are G n built d None m e = absurd (none-some m e)
-targets_are G n built d (Some o) m e = ap (λ (y : Option NodeId). map main (at_most_one y)) (right_any G n built d o ∙ e)
 
 -- nothing is taken off
 pub nothing_taken : (arena : Arena) (work : Work) → IsInStep work.graph → TakesOne arena work work
@@ -64,9 +59,9 @@ nothing_taken arena work in_step F z s calls held inv spared st = (s, here, by_h
 
 module _ (arena : Arena) (old first new : Work) (n : NodeId) (r : Row) (d : declared.Def) (s_id m : NodeId) (row : row_at arena n ≡ Some r)
     (def : r.def ≡ def_of d) (sub : subject_of r.def ≡ Some s_id) (own_row : Holds old.rows (change n))
-    (attached : IsAttached old n) (unsettled : settled_in old.round (at old.rows (change n)) ≡ false) (right : right_in old.rows n r.def ≡ Some m)
+    (attached : IsAttached old n) (unsettled : settled_in old.round (at old.rows (change n)) ≡ false) (right : right_in old.rows old.roots n r.def ≡ Some m)
     (marked : IsMarked old.graph first.graph (change n)) (only_graph : first ≡ record old { graph = first.graph })
-    (loose : IsLoosened first new n (right_in first.rows n r.def)) (step_old : IsInStep old.graph) (step_new : IsInStep new.graph) where
+    (loose : IsLoosened first new n (right_in first.rows first.roots n r.def)) (step_old : IsInStep old.graph) (step_new : IsInStep new.graph) where
   rows_first : first.rows ≡ old.rows
   rows_first = ap (λ (w : Work). w.rows) only_graph
 
@@ -77,8 +72,8 @@ module _ (arena : Arena) (old first new : Work) (n : NodeId) (r : Row) (d : decl
   main_settled = ap (λ (i : ℕ). settled_in i (at old.rows (main n))) (sym round_first)
       ∙ ap (λ (x : Rows Progress). settled_in first.round (at x (main n))) (sym rows_first)
 
-  right_now : right_in first.rows n r.def ≡ Some m
-  right_now = ap (λ (x : Rows Progress). and_then (outcome_in (at x (change n))) (λ o. right_of no_graph n r.def o)) rows_first ∙ right
+  right_now : right_in first.rows first.roots n r.def ≡ Some m
+  right_now = ap (λ (w : Work). right_in w.rows w.roots n r.def) only_graph ∙ right
 
   off : IsOff loose.mid.graph new.graph n (Some m)
   off = subst (λ (x : Option NodeId). IsOff loose.mid.graph new.graph n x) right_now loose.off
@@ -119,9 +114,8 @@ module _ (arena : Arena) (old first new : Work) (n : NodeId) (r : Row) (d : decl
 
     right_side : targets s.graph n r.def (s.out (change n)) ≡ main m ∷ []
     right_side = ap (λ (x : Option Outcome). targets s.graph n r.def x) (out_own (at old.rows (change n)) refl own_row)
-        ∙ (ap (λ (x : Def). targets s.graph n x (outcome_in (at old.rows (change n)))) def
-        ∙ targets_are s.graph n (ap (λ (G : Graph). G.built n) st.graph) d (outcome_in (at old.rows (change n))) m
-        (ap (λ (x : Def). and_then (outcome_in (at old.rows (change n))) (λ o. right_of no_graph n x o)) (sym def) ∙ right))
+        ∙ (ap (λ (G : Graph). targets G n r.def (outcome_in (at old.rows (change n)))) st.graph
+        ∙ (targets_at arena old n r row ∙ ap (λ (x : Option NodeId). map main (at_most_one x)) right))
 
     abbrev static_plan : List Point
     static_plan = live_plan s.graph s.out (main n) r machine.Static
@@ -239,6 +233,7 @@ module _ (arena : Arena) (old first new : Work) (n : NodeId) (r : Row) (d : decl
         step = step_new;
         todo = ap (λ (w : Work). w.todo.items) loose.last ∙ (ap (λ (w : Work). w.todo.items) loose.rest ∙ ap (λ (w : Work). w.todo.items) only_graph);
         round = record {
+          roots = ap (λ (w : Work). w.roots) loose.last ∙ (ap (λ (w : Work). w.roots) loose.rest ∙ ap (λ (w : Work). w.roots) only_graph);
           ran = ap (λ (w : Work). w.ran.items) loose.last ∙ (ap (λ (w : Work). w.ran.items) loose.rest ∙ ap (λ (w : Work). w.ran.items) only_graph);
           strict = ap (λ (w : Work). w.strict) loose.last ∙ (ap (λ (w : Work). w.strict) loose.rest ∙ ap (λ (w : Work). w.strict) only_graph);
           round = ap (λ (w : Work). w.round) loose.last ∙ (ap (λ (w : Work). w.round) loose.rest ∙ ap (λ (w : Work). w.round) only_graph);
@@ -259,20 +254,20 @@ module _ (arena : Arena) (old first new : Work) (n : NodeId) (r : Row) (d : decl
     | inr x ↦ absurd (never_absent F z s calls held inv spared st x.1)
   ]
 
+none_of : (x : Option Outcome) (m : NodeId) → and_then x (λ (o : Outcome). None) ≡ Some m → ⊥
+none_of None m e = none-some m e
+none_of (Some o) m e = none-some m e
+
 -- what has a right side has a subject
-pub right_has_subject : (d : declared.Def) (n : NodeId) (x : Option Outcome) (m : NodeId) → and_then x (λ o. right_of no_graph n (def_of d) o) ≡ Some m
+pub right_has_subject : (d : declared.Def) (rows : Rows Progress) (roots : Rows NodeId) (n m : NodeId) → right_in rows roots n (def_of d) ≡ Some m
     → (k : NodeId) × (subject_of (def_of d) ≡ Some k)
-right_has_subject (form.If t a b) n x m e = (t, refl)
-right_has_subject (form.Join k) n x m e = (k, refl)
-right_has_subject (form.Bind l f caps) n x m e = (l, refl)
-right_has_subject (form.Const v) n None m e = absurd (none-some m e)
-right_has_subject (form.Const v) n (Some o) m e = absurd (none-some m e)
-right_has_subject (form.Var v) n None m e = absurd (none-some m e)
-right_has_subject (form.Var v) n (Some o) m e = absurd (none-some m e)
-right_has_subject (form.Map f ks) n None m e = absurd (none-some m e)
-right_has_subject (form.Map f ks) n (Some o) m e = absurd (none-some m e)
-right_has_subject (form.Fold f v ks) n None m e = absurd (none-some m e)
-right_has_subject (form.Fold f v ks) n (Some o) m e = absurd (none-some m e)
+right_has_subject (form.If t a b) rows roots n m e = (t, refl)
+right_has_subject (form.Join k) rows roots n m e = (k, refl)
+right_has_subject (form.Bind l f caps) rows roots n m e = (l, refl)
+right_has_subject (form.Const v) rows roots n m e = absurd (none_of (outcome_in (at rows (change n))) m e)
+right_has_subject (form.Var v) rows roots n m e = absurd (none_of (outcome_in (at rows (change n))) m e)
+right_has_subject (form.Map f ks) rows roots n m e = absurd (none_of (outcome_in (at rows (change n))) m e)
+right_has_subject (form.Fold f v ks) rows roots n m e = absurd (none_of (outcome_in (at rows (change n))) m e)
 
 -- rows of what is spared stay
 pub spared_rows : (arena : Arena) (old first new : Work) (n : NodeId) (r : Row) (right : Option NodeId) → row_at arena n ≡ Some r

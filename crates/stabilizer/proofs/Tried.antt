@@ -11,7 +11,7 @@ use Rattle.inc_terms.specs.Term.{Functions}
 use Rattle.height_order.specs.Chains.{ReadsWith, IsChain}
 use Rattle.necessary_graph.specs.Part.{Needed, IsInStep}
 use Rattle.node_arena.specs.Arena.{Arena}
-use Rattle.node_arena.specs.Graph.{graph_of}
+use Rattle.stabilizer.specs.Graph.{graph_at}
 use Rattle.node_outcomes.specs.Row.{outcome_in}
 use Rattle.node_outcomes.specs.declared.row.Progress.{Progress}
 use Rattle.point_map.specs.Rows.{at}
@@ -50,12 +50,12 @@ module _ (F : Functions) (z : Start) (t : State) (holds : Invariant F z t) (aren
     all_needed (a ∷ b ∷ rest) chain = (reader_needed a b chain.0, all_needed (b ∷ rest) chain.1)
 
     -- what the state's record of the change chooses is what the row's does
-    chosen : (r : Row) (x : Option Progress) → at work.rows (change p.node) ≡ x → Among q (targets (graph_of arena) p.node r.def (outcome_in x))
+    chosen : (r : Row) (x : Option Progress) → at work.rows (change p.node) ≡ x → Among q (targets (graph_at arena work) p.node r.def (outcome_in x))
         → Among q (targets t.graph p.node r.def (t.out (change p.node)))
     chosen r None is among = absurd among
     chosen r (Some k) is among =
         subst (λ (G : Graph). Among q (targets G p.node r.def (t.out (change p.node)))) (sym stands.graph)
-        (subst (λ (o : Option Outcome). Among q (targets (graph_of arena) p.node r.def o)) (sym (stands.out (change p.node) k is)) among)
+        (subst (λ (o : Option Outcome). Among q (targets (graph_at arena work) p.node r.def o)) (sym (stands.out (change p.node) k is)) among)
 
     tried : (list : List Point) → IsChain (ReadsWith work.graph.links p q) list → IsTried arena work list
     tried list chain = record {

@@ -6,7 +6,7 @@ use Rattle.inc_value.specs.declared.node.Part.{Part}
 use Rattle.inc_value.specs.declared.node.Part.TheVariants.{Main, Change}
 use Rattle.inc_value.specs.declared.node.Point.{Point}
 use Rattle.inc_value.specs.Choice.{Among, Reaches}
-use Rattle.inc_terms.specs.Depend.{main, change}
+use Rattle.inc_terms.specs.Depend.{main, change, right_of}
 use Rattle.inc_terms.specs.Graph.{Graph, Row}
 use Rattle.inc_terms.specs.Within.{Given}
 use Rattle.point_map.specs.Rows.{Rows, at, Holds, KeepsRows, Changes}
@@ -24,7 +24,7 @@ use Rattle.stabilize_round.proofs.Points.{same_or_other}
 use Rattle.stabilizer.specs.Growing.{Grows, unneeded}
 use Rattle.node_outcomes.specs.Computing.{has_part}
 use Rattle.stabilizer.specs.Kept.{IsKept}
-use Rattle.node_outcomes.specs.Row.{IsRewritten, with_stage}
+use Rattle.node_outcomes.specs.Row.{IsRewritten, with_stage, outcome_in}
 use Rattle.stabilizer.specs.Stands.{Stands, hand}
 use Rattle.stabilizer.specs.Wiring.{IsWoken, IsReached, Looks, Links as PutsOn, IsLevelled, IsTarget, KeepsPlaces, AreUnlinked}
 use Rattle.node_outcomes.specs.declared.row.Progress.{Progress}
@@ -33,6 +33,10 @@ use Rattle.stabilizer.specs.declared.work.Work.{Work}
 use Rattle.stabilizer.proofs.Growing.{no_more_unneeded, fewer_unneeded}
 use Rattle.stabilizer.proofs.Linking.{IsBefore, row_before, linked_stands, linked_new_stands, some_or_none}
 use Rattle.stabilizer.proofs.Wiring.{looks_stands}
+use Rattle.stabilizer.proofs.Holding.{held_rows, held_same}
+use Rattle.stabilizer.specs.Graph.{held_at}
+use Rattle.node_arena.specs.Graph.{Holdings, graph_of}
+use Rattle.inc_terms.specs.Depend.{right_of}
 
 -- the same roots and links tell that the same points are needed
 pub same_need : (g h : NecessaryPart) → KeepsRoots g.roots h.roots → KeepsLinks g.links h.links → (p : Point) → Needed h p ↔ Needed g p
@@ -76,7 +80,9 @@ module _ (old new : Work) (l : IsLevelled old new) where
     sound = k.sound;
     today = k.today;
     outcomes = λ n r w v row e. k.outcomes n r w v row (sym (l.rows (main n)) ∙ e);
-    rights = λ n m r w o row e. k.rights n m r w o row (sym (l.rows (change n)) ∙ e);
+    rights = λ n m r w o row e out right. k.rights n m r w o row (sym (l.rows (change n)) ∙ e) out
+        (subst (λ (h : Holdings). right_of (graph_of arena h) n r.def o ≡ Some m) (held_rows arena old new l.rows l.round.roots) right);
+    rootless = λ n w is. k.rootless n w (subst (λ (h : Holdings). h.built n ≡ Some w) (held_rows arena old new l.rows l.round.roots) is);
     calls = λ n r w c row e. k.calls n r w c row (sym (l.rows (main n)) ∙ e);
     rounds = λ p w e. subst (λ (n : ℕ). w.settled ≤ n) (sym l.round.round) (k.rounds p w (sym (l.rows p) ∙ e));
     pairs = λ n r row some. subst (λ (xs : List NodeId). Among n xs) (sym (ap (λ v. v.items) l.pairs)) (k.pairs n r row some);
@@ -141,6 +147,7 @@ module _ (old mid closed : Work) (g : NecessaryPart) (q : Point) (opened : Bool)
     todo = ap (λ (x : Work). x.todo.items) rest ∙ looks.todo;
     pairs = ap (λ (x : Work). x.pairs) rest ∙ looks.pairs;
     round = record {
+      roots = ap (λ (x : Work). x.roots) rest ∙ looks.round.roots;
       ran = ap (λ (x : Work). x.ran.items) rest ∙ looks.round.ran;
       strict = ap (λ (x : Work). x.strict) rest ∙ looks.round.strict;
       round = ap (λ (x : Work). x.round) rest ∙ looks.round.round;
@@ -172,6 +179,7 @@ pub record IsGrown (old new : Work) (q : Point) : Type 0 where
   pub links : (a b : Point) → Reads new.graph.links a b → Reads old.graph.links a b ⊎ Holds old.rows a
   pub heap : (a : Point) → Holds new.graph.heap a → Holds old.graph.heap a ⊎ Holds old.rows a
   pub round : new.round ≡ old.round
+  pub roots : new.roots ≡ old.roots
   pub pairs : new.pairs ≡ old.pairs
 
 module _ (old new : Work) (q : Point) (grown : IsGrown old new q) (arena : Arena) (target : IsTarget arena old q) (k : IsKept arena old) where
@@ -184,6 +192,17 @@ module _ (old new : Work) (q : Point) (grown : IsGrown old new q) (arena : Arena
 
   held_before : (a : Point) → Holds new.rows a → Holds old.rows a
   held_before a h = sym (grown.held a) ∙ h
+
+  -- each row keeps its outcome
+  grown_held : held_at arena new ≡ held_at arena old
+  grown_held = held_same arena old new (λ n. outcome_before (at new.rows (change n)) (at old.rows (change n)) (grown.held (change n))
+      (λ w e. let b = grown.rows (change n) w e in ap outcome_in b.was ∙ sym b.outcome)) grown.roots
+    where
+      outcome_before : (x y : Option Progress) → is_some x ≡ is_some y → ((w : Progress) → x ≡ Some w → outcome_in y ≡ w.outcome)
+          → outcome_in x ≡ outcome_in y
+      outcome_before None None e h = refl
+      outcome_before None (Some k) e h = absurd (cc)
+      outcome_before (Some w) y e h = sym (h w refl)
 
   pub grown_kept : IsKept arena new
   grown_kept = record {
@@ -203,7 +222,9 @@ module _ (old new : Work) (q : Point) (grown : IsGrown old new q) (arena : Arena
     sound = k.sound;
     today = k.today;
     outcomes = λ n r w v row e o. let b = grown.rows (main n) w e in k.outcomes n r b.row v row b.was (sym b.outcome ∙ o);
-    rights = λ n m r w o row e out. let b = grown.rows (change n) w e in k.rights n m r b.row o row b.was (sym b.outcome ∙ out);
+    rights = λ n m r w o row e out right. let b = grown.rows (change n) w e in k.rights n m r b.row o row b.was (sym b.outcome ∙ out)
+        (subst (λ (h : Holdings). right_of (graph_of arena h) n r.def o ≡ Some m) grown_held right);
+    rootless = λ n w is. k.rootless n w (subst (λ (h : Holdings). h.built n ≡ Some w) grown_held is);
     calls = λ n r w c row e o. let b = grown.rows (main n) w e in k.calls n r b.row c row b.was (sym b.last ∙ o);
     rounds = λ p w e. let b = grown.rows p w e in let old_round = k.rounds p b.row b.was in let s = b.settled in let r = grown.round in
         omega (arith, old_round, s, r);
@@ -240,6 +261,7 @@ module _ (old mid new : Work) (g : NecessaryPart) (q : Point) (newly : Bool) (lo
     links = links;
     heap = λ a h. inl (heap_before a h);
     round = looks.round.round;
+    roots = looks.round.roots;
     pairs = looks.pairs;
   }
 
@@ -273,6 +295,7 @@ module _ (old mid new : Work) (g : NecessaryPart) (q : Point) (newly : Bool) (lo
       links = λ a b r. links a b (subst (λ (l : Links). Reads l a b) w.graph.links r);
       heap = heap_woken;
       round = w.round.round ∙ looks.round.round;
+      roots = w.round.roots ∙ looks.round.roots;
       pairs = w.pairs ∙ looks.pairs;
     }
 

@@ -1,6 +1,7 @@
--- What is kept where a change is settled.
+-- What is kept where a change is settled. No node is a bind, so nothing is built by it.
 use Rattle.std.proofs.Common.{◌≡◌, ◌⊎◌, inl, inr, ℕ, ◌≤◌, true, List, Option, None, Some, refl, sym, ap, subst, ◌∙◌, arith}
 use Rattle.std.specs.Prelude.{is_some}
+use Rattle.std.proofs.lemmas.Option.{none-some}
 use Rattle.inc_value.specs.Choice.{Among}
 use Rattle.inc_value.specs.declared.node.NodeId.{NodeId}
 use Rattle.inc_value.specs.declared.node.Part.TheVariants.{Main}
@@ -15,13 +16,13 @@ use Rattle.link_table.specs.Links.{Links, times}
 use Rattle.necessity.specs.Need.{Roots, root_times, KeepsRoots}
 use Rattle.necessary_graph.specs.Part.{NecessaryPart, IsInStep}
 use Rattle.node_arena.specs.Arena.{Arena, row_at}
-use Rattle.node_arena.specs.Graph.{graph_of}
 use Rattle.node_arena.specs.Sound.{IsSound}
 use Rattle.node_arena.specs.Typing.{Fits}
 use Rattle.node_outcomes.specs.Computing.{seen, has_part, KeepsTypes}
 use Rattle.node_outcomes.specs.Row.{with_stage, with_outcome}
 use Rattle.node_outcomes.proofs.Rights.{right_fits}
 use Rattle.stabilize_round.proofs.Points.{same_or_other}
+use Rattle.stabilizer.specs.Graph.{held_at, graph_at}
 use Rattle.stabilizer.specs.Kept.{IsKept}
 use Rattle.stabilizer.specs.Turning.{IsLoosened, IsOff, HasTurned}
 use Rattle.stabilizer.specs.Wiring.{KeepsPlaces}
@@ -29,6 +30,7 @@ use Rattle.node_outcomes.specs.declared.row.Stage.TheVariants as code
 use Rattle.stabilizer.specs.declared.work.Work.{Work}
 use Rattle.stabilizer.proofs.Keeping.{all_fit, rewritten_there, rewritten_fit, carried, kept_rewritten}
 use Rattle.stabilizer.proofs.Waiting.{swept_in_step, fewer_links}
+use Rattle.stabilizer.proofs.Holding.{held_any, held_rewritten, none_built}
 
 -- ---- a link that is off
 
@@ -95,8 +97,10 @@ module _ (arena : Arena) (old turned : Work) (n : NodeId) (r : Row) (m : NodeId)
       opened = λ p h. inl (subst (λ (x : Rows ℕ). Holds x p) (less.heights ∙ loose.enqueued.graph.heights) h);
       links = λ p q l. kept.links p q (let f = less.fewer p q in let e = ap (λ (x : Links). times x p q) loose.enqueued.graph.links in omega (arith, l, f, e));
       heap = λ p h. loose_heap p (less.heap p h);
-      fit = rewritten_fit arena old t.mid (main n) (with_stage code.Static) loose.rows loose_round (all_fit arena old kept)
+      fit = rewritten_fit arena (held_at arena old) old t.mid (main n) (with_stage code.Static) loose.rows loose_round (all_fit arena old kept)
           (λ k e fit. record { outcome = fit.outcome; right = fit.right; call = fit.call; settled = fit.settled });
+      held = held_rewritten arena old t.mid (main n) (with_stage code.Static) loose.rows (λ k is. refl)
+          (ap (λ (w : Work). w.roots) loose.last ∙ ap (λ (w : Work). w.roots) loose.rest);
       pairs = λ i a. subst (λ (xs : List NodeId). Among i xs) (sym (ap (λ (w : Work). w.pairs.items) loose.last ∙ ap (λ (w : Work). w.pairs.items) loose.rest)) a;
     })
 
@@ -123,8 +127,8 @@ module _ (arena : Arena) (old turned : Work) (n : NodeId) (r : Row) (m : NodeId)
     round = ap (λ (w : Work). w.round) t.rest ∙ mid_places.round;
   }
 
-  types : KeepsTypes arena old.rows
-  types = record { rows = kept.rows; outcomes = kept.outcomes; rights = kept.rights; calls = kept.calls }
+  types : KeepsTypes arena (held_at arena old) old.rows
+  types = record { rows = kept.rows; outcomes = kept.outcomes; rights = kept.rights; rootless = kept.rootless; calls = kept.calls }
 
   same_outcome : (a b : Outcome) → ◌≡◌ {A = Option Outcome} (Some a) (Some b) → a ≡ b
   same_outcome a b e = cc
@@ -135,13 +139,14 @@ module _ (arena : Arena) (old turned : Work) (n : NodeId) (r : Row) (m : NodeId)
   pub turned_kept : IsSound arena → subject_of r.def ≡ Some m
       → (seen old.rows (main m) ≡ Some given) ⊎ ((seen old.rows (main m) ≡ None) × (given ≡ Invalid)) → IsKept arena turned
   turned_kept sound sub shows = kept_rewritten arena t.mid turned (change n) (with_outcome given old.round) mid_kept t.rows
-      (ap (λ (w : Work). w.graph) t.rest) (ap (λ (w : Work). w.round) t.rest) (ap (λ (w : Work). w.pairs) t.rest)
+      (ap (λ (w : Work). w.graph) t.rest) (ap (λ (w : Work). w.round) t.rest) (held_any arena kept.today.no_binds t.mid turned) (ap (λ (w : Work). w.pairs) t.rest)
       (λ k e fit. record {
         outcome = λ r' v part. absurd (cc);
         right = λ r' i o part row out chosen. subst (λ (x : Row). Given arena.given i × Fits arena i x.ty) (same_row r r' (sym live ∙ row))
-            (right_fits arena old.rows types sound n m i r given live sub shows
-            (subst (λ (x : Outcome). right_of (graph_of arena) n r.def x ≡ Some i) (sym (same_outcome given o out))
-            (subst (λ (x : Row). right_of (graph_of arena) n x.def o ≡ Some i) (sym (same_row r r' (sym live ∙ row))) chosen)));
+            (right_fits arena (held_at arena old) (held_at arena t.mid) old.rows types sound n m i r given live sub shows
+            (λ w built. absurd (none-some w (sym (none_built arena kept.today.no_binds t.mid n) ∙ built)))
+            (subst (λ (x : Outcome). right_of (graph_at arena t.mid) n r.def x ≡ Some i) (sym (same_outcome given o out))
+            (subst (λ (x : Row). right_of (graph_at arena t.mid) n x.def o ≡ Some i) (sym (same_row r r' (sym live ∙ row))) chosen)));
         call = λ r' c part. absurd (cc);
         settled = (let q = mid_places.round in omega (arith, q));
       })

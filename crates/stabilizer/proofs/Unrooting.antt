@@ -76,6 +76,7 @@ module _ (arena : Arena) (old : Work) (g : NecessaryPart) (id : NodeId) (kept : 
     today = kept.today;
     outcomes = kept.outcomes;
     rights = kept.rights;
+    rootless = kept.rootless;
     calls = kept.calls;
     rounds = kept.rounds;
     pairs = kept.pairs;
@@ -91,6 +92,6 @@ module _ (arena : Arena) (old : Work) (g : NecessaryPart) (id : NodeId) (kept : 
     calls = λ n r nodes k c row def e last. (row, e);
     runs = λ n s r o row def is. (row, is);
     unsettled = λ p k e. inl e;
-    round = record { ran = refl; strict = refl; round = refl };
+    round = record { roots = refl; ran = refl; strict = refl; round = refl };
     todo = refl;
   }

@@ -6,9 +6,9 @@ use Rattle.inc_value.specs.declared.node.NodeId.{NodeId}
 use Rattle.inc_value.specs.declared.node.Part.TheVariants.{Main}
 use Rattle.inc_value.specs.declared.node.Point.{Point}
 use Rattle.inc_value.specs.declared.outcome.Outcome.{Outcome}
-use Rattle.inc_value.specs.Choice.{Among, Reaches, here, and_then}
-use Rattle.inc_terms.specs.Depend.{main, change, subject_of, fixed_reads, right_of, at_most_one}
-use Rattle.inc_terms.specs.Graph.{Graph, Row, Def}
+use Rattle.inc_value.specs.Choice.{Among, Reaches, here}
+use Rattle.inc_terms.specs.Depend.{main, change, subject_of, fixed_reads, at_most_one}
+use Rattle.inc_terms.specs.Graph.{Graph, Row}
 use Rattle.inc_terms.specs.Local.{shown}
 use Rattle.inc_terms.specs.Plan.{targets, gate_of}
 use Rattle.inc_terms.specs.Term.{Functions}
@@ -32,7 +32,7 @@ use Rattle.stabilize_round.proofs.Points.{same_or_other, count_append, one_same,
 use Rattle.stabilizer.specs.Kept.{IsKept}
 use Rattle.node_outcomes.specs.Computing.{has_part}
 use Rattle.node_outcomes.specs.Row.{IsRewritten, with_stage, with_outcome, stage_in, stage_of, settled_in, outcome_in}
-use Rattle.node_outcomes.specs.Choosing.{right_in, no_graph}
+use Rattle.node_outcomes.specs.Choosing.{right_in}
 use Rattle.stabilizer.specs.Stands.{Stands, Hand}
 use Rattle.stabilizer.specs.Turning.{IsAttached, IsLoosened, IsOff}
 use Rattle.stabilizer.specs.Wiring.{KeepsGraph}
@@ -40,13 +40,13 @@ use Rattle.node_outcomes.specs.declared.row.Progress.{Progress}
 use Rattle.node_outcomes.specs.declared.row.Stage.{Stage}
 use Rattle.node_outcomes.specs.declared.row.Stage.TheVariants as code
 use Rattle.stabilizer.specs.declared.work.Work.{Work}
-use Rattle.stabilizer.proofs.Attaching.{targets_now}
 use Rattle.stabilizer.proofs.Carrying.{heap_graph, needed_now, needed_before}
 use Rattle.stabilizer.proofs.Changing.{IsRun, IsReadied}
 use Rattle.stabilizer.proofs.Loosening.{change_is_other}
 use Rattle.stabilizer.proofs.Retrying.{off_keeps}
-use Rattle.stabilizer.proofs.Sight.{code_def, change_is}
+use Rattle.stabilizer.proofs.Sight.{change_is}
 use Rattle.stabilizer.proofs.TakingOff.{IsTakenOff, takes, stands_off}
+use Rattle.stabilizer.proofs.Holding.{targets_at}
 
 -- ---- a point is put into a heap
 
@@ -111,7 +111,7 @@ fewer_links fewer more p q off a b = elim (same_or_other a p) [
 module _ (arena : Arena) (old mid : Work) (g : NecessaryPart) (n : NodeId) (r : Row) (m : NodeId) (kept : IsKept arena old)
     (live : row_at arena n ≡ Some r) (sub : subject_of r.def ≡ Some m) (was : Holds old.graph.heap (change n))
     (rest : g ≡ record old.graph { heap = g.heap }) (c : Changes old.graph.heap g.heap (change n) None)
-    (attached : IsAttached (record old { graph = g }) n) (loose : IsLoosened (record old { graph = g }) mid n (right_in old.rows n r.def)) where
+    (attached : IsAttached (record old { graph = g }) n) (loose : IsLoosened (record old { graph = g }) mid n (right_in old.rows old.roots n r.def)) where
   abbrev g0 : NecessaryPart
   g0 = loose.mid.graph
 
@@ -155,18 +155,15 @@ module _ (arena : Arena) (old mid : Work) (g : NecessaryPart) (n : NodeId) (r : 
     two : IsSome (subject_of r.def)
     two = ap is_some sub
 
-    rights : targets s.graph n r.def (s.out (change n)) ≡ map main (at_most_one (right_in old.rows n r.def))
+    rights : targets s.graph n r.def (s.out (change n)) ≡ map main (at_most_one (right_in old.rows old.roots n r.def))
     rights =
-        let d = code_def arena n r live in
         ap (targets s.graph n r.def) (change_is s arena old calls kept st n r live two)
-        ∙ subst (λ (x : Def). targets s.graph n x (outcome_in (at old.rows (change n)))
-        ≡ map main (at_most_one (and_then (outcome_in (at old.rows (change n))) (λ o. right_of no_graph n x o)))) (sym d.1)
-        (targets_now s.graph n (ap (λ (G : Graph). G.built n) st.graph) d.0 (outcome_in (at old.rows (change n))))
+        ∙ (ap (λ (G : Graph). targets G n r.def (outcome_in (at old.rows (change n)))) st.graph ∙ targets_at arena old n r live)
 
     abbrev static_plan : List Point
     static_plan = live_plan s.graph s.out (main n) r machine.Static
 
-    linked_all : (b : Point) → times old.graph.links (main n) b ≡ count b static_plan + count b (map main (at_most_one (right_in old.rows n r.def)))
+    linked_all : (b : Point) → times old.graph.links (main n) b ≡ count b static_plan + count b (map main (at_most_one (right_in old.rows old.roots n r.def)))
     linked_all b =
         let l = inv.rows.links (main n) b need in
         let o : count b (s.owed (main n)) ≡ 0 = ap (count b) (st.owed (main n)) in
@@ -185,23 +182,23 @@ module _ (arena : Arena) (old mid : Work) (g : NecessaryPart) (n : NodeId) (r : 
     links_as a b = ap (λ (x : Links). times x a b) links_mid
 
     -- there was no right side
-    drops_none : right_in old.rows n r.def ≡ None → mid.graph ≡ g0 → Drops static_plan
+    drops_none : right_in old.rows old.roots n r.def ≡ None → mid.graph ≡ g0 → Drops static_plan
     drops_none none same = record {
       links = g0.links;
       others = λ a b ne. links_as a b;
       mine = λ b. let l = linked_all b in let w = links_as (main n) b in
-          let t : count b (map main (at_most_one (right_in old.rows n r.def))) ≡ 0 = ap (λ (x : Option NodeId). count b (map main (at_most_one x))) none in
+          let t : count b (map main (at_most_one (right_in old.rows old.roots n r.def))) ≡ 0 = ap (λ (x : Option NodeId). count b (map main (at_most_one x))) none in
           omega (arith, l, w, t);
       fewer = λ a b. omega arith;
       sweep = subst (λ (x : NecessaryPart). Sweep g0 x) (sym same) (same_swept g0 loose.enqueued.step);
     }
 
     -- there was one
-    module _ (k : NodeId) (is : right_in old.rows n r.def ≡ Some k) where
+    module _ (k : NodeId) (is : right_in old.rows old.roots n r.def ≡ Some k) where
       linked_one : (b : Point) → times old.graph.links (main n) b ≡ count b static_plan + one b (main k)
       linked_one b =
           let l = linked_all b in
-          let t : count b (map main (at_most_one (right_in old.rows n r.def))) ≡ one b (main k) + 0 =
+          let t : count b (map main (at_most_one (right_in old.rows old.roots n r.def))) ≡ one b (main k) + 0 =
           ap (λ (x : Option NodeId). count b (map main (at_most_one x))) is in
           omega (arith, l, t)
 
@@ -226,13 +223,13 @@ module _ (arena : Arena) (old mid : Work) (g : NecessaryPart) (n : NodeId) (r : 
       never_absent : (Reads g0.links (main n) (main k) → ⊥) → ⊥
       never_absent not = not (let w = linked_one (main k) in let o = one_same (main k) in let l = links_as (main n) (main k) in omega (arith, w, o, l))
 
-    by_right : (x : Option NodeId) → right_in old.rows n r.def ≡ x → IsOff g0 mid.graph n x → Drops static_plan
+    by_right : (x : Option NodeId) → right_in old.rows old.roots n r.def ≡ x → IsOff g0 mid.graph n x → Drops static_plan
     by_right None e off = drops_none e off
     by_right (Some k) e (inl u) = drops_one k e u
     by_right (Some k) e (inr absent) = absurd (never_absent k e absent.1)
 
     d : Drops static_plan
-    d = by_right (right_in old.rows n r.def) refl loose.off
+    d = by_right (right_in old.rows old.roots n r.def) refl loose.off
 
     -- ---- with the change in the heap
 
@@ -354,6 +351,7 @@ module _ (arena : Arena) (old mid : Work) (g : NecessaryPart) (n : NodeId) (r : 
       step = last_in_step;
       todo = ap (λ (w : Work). w.todo.items) loose.last ∙ ap (λ (w : Work). w.todo.items) loose.rest;
       round = record {
+        roots = ap (λ (w : Work). w.roots) loose.last ∙ ap (λ (w : Work). w.roots) loose.rest;
         ran = ap (λ (w : Work). w.ran.items) loose.last ∙ ap (λ (w : Work). w.ran.items) loose.rest;
         strict = ap (λ (w : Work). w.strict) loose.last ∙ ap (λ (w : Work). w.strict) loose.rest;
         round = ap (λ (w : Work). w.round) loose.last ∙ ap (λ (w : Work). w.round) loose.rest;
@@ -433,6 +431,7 @@ module _ (arena : Arena) (old mid : Work) (g : NecessaryPart) (n : NodeId) (r : 
       heap = λ a ne. ap (λ (w : Work). is_some (at w.graph.heap a)) only ∙ sym (ap is_some (put_mid.others a ne));
       todo = ap (λ (w : Work). w.todo.items) only;
       round = record {
+        roots = ap (λ (w : Work). w.roots) only;
         ran = ap (λ (w : Work). w.ran.items) only;
         strict = ap (λ (w : Work). w.strict) only;
         round = ap (λ (w : Work). w.round) only;
@@ -494,6 +493,7 @@ module _ (arena : Arena) (old turned : Work) (g : NecessaryPart) (n : NodeId) (r
     heap = λ a ne. ap (λ (w : Work). is_some (at w.graph.heap a)) only ∙ ap is_some (c.others a ne);
     todo = ap (λ (w : Work). w.todo.items) only;
     round = record {
+      roots = ap (λ (w : Work). w.roots) only;
       ran = ap (λ (w : Work). w.ran.items) only;
       strict = ap (λ (w : Work). w.strict) only;
       round = ap (λ (w : Work). w.round) only;

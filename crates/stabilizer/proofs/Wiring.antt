@@ -17,6 +17,7 @@ use Rattle.stabilizer.specs.Stands.{Stands, Hand, hand, IsInHand}
 use Rattle.stabilizer.specs.Wiring.{KeepsRound, Looks}
 use Rattle.node_outcomes.specs.declared.row.Progress.{Progress}
 use Rattle.stabilizer.specs.declared.work.Work.{Work}
+use Rattle.stabilizer.proofs.Holding.{graph_rows}
 
 -- nothing is owed
 abbrev nothing : Point → List Point
@@ -29,7 +30,7 @@ pub taken_stands : (s : State) (arena : Arena) (old new : Work) (calls : ℕ) (p
     → ((a : Point) → Among a old.todo.items → Among a new.todo.items ⊎ (a ≡ p))
     → Stands arena new calls (Some (hand p [])) s
 taken_stands s arena old new calls p st graph rows round listed = record {
-  graph = st.graph;
+  graph = st.graph ∙ sym (graph_rows arena old new (λ a. ap (λ (m : Rows Progress). at m a) rows) round.roots);
   out = λ a k e. st.out a k (ap (λ (m : Rows Progress). at m a) (sym rows) ∙ e);
   last = λ n k e. st.last n k (ap (λ (m : Rows Progress). at m (main n)) (sym rows) ∙ e);
   never = λ n k e. st.never n k (ap (λ (m : Rows Progress). at m (main n)) (sym rows) ∙ e);
@@ -63,7 +64,7 @@ taken_stands s arena old new calls p st graph rows round listed = record {
 pub looks_stands : (s : State) (arena : Arena) (old new : Work) (calls : ℕ) (held : Option Hand) → Looks old new → Stands arena old calls held s
     → Stands arena new calls held s
 looks_stands s arena old new calls held same st = record {
-  graph = st.graph;
+  graph = st.graph ∙ sym (graph_rows arena old new same.rows same.round.roots);
   out = λ a k e. st.out a k (sym (same.rows a) ∙ e);
   last = λ n k e. st.last n k (sym (same.rows (main n)) ∙ e);
   never = λ n k e. st.never n k (sym (same.rows (main n)) ∙ e);

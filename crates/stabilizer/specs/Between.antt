@@ -13,12 +13,12 @@ use Rattle.point_map.specs.Rows.{at, Holds, KeepsRows}
 use Rattle.link_table.specs.Links.{times}
 use Rattle.necessary_graph.specs.Part.{Needed}
 use Rattle.node_arena.specs.Arena.{Arena, row_at, with_value}
-use Rattle.node_arena.specs.Graph.{graph_of}
 use Rattle.inc_terms.specs.Work.{taken_by}
 use Rattle.stabilize_round.specs.State.{Call, count}
 use Rattle.stabilize_round.specs.Invariant.{Recalls}
 use Rattle.node_outcomes.specs.Computing.{KeepsAnswers}
 use Rattle.node_outcomes.specs.Meaning.{Meaning}
+use Rattle.stabilizer.specs.Graph.{graph_at}
 use Rattle.stabilizer.specs.Kept.{IsKept}
 use Rattle.map_nodes.specs.declared.cutoff.Cutoff.TheVariants.{Equal}
 use Rattle.stabilizer.specs.Round.{IsReady, last_call, cutoff_at}
@@ -38,12 +38,12 @@ pub record IsBetween (F : Functions) (arena : Arena) (work : Work) : Type 0 wher
   pub kept : IsKept arena work
   pub full : (p : Point) (k : Progress) → Needed work.graph p → at work.rows p ≡ Some k → k.stage ≡ Full
   pub links : (p : Point) (r : Row) → Needed work.graph p → row_at arena p.node ≡ Some r
-      → (q : Point) → times work.graph.links p q ≡ count q (plan (graph_of arena) (out_of work) p r)
+      → (q : Point) → times work.graph.links p q ≡ count q (plan (graph_at arena work) (out_of work) p r)
   pub fresh : (p : Point) (r : Row) → Needed work.graph p → row_at arena p.node ≡ Some r
-      → Holds work.graph.heap p ⊎ (Agrees F (graph_of arena) (out_of work) p
-      × Recalls (graph_of arena) (shown (graph_of arena) (out_of work)) (last_call work) p)
-  pub built : (n : NodeId) (r : Row) (o : Outcome) → row_at arena n ≡ Some r → out_of work (change n) ≡ Some o → IsBuilt F (graph_of arena) n r.def o
-  pub answers : KeepsAnswers F arena work.rows
+      → Holds work.graph.heap p ⊎ (Agrees F (graph_at arena work) (out_of work) p
+      × Recalls (graph_at arena work) (shown (graph_at arena work) (out_of work)) (last_call work) p)
+  pub built : (n : NodeId) (r : Row) (o : Outcome) → row_at arena n ≡ Some r → out_of work (change n) ≡ Some o → IsBuilt F (graph_at arena work) n r.def o
+  pub answers : KeepsAnswers F (graph_at arena work) work.rows
   pub unsettled : (p : Point) → settled_in work.round (at work.rows p) ≡ false
   pub numbered : 0 < work.round
   pub strict : work.strict ≡ false
@@ -69,7 +69,7 @@ pub record Stays (before arena : Arena) (old work : Work) : Type 0 where
   pub rows : (p : Point) → Needed work.graph p → at work.rows p ≡ at old.rows p
   pub nodes : (p : Point) (r : Row) → Needed work.graph p → row_at arena p.node ≡ Some r → (row_at before p.node ≡ Some r)
       ⊎ (Holds work.graph.heap p × (was : Row) × (v w : Value) × (row_at before p.node ≡ Some was) × (was.def ≡ Var w) × (r ≡ with_value was v))
-  pub calls : (n : NodeId) (r : Row) (nodes : List NodeId) (k : Progress) (c : Call) → row_at arena n ≡ Some r → taken_by (graph_of arena) n r.def ≡ Some nodes
+  pub calls : (n : NodeId) (r : Row) (nodes : List NodeId) (k : Progress) (c : Call) → row_at arena n ≡ Some r → taken_by (graph_at arena work) n r.def ≡ Some nodes
       → at work.rows (main n) ≡ Some k → k.last ≡ Some c → (row_at before n ≡ Some r) × (at old.rows (main n) ≡ Some k)
   pub runs : (n s : NodeId) (r : Row) (o : Outcome) → row_at arena n ≡ Some r → subject_of r.def ≡ Some s → out_of work (change n) ≡ Some o
       → (row_at before n ≡ Some r) × (out_of old (change n) ≡ Some o)

@@ -1,3 +1,4 @@
+pub mod Graph
 pub mod Stands
 pub mod Began
 pub mod Today

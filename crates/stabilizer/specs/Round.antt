@@ -20,7 +20,7 @@ use Rattle.link_table.specs.Links.{Reads}
 use Rattle.necessary_graph.specs.Part as part
 use Rattle.necessity.specs.Need.{Roots, root_times}
 use Rattle.node_arena.specs.Arena.{Arena, row_at}
-use Rattle.node_arena.specs.Graph.{AllCallFit, graph_of}
+use Rattle.node_arena.specs.Graph.{AllCallFit}
 use Rattle.point_map.specs.Rows.{at}
 use Rattle.stabilize_round.specs.Calls.{arguments_of}
 use Rattle.inc_terms.specs.Work.{taken_by}
@@ -36,6 +36,7 @@ use Rattle.stabilizer.specs.declared.refused.Refused.{Refused}
 use Rattle.stabilizer.specs.declared.refused.Refused.TheVariants.{Height, Cycle, Full, Memory}
 use Rattle.node_outcomes.specs.Meaning.{Meaning}
 use Rattle.stabilizer.specs.Began.{IsRoundOf}
+use Rattle.stabilizer.specs.Graph.{graph_at}
 use Rattle.stabilizer.specs.Kept.{IsKept}
 use Rattle.node_outcomes.specs.Row.{cutoff_in, is_never, settled_in, outcome_in}
 use Rattle.stabilizer.specs.Refusing.{TellsWhy}
@@ -82,7 +83,7 @@ never_at work n = is_never (cutoff_at work n)
 
 -- the nodes of parts as a graph
 abbrev pub graph_in : Parts → Graph
-graph_in parts = graph_of parts.arena
+graph_in parts = graph_at parts.arena parts.work
 
 -- the graph that a call leaves, as its round read it: a freeze that got its value still follows its child
 abbrev pub left_by : Parts → Parts → Graph
@@ -212,7 +213,7 @@ pub record IsTried (arena : Arena) (work : Work) (points : List Point) : Type 0 
   pub linked : IsWalk (ReadsWith work.graph.links reader kid) points
   pub needed : AllButLast (part.Needed work.graph) points
   pub right : (r : Row) → row_at arena reader.node ≡ Some r → reader.part ≡ Main
-      → Among kid (targets (graph_of arena) reader.node r.def (outcome_in (at work.rows (change reader.node))))
+      → Among kid (targets (graph_at arena work) reader.node r.def (outcome_in (at work.rows (change reader.node))))
       → settled_in work.round (at work.rows (change reader.node)) ≡ true
 
 -- so it is of the points that a refusal lists
@@ -252,7 +253,7 @@ pub record Pauses (F : Functions) (z : Start) (s : State) (arena : Arena) (new :
   pub between : ℕ
   pub moves : Moves F z s state
   pub stands : Stands arena new between left state
-  pub calls : (after ≡ state.calls) ⊎ (Quiet state × (n : NodeId) × IsLeast state (main n) × HasCalledSome arena n state.calls after)
+  pub calls : (after ≡ state.calls) ⊎ (Quiet state × (n : NodeId) × IsLeast state (main n) × HasCalledSome (graph_at arena new) n state.calls after)
   pub told : TellsWhy F state new left e
 
 -- from each state that the parts stood for, with the count of calls, steps stop so

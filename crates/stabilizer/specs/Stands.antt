@@ -10,10 +10,10 @@ use Rattle.necessity.specs.Need.{root_times}
 use Rattle.height_order.specs.Levels.{level}
 use Rattle.necessary_graph.specs.Part.{Needed}
 use Rattle.node_arena.specs.Arena.{Arena}
-use Rattle.node_arena.specs.Graph.{graph_of}
 use Rattle.stabilize_round.specs.State.{State, at_point}
 use Rattle.node_outcomes.specs.Row.{stage_of, settled_in, is_never}
 use Rattle.node_outcomes.specs.declared.row.Progress.{Progress}
+use Rattle.stabilizer.specs.Graph.{graph_at}
 use Rattle.stabilizer.specs.declared.work.Work.{Work}
 
 -- a point that is being given its links, and those that are yet to come
@@ -33,7 +33,7 @@ IsInHand (Some h) p = p ≡ h.point
 
 -- the arena, what is kept beside it, the count of calls and the point in hand are the state's, where just these points are needed
 pub record StandsWith (IsNeeded : Point → Type 0) (arena : Arena) (work : Work) (count : ℕ) (hand : Option Hand) (s : State) : Type 0 where
-  pub graph : s.graph ≡ graph_of arena
+  pub graph : s.graph ≡ graph_at arena work
   pub out : (p : Point) (k : Progress) → at work.rows p ≡ Some k → s.out p ≡ k.outcome
   pub last : (n : NodeId) (k : Progress) → at work.rows (main n) ≡ Some k → s.last n ≡ k.last
   pub never : (n : NodeId) (k : Progress) → at work.rows (main n) ≡ Some k → s.never n ≡ is_never k.cutoff

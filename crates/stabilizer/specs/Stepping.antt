@@ -11,7 +11,6 @@ use Rattle.point_map.specs.Rows.{at, Holds, KeepsRows, Changes}
 use Rattle.recompute_heap.specs.Agree.{IsLeast as IsLowest}
 use Rattle.height_order.specs.Levels.{level}
 use Rattle.node_arena.specs.Arena.{Arena, row_at}
-use Rattle.node_arena.specs.Graph.{graph_of}
 use Rattle.stabilize_round.specs.Calling.{cost_at}
 use Rattle.stabilize_round.specs.Counts.{RoseBy, number_of}
 use Rattle.stabilize_round.specs.Moves.{Quiet, IsLeast, calls_of}
@@ -22,6 +21,7 @@ use Rattle.node_outcomes.specs.Computing.{IsComputed, HasCalledSome, seen}
 use Rattle.node_outcomes.specs.Meaning.{Meaning}
 use Rattle.stabilizer.specs.Began.{IsRoundOf}
 use Rattle.stabilizer.specs.Deciding.{is_needed}
+use Rattle.stabilizer.specs.Graph.{graph_at}
 use Rattle.stabilizer.specs.Growing.{Covers}
 use Rattle.stabilizer.specs.Refusing.{TellsWhy}
 use Rattle.node_outcomes.specs.Row.{settled_in, stage_in, is_full}
@@ -40,19 +40,20 @@ pub record MainIsSettled (F : Functions) (arena : Arena) (old new : Work) (n : N
   pub outcome : Outcome
   pub last : Option Call
   pub called : Bool
-  pub computed : IsComputed F arena old.round old.rows n outcome last called
-  pub settled : IsSettled old new n outcome last (calls_of called (cost_at (graph_of arena) n))
-  pub count : RoseBy before (calls_of called (cost_at (graph_of arena) n)) after
+  pub computed : IsComputed F (graph_at arena old) old.round old.rows n outcome last called
+  pub settled : IsSettled old new n outcome last (calls_of called (cost_at (graph_at arena old) n))
+  pub count : RoseBy before (calls_of called (cost_at (graph_at arena old) n)) after
 
 -- without memory a main stays as it was; some of the calls that it takes may have been made
 pub record MainIsLeft (arena : Arena) (old new : Work) (n : NodeId) (before after : ℕ) : Type 0 where
   pub rows : KeepsRows old.rows new.rows
   pub graph : new.graph ≡ old.graph
+  pub roots : new.roots ≡ old.roots
   pub todo : new.todo.items ≡ old.todo.items
   pub ran : new.ran.items ≡ old.ran.items
   pub strict : new.strict ≡ old.strict
   pub round : new.round ≡ old.round
-  pub count : (after ≡ before) ⊎ HasCalledSome arena n before after
+  pub count : (after ≡ before) ⊎ HasCalledSome (graph_at arena old) n before after
 
 -- the parts turned: a change of the heap was settled on what its subject shows
 pub record ChangeIsTurned (arena : Arena) (old new : Work) (n : NodeId) : Type 0 where
@@ -62,7 +63,7 @@ pub record ChangeIsTurned (arena : Arena) (old new : Work) (n : NodeId) : Type 0
   pub is_row : row_at arena n ≡ Some row
   pub is_subject : subject_of row.def ≡ Some subject
   pub sees : (seen old.rows (main subject) ≡ Some given) ⊎ (seen old.rows (main subject) ≡ None)
-  pub turned : HasTurned old new n (right_in old.rows n row.def) given
+  pub turned : HasTurned old new n (right_in old.rows old.roots n row.def) given
 
 -- then its main got its right side, if it waits, and what is newly needed its links
 pub record ChangeIsSettled (arena : Arena) (old new : Work) (n : NodeId) : Type 0 where
@@ -105,7 +106,7 @@ Steps M arena old new before after =
 -- where a step stops that is refused: as it was, but for some of the calls of a least point's function; or where points get their links, of which one was
 -- refused, or had no memory
 pub data StepStops (F : Functions) (z : Start) (s : State) (arena : Arena) (new : Work) (before after : ℕ) (e : Refused) : Type 0 where
-  as_it_was : Stands arena new before None s → (after ≡ before) ⊎ ((n : NodeId) × IsLeast s (main n) × HasCalledSome arena n before after) → e ≡ Memory
+  as_it_was : Stands arena new before None s → (after ≡ before) ⊎ ((n : NodeId) × IsLeast s (main n) × HasCalledSome (graph_at arena new) n before after) → e ≡ Memory
       → StepStops F z s arena new before after e
   wiring : {t : State} {left : Option Hand} → Moves F z s t → Stands arena new before left t → after ≡ before → TellsWhy F t new left e
       → StepStops F z s arena new before after e

@@ -1,15 +1,18 @@
 -- What is so of the nodes of today alone: none stands in a scope, and none is a bind.
-use Rattle.std.specs.Prelude.{◌≡◌, List}
+use Rattle.std.specs.Prelude.{◌≡◌, List, Some}
 use Rattle.inc_value.specs.declared.function.FnRef.{FnRef}
 use Rattle.inc_value.specs.declared.node.NodeId.{NodeId}
-use Rattle.inc_terms.specs.Graph.{Def, Bind}
-use Rattle.node_arena.specs.Arena.{Arena}
+use Rattle.inc_terms.specs.Graph.{Row, Def, Bind}
+use Rattle.node_arena.specs.Arena.{Arena, row_at}
 use Rattle.node_arena.specs.Graph.{NoScopes}
-use Rattle.node_outcomes.specs.Today.{NoBinds}
 
 -- the definition is no bind
 abbrev pub IsNoBind : Def → Type 0
 IsNoBind def = (l : NodeId) (f : FnRef) (captures : List NodeId) → def ≡ Bind l f captures → ⊥
+
+-- no live node is a bind
+abbrev pub NoBinds : Arena → Type 0
+NoBinds a = (n : NodeId) (r : Row) → row_at a n ≡ Some r → IsNoBind r.def
 
 -- the nodes are those that graphs of today have
 pub record IsToday (arena : Arena) : Type 0 where

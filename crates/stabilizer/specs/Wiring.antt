@@ -16,13 +16,13 @@ use Rattle.necessity.specs.Need.{KeepsRoots}
 use Rattle.height_order.specs.Levels.{level, KeepsPoints}
 use Rattle.necessary_graph.specs.Part.{NecessaryPart, Needed, IsInStep, AlsoNeeded}
 use Rattle.node_arena.specs.Arena.{Arena, row_at}
-use Rattle.node_arena.specs.Graph.{graph_of}
 use Rattle.stabilize_round.specs.Invariant.{Invariant}
 use Rattle.stabilize_round.specs.Machine.{Move, Moves}
 use Rattle.stabilize_round.specs.Steps.{TakingOff, Turns, Wiring, Wired}
 use Rattle.stabilize_round.specs.State as machine
 use Rattle.stabilize_round.specs.State.{State, Start}
 use Rattle.stabilize_round.specs.Wire.{IsConfirmed}
+use Rattle.stabilizer.specs.Graph.{graph_at}
 use Rattle.stabilizer.specs.Stands.{Stands, Hand, hand, IsInHand}
 use Rattle.stabilizer.specs.Deciding.{is_needed}
 use Rattle.stabilizer.specs.Refusing.{TellsWhy}
@@ -32,8 +32,9 @@ use Rattle.node_outcomes.specs.declared.row.Progress.{Progress}
 use Rattle.node_outcomes.specs.declared.row.Stage.TheVariants.{Bare, Full}
 use Rattle.stabilizer.specs.declared.work.Work.{Work}
 
--- of the round itself nothing changed
+-- of the round itself nothing changed, nor did a bind's root
 pub record KeepsRound (old new : Work) : Type 0 where
+  pub roots : new.roots ≡ old.roots
   pub ran : new.ran.items ≡ old.ran.items
   pub strict : new.strict ≡ old.strict
   pub round : new.round ≡ old.round
@@ -146,7 +147,7 @@ TakesOne arena old new =
 abbrev pub IsConfirmedAt : Arena → Work → NodeId → Type 0
 IsConfirmedAt arena work n =
     (r : Row) (p : Point) → row_at arena n ≡ Some r → Needed work.graph (main n) → stage_in (at work.rows (main n)) ≡ Some Full
-    → Among p (targets (graph_of arena) n r.def (outcome_in (at work.rows (change n)))) → settled_in work.round (at work.rows (change n)) ≡ true
+    → Among p (targets (graph_at arena work) n r.def (outcome_in (at work.rows (change n)))) → settled_in work.round (at work.rows (change n)) ≡ true
 
 -- right sides were taken off as moves, and refusals are final
 abbrev pub TakesOff : Arena → Work → Work → Type 0

@@ -188,6 +188,7 @@ fn step_main<F: Functions>(
         parts.alloc,
         &parts.arena,
         &mut parts.work.rows,
+        &parts.work.roots,
         &mut parts.work.ran,
         parts.work.round,
         functions,

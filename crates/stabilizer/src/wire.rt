@@ -167,7 +167,7 @@ impl Work {
         let Some(row) = arena.get(node) else {
             return Ok(());
         };
-        if let Some(target) = right_side(&self.rows, node, &row.def) {
+        if let Some(target) = right_side(&self.rows, &self.roots, node, &row.def) {
             let _on = self.connect(arena, p, main_point(target))?;
         }
         Ok(())

@@ -40,6 +40,8 @@ pub(crate) struct Work {
     pub graph: NecessaryGraph,
     /// A row for each point of a live node.
     pub rows: PointMap<Progress>,
+    /// The root of each bind that is built for a value, by its change.
+    pub roots: PointMap<NodeId>,
     /// The nodes of two points, all live ones among them.
     pub pairs: Vec<NodeId>,
     /// Points that are newly needed and have no links yet.
@@ -70,6 +72,7 @@ impl Work {
         Work {
             graph: NecessaryGraph::new(alloc),
             rows: PointMap::new(alloc),
+            roots: PointMap::new(alloc),
             pairs: Vec::new(alloc),
             todo: Vec::new(alloc),
             ran: Vec::new(alloc),
@@ -257,7 +260,7 @@ impl Work {
     pub fn turn(&mut self, node: NodeId, def: &Def, given: Outcome)
         requires there { Holds self.old.rows (change node) }
         requires step { IsInStep self.old.graph }
-        ensures { HasTurned self.old self.new node (right_in self.old.rows node (def_of def.now)) given }
+        ensures { HasTurned self.old self.new node (right_in self.old.rows self.old.roots node (def_of def.now)) given }
     {
         if !ran_with(&self.rows, node, &given) && self.is_attached(node) {
             self.drop_right(node, def);
@@ -285,13 +288,13 @@ impl Work {
     fn drop_right(&mut self, node: NodeId, def: &Def)
         requires attached { IsAttached self.old node }
         requires step { IsInStep self.old.graph }
-        ensures loosened { IsLoosened self.old self.new node (right_in self.old.rows node (def_of def.now)) }
+        ensures loosened { IsLoosened self.old self.new node (right_in self.old.rows self.old.roots node (def_of def.now)) }
         ensures step { IsInStep self.new.graph }
     {
         let p = main_point(node);
         self.enqueue(p);
         set_stage(&mut self.rows, p, Stage::Static);
-        if let Some(target) = right_side(&self.rows, node, def) {
+        if let Some(target) = right_side(&self.rows, &self.roots, node, def) {
             let q = main_point(target);
             if self.graph.reads(p, q) {
                 self.graph.unlink(p, q);
@@ -335,7 +338,7 @@ impl Work {
         let own = change_point(node);
         if self.is_attached(node)
             && !was_settled(&self.rows, own, self.round)
-            && right_side(&self.rows, node, &row.def).is_some()
+            && right_side(&self.rows, &self.roots, node, &row.def).is_some()
         {
             self.schedule(own);
             self.drop_right(node, &row.def);
@@ -431,6 +434,7 @@ impl Work {
         ensures round { self.new.round ≡ next }
         ensures graph { self.new.graph ≡ self.old.graph }
         ensures rows { self.new.rows ≡ self.old.rows }
+        ensures roots { self.new.roots ≡ self.old.roots }
         ensures pairs { self.new.pairs ≡ self.old.pairs }
         ensures todo { self.new.todo ≡ self.old.todo }
     {

@@ -21,7 +21,7 @@ compute_map-requires-clause-fit g c =
     let row = row_of c.unwrap-row.result.now in
     let is_row : row_at c.args.arena.now c.args.node ≡ Some row = sym (rw c.unwrap-row.ensures at c.get.ensures) in
     let is_map : row.def ≡ Map f nodes = ap def_of c.in-Map.is ∙ ap (Map f) (sym c.as_slice.ensures) in
-    map_fits F c.args.arena.now c.args.round old c.args.node row c.requires.types c.requires.arena is_row f nodes is_map
+    map_fits F c.args.arena.now c.args.roots.now c.args.round old c.args.node row c.requires.types c.requires.arena is_row f nodes is_map
 
 pub returns-in-Map-clause-computed : goal.returns-in-Map-clause-computed
 returns-in-Map-clause-computed g c =
@@ -32,10 +32,10 @@ returns-in-Map-clause-computed g c =
     let row = row_of c.unwrap-row.result.now in
     let is_row : row_at c.args.arena.now c.args.node ≡ Some row = sym (rw c.unwrap-row.ensures at c.get.ensures) in
     let is_map : row.def ≡ Map f nodes = ap def_of c.in-Map.is ∙ ap (Map f) (sym c.as_slice.ensures) in
-    call_ends F c.args.arena.now c.args.round old c.args.node row c.requires.types c.requires.arena is_row
+    call_ends F c.args.arena.now c.args.roots.now c.args.round old c.args.node row c.requires.types c.requires.arena is_row
     (F.value f) f.sig.gives (Map f nodes) nodes 1 is_map refl (λ values w e. e) refl refl refl
-    (map_gives F c.args.arena.now c.args.round old c.args.node row c.requires.types c.requires.arena is_row f nodes is_map)
-    (map_base F c.args.arena.now c.args.round old c.args.node row c.requires.types c.requires.arena is_row f nodes is_map
+    (map_gives F c.args.arena.now c.args.roots.now c.args.round old c.args.node row c.requires.types c.requires.arena is_row f nodes is_map)
+    (map_base F c.args.arena.now c.args.roots.now c.args.round old c.args.node row c.requires.types c.requires.arena is_row f nodes is_map
     (g.F.Functions.known c.args.functions.now) (ids_of (g.F.Functions.right c.args.functions.now)) (g.met.F.Functions.known_maps c.args.functions.now c.requires.sound) c.requires.fit)
     (noted c.compute_map.new.rows c.compute_map.new.ran.items (g.F.Functions.calls c.compute_map.new.functions))
     c.compute_map.result c.compute_map.ensures.computed
@@ -50,7 +50,7 @@ compute_fold-requires-clause-fit g c =
     let row = row_of c.unwrap-row.result.now in
     let is_row : row_at c.args.arena.now c.args.node ≡ Some row = sym (rw c.unwrap-row.ensures at c.get.ensures) in
     let is_fold : row.def ≡ Fold f from nodes = ap def_of c.in-Fold.is ∙ ap (Fold f from) (sym c.as_slice-in-Fold.ensures) in
-    fold_fits F c.args.arena.now c.args.round old c.args.node row c.requires.types c.requires.arena is_row f from nodes is_fold
+    fold_fits F c.args.arena.now c.args.roots.now c.args.round old c.args.node row c.requires.types c.requires.arena is_row f from nodes is_fold
 
 pub returns-in-Fold-clause-computed : goal.returns-in-Fold-clause-computed
 returns-in-Fold-clause-computed g c =
@@ -62,10 +62,10 @@ returns-in-Fold-clause-computed g c =
     let row = row_of c.unwrap-row.result.now in
     let is_row : row_at c.args.arena.now c.args.node ≡ Some row = sym (rw c.unwrap-row.ensures at c.get.ensures) in
     let is_fold : row.def ≡ Fold f from nodes = ap def_of c.in-Fold.is ∙ ap (Fold f from) (sym c.as_slice-in-Fold.ensures) in
-    call_ends F c.args.arena.now c.args.round old c.args.node row c.requires.types c.requires.arena is_row
+    call_ends F c.args.arena.now c.args.roots.now c.args.round old c.args.node row c.requires.types c.requires.arena is_row
     (folded (F.value f) from) f.sig.gives (Fold f from nodes) nodes (length nodes) is_fold refl (λ values w e. e) refl refl refl
-    (fold_gives F c.args.arena.now c.args.round old c.args.node row c.requires.types c.requires.arena is_row f from nodes is_fold)
-    (fold_base F c.args.arena.now c.args.round old c.args.node row c.requires.types c.requires.arena is_row f from nodes is_fold
+    (fold_gives F c.args.arena.now c.args.roots.now c.args.round old c.args.node row c.requires.types c.requires.arena is_row f from nodes is_fold)
+    (fold_base F c.args.arena.now c.args.roots.now c.args.round old c.args.node row c.requires.types c.requires.arena is_row f from nodes is_fold
     (g.F.Functions.known c.args.functions.now) (ids_of (g.F.Functions.right c.args.functions.now)) (g.met.F.Functions.known_maps c.args.functions.now c.requires.sound) c.requires.fit)
     (noted c.compute_fold.new.rows c.compute_fold.new.ran.items (g.F.Functions.calls c.compute_fold.new.functions))
     c.compute_fold.result c.compute_fold.ensures.computed
@@ -74,7 +74,7 @@ pub returns-in-Ok-clause-computed : goal.returns-in-Ok-clause-computed
 returns-in-Ok-clause-computed g c =
     let row = row_of c.unwrap-row.result.now in
     let is_row : row_at c.args.arena.now c.args.node ≡ Some row = sym (rw c.unwrap-row.ensures at c.get.ensures) in
-    holder_computes (functions_of g.F.Functions c.args.functions.now) c.args.arena.now c.args.round
+    holder_computes (functions_of g.F.Functions c.args.functions.now) c.args.arena.now c.args.roots.now c.args.round
     (noted c.args.rows.now c.args.ran.now.items (g.F.Functions.calls c.args.functions.now)) c.args.node row c.requires.types c.requires.arena is_row
     c.in-Ok.copy (holds_value c.unwrap-row.result.now.def c.in-Const.value c.in-Ok.copy c.in-Ok.ensures.ok c.in-Const.is)
 
@@ -85,7 +85,7 @@ returns-in-Some-clause-computed g c =
     let row = row_of c.unwrap-row.result.now in
     let is_row : row_at c.args.arena.now c.args.node ≡ Some row = sym (rw c.unwrap-row.ensures at c.get.ensures) in
     let d = c.unwrap-row.result.now.def in
-    pair_ends F c.args.arena.now c.args.round old c.args.node row c.requires.types c.requires.arena is_row d refl (pair_of d c.in-If.is)
+    pair_ends F c.args.arena.now c.args.roots.now c.args.round old c.args.node row c.requires.types c.requires.arena is_row d refl (pair_of d c.in-If.is)
     c.in-Some.target c.shown.result (sym c.right_side.ensures ∙ c.in-Some.is) c.shown.ensures
 
 pub returns-in-None-clause-computed : goal.returns-in-None-clause-computed
@@ -95,5 +95,5 @@ returns-in-None-clause-computed g c =
     let row = row_of c.unwrap-row.result.now in
     let is_row : row_at c.args.arena.now c.args.node ≡ Some row = sym (rw c.unwrap-row.ensures at c.get.ensures) in
     let d = c.unwrap-row.result.now.def in
-    pair_computes F c.args.arena.now c.args.round old c.args.node row c.requires.types c.requires.arena is_row d refl (pair_of d c.in-If.is) Invalid
+    pair_computes F c.args.arena.now c.args.roots.now c.args.round old c.args.node row c.requires.types c.requires.arena is_row d refl (pair_of d c.in-If.is) Invalid
     (subst (λ (x : Option NodeId). ShowsRight c.args.rows.now x Invalid) (sym c.in-None.is ∙ c.right_side.ensures) refl)

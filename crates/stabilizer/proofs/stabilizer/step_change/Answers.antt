@@ -54,9 +54,9 @@ attach_right-requires-clause-kept c =
     let turned = c.turn.new.self in
     let live : row_at arena n ≡ Some r = sym c.in-Some.ensures in
     let sub : subject_of r.def ≡ Some m = sym c.subject.ensures ∙ c.in-Some-subject.is in
-    let t : HasTurned old turned n (right_in old.rows n r.def) given =
+    let t : HasTurned old turned n (right_in old.rows old.roots n r.def) given =
     record { mid = c.turn.ensures.mid; turned = c.turn.ensures.turned; rows = c.turn.ensures.rows; rest = c.turn.ensures.rest } in
-    turned_kept arena old turned n r m (right_in old.rows n r.def) given c.requires.kept live t c.requires.kept.sound sub c.in-Ok.ensures
+    turned_kept arena old turned n r m (right_in old.rows old.roots n r.def) given c.requires.kept live t c.requires.kept.sound sub c.in-Ok.ensures
 
 pub returns-in_err-attach_right-clause-refused : goal.returns-in_err-attach_right-clause-refused
 returns-in_err-attach_right-clause-refused c =
@@ -69,7 +69,7 @@ returns-in_err-attach_right-clause-refused c =
     let turned = c.turn.new.self in
     let live : row_at arena n ≡ Some r = sym c.in-Some.ensures in
     let sub : subject_of r.def ≡ Some m = sym c.subject.ensures ∙ c.in-Some-subject.is in
-    let t : HasTurned old turned n (right_in old.rows n r.def) given =
+    let t : HasTurned old turned n (right_in old.rows old.roots n r.def) given =
     record { mid = c.turn.ensures.mid; turned = c.turn.ensures.turned; rows = c.turn.ensures.rows; rest = c.turn.ensures.rest } in
     let is_turned : ChangeIsTurned arena old turned n = record {
       row = r;
@@ -96,10 +96,10 @@ returns-in_err-attach_right-clause-places c =
     let turned = c.turn.new.self in
     let live : row_at arena n ≡ Some r = sym c.in-Some.ensures in
     let sub : subject_of r.def ≡ Some m = sym c.subject.ensures ∙ c.in-Some-subject.is in
-    let t : HasTurned old turned n (right_in old.rows n r.def) given =
+    let t : HasTurned old turned n (right_in old.rows old.roots n r.def) given =
     record { mid = c.turn.ensures.mid; turned = c.turn.ensures.turned; rows = c.turn.ensures.rows; rest = c.turn.ensures.rest } in
     places_then old turned c.attach_right.new.self
-    (turned_places arena old turned n r m (right_in old.rows n r.def) given c.requires.kept live t) c.attach_right.ensures.places
+    (turned_places arena old turned n r m (right_in old.rows old.roots n r.def) given c.requires.kept live t) c.attach_right.ensures.places
 
 pub returns-clause-settled : goal.returns-clause-settled
 returns-clause-settled c =
@@ -112,7 +112,7 @@ returns-clause-settled c =
     let turned = c.turn.new.self in
     let live : row_at arena n ≡ Some r = sym c.in-Some.ensures in
     let sub : subject_of r.def ≡ Some m = sym c.subject.ensures ∙ c.in-Some-subject.is in
-    let t : HasTurned old turned n (right_in old.rows n r.def) given =
+    let t : HasTurned old turned n (right_in old.rows old.roots n r.def) given =
     record { mid = c.turn.ensures.mid; turned = c.turn.ensures.turned; rows = c.turn.ensures.rows; rest = c.turn.ensures.rest } in
     let is_turned : ChangeIsTurned arena old turned n = record {
       row = r;
@@ -143,7 +143,7 @@ returns-clause-refused c =
     let turned = c.turn.new.self in
     let live : row_at arena n ≡ Some r = sym c.in-Some.ensures in
     let sub : subject_of r.def ≡ Some m = sym c.subject.ensures ∙ c.in-Some-subject.is in
-    let t : HasTurned old turned n (right_in old.rows n r.def) given =
+    let t : HasTurned old turned n (right_in old.rows old.roots n r.def) given =
     record { mid = c.turn.ensures.mid; turned = c.turn.ensures.turned; rows = c.turn.ensures.rows; rest = c.turn.ensures.rest } in
     let is_turned : ChangeIsTurned arena old turned n = record {
       row = r;
@@ -169,8 +169,8 @@ returns-clause-places c =
     let turned = c.turn.new.self in
     let live : row_at arena n ≡ Some r = sym c.in-Some.ensures in
     let sub : subject_of r.def ≡ Some m = sym c.subject.ensures ∙ c.in-Some-subject.is in
-    let t : HasTurned old turned n (right_in old.rows n r.def) given =
+    let t : HasTurned old turned n (right_in old.rows old.roots n r.def) given =
     record { mid = c.turn.ensures.mid; turned = c.turn.ensures.turned; rows = c.turn.ensures.rows; rest = c.turn.ensures.rest } in
     places_then old c.attach_right.new.self c.wire.new.self
-    (places_then old turned c.attach_right.new.self (turned_places arena old turned n r m (right_in old.rows n r.def) given c.requires.kept live t)
+    (places_then old turned c.attach_right.new.self (turned_places arena old turned n r m (right_in old.rows old.roots n r.def) given c.requires.kept live t)
     c.in_ok-attach_right.ensures.places) c.wire.ensures.places

@@ -11,13 +11,15 @@ returns-in-Ok-clause-brought g c =
     rw (← c.self.view_is) (accepted (functions_of g.F.Functions c.self.inside.functions) c.self.inside.functions c.run.new.functions
     c.self.inside.parts c.run.new.parts c.self.inside.observers.items c.self.inside.rooted c.len-self-inside.result c.self.inside.refused still
     (c.len-self-inside.ensures ∙ (sym c.deref.ensures.len ∙ ap length c.deref.ensures.value))
-    (c.self.invariant.1.unbroken still).ready.numbered c.in-Ok.ensures.round c.run.ensures.arena right)
+    (c.self.invariant.1.unbroken still).ready.numbered c.in-Ok.ensures.round c.run.ensures.arena
+    c.self.invariant.1.kept.today.no_binds right)
 
 pub returns-in-Err-clause-refused : goal.returns-in-Err-clause-refused
 returns-in-Err-clause-refused g c cause is = rw (← c.self.view_is)
     (refused_in (functions_of g.F.Functions c.self.inside.functions) c.self.inside.functions c.run.new.functions c.self.inside.parts
     c.run.new.parts c.self.inside.observers.items c.self.inside.rooted c.self.inside.refused (rw (← c.self.view_is) at c.in_default.ensures.none)
-    c.in-Err.refused cause (let e = c.cause_of-cause.ensures in cc) c.run.ensures.arena c.in-Err.ensures.ran c.in-Err.ensures.cutoffs
+    c.in-Err.refused cause (let e = c.cause_of-cause.ensures in cc) c.run.ensures.arena
+    c.self.invariant.1.kept.today.no_binds c.in-Err.ensures.ran c.in-Err.ensures.cutoffs
     c.in-Err.ensures.shows (rw c.deref.ensures.value at c.in-Err.ensures.lawful) c.in-Err.ensures.tried)
 
 pub returns-in-Err-clause-few : goal.returns-in-Err-clause-few

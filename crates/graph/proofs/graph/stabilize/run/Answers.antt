@@ -10,6 +10,7 @@ use Rattle.graph.specs.Standing.{in_use}
 use Rattle.graph.proofs.Observing.{all_of}
 use Rattle.graph.proofs.Stabilizing.{on_ok, err_as, on_both, if_err, rest_given, all_right, all_lawful, all_few, can_again}
 use Rattle.graph.proofs.graph.stabilize.run.Goals as goal
+use Rattle.stabilizer.specs.Round.{graph_in}
 
 pub run-requires-clause-given : goal.run-requires-clause-given
 run-requires-clause-given g c =
@@ -53,5 +54,5 @@ returns-in_err-roots-clause-few g c =
     let F = functions_of g.F.Functions c.args.functions.now in
     let calls = g.F.Functions.calls c.args.functions.now in
     on_err c.from_residual.result
-    (as_called F c.args.parts.now c.args.parts.now refl (in_use c.args.observers.now) calls calls
-    (none_called F c.args.parts.now.arena c.args.parts.now.work (in_use c.args.observers.now) calls))
+    (as_called F c.args.parts.now c.args.parts.now refl c.requires.can.ready.kept.today.no_binds (in_use c.args.observers.now) calls calls
+    (none_called F (graph_in c.args.parts.now) c.args.parts.now.work (in_use c.args.observers.now) calls))

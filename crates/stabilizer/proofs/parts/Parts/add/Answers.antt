@@ -106,7 +106,7 @@ module _ (c : goal.After-forget_since) where
     roots = dropped.roots;
     heap = dropped.heap;
     todo = dropped.todo;
-    round = record { ran = dropped.round.ran; strict = dropped.round.strict; round = dropped.round.round };
+    round = record { roots = dropped.round.roots; ran = dropped.round.ran; strict = dropped.round.strict; round = dropped.round.round };
   })
 
   arena_is : c.insert.new.self ≡ c.args.self.now.arena

@@ -27,7 +27,7 @@ module _ (c : goal.After-schedule) where
       let e = c.in_ok-set_var.ensures.unknown.1 named in cc)
 
   round : KeepsRound c.args.self.now.work work
-  round = record { ran = refl; strict = refl; round = refl }
+  round = record { roots = refl; ran = refl; strict = refl; round = refl }
 
   kept : IsKept c.set_var.new.self work
   kept = set_kept c.args.self.now.arena c.set_var.new.self c.args.self.now.work work c.args.id c.args.value c.requires.kept c.in_ok-set_var.ensures.set

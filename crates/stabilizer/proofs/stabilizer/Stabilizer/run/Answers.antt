@@ -3,7 +3,7 @@ use Rattle.std.specs.Option.{SomeIff}
 use Rattle.std.specs.Result.{IsErrAnd}
 use Rattle.inc_value.specs.declared.node.NodeId.{NodeId}
 use Rattle.node_arena.specs.Arena.{Arena}
-use Rattle.node_arena.specs.Graph.{graph_of}
+use Rattle.stabilizer.specs.Graph.{graph_at}
 use Rattle.stabilize_round.specs.Calling.{costs_of}
 use Rattle.stabilize_round.specs.Counts.{RoseBy}
 use Rattle.stabilizer.specs.Kept.{IsKept}
@@ -29,7 +29,7 @@ returns-in_err-put_roots-clause-lawful g c =
     let is : IsErrAnd c.from_residual.result (λ x. x ≡ e) = c.from_residual.ensures.1 in
     exit_is c.from_residual.result e
     (λ x. (observed : List NodeId) → AreRooted old observed → IsLawful F c.args.parts.now (record c.args.parts.now { work = c.put_roots.new.work }) (c.args.roots.now ++ observed) x) is
-    (λ observed looks. as_lawful F c.args.parts.now (record c.args.parts.now { work = c.put_roots.new.work }) refl (c.args.roots.now ++ observed) e
+    (λ observed looks. as_lawful F c.args.parts.now (record c.args.parts.now { work = c.put_roots.new.work }) refl c.requires.ready.kept.today.no_binds (c.args.roots.now ++ observed) e
     (roots_lawful M arena old c.put_roots.new.work (g.F.Functions.calls c.args.functions.now) c.requires.ready
     c.args.roots.now observed c.put_roots.ensures.roots looks e c.in_err-put_roots.ensures.refused))
 
@@ -43,7 +43,7 @@ returns-in_err-settle_all-clause-lawful g c =
     let is : IsErrAnd c.from_residual-in_err-settle_all.result (λ x. x ≡ e) = c.from_residual-in_err-settle_all.ensures.1 in
     exit_is c.from_residual-in_err-settle_all.result e
     (λ x. (observed : List NodeId) → AreRooted old observed → IsLawful F c.args.parts.now c.settle_all.new.parts (c.args.roots.now ++ observed) x) is
-    (λ observed looks. as_lawful F c.args.parts.now c.settle_all.new.parts c.settle_all.ensures.arena (c.args.roots.now ++ observed) e
+    (λ observed looks. as_lawful F c.args.parts.now c.settle_all.new.parts c.settle_all.ensures.arena c.requires.ready.kept.today.no_binds (c.args.roots.now ++ observed) e
     (steps_lawful M arena old c.put_roots.new.work c.settle_all.new.parts.work (g.F.Functions.calls c.args.functions.now)
     (g.F.Functions.calls c.settle_all.new.functions) c.requires.ready c.in_ok-put_roots.ensures.wired c.args.roots.now observed
     c.put_roots.ensures.roots c.settle_all.ensures.roots looks e c.in_err-settle_all.ensures.refused))
@@ -78,7 +78,8 @@ settle_all-requires-clause-in_round g c =
 pub returns-in_err-settle_all-clause-few : goal.returns-in_err-settle_all-clause-few
 returns-in_err-settle_all-clause-few g c =
     on_err c.from_residual-in_err-settle_all.result
-    (λ observed looks. as_called (functions_of g.F.Functions c.args.functions.now) c.args.parts.now c.settle_all.new.parts c.settle_all.ensures.arena (c.args.roots.now ++ observed)
+    (λ observed looks. as_called (functions_of g.F.Functions c.args.functions.now) c.args.parts.now c.settle_all.new.parts c.settle_all.ensures.arena
+    c.requires.ready.kept.today.no_binds (c.args.roots.now ++ observed)
     (g.F.Functions.calls c.args.functions.now) (g.F.Functions.calls c.settle_all.new.functions)
     (steps_called (meaning_of g.F.Functions c.args.functions.now) c.args.parts.now.arena c.args.parts.now.work c.put_roots.new.work
     c.settle_all.new.parts.work (g.F.Functions.calls c.args.functions.now) (g.F.Functions.calls c.settle_all.new.functions) c.requires.ready
@@ -96,8 +97,9 @@ returns-in_err-settle_all-clause-cutoffs g c =
 pub returns-in_err-put_roots-clause-few : goal.returns-in_err-put_roots-clause-few
 returns-in_err-put_roots-clause-few g c =
     on_err c.from_residual.result
-    (λ observed looks. as_called (functions_of g.F.Functions c.args.functions.now) c.args.parts.now (record c.args.parts.now { work = c.put_roots.new.work }) refl (c.args.roots.now ++ observed) (g.F.Functions.calls c.args.functions.now) (g.F.Functions.calls c.args.functions.now)
-    (none_called (functions_of g.F.Functions c.args.functions.now) c.args.parts.now.arena c.args.parts.now.work
+    (λ observed looks. as_called (functions_of g.F.Functions c.args.functions.now) c.args.parts.now (record c.args.parts.now { work = c.put_roots.new.work }) refl
+    c.requires.ready.kept.today.no_binds (c.args.roots.now ++ observed) (g.F.Functions.calls c.args.functions.now) (g.F.Functions.calls c.args.functions.now)
+    (none_called (functions_of g.F.Functions c.args.functions.now) (graph_at c.args.parts.now.arena c.put_roots.new.work) c.args.parts.now.work
     (c.args.roots.now ++ observed) (g.F.Functions.calls c.args.functions.now)))
 
 pub returns-in_err-put_roots-clause-cutoffs : goal.returns-in_err-put_roots-clause-cutoffs
@@ -113,7 +115,7 @@ returns-clause-calls g c =
     let settled = c.settle_all.new.parts.work in
     let ended : Parts = record c.settle_all.new.parts { work = c.end_round.new.self; ran = c.swap.new.x } in
     subst (λ (k : ℕ). RoseBy before k after) (sym (costs_same c.args.parts.now ended c.settle_all.ensures.arena ended.ran.items))
-    (subst (λ v. RoseBy before (costs_of (graph_of c.args.parts.now.arena) v.items) after) (sym c.swap.ensures.x_after)
+    (subst (λ v. RoseBy before (costs_of (graph_at c.args.parts.now.arena settled) v.items) after) (sym c.swap.ensures.x_after)
     (round_counts (meaning_of g.F.Functions c.args.functions.now) c.args.parts.now.arena c.args.parts.now.work c.put_roots.new.work before
     c.requires.ready c.in_ok-put_roots.ensures.wired settled after c.in_ok-settle_all.ensures.settled
     (subst (λ (a : Arena). IsKept a settled) c.settle_all.ensures.arena c.settle_all.ensures.kept) c.in_ok-settle_all.ensures.quiet
@@ -139,11 +141,11 @@ returns-clause-right g c =
     c.end_round.ensures.round ∙ (next_is c.checked_add.result _ (old.round + 1) c.in-Some.next c.checked_add.ensures c.in-Some.is
     ∙ ap (λ (k : ℕ). k + 1) (sym (c.settle_all.ensures.round ∙ c.put_roots.ensures.round))) in
     let ended : Parts = record c.settle_all.new.parts { work = new; ran = c.swap.new.x } in
-    λ observed looks. as_up_to_date F c.args.parts.now ended c.settle_all.ensures.arena (c.args.roots.now ++ observed)
-    (subst (λ v. still.IsUpToDate F arena old new (c.args.roots.now ++ observed) v.items) (sym c.swap.ensures.x_after)
+    λ observed looks. as_up_to_date F c.args.parts.now ended c.settle_all.ensures.arena c.requires.ready.kept.today.no_binds (c.args.roots.now ++ observed)
+    (subst (λ v. still.IsUpToDate F (graph_at arena new) old new (c.args.roots.now ++ observed) v.items) (sym c.swap.ensures.x_after)
     (round_rights M arena old c.put_roots.new.work (g.F.Functions.calls c.args.functions.now) c.requires.ready c.in_ok-put_roots.ensures.wired settled
     (g.F.Functions.calls c.settle_all.new.functions) c.in_ok-settle_all.ensures.settled kept c.in_ok-settle_all.ensures.quiet c.in_ok-settle_all.ensures.empty
-    new c.end_round.ensures.graph c.end_round.ensures.rows c.end_round.ensures.pairs c.end_round.ensures.todo c.end_round.ensures.ran
+    new c.end_round.ensures.graph c.end_round.ensures.rows c.end_round.ensures.roots c.end_round.ensures.pairs c.end_round.ensures.todo c.end_round.ensures.ran
     c.end_round.ensures.strict round (c.settle_all.ensures.round ∙ c.put_roots.ensures.round) c.args.roots.now observed c.settle_all.ensures.roots
     c.in_ok-put_roots.ensures.rooted looks))
 
@@ -163,19 +165,21 @@ returns-clause-ready g c =
     (subst (λ (L : Meaning). IsReady L arena new) (sym (still_means g.F.Functions _ _ c.settle_all.ensures.functions))
     (round_readies M arena old c.put_roots.new.work (g.F.Functions.calls c.args.functions.now) c.requires.ready c.in_ok-put_roots.ensures.wired settled
     (g.F.Functions.calls c.settle_all.new.functions) c.in_ok-settle_all.ensures.settled kept c.in_ok-settle_all.ensures.quiet c.in_ok-settle_all.ensures.empty
-    new c.end_round.ensures.graph c.end_round.ensures.rows c.end_round.ensures.pairs c.end_round.ensures.todo c.end_round.ensures.ran
+    new c.end_round.ensures.graph c.end_round.ensures.rows c.end_round.ensures.roots c.end_round.ensures.pairs c.end_round.ensures.todo c.end_round.ensures.ran
     c.end_round.ensures.strict round))
 
 pub returns-in_default-clause-few : goal.returns-in_default-clause-few
 returns-in_default-clause-few g c =
-    λ observed looks. as_called (functions_of g.F.Functions c.args.functions.now) c.args.parts.now c.args.parts.now refl (c.args.roots.now ++ observed) (g.F.Functions.calls c.args.functions.now) (g.F.Functions.calls c.args.functions.now)
-    (none_called (functions_of g.F.Functions c.args.functions.now) c.args.parts.now.arena c.args.parts.now.work
+    λ observed looks. as_called (functions_of g.F.Functions c.args.functions.now) c.args.parts.now c.args.parts.now refl
+    c.requires.ready.kept.today.no_binds (c.args.roots.now ++ observed) (g.F.Functions.calls c.args.functions.now) (g.F.Functions.calls c.args.functions.now)
+    (none_called (functions_of g.F.Functions c.args.functions.now) (graph_at c.args.parts.now.arena c.args.parts.now.work) c.args.parts.now.work
     (c.args.roots.now ++ observed) (g.F.Functions.calls c.args.functions.now))
 
 pub returns-in_err-settle_all-clause-shows : goal.returns-in_err-settle_all-clause-shows
 returns-in_err-settle_all-clause-shows g c =
     on_err c.from_residual-in_err-settle_all.result
-    (λ n. as_shown (functions_of g.F.Functions c.args.functions.now) c.args.parts.now c.settle_all.new.parts c.settle_all.ensures.arena n (steps_show (meaning_of g.F.Functions c.args.functions.now) c.args.parts.now.arena c.args.parts.now.work c.put_roots.new.work
+    (λ n. as_shown (functions_of g.F.Functions c.args.functions.now) c.args.parts.now c.settle_all.new.parts c.settle_all.ensures.arena
+    c.requires.ready.kept.today.no_binds n (steps_show (meaning_of g.F.Functions c.args.functions.now) c.args.parts.now.arena c.args.parts.now.work c.put_roots.new.work
     c.settle_all.new.parts.work (g.F.Functions.calls c.args.functions.now) (g.F.Functions.calls c.settle_all.new.functions) c.requires.ready
     c.in_ok-put_roots.ensures.wired c.in_err-settle_all.field-0.0 c.in_err-settle_all.ensures.refused
     (subst (λ (a : Arena). IsKept a c.settle_all.new.parts.work) c.settle_all.ensures.arena c.settle_all.ensures.kept) n))
@@ -183,7 +187,8 @@ returns-in_err-settle_all-clause-shows g c =
 pub returns-in_err-put_roots-clause-shows : goal.returns-in_err-put_roots-clause-shows
 returns-in_err-put_roots-clause-shows g c =
     on_err c.from_residual.result
-    (λ n. as_shown (functions_of g.F.Functions c.args.functions.now) c.args.parts.now (record c.args.parts.now { work = c.put_roots.new.work }) refl n (roots_show (meaning_of g.F.Functions c.args.functions.now) c.args.parts.now.arena c.args.parts.now.work c.put_roots.new.work
+    (λ n. as_shown (functions_of g.F.Functions c.args.functions.now) c.args.parts.now (record c.args.parts.now { work = c.put_roots.new.work }) refl
+    c.requires.ready.kept.today.no_binds n (roots_show (meaning_of g.F.Functions c.args.functions.now) c.args.parts.now.arena c.args.parts.now.work c.put_roots.new.work
     (g.F.Functions.calls c.args.functions.now) c.requires.ready c.put_roots.ensures.kept c.in_err-put_roots.field-0.0 c.in_err-put_roots.ensures.refused n))
 
 pub returns-in_default-clause-shows : goal.returns-in_default-clause-shows

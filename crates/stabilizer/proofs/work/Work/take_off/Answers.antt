@@ -32,8 +32,8 @@ returns-then-is_some-clause-taken c =
     let r : Row = row_of c.in-Some.row.now in
     let row : row_at c.args.arena.now n ≡ Some r = sym c.in-Some.ensures in
     let m = some_of c.right_side.result (sym c.is_some.ensures ∙ c.if-is_some.true) in
-    let right : right_in c.args.self.now.rows n r.def ≡ Some m.0 = sym c.right_side.ensures ∙ m.1 in
-    let sub = right_has_subject c.in-Some.row.now.def n _ m.0 right in
+    let right : right_in c.args.self.now.rows c.args.self.now.roots n r.def ≡ Some m.0 = sym c.right_side.ensures ∙ m.1 in
+    let sub = right_has_subject c.in-Some.row.now.def c.args.self.now.rows c.args.self.now.roots n m.0 right in
     let own_row : Holds c.args.self.now.rows (change n) =
     c.requires.kept.rows (change n) ∙ (ap (λ (x : Option Row). has_part x Change) row ∙ ap is_some sub.1) in
     let unsettled : settled_in c.args.self.now.round (at c.args.self.now.rows (change n)) ≡ false =
@@ -51,8 +51,8 @@ returns-then-is_some-clause-spared c =
     let r : Row = row_of c.in-Some.row.now in
     let row : row_at c.args.arena.now n ≡ Some r = sym c.in-Some.ensures in
     let m = some_of c.right_side.result (sym c.is_some.ensures ∙ c.if-is_some.true) in
-    let right : right_in c.args.self.now.rows n r.def ≡ Some m.0 = sym c.right_side.ensures ∙ m.1 in
-    let sub = right_has_subject c.in-Some.row.now.def n _ m.0 right in
+    let right : right_in c.args.self.now.rows c.args.self.now.roots n r.def ≡ Some m.0 = sym c.right_side.ensures ∙ m.1 in
+    let sub = right_has_subject c.in-Some.row.now.def c.args.self.now.rows c.args.self.now.roots n m.0 right in
     let unsettled : settled_in c.args.self.now.round (at c.args.self.now.rows (change n)) ≡ false =
     subst (λ (x : Point). settled_in c.args.self.now.round (at c.args.self.now.rows x) ≡ false) c.change_point-own.ensures
     (sym c.was_settled.ensures ∙ c.if-not-was_settled.true) in
@@ -87,8 +87,8 @@ returns-then-is_some-clause-kept c =
     let r : Row = row_of c.in-Some.row.now in
     let row : row_at c.args.arena.now n ≡ Some r = sym c.in-Some.ensures in
     let m = some_of c.right_side.result (sym c.is_some.ensures ∙ c.if-is_some.true) in
-    let right : right_in c.args.self.now.rows n r.def ≡ Some m.0 = sym c.right_side.ensures ∙ m.1 in
-    let sub = right_has_subject c.in-Some.row.now.def n _ m.0 right in
+    let right : right_in c.args.self.now.rows c.args.self.now.roots n r.def ≡ Some m.0 = sym c.right_side.ensures ∙ m.1 in
+    let sub = right_has_subject c.in-Some.row.now.def c.args.self.now.rows c.args.self.now.roots n m.0 right in
     let own : Holds c.args.self.now.rows (change n) =
     c.requires.kept.rows (change n) ∙ (ap (λ (x : Option Row). has_part x Change) row ∙ ap is_some sub.1) in
     let mine : Holds c.args.self.now.rows (main n) = c.requires.kept.rows (main n) ∙ ap (λ (x : Option Row). has_part x Main) row in
