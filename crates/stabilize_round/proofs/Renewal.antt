@@ -211,7 +211,7 @@ raise_r = record {
   owed = owed_r;
   plan = plan_r;
   lower = λ e. let x = stage_r in let y : Bare ≡ Full = sym x ∙ e in cc;
-  gates = λ st r b row sc. subst (λ (y : NodeId). s7.settled (change y) ≡ true) (gate_r r b row sc) settled_c;
+  gates = λ st r b row sc. inl (subst (λ (y : NodeId). s7.settled (change y) ≡ true) (gate_r r b row sc) settled_c);
   rights = λ st part r q row a. absurd (no_targets r q (s7.out (change new)) out_r a);
 }
 

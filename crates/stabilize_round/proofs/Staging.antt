@@ -33,10 +33,13 @@ module _ (F : Functions) (z : Start) (s : State) (inv : Invariant F z s) where
       | inl e ↦
           let row' : s.graph.row p.node ≡ Some r' = subst (λ (y : Point). s.graph.row y.node ≡ Some r') (sym e) row in
           let t = at_same p st s.stage in
-          move.gates (elim stage [
+          elim (move.gates (elim stage [
             | inl k ↦ inl (sym t ∙ subst (λ (y : Point). at_point p st s.stage y ≡ Static) (sym e) k)
             | inr k ↦ inr (sym t ∙ subst (λ (y : Point). at_point p st s.stage y ≡ Full) (sym e) k)
-          ]) r' b row' sc
+          ]) r' b row' sc) [
+            | inl ran ↦ ran
+            | inr static ↦ inv.strict.gates strict p r' b row' (subst (λ (y : Point). s.needed y ≡ true) (sym e) need) sc (inl static)
+          ]
       | inr ne ↦ let t = at_other p st s.stage a ne in
           inv.strict.gates strict a r' b row need sc (elim stage [ inl k ↦ inl (sym t ∙ k) | inr k ↦ inr (sym t ∙ k) ])
     ]

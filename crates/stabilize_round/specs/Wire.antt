@@ -38,9 +38,17 @@ rooted s p = record s { root = at_point p (suc (s.root p)) s.root }
 abbrev pub IsIt : State → Point → Point → Type 0
 IsIt s q x = (q ≡ x) × (r : Row) × (s.graph.row q.node ≡ Some r)
 
--- a link that is put on once its point's gate ran, and a right link in a step of its own change alone
+-- a right link, put on in a step of its own change
+abbrev pub IsChosenNow : State → Point → Point → Type 0
+IsChosenNow s p q =
+    (r : Row) × (s.graph.row p.node ≡ Some r) × (p.part ≡ Main) × Among q (targets s.graph p.node r.def (s.out (change p.node)))
+    × (s.taken ≡ Some (change p.node))
+
+-- a link that is put on once its point's gate ran, or in a step of its own change, where it has its other links already; and a right link in such a
+-- step alone
 pub record IsConfirmed (s : State) (p q : Point) : Type 0 where
-  pub gate : (r : Row) (b : NodeId) → s.graph.row p.node ≡ Some r → r.scope ≡ Some b → (q ≡ change b) ⊎ (s.settled (change b) ≡ true)
+  pub gate : (r : Row) (b : NodeId) → s.graph.row p.node ≡ Some r → r.scope ≡ Some b
+      → (q ≡ change b) ⊎ (s.settled (change b) ≡ true) ⊎ IsChosenNow s p q
   pub right : (r : Row) → s.graph.row p.node ≡ Some r → p.part ≡ Main → Among q (targets s.graph p.node r.def (s.out (change p.node)))
       → s.taken ≡ Some (change p.node)
 
@@ -68,13 +76,15 @@ pub record Level (s : State) (height' : Point → ℕ) : Type 0 where
 abbrev pub raised : State → Point → Stage → List Point → State
 raised s p st extra = record s { stage = at_point p st s.stage; owed = at_point p extra s.owed }
 
--- a point of the worklist is to have more links: beyond its gate's once the gate ran, and a right link in a step of its own change alone
+-- a point of the worklist is to have more links: beyond its gate's once the gate ran, where it hasn't any yet, and a right link in a step of its own
+-- change alone
 pub record Raise (s : State) (p : Point) (st : Stage) (extra : List Point) : Type 0 where
   pub todo : s.todo p ≡ true
   pub owed : s.owed p ≡ []
   pub plan : (b : Point) → count b (plan_at s.graph s.out s.died p (s.graph.row p.node) st) ≡ count b (planned s p) + count b extra
   pub lower : s.stage p ≡ Full → ⊥
-  pub gates : (st ≡ Static) ⊎ (st ≡ Full) → (r : Row) (b : NodeId) → s.graph.row p.node ≡ Some r → r.scope ≡ Some b → s.settled (change b) ≡ true
+  pub gates : (st ≡ Static) ⊎ (st ≡ Full) → (r : Row) (b : NodeId) → s.graph.row p.node ≡ Some r → r.scope ≡ Some b
+      → (s.settled (change b) ≡ true) ⊎ (s.stage p ≡ Static)
   pub rights : st ≡ Full → p.part ≡ Main → (r : Row) (q : Point) → s.graph.row p.node ≡ Some r
       → Among q (targets s.graph p.node r.def (s.out (change p.node))) → s.taken ≡ Some (change p.node)
 
