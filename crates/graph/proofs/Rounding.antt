@@ -144,8 +144,6 @@ module _ {F : Type 0} (M : Functions) (functions functions' : F) (old new : Part
       was = still;
       unbroken = still;
       stays = nodes_stay old new arena;
-      nodes = arena;
-      same = graph_stays old new arena no_binds;
       observers = refl;
       rooted = are_all;
       shows = λ o n is. let s = right.sees n (n, inl (looked_among observers o.0 n is), here) in (s.0, s.1, s.2);
@@ -166,6 +164,7 @@ module _ {F : Type 0} (M : Functions) (functions functions' : F) (old new : Part
       once = right.once;
       called = λ n among. called_in n (right.called n among);
       work = λ beside observed stood. right.work beside observed (stood_in M G died functions old observers rooted refused beside observed stood);
+      today = record { nodes = arena; same = graph_stays old new arena no_binds };
     }
 
   pub accepted : 0 < old.work.round → new.work.round ≡ old.work.round + 1 → new.arena ≡ old.arena → NoBinds old.arena
@@ -204,8 +203,6 @@ module _ {F : Type 0} (M : Functions) (functions functions' : F) (old new : Part
   refused_in met cause is arena no_binds ran cutoffs shows lawful tried = record {
     was = still;
     stays = nodes_stay old new arena;
-    nodes = arena;
-    same = graph_stays old new arena no_binds;
     observers = refl;
     rooted = refl;
     ran = ap (λ v. v.items) ran;
@@ -216,4 +213,5 @@ module _ {F : Type 0} (M : Functions) (functions functions' : F) (old new : Part
     is_cause = is;
     lawful = lawful_in M (round.left_by old new) (round.died_by old new) functions old observers rooted refused met lawful;
     tried = tried_in functions' new observers rooted met met tried;
+    today = record { nodes = arena; same = graph_stays old new arena no_binds };
   }

@@ -41,7 +41,6 @@ sound_of functions M parts observers rooted refused fits = record {
   few = fits.few;
   earlier = fits.earlier;
   nodes = fits.kept.sound;
-  flat = fits.kept.today.flat;
-  no_binds = fits.kept.today.no_binds;
   whole = λ whole. let can = fits.unbroken whole in record { roots = can.roots; fit = can.ready.fit; given = can.given; shown = can.shown };
+  today = fits.kept.today;
 }

@@ -30,7 +30,7 @@ use Rattle.stabilizer.specs.declared.parts.Parts.{Parts}
 use Rattle.stabilizer.specs.declared.refused.Refused.{Refused}
 use Rattle.node_outcomes.specs.Row.{cutoff_in}
 use Rattle.graph.specs.Effects.{Adds, KeepsBesideGiven}
-use Rattle.graph.specs.Known.{CallsKnown}
+use Rattle.graph.specs.Today.{CallsKnown}
 use Rattle.graph.specs.Inside.{FitsInside}
 use Rattle.graph.specs.Standing.{Standing}
 use Rattle.inc_value.specs.declared.value.Value.TheVariants as value

@@ -67,8 +67,8 @@ module _ {F : Type 0} (M : Functions) where
 
     pub still_stabilizes : effect.Stabilizes M old new → Stabilizes old new
     still_stabilizes done = subst (λ (G : Graph). StabilizesIn M G none_died G old new) (is_alone old no_binds)
-        (from_graphs (λ G died after. StabilizesIn M G died after old new) (graph old) (graph new) done.same done)
+        (from_graphs (λ G died after. StabilizesIn M G died after old new) (graph old) (graph new) done.today.same done)
 
     pub still_refused : (cause : Kept) → effect.IsRefusedFor M old new cause → IsRefusedFor old new cause
     still_refused cause done = subst (λ (G : Graph). IsRefusedIn M G none_died old new cause) (is_alone old no_binds)
-        (from_graphs (λ G died after. IsRefusedIn M G died old new cause) (graph old) (graph new) done.same done)
+        (from_graphs (λ G died after. IsRefusedIn M G died old new cause) (graph old) (graph new) done.today.same done)

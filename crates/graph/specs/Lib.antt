@@ -1,7 +1,7 @@
 pub mod Fault
 pub mod Standing
-pub mod Known
 pub mod Inside
 pub mod Sound
 pub mod Effects
+pub mod Today
 pub mod Stabilizes

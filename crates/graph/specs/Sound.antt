@@ -3,10 +3,10 @@ use Rattle.std.specs.Prelude.{◌≤◌, ◌-◌, ◌^◌, length, IsSome}
 use Rattle.inc_value.specs.declared.node.NodeId.{NodeId}
 use Rattle.inc_value.specs.Choice.{Among}
 use Rattle.inc_terms.specs.Within.{Given}
-use Rattle.node_arena.specs.Graph.{AllCallFit, NoScopes}
+use Rattle.node_arena.specs.Graph.{AllCallFit}
 use Rattle.node_arena.specs.Sound as arena
 use Rattle.node_outcomes.specs.Meaning.{Meaning}
-use Rattle.stabilizer.specs.Today.{NoBinds}
+use Rattle.stabilizer.specs.Today.{IsToday}
 use Rattle.graph.specs.Standing.{Standing, shown_of, in_use, rooted_nodes, AreRooted, IsUnbroken}
 
 module _ {F : Type 0} where
@@ -18,11 +18,10 @@ module _ {F : Type 0} where
     pub given : (n : NodeId) → Among n (in_use s.observers) → Given s.nodes.given n
     pub shown : (n : NodeId) → Among n (rooted_nodes s) → IsSome (shown_of s n)
 
-  -- what every graph keeps. No node stands in a scope yet, and none is a bind
+  -- what every graph keeps
   pub record IsSound (M : Meaning) (s : Standing F) : Type 0 where
     pub few : length s.observers ≤ 2 ^ 32 - 1
     pub earlier : s.rooted ≤ length s.observers
     pub nodes : arena.IsSound s.nodes
-    pub flat : NoScopes s.nodes
-    pub no_binds : NoBinds s.nodes
     pub whole : IsUnbroken s → IsWhole M s
+    pub today : IsToday s.nodes

@@ -30,6 +30,7 @@ use Rattle.stabilizer.specs.declared.refused.Refused.TheVariants.{Height, Cycle,
 use Rattle.graph.specs.Fault.{kept_of}
 use Rattle.graph.specs.Standing.{shown_of, chosen_by, called_last, cutoff_of, is_settled}
 use Rattle.graph.specs.Standing.{Standing, graph, in_use, node_at, IsUnbroken, IsNeeded, IsLinked, AreRooted}
+use Rattle.graph.specs.Today.{NodesStay}
 use Rattle.graph.specs.declared.fault.Kept.{Kept}
 
 -- the points come back to where they begin, over one link at least, and pass no other point twice
@@ -88,14 +89,11 @@ module _ {F : Type 0} where
 
     -- an accepted stabilize: each observer in use shows what its node gives, evaluated from scratch; observers stay, and of nodes what a round leaves; and
     -- what is needed, linked and called is right: need, links and last calls are those of the graph after it. The last call of a node that wasn't called
-    -- stays, but for a fold of no nodes, which keeps that it was computed on none. No node of today dies or is built, so the nodes are the same,
-    -- and so is the graph
+    -- stays, but for a fold of no nodes, which keeps that it was computed on none
     pub record StabilizesIn (after : Graph) (old new : Standing F) : Type 0 where
       pub was : IsUnbroken old
       pub unbroken : IsUnbroken new
       pub stays : GraphStays old.nodes.given new.nodes.given (graph old) (graph new)
-      pub nodes : new.nodes ≡ old.nodes
-      pub same : graph new ≡ graph old
       pub observers : new.observers ≡ old.observers
       pub rooted : new.rooted ≡ length new.observers
       pub shows : (o : ObsId) (n : NodeId) → node_at new.observers o ≡ Some n → (x : Outcome) × (shown_of new n ≡ Some x) × NodeGives M G n x
@@ -119,6 +117,7 @@ module _ {F : Type 0} where
       pub work : (before : Beside) (observers : List Observed) → StoodBeside before old observers
           → ((n : NodeId) → Among n (in_use old.observers) → Among n (nodes_of observers))
           → (calls : ℕ) → calls ≤ costs_of G new.ran → WithinWork M G died observers before calls
+      pub today : NodesStay old new
 
     -- ---- refused
 
@@ -168,12 +167,10 @@ module _ {F : Type 0} where
   LeavesTried s Memory = Unit {0}
 
   -- a refused stabilize: the graph is broken, with what was met, which is so in the graph, and was tried on what was confirmed; observers and cutoffs stay,
-  -- and of nodes what a round leaves; what is shown of a node is what was before, or what it gives. No node of today dies or is built
+  -- and of nodes what a round leaves; what is shown of a node is what was before, or what it gives
   pub record IsRefusedIn (M : Functions) (G : Graph) (died : NodeId → Option NodeId) (old new : Standing F) (cause : Kept) : Type 0 where
     pub was : IsUnbroken old
     pub stays : GraphStays old.nodes.given new.nodes.given (graph old) (graph new)
-    pub nodes : new.nodes ≡ old.nodes
-    pub same : graph new ≡ graph old
     pub observers : new.observers ≡ old.observers
     pub rooted : new.rooted ≡ old.rooted
     pub ran : new.ran ≡ old.ran
@@ -184,6 +181,7 @@ module _ {F : Type 0} where
     pub is_cause : kept_of met ≡ cause
     pub lawful : IsLawfulIn M G died old met
     pub tried : LeavesTried new met
+    pub today : NodesStay old new
 
   -- ---- of a stabilize from one standing to another
 

@@ -7,6 +7,7 @@ ghost use Rattle.map_nodes.specs.declared.cutoff.Cutoff.TheVariants.{Equal};
 ghost use Rattle.node_outcomes.specs.Meaning.{meaning_of};
 ghost use Rattle.graph.specs.Sound.{IsSound};
 ghost use Rattle.graph.specs.Standing.{IsUnbroken, IsBroken, called_last, cutoff_of, times_linked, times_rooted};
+ghost use Rattle.graph.specs.Today.{IsOwner};
 ghost use Rattle.graph.specs.declared.fault.Kept.{Kept as ACause};
 
 mod build;
@@ -131,9 +132,9 @@ impl<F: Functions> Graph<F> {
         self.refused.as_ref()
     }
 
-    /// The node itself, where it is live: no node of today stands on the right side of a bind.
+    /// The node outside all scopes in whose right side a live node stands, or the node itself.
     pub fn owner(&self, node: NodeId) -> Option<NodeId>
-        ensures live { IfSome result (λ top. (top ≡ node) × IsLive self.now.nodes node) }
+        ensures live { IfSome result (λ top. IsOwner self.now.nodes node top) }
         ensures dead { IfNone result (IsLive self.now.nodes node → ⊥) }
     {
         if self.parts.arena().is_live(node) {

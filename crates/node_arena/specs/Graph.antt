@@ -1,5 +1,5 @@
 -- The nodes of an arena as a graph.
-use Rattle.std.specs.Prelude.{◌≡◌, ◌≤◌, ℕ, pos, Bool, List, [], Option, None, Some, IfSome}
+use Rattle.std.specs.Prelude.{◌≡◌, ◌≤◌, ℕ, Bool, List, Option, None, Some, IfSome}
 use Rattle.inc_value.specs.declared.function.FnRef.{FnRef}
 use Rattle.inc_value.specs.declared.node.NodeId.{NodeId}
 use Rattle.inc_terms.specs.Graph.{Graph, Row, Built, Def}
@@ -8,18 +8,19 @@ use Rattle.inc_terms.specs.Within.{DefWithin, Given, Fit}
 use Rattle.node_arena.specs.Arena.{Arena, row_at, Changes}
 use Rattle.node_arena.specs.Meanings.{KeepsKnown}
 use Rattle.node_arena.specs.Sound.{IsSound}
+use Rattle.node_arena.specs.Today.{no_clock, no_freezes, no_experts}
 
 -- what a graph holds beside its nodes: what each bind is built for
 pub record Holdings : Type 0 where
   pub built : NodeId → Option Built
 
--- no bind is built
+-- nothing: no bind is built. What a node of a right side reads back as is told by the nodes alone
 abbrev pub nothing_held : Holdings
 nothing_held = record { built = λ n. None }
 
--- the graph of the nodes, with what is held beside them. The clock stands at 0, no freeze keeps a value, and no expert has a list
+-- the graph of the nodes, with what is held beside them
 abbrev pub graph_of : Arena → Holdings → Graph
-graph_of a held = record { row = row_at a; built = held.built; now = pos 0; frozen = λ n. None; lists = λ n. [] }
+graph_of a held = record { row = row_at a; built = held.built; now = no_clock; frozen = no_freezes; lists = no_experts }
 
 -- each function of the definition is known and of the kind that stands there, and of so many ids each that it lists was given
 abbrev pub CallsFit : ℕ → (FnRef → Bool) → (FnRef → List NodeId) → Def → Type 0
@@ -42,7 +43,3 @@ abbrev pub NamesAreGiven : Type 0
 NamesAreGiven =
     (a : Arena) (held : Holdings) (known : FnRef → Bool) (ids : FnRef → List NodeId) → IsSound a → AllCallFit known ids a
     → Keeping (Given a.given) (Fit a.given known ids) (graph_of a held) × Names (Given a.given) (Fit a.given known ids) (graph_of a held)
-
--- no node stands in a scope
-abbrev pub NoScopes : Arena → Type 0
-NoScopes a = (n : NodeId) (r : Row) → row_at a n ≡ Some r → r.scope ≡ None

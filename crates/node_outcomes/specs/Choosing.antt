@@ -25,7 +25,7 @@ built_in row o root = and_then row (λ (r : Row). built_by r.def o root)
 abbrev pub held_in : Arena → Rows Progress → Rows NodeId → Holdings
 held_in a rows roots = record { built = λ n. built_in (row_at a n) (outcome_in (at rows (change n))) (at roots (change n)) }
 
--- a graph without nodes, in which each id is built so
+-- a graph without nodes, in which each id is built so: of a graph no more is looked at for a right side
 abbrev pub built_alone : Option Built → Graph
 built_alone built = record { row = λ n. None; built = λ n. built; now = pos 0; frozen = λ n. None; lists = λ n. [] }
 

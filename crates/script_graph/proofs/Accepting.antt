@@ -16,11 +16,11 @@ use Rattle.graph.proofs.Still.{nodes_alone, Stabilizes as GraphStabilizes, IsObs
 use Rattle.graph.specs.Standing.{Standing, in_use, node_at, AreRooted}
 use Rattle.graph.specs.declared.observer.Observer.{Observer as Looking}
 use Rattle.node_arena.specs.Arena.{Arena, row_at}
-use Rattle.node_arena.specs.Graph.{graph_of, nothing_held, NoScopes}
+use Rattle.stabilizer.specs.Today.{NoScopes}
 use Rattle.stabilize_round.specs.Calling.{costs_of}
 use Rattle.stabilize_round.specs.Counts.{RoseBy}
 use Rattle.formula_elab.specs.Today.{IsLaidOut, IsLaidOutBody}
-use Rattle.script_graph.specs.Today.{maps_alone, IsDeclaredTarget, RefersTo, AllPlain}
+use Rattle.script_graph.specs.Today.{todays_graph, maps_alone, IsDeclaredTarget, RefersTo, AllPlain}
 use Rattle.script_model.specs.Blocked.{InTheWay, on_cycle, too_deep}
 use Rattle.script_model.specs.Check.{is_among}
 use Rattle.script_model.specs.Evaluate.{NameGives}
@@ -122,7 +122,7 @@ module _ (named : List ℕ → Option FnRef) (value : FnRef → List GraphValue 
   whole = sound.whole done.was
 
   no_scopes : NoScopes nodes_now
-  no_scopes = sound.flat
+  no_scopes = sound.today.flat
 
   fits : Fits x
   fits = represented_fits named value s k stands.matches.represents
@@ -135,7 +135,7 @@ module _ (named : List ℕ → Option FnRef) (value : FnRef → List GraphValue 
 
   -- ---- what is needed
 
-  exact : (p : Point) → IsObserved M k.graph p → Exact M (graph_of nodes_now nothing_held) (shown_at g) p
+  exact : (p : Point) → IsObserved M k.graph p → Exact M (todays_graph nodes_now) (shown_at g) p
   exact = needed_is_right M k.graph g no_scopes
       (λ n l r f caps need row def. no_bind_needed x fits stands.matches.represents.today.plain grabs observed
       (watched_roots_are F s k stands.matches.represents.today.plain stands.matches.watches) n l r f caps need row def) done
@@ -151,10 +151,10 @@ module _ (named : List ℕ → Option FnRef) (value : FnRef → List GraphValue 
 
   -- ---- calls
 
-  due : WithinWork F before s (costs_of (graph_of nodes_now nothing_held) ran)
-  due = due_is_covered named value W m k stands unbroken sound whole (costs_of (graph_of nodes_now nothing_held) ran)
+  due : WithinWork F before s (costs_of (todays_graph nodes_now) ran)
+  due = due_is_covered named value W m k stands unbroken sound whole (costs_of (todays_graph nodes_now) ran)
       (done.work (side_of k.graph) (observed_by k.graph) (stood named value W m k stands unbroken sound whole)
-      (observed_among named value W m k stands unbroken sound whole) (costs_of (graph_of nodes_now nothing_held) ran) (omega arith))
+      (observed_among named value W m k stands unbroken sound whole) (costs_of (todays_graph nodes_now) ran) (omega arith))
 
   -- ---- observers
 
@@ -188,7 +188,7 @@ module _ (named : List ℕ → Option FnRef) (value : FnRef → List GraphValue 
   then = observed_so s (there_in (made_then F s k g stands.matches.watches.made shown)) (s.accepted + 1)
 
   represented : Represents F then new
-  represented = represents_so F s (there_in (made_then F s k g stands.matches.watches.made shown)) (s.accepted + 1) k new refl refl done.nodes stands.matches.represents
+  represented = represents_so F s (there_in (made_then F s k g stands.matches.watches.made shown)) (s.accepted + 1) k new refl refl done.today.nodes stands.matches.represents
 
   watched : Watches then new
   watched = watches_then F s k g stands.matches.watches shown (s.accepted + 1) (k.accepted + 1) done.observers done.rooted
@@ -207,8 +207,8 @@ module _ (named : List ℕ → Option FnRef) (value : FnRef → List GraphValue 
       (λ t among. inl (observed_of_root then represented.today.plain (node_in k.nodes) observed are t among)) exact done v is need in
       record {
         node = r.node;
-        is_node = subst (λ (a : Arena). node_of (besides F then k.nodes a) v.item ≡ Some r.node) (sym done.nodes) r.is_node;
-        given = subst (λ (a : Arena). Given a.given r.node) (sym done.nodes) (sound.nodes.given r.node (rw r.is_row refl));
+        is_node = subst (λ (a : Arena). node_of (besides F then k.nodes a) v.item ≡ Some r.node) (sym done.today.nodes) r.is_node;
+        given = subst (λ (a : Arena). Given a.given r.node) (sym done.today.nodes) (sound.nodes.given r.node (rw r.is_row refl));
         call = r.call;
         is_last = r.is_last;
         values_are = r.values_are;
@@ -224,7 +224,7 @@ module _ (named : List ℕ → Option FnRef) (value : FnRef → List GraphValue 
     one_node_each = represented.one_node_each;
     fits = represented_fits named value then new represented;
     scopes = λ n r b row scope.
-        absurd (let none = no_scopes n r (subst (λ (a : Arena). row_at a n ≡ Some r) done.nodes row) in cc);
+        absurd (let none = no_scopes n r (subst (λ (a : Arena). row_at a n ≡ Some r) done.today.nodes row) in cc);
     still = record {
       formulas = λ owner path f e. e;
       targets = λ n e is. (e, is, refl);
@@ -232,7 +232,7 @@ module _ (named : List ℕ → Option FnRef) (value : FnRef → List GraphValue 
       rows = λ n r u is def. is;
     };
     links = λ p q held link.
-        subst (λ (a : Arena). Depends M (graph_of a nothing_held) none_died p q) (sym done.nodes) ((done.links p q (held_needed g rooted p held)).0 link);
+        subst (λ (a : Arena). Depends M (todays_graph a) none_died p q) (sym done.today.nodes) ((done.links p q (held_needed g rooted p held)).0 link);
     ran = recalled;
     watched = λ z among is. observed_root then z among;
     today = record { plain = represented.today.plain; equal = λ n. done.cutoff n ∙ (stands.matches.settled unbroken).today.equal n };
@@ -273,7 +273,7 @@ module _ (named : List ℕ → Option FnRef) (value : FnRef → List GraphValue 
       accepted = refl;
     }) refl refl refl;
     today = refl;
-    work = costs_of (graph_of nodes_now nothing_held) ran;
+    work = costs_of (todays_graph nodes_now) ran;
     due = due;
     within = rose.most;
     matches = matches_then;

@@ -13,14 +13,13 @@ use Rattle.inc_terms.specs.Term as term
 use Rattle.inc_terms.specs.Term.{Functions, Term, Terms, refs}
 use Rattle.inc_terms.specs.Work.{taken_by}
 use Rattle.graph.proofs.Still.{HasCalledMet}
-use Rattle.node_arena.specs.Graph.{graph_of, nothing_held}
 use Rattle.script_model.specs.Formula.{State, Body, Formula, Formulas, Meanings, meanings_of, body_at, Literal, Name, Apply, Fold, If, Join, End, More, Variable}
 use Rattle.script_model.specs.Need.{Edge, Named, Place, formula_at}
 use Rattle.script_model.specs.Run.{count_in, most_calls}
 use Rattle.script_graph.specs.Kept.{Kept, arena_of, node_in}
 use Rattle.script_graph.specs.Represents.{beside, Represents, IsOfItem}
 use Rattle.formula_elab.specs.Today.{IsLaidOut}
-use Rattle.script_graph.specs.Today.{IsOwnFormula, IsVariableBody, IsEarlierTarget, IsDeclaredTarget}
+use Rattle.script_graph.specs.Today.{todays_graph, IsOwnFormula, IsVariableBody, IsEarlierTarget, IsDeclaredTarget}
 use Rattle.script_graph.proofs.Beside.{represented_fits}
 use Rattle.script_graph.proofs.Extending.{declares_still}
 use Rattle.script_graph.proofs.Placed.{item_still}
@@ -125,7 +124,7 @@ module _ (s : State) (k : Kept) (held : Represents any_meanings s k) where
   x = beside any_meanings s k
 
   abbrev G : Graph
-  G = graph_of (arena_of k) nothing_held
+  G = todays_graph (arena_of k)
 
   module _ (n : NodeId) (r : Row) (kids : List NodeId) (row : G.row n ≡ Some r) (takes : taken_by G n r.def ≡ Some kids) where
     reads_so : (S : Option NodeId) (u : Term) → Opens G (Built S) (term.Ref n) u

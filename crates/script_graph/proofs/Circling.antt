@@ -15,9 +15,8 @@ use Rattle.inc_value.specs.declared.node.NodeId.{NodeId}
 use Rattle.inc_value.specs.declared.node.Point.{Point}
 use Rattle.inc_value.specs.declared.value.Value.{Value as GraphValue}
 use Rattle.inc_terms.specs.Term.{Functions}
-use Rattle.node_arena.specs.Graph.{graph_of, nothing_held}
 use Rattle.formula_elab.specs.Today.{IsLaidOutBody}
-use Rattle.script_graph.specs.Today.{maps_alone, AllPlain, IsWithin, IsPartWithin, IsOwnFormula}
+use Rattle.script_graph.specs.Today.{todays_graph, maps_alone, AllPlain, IsWithin, IsPartWithin, IsOwnFormula}
 use Rattle.script_model.specs.Blocked.{IsCycle}
 use Rattle.script_model.specs.Check.{Declared, declared_of, target_of_body}
 use Rattle.script_model.specs.Formula as script
@@ -72,7 +71,7 @@ module _ (F : Meanings) (s : State) (k : Kept) (held : Represents F s k) where
       let place = place_within owner path f n is form at in
       let named : IsWithin k.nodes t n =
       subst (IsWithin k.nodes t) node
-      (own_node (graph_of (arena_of k) nothing_held) (IsWithin k.nodes t) (IsPartWithin k.nodes t) (node_in k.nodes t) b own (held.today.aged t b body)) in
+      (own_node (todays_graph (arena_of k)) (IsWithin k.nodes t) (IsPartWithin k.nodes t) (node_in k.nodes t) b own (held.today.aged t b body)) in
       let same = same_owner k.nodes owner t n place named in
       by_path path is at same
     where

@@ -38,7 +38,7 @@ pub record KeepsNodes {A B : Type 0} (old : Standing A) (new : Standing B) : Typ
 -- so they do in a stabilize that was refused
 pub refused_keeps : {A : Type 0} {M : Functions} {G : Graph} {died : NodeId → Option NodeId} {old new : Standing A} {cause : Cause}
     → IsRefusedIn M G died old new cause → KeepsNodes old new
-refused_keeps done = record { nodes = done.nodes; observers = done.observers; rooted = done.rooted }
+refused_keeps done = record { nodes = done.today.nodes; observers = done.observers; rooted = done.rooted }
 
 -- the observers of a session that broke are there still
 watches_broken : (s : State) (k : Kept) (g : Standing (Unit {0})) (number : ℕ) → KeepsNodes k.graph g → Watches s k

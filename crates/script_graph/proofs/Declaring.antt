@@ -16,7 +16,6 @@ use Rattle.graph.specs.Standing.{Standing}
 use Rattle.link_table.proofs.Lists.{get_append_last, get_append_other}
 use Rattle.inc_terms.specs.Graph.{Row}
 use Rattle.node_arena.specs.Arena.{row_at}
-use Rattle.node_arena.specs.Graph.{graph_of, nothing_held}
 use Rattle.node_arena.specs.Sound as arena
 use Rattle.script_model.specs.Check.{Declare, Declared, Names, declared_of, kind_of_body, names_of, target_of_body}
 use Rattle.script_model.specs.Formula.{State, Body, Entry, Meanings, meanings_of, body_at, entry_at, formula_of_body, places_of_body, Name, Variable, Computed}
@@ -26,7 +25,7 @@ use Rattle.script_model.specs.Values.{Value, Int, Bool as Truth, Text, Reference
 use Rattle.script_graph.specs.Growing.{Extends}
 use Rattle.script_graph.specs.Kept.{Kept, arena_of, node_in, no_node}
 use Rattle.script_graph.specs.Represents.{AreNames, beside, IsOfItem, Represents}
-use Rattle.script_graph.specs.Today.{IsPlainBody, IsEarlierTarget, IsDeclaredTarget, AllPlain, IsWithin, IsPartWithin, OwnNodesOf}
+use Rattle.script_graph.specs.Today.{todays_graph, IsPlainBody, IsEarlierTarget, IsDeclaredTarget, AllPlain, IsWithin, IsPartWithin, OwnNodesOf}
 use Rattle.script_graph.specs.State.{MatchesMoment}
 use Rattle.script_graph.proofs.Carrying.{watches_on, leaves_beside, settled_on}
 use Rattle.script_graph.proofs.Extending.{live_stays, declares_still, body_within, body_there, node_given, never_given, body_past, node_past}
@@ -178,7 +177,7 @@ module _ (named : List ℕ → Option FnRef) (value : FnRef → List GraphValue 
     (name : List ℕ) (ty : Ty) (body : Body) (root : NodeId) (room : ℕ) (fits : DeclarationFits known k.names name ty body)
     (room_is : room + places_of_body body ≡ k.room)
     (adds : AddsItems (arena_of k) g.nodes root body)
-    (owned : OwnNodesOf (graph_of g.nodes nothing_held) (λ (n : NodeId). ((arena_of k).given ≤ n.gen_) × (n.gen_ ≤ root.gen_))
+    (owned : OwnNodesOf (todays_graph g.nodes) (λ (n : NodeId). ((arena_of k).given ≤ n.gen_) × (n.gen_ ≤ root.gen_))
     (λ (n : NodeId). ((arena_of k).given ≤ n.gen_) × (n.gen_ < root.gen_)) root body) where
   abbrev F : Meanings
   F = meanings_of named value
@@ -192,7 +191,7 @@ module _ (named : List ℕ → Option FnRef) (value : FnRef → List GraphValue 
   abbrev new : Kept
   new = with_declared k name ty body root room g
 
-  stays : RowsStay (graph_of (arena_of k) nothing_held) (graph_of g.nodes nothing_held)
+  stays : RowsStay (todays_graph (arena_of k)) (todays_graph g.nodes)
   stays n r u is def = live_stays k.graph g sound more n r is
 
   names_on : AreNames k.names s → AreNames new.names s'
@@ -301,17 +300,17 @@ module _ (named : List ℕ → Option FnRef) (value : FnRef → List GraphValue 
 
     -- what is so of the nodes of a declaration
     abbrev AgedAt : ℕ → NodeId → Body → Type 0
-    AgedAt n q b = OwnNodesOf (graph_of g.nodes nothing_held) (IsWithin new.nodes n) (IsPartWithin new.nodes n) q b
+    AgedAt n q b = OwnNodesOf (todays_graph g.nodes) (IsWithin new.nodes n) (IsPartWithin new.nodes n) q b
 
     aged_each : (n : ℕ) (b : Body) → body_at s' n ≡ Some b → AgedAt n (node_in new.nodes n) b
     aged_each n b is = elim (body_of s name ty body n b is) [
       | inl h ↦ subst (λ (q : NodeId). AgedAt n q b) (sym (node_old n h.0))
-          (own_nodes_of_on (graph_of (arena_of k) nothing_held) (graph_of g.nodes nothing_held) (IsWithin k.nodes n) (IsWithin new.nodes n) (IsPartWithin k.nodes n)
+          (own_nodes_of_on (todays_graph (arena_of k)) (todays_graph g.nodes) (IsWithin k.nodes n) (IsWithin new.nodes n) (IsPartWithin k.nodes n)
           (IsPartWithin new.nodes n) (within_old n h.0) (part_old n h.0) stays (node_in k.nodes n) b (held.today.aged n b h.1))
       | inr h ↦ subst (λ (j : ℕ). AgedAt j (node_in new.nodes j) b) (sym h.0)
           (subst (λ (q : NodeId). AgedAt (length s.entries) q b) (sym node_new)
           (subst (λ (c : Body). AgedAt (length s.entries) root c) (sym h.1)
-          (own_nodes_of_on (graph_of g.nodes nothing_held) (graph_of g.nodes nothing_held) (λ (q : NodeId). ((arena_of k).given ≤ q.gen_) × (q.gen_ ≤ root.gen_))
+          (own_nodes_of_on (todays_graph g.nodes) (todays_graph g.nodes) (λ (q : NodeId). ((arena_of k).given ≤ q.gen_) × (q.gen_ ≤ root.gen_))
           (IsWithin new.nodes (length s.entries)) (λ (q : NodeId). ((arena_of k).given ≤ q.gen_) × (q.gen_ < root.gen_))
           (IsPartWithin new.nodes (length s.entries)) within_new part_new (λ q r u row def. row) root body owned)))
     ]
@@ -330,7 +329,7 @@ module _ (named : List ℕ → Option FnRef) (value : FnRef → List GraphValue 
             → node_in new.nodes i ≡ node_in new.nodes j → ⊥
         later i j e low last is own same =
             let target : target_of_body (length s.entries) body ≡ length s.entries = ap (λ (d : Entry). d.target) (sym is) ∙ (own ∙ last) in
-            let young = own_node (graph_of g.nodes nothing_held) (λ (q : NodeId). ((arena_of k).given ≤ q.gen_) × (q.gen_ ≤ root.gen_))
+            let young = own_node (todays_graph g.nodes) (λ (q : NodeId). ((arena_of k).given ≤ q.gen_) × (q.gen_ ≤ root.gen_))
             (λ (q : NodeId). ((arena_of k).given ≤ q.gen_) × (q.gen_ < root.gen_)) root body
             (own_body s' plain_each (length s.entries) body (body_new s name ty body) target) owned in
             let b = body_there F s k held i low in

@@ -13,7 +13,6 @@ use Rattle.inc_terms.specs.Within.{Given}
 use Rattle.graph.specs.Effects.{KeepsBeside, KeepsAll, Adds, TakesBack}
 use Rattle.graph.specs.Standing.{Standing}
 use Rattle.node_arena.specs.Arena.{Arena, row_at}
-use Rattle.node_arena.specs.Graph.{graph_of, nothing_held}
 use Rattle.node_arena.specs.Sound as arena
 use Rattle.script_model.specs.Formula.{State, Body, Entry, Formula, Formulas, Meanings, meanings_of, body_at, Literal, Name, Apply, Fold, If, Join, End, More, Variable, Computed}
 use Rattle.script_model.specs.Step.{Moment}
@@ -21,7 +20,7 @@ use Rattle.script_model.specs.Values.{Value}
 use Rattle.script_graph.specs.Growing.{Extends}
 use Rattle.script_graph.specs.Kept.{Kept, arena_of, node_in, no_node, without_functions}
 use Rattle.script_graph.specs.Represents.{beside, Represents}
-use Rattle.script_graph.specs.Today.{IsPlain, ArePlain, IsPlainBody, IsEarlierTarget, IsDeclaredTarget, IsWithin, IsPartWithin}
+use Rattle.script_graph.specs.Today.{todays_graph, IsPlain, ArePlain, IsPlainBody, IsEarlierTarget, IsDeclaredTarget, IsWithin, IsPartWithin}
 use Rattle.script_graph.specs.State.{MatchesMoment}
 use Rattle.script_graph.proofs.Carrying.{watches_on, leaves_beside, settled_on}
 use Rattle.script_graph.proofs.Placed.{item_still}
@@ -288,7 +287,7 @@ module _ (named : List ℕ → Option FnRef) (value : FnRef → List GraphValue 
   abbrev new : Kept
   new = record k { graph = g }
 
-  stays : RowsStay (graph_of (arena_of k) nothing_held) (graph_of g.nodes nothing_held)
+  stays : RowsStay (todays_graph (arena_of k)) (todays_graph g.nodes)
   stays n r u is def = live_stays k.graph g sound more n r is
 
   module _ (held : Represents F m.present k) where
@@ -314,7 +313,7 @@ module _ (named : List ℕ → Option FnRef) (value : FnRef → List GraphValue 
           (λ j v body. (v, body, refl)) n (held.of_items n r (were n r is));
       today = record {
         plain = held.today.plain;
-        aged = λ n b is. own_nodes_of_on (graph_of (arena_of k) nothing_held) (graph_of g.nodes nothing_held) (IsWithin k.nodes n) (IsWithin k.nodes n)
+        aged = λ n b is. own_nodes_of_on (todays_graph (arena_of k)) (todays_graph g.nodes) (IsWithin k.nodes n) (IsWithin k.nodes n)
             (IsPartWithin k.nodes n) (IsPartWithin k.nodes n) (λ q h. h) (λ q h. h) stays (node_in k.nodes n) b (held.today.aged n b is);
       };
     }

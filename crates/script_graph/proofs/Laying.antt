@@ -24,13 +24,12 @@ use Rattle.inc_value.specs.declared.ty.Ty.{Ty}
 use Rattle.inc_value.specs.declared.ty.Ty.TheVariants as types
 use Rattle.inc_terms.specs.Graph.{Graph, Row}
 use Rattle.node_arena.specs.Arena.{Arena, row_at, IsVariable}
-use Rattle.node_arena.specs.Graph.{graph_of, nothing_held}
 use Rattle.node_arena.specs.Sound as arena
 use Rattle.script_model.specs.Check.{Names}
 use Rattle.script_model.specs.Formula.{Formula, Formulas, Body, Literal, Name, Apply, Fold, If, Join, End, More, Variable, Computed}
 use Rattle.script_model.specs.Values.{Value, Int, Bool as Truth, Text, Reference, type_of}
 use Rattle.script_graph.specs.Growing.{IsMaking, PartFits, OpenFits, AllOpenFit, RefersToLive}
-use Rattle.script_graph.specs.Today.{IsPlain, ArePlain, IsPlainBody}
+use Rattle.script_graph.specs.Today.{todays_graph, IsPlain, ArePlain, IsPlainBody}
 use Rattle.script_model.specs.Leaves.{EveryReference}
 use Rattle.script_graph.specs.Today.{OwnNodes, OwnNodesOfAll, WholeNodes, OwnNodesOf}
 use Rattle.script_graph.proofs.Making.{part_row}
@@ -515,15 +514,15 @@ module _ (known : FnRef → Bool) (names : Names) {F : Type 0} (first now : Stan
 
   own_between : (body : Body) (ty : Ty) → BodyFits known names body ty → IsMaking first now (makes_for body) made → length made ≡ length (makes_for body)
       → (r : ℕ) → r < length (makes_for body) → length (makes_for body) ≤ r + 1 → root_for body ≡ made_node made r
-      → OwnNodesOf (graph_of now.nodes nothing_held) (IsSince (root_for body)) (IsPartSince (root_for body)) (root_for body) body
+      → OwnNodesOf (todays_graph now.nodes) (IsSince (root_for body)) (IsPartSince (root_for body)) (root_for body) body
   own_between body ty fits h whole r low high root =
-      own_nodes_of_on (graph_of now.nodes nothing_held) (graph_of now.nodes nothing_held) (IsMade made (length (makes_for body))) (IsSince (root_for body))
+      own_nodes_of_on (todays_graph now.nodes) (todays_graph now.nodes) (IsMade made (length (makes_for body))) (IsSince (root_for body))
       (IsMade made (length (makes_for body) - 1)) (IsPartSince (root_for body)) (between body h whole r low high root)
       (before_root body h whole r low high root) (λ n r u row def. row) (root_for body) body
-      (body_owns known (graph_of now.nodes nothing_held) (makes_for body) made h.stands whole nodes tys names body ty fits (sits_itself (makes_for body)))
+      (body_owns known (todays_graph now.nodes) (makes_for body) made h.stands whole nodes tys names body ty fits (sits_itself (makes_for body)))
 
   pub made_owned : (body : Body) (ty : Ty) → BodyFits known names body ty → IsMaking first now (makes_for body) made → length made ≡ length (makes_for body)
-      → OwnNodesOf (graph_of now.nodes nothing_held) (IsSince (root_for body)) (IsPartSince (root_for body)) (root_for body) body
+      → OwnNodesOf (todays_graph now.nodes) (IsSince (root_for body)) (IsPartSince (root_for body)) (root_for body) body
   made_owned (Variable v) ty fits h whole = own_between (Variable v) ty fits h whole 0 (omega arith) (omega arith) refl
   made_owned (Computed (Literal v) kept) ty fits h whole = own_between (Computed (Literal v) kept) ty fits h whole 0 (omega arith) (omega arith) refl
   made_owned (Computed (Name n) kept) ty fits h whole = tt

@@ -34,10 +34,10 @@ use Rattle.inc_value.specs.declared.value.Value.TheVariants as value
 use Rattle.inc_terms.specs.Graph.{Row}
 use Rattle.inc_terms.specs.Within.{Given, ValueWithin}
 use Rattle.node_arena.specs.Arena.{Arena, row_at}
-use Rattle.node_arena.specs.Graph.{graph_of, nothing_held}
 use Rattle.node_arena.specs.Sound as arena
 use Rattle.node_arena.specs.Typing.{Fits, FoldTakes, ReferenceFits}
 use Rattle.script_graph.specs.Growing.{Extends, IsMadeIn, IsMaking, IsWelcome, IsWelcomeMake, PartFits, OpenFits, AllOpenFit, RefersToLive}
+use Rattle.script_graph.specs.Today.{todays_graph}
 use Rattle.script_graph.proofs.Counting.{live_more}
 use Rattle.script_graph.proofs.Extending.{extends_itself, extends_on, adds_extends, live_stays}
 
@@ -215,7 +215,7 @@ module _ {F : Type 0} where
   pub none_made : (s : Standing F) (makes : List Open) → AreInOrder 0 makes → IsMaking s s makes []
   none_made s makes order = record {
     extends = extends_itself s;
-    stands = none_stands (graph_of s.nodes nothing_held) makes order;
+    stands = none_stands (todays_graph s.nodes) makes order;
     types = λ i x at less. absurd (omega (arith, less));
     ids = λ i less. absurd (omega (arith, less));
     given = omega arith;
@@ -229,7 +229,7 @@ module _ {F : Type 0} where
       → IsMaking first new makes (made ++ one ∷ [])
   one_more_made first now new makes made h sound (make.Node d ty) next (NodeMade id) adds = record {
     extends = extends_on first now new h.extends more;
-    stands = one_more_stands (graph_of now.nodes nothing_held) (graph_of new.nodes nothing_held) makes made d ty id h.stands (live_stays now new sound more) next
+    stands = one_more_stands (todays_graph now.nodes) (todays_graph new.nodes) makes made d ty id h.stands (live_stays now new sound more) next
         (top d ty, adds.changes.changed, refl, refl);
     types = λ i x at less. type_at i x at (below i (length made) (omega (arith, less, size)));
     ids = λ i less. id_at i (below i (length made) (omega (arith, less, size)));

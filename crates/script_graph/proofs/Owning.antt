@@ -5,14 +5,13 @@ use Rattle.inc_value.specs.declared.node.NodeId.{NodeId}
 use Rattle.inc_value.specs.declared.value.Value.{Value as GraphValue}
 use Rattle.inc_terms.specs.Graph as graph
 use Rattle.inc_terms.specs.Graph.{Graph, Row, Def}
-use Rattle.node_arena.specs.Graph.{graph_of, nothing_held}
 use Rattle.script_model.specs.Check.{target_of_body}
 use Rattle.script_model.specs.Formula as script
 use Rattle.script_model.specs.Formula.{State, Body, Formula, Formulas, Meanings, body_at, formula_of_body, Literal, Name, Apply, Fold, If, Join, End, More, Variable, Computed}
 use Rattle.script_model.specs.Need.{Edge, Argument, Test, Then, Else, Child, Left, Inside, Item, Named, Place, argument_at, part_at, part_of, formula_at}
 use Rattle.script_graph.specs.Kept.{Kept, arena_of, node_in}
 use Rattle.script_graph.specs.Represents.{beside, Represents}
-use Rattle.script_graph.specs.Today.{AllPlain, OwnNodes, OwnNodesOfAll, WholeNodes, OwnNodesOf, IsPartWithin, IsWithin, IsOwnFormula, IsVariableBody, Computes, owner_of}
+use Rattle.script_graph.specs.Today.{todays_graph, AllPlain, OwnNodes, OwnNodesOfAll, WholeNodes, OwnNodesOf, IsPartWithin, IsWithin, IsOwnFormula, IsVariableBody, Computes, owner_of}
 use Rattle.transfer.specs.Both.{Both}
 use Rattle.transfer.specs.Items.{part_node, root_at, node_at, node_of}
 use Rattle.transfer.specs.Keeping.{RowsStay}
@@ -278,7 +277,7 @@ own_body s plain n b is e = tt
 
 module _ (F : Meanings) (s : State) (k : Kept) (held : Represents F s k) where
   abbrev G : Graph
-  G = graph_of (arena_of k) nothing_held
+  G = todays_graph (arena_of k)
 
   whole_own : (owner : ℕ) (f : Formula) (kept : script.Kept) → body_at s owner ≡ Some (Computed f kept) → (m : NodeId)
       → node_at (beside F s k) owner [] ≡ Some m → WholeNodes G (IsWithin k.nodes owner) (IsPartWithin k.nodes owner) m f

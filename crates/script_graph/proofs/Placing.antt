@@ -16,13 +16,12 @@ use Rattle.inc_value.specs.declared.node.NodeId.{NodeId}
 use Rattle.inc_value.specs.declared.ty.Ty.{Ty}
 use Rattle.inc_terms.specs.Graph.{Graph, Row}
 use Rattle.node_arena.specs.Arena.{Arena, row_at}
-use Rattle.node_arena.specs.Graph.{graph_of, nothing_held}
 use Rattle.script_model.specs.Formula.{Body, Formula, Formulas, body_at, Literal, Name, Apply, Fold, If, Join, End, More, Variable, Computed}
 use Rattle.script_model.specs.Need.{Edge, Argument, Test, Then, Else, Child, Named, Place, argument_at, part_at, formula_at}
 use Rattle.script_model.proofs.TypedCalls.{part_stands}
 use Rattle.script_graph.specs.Growing.{IsMaking}
 use Rattle.script_graph.specs.Represents.{IsOfItem}
-use Rattle.script_graph.specs.Today.{IsOwnFormula, IsVariableBody}
+use Rattle.script_graph.specs.Today.{todays_graph, IsOwnFormula, IsVariableBody}
 use Rattle.script_graph.proofs.Laying.{SitsAt, sits_split, if_sits, sits_itself, if_size}
 use Rattle.transfer.specs.Both.{Both, graph_value}
 use Rattle.transfer.specs.Items.{node_at}
@@ -35,7 +34,7 @@ IsMadeFor G root body n =
 -- a live node was live before, or was made for what is declared
 abbrev pub AddsItems : Arena → Arena → NodeId → Body → Type 0
 AddsItems old new root body =
-    (n : NodeId) (r : Row) → row_at new n ≡ Some r → (row_at old n ≡ Some r) ⊎ IsMadeFor (graph_of new nothing_held) root body n
+    (n : NodeId) (r : Row) → row_at new n ≡ Some r → (row_at old n ≡ Some r) ⊎ IsMadeFor (todays_graph new) root body n
 
 -- ---- places
 
@@ -226,6 +225,6 @@ made_items first now made nodes tys body making whole n r row = elim (making.new
   | inl old ↦ inl old
   | inr new ↦
       let at = node_index n made new in
-      inr (subst (λ (q : NodeId). IsMadeFor (graph_of now.nodes nothing_held) (node_of made (laid_body nodes tys 0 body).root) body q) at.2
-      (made_for (graph_of now.nodes nothing_held) made nodes tys body making.stands whole at.0 at.1))
+      inr (subst (λ (q : NodeId). IsMadeFor (todays_graph now.nodes) (node_of made (laid_body nodes tys 0 body).root) body q) at.2
+      (made_for (todays_graph now.nodes) made nodes tys body making.stands whole at.0 at.1))
 ]

@@ -16,7 +16,7 @@ use Rattle.inc_terms.specs.Work.{cost_of, predicate_cost, predicate_kids}
 use Rattle.graph.specs.Standing.{Standing, in_use, shown_of, chosen_by, called_last}
 use Rattle.graph.proofs.Still.{nodes_alone, Stabilizes, IsObserved}
 use Rattle.node_arena.specs.Arena.{Arena, row_at}
-use Rattle.node_arena.specs.Graph.{NoScopes}
+use Rattle.stabilizer.specs.Today.{NoScopes}
 use Rattle.script_model.specs.Formula.{State, Meanings}
 use Rattle.script_model.specs.Need.{Visit, IsVisit, Needed}
 use Rattle.inc_terms.specs.Work.{taken_by}

@@ -18,7 +18,6 @@ use Rattle.graph.specs.Standing.{in_use, node_at, IsNeeded, cutoff_of}
 use Rattle.map_nodes.specs.declared.cutoff.Cutoff.{Cutoff}
 use Rattle.map_nodes.specs.declared.cutoff.Cutoff.TheVariants.{Equal, Never}
 use Rattle.node_arena.specs.Arena.{row_at}
-use Rattle.node_arena.specs.Graph.{graph_of, nothing_held}
 use Rattle.node_outcomes.specs.Row.{is_never}
 use Rattle.script_model.specs.Formula.{State, Entry, Body, Formula, Observer, Meanings, meanings_of, body_at, entry_at, formula_of_body, Variable, Computed}
 use Rattle.script_model.specs.Need.{Named, Met, WithinWork, formula_at, part_of, own_roots, roots}
@@ -28,7 +27,7 @@ use Rattle.stabilize_round.specs.Calls.{arguments_of}
 use Rattle.script_graph.specs.Kept.{Kept, arena_of, node_in, no_node}
 use Rattle.script_graph.specs.Represents.{graph_functions, besides, beside, there_in, Watches}
 use Rattle.formula_elab.specs.Today.{IsLaidOutBody}
-use Rattle.script_graph.specs.Today.{AllPlain, IsWithin}
+use Rattle.script_graph.specs.Today.{todays_graph, AllPlain, IsWithin}
 use Rattle.script_graph.specs.Settled.{side_of, observed_by, Settled}
 use Rattle.script_graph.specs.State.{Stands}
 use Rattle.script_graph.proofs.Beside.{represented_fits}
@@ -225,9 +224,9 @@ module _ (named : List ℕ → Option FnRef) (value : FnRef → List GraphValue 
   pub meeting_is_covered : (p : Point) → IsMet (graph_functions F) k.graph p → CoveredBy then (Met F before s) p
   meeting_is_covered p met =
       met_is_covered left then (side_of k.graph) (observed_by k.graph) remembers fits stands.valid.1 stands.matches.represents.apart roots_now p
-      (subst (λ (ns : List NodeId). GraphMet (graph_functions F) (graph_of (arena_of k) nothing_held) none_died ns (Held (side_of k.graph) (observed_by k.graph)) p)
+      (subst (λ (ns : List NodeId). GraphMet (graph_functions F) (todays_graph (arena_of k)) none_died ns (Held (side_of k.graph) (observed_by k.graph)) p)
       (sym (observed_nodes 0 k.graph.observers))
-      (met_more (graph_functions F) (graph_of (arena_of k) nothing_held) none_died (in_use k.graph.observers) (IsNeeded k.graph)
+      (met_more (graph_functions F) (todays_graph (arena_of k)) none_died (in_use k.graph.observers) (IsNeeded k.graph)
       (Held (side_of k.graph) (observed_by k.graph)) (needed_held k.graph whole.roots) p met))
 
   pub stood : StoodBeside (side_of k.graph) k.graph (observed_by k.graph)
@@ -237,7 +236,7 @@ module _ (named : List ℕ → Option FnRef) (value : FnRef → List GraphValue 
   observed_among n among = subst (Among n) (sym (observed_nodes 0 k.graph.observers)) among
 
   -- calls that are due over the graph are due of the script
-  pub due_is_covered : (calls : ℕ) → GraphWork (graph_functions F) (graph_of (arena_of k) nothing_held) none_died (observed_by k.graph) (side_of k.graph) calls
+  pub due_is_covered : (calls : ℕ) → GraphWork (graph_functions F) (todays_graph (arena_of k)) none_died (observed_by k.graph) (side_of k.graph) calls
       → WithinWork F before s calls
   due_is_covered calls work =
       work_is_covered left then (side_of k.graph) (observed_by k.graph) remembers fits stands.valid.1 stands.matches.represents.apart roots_now

@@ -4,12 +4,11 @@ use Rattle.inc_value.specs.declared.node.NodeId.{NodeId}
 use Rattle.inc_terms.specs.Term as term
 use Rattle.inc_terms.specs.Term.{Term, Terms}
 use Rattle.node_arena.specs.Arena.{Arena, row_at}
-use Rattle.node_arena.specs.Graph.{graph_of, nothing_held}
 use Rattle.script_model.specs.Formula.{State, Body, Formula, Formulas, Observer, Meanings, body_at, places_of, Literal, Name, Apply, Fold, If, Join, End, More, Variable, Computed}
 use Rattle.script_graph.specs.Kept.{Kept, arena_of, node_in}
 use Rattle.script_graph.specs.Represents.{besides, IsOfItem, Represents}
 use Rattle.formula_elab.specs.Today.{IsLaidOut, AreLaidOut, IsLaidOutBody}
-use Rattle.script_graph.specs.Today.{IsWithin, IsPartWithin, OwnNodesOf}
+use Rattle.script_graph.specs.Today.{todays_graph, IsWithin, IsPartWithin, OwnNodesOf}
 use Rattle.script_graph.proofs.Placed.{item_still}
 use Rattle.transfer.specs.Both.{Both}
 use Rattle.transfer.specs.Keeping.{NodesApart}
@@ -79,8 +78,8 @@ represents_so F s observers accepted k new room nodes arena held = record {
   today = record {
     plain = held.today.plain;
     aged = λ n b is.
-        subst (λ (ns : List NodeId). OwnNodesOf (graph_of (arena_of new) nothing_held) (IsWithin ns n) (IsPartWithin ns n) (node_in ns n) b) (sym nodes)
-        (subst (λ (a : Arena). OwnNodesOf (graph_of a nothing_held) (IsWithin k.nodes n) (IsPartWithin k.nodes n) (node_in k.nodes n) b) (sym arena)
+        subst (λ (ns : List NodeId). OwnNodesOf (todays_graph (arena_of new)) (IsWithin ns n) (IsPartWithin ns n) (node_in ns n) b) (sym nodes)
+        (subst (λ (a : Arena). OwnNodesOf (todays_graph a) (IsWithin k.nodes n) (IsPartWithin k.nodes n) (node_in k.nodes n) b) (sym arena)
         (held.today.aged n b is));
   };
 }

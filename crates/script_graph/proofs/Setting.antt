@@ -13,7 +13,6 @@ use Rattle.inc_terms.specs.Graph.{Row}
 use Rattle.graph.specs.Effects.{Sets}
 use Rattle.graph.specs.Standing.{Standing}
 use Rattle.node_arena.specs.Arena.{row_at, with_value}
-use Rattle.node_arena.specs.Graph.{graph_of, nothing_held}
 use Rattle.node_arena.specs.Sound as arena
 use Rattle.script_model.specs.Check.{Assign, Declared, Names, declared_of, kind_of_body, is_variable, names_of, target_of_body}
 use Rattle.script_model.specs.Formula as script
@@ -24,7 +23,7 @@ use Rattle.script_model.specs.Values.{Value}
 use Rattle.script_graph.specs.Kept.{Kept, arena_of, node_in, no_node}
 use Rattle.script_graph.specs.Represents.{AreNames, beside, IsOfItem, Represents, Watches}
 use Rattle.script_graph.specs.Settled.{Settled}
-use Rattle.script_graph.specs.Today.{IsPlainBody, IsEarlierTarget, IsDeclaredTarget, AllPlain, IsWithin, IsPartWithin, OwnNodesOf}
+use Rattle.script_graph.specs.Today.{todays_graph, IsPlainBody, IsEarlierTarget, IsDeclaredTarget, AllPlain, IsWithin, IsPartWithin, OwnNodesOf}
 use Rattle.script_graph.specs.State.{MatchesMoment}
 use Rattle.script_graph.proofs.Carrying.{watches_on, leaves_beside, settled_on}
 use Rattle.script_graph.proofs.Declaring.{plain_body_more, fitting_refers}
@@ -173,7 +172,7 @@ module _ (named : List ℕ → Option FnRef) (value : FnRef → List GraphValue 
     ]
 
     module _ (held : Represents F s k) where
-      old : IsTop (graph_of (arena_of k) nothing_held) (node_in k.nodes target) (graph.Var (graph_value (node_in k.nodes) u))
+      old : IsTop (todays_graph (arena_of k)) (node_in k.nodes target) (graph.Var (graph_value (node_in k.nodes) u))
       old = rw was at (held.declares target)
 
       -- a row that isn't the variable's stays
@@ -183,7 +182,7 @@ module _ (named : List ℕ → Option FnRef) (value : FnRef → List GraphValue 
       same_row : (r q : Row) → row_at (arena_of k) (node_in k.nodes target) ≡ Some r → row_at (arena_of k) (node_in k.nodes target) ≡ Some q → r ≡ q
       same_row r q first second = let e : Some r ≡ Some q = sym first ∙ second in cc
 
-      stays : RowsStay (graph_of (arena_of k) nothing_held) (graph_of g.nodes nothing_held)
+      stays : RowsStay (todays_graph (arena_of k)) (todays_graph g.nodes)
       stays n r t is def = row_other n r (λ same.
           let row : r ≡ old.0 = same_row r old.0 (ap (row_at (arena_of k)) (sym same) ∙ is) old.1 in
           let none : plain r.def ≡ None = ap (λ (q : Row). plain q.def) row ∙ ap plain old.3 in
@@ -235,13 +234,13 @@ module _ (named : List ℕ → Option FnRef) (value : FnRef → List GraphValue 
       ]
 
       aged_each : (n : ℕ) (b : Body) → body_at s' n ≡ Some b
-          → OwnNodesOf (graph_of g.nodes nothing_held) (IsWithin k.nodes n) (IsPartWithin k.nodes n) (node_in k.nodes n) b
+          → OwnNodesOf (todays_graph g.nodes) (IsWithin k.nodes n) (IsPartWithin k.nodes n) (node_in k.nodes n) b
       aged_each n b is = elim (cases_eq n target) [
         | inl same ↦
             let body : Variable v ≡ b = let e : Some (Variable v) ≡ Some b = sym now ∙ (ap (body_at s') (sym same) ∙ is) in cc in
-            subst (λ (c : Body). OwnNodesOf (graph_of g.nodes nothing_held) (IsWithin k.nodes n) (IsPartWithin k.nodes n) (node_in k.nodes n) c) body
+            subst (λ (c : Body). OwnNodesOf (todays_graph g.nodes) (IsWithin k.nodes n) (IsPartWithin k.nodes n) (node_in k.nodes n) c) body
             (held.today.aged n (Variable u) (ap (body_at s) same ∙ was))
-        | inr other ↦ own_nodes_of_on (graph_of (arena_of k) nothing_held) (graph_of g.nodes nothing_held) (IsWithin k.nodes n) (IsWithin k.nodes n)
+        | inr other ↦ own_nodes_of_on (todays_graph (arena_of k)) (todays_graph g.nodes) (IsWithin k.nodes n) (IsWithin k.nodes n)
             (IsPartWithin k.nodes n) (IsPartWithin k.nodes n) (λ q h. h) (λ q h. h) stays (node_in k.nodes n) b (held.today.aged n b (sym (others n other) ∙ is))
       ]
 

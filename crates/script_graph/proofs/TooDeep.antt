@@ -116,7 +116,7 @@ module _ (named : List ℕ → Option FnRef) (value : FnRef → List GraphValue 
       let covered = meeting_is_covered named value W m k stands unbroken sound whole q (listed.met q refl) in
       let i = deep_has_item x fits stands.keep stands.valid.1 before grabs_before (stands.matches.settled unbroken).still.formulas grabs_stay q rest covered
       (omega (arith, long)) listed.walk once in
-      let at = told_node x sound.flat stands.matches.represents.today.plain q i.0 i.2 in
+      let at = told_node x sound.today.flat stands.matches.represents.today.plain q i.0 i.2 in
       subst (IsTooDeepAt x before) (ap (λ (y : Point). y.node) starts)
       (deep_owner x fits stands.matches.represents.today.plain before grabs_before grabs (stands.matches.settled unbroken).still.formulas i.0 q.node i.1 at i.3)
 
@@ -140,7 +140,7 @@ module _ (named : List ℕ → Option FnRef) (value : FnRef → List GraphValue 
     live : IsLive g.nodes p.node
     live =
         let r = own_item_live F s k stands.matches.represents fits deep.item p.node deep.computes deep.is_node in
-        subst (λ (a : Arena). IsLive a p.node) (sym done.nodes) (rw r.1 refl)
+        subst (λ (a : Arena). IsLive a p.node) (sym done.today.nodes) (rw r.1 refl)
 
     -- some declaration's node isn't older than its owner
     pub not_all_older : NoneOwns k.nodes g.nodes p.node → ⊥

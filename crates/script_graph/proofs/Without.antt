@@ -38,8 +38,8 @@ module _ {A : Type 0} where
     few = h.few;
     earlier = h.earlier;
     nodes = h.nodes;
-    flat = h.flat;
     whole = λ unbroken. whole_without W s (h.whole unbroken);
+    today = h.today;
   }
 
   -- ---- what is needed and met
@@ -80,8 +80,6 @@ module _ {A : Type 0} where
       was = done.was;
       unbroken = done.unbroken;
       stays = done.stays;
-      nodes = done.nodes;
-      same = done.same;
       observers = done.observers;
       rooted = done.rooted;
       shows = done.shows;
@@ -99,6 +97,7 @@ module _ {A : Type 0} where
       called = λ n among. called_without old new n (done.called n among);
       costs = done.costs;
       work = λ before observers stood. done.work before observers (stood_with before old observers stood);
+      today = record { nodes = done.today.nodes; same = done.today.same };
     }
 
     -- ---- a refused one
@@ -141,8 +140,6 @@ module _ {A : Type 0} where
   refused_without M old new cause done = record {
     was = done.was;
     stays = done.stays;
-    nodes = done.nodes;
-    same = done.same;
     observers = done.observers;
     rooted = done.rooted;
     ran = done.ran;
@@ -153,4 +150,5 @@ module _ {A : Type 0} where
     is_cause = done.is_cause;
     lawful = lawful_without M old done.met done.lawful;
     tried = leaves_without new done.met done.tried;
+    today = record { nodes = done.today.nodes; same = done.today.same };
   }

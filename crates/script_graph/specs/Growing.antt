@@ -26,10 +26,10 @@ use Rattle.formula_elab.specs.declared.opened.Part.{Part}
 use Rattle.formula_elab.specs.declared.opened.Part.TheVariants as part
 use Rattle.graph.specs.Effects.{top, Adds, KeepsBesideGiven}
 use Rattle.graph.specs.Standing.{Standing}
-use Rattle.graph.specs.Known.{CallsKnown}
+use Rattle.graph.specs.Today.{CallsKnown}
 use Rattle.node_arena.specs.Arena.{Arena, row_at, live, NamesGiven}
-use Rattle.node_arena.specs.Graph.{graph_of, nothing_held}
 use Rattle.node_arena.specs.Typing.{Makes}
+use Rattle.script_graph.specs.Today.{todays_graph}
 
 -- a value refers to a live node of its base type, if to any
 abbrev pub RefersToLive : Arena → Value → Type 0
@@ -90,7 +90,7 @@ module _ {F : Type 0} where
   -- over the first graph so many of what is to be made were made in order, each under the next id
   pub record IsMaking (first now : Standing F) (makes : List Open) (made : List Made) : Type 0 where
     pub extends : Extends first now
-    pub stands : StandsIn (graph_of now.nodes nothing_held) makes made
+    pub stands : StandsIn (todays_graph now.nodes) makes made
     pub types : (i : ℕ) (x : Open) → slice_get makes i ≡ Some x → i < length made
         → (r : Row) × (row_at now.nodes (made_node made i) ≡ Some r) × (r.ty ≡ open_ty x)
     pub ids : (i : ℕ) → i < length made → (made_node made i).gen_ ≡ first.nodes.given + i

@@ -7,13 +7,12 @@ use Rattle.inc_terms.specs.Graph.{Row}
 use Rattle.inc_terms.specs.Term.{Functions}
 use Rattle.graph.specs.Standing.{Standing, node_at, shown_of}
 use Rattle.node_arena.specs.Arena.{Arena, row_at}
-use Rattle.node_arena.specs.Graph.{graph_of, nothing_held}
 use Rattle.script_model.specs.Check.{Names, names_of, is_among, target_of_body}
 use Rattle.script_model.specs.Formula.{Body, Entry, State, Observer, Meanings, body_at, entry_at, places_of}
 use Rattle.script_model.specs.Need.{Item}
 use Rattle.script_model.specs.Values.{Outcome, to_engine, from_engine}
 use Rattle.script_graph.specs.Kept.{Kept, arena_of, node_in}
-use Rattle.script_graph.specs.Today.{Computes, maps_alone, IsDeclaredTarget, RefersTo, IsTodaysObserver, IsTodaysScript}
+use Rattle.script_graph.specs.Today.{Computes, maps_alone, todays_graph, IsDeclaredTarget, RefersTo, IsTodaysObserver, IsTodaysScript}
 use Rattle.transfer.specs.Both.{Both, graph_outcome}
 use Rattle.transfer.specs.Items.{node_of}
 use Rattle.transfer.specs.Keeping.{NodesApart}
@@ -29,7 +28,7 @@ besides F s nodes a = record {
   meanings = F;
   state = s;
   functions = graph_functions F;
-  graph = graph_of a nothing_held;
+  graph = todays_graph a;
   nodes = node_in nodes;
   died = none_died;
 }

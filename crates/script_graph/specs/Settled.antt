@@ -8,13 +8,12 @@ use Rattle.inc_terms.specs.Within.{Given}
 use Rattle.graph.specs.Standing.{Standing, called_last, cutoff_of, times_linked}
 use Rattle.graph.specs.declared.observer.Observer.{Observer as Looking}
 use Rattle.node_arena.specs.Arena.{Arena}
-use Rattle.node_arena.specs.Graph.{graph_of, nothing_held}
 use Rattle.node_outcomes.specs.Row.{is_never}
 use Rattle.script_model.specs.Formula.{State, Entry, Observer, Meanings, entry_at}
 use Rattle.script_model.specs.Need.{Named, Needed, Visit, IsVisit, roots}
 use Rattle.script_graph.specs.Kept.{Kept, arena_of, node_in}
 use Rattle.script_graph.specs.Represents.{besides, rooted_at}
-use Rattle.script_graph.specs.Today.{frozen_root, none_stale, WasTodays}
+use Rattle.script_graph.specs.Today.{todays_graph, frozen_root, none_stale, WasTodays}
 use Rattle.stabilize_round.specs.Calls.{arguments_of}
 use Rattle.stabilize_round.specs.State.{Call}
 use Rattle.transfer.specs.Both.{Both, graph_value}
@@ -62,7 +61,7 @@ pub record StillDeclares (before : State) (nodes : List NodeId) (arena : Arena) 
   pub formulas : FormulasStay before s
   pub targets : (n : ℕ) (e : Entry) → entry_at before n ≡ Some e → (d : Entry) × (entry_at s n ≡ Some d) × (d.target ≡ e.target)
   pub names : (n : ℕ) (e : Entry) → entry_at before n ≡ Some e → node_in k.nodes n ≡ node_in nodes n
-  pub rows : RowsStay (graph_of arena nothing_held) (graph_of (arena_of k) nothing_held)
+  pub rows : RowsStay (todays_graph arena) (todays_graph (arena_of k))
 
 -- the function of the visit's node was last called with the visit's values
 pub record WasRun (x : Both) (k : Kept) (v : Visit) : Type 0 where
@@ -85,7 +84,7 @@ pub record Settled (F : Meanings) (before s : State) (k : Kept) : Type 0 where
   pub arena : Arena
   pub one_node_each : length nodes ≡ length before.entries
   pub fits : Fits (besides F before nodes arena)
-  pub scopes : ScopesLive (graph_of arena nothing_held)
+  pub scopes : ScopesLive (todays_graph arena)
   pub still : StillDeclares before nodes arena s k
   pub links : LinksDepend (besides F before nodes arena) (side_of k.graph) (observed_by k.graph)
   pub ran : (v : Visit) → IsVisit F before v → Needed F before v.item → WasRun (besides F before nodes arena) k v

@@ -5,6 +5,7 @@ use Rattle.inc_value.specs.declared.node.NodeId.{NodeId}
 use Rattle.inc_value.specs.declared.node.Point.{Point}
 use Rattle.inc_terms.specs.Depend.{main}
 use Rattle.node_arena.specs.Arena.{Arena}
+use Rattle.graph.specs.Today.{IsOwner}
 use Rattle.script_model.specs.Check.{Declared}
 use Rattle.script_model.specs.Formula.{Meanings}
 use Rattle.script_model.specs.Need.{WithinWork}
@@ -14,7 +15,7 @@ use Rattle.script_model.specs.Step as step
 use Rattle.script_model.specs.Step.{Moment, Stable, Stabilizes, Tells}
 use Rattle.script_graph.specs.Kept.{Kept, node_in}
 use Rattle.script_graph.specs.State.{MatchesMoment}
-use Rattle.script_graph.specs.Today.{IsOwner, NoNotices}
+use Rattle.script_graph.specs.Today.{NoNotices}
 use Rattle.stabilizer.specs.declared.refused.Refused.{Refused}
 use Rattle.stabilizer.specs.declared.refused.Refused.TheVariants.{Cycle, Height}
 

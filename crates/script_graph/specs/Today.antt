@@ -9,7 +9,7 @@ use Rattle.inc_terms.specs.Term.{Functions}
 use Rattle.formula_elab.specs.Today.{IsLaidOut, AreLaidOut, IsLaidOutBody}
 use Rattle.graph.specs.Standing.{cutoff_of}
 use Rattle.map_nodes.specs.declared.cutoff.Cutoff.TheVariants.{Equal}
-use Rattle.node_arena.specs.Arena.{Arena, IsLive}
+use Rattle.node_arena.specs.Arena.{Arena}
 use Rattle.node_arena.specs.Graph.{graph_of, nothing_held}
 use Rattle.node_arena.specs.RightSide.{no_side}
 use Rattle.node_arena.specs.RightSideLaws.{meaning}
@@ -80,6 +80,12 @@ pub record IsTodaysObserver (x : Observer) : Type 0 where
 abbrev pub NoNotices : List Notice → Type 0
 NoNotices notices = notices ≡ []
 
+-- ---- the graph: no bind is built
+
+-- the graph of the nodes of a script
+abbrev pub todays_graph : Arena → Graph
+todays_graph a = graph_of a nothing_held
+
 -- ---- beside the graph: no freezes, and no experts that were made stale
 
 -- for which node a freeze has put need on
@@ -89,12 +95,6 @@ frozen_root n = None
 -- whether a node was asked to run anew
 abbrev pub none_stale : NodeId → Bool
 none_stale n = false
-
--- ---- whose node a node is: none stands in a scope
-
--- the node outside all scopes in whose right side a live node stands, or the node itself
-abbrev pub IsOwner : Arena → NodeId → NodeId → Type 0
-IsOwner a n top = (top ≡ n) × IsLive a n
 
 -- ---- items that compute: variables, and formulas that are no bare names
 
@@ -181,7 +181,7 @@ pub record IsPartWithin (nodes : List NodeId) (owner : ℕ) (n : NodeId) : Type 
 pub record IsTodaysScript (s : State) (k : Kept) : Type 0 where
   pub plain : AllPlain s
   pub aged : (n : ℕ) (b : Body) → body_at s n ≡ Some b
-      → OwnNodesOf (graph_of (arena_of k) nothing_held) (IsWithin k.nodes n) (IsPartWithin k.nodes n) (node_in k.nodes n) b
+      → OwnNodesOf (todays_graph (arena_of k)) (IsWithin k.nodes n) (IsPartWithin k.nodes n) (node_in k.nodes n) b
 
 -- the state was of today's forms as the last accepted stabilize left it, and each node has cutoff Equal
 pub record WasTodays (before : State) (k : Kept) : Type 0 where

@@ -65,14 +65,14 @@ module _ {A : Type 0} (M : Functions) (k : Kept) (sound : IsSound k) (old new : 
   -- what is kept fits together after a stabilize that was accepted
   pub accepted_sound : Stabilizes M old new → (accepted : ℕ) → IsSound (record k { accepted = accepted; graph = without_functions new })
   accepted_sound done accepted = same_sound k sound (without_functions new)
-      (done.nodes ∙ sym (ap (λ (g : Standing (Unit {0})). g.nodes) same))
+      (done.today.nodes ∙ sym (ap (λ (g : Standing (Unit {0})). g.nodes) same))
       (done.observers ∙ sym (ap (λ (g : Standing (Unit {0})). g.observers) same)) accepted k.broken (λ none. done.unbroken)
 
   -- and after one that was refused and broke the session
   pub refused_sound : (why : Cause) → IsRefusedFor M old new why → (number : ℕ)
       → IsSound (record k { broken = Some number; graph = without_functions new })
   refused_sound why done number = same_sound k sound (without_functions new)
-      (done.nodes ∙ sym (ap (λ (g : Standing (Unit {0})). g.nodes) same))
+      (done.today.nodes ∙ sym (ap (λ (g : Standing (Unit {0})). g.nodes) same))
       (done.observers ∙ sym (ap (λ (g : Standing (Unit {0})). g.observers) same)) k.accepted (Some number) (λ none. absurd (cc))
 
 -- ---- faults

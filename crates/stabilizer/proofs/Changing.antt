@@ -16,7 +16,6 @@ use Rattle.link_table.specs.Links.{Links, times}
 use Rattle.height_order.specs.Levels.{level}
 use Rattle.necessity.specs.Need.{Roots, root_times}
 use Rattle.node_arena.specs.Arena.{Arena, row_at}
-use Rattle.node_arena.specs.Graph.{NoScopes}
 use Rattle.stabilize_round.specs.Invariant.{Invariant}
 use Rattle.stabilize_round.specs.Machine as move
 use Rattle.stabilize_round.specs.Moves.{Quiet, IsLeast, changed, StepChange}
@@ -27,7 +26,7 @@ use Rattle.stabilize_round.proofs.Machine.{moves_keep}
 use Rattle.stabilize_round.proofs.Main.{main_change}
 use Rattle.stabilize_round.proofs.Points.{same_or_other, at_same, at_other}
 use Rattle.node_outcomes.specs.Row.{IsRewritten, with_outcome, settled_in, stage_of}
-use Rattle.stabilizer.specs.Today.{NoBinds}
+use Rattle.stabilizer.specs.Today.{NoScopes, NoBinds}
 use Rattle.stabilizer.specs.Stands.{Stands, hand}
 use Rattle.stabilizer.specs.Wiring.{KeepsGraph, KeepsRound, IsTurnedIn}
 use Rattle.node_outcomes.specs.declared.row.Progress.{Progress}

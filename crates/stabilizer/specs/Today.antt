@@ -1,14 +1,17 @@
 -- What is so of the nodes of today alone: none stands in a scope, and none is a bind.
-use Rattle.std.specs.Prelude.{◌≡◌, List, Some}
+use Rattle.std.specs.Prelude.{◌≡◌, List, None, Some}
 use Rattle.inc_value.specs.declared.function.FnRef.{FnRef}
 use Rattle.inc_value.specs.declared.node.NodeId.{NodeId}
 use Rattle.inc_terms.specs.Graph.{Row, Def, Bind}
 use Rattle.node_arena.specs.Arena.{Arena, row_at}
-use Rattle.node_arena.specs.Graph.{NoScopes}
 
 -- the definition is no bind
 abbrev pub IsNoBind : Def → Type 0
 IsNoBind def = (l : NodeId) (f : FnRef) (captures : List NodeId) → def ≡ Bind l f captures → ⊥
+
+-- no live node stands in a scope
+abbrev pub NoScopes : Arena → Type 0
+NoScopes a = (n : NodeId) (r : Row) → row_at a n ≡ Some r → r.scope ≡ None
 
 -- no live node is a bind
 abbrev pub NoBinds : Arena → Type 0

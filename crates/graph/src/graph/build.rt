@@ -4,7 +4,7 @@ ghost use Rattle.inc_value.specs.Value.{type_of};
 ghost use Rattle.inc_value.specs.declared.node.NodeId.{NodeId};
 ghost use Rattle.inc_terms.specs.Code.{def_of};
 ghost use Rattle.inc_terms.specs.Graph.{Const, Var, Map, Fold, If, Join};
-ghost use Rattle.graph.specs.Known.{CallsKnown};
+ghost use Rattle.graph.specs.Today.{CallsKnown};
 ghost use Rattle.graph.specs.Standing.{IsUnbroken, IsBroken};
 ghost use Rattle.graph.specs.Effects.{top, NamesUnknown, IsMistyped, HasNoRoom, KeepsAll, IsAddFault, Adds};
 ghost use Rattle.graph.specs.declared.fault.Kept.{Kept as ACause};

@@ -25,13 +25,15 @@ pub returns-in-Ok : goal.returns-in-Ok
 returns-in-Ok g c =
     let l = c.self.inside.graph.functions.library in
     let new = c.stabilize.new.self in
+    let flat = c.keeps_sound.ensures.sound.today.no_binds in
+    let bodies = c.self.inside.graph.functions.bodies.items in
     let unbroken = rw (← c.self.view_is) at c.requires.unbroken in
     rw (← c.self.view_is) (record {
       accepted = λ is m stands.
           session_accepted (g.L.Library.named l) (g.L.Library.value l) _ _ c.self.inside.graph new (g.L.Library.calls l)
           (g.L.Library.calls new.functions.library) refl unbroken c.keeps_sound.ensures.sound
-          (alone_stabilizes (g.L.Library.value l) c.self.inside.graph.functions.bodies.items c.self.invariant.1 c.self.inside.graph new c.keeps_sound.ensures.sound.no_binds c.in-Ok.ensures.brought)
-          (costs_still c.self.inside.graph new c.keeps_sound.ensures.sound.no_binds c.in-Ok.ensures.brought.same new.ran (g.L.Library.calls l) (g.L.Library.calls new.functions.library)
+          (alone_stabilizes (g.L.Library.value l) bodies c.self.invariant.1 c.self.inside.graph new flat c.in-Ok.ensures.brought)
+          (costs_still c.self.inside.graph new flat c.in-Ok.ensures.brought.today.same new.ran (g.L.Library.calls l) (g.L.Library.calls new.functions.library)
           c.in-Ok.ensures.calls) m stands;
       too_deep = λ target is. absurd (cc);
       circular = λ is. absurd (cc);
@@ -41,7 +43,7 @@ returns-in-Ok g c =
       for_memory = tt;
       count = omega arith;
       names = refl;
-      given = few_given _ _ c.in-Ok.ensures.brought.nodes;
+      given = few_given _ _ c.in-Ok.ensures.brought.today.nodes;
       observers = c.in-Ok.ensures.brought.observers;
       known_still = library_still_knows _ _ _ _ (g.met.L.Library.maps_alone l) c.stabilize.ensures.known;
       calls_grow = c.stabilize.ensures.calls_grow;
@@ -66,15 +68,17 @@ returns-in-Some g c =
     let done = c.stabilize.ensures.refused cause.Height for in
     let l = c.self.inside.graph.functions.library in
     let new = c.stabilize.new.self in
+    let flat = c.keeps_sound.ensures.sound.today.no_binds in
+    let bodies = c.self.inside.graph.functions.bodies.items in
     let unbroken = rw (← c.self.view_is) at c.requires.unbroken in
     rw (← c.self.view_is) (record {
       accepted = λ is. absurd (cc);
       too_deep = λ target is m stands.
           let same : c.in-Some.target ≡ target = cc in
           session_too_deep (g.L.Library.named l) (g.L.Library.value l) _ _ c.self.inside.graph new refl unbroken
-          c.keeps_sound.ensures.sound (alone_refused (g.L.Library.value l) c.self.inside.graph.functions.bodies.items c.self.invariant.1 c.self.inside.graph new c.keeps_sound.ensures.sound.no_binds cause.Height done) target (g.L.Library.calls l) (g.L.Library.calls new.functions.library)
+          c.keeps_sound.ensures.sound (alone_refused (g.L.Library.value l) bodies c.self.invariant.1 c.self.inside.graph new flat cause.Height done) target (g.L.Library.calls l) (g.L.Library.calls new.functions.library)
           (first_of new.refused c.self.inside.nodes.items c.deref.result.now c.deref.ensures.value new.nodes c.in-Some.target target same
-          c.in-Some.ensures.found) (alone_called (g.L.Library.value l) c.self.inside.graph.functions.bodies.items c.self.invariant.1 c.self.inside.graph new c.keeps_sound.ensures.sound.no_binds done.same (g.L.Library.calls l)
+          c.in-Some.ensures.found) (alone_called (g.L.Library.value l) bodies c.self.invariant.1 c.self.inside.graph new flat done.today.same (g.L.Library.calls l)
           (g.L.Library.calls new.functions.library) (c.stabilize.ensures.few cause.Height for)) m stands;
       circular = λ is. absurd (cc);
       unwritten = λ is. absurd (cc);
@@ -87,7 +91,7 @@ returns-in-Some g c =
       for_memory = tt;
       count = omega arith;
       names = refl;
-      given = few_given _ _ done.nodes;
+      given = few_given _ _ done.today.nodes;
       observers = done.observers;
       known_still = library_still_knows _ _ _ _ (g.met.L.Library.maps_alone l) c.stabilize.ensures.known;
       calls_grow = c.stabilize.ensures.calls_grow;
@@ -112,6 +116,8 @@ returns-in-None g c =
     let done = c.stabilize.ensures.refused cause.Height for in
     let l = c.self.inside.graph.functions.library in
     let new = c.stabilize.new.self in
+    let flat = c.keeps_sound.ensures.sound.today.no_binds in
+    let bodies = c.self.inside.graph.functions.bodies.items in
     let unbroken = rw (← c.self.view_is) at c.requires.unbroken in
     rw (← c.self.view_is) (record {
       accepted = tt;
@@ -121,15 +127,15 @@ returns-in-None g c =
       target = tt;
       cut_short = λ m stands.
           session_cut_short (meanings_of (g.L.Library.named l) (g.L.Library.value l)) _ c.self.inside.graph new (g.L.Library.calls l)
-          (g.L.Library.calls new.functions.library) refl (refused_keeps done) (alone_called (g.L.Library.value l) c.self.inside.graph.functions.bodies.items c.self.invariant.1 c.self.inside.graph new c.keeps_sound.ensures.sound.no_binds done.same (g.L.Library.calls l)
+          (g.L.Library.calls new.functions.library) refl (refused_keeps done) (alone_called (g.L.Library.value l) bodies c.self.invariant.1 c.self.inside.graph new flat done.today.same (g.L.Library.calls l)
           (g.L.Library.calls new.functions.library) (c.stabilize.ensures.few cause.Height for)) m stands.matches;
       for_memory = λ m stands. absurd (
           session_not_all_older (g.L.Library.named l) (g.L.Library.value l) _ _ c.self.inside.graph new refl unbroken
-          c.keeps_sound.ensures.sound (alone_refused (g.L.Library.value l) c.self.inside.graph.functions.bodies.items c.self.invariant.1 c.self.inside.graph new c.keeps_sound.ensures.sound.no_binds cause.Height done)
+          c.keeps_sound.ensures.sound (alone_refused (g.L.Library.value l) bodies c.self.invariant.1 c.self.inside.graph new flat cause.Height done)
           (none_of new.refused c.self.inside.nodes.items c.deref.result.now c.deref.ensures.value new.nodes c.in-None.ensures.none) m stands);
       count = omega arith;
       names = refl;
-      given = few_given _ _ done.nodes;
+      given = few_given _ _ done.today.nodes;
       observers = done.observers;
       known_still = library_still_knows _ _ _ _ (g.met.L.Library.maps_alone l) c.stabilize.ensures.known;
       calls_grow = c.stabilize.ensures.calls_grow;
@@ -154,6 +160,8 @@ returns-in-Err-Refused-Memory g c =
     let done = c.stabilize.ensures.refused cause.Memory for in
     let l = c.self.inside.graph.functions.library in
     let new = c.stabilize.new.self in
+    let flat = c.keeps_sound.ensures.sound.today.no_binds in
+    let bodies = c.self.inside.graph.functions.bodies.items in
     rw (← c.self.view_is) (record {
       accepted = tt;
       too_deep = tt;
@@ -162,12 +170,12 @@ returns-in-Err-Refused-Memory g c =
       target = tt;
       cut_short = λ m stands.
           session_cut_short (meanings_of (g.L.Library.named l) (g.L.Library.value l)) _ c.self.inside.graph new (g.L.Library.calls l)
-          (g.L.Library.calls new.functions.library) refl (refused_keeps done) (alone_called (g.L.Library.value l) c.self.inside.graph.functions.bodies.items c.self.invariant.1 c.self.inside.graph new c.keeps_sound.ensures.sound.no_binds done.same (g.L.Library.calls l)
+          (g.L.Library.calls new.functions.library) refl (refused_keeps done) (alone_called (g.L.Library.value l) bodies c.self.invariant.1 c.self.inside.graph new flat done.today.same (g.L.Library.calls l)
           (g.L.Library.calls new.functions.library) (c.stabilize.ensures.few cause.Memory for)) m stands.matches;
       for_memory = λ m stands. memory_met _ c.self.inside.graph new done;
       count = omega arith;
       names = refl;
-      given = few_given _ _ done.nodes;
+      given = few_given _ _ done.today.nodes;
       observers = done.observers;
       known_still = library_still_knows _ _ _ _ (g.met.L.Library.maps_alone l) c.stabilize.ensures.known;
       calls_grow = c.stabilize.ensures.calls_grow;
@@ -192,8 +200,10 @@ returns-in-Err-Refused-Cycle g c =
     let done = c.stabilize.ensures.refused cause.Cycle for in
     let l = c.self.inside.graph.functions.library in
     let new = c.stabilize.new.self in
+    let flat = c.keeps_sound.ensures.sound.today.no_binds in
+    let bodies = c.self.inside.graph.functions.bodies.items in
     let unbroken = rw (← c.self.view_is) at c.requires.unbroken in
-    let called = alone_called (g.L.Library.value l) c.self.inside.graph.functions.bodies.items c.self.invariant.1 c.self.inside.graph new c.keeps_sound.ensures.sound.no_binds done.same
+    let called = alone_called (g.L.Library.value l) bodies c.self.invariant.1 c.self.inside.graph new flat done.today.same
     (g.L.Library.calls l) (g.L.Library.calls new.functions.library) (c.stabilize.ensures.few cause.Cycle for) in
     rw (← c.self.view_is) (record {
       accepted = λ is. absurd (cc);
@@ -202,8 +212,7 @@ returns-in-Err-Refused-Cycle g c =
         cycle_met _ c.self.inside.graph new done,
         λ m targets stands passes.
             let c' = session_circular (g.L.Library.named l) (g.L.Library.value l) _ _ c.self.inside.graph new refl unbroken
-            c.keeps_sound.ensures.sound (alone_refused (g.L.Library.value l) c.self.inside.graph.functions.bodies.items c.self.invariant.1
-            c.self.inside.graph new c.keeps_sound.ensures.sound.no_binds cause.Cycle done) m stands targets (g.L.Library.calls l) (g.L.Library.calls new.functions.library) passes called in
+            c.keeps_sound.ensures.sound (alone_refused (g.L.Library.value l) bodies c.self.invariant.1 c.self.inside.graph new flat cause.Cycle done) m stands targets (g.L.Library.calls l) (g.L.Library.calls new.functions.library) passes called in
             circular_closed _ m _ targets c'.0 c'.1 _ _ c'.2 c'.3,
       );
       unwritten = λ is m stands.
@@ -214,7 +223,7 @@ returns-in-Err-Refused-Cycle g c =
       for_memory = tt;
       count = omega arith;
       names = refl;
-      given = few_given _ _ done.nodes;
+      given = few_given _ _ done.today.nodes;
       observers = done.observers;
       known_still = library_still_knows _ _ _ _ (g.met.L.Library.maps_alone l) c.stabilize.ensures.known;
       calls_grow = c.stabilize.ensures.calls_grow;
@@ -230,7 +239,8 @@ unreachable-requires g c =
     let done = c.stabilize.ensures.refused cause.Full for in
     let l = c.self.inside.graph.functions.library in
     never_for_full (seen_value (g.L.Library.value l)) c.self.inside.graph c.stabilize.new.self
-    (alone_refused (g.L.Library.value l) c.self.inside.graph.functions.bodies.items c.self.invariant.1 c.self.inside.graph c.stabilize.new.self c.keeps_sound.ensures.sound.no_binds cause.Full done)
+    (alone_refused (g.L.Library.value l) c.self.inside.graph.functions.bodies.items c.self.invariant.1
+    c.self.inside.graph c.stabilize.new.self c.keeps_sound.ensures.sound.today.no_binds cause.Full done)
 
 pub unreachable-requires-in-Err-Broken : goal.unreachable-requires-in-Err-Broken
 unreachable-requires-in-Err-Broken g c =
