@@ -98,13 +98,13 @@ still_confirmed s t p q k c = record {
     | inl e ↦ inl e
     | inr (inl e) ↦ inr (inl (ap (λ (f : Point → _). f (change b)) k.settled ∙ e))
     | inr (inr e) ↦ inr (inr (
-        e.0,
-        ap (λ (G : Graph). G.row p.node) k.graph ∙ e.1,
-        e.2,
-        subst (λ (G : Graph). Among q (targets G p.node e.0.def (t.out (change p.node)))) (sym k.graph)
-            (subst (λ (f : Point → Option Outcome). Among q (targets s.graph p.node e.0.def (f (change p.node)))) (sym k.out) e.3),
-        k.taken ∙ e.4,
-      ))
+      e.0,
+      ap (λ (G : Graph). G.row p.node) k.graph ∙ e.1,
+      e.2,
+      subst (λ (G : Graph). Among q (targets G p.node e.0.def (t.out (change p.node)))) (sym k.graph)
+          (subst (λ (f : Point → Option Outcome). Among q (targets s.graph p.node e.0.def (f (change p.node)))) (sym k.out) e.3),
+      k.taken ∙ e.4,
+    ))
   ];
   right = λ r row main among. k.taken ∙ c.right r (sym (ap (λ (G : Graph). G.row p.node) k.graph) ∙ row) main
       (subst (λ (f : Point → Option Outcome). Among q (targets s.graph p.node r.def (f (change p.node)))) k.out
