@@ -64,12 +64,9 @@ FitTogether parts = IsKept parts.arena parts.work
 abbrev pub AllShowStill : Functions → Parts → Parts → Type 0
 AllShowStill F old new = (n : NodeId) → ShowsStill F old new n
 
--- cutoffs stay, and so do nodes, and who was called last
+-- cutoffs stay, and so does who was called last
 abbrev pub KeepsCutoffs : Parts → Parts → Type 0
 KeepsCutoffs old new = (n : NodeId) → cutoff_at new.work n ≡ cutoff_at old.work n
-
-abbrev pub KeepsNodes : Parts → Parts → Type 0
-KeepsNodes old new = new.arena ≡ old.arena
 
 abbrev pub KeepsCalled : Parts → Parts → Type 0
 KeepsCalled old new = new.ran ≡ old.ran

@@ -1,11 +1,13 @@
--- Turns of lines that ask for no stabilize: they end alike, and make no call. No line of today's forms grabs.
+-- Turns of lines that ask for no stabilize: they end alike, and make no call. No turn asks for a form that isn't here.
 use Rattle.std.proofs.Common.{◌≡◌, ℕ, false, List, [], ◌∷◌, Option, None, Some, refl, ap, subst}
 use Rattle.inc_value.specs.Choice.{Every}
 use Rattle.script_model.specs.Check as check
 use Rattle.script_model.specs.Check.{Command, Reason, SessionBroken, command_of, names_of, first_that}
 use Rattle.script_model.specs.Formula.{Meanings}
 use Rattle.script_model.specs.Grammar as grammar
-use Rattle.script_model.specs.Laws.{OnlyStabilizesCall, GrabsNothing, NoGrabsToday}
+use Rattle.script_model.specs.Grammar.{Line}
+use Rattle.script_model.specs.Here.{is_here}
+use Rattle.script_model.specs.Laws.{OnlyStabilizesCall, OnlyHereIsAsked}
 use Rattle.script_model.specs.Request.{Request, TooLong, Blank, Malformed, TooDeep, Asks, IsRequest}
 use Rattle.script_model.specs.Run.{Turn, IsTurn, MayCall, Chain}
 use Rattle.script_model.specs.Step.{Refusal, LineTooLong, NoCommand, LineTooDeep, Cycle, Height, breaks, Verdict, Refuse, Settle, Act, Reply, Refused, Moment, Follows, Answers, verdict_of, holds, order, shows, reply_to, shown_by, first_moment}
@@ -51,20 +53,19 @@ answer_calls F m after (Asks l) replies calls other h due =
 pub only_stabilizes_call : OnlyStabilizesCall
 only_stabilizes_call F t other h = answer_calls F t.before t.after t.request t.replies t.work (λ is. other (rw is at h.asks)) h.answers h.due
 
--- ---- no grab
+-- ---- only what is here
 
-grab_is_absent : (line name bind : List ℕ) → IsRequest line (Asks (grammar.Grab name bind)) → ⊥
-grab_is_absent line name bind asks = let h = asks.1.1.here in absurd (cc)
-
-chain_grabs_nothing : (F : Meanings) (m end : Moment) (turns : List Turn) → Chain F m turns end → Every GrabsNothing turns
-chain_grabs_nothing F m end [] chain = tt
-chain_grabs_nothing F m end (t ∷ turns) chain = (
-  (λ name bind is. grab_is_absent t.line name bind (subst (IsRequest t.line) is chain.1.asks)),
-  chain_grabs_nothing F t.after end turns chain.2,
+chain_asks_here : (F : Meanings) (m end : Moment) (turns : List Turn) (line : Line) → Chain F m turns end → is_here line ≡ false
+    → Every (λ (t : Turn). t.request ≡ Asks line → ⊥) turns
+chain_asks_here F m end [] line chain absent = tt
+chain_asks_here F m end (t ∷ turns) line chain absent = (
+  (λ is. let asks : IsRequest t.line (Asks line) = subst (IsRequest t.line) is chain.1.asks in
+      let here = asks.1.1.here in absurd (cc)),
+  chain_asks_here F t.after end turns line chain.2 absent,
 )
 
-pub no_grabs_today : NoGrabsToday
-no_grabs_today F lines turns run = chain_grabs_nothing F first_moment run.end turns run.chain
+pub only_here_is_asked : OnlyHereIsAsked
+only_here_is_asked F lines turns line run absent = chain_asks_here F first_moment run.end turns line run.chain absent
 
 -- ---- one end
 

@@ -19,6 +19,7 @@ ghost use Rattle.stabilizer.specs.Round.{cutoff_at, left_by};
 ghost use Rattle.stabilizer.specs.Round.{IsInRound, RootsMore, OnlyRoots, Settles, SettleRefused};
 ghost use Rattle.stabilizer.specs.Stepping.{MainIsSettled, MainIsLeft, ChangeIsSettled, ChangeIsLeft, SettlesLeast};
 ghost use Rattle.stabilizer.specs.Stepping.{Steps, StepRefused, StepFalls};
+ghost use Rattle.stabilizer.specs.Today.{NodesStay};
 ghost use Rattle.stabilizer.specs.Wiring.{PutsRoots, RootRefused, KeepsPlaces};
 
 use crate::parts::Parts;
@@ -50,7 +51,7 @@ impl Stabilizer {
         ensures uncalled { IfOk result (λ more. IsFalse more → F.calls functions.new ≡ F.calls functions.old) }
         ensures refused { IfErr result (StepRefused (meaning_of F.Functions functions.old) parts.old.arena parts.old.work
             parts.new.work (F.calls functions.old) (F.calls functions.new)) }
-        ensures arena { parts.new.arena ≡ parts.old.arena }
+        ensures arena { NodesStay parts.old.arena parts.new.arena }
         ensures kept { IsKept parts.new.arena parts.new.work }
         ensures quiet { OnOk result (parts.new.work.todo.items ≡ []) }
         ensures falls { IfOk result (λ more. IsTrue more → StepFalls (meaning_of F.Functions functions.old)
@@ -105,7 +106,7 @@ impl Stabilizer {
         ensures shows { OnErr result ((n : NodeId)
             → ShowsStill (functions_of F.Functions functions.old) parts.old parts.new n) }
         ensures ran { OnErr result (parts.new.ran ≡ parts.old.ran) }
-        ensures arena { parts.new.arena ≡ parts.old.arena }
+        ensures arena { NodesStay parts.old.arena parts.new.arena }
         ensures functions { KeepsFunctions F.Functions functions.old functions.new }
     {
         let Some(next) = parts.work.round.checked_add(1) else {
@@ -151,7 +152,7 @@ fn settle_all<F: Functions>(parts: &mut Parts, functions: &mut F) -> Result<(), 
     ensures empty { OnOk result (IsEmpty parts.new.work.graph.heap) }
     ensures refused { IfErr result (SettleRefused (meaning_of F.Functions functions.old) parts.old.arena parts.old.work
         parts.new.work (F.calls functions.old) (F.calls functions.new)) }
-    ensures arena { parts.new.arena ≡ parts.old.arena }
+    ensures arena { NodesStay parts.old.arena parts.new.arena }
     ensures kept { IsKept parts.new.arena parts.new.work }
     ensures quiet { OnOk result (parts.new.work.todo.items ≡ []) }
     ensures roots { KeepsRoots parts.old.work.graph.roots parts.new.work.graph.roots }
@@ -179,7 +180,7 @@ fn step_main<F: Functions>(
     ensures refused { OnErr result (MainIsLeft parts.old.arena parts.old.work parts.new.work node
         (F.calls functions.old) (F.calls functions.new)) }
     ensures memory { IfErr result (λ e. e ≡ Refused.Memory) }
-    ensures arena { parts.new.arena ≡ parts.old.arena }
+    ensures arena { NodesStay parts.old.arena parts.new.arena }
     ensures ran { parts.new.ran ≡ parts.old.ran }
     ensures kept { IsKept parts.new.arena parts.new.work }
     ensures functions { KeepsFunctions F.Functions functions.old functions.new }
@@ -213,7 +214,7 @@ fn step_change(parts: &mut Parts, node: NodeId) -> Result<(), Refused>
     requires quiet { parts.old.work.todo.items ≡ [] }
     ensures settled { OnOk result (ChangeIsSettled parts.old.arena parts.old.work parts.new.work node) }
     ensures refused { IfErr result (ChangeIsLeft parts.old.arena parts.old.work parts.new.work node) }
-    ensures arena { parts.new.arena ≡ parts.old.arena }
+    ensures arena { NodesStay parts.old.arena parts.new.arena }
     ensures ran { parts.new.ran ≡ parts.old.ran }
     ensures kept { IsKept parts.new.arena parts.new.work }
     ensures quiet { OnOk result (parts.new.work.todo.items ≡ []) }
