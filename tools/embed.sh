@@ -66,7 +66,7 @@ is_current() {
     [ -f "$1" ] || return 1
     archive=$1
     set -- crates.txt
-    for crate in incr_c $(sed -n 's/^incr_c staticlib: *//p' crates.txt); do
+    for crate in $(awk -v top=incr_c -f tools/below.awk crates.txt); do
         for part in src specs proofs; do
             [ ! -d "crates/$crate/$part" ] || set -- "$@" "crates/$crate/$part"
         done

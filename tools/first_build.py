@@ -26,14 +26,20 @@ NEEDED = 4 << 30
 
 
 def crates_below(name):
-    """Returns of the program and of each crate of the repository that it stands on its line of crates.txt and the crates below it."""
+    """Returns of the program and of each crate that it stands on, directly or through others, its line of crates.txt and the crates on that."""
     with open(f"{ROOT}/crates.txt", encoding="utf-8") as file:
         lines = [line.strip() for line in file]
     named = {line.split(":")[0].split()[0]: line for line in lines if line and not line.startswith("#")}
     if name not in named:
         sys.exit(f"incr: crates.txt names no crate {name}")
-    wanted = {name, *named[name].split(":")[1].split()}
-    return {it: (line, {below for below in line.split(":")[1].split() if below in named}) for it, line in named.items() if it in wanted}
+    below = {it: {word for word in line.split(":")[1].split() if word in named} for it, line in named.items()}
+    wanted, left = set(), [name]
+    while left:
+        it = left.pop()
+        if it not in wanted:
+            wanted.add(it)
+            left += below[it]
+    return {it: (line, below[it]) for it, line in named.items() if it in wanted}
 
 
 def copy_crates(crates, room):
@@ -210,7 +216,7 @@ def main():
         began = time.time()
         build = Build(name, room)
         progress = build.progress
-        print(f"incr: proving the {len(build.crates)} crates that the program stands on, which takes some 70 minutes of a processor, once", file=sys.stderr)
+        print(f"incr: proving the {len(build.crates)} crates that the program stands on, which takes some 80 minutes of a processor, once", file=sys.stderr)
         try:
             failed = build.run()
         except (KeyboardInterrupt, SystemExit):

@@ -2,7 +2,7 @@
 
 use height_order::LinkFault;
 use inc_value::{NodeId, Part, Point};
-use necessary_graph::NecessaryGraph;
+use necessary_graph::{Leaves, NecessaryGraph};
 use std::alloc::Global;
 
 /// What is done to a graph of points, which go by their slots.
@@ -166,7 +166,32 @@ const CYCLE: &[(Act, i64)] = &[
     (Act::State(3), 100),
 ];
 
+/// A leaf goes with its last reader, and with its last root.
+const LEAVES: &[(Act, i64)] = &[
+    (Act::Add(0), DONE),
+    (Act::Add(1), DONE),
+    (Act::Add(500), DONE),
+    (Act::Add(501), DONE),
+    (Act::Root(0), DONE),
+    (Act::Link(0, 1), DONE),
+    (Act::Link(0, 500), DONE),
+    (Act::Link(1, 500), DONE),
+    (Act::Link(1, 500), DONE),
+    (Act::Root(501), DONE),
+    (Act::Unlink(0), DONE),
+    (Act::State(1), 0),
+    (Act::Height(1), 1),
+    (Act::State(500), 100),
+    (Act::Unlink(0), DONE),
+    (Act::State(500), 0),
+    (Act::Height(500), NONE),
+    (Act::Unroot(501), DONE),
+    (Act::Height(501), NONE),
+    (Act::Drop(1), DONE),
+];
+
 const TABLES: &[&[(Act, i64)]] = &[
+    LEAVES,
     LOWEST_FIRST,
     NO_LONGER_NEEDED,
     ROOT_OFF,
@@ -182,6 +207,20 @@ fn point(slot: usize) -> Point {
     Point {
         node: NodeId { slot, gen_: 0 },
         part: Part::Main,
+    }
+}
+
+/// The points from slot 500 on are leaves.
+#[derive(Drop)]
+struct HighSlots {}
+
+impl Leaves for HighSlots {
+    ghost use Rattle.std.specs.Prelude.{nat_le};
+
+    ghost is_leaf = { λ s p. nat_le 500 p.node.slot };
+
+    fn has(&self, p: Point) -> bool {
+        p.node.slot >= 500
     }
 }
 
@@ -239,7 +278,7 @@ fn root(graph: &mut NecessaryGraph, p: Point) -> i64 {
 
 fn unroot(graph: &mut NecessaryGraph, p: Point) -> i64 {
     if graph.is_root(p) {
-        graph.root_off(p);
+        graph.root_off(p, &HighSlots {});
         return DONE;
     }
     NONE
@@ -278,7 +317,7 @@ fn chain(graph: &mut NecessaryGraph, count: usize) -> i64 {
 
 fn unlink_first(graph: &mut NecessaryGraph, p: Point) -> i64 {
     if let Some(kid) = graph.kids(p).next() {
-        graph.unlink(p, kid);
+        graph.unlink(p, kid, &HighSlots {});
         return DONE;
     }
     NONE

@@ -2,12 +2,14 @@
 ghost use Rattle.std.specs.Prelude.{◌≡◌, ◌≤◌, IfOk, IsErr, None, Some};
 ghost use Rattle.bench_engine.specs.Shown.{number_in, shown_by};
 
+use crate::checks::{can_bind, can_keep};
 use crate::fault::{Fault, of_graph, of_stabilize};
-use graph::{Cutoff, Graph};
-use inc_value::{Base, NodeId, ObsId, Outcome, Ty, Value};
-use script_functions::ScriptFns;
+use graph::{Cutoff, Graph, Kept, StabilizeFault};
+use inc_value::{Base, FnRef, NodeId, ObsId, Outcome, Ty, Value};
+use script_functions::{Body, ScriptFns};
 use std::alloc::Global;
 use std::marker::Model;
+use std::mem;
 use std_library::{Function, StdLib};
 
 /// A graph over the standard library.
@@ -37,6 +39,26 @@ fn number_of(outcome: &Outcome) -> Result<i64, Fault>
     }
 }
 
+/// The number of an outcome, or none where it is Invalid. A text has none.
+fn number_or_invalid(outcome: &Outcome) -> Result<Option<i64>, Fault>
+    ensures { IfOk result (λ number. number ≡ number_in outcome.now) }
+{
+    match outcome {
+        Outcome::Invalid => Ok(None),
+        _ => Ok(Some(number_of(outcome)?)),
+    }
+}
+
+/// How a stabilize ended that wasn't stopped by want of memory.
+#[derive(Clone, Copy, PartialEq, Eq)]
+pub enum Ending {
+    /// It was accepted.
+    Accepted,
+
+    /// It was refused for a circle or a chain that is too long.
+    Refused,
+}
+
 impl Engine {
     /// A graph without nodes.
     pub fn new(alloc: Global) -> Engine
@@ -50,6 +72,20 @@ impl Engine {
     /// Gives all memory back: the graph's own drop of what it has, as its functions keep none.
     pub fn end(self) {
         self.graph.into_functions();
+    }
+
+    /// Gives all memory back, and begins a graph without nodes.
+    pub fn clear(&mut self, alloc: Global)
+        ensures { self.new.calls ≡ 0 }
+    {
+        let empty = Graph::new(alloc, ScriptFns::new(alloc, StdLib::new()));
+        let full = mem::replace(&mut self.graph, empty);
+        full.into_functions();
+    }
+
+    /// How often right sides were built so far.
+    pub fn builds(&self) -> u64 {
+        self.graph.functions().builds()
     }
 
     /// How many functions were called so far.
@@ -105,6 +141,54 @@ impl Engine {
     {
         match self.graph.join(Ty::Int, reference) {
             Ok(node) => Ok(node),
+            Err(fault) => Err(of_graph(fault)),
+        }
+    }
+
+    /// Keeps the right sides of binds. They are refused where a function that their lines call isn't known, lists further
+    /// nodes or takes more nodes than the line tells.
+    pub fn keep(&mut self, body: Body) -> Result<FnRef, Fault>
+        ensures uncalled { self.new.calls ≡ self.old.calls }
+    {
+        if !can_keep(self.graph.functions(), &body) {
+            drop(body);
+            return Err(Fault::Refused);
+        }
+        match self.graph.more(body) {
+            Ok(f) => Ok(f),
+            Err((fault, body)) => {
+                drop(body);
+                Err(of_graph(fault))
+            }
+        }
+    }
+
+    /// Makes a bind on a node over captured ones, whose right sides were kept. It is refused where these aren't known, or list
+    /// a live node with another type than its own, or one that was never given.
+    pub fn bind(&mut self, left: NodeId, f: FnRef, captures: &[NodeId]) -> Result<NodeId, Fault>
+        ensures uncalled { self.new.calls ≡ self.old.calls }
+    {
+        if !can_bind(&self.graph, &f) {
+            return Err(Fault::Refused);
+        }
+        match self.graph.bind(left, f, captures) {
+            Ok(node) => Ok(node),
+            Err(fault) => Err(of_graph(fault)),
+        }
+    }
+
+    /// The root of what a bind is built for, if it is a live bind that is built for a value.
+    pub fn right_side(&self, node: NodeId) -> Result<Option<NodeId>, Fault> {
+        match self.graph.right_side(node) {
+            Ok(root) => Ok(root),
+            Err(fault) => Err(of_graph(fault)),
+        }
+    }
+
+    /// Whether a node is live.
+    pub fn is_live(&self, node: NodeId) -> Result<bool, Fault> {
+        match self.graph.is_live(node) {
+            Ok(live) => Ok(live),
             Err(fault) => Err(of_graph(fault)),
         }
     }
@@ -197,6 +281,27 @@ impl Engine {
         match self.graph.stabilize() {
             Ok(()) => Ok(()),
             Err(fault) => Err(of_stabilize(fault)),
+        }
+    }
+
+    /// Brings what is observed up to date, and tells whether that was accepted.
+    pub fn try_stabilize(&mut self) -> Result<Ending, Fault>
+        ensures calls_grow { self.old.calls ≤ self.new.calls }
+    {
+        match self.graph.stabilize() {
+            Ok(()) => Ok(Ending::Accepted),
+            Err(StabilizeFault::Refused(Kept::Cycle | Kept::Height)) => Ok(Ending::Refused),
+            Err(fault) => Err(of_stabilize(fault)),
+        }
+    }
+
+    /// The number that an observer shows, or none where it shows Invalid.
+    pub fn shown_or_invalid(&self, observer: ObsId) -> Result<Option<i64>, Fault>
+        ensures { IfOk result (λ number. number ≡ shown_by self.now observer) }
+    {
+        match self.graph.value(observer) {
+            Ok(outcome) => number_or_invalid(outcome),
+            Err(fault) => Err(of_graph(fault)),
         }
     }
 

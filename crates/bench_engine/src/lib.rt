@@ -2,10 +2,11 @@
 //! what it comes to.
 #![tactic(auto)]
 
+mod checks;
 mod engine;
 mod fault;
 mod verdict;
 
-pub use engine::Engine;
+pub use engine::{Ending, Engine};
 pub use fault::Fault;
 pub use verdict::{Findings, Verdict, publish, status};

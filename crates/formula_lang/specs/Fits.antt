@@ -1,5 +1,6 @@
 -- What is true of every command that is allowed: its names, functions and types fit together.
 use Rattle.std.specs.Prelude.{◌≡◌, ◌<◌, ◌≤◌, ℕ, Bool, List, [], ◌∷◌, length, None, Some, slice_get, IsTrue, IsFalse}
+use Rattle.formula_lang.specs.Here.{OtherFits}
 use Rattle.inc_value.specs.Sig.{IsMapSig}
 use Rattle.inc_value.specs.Ty.{IsBase, type_of_base}
 use Rattle.inc_value.specs.declared.function.FnKind.TheVariants.{Map}
@@ -48,7 +49,7 @@ abbrev mutual
       × ElementsFit known names elements element
   FormulaFits known names (If test a b) ty = FormulaFits known names test types.Bool × FormulaFits known names a ty × FormulaFits known names b ty
   FormulaFits known names (Join child) ty = (base : Base) × FormulaFits known names child (types.Node base) × (type_of_base base ≡ ty)
-  FormulaFits known names f ty = ⊥
+  FormulaFits known names f ty = OtherFits
 
   -- each argument has the type that is listed for it, and there are as many
   pub ArgumentsFit : (FnRef → Bool) → Names → Formulas → List Ty → Type 0
@@ -66,7 +67,7 @@ abbrev mutual
 abbrev pub BodyFits : (FnRef → Bool) → Names → Body → Ty → Type 0
 BodyFits known names (Variable v) ty = ValueFits names v ty
 BodyFits known names (Computed f kept) ty = FormulaFits known names f ty × (kept ≡ nothing_kept)
-BodyFits known names body ty = ⊥
+BodyFits known names body ty = OtherFits
 
 -- a new name that may be declared; the name that it stands for comes no later
 pub record DeclarationFits (known : FnRef → Bool) (names : Names) (name : List ℕ) (ty : Ty) (body : Body) : Type 0 where
@@ -93,4 +94,4 @@ FitsNames known names (Observe observer target) = ObserverFits names observer ta
 FitsNames known names (Unobserve observer) = IsTrue (is_among names.observers observer)
 FitsNames known names Stabilize = Unit {0}
 FitsNames known names (Show observer) = IsTrue (is_among names.observers observer)
-FitsNames known names command = ⊥
+FitsNames known names command = OtherFits

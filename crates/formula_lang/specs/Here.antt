@@ -1,5 +1,5 @@
--- Formulas of the forms that are here, as the code goes through them; of any other form nothing is told. Contracts of
--- private functions cite them, those of public ones none.
+-- The forms that are here: formulas as the code goes through them, of any other form nothing is told (contracts of private
+-- functions cite these, those of public ones none); and what fits of other forms, which is nothing.
 use Rattle.std.specs.Prelude.{ℕ, List, [], ◌∷◌, ◌++◌, Option, None, Some}
 use Rattle.inc_value.specs.Choice.{and_then}
 use Rattle.script_model.specs.Check.{Names, TypedFormula, TypedFormulas, applied, before, branched, find_declared, folded, join_of, referred_names, typed_as, typed_literal}
@@ -52,3 +52,7 @@ abbrev mutual
   typed_each_here F names End = Some (record { formulas = model.End; tys = [] })
   typed_each_here F names (More first rest) =
       and_then (typed_here F names first) (λ t. and_then (typed_each_here F names rest) (λ ts. Some (before t ts)))
+
+-- a formula, a declaration or a command of another form fits its names and types: none is allowed yet
+abbrev pub OtherFits : Type 0
+OtherFits = ⊥

@@ -12,20 +12,30 @@ use Rattle.link_table.specs.Links.{times}
 use Rattle.necessity.specs.Need.{root_times}
 use Rattle.node_arena.specs.Arena.{Arena, row_at}
 use Rattle.stabilize_round.proofs.Points.{same_or_other}
-use Rattle.node_outcomes.specs.Computing.{seen_of, seen}
-use Rattle.stabilizer.specs.Kept.{IsKept}
+use Rattle.inc_value.specs.declared.node.Part.TheVariants.{Main}
+use Rattle.node_outcomes.specs.Computing.{seen_of, seen, has_part}
+use Rattle.wiring.specs.Kept.{IsKept}
 use Rattle.node_outcomes.specs.Meaning.{Meaning}
 use Rattle.stabilizer.specs.Round.{IsReady, last_of}
 use Rattle.node_outcomes.specs.Row.{IsRewritten, with_cutoff, outcome_in, cutoff_in}
 use Rattle.stabilizer.specs.declared.parts.Parts.{Parts}
-use Rattle.stabilizer.specs.declared.refused.Refused.{Refused}
+use Rattle.wiring.specs.declared.refused.Refused.{Refused}
 use Rattle.node_outcomes.specs.declared.row.Progress.{Progress}
+use Rattle.wiring.specs.declared.work.Work.{Work}
 use Rattle.graph.specs.Effects.{SetsCutoff}
-use Rattle.stabilizer.proofs.Beginning.{main_there}
 use Rattle.graph.specs.Inside.{FitsInside}
 use Rattle.graph.specs.Standing.{Standing}
 use Rattle.graph.proofs.Seeing.{seen_as}
 use Rattle.graph.specs.declared.observer.Observer.{Observer}
+use Rattle.graph.proofs.Sound.{ready_built}
+
+-- a live node has a main
+has_main : (x : Option Row) → has_part x Main ≡ is_some x
+has_main None = refl
+has_main (Some r) = refl
+
+main_there : (arena : Arena) (work : Work) → IsKept arena work → (n : NodeId) → is_some (at work.rows (main n)) ≡ is_some (row_at arena n)
+main_there arena work kept n = kept.rows (main n) ∙ has_main (row_at arena n)
 
 seen_still : (c : Cutoff) (x : Option Progress) → seen_of (option_map (with_cutoff c) x) ≡ seen_of x
 seen_still c None = refl
@@ -62,12 +72,13 @@ module _ (old new : Parts) (id : NodeId) (c : Cutoff) (set : IsRewritten old.wor
 
   pub sound_cut : (M : Meaning) (observers : List Observer) (rooted : ℕ) (refused : Option Refused)
       → FitsInside M old observers rooted refused → refused ≡ None
-      → (IsReady M old.arena old.work → IsReady M new.arena new.work)
+      → (IsReady M old → IsReady M new)
       → FitsInside M new observers rooted refused
   sound_cut M observers rooted refused sound still ready = record {
     few = sound.few;
     earlier = sound.earlier;
     kept = (ready (sound.unbroken still).ready).kept;
+    built = ready_built M new (ready (sound.unbroken still).ready);
     unbroken = λ whole. let can = sound.unbroken whole in record {
       ready = ready can.ready;
       roots = λ p. ap (λ (x : Parts). root_times x.work.graph.roots p) rest ∙ can.roots p;

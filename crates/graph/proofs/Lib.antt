@@ -9,5 +9,10 @@ pub mod Rounding
 pub mod Unobserving
 pub mod TakingBack
 pub mod Cutting
-pub mod Still
+pub mod Dead
 mod Certain
+pub mod Owning
+pub mod Fitting
+pub mod Leaving
+pub mod Knowing
+pub mod Flat

@@ -1,33 +1,33 @@
 -- A round of the parts, told of the graph.
-use Rattle.std.proofs.Common.{◌≡◌, inl, inr, ℕ, ◌+◌, ◌<◌, true, List, [], ◌∷◌, length, Option, None, Some, refl, sym, ap, subst, ◌∙◌, arith}
+use Rattle.std.proofs.Common.{◌≡◌, ◌⊎◌, inl, inr, ℕ, ◌+◌, ◌<◌, ◌≤◌, true, List, [], ◌∷◌, length, Option, None, Some, refl, sym, ap, subst, ◌∙◌}
 use Rattle.inc_value.specs.declared.node.NodeId.{NodeId}
 use Rattle.inc_value.specs.declared.node.Point.{Point}
 use Rattle.inc_value.specs.Choice.{here}
-use Rattle.inc_terms.specs.Depend.{main}
-use Rattle.inc_terms.specs.Graph.{Graph}
+use Rattle.inc_terms.specs.Depend.{main, change}
+use Rattle.inc_terms.specs.Graph.{Graph, Row}
 use Rattle.inc_terms.specs.Need.{Beside, Observed, Met, from_root, from_held}
 use Rattle.inc_terms.specs.Term.{Functions}
 use Rattle.necessary_graph.specs.Part as part
-use Rattle.node_arena.specs.Arena.{Arena, row_at}
+use Rattle.inc_terms.specs.Within.{Given}
+use Rattle.node_arena.specs.Arena.{row_at}
 use Rattle.stabilize_round.specs.Laws.{GraphStays}
 use Rattle.point_map.specs.Rows.{at}
 use Rattle.stabilizer.specs.Round as round
 use Rattle.stabilizer.specs.declared.parts.Parts.{Parts}
-use Rattle.stabilizer.specs.declared.refused.Refused.{Refused}
-use Rattle.stabilizer.specs.declared.refused.Refused.TheVariants.{Height, Cycle, Full, Memory}
+use Rattle.wiring.specs.declared.refused.Refused.{Refused}
+use Rattle.wiring.specs.declared.refused.Refused.TheVariants.{Height, Cycle, Full, Memory}
 use Rattle.graph.specs.Fault.{kept_of}
 use Rattle.graph.specs.Stabilizes.{ComesBack, AllButLast, StoodBeside, WasForced, WasCalledIn, Stabilizes, StabilizesIn, IsListedIn, IsLawfulIn, HasCalledMetIn, IsTried, LeavesTried}
-use Rattle.graph.specs.Stabilizes.{left_by, died_by}
+use Rattle.graph.specs.Stabilizes.{left_by, died_by, LeavesNodes, StandsAnew, IsBuiltMetIn, IsUnbuiltIn, BuildsRightIn}
 use Rattle.graph.specs.Stabilizes.{IsRefusedFor}
 use Rattle.graph.specs.Standing.{Standing, graph, IsNeeded, in_use, settled_last}
 use Rattle.graph.specs.declared.fault.Kept.{Kept}
 use Rattle.graph.specs.declared.observer.Observer.{Observer}
 use Rattle.graph.proofs.Observing.{looked_among}
 use Rattle.graph.proofs.Seeing.{seen_as, needed_in, needed_out, cutoff_never, never_is, settled_once}
-use Rattle.stabilizer.specs.Graph.{graph_at}
-use Rattle.stabilizer.specs.Round.{graph_in}
-use Rattle.stabilizer.specs.Today.{NoBinds}
-use Rattle.stabilizer.proofs.Holding.{graph_any}
+use Rattle.stabilizer.specs.Building.{LeavesNoRoom}
+use Rattle.stabilizer.specs.Kept.{graph_in}
+use Rattle.wiring.specs.Stands.{Counts}
 
 -- more that was held, more is met
 met_more : (M : Functions) (G : Graph) (died : NodeId → Option NodeId) (observed : List NodeId) (held more : Point → Type 0)
@@ -50,20 +50,6 @@ comes_back points c = record {
   once = c.once;
   long = c.long;
 }
-
--- nodes that are the same stay
-nodes_stay : (old new : Parts) → new.arena ≡ old.arena → GraphStays old.arena.given new.arena.given (graph_in old) (graph_in new)
-nodes_stay old new same = record {
-  given = rw same (omega arith);
-  clock = refl;
-  frozen = λ n given. refl;
-  lists = λ n given. refl;
-  rows = λ n given. inl (ap (λ (a : Arena). row_at a n) same);
-}
-
--- where none of them is a bind, so does the graph
-pub graph_stays : (old new : Parts) → new.arena ≡ old.arena → NoBinds old.arena → graph_in new ≡ graph_in old
-graph_stays old new same no_binds = ap (λ (a : Arena). graph_at a new.work) same ∙ graph_any old.arena no_binds old.work new.work
 
 -- ---- what was before the round
 
@@ -102,6 +88,25 @@ module _ {F : Type 0} (M : Functions) (G : Graph) (died : NodeId → Option Node
     met = λ n among. met_in (main n) (h.met n among);
   }
 
+  built_in : (b : NodeId) → round.IsBuiltMetIn M G died parts.work (in_use observers) b → IsBuiltMetIn M G died before b
+  built_in b h = record { right = h.right; met = met_in (change b) h.met }
+
+  unbuilt_in : (b : NodeId) → round.IsUnbuiltIn M G died parts.work (in_use observers) b → IsUnbuiltIn M G died before b
+  unbuilt_in b h = record { none = h.none; differs = h.differs; met = met_in (change b) h.met }
+
+  pub builds_in : (unbuilt : Option NodeId)
+      → round.BuildsRightIn M G died (graph_in parts) parts.arena.given parts.work (in_use observers) unbuilt → BuildsRightIn M G died before unbuilt
+  builds_in unbuilt h = record {
+    stays = λ b r given row. elim (h.stays b r given row) [
+      | inl same ↦ inl same
+      | inr (inl right) ↦ inr (inl (built_in b right))
+      | inr (inr is) ↦ inr (inr is)
+    ];
+    made = λ b r late row. elim (h.made b r late row) [ inl none ↦ inl none | inr right ↦ inr (built_in b right) ];
+    refused = λ b is. unbuilt_in b (h.refused b is);
+    was = h.was;
+  }
+
 -- ---- an accepted round
 
 module _ {F : Type 0} (M : Functions) (functions functions' : F) (old new : Parts) (observers : List Observer) (rooted all : ℕ)
@@ -138,12 +143,14 @@ module _ {F : Type 0} (M : Functions) (functions functions' : F) (old new : Part
       met = met_in M G died functions old observers rooted refused (main n) w.met;
     }
 
-    pub accepted_in : (after : Graph) → new.arena ≡ old.arena → NoBinds old.arena
+    pub accepted_in : (after : Graph) → GraphStays old.arena.given new.arena.given (graph_in old) (graph_in new)
+        → round.BuildsRightIn M G died (graph_in old) old.arena.given old.work (in_use observers) None
         → round.IsUpToDateIn M G died after old.work new.work (in_use observers) new.ran.items → StabilizesIn M G died after was now
-    accepted_in after arena no_binds right = record {
+    accepted_in after rest builds right = record {
       was = still;
       unbroken = still;
-      stays = nodes_stay old new arena;
+      stays = rest;
+      builds = builds_in M G died functions old observers rooted refused None builds;
       observers = refl;
       rooted = are_all;
       shows = λ o n is. let s = right.sees n (n, inl (looked_among observers o.0 n is), here) in (s.0, s.1, s.2);
@@ -158,19 +165,17 @@ module _ {F : Type 0} (M : Functions) (functions functions' : F) (old new : Part
       shallow = right.shallow;
       links = λ p q need. right.links p q (needed_in functions' new observers all refused p need);
       recalls = λ n r kids values need. right.recalls n r kids values (needed_in functions' new observers all refused (main n) need);
-      kept = λ n not. elim (right.kept n not) [ inl same ↦ inl same | inr c ↦ inr (called_in n c.0, c.1) ];
+      kept = λ n r row not. elim (right.kept n r row not) [ inl same ↦ inl same | inr c ↦ inr (called_in n c.0, c.1) ];
       costs = right.costs;
       cutoff = right.cutoffs;
       once = right.once;
       called = λ n among. called_in n (right.called n among);
       work = λ beside observed stood. right.work beside observed (stood_in M G died functions old observers rooted refused beside observed stood);
-      today = record { nodes = arena; same = graph_stays old new arena no_binds };
     }
 
-  pub accepted : 0 < old.work.round → new.work.round ≡ old.work.round + 1 → new.arena ≡ old.arena → NoBinds old.arena
-      → round.IsUpToDate M old new (in_use observers) → Stabilizes M was now
-  accepted numbered next arena no_binds right =
-      accepted_in (left_by was now) (died_by was now) numbered next (graph now) arena no_binds right
+  pub accepted : 0 < old.work.round → new.work.round ≡ old.work.round + 1 → GraphStays old.arena.given new.arena.given (graph_in old) (graph_in new)
+      → round.BuildsAll M old new (in_use observers) → round.IsUpToDate M old new (in_use observers) → Stabilizes M was now
+  accepted numbered next rest builds right = accepted_in (left_by was now) (died_by was now) numbered next (graph now) rest builds right
 
 -- ---- a refused round
 
@@ -195,14 +200,28 @@ module _ {F : Type 0} (functions : F) (parts : Parts) (observers : List Observer
 
 module _ {F : Type 0} (M : Functions) (functions functions' : F) (old new : Parts) (observers : List Observer) (rooted : ℕ) (refused : Option Refused)
     (still : refused ≡ None) where
-  pub refused_in : (met : Refused) (cause : Kept) → kept_of met ≡ cause → new.arena ≡ old.arena → NoBinds old.arena → new.ran ≡ old.ran
-      → ((n : NodeId) → round.cutoff_at new.work n ≡ round.cutoff_at old.work n)
-      → ((n : NodeId) → round.ShowsStill M old new n)
+  full_in : (met : Refused) → round.IsFullBy old.arena new.arena met → met ≡ Full → (count : ℕ) × (old.arena.given ≤ count) × LeavesNoRoom count new.arena
+  full_in Full h e = h
+  full_in (Height points) h e = absurd cc
+  full_in (Cycle points) h e = absurd cc
+  full_in Memory h e = absurd cc
+
+  build_in : (met : Refused) → round.RefusesBuild met → (met ≡ Full) ⊎ (met ≡ Memory)
+  build_in Full h = inl refl
+  build_in Memory h = inr refl
+  build_in (Height points) h = absurd h
+  build_in (Cycle points) h = absurd h
+
+  pub refused_in : (met : Refused) (cause : Kept) → kept_of met ≡ cause → GraphStays old.arena.given new.arena.given (graph_in old) (graph_in new)
+      → new.ran ≡ old.ran
+      → ((n : NodeId) (r : Row) → row_at new.arena n ≡ Some r → round.cutoff_at new.work n ≡ round.cutoff_at old.work n)
+      → ((n : NodeId) → Given old.arena.given n → round.ShowsStill M old new n)
       → round.IsLawful M old new (in_use observers) met → round.LeavesTried new.arena new.work met
+      → round.BuildsAllBut M old new (in_use observers) met
       → IsRefusedFor M (seen_as functions old observers rooted refused) (seen_as functions' new observers rooted (Some met)) cause
-  refused_in met cause is arena no_binds ran cutoffs shows lawful tried = record {
+  refused_in met cause is rest ran cutoffs shows lawful tried builds = record {
     was = still;
-    stays = nodes_stay old new arena;
+    stays = rest;
     observers = refl;
     rooted = refl;
     ran = ap (λ v. v.items) ran;
@@ -211,7 +230,29 @@ module _ {F : Type 0} (M : Functions) (functions functions' : F) (old new : Part
     met = met;
     broken = refl;
     is_cause = is;
-    lawful = lawful_in M (round.left_by old new) (round.died_by old new) functions old observers rooted refused met lawful;
+    lawful = lawful_in M (round.left_by old new) (round.died_by old new) functions old observers rooted refused met lawful.0;
     tried = tried_in functions' new observers rooted met met tried;
-    today = record { nodes = arena; same = graph_stays old new arena no_binds };
+    unbuilt = builds.0;
+    builds = builds_in M (round.left_by old new) (round.died_by old new) functions old observers rooted refused builds.0 builds.1;
+    build = λ b e. build_in met (builds.2 b e);
+    full = full_in met lawful.1;
+  }
+
+-- ---- what a round leaves of the nodes
+
+module _ {F : Type 0} (M : Functions) (functions functions' : F) (old new : Parts) (observers : List Observer) (rooted rooted' : ℕ)
+    (refused refused' : Option Refused) (before after : Counts) where
+  abbrev stands_anew : (n : NodeId) → round.StandsAnewBy old new n
+      → StandsAnew (seen_as functions old observers rooted refused) (seen_as functions' new observers rooted' refused') n
+  stands_anew n a = record { bind = a.bind; row = a.row; given = a.given; is_row = a.is_row; inside = a.inside; there = a.there }
+
+  pub leaves_nodes : round.IsLeftBy M old new before after
+      → LeavesNodes M (seen_as functions old observers rooted refused) (seen_as functions' new observers rooted' refused') before after
+  leaves_nodes l = record {
+    dead = l.dead;
+    killed = l.killed;
+    roots = l.roots;
+    born = λ n r late row. let b = l.born n r late row in (stands_anew n b.0, b.1);
+    builds = l.builds;
+    adds = l.adds;
   }

@@ -15,7 +15,7 @@ use Rattle.node_outcomes.specs.declared.row.Progress.{Progress}
 use Rattle.point_map.specs.Rows.{at}
 use Rattle.stabilizer.specs.Round.{last_of, cutoff_at}
 use Rattle.stabilizer.specs.declared.parts.Parts.{Parts}
-use Rattle.stabilizer.specs.declared.refused.Refused.{Refused}
+use Rattle.wiring.specs.declared.refused.Refused.{Refused}
 use Rattle.graph.specs.Effects.{KeepsBeside}
 use Rattle.graph.specs.Standing.{Standing, IsNeeded, settled_before}
 use Rattle.graph.specs.declared.observer.Observer.{Observer}

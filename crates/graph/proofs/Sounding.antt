@@ -1,79 +1,40 @@
 -- What every graph keeps, where a node is added.
-use Rattle.std.proofs.Common.{◌≡◌, ◌⊎◌, inl, inr, ℕ, zero, suc, ◌+◌, ◌<◌, ◌≤◌, Bool, List, [], ◌∷◌, Option, None, Some, Ok, Err, ap, subst, ◌∙◌, arith}
-use Rattle.std.specs.Prelude.{Result, IfOk, OnOk, OnErr, IsErrOf, IsTrue}
+use Rattle.std.proofs.Common.{◌≡◌, ◌⊎◌, inl, inr, ℕ, zero, suc, ◌+◌, ◌<◌, ◌≤◌, Bool, List, Option, None, Some, Ok, Err, sym, ap, subst, ◌∙◌, arith}
+use Rattle.std.specs.Prelude.{Result, IfOk, OnOk, OnErr, IsErrOf}
 use Rattle.inc_value.specs.declared.function.FnRef.{FnRef}
 use Rattle.inc_value.specs.declared.node.NodeId.{NodeId}
 use Rattle.inc_value.specs.declared.node.Point.{Point}
 use Rattle.inc_value.specs.declared.value.Value.{Value}
 use Rattle.inc_terms.specs.Depend.{main}
-use Rattle.inc_terms.specs.Graph as graph
-use Rattle.inc_terms.specs.Graph.{Row, Def}
-use Rattle.inc_terms.specs.Within.{Given, Fit}
+use Rattle.inc_terms.specs.Graph.{Def}
+use Rattle.inc_terms.specs.Within.{Given}
 use Rattle.inc_value.specs.declared.ty.Ty.{Ty}
 use Rattle.point_map.specs.Rows.{at}
 use Rattle.necessity.specs.Need.{root_times}
 use Rattle.node_arena.specs.declared.arena.AddFault.{AddFault}
 use Rattle.node_arena.specs.declared.arena.AddFault.TheVariants as add
-use Rattle.node_arena.specs.Arena.{Arena, Changes, NamesGiven}
+use Rattle.node_arena.specs.Arena.{Arena, row_at, Changes, NamesGiven}
 use Rattle.node_arena.specs.Graph.{CallsFit}
-use Rattle.node_arena.specs.Listing.{nodes_of}
 use Rattle.node_arena.specs.RightSide.{RightSide, SidesHold}
-use Rattle.node_arena.specs.RightSideLaws.{meaning, ids_of}
+use Rattle.node_arena.specs.RightSideLaws.{meaning, ids_of, AllFit}
 use Rattle.node_outcomes.specs.Meaning.{Meaning}
 use Rattle.map_nodes.specs.declared.cutoff.Cutoff.TheVariants.{Equal}
 use Rattle.inc_value.specs.declared.node.Part.TheVariants.{Main}
 use Rattle.node_outcomes.specs.Computing.{seen_of}
 use Rattle.node_outcomes.specs.declared.row.Progress.{Progress}
-use Rattle.stabilizer.specs.Places.{ChangesNode, for_parts}
+use Rattle.wiring.specs.Places.{ChangesNode, for_parts}
 use Rattle.stabilizer.specs.Round.{IsReady, last_of}
 use Rattle.stabilizer.specs.declared.parts.Parts.{Parts}
-use Rattle.stabilizer.specs.declared.refused.Refused.{Refused}
+use Rattle.wiring.specs.declared.refused.Refused.{Refused}
 use Rattle.node_outcomes.specs.Row.{cutoff_in}
-use Rattle.graph.specs.Effects.{Adds, KeepsBesideGiven}
-use Rattle.graph.specs.Today.{CallsKnown}
+use Rattle.graph.specs.Effects.{Adds, KeepsBesideGiven, CallsKnown}
+use Rattle.graph.proofs.Fitting.{known_fits, calls_fit, fit_added}
 use Rattle.graph.specs.Inside.{FitsInside}
 use Rattle.graph.specs.Standing.{Standing}
-use Rattle.inc_value.specs.declared.value.Value.TheVariants as value
-use Rattle.inc_value.specs.Choice.{Among, Every}
-use Rattle.inc_value.specs.declared.function.FnKind.TheVariants as kind
-use Rattle.inc_terms.specs.Within.{ValueWithin}
-use Rattle.stabilizer.specs.Kept.{IsKept}
-use Rattle.stabilizer.specs.Today.{IsNoBind}
-use Rattle.node_arena.specs.Typing.{Makes}
+use Rattle.node_arena.specs.Sound.{IsSound}
 use Rattle.graph.specs.declared.observer.Observer.{Observer}
-use Rattle.graph.proofs.Sound.{can_still}
+use Rattle.graph.proofs.Sound.{can_still, ready_built}
 use Rattle.graph.proofs.Observing.{front_is_among}
-
--- ---- functions that fit
-
-value_within : (v : Value) → ValueWithin (λ (n : NodeId). Unit {0}) v
-value_within (value.Node n base) = tt
-value_within (value.Int z) = tt
-value_within (value.Bool z) = tt
-value_within (value.Text z) = tt
-
-every_unit : (ns : List NodeId) → Every (λ (n : NodeId). Unit {0}) ns
-every_unit [] = tt
-every_unit (n ∷ ns) = (tt, every_unit ns)
-
--- a map or a fold that makes its type has a function of the kind of maps, and a map lists no node
-module _ (known : FnRef → Bool) (right : FnRef → RightSide) (sides : SidesHold known right) where
-  map_fits : (count : ℕ) (f : FnRef) → IsTrue (known f) → f.id.kind ≡ kind.Map → Fit count known (ids_of right) kind.Map f
-  map_fits count f k is = ((k, is), λ n among. absurd (subst (λ ids. Among n (nodes_of ids)) (sides.maps f (k, is)).ids among))
-
-  pub known_fits : (a : Arena) (ty : Ty) (count : ℕ) (def : Def) → CallsKnown known def → Makes a def ty → CallsFit count known (ids_of right) def
-  known_fits a ty count (graph.Const v) k m = value_within v
-  known_fits a ty count (graph.Var v) k m = value_within v
-  known_fits a ty count (graph.Fold f v ns) k m = (map_fits count f k m.kind, value_within v, every_unit ns)
-  known_fits a ty count (graph.Map f ns) k m = (map_fits count f k m.kind, every_unit ns)
-  known_fits a ty count (graph.If t l r) k m = (tt, tt, tt)
-  known_fits a ty count (graph.Join kid) k m = tt
-  known_fits a ty count (graph.Bind l f captures) k m = absurd k
-  known_fits a ty count def k m = absurd m
-
--- what calls known maps alone is no bind
-pub known_no_bind : (known : FnRef → Bool) (def : Def) → CallsKnown known def → IsNoBind def
-known_no_bind known def k l f captures e = subst (CallsKnown known) e k
 
 -- ---- a node is added, or not
 
@@ -112,22 +73,32 @@ answer_given old new def ty (Err e) a = let g = ap (λ (x : Arena). x.given) a.e
 
 -- a round may begin after it, where it might before
 pub answer_ready : (known : FnRef → Bool) (value : FnRef → List Value → Value) (right : FnRef → RightSide) → SidesHold known right → (old new : Parts)
-    (def : Def) (ty : Ty) (result : Result NodeId AddFault) → AddAnswers old.arena new.arena def ty result → CallsKnown known def
-    → IsKept new.arena new.work
-    → OnOk result ((M : Meaning) → CallsFit old.arena.given M.known M.ids def → IsReady M old.arena old.work → IsReady M new.arena new.work)
-    → OnErr result ((M : Meaning) → IsReady M old.arena old.work → IsReady M new.arena new.work)
-    → IsReady (record { functions = meaning value right; known = known; ids = ids_of right }) old.arena old.work
-    → IsReady (record { functions = meaning value right; known = known; ids = ids_of right }) new.arena new.work
-answer_ready known value right sides old new def ty (Ok id) a calls kept ready err_ready = ready _
-    (known_fits known right sides new.arena ty old.arena.given def calls
-    (kept.sound.types id (record { def = def; ty = ty; scope = None }) a.added.changed))
-answer_ready known value right sides old new def ty (Err e) a calls kept ready err_ready = err_ready _
+    (def : Def) (ty : Ty) (result : Result NodeId AddFault) → AddAnswers old.arena new.arena def ty result → CallsKnown known right old.arena def
+    → IsSound new.arena
+    → OnOk result ((M : Meaning) → CallsFit old.arena.given M.known M.ids def → IsReady M old → IsReady M new)
+    → OnErr result ((M : Meaning) → IsReady M old → IsReady M new)
+    → IsReady (record { functions = meaning value right; known = known; ids = ids_of right }) old
+    → IsReady (record { functions = meaning value right; known = known; ids = ids_of right }) new
+answer_ready known value right sides old new def ty (Ok id) a calls sound ready err_ready = ready _
+    (calls_fit known right old.arena def (known_fits known right sides old.arena new.arena ty def calls
+    (sound.types id (record { def = def; ty = ty; scope = None }) a.added.changed)))
+answer_ready known value right sides old new def ty (Err e) a calls sound ready err_ready = err_ready _
+
+-- and functions of all nodes fit
+pub answer_fit : (known : FnRef → Bool) (right : FnRef → RightSide) → SidesHold known right → (old new : Arena)
+    (def : Def) (ty : Ty) (result : Result NodeId AddFault) → AddAnswers old new def ty result → CallsKnown known right old def → IsSound new
+    → ((n : NodeId) → Given old.given n → row_at new n ≡ row_at old n) → AllFit known right old → AllFit known right new
+answer_fit known right sides old new def ty (Ok id) a calls sound keeps fit =
+    let g = a.given in
+    fit_added known right old new (omega (arith, g)) keeps id (record { def = def; ty = ty; scope = None }) a.added
+    (known_fits known right sides old new ty def calls (sound.types id (record { def = def; ty = ty; scope = None }) a.added.changed)) fit
+answer_fit known right sides old new def ty (Err e) a calls sound keeps fit = subst (AllFit known right) (sym a.err) fit
 
 -- ---- all that a call between stabilizes leaves
 
 module _ (M : Meaning) (old new : Parts) (observers : List Observer) (rooted : ℕ)
     (refused : Option Refused) (sound : FitsInside M old observers rooted refused) where
-  pub sound_still : refused ≡ None → (IsReady M old.arena old.work → IsReady M new.arena new.work)
+  pub sound_still : refused ≡ None → (IsReady M old → IsReady M new)
       → ((p : Point) → root_times new.work.graph.roots p ≡ root_times old.work.graph.roots p)
       → (old.arena.given ≤ new.arena.given)
       → ((n : NodeId) → Given old.arena.given n → at new.work.rows (main n) ≡ at old.work.rows (main n))
@@ -136,6 +107,7 @@ module _ (M : Meaning) (old new : Parts) (observers : List Observer) (rooted : �
     few = sound.few;
     earlier = sound.earlier;
     kept = (ready (sound.unbroken still).ready).kept;
+    built = ready_built M new (ready (sound.unbroken still).ready);
     unbroken = λ whole. let can = sound.unbroken whole in
         can_still M old new observers rooted can (ready can.ready) roots given
         (λ n among. rows n (can.given n (front_is_among observers rooted n among)));

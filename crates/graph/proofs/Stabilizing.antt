@@ -1,27 +1,27 @@
 -- What a round gave, over other lists of the same nodes.
-use Rattle.std.proofs.Common.{◌≡◌, inl, inr, ℕ, ◌≤◌, List, ◌++◌, length, map, take, drop, Option, None, Some, Ok, Err, refl, sym, ap, subst, ◌∙◌}
+use Rattle.std.proofs.Common.{◌≡◌, inl, inr, ℕ, ◌≤◌, List, ◌++◌, length, map, take, drop, Option, None, Some, Ok, Err, refl, sym, ap, subst, ◌∙◌, arith}
 use Rattle.std.specs.Prelude.{Result, OnOk, OnErr, IfErr, IsSome}
 use Rattle.std.proofs.Math.Seq.{take-length}
 use Rattle.inc_value.specs.declared.outcome.Outcome.{Outcome}
 use Rattle.inc_value.specs.declared.node.NodeId.{NodeId}
 use Rattle.inc_value.specs.declared.node.Point.{Point}
 use Rattle.inc_value.specs.Choice.{Among, here}
-use Rattle.inc_terms.specs.Depend.{main, change}
+use Rattle.inc_terms.specs.Depend.{main, change, none_died}
 use Rattle.inc_terms.specs.Graph.{Graph}
 use Rattle.inc_terms.specs.Need.{IsRoot, Needed, Met, from_root, from_held}
 use Rattle.inc_terms.specs.Term.{Functions}
 use Rattle.inc_terms.specs.Within.{Given}
 use Rattle.necessary_graph.specs.Part as part
-use Rattle.node_arena.specs.Arena.{Arena}
 use Rattle.stabilize_round.specs.State.{count}
 use Rattle.node_outcomes.specs.Computing.{seen}
 use Rattle.node_outcomes.specs.Meaning.{Meaning}
 use Rattle.stabilizer.specs.Round.{AreRooted, IsReady, IsUpToDate, IsUpToDateIn, WasCalledIn, IsLawful, IsLawfulIn, IsListedIn, HasCalledMet, HasCalledMetIn}
-use Rattle.stabilizer.specs.Round.{graph_in, left_by, died_by}
+use Rattle.stabilizer.specs.Kept.{graph_in}
+use Rattle.stabilizer.specs.Round.{left_by, died_by, IsBuiltMetIn, BuildsRightIn, BuildsAll, BuildsAllBut}
 use Rattle.stabilizer.specs.declared.parts.Parts.{Parts}
-use Rattle.stabilizer.specs.declared.refused.Refused.{Refused}
-use Rattle.stabilizer.specs.declared.refused.Refused.TheVariants.{Height, Cycle, Full, Memory}
-use Rattle.stabilizer.specs.declared.work.Work.{Work}
+use Rattle.wiring.specs.declared.refused.Refused.{Refused}
+use Rattle.wiring.specs.declared.refused.Refused.TheVariants.{Height, Cycle, Full, Memory}
+use Rattle.wiring.specs.declared.work.Work.{Work}
 use Rattle.graph.specs.Inside.{CanStabilize}
 use Rattle.graph.specs.Standing.{in_use}
 use Rattle.graph.specs.declared.observer.Observer.{Observer}
@@ -61,8 +61,8 @@ module _ (F : Functions) (G : Graph) (died : NodeId → Option NodeId) (old : Wo
   up_to_date_as after new ran counts u = record {
     rooted = λ p. u.rooted p ∙ counts p;
     needs = λ p. (
-      (λ n. needed_as F after died xs ys to p ((u.needs p).0 n)),
-      (λ n. (u.needs p).1 (needed_as F after died ys xs back p n)),
+      (λ n. needed_as F after none_died xs ys to p ((u.needs p).0 n)),
+      (λ n. (u.needs p).1 (needed_as F after none_died ys xs back p n)),
     );
     sees = λ n need. u.sees n (needed_as F G died ys xs back (main n) need);
     chose = λ n m r row subject need. u.chose n m r row subject (needed_as F G died ys xs back (change n) need);
@@ -70,7 +70,7 @@ module _ (F : Functions) (G : Graph) (died : NodeId → Option NodeId) (old : Wo
     shallow = λ p need. u.shallow p (needed_as F G died ys xs back p need);
     links = u.links;
     recalls = u.recalls;
-    kept = λ n not. elim (u.kept n not) [ inl e ↦ inl e | inr c ↦ inr (called_as new n c.0, c.1) ];
+    kept = λ n r row not. elim (u.kept n r row not) [ inl e ↦ inl e | inr c ↦ inr (called_as new n c.0, c.1) ];
     costs = u.costs;
     cutoffs = u.cutoffs;
     once = u.once;
@@ -82,6 +82,23 @@ module _ (F : Functions) (G : Graph) (died : NodeId → Option NodeId) (old : Wo
   few_as before after h = record {
     few = h.few;
     met = λ n among. met_as F G died xs ys to (λ (p : Point). part.Needed old.graph p) (main n) (h.met n among);
+  }
+
+  built_as : (b : NodeId) → IsBuiltMetIn F G died old xs b → IsBuiltMetIn F G died old ys b
+  built_as b h = record { right = h.right; met = met_as F G died xs ys to (λ (p : Point). part.Needed old.graph p) (change b) h.met }
+
+  pub builds_as : (before : Graph) (given : ℕ) (unbuilt : Option NodeId) → BuildsRightIn F G died before given old xs unbuilt
+      → BuildsRightIn F G died before given old ys unbuilt
+  builds_as before given unbuilt h = record {
+    stays = λ b r is row. elim (h.stays b r is row) [
+      | inl same ↦ inl same
+      | inr (inl right) ↦ inr (inl (built_as b right))
+      | inr (inr it) ↦ inr (inr it)
+    ];
+    made = λ b r late row. elim (h.made b r late row) [ inl none ↦ inl none | inr right ↦ inr (built_as b right) ];
+    refused = λ b is. let u = h.refused b is in
+        record { none = u.none; differs = u.differs; met = met_as F G died xs ys to (λ (p : Point). part.Needed old.graph p) (change b) u.met };
+    was = h.was;
   }
 
   listed_as : (points : List Point) → IsListedIn F G died old xs points → IsListedIn F G died old ys points
@@ -113,6 +130,10 @@ if_err (Err e) f p = f e p
 pub err_as : {T E : Type 0} {A B : Type 0} (r : Result T E) → (A → B) → OnErr r A → OnErr r B
 err_as (Ok v) f a = a
 err_as (Err e) f a = f a
+
+pub on_err : {T E : Type 0} {A : Type 0} (r : Result T E) → A → OnErr r A
+on_err (Ok v) a = tt
+on_err (Err e) a = a
 
 -- ---- a round over observers
 
@@ -146,25 +167,43 @@ module _ (M : Meaning) (old new : Parts) (os : List Observer) (rooted : ℕ)
   pub all_lawful : (e : Refused) → ((observed : List NodeId) → AreRooted old.work observed
       → IsLawful M.functions old new (rest ++ observed) e)
       → IsLawful M.functions old new (in_use os) e
-  all_lawful e lawful = lawful_as M.functions (left_by old new) (died_by old new) old.work (rest ++ front) (in_use os) to_all from_all e (lawful front can.roots)
+  all_lawful e lawful =
+      let l = lawful front can.roots in
+      (lawful_as M.functions (left_by old new) (died_by old new) old.work (rest ++ front) (in_use os) to_all from_all e l.0, l.1)
 
   pub all_few : (before after : ℕ) → ((observed : List NodeId) → AreRooted old.work observed
       → HasCalledMet M.functions old new (rest ++ observed) before after)
       → HasCalledMet M.functions old new (in_use os) before after
   all_few before after few = few_as M.functions (left_by old new) (died_by old new) old.work (rest ++ front) (in_use os) to_all from_all before after (few front can.roots)
 
+  pub all_built : ((observed : List NodeId) → AreRooted old.work observed → BuildsAll M.functions old new (rest ++ observed))
+      → BuildsAll M.functions old new (in_use os)
+  all_built built = builds_as M.functions (left_by old new) (died_by old new) old.work (rest ++ front) (in_use os) to_all from_all (graph_in old)
+      old.arena.given None (built front can.roots)
+
+  pub all_built_but : (e : Refused) → ((observed : List NodeId) → AreRooted old.work observed
+      → BuildsAllBut M.functions old new (rest ++ observed) e)
+      → BuildsAllBut M.functions old new (in_use os) e
+  all_built_but e built =
+      let k = built front can.roots in (
+        k.0,
+        builds_as M.functions (left_by old new) (died_by old new) old.work (rest ++ front) (in_use os) to_all from_all (graph_in old)
+            old.arena.given k.0 k.1,
+        k.2,
+      )
+
   shows_some : (x : Option Outcome) (o : Outcome) → x ≡ Some o → IsSome x
   shows_some None o e = absurd cc
   shows_some (Some y) o e = refl
 
-  pub can_again : (M' : Meaning) → new.arena ≡ old.arena → IsReady M' new.arena new.work → IsUpToDate M.functions old new (in_use os)
+  pub can_again : (M' : Meaning) → old.arena.given ≤ new.arena.given → IsReady M' new → IsUpToDate M.functions old new (in_use os)
       → CanStabilize M' new os (length os)
-  can_again M' arena ready right =
+  can_again M' later ready right =
       let whole : take (length os) os ≡ os = take-length os in
       record {
         ready = ready;
         roots = subst (λ (xs : List Observer). AreRooted new.work (in_use xs)) (sym whole) right.rooted;
-        given = λ n among. subst (λ (a : Arena). Given a.given n) (sym arena) (can.given n among);
+        given = λ n among. let g = can.given n among in omega (arith, g, later);
         shown = λ n among.
             let s = right.sees n (n, inl (subst (λ (xs : List Observer). Among n (in_use xs)) whole among), here) in
             shows_some (seen new.work.rows (main n)) s.0 s.1;

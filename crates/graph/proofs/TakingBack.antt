@@ -1,5 +1,6 @@
 -- Nodes that are taken back aren't needed.
-use Rattle.std.proofs.Common.{◌≡◌, ◌⊎◌, inl, inr, ℕ, zero, suc, ◌<◌, ◌≤◌, List, map, take, Option, None, ap, arith}
+use Rattle.std.proofs.Common.{◌≡◌, ◌⊎◌, inl, inr, ℕ, zero, suc, ◌<◌, ◌≤◌, Bool, List, map, take, Option, None, Some, IfSome, sym, ap, subst, ◌∙◌, arith}
+use Rattle.inc_value.specs.declared.function.FnRef.{FnRef}
 use Rattle.inc_value.specs.declared.node.NodeId.{NodeId}
 use Rattle.inc_value.specs.declared.node.Point.{Point}
 use Rattle.inc_value.specs.Choice.{Among, here}
@@ -7,19 +8,24 @@ use Rattle.inc_terms.specs.Depend.{main}
 use Rattle.necessary_graph.specs.Part.{NecessaryPart, Needed}
 use Rattle.necessity.specs.Need.{Roots, root_times}
 use Rattle.point_map.specs.Rows.{at}
-use Rattle.node_arena.specs.Arena.{row_at}
+use Rattle.inc_terms.specs.Graph.{Row}
+use Rattle.node_arena.specs.Arena.{Arena, row_at}
+use Rattle.node_arena.specs.RightSide.{RightSide}
+use Rattle.node_arena.specs.RightSideLaws.{AllFit}
 use Rattle.stabilize_round.specs.State.{count}
-use Rattle.stabilize_round.proofs.Points.{among_count}
+use Rattle.stabilize_round.proofs.Points.{among_count, node_or_other}
 use Rattle.stabilizer.specs.Round.{IsReady, AreRooted}
 use Rattle.node_outcomes.specs.Meaning.{Meaning}
 use Rattle.stabilizer.specs.declared.parts.Parts.{Parts}
-use Rattle.stabilizer.specs.declared.refused.Refused.{Refused}
-use Rattle.stabilizer.specs.declared.work.Work.{Work}
-use Rattle.graph.specs.Effects.{KeepsBeside}
+use Rattle.wiring.specs.declared.refused.Refused.{Refused}
+use Rattle.wiring.specs.declared.work.Work.{Work}
+use Rattle.wiring.specs.Kept.{IsKept}
+use Rattle.graph.specs.Effects.{KeepsBeside, Adds, NoneScopedSince}
+use Rattle.graph.proofs.Fitting.{fit_left}
 use Rattle.graph.specs.Standing.{Standing, IsNeeded, in_use}
 use Rattle.graph.specs.Inside.{FitsInside}
 use Rattle.graph.specs.declared.observer.Observer.{Observer}
-use Rattle.graph.proofs.Sound.{can_still}
+use Rattle.graph.proofs.Sound.{can_still, ready_built}
 use Rattle.graph.proofs.Unobserving.{mains_among}
 use Rattle.graph.proofs.Needing.{needed_root, needed_linked, needed_has}
 
@@ -46,7 +52,7 @@ module _ (M : Meaning) (old new : Parts) (observers : List Observer) (rooted : �
     (refused : Option Refused) (sound : FitsInside M old observers rooted refused) (count : ℕ)
     (older : (n : NodeId) → n.gen_ < count → row_at new.arena n ≡ row_at old.arena n)
     (dropped : (n : NodeId) → count ≤ n.gen_ → row_at new.arena n ≡ None) where
-  pub sound_back : refused ≡ None → (IsReady M old.arena old.work → IsReady M new.arena new.work)
+  pub sound_back : refused ≡ None → (IsReady M old → IsReady M new)
       → new.work.graph.roots ≡ old.work.graph.roots → new.arena.given ≡ old.arena.given
       → ((n : NodeId) → n.gen_ < count → at new.work.rows (main n) ≡ at old.work.rows (main n))
       → ((p : Point) → Needed old.work.graph p → p.node.gen_ < count)
@@ -55,10 +61,32 @@ module _ (M : Meaning) (old new : Parts) (observers : List Observer) (rooted : �
     few = sound.few;
     earlier = sound.earlier;
     kept = (ready (sound.unbroken still).ready).kept;
+    built = ready_built M new (ready (sound.unbroken still).ready);
     unbroken = λ whole. let can = sound.unbroken whole in
         can_still M old new observers rooted can (ready can.ready) (λ p. ap (λ (r : Roots). root_times r p) roots)
         (omega (arith, given)) (λ n among. rows n (young_roots old.work (in_use (take rooted observers)) count can.roots low n among));
   }
+
+-- where none that was given since the count stands in a scope, those in scopes and their binds are older
+pub scoped_before : (arena : Arena) (work : Work) (count : ℕ) → IsKept arena work → NoneScopedSince arena count
+    → (n b : NodeId) (r : Row) → row_at arena n ≡ Some r → r.scope ≡ Some b → (n.gen_ < count) × (b.gen_ < count)
+scoped_before arena work count kept none n b r row scope = elim (at_or_past n.gen_ count) [
+  | inl h ↦ (h, (let a = kept.older n b r row scope in omega (arith, a, h)))
+  | inr late ↦ absurd (let e = sym (none n r row late) ∙ scope in cc)
+]
+
+-- functions of those that are left fit
+module _ (known : FnRef → Bool) (right : FnRef → RightSide) (old new : Arena) (count : ℕ)
+    (older : (n : NodeId) → n.gen_ < count → row_at new n ≡ row_at old n) (dropped : (n : NodeId) → count ≤ n.gen_ → row_at new n ≡ None) where
+  was_there : (n : NodeId) (r : Row) → row_at new n ≡ Some r → row_at old n ≡ Some r
+  was_there n r is = elim (at_or_past n.gen_ count) [
+    | inl h ↦ sym (older n h) ∙ is
+    | inr late ↦ absurd (let e = sym (dropped n late) ∙ is in cc)
+  ]
+
+  pub fit_back : new.given ≡ old.given → AllFit known right old → AllFit known right new
+  fit_back given fit = fit_left known right old new (omega (arith, given)) was_there
+      (λ n is_given. elim (at_or_past n.gen_ count) [ inl h ↦ inl (older n h) | inr late ↦ inr (dropped n late) ]) fit
 
 -- ---- who is needed, over calls that keep all beside the nodes
 
@@ -71,3 +99,14 @@ module _ {F : Type 0} {Of : NodeId → Type 0} (old new : Standing F) (keeps : K
   -- what is needed stays below a count of ids
   pub below_still : (count : ℕ) → ((p : Point) → IsNeeded old p → p.node.gen_ < count) → (p : Point) → IsNeeded new p → p.node.gen_ < count
   below_still count below p need = below p (needed_still p need)
+
+-- ---- who stands in scopes, where nodes are added outside them
+
+module _ {F : Type 0} (old new : Standing F) (count : ℕ) (none : NoneScopedSince old.nodes count) where
+  -- still none that was given since the count
+  pub unscoped_still : (id : NodeId) (row : Row) → Adds old new id row → row.scope ≡ None → NoneScopedSince new.nodes count
+  unscoped_still id row adds outside n r is since = elim (node_or_other n id) [
+    | inl e ↦
+        subst (λ (x : Option Row). IfSome x (λ (q : Row). q.scope ≡ None)) (sym adds.changes.changed ∙ (ap (row_at new.nodes) (sym e) ∙ is)) outside
+    | inr other ↦ none n r (sym (adds.changes.others n other) ∙ is) since
+  ]

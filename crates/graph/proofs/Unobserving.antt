@@ -18,10 +18,11 @@ use Rattle.node_outcomes.specs.Meaning.{Meaning}
 use Rattle.stabilizer.specs.Round.{IsReady, AreRooted}
 use Rattle.node_outcomes.specs.declared.row.Progress.{Progress}
 use Rattle.stabilizer.specs.declared.parts.Parts.{Parts}
-use Rattle.stabilizer.specs.declared.refused.Refused.{Refused}
+use Rattle.wiring.specs.declared.refused.Refused.{Refused}
 use Rattle.graph.specs.Standing.{in_use, looked_at}
 use Rattle.graph.specs.Inside.{FitsInside}
 use Rattle.graph.specs.declared.observer.Observer.{Observer}
+use Rattle.graph.proofs.Sound.{ready_built}
 use Rattle.graph.proofs.Observing.{IsLeftOut, ended, left_out, left_is_among, front_set, front_stays, front_same, in_use_append, among_either}
 
 abbrev pub observing : NodeId → Observer
@@ -36,6 +37,7 @@ module _ (M : Meaning) (parts : Parts) (observers : List Observer) (rooted : ℕ
     few = let l = length-append observers (observing node ∷ []) in omega (arith, l, few);
     earlier = let l = length-append observers (observing node ∷ []) in omega (arith, l, sound.earlier);
     kept = sound.kept;
+    built = sound.built;
     unbroken = λ whole. let can = sound.unbroken whole in
         let front : take rooted (observers ++ observing node ∷ []) ≡ take rooted observers = take-append-le rooted observers (observing node ∷ []) sound.earlier in
         record {
@@ -83,6 +85,7 @@ module _ (M : Meaning) (old new : Parts) (observers : List Observer) (rooted pla
     few = let l = set_length observers place (ended node) in omega (arith, l, sound.few);
     earlier = let l = set_length observers place (ended node) in omega (arith, l, sound.earlier);
     kept = sound.kept;
+    built = sound.built;
     unbroken = λ whole. let can = sound.unbroken whole in
         let front : take rooted (slice_set observers place (ended node)) ≡ take rooted observers = front_stays observers rooted place (ended node) later in
         record {
@@ -95,7 +98,7 @@ module _ (M : Meaning) (old new : Parts) (observers : List Observer) (rooted pla
   }
 
   -- one fewer that was, whose root came off
-  pub sound_ended : refused ≡ None → place < rooted → (IsReady M old.arena old.work → IsReady M new.arena new.work)
+  pub sound_ended : refused ≡ None → place < rooted → (IsReady M old → IsReady M new)
       → ((before after : List NodeId) → AreRooted old.work (before ++ node ∷ after) → AreRooted new.work (before ++ after))
       → new.arena ≡ old.arena → new.work.rows ≡ old.work.rows
       → FitsInside M new (slice_set observers place (ended node)) rooted refused
@@ -103,6 +106,7 @@ module _ (M : Meaning) (old new : Parts) (observers : List Observer) (rooted pla
     few = let l = set_length observers place (ended node) in omega (arith, l, sound.few);
     earlier = let l = set_length observers place (ended node) in omega (arith, l, sound.earlier);
     kept = (ready (sound.unbroken still).ready).kept;
+    built = ready_built M new (ready (sound.unbroken still).ready);
     unbroken = λ whole. let can = sound.unbroken whole in
         let out = front_out observers rooted place node below is in
         record {

@@ -1,15 +1,17 @@
 -- What calls do to a graph, and what they leave.
-use Rattle.std.specs.Prelude.{◌≡◌, ◌≢◌, ◌⊎◌, ◌+◌, ◌<◌, ◌≤◌, ◌++◌, ℕ, true, false, [], ◌∷◌, length, slice_set, None, Some}
+use Rattle.std.specs.Prelude.{◌≡◌, ◌≢◌, ◌⊎◌, ◌+◌, ◌<◌, ◌≤◌, ◌++◌, ℕ, Bool, IsTrue, true, false, [], ◌∷◌, length, slice_set, None, Some}
+use Rattle.inc_value.specs.declared.function.FnRef.{FnRef}
 use Rattle.inc_value.specs.declared.node.ObsId.{ObsId}
 use Rattle.inc_value.specs.declared.node.NodeId.{NodeId}
 use Rattle.inc_value.specs.declared.node.Point.{Point}
 use Rattle.inc_value.specs.declared.value.Value.{Value}
 use Rattle.inc_value.specs.declared.ty.Ty.{Ty}
-use Rattle.inc_terms.specs.Graph.{Row, Def}
+use Rattle.inc_terms.specs.Graph.{Row, Def, Map, Fold, Bind}
 use Rattle.inc_terms.specs.Within.{Given}
 use Rattle.map_nodes.specs.declared.cutoff.Cutoff.{Cutoff}
 use Rattle.map_nodes.specs.declared.cutoff.Cutoff.TheVariants.{Equal}
-use Rattle.node_arena.specs.Arena.{row_at, Changes, IsLive, IsFull, IsSet, NamesGiven}
+use Rattle.node_arena.specs.Arena.{Arena, row_at, Changes, IsLive, IsFull, IsSet, NamesGiven}
+use Rattle.node_arena.specs.RightSide.{RightSide, AreFit}
 use Rattle.node_arena.specs.Typing.{Makes}
 use Rattle.graph.specs.Standing.{Standing, node_at, shown_of, chosen_by, called_last, cutoff_of, times_linked, times_rooted}
 use Rattle.graph.specs.declared.fault.Kept.{Kept}
@@ -19,6 +21,17 @@ use Rattle.graph.specs.declared.fault.GraphFault.TheVariants as fault
 -- what a new node is, outside any scope
 abbrev pub top : Def → Ty → Row
 top def ty = record { def = def; ty = ty; scope = None }
+
+-- the function of a map, a fold or a bind is known, whatever its kind; the nodes that a bind's lists were given, and are of their types or dead
+abbrev pub CallsKnown : (FnRef → Bool) → (FnRef → RightSide) → Arena → Def → Type 0
+CallsKnown known right a (Map f kids) = IsTrue (known f)
+CallsKnown known right a (Fold f v kids) = IsTrue (known f)
+CallsKnown known right a (Bind left f captures) = IsTrue (known f) × AreFit a (right f).ids
+CallsKnown known right a def = Unit {0}
+
+-- no live node that was given since the count stands in a scope
+abbrev pub NoneScopedSince : Arena → ℕ → Type 0
+NoneScopedSince a count = (n : NodeId) (r : Row) → row_at a n ≡ Some r → count ≤ n.gen_ → r.scope ≡ None
 
 module _ {F : Type 0} where
   -- beside the nodes all stays: functions, observers, what broke the graph and who was called last; links and roots; and of these nodes what is

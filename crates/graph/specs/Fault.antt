@@ -7,8 +7,8 @@ use Rattle.node_arena.specs.declared.arena.AddFault.{AddFault}
 use Rattle.node_arena.specs.declared.arena.AddFault.TheVariants as add
 use Rattle.node_arena.specs.declared.arena.variable.SetFault.{SetFault}
 use Rattle.node_arena.specs.declared.arena.variable.SetFault.TheVariants as set
-use Rattle.stabilizer.specs.declared.refused.Refused.{Refused}
-use Rattle.stabilizer.specs.declared.refused.Refused.TheVariants as refused
+use Rattle.wiring.specs.declared.refused.Refused.{Refused}
+use Rattle.wiring.specs.declared.refused.Refused.TheVariants as refused
 
 -- what breaks a graph
 abbrev pub kept_of : Refused → Kept

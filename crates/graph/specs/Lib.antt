@@ -3,5 +3,4 @@ pub mod Standing
 pub mod Inside
 pub mod Sound
 pub mod Effects
-pub mod Today
 pub mod Stabilizes

@@ -2,12 +2,13 @@
 use Rattle.std.specs.Prelude.{◌≤◌, ◌-◌, ◌^◌, length, IsSome}
 use Rattle.inc_value.specs.declared.node.NodeId.{NodeId}
 use Rattle.inc_value.specs.Choice.{Among}
+use Rattle.inc_terms.specs.Local.{Scoped}
 use Rattle.inc_terms.specs.Within.{Given}
 use Rattle.node_arena.specs.Graph.{AllCallFit}
 use Rattle.node_arena.specs.Sound as arena
 use Rattle.node_outcomes.specs.Meaning.{Meaning}
-use Rattle.stabilizer.specs.Today.{IsToday}
-use Rattle.graph.specs.Standing.{Standing, shown_of, in_use, rooted_nodes, AreRooted, IsUnbroken}
+use Rattle.stabilize_round.specs.Invariant.{Rooted}
+use Rattle.graph.specs.Standing.{Standing, graph, shown_of, in_use, rooted_nodes, AreRooted, IsUnbroken}
 
 module _ {F : Type 0} where
   -- an unbroken graph: need begins at the observers that were there at the last stabilize, and their nodes show an outcome; all functions of its nodes are
@@ -18,10 +19,12 @@ module _ {F : Type 0} where
     pub given : (n : NodeId) → Among n (in_use s.observers) → Given s.nodes.given n
     pub shown : (n : NodeId) → Among n (rooted_nodes s) → IsSome (shown_of s n)
 
-  -- what every graph keeps
+  -- what every graph keeps, also one that is broken: each scope is that of a live bind, and each bind that is built for a value has a root that reads
+  -- back as its function's term at it, one that is built for Invalid none
   pub record IsSound (M : Meaning) (s : Standing F) : Type 0 where
     pub few : length s.observers ≤ 2 ^ 32 - 1
     pub earlier : s.rooted ≤ length s.observers
     pub nodes : arena.IsSound s.nodes
+    pub scopes : Scoped (graph s)
+    pub built : Rooted M.functions (graph s)
     pub whole : IsUnbroken s → IsWhole M s
-    pub today : IsToday s.nodes

@@ -1,12 +1,13 @@
 -- What a contract sees of a graph.
-use Rattle.std.specs.Prelude.{◌≡◌, ◌+◌, ◌==◌, ◌<◌, ◌&&◌, ℕ, nat_lt, Bool, false, cond, List, [], ◌∷◌, map, take, Option, None, Some, slice_get}
+use Rattle.std.specs.Prelude.{◌≡◌, ◌⊎◌, ◌+◌, ◌==◌, ◌<◌, ◌&&◌, ℕ, nat_lt, Bool, false, cond, List, [], ◌∷◌, map, take, Option, None, Some, slice_get}
 use Rattle.inc_value.specs.declared.node.NodeId.{NodeId}
 use Rattle.inc_value.specs.declared.node.ObsId.{ObsId}
 use Rattle.inc_value.specs.declared.node.Point.{Point}
 use Rattle.inc_value.specs.declared.outcome.Outcome.{Outcome}
-use Rattle.inc_value.specs.Choice.{Reaches}
+use Rattle.inc_value.specs.Choice.{Reaches, and_then}
 use Rattle.inc_terms.specs.Depend.{main, change}
-use Rattle.inc_terms.specs.Graph.{Graph}
+use Rattle.inc_terms.specs.Graph.{Graph, Row, Built}
+use Rattle.inc_terms.specs.Rebuild.{Inside}
 use Rattle.link_table.specs.Links.{times}
 use Rattle.map_nodes.specs.declared.cutoff.Cutoff.{Cutoff}
 use Rattle.necessity.specs.Need.{root_times}
@@ -16,10 +17,10 @@ use Rattle.node_outcomes.specs.Row.{outcome_in, settled_in}
 use Rattle.node_outcomes.specs.declared.row.Progress.{Progress}
 use Rattle.point_map.specs.Rows.{at}
 use Rattle.stabilize_round.specs.State.{Call, count}
-use Rattle.stabilizer.specs.Graph.{graph_at}
+use Rattle.wiring.specs.Graph.{graph_at}
 use Rattle.stabilizer.specs.Round.{last_call, cutoff_at}
-use Rattle.stabilizer.specs.declared.work.Work.{Work}
-use Rattle.stabilizer.specs.declared.refused.Refused.{Refused}
+use Rattle.wiring.specs.declared.work.Work.{Work}
+use Rattle.wiring.specs.declared.refused.Refused.{Refused}
 use Rattle.graph.specs.Fault.{kept_of}
 use Rattle.graph.specs.declared.fault.Kept.{Kept}
 use Rattle.graph.specs.declared.observer.Observer.{Observer}
@@ -39,6 +40,21 @@ pub record Standing (F : Type 0) : Type 0 where
   pub refused : Option Refused
   -- what its stabilizer works on: contracts speak of it by the words below alone
   pub work : Work
+
+-- ---- scopes
+
+-- top lives outside all scopes, and it is the node, or the node stands in its scope, or in one within it
+pub record IsOwner (G : Graph) (n top : NodeId) : Type 0 where
+  pub row : Row
+  pub is_row : G.row top ≡ Some row
+  pub outside : row.scope ≡ None
+  pub round : (top ≡ n) ⊎ Inside G top n
+
+-- the root of what is built, if it was built for a value
+abbrev pub root_in : Option Built → Option NodeId
+root_in built = and_then built (λ (w : Built). w.root)
+
+-- ---- without functions
 
 -- the graph but for its functions
 abbrev pub without_functions : {F : Type 0} → Standing F → Standing (Unit {0})

@@ -1,8 +1,8 @@
 //! Why a call of a graph is refused.
-ghost use Rattle.std.specs.Prelude.{◌≡◌};
+ghost use Rattle.std.specs.Prelude.{◌≡◌, ◌↔◌};
 ghost use Rattle.graph.specs.Fault.{kept_of, of_add, of_set};
 
-use node_arena::{AddFault, SetFault};
+use node_arena::{AddFault, MoreFault, SetFault};
 use stabilizer::Refused;
 use std::alloc::AllocError;
 use thiserror::Error;
@@ -38,8 +38,8 @@ pub enum GraphFault {
     /// No stabilize was accepted since the observer was made.
     #[error("no stabilize was accepted since the observer was made")]
     NotStabilized,
-    /// There are 4,294,967,295 observers.
-    #[error("no further observer can be made")]
+    /// There are 4,294,967,295 observers, or as many functions are kept as can be.
+    #[error("no further observer can be made, or no further function kept")]
     TooMany,
     /// There are 1,048,576 live nodes, or every id was given.
     #[error("no further node can be added")]
@@ -81,6 +81,17 @@ pub(crate) fn add_fault(fault: AddFault) -> GraphFault
         AddFault::WrongType => GraphFault::WrongType,
         AddFault::Full => GraphFault::Full,
         AddFault::Memory => GraphFault::Memory,
+    }
+}
+
+/// Why a function isn't kept.
+pub(crate) fn more_fault(fault: MoreFault) -> GraphFault
+    ensures too_many { (result ≡ GraphFault.TooMany) ↔ (fault ≡ MoreFault.TooMany) }
+    ensures memory { (result ≡ GraphFault.Memory) ↔ (fault ≡ MoreFault.Memory) }
+{
+    match fault {
+        MoreFault::TooMany => GraphFault::TooMany,
+        MoreFault::Memory => GraphFault::Memory,
     }
 }
 

@@ -6,10 +6,11 @@ ghost use Rattle.inc_value.specs.declared.node.Point.{Point};
 ghost use Rattle.map_nodes.specs.declared.cutoff.Cutoff.TheVariants.{Equal};
 ghost use Rattle.node_outcomes.specs.Meaning.{meaning_of};
 ghost use Rattle.graph.specs.Sound.{IsSound};
-ghost use Rattle.graph.specs.Standing.{IsUnbroken, IsBroken, called_last, cutoff_of, times_linked, times_rooted};
-ghost use Rattle.graph.specs.Today.{IsOwner};
+ghost use Rattle.graph.specs.Standing.{IsUnbroken, IsBroken, IsOwner, graph};
+ghost use Rattle.graph.specs.Standing.{called_last, cutoff_of, times_linked, times_rooted};
 ghost use Rattle.graph.specs.declared.fault.Kept.{Kept as ACause};
 
+mod bind;
 mod build;
 mod edit;
 mod observe;
@@ -26,7 +27,7 @@ use std::alloc::Global;
 use std::marker::Model;
 pub use undo::Mark;
 
-/// A graph of constants, variables, maps, folds, ifs and joins over the functions of `F`. What is observed is brought
+/// A graph of constants, variables, maps, folds, ifs, joins and binds over the functions of `F`. What is observed is brought
 /// up to date by `stabilize` and shows until the next one.
 ///
 /// A graph whose functions are kept in boxes is made and used by functions that are generic in `F`: its invariant speaks
@@ -62,11 +63,13 @@ impl<F: Functions> Model for Graph<F> {
     ghost use Rattle.std.specs.Prelude.{◌≡◌};
     ghost use Rattle.inc_value.specs.declared.outcome.Outcome.TheVariants.{Invalid};
     ghost use Rattle.graph.specs.Inside.{FitsInside};
+    ghost use Rattle.node_arena.specs.RightSideLaws.{AllFit};
     ghost use Rattle.node_outcomes.specs.Meaning.{meaning_of};
 
     ghost invariant = { λ g. (g.invalid ≡ Invalid)
         × FitsInside (meaning_of F.Functions g.functions) g.parts g.observers.items g.rooted g.refused
-        × F.is_sound g.functions };
+        × F.is_sound g.functions
+        × AllFit (F.known g.functions) (F.right g.functions) g.parts.arena };
 }
 
 impl<F: Functions> Graph<F> {
@@ -132,22 +135,24 @@ impl<F: Functions> Graph<F> {
         self.refused.as_ref()
     }
 
-    /// The node outside all scopes in whose right side a live node stands, or the node itself.
+    /// The node outside all scopes that the node is, or in whose scope, or one within that, it stands: the outermost bind
+    /// round it. None of a node that isn't live.
     pub fn owner(&self, node: NodeId) -> Option<NodeId>
-        ensures live { IfSome result (λ top. IsOwner self.now.nodes node top) }
+        ensures live { IfSome result (λ top. IsOwner (graph self.now) node top) }
         ensures dead { IfNone result (IsLive self.now.nodes node → ⊥) }
     {
-        if self.parts.arena().is_live(node) {
-            Some(node)
-        } else {
-            None
+        let mut top = node;
+        while let Some(bind) = self.parts.arena().get(top)?.scope {
+            top = bind;
         }
+        Some(top)
     }
 
-    /// What is kept fits together: a fact for a caller's proof. Nothing runs.
+    /// What is kept fits together, and a node that is not live has cutoff Equal: facts for a caller's proof. Nothing runs.
     pub fn keeps_sound(&self)
         ensures sound { IsSound (meaning_of F.Functions self.entry.now.functions) self.entry.now }
         ensures functions { F.is_sound self.entry.now.functions }
+        ensures dead { (n : NodeId) → row_at self.entry.now.nodes n ≡ None → cutoff_of self.entry.now n ≡ Equal }
     {
         let _ = &self.parts;
     }

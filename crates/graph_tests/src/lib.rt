@@ -3,4 +3,14 @@
 #![tactic(auto)]
 
 #[cfg(test)]
+mod bind_tables;
+#[cfg(test)]
+mod binding;
+#[cfg(test)]
+mod bodies;
+#[cfg(test)]
+mod boxed;
+#[cfg(test)]
+mod tables;
+#[cfg(test)]
 mod tests;

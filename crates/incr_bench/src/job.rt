@@ -41,7 +41,13 @@ pub enum Shape {
     /// A join over variables, of which a round names another.
     Switch,
 
-    /// A graph by chance, compared with plain evaluation after each stabilize.
+    /// A bind, whose right side of so many nodes a round builds anew.
+    Bind,
+
+    /// A bind of binds, of which a round builds the outer one anew or the inner one, whose right side has so many nodes.
+    Nested,
+
+    /// Graphs by chance, compared with plain evaluation after each stabilize.
     Random,
 
     /// Observers that are made and ended.
@@ -65,6 +71,7 @@ fn most(shape: Shape) -> usize
         Shape::Flip | Shape::Flipx => 127,
         Shape::Tree => 524_288,
         Shape::Random => 10_000,
+        Shape::Bind | Shape::Nested => 200_000,
         Shape::Fan
         | Shape::Fold
         | Shape::Cut
@@ -90,6 +97,8 @@ fn shape_named(name: &str) -> Option<Shape> {
         "flipx" => Some(Shape::Flipx),
         "aside" => Some(Shape::Aside),
         "switch" => Some(Shape::Switch),
+        "bind" => Some(Shape::Bind),
+        "nested" => Some(Shape::Nested),
         "random" => Some(Shape::Random),
         _ => None,
     }

@@ -1,20 +1,23 @@
 //! A graph with the nodes and observers that were made.
 ghost use Rattle.std.specs.Prelude.{◌≡◌, ◌≤◌, ◌+◌, [], length, IfOk, IsErr, None, OnOk, Some};
-ghost use Rattle.incr_bench.specs.Comparing.{observer_at, shown_at};
+ghost use Rattle.incr_bench.specs.Comparing.{known_of, observer_at, shown_at};
 
 use crate::lists::append;
-use bench_engine::{Engine, Fault};
+use crate::sides::{KeptSide, body_of};
+use bench_engine::{Ending, Engine, Fault};
 use inc_value::{NodeId, ObsId};
-use plain_evaluation::Definition;
+use plain_evaluation::{Definition, Known, Side};
 use std::alloc::Global;
 use std_library::Function;
 
 /// A graph over the standard library. Nodes and observers go by the order in which they were made.
 #[derive(Drop)]
 pub struct Live {
+    alloc: Global,
     engine: Engine,
     nodes: Vec<NodeId>,
     observers: Vec<ObsId>,
+    sides: Vec<KeptSide>,
 }
 
 /// The node at a place, or one that no graph has.
@@ -38,6 +41,16 @@ fn observer_at(observers: &[ObsId], place: usize) -> ObsId
     }
 }
 
+/// Whether a node is among these.
+fn has(nodes: &[NodeId], wanted: NodeId) -> bool {
+    for node in nodes {
+        if *node == wanted {
+            return true;
+        }
+    }
+    false
+}
+
 impl Live {
     /// A graph without nodes.
     pub fn new(alloc: Global) -> Live
@@ -46,15 +59,34 @@ impl Live {
         ensures unobserved { result.observers.items ≡ [] }
     {
         Live {
+            alloc,
             engine: Engine::new(alloc),
             nodes: Vec::new(alloc),
             observers: Vec::new(alloc),
+            sides: Vec::new(alloc),
         }
     }
 
     /// Gives all memory back.
     pub fn end(self) {
         self.engine.end();
+    }
+
+    /// Begins anew, with a graph without nodes.
+    pub fn clear(&mut self)
+        ensures uncalled { self.new.engine.calls ≡ 0 }
+        ensures empty { self.new.nodes.items ≡ [] }
+        ensures unobserved { self.new.observers.items ≡ [] }
+    {
+        self.engine.clear(self.alloc);
+        self.nodes.clear();
+        self.observers.clear();
+        self.sides.clear();
+    }
+
+    /// How often right sides were built so far.
+    pub fn builds(&self) -> u64 {
+        self.engine.builds()
     }
 
     /// How many functions were called so far.
@@ -185,7 +217,64 @@ impl Live {
         Ok(())
     }
 
-    /// Makes what the definition says.
+    /// Keeps right sides, which go by the order in which they were kept. Those that their lines bind were kept before.
+    pub fn keep(&mut self, definitions: &[Definition], side: &Side) -> Result<(), Fault>
+        ensures uncalled { self.new.engine.calls ≡ self.old.engine.calls }
+    {
+        let (body, places) = body_of(self.alloc, &self.nodes, &self.sides, definitions, side)?;
+        let size = body.size();
+        let function = self.engine.keep(body)?;
+        let kept = KeptSide {
+            function,
+            size,
+            places,
+        };
+        append(&mut self.sides, kept)?;
+        Ok(())
+    }
+
+    /// Makes a bind on a node over two captured ones.
+    pub fn bind(
+        &mut self,
+        left: usize,
+        side: usize,
+        first: usize,
+        second: usize,
+    ) -> Result<(), Fault>
+        ensures grows { OnOk result (length self.new.nodes.items ≡ length self.old.nodes.items + 1) }
+        ensures uncalled { self.new.engine.calls ≡ self.old.engine.calls }
+    {
+        let Some(kept) = self.sides.get(side) else {
+            return Err(Fault::Refused);
+        };
+        let captures = [node_at(&self.nodes, first), node_at(&self.nodes, second)];
+        let node = self
+            .engine
+            .bind(node_at(&self.nodes, left), kept.function, &captures)?;
+        append(&mut self.nodes, node)?;
+        Ok(())
+    }
+
+    /// The present root of the bind at a place is a node from then on, unless there is none, or it is one already. Answers
+    /// whether it is.
+    pub fn grab(&mut self, bind: usize) -> Result<bool, Fault>
+        ensures uncalled { self.new.engine.calls ≡ self.old.engine.calls }
+    {
+        match self.engine.right_side(node_at(&self.nodes, bind))? {
+            Some(root) if !has(&self.nodes, root) => {
+                append(&mut self.nodes, root)?;
+                Ok(true)
+            }
+            _ => Ok(false),
+        }
+    }
+
+    /// Whether the node at a place is live.
+    pub fn lives(&self, place: usize) -> Result<bool, Fault> {
+        self.engine.is_live(node_at(&self.nodes, place))
+    }
+
+    /// Makes what the definition says. Roots of right sides are grabbed, and not made.
     pub fn add(&mut self, definition: Definition) -> Result<(), Fault>
         ensures grows { OnOk result (length self.new.nodes.items ≡ length self.old.nodes.items + 1) }
         ensures uncalled { self.new.engine.calls ≡ self.old.engine.calls }
@@ -200,6 +289,13 @@ impl Live {
             Definition::Pick(test, first, second) => self.pick(test, first, second),
             Definition::If(test, yes, no) => self.choose(test, yes, no),
             Definition::Join(reference) => self.join(reference),
+            Definition::Bind {
+                left,
+                side,
+                first,
+                second,
+            } => self.bind(left, side, first, second),
+            Definition::Grab { .. } => Err(Fault::Refused),
         }
     }
 
@@ -274,6 +370,27 @@ impl Live {
         ensures same_nodes { self.new.nodes.items ≡ self.old.nodes.items }
     {
         self.engine.stabilize()
+    }
+
+    /// Brings what is observed up to date, and tells whether that was accepted.
+    pub fn try_stabilize(&mut self) -> Result<Ending, Fault>
+        ensures calls_grow { self.old.engine.calls ≤ self.new.engine.calls }
+        ensures same_nodes { self.new.nodes.items ≡ self.old.nodes.items }
+    {
+        self.engine.try_stabilize()
+    }
+
+    /// The number that an observer shows, or that it shows none.
+    pub fn known(&self, place: usize) -> Result<Known, Fault>
+        ensures { IfOk result (λ known. known ≡ known_of (shown_at self.now.engine self.now.observers.items place)) }
+    {
+        match self
+            .engine
+            .shown_or_invalid(observer_at(&self.observers, place))?
+        {
+            Some(number) => Ok(Known::Number(number)),
+            None => Ok(Known::Invalid),
+        }
     }
 
     /// The number that an observer shows. Where it shows none, the answer is a fault.

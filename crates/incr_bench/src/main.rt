@@ -3,6 +3,7 @@
 #![tactic(auto)]
 
 mod campaign;
+mod chance;
 mod clock;
 mod generator;
 mod job;
@@ -12,6 +13,7 @@ mod needs;
 mod perform;
 mod report;
 mod shapes;
+mod sides;
 
 use crate::job::asked;
 use crate::perform::perform;
@@ -24,7 +26,7 @@ use std_streams::{StdSink, words};
 
 /// What is written where the words ask for nothing.
 const USAGE: &[u8] =
-    b"usage: incr_bench chain|fan|tree|fold|cut|never|idle|flip|flipx|aside|switch|random SIZE ROUNDS | incr_bench needs SIZE\n";
+    b"usage: incr_bench chain|fan|tree|fold|cut|never|idle|flip|flipx|aside|switch|bind|nested|random SIZE ROUNDS | incr_bench needs SIZE\n";
 
 fn main(rt: HostRuntime) -> ExitCode {
     let words = match words(rt.alloc(), env::args(&rt)) {

@@ -17,11 +17,16 @@ use std::alloc::Global;
 use std::time::Clock;
 
 /// Builds a graph and runs rounds over it.
-fn measure_rounds<C: Clock>(live: &mut Live, clock: &C, job: Job) -> Result<Rounds, Fault>
+fn measure_rounds<C: Clock>(
+    alloc: Global,
+    live: &mut Live,
+    clock: &C,
+    job: Job,
+) -> Result<Rounds, Fault>
     requires { IsWithin job }
 {
     let start = begin(clock);
-    let steady = Steady::new(live, job.shape, job.size)?;
+    let steady = Steady::new(alloc, live, job.shape, job.size)?;
     let building = since(clock, start);
     steady.measure(live, clock, job.rounds, building)
 }
@@ -69,7 +74,7 @@ fn found_over<C: Clock>(
             Ok(of_ends(alloc, job, ends)?)
         }
         _ => {
-            let rounds = measure_rounds(live, clock, job)?;
+            let rounds = measure_rounds(alloc, live, clock, job)?;
             Ok(of_rounds(alloc, job, rounds)?)
         }
     }

@@ -68,7 +68,12 @@ pub fn of_rounds(alloc: Global, job: Job, rounds: Rounds) -> Result<Findings, Al
 
 /// Tells what a campaign counted.
 fn tell_counts(alloc: Global, counts: &mut String, tally: Tally) -> Result<(), AllocError> {
+    tell(alloc, counts, "calls", tally.calls)?;
+    tell(alloc, counts, "builds", tally.builds)?;
+    tell(alloc, counts, "grabs", tally.grabs)?;
+    tell(alloc, counts, "deaths", tally.deaths)?;
     tell(alloc, counts, "stabilizes", tally.stabilizes)?;
+    tell(alloc, counts, "refusals", tally.refusals)?;
     tell(alloc, counts, "comparisons", tally.comparisons)?;
     tell(alloc, counts, "disagreements", tally.disagreements)
 }
@@ -79,7 +84,6 @@ pub fn of_tally(alloc: Global, job: Job, tally: Tally) -> Result<Findings, Alloc
 {
     let mut counts = String::new(alloc);
     let mut times = String::new(alloc);
-    tell_calls(alloc, &mut counts, tally.calls, tally.last)?;
     tell_counts(alloc, &mut counts, tally)?;
     tell_time(alloc, &mut times, "rounds", tally.running, job.rounds)?;
     Ok(Findings {

@@ -5,6 +5,8 @@ use crate::clock::{begin, since};
 use crate::job::Shape;
 use crate::live::Live;
 use bench_engine::Fault;
+use plain_evaluation::{Line, Part, Side};
+use std::alloc::{AllocError, Global};
 use std::time::Clock;
 
 /// How many negations the chain has that changes beside nodes at rest.
@@ -247,8 +249,68 @@ fn switch(live: &mut Live, size: usize) -> Result<(), Fault>
     live.observe(size + 1)
 }
 
+/// Right sides of so many nodes beside the left number: negations of it, that are summed pairwise.
+fn tree_side(alloc: Global, size: usize) -> Result<Side, AllocError>
+    requires { size ≤ 1000000 }
+{
+    let leaves = size / 2 + 1;
+    let mut lines = Vec::new(alloc);
+    for _ in 0..leaves {
+        lines.push(Line::Neg(Part::Line(0)))?;
+    }
+    for k in 1..leaves {
+        lines.push(Line::Sum(Part::Line(2 * k - 1), Part::Line(2 * k)))?;
+    }
+    Ok(Side {
+        lines,
+        root: Part::Line(2 * leaves - 1),
+    })
+}
+
+/// Right sides that bind the first right sides on the second node.
+fn binding_side(alloc: Global) -> Result<Side, AllocError> {
+    let mut lines = Vec::new(alloc);
+    lines.push(Line::Bind {
+        left: Part::Outside(1),
+        side: 0,
+        first: Part::Line(0),
+        second: Part::Line(0),
+    })?;
+    Ok(Side {
+        lines,
+        root: Part::Line(1),
+    })
+}
+
+/// A variable and a bind on it, which is observed.
+fn bind(alloc: Global, live: &mut Live, size: usize) -> Result<(), Fault>
+    requires { size ≤ 1000000 }
+    ensures uncalled { live.new.engine.calls ≡ live.old.engine.calls }
+{
+    let side = tree_side(alloc, size)?;
+    live.keep(&[], &side)?;
+    live.var(1)?;
+    live.bind(0, 0, 0, 0)?;
+    live.observe(1)
+}
+
+/// Two variables, and a bind on the first of binds on the second, which is observed.
+fn nested(alloc: Global, live: &mut Live, size: usize) -> Result<(), Fault>
+    requires { size ≤ 1000000 }
+    ensures uncalled { live.new.engine.calls ≡ live.old.engine.calls }
+{
+    let side = tree_side(alloc, size)?;
+    live.keep(&[], &side)?;
+    live.var(1)?;
+    live.var(1)?;
+    let outer = binding_side(alloc)?;
+    live.keep(&[], &outer)?;
+    live.bind(0, 1, 0, 0)?;
+    live.observe(2)
+}
+
 /// Makes the nodes and observers of a shape.
-fn fill(live: &mut Live, shape: Shape, size: usize) -> Result<(), Fault>
+fn fill(alloc: Global, live: &mut Live, shape: Shape, size: usize) -> Result<(), Fault>
     requires small { size ≤ 1000000 }
     requires some { 0 < size }
     ensures uncalled { live.new.engine.calls ≡ live.old.engine.calls }
@@ -263,6 +325,8 @@ fn fill(live: &mut Live, shape: Shape, size: usize) -> Result<(), Fault>
         Shape::Flip | Shape::Flipx => flip(live, size),
         Shape::Aside => aside(live, size),
         Shape::Switch => switch(live, size),
+        Shape::Bind => bind(alloc, live, size),
+        Shape::Nested => nested(alloc, live, size),
         Shape::Fan | Shape::Random | Shape::Needs => fan(live, size),
     }
 }
@@ -274,6 +338,7 @@ fn act_of(shape: Shape, size: usize) -> Act {
         Shape::Flip | Shape::Aside => Act::Flip,
         Shape::Flipx => Act::FlipBoth,
         Shape::Switch => Act::Switch(size),
+        Shape::Nested => Act::Turn(2),
         _ => Act::Turn(1),
     }
 }
@@ -319,12 +384,12 @@ fn flipped(live: &mut Live, round: u64) -> Result<(), Fault>
 
 impl Steady {
     /// Makes a graph of a shape, where there are no nodes, and stabilizes it.
-    pub fn new(live: &mut Live, shape: Shape, size: usize) -> Result<Steady, Fault>
+    pub fn new(alloc: Global, live: &mut Live, shape: Shape, size: usize) -> Result<Steady, Fault>
         requires small { size ≤ 1000000 }
         requires some { 0 < size }
         ensures calls_grow { live.old.engine.calls ≤ live.new.engine.calls }
     {
-        fill(live, shape, size)?;
+        fill(alloc, live, shape, size)?;
         live.stabilize()?;
         Ok(Steady {
             act: act_of(shape, size),

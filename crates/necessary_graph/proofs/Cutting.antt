@@ -1,33 +1,37 @@
 -- A link or a root comes off, and a sweep follows.
-use Rattle.std.proofs.Common.{◌≡◌, ◌⊎◌, inl, inr, ℕ, ◌<◌, ◌≤◌, Some, arith, sym, refl, ap, ◌∙◌}
+use Rattle.std.proofs.Common.{◌≡◌, ◌⊎◌, inl, inr, ℕ, ◌<◌, ◌≤◌, Bool, Some, arith, sym, refl, ap, ◌∙◌}
+use Rattle.std.specs.Prelude.{None, is_some}
 use Rattle.std.proofs.lemmas.Option.{none-some}
 use Rattle.inc_value.specs.declared.node.Point.{Point}
+use Rattle.inc_value.specs.Choice.{Reaches, here}
 use Rattle.point_map.specs.Rows.{at}
 use Rattle.point_map.proofs.Places.{point_cases}
 use Rattle.link_table.specs.Links.{times, Reads, KeepsLinks, OneLinkMore}
 use Rattle.necessity.specs.Need.{root_times, KeepsRoots, OneRootMore}
+use Rattle.height_order.specs.Levels.{level}
 use Rattle.necessary_graph.specs.Part.{NecessaryPart, Needed, IsInStep}
-use Rattle.necessary_graph.specs.Sweep.{Sweep, IsSwept, IsBare, IsUnlinked, IsUnrooted}
-use Rattle.necessary_graph.proofs.Reaching.{root_needed, read_needed, needed_has, needed_more, thinned_need, thinned_up, thinned_down}
+use Rattle.necessary_graph.specs.Sweep.{Sweep, DropsLeaves, IsSwept, IsBare, IsRead, IsUnlinked, IsUnrooted}
+use Rattle.necessary_graph.proofs.Reaching.{leads_more, root_needed, read_needed, led_needed, needed_has, needed_more, thinned_need, thinned_up, thinned_down}
 use Rattle.necessary_graph.proofs.Sweeping.{link_cases, again_swept, swept_then}
 
 -- needed still, or without links and out of the heap
-abbrev pub IsDealtWith : NecessaryPart → NecessaryPart → Point → Type 0
-IsDealtWith t u p = Needed t p ⊎ IsBare u p
+abbrev pub IsDealtWith : (Point → Bool) → NecessaryPart → NecessaryPart → Point → Type 0
+IsDealtWith leaf t u p = Needed t p ⊎ IsBare leaf u p
 
 -- less than before, and what was needed by it is dealt with
-pub record IsCut (old t u : NecessaryPart) : Type 0 where
+pub record IsCut (leaf : Point → Bool) (old t u : NecessaryPart) : Type 0 where
   pub heights : t.heights ≡ old.heights
   pub heap : t.heap ≡ old.heap
   pub roots : (a : Point) → root_times t.roots a ≤ root_times old.roots a
   pub links : (a b : Point) → times t.links a b ≤ times old.links a b
-  pub root_done : (a : Point) → 0 < root_times old.roots a → IsDealtWith t u a
-  pub link_done : (a b : Point) → Reads old.links a b → Reads t.links a b ⊎ IsDealtWith t u b
+  pub root_done : (a : Point) → 0 < root_times old.roots a → IsDealtWith leaf t u a
+  pub link_done : (a b : Point) → Reads old.links a b → Reads t.links a b ⊎ IsDealtWith leaf t u b
 
-module _ (old t u : NecessaryPart) (inv : IsInStep old) (cut : IsCut old t u) (w : IsSwept t u) where
+module _ (leaf : Point → Bool) (first : Point) (old t u : NecessaryPart) (inv : IsInStep old) (was : Needed old first) (cut : IsCut leaf old t u)
+    (w : IsSwept leaf first t u) where
   -- all that was needed is dealt with
-  covered : (a : Point) → Needed old a → IsDealtWith t u a
-  covered a n = needed_has old (IsDealtWith t u) cut.root_done (λ x y r d. elim (cut.link_done x y r) [
+  covered : (a : Point) → Needed old a → IsDealtWith leaf t u a
+  covered a n = needed_has old (IsDealtWith leaf t u) cut.root_done (λ x y r d. elim (cut.link_done x y r) [
     | inr done ↦ done
     | inl still ↦ elim d [
       | inl needed ↦ inl (read_needed t x y needed still)
@@ -52,7 +56,6 @@ module _ (old t u : NecessaryPart) (inv : IsInStep old) (cut : IsCut old t u) (w
 
   pub cut_sweep : Sweep t u
   cut_sweep = record {
-    heights = w.heights;
     roots = w.thinned.roots;
     reached = thinned_need t u w.thinned;
     kept = w.thinned.kept;
@@ -62,26 +65,75 @@ module _ (old t u : NecessaryPart) (inv : IsInStep old) (cut : IsCut old t u) (w
     heap = λ a h e. (w.heap_fewer a h e, heap_needed a h e);
   }
 
+  -- what the first led to was needed
+  led_by_first : (a : Point) → Reaches (Reads t.links) first a → Needed old a
+  led_by_first a leads = led_needed old first a was (leads_more t.links old.links cut.links leads)
+
+  -- a leaf isn't read by what isn't needed, so it is gone
+  needed_or_gone : (a : Point) → IsRead u.links a ⊎ (at u.heights a ≡ None) → Needed u a ⊎ (at u.heights a ≡ None)
+  needed_or_gone a (inr gone) = inr gone
+  needed_or_gone a (inl (r, reads)) = inl (read_needed u r a (thinned_up t u w.thinned r (reader_needed r a reads)) reads)
+
+  pub cut_drops : DropsLeaves leaf old u
+  cut_drops = record {
+    heights = λ a. elim (w.heights a) [
+      | inl same ↦ inl (same ∙ ap (λ m. at m a) cut.heights)
+      | inr shed ↦ inr (record {
+        is_leaf = shed.is_leaf;
+        was = led_by_first a shed.leads;
+        unneeded = λ n. shed.unneeded (thinned_down t u w.thinned a n);
+        gone = shed.gone;
+      })
+    ];
+    leaves = λ a is n. elim (covered a n) [
+      | inl needed ↦ inl (thinned_up t u w.thinned a needed)
+      | inr bare ↦ needed_or_gone a (bare.left is)
+    ];
+  }
+
+  -- a needed point keeps its height
+  same_height : (a : Point) → Needed t a → at u.heights a ≡ at old.heights a
+  same_height a n = elim (w.heights a) [ inl same ↦ same ∙ ap (λ m. at m a) cut.heights | inr shed ↦ absurd (shed.unneeded n) ]
+
+  -- none is higher
+  low_still : (a : Point) → level u.heights a ≤ 128
+  low_still a = elim (w.heights a) [
+    | inl same ↦ rw (same, cut.heights) (inv.low a)
+    | inr shed ↦ rw shed.gone (omega arith)
+  ]
+
+  -- both points of a link that is left were needed before, and are
+  kid_needed : (a b : Point) → Reads u.links a b → Needed t b
+  kid_needed a b r = read_needed t a b (reader_needed a b r) (omega (arith, w.thinned.fewer a b, r))
+
   pub cut_in_step : IsInStep u
-  cut_in_step =
-      let same : u.heights ≡ old.heights = w.heights ∙ cut.heights in record {
-        ends = λ a b r. rw same (inv.ends a b (omega (arith, cut.links a b, w.thinned.fewer a b, r)));
-        rises = λ a b r. rw same (inv.rises a b (omega (arith, cut.links a b, w.thinned.fewer a b, r)));
-        low = λ a. rw same (inv.low a);
-        readers = λ a b r. thinned_up t u w.thinned a (reader_needed a b r);
-        there = λ a n. rw same (inv.there a (less_needed a (thinned_down t u w.thinned a n)));
-        heap = λ a h e. (rw same ((inv.heap a h (was_in a h e)).0), thinned_up t u w.thinned a (heap_needed a h e));
-      }
+  cut_in_step = record {
+    ends = λ a b r.
+        let before = inv.ends a b (omega (arith, cut.links a b, w.thinned.fewer a b, r)) in
+        (ap is_some (same_height a (reader_needed a b r)) ∙ before.0, ap is_some (same_height b (kid_needed a b r)) ∙ before.1);
+    rises = λ a b r.
+        rw (same_height a (reader_needed a b r), same_height b (kid_needed a b r))
+        (inv.rises a b (omega (arith, cut.links a b, w.thinned.fewer a b, r)));
+    low = low_still;
+    readers = λ a b r. thinned_up t u w.thinned a (reader_needed a b r);
+    there = λ a n.
+        let needed = thinned_down t u w.thinned a n in
+        ap is_some (same_height a needed) ∙ inv.there a (less_needed a needed);
+    heap = λ a h e. (same_height a (heap_needed a h e) ∙ (inv.heap a h (was_in a h e)).0, thinned_up t u w.thinned a (heap_needed a h e));
+  }
 
 -- a link comes off, and its kid is needed still or swept
-pub unlinked : (old t u : NecessaryPart) (p q : Point) → IsInStep old → OneLinkMore t.links old.links p q → KeepsRoots old.roots t.roots
-    → t.heights ≡ old.heights → t.heap ≡ old.heap → IsSwept t u → IsDealtWith t u q → IsUnlinked old u p q × IsInStep u
-unlinked old t u p q inv off roots heights heap w done =
+pub unlinked : (leaf : Point → Bool) (old t u : NecessaryPart) (p q : Point) → IsInStep old → OneLinkMore t.links old.links p q
+    → KeepsRoots old.roots t.roots → t.heights ≡ old.heights → t.heap ≡ old.heap → IsSwept leaf q t u → IsDealtWith leaf t u q
+    → IsUnlinked leaf old u p q × IsInStep u
+unlinked leaf old t u p q inv off roots heights heap w done =
     let s : NecessaryPart = record old { links = t.links } in
-    let again = again_swept s t roots (λ a b. refl) heights heap in
-    let all = swept_then s t u again w in
-    let kid : IsDealtWith s u q = elim done [ inl n ↦ inl (thinned_down s t again.thinned q n) | inr bare ↦ inr bare ] in
-    let cut : IsCut old s u = record {
+    let again = again_swept leaf q s t roots (λ a b. refl) heights heap in
+    let all = swept_then leaf q s t u q here again w in
+    let kid : IsDealtWith leaf s u q = elim done [ inl n ↦ inl (thinned_down s t again.thinned q n) | inr bare ↦ inr bare ] in
+    let read : Reads old.links p q = omega (arith, off.raised) in
+    let was : Needed old q = read_needed old p q (inv.readers p q read) read in
+    let cut : IsCut leaf old s u = record {
       heights = refl;
       heap = refl;
       roots = λ a. omega arith;
@@ -94,18 +146,22 @@ unlinked old t u p q inv off roots heights heap w done =
         | inl same ↦ inr (rw same.1 kid)
         | inr other ↦ inl (omega (arith, off.others a b other, r))
       ];
-    } in
-    (record { links = t.links; off = off; sweep = cut_sweep old s u inv cut all }, cut_in_step old s u inv cut all)
+    } in (
+      record { links = t.links; off = off; sweep = cut_sweep leaf q old s u inv was cut all; drops = cut_drops leaf q old s u inv was cut all },
+      cut_in_step leaf q old s u inv was cut all,
+    )
 
 -- a root comes off, and the point is needed still or swept
-pub unrooted : (old t u : NecessaryPart) (p : Point) → IsInStep old → OneRootMore t.roots old.roots p → KeepsLinks old.links t.links
-    → t.heights ≡ old.heights → t.heap ≡ old.heap → IsSwept t u → IsDealtWith t u p → IsUnrooted old u p × IsInStep u
-unrooted old t u p inv off links heights heap w done =
+pub unrooted : (leaf : Point → Bool) (old t u : NecessaryPart) (p : Point) → IsInStep old → OneRootMore t.roots old.roots p
+    → KeepsLinks old.links t.links → t.heights ≡ old.heights → t.heap ≡ old.heap → IsSwept leaf p t u → IsDealtWith leaf t u p
+    → IsUnrooted leaf old u p × IsInStep u
+unrooted leaf old t u p inv off links heights heap w done =
     let s : NecessaryPart = record old { roots = t.roots } in
-    let again = again_swept s t (λ a. refl) links heights heap in
-    let all = swept_then s t u again w in
-    let point : IsDealtWith s u p = elim done [ inl n ↦ inl (thinned_down s t again.thinned p n) | inr bare ↦ inr bare ] in
-    let cut : IsCut old s u = record {
+    let again = again_swept leaf p s t (λ a. refl) links heights heap in
+    let all = swept_then leaf p s t u p here again w in
+    let point : IsDealtWith leaf s u p = elim done [ inl n ↦ inl (thinned_down s t again.thinned p n) | inr bare ↦ inr bare ] in
+    let was : Needed old p = root_needed old p (omega (arith, off.raised)) in
+    let cut : IsCut leaf old s u = record {
       heights = refl;
       heap = refl;
       roots = λ a. elim (point_cases a p) [
@@ -118,16 +174,18 @@ unrooted old t u p inv off links heights heap w done =
         | inr other ↦ inl (root_needed s a (omega (arith, off.others a other, r)))
       ];
       link_done = λ a b r. inl r;
-    } in
-    (record { roots = t.roots; off = off; sweep = cut_sweep old s u inv cut all }, cut_in_step old s u inv cut all)
+    } in (
+      record { roots = t.roots; off = off; sweep = cut_sweep leaf p old s u inv was cut all; drops = cut_drops leaf p old s u inv was cut all },
+      cut_in_step leaf p old s u inv was cut all,
+    )
 
 -- and where the kid, or the point, is needed still nothing is swept
-pub unlinked_alone : (old t : NecessaryPart) (p q : Point) → IsInStep old → OneLinkMore t.links old.links p q → KeepsRoots old.roots t.roots
-    → t.heights ≡ old.heights → t.heap ≡ old.heap → Needed t q → IsUnlinked old t p q × IsInStep t
-unlinked_alone old t p q inv off roots heights heap n =
-    unlinked old t t p q inv off roots heights heap (again_swept t t (λ a. refl) (λ a b. refl) refl refl) (inl n)
+pub unlinked_alone : (leaf : Point → Bool) (old t : NecessaryPart) (p q : Point) → IsInStep old → OneLinkMore t.links old.links p q
+    → KeepsRoots old.roots t.roots → t.heights ≡ old.heights → t.heap ≡ old.heap → Needed t q → IsUnlinked leaf old t p q × IsInStep t
+unlinked_alone leaf old t p q inv off roots heights heap n =
+    unlinked leaf old t t p q inv off roots heights heap (again_swept leaf q t t (λ a. refl) (λ a b. refl) refl refl) (inl n)
 
-pub unrooted_alone : (old t : NecessaryPart) (p : Point) → IsInStep old → OneRootMore t.roots old.roots p → KeepsLinks old.links t.links
-    → t.heights ≡ old.heights → t.heap ≡ old.heap → Needed t p → IsUnrooted old t p × IsInStep t
-unrooted_alone old t p inv off links heights heap n =
-    unrooted old t t p inv off links heights heap (again_swept t t (λ a. refl) (λ a b. refl) refl refl) (inl n)
+pub unrooted_alone : (leaf : Point → Bool) (old t : NecessaryPart) (p : Point) → IsInStep old → OneRootMore t.roots old.roots p
+    → KeepsLinks old.links t.links → t.heights ≡ old.heights → t.heap ≡ old.heap → Needed t p → IsUnrooted leaf old t p × IsInStep t
+unrooted_alone leaf old t p inv off links heights heap n =
+    unrooted leaf old t t p inv off links heights heap (again_swept leaf p t t (λ a. refl) (λ a b. refl) refl refl) (inl n)

@@ -1,5 +1,8 @@
 pub mod Bags
+pub mod Composing
 pub mod Cutting
+pub mod Descending
+pub mod Dropping
 pub mod Found
 pub mod Linking
 pub mod Raising

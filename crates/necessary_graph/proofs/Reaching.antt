@@ -1,9 +1,9 @@
 -- What is needed, along links.
-use Rattle.std.proofs.Common.{◌<◌, arith, ◌∙◌}
+use Rattle.std.proofs.Common.{◌<◌, ◌≤◌, arith, ◌∙◌}
 use Rattle.std.specs.Prelude.{◌↔◌}
 use Rattle.inc_value.specs.declared.node.Point.{Point}
 use Rattle.inc_value.specs.Choice.{Reaches, here, step}
-use Rattle.link_table.specs.Links.{Reads}
+use Rattle.link_table.specs.Links.{Links, times, Reads}
 use Rattle.necessity.specs.Need.{root_times}
 use Rattle.necessary_graph.specs.Part.{NecessaryPart, Needed}
 use Rattle.necessary_graph.specs.Sweep.{IsThinned}
@@ -12,6 +12,17 @@ use Rattle.necessary_graph.specs.Sweep.{IsThinned}
 pub reaches_more : {A : Type 0} {R : A → A → Type 0} {a b c : A} → Reaches R a b → R b c → Reaches R a c
 reaches_more here r = step r here
 reaches_more (step first rest) r = step first (reaches_more rest r)
+
+-- one walk after another
+pub reaches_on : {A : Type 0} {R : A → A → Type 0} {a b c : A} → Reaches R a b → Reaches R b c → Reaches R a c
+reaches_on here r = r
+reaches_on (step first rest) r = step first (reaches_on rest r)
+
+-- what is led to over fewer links is led to over more
+pub leads_more : (fewer more : Links) → ((a b : Point) → times fewer a b ≤ times more a b) → {a b : Point} → Reaches (Reads fewer) a b
+    → Reaches (Reads more) a b
+leads_more fewer more less here = here
+leads_more fewer more less (step {a} {b} r rest) = step (omega (arith, less a b, r)) (leads_more fewer more less rest)
 
 -- what goes along each step goes along a walk
 pub walk_has : {A : Type 0} {R : A → A → Type 0} (P : A → Type 0) → ((a b : A) → R a b → P a → P b) → {a b : A} → Reaches R a b → P a → P b
@@ -25,6 +36,10 @@ root_needed g p h = record { root = p; is_root = h; leads = here }
 -- what a needed point reads is needed
 pub read_needed : (g : NecessaryPart) (a b : Point) → Needed g a → Reads g.links a b → Needed g b
 read_needed g a b n r = record { root = n.root; is_root = n.is_root; leads = reaches_more n.leads r }
+
+-- what a needed point leads to is needed
+pub led_needed : (g : NecessaryPart) (a b : Point) → Needed g a → Reaches (Reads g.links) a b → Needed g b
+led_needed g a b n leads = record { root = n.root; is_root = n.is_root; leads = reaches_on n.leads leads }
 
 -- what roots have and what goes along links is had by all that is needed
 pub needed_has : (g : NecessaryPart) (P : Point → Type 0) → ((a : Point) → 0 < root_times g.roots a → P a) → ((a b : Point) → Reads g.links a b → P a → P b)

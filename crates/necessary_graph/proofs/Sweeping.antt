@@ -1,17 +1,18 @@
 -- Steps of a sweep.
-use Rattle.std.proofs.Common.{◌≡◌, ◌≢◌, ◌⊎◌, inl, inr, ℕ, ◌≤◌, arith, sym, refl, ap, ◌∙◌, Some}
+use Rattle.std.proofs.Common.{◌≡◌, ◌≢◌, ◌⊎◌, inl, inr, ℕ, ◌≤◌, Bool, true, arith, sym, refl, ap, ◌∙◌, Some}
 use Rattle.std.specs.Prelude.{Option, None}
-use Rattle.std.proofs.lemmas.Bool.{cases_lt}
+use Rattle.std.proofs.lemmas.Bool.{cases_lt, cases_Bool}
 use Rattle.std.proofs.lemmas.Option.{none-some}
 use Rattle.inc_value.specs.declared.node.Point.{Point}
+use Rattle.inc_value.specs.Choice.{Reaches, here, step}
 use Rattle.point_map.specs.Rows.{at}
 use Rattle.point_map.proofs.Places.{point_cases}
 use Rattle.link_table.specs.Links.{link, times, Reads, KeepsLinks, OneLinkMore}
 use Rattle.necessity.specs.Need.{KeepsRoots}
 use Rattle.height_order.specs.Levels.{Rises}
 use Rattle.necessary_graph.specs.Part.{NecessaryPart, Needed}
-use Rattle.necessary_graph.specs.Sweep.{IsThinned, IsSwept, IsBare}
-use Rattle.necessary_graph.proofs.Reaching.{thinned_up, thinned_down, thinned_then}
+use Rattle.necessary_graph.specs.Sweep.{IsThinned, IsSwept, IsBare, IsRead}
+use Rattle.necessary_graph.proofs.Reaching.{reaches_on, leads_more, thinned_up, thinned_down, thinned_then}
 
 -- two links are the same, or not
 pub link_cases : (a b p q : Point) → ((a ≡ p) × (b ≡ q)) ⊎ (link a b ≢ link p q)
@@ -28,34 +29,71 @@ pub none_of : (x : Option ℕ) → ((h : ℕ) → x ≡ Some h → ⊥) → x �
 none_of None never = refl
 none_of (Some h) never = absurd (never h refl)
 
--- the same roots, links, heights and heap
-pub again_swept : (s t : NecessaryPart) → KeepsRoots s.roots t.roots → KeepsLinks s.links t.links → t.heights ≡ s.heights → t.heap ≡ s.heap → IsSwept s t
-again_swept s t roots links heights heap = record {
-  thinned = record { roots = roots; fewer = λ a b. omega (arith, links a b); kept = λ a b n. links a b };
-  heights = heights;
-  followed = λ a b less. absurd (omega (arith, links a b, less));
-  heap_kept = λ a n. rw heap refl;
-  heap_fewer = λ a h e. rw heap at e;
-}
+module _ (leaf : Point → Bool) (first : Point) where
+  -- the same roots, links, heights and heap
+  pub again_swept : (s t : NecessaryPart) → KeepsRoots s.roots t.roots → KeepsLinks s.links t.links → t.heights ≡ s.heights → t.heap ≡ s.heap
+      → IsSwept leaf first s t
+  again_swept s t roots links heights heap = record {
+    thinned = record { roots = roots; fewer = λ a b. omega (arith, links a b); kept = λ a b n. links a b };
+    heights = λ a. inl (ap (λ m. at m a) heights);
+    followed = λ a b less. absurd (omega (arith, links a b, less));
+    heap_kept = λ a n. rw heap refl;
+    heap_fewer = λ a h e. rw heap at e;
+  }
 
--- what is bare stays bare
-pub bare_stays : (t u : NecessaryPart) → IsSwept t u → (p : Point) → IsBare t p → IsBare u p
-bare_stays t u w p bare = record {
-  reads_none = λ q. omega (arith, w.thinned.fewer p q, bare.reads_none q);
-  out = none_of (at u.heap p) (λ h e. none-some h (sym bare.out ∙ w.heap_fewer p h e));
-}
+  -- what is gone stays gone
+  pub gone_stays : (t u : NecessaryPart) → IsSwept leaf first t u → (p : Point) → at t.heights p ≡ None → at u.heights p ≡ None
+  gone_stays t u w p gone = elim (w.heights p) [ inl same ↦ same ∙ gone | inr shed ↦ shed.gone ]
 
-pub swept_then : (s t u : NecessaryPart) → IsSwept s t → IsSwept t u → IsSwept s u
-swept_then s t u f g = record {
-  thinned = thinned_then s t u f.thinned g.thinned;
-  heights = g.heights ∙ f.heights;
-  followed = λ a b less. elim (cases_lt (times t.links a b) (times s.links a b)) [
-    | inl first ↦ elim (f.followed a b first) [ inl n ↦ inl n | inr bare ↦ inr (bare_stays t u g b bare) ]
-    | inr not_first ↦ elim (g.followed a b (omega (arith, not_first, less))) [ inl n ↦ inl (thinned_down s t f.thinned b n) | inr bare ↦ inr bare ]
-  ];
-  heap_kept = λ a n. g.heap_kept a (thinned_up s t f.thinned a n) ∙ f.heap_kept a n;
-  heap_fewer = λ a h e. f.heap_fewer a h (g.heap_fewer a h e);
-}
+  -- what is bare stays bare, unless it is needed: a leaf that loses its last reader is dropped
+  pub bare_stays : (t u : NecessaryPart) → IsSwept leaf first t u → (p : Point) → IsBare leaf t p → Needed t p ⊎ IsBare leaf u p
+  bare_stays t u w p bare = elim (cases_Bool (leaf p)) [
+    | inr is_not ↦ inr (still (λ is. absurd (let e = sym is ∙ is_not in cc)))
+    | inl is ↦ elim (bare.left is) [
+      | inr gone ↦ inr (still (λ _. inr (gone_stays t u w p gone)))
+      | inl read ↦ elim (cases_lt 0 (times u.links read.0 p)) [
+        | inl reads_still ↦ inr (still (λ _. inl (read.0, reads_still)))
+        | inr none ↦ w.followed read.0 p (omega (arith, none, read.1))
+      ]
+    ]
+  ]
+    where
+      still : (leaf p ≡ true → IsRead u.links p ⊎ (at u.heights p ≡ None)) → IsBare leaf u p
+      still left = record {
+        reads_none = λ q. omega (arith, w.thinned.fewer p q, bare.reads_none q);
+        out = none_of (at u.heap p) (λ h e. none-some h (sym bare.out ∙ w.heap_fewer p h e));
+        left = left;
+      }
+
+-- a sweep, and then one of what the first leads to
+module _ (leaf : Point → Bool) (first : Point) where
+  -- two sweeps of the same
+  pub swept_then : (s t u : NecessaryPart) (next : Point) → Reaches (Reads s.links) first next → IsSwept leaf first s t → IsSwept leaf next t u
+      → IsSwept leaf first s u
+  swept_then s t u next leads f g = record {
+    thinned = thinned_then s t u f.thinned g.thinned;
+    heights = λ a. elim (g.heights a) [
+      | inl same ↦ elim (f.heights a) [
+        | inl before ↦ inl (same ∙ before)
+        | inr shed ↦ inr (record { is_leaf = shed.is_leaf; unneeded = shed.unneeded; leads = shed.leads; gone = same ∙ shed.gone })
+      ]
+      | inr shed ↦ inr (record {
+        is_leaf = shed.is_leaf;
+        unneeded = λ n. shed.unneeded (thinned_up s t f.thinned a n);
+        leads = reaches_on leads (leads_more t.links s.links f.thinned.fewer shed.leads);
+        gone = shed.gone;
+      })
+    ];
+    followed = λ a b less. elim (cases_lt (times t.links a b) (times s.links a b)) [
+      | inl earlier ↦ elim (f.followed a b earlier) [
+        | inl n ↦ inl n
+        | inr bare ↦ elim (bare_stays leaf next t u g b bare) [ inl n ↦ inl (thinned_down s t f.thinned b n) | inr done ↦ inr done ]
+      ]
+      | inr not_earlier ↦ elim (g.followed a b (omega (arith, not_earlier, less))) [ inl n ↦ inl (thinned_down s t f.thinned b n) | inr bare ↦ inr bare ]
+    ];
+    heap_kept = λ a n. g.heap_kept a (thinned_up s t f.thinned a n) ∙ f.heap_kept a n;
+    heap_fewer = λ a h e. f.heap_fewer a h (g.heap_fewer a h e);
+  }
 
 -- a link of p is off, and all else is as it was
 pub record IsOff (s t : NecessaryPart) (p q : Point) : Type 0 where
@@ -80,12 +118,25 @@ off_thinned s t p q unneeded off = record {
   ];
 }
 
+-- the link that comes off was there
+pub off_read : (s t : NecessaryPart) (p q : Point) → IsOff s t p q → Reads s.links p q
+off_read s t p q off = omega (arith, off.link.raised)
+
 -- a link of a point that isn't needed comes off, and its kid is swept, unless it is needed
-pub link_swept : (s t u : NecessaryPart) (p q : Point) → (Needed s p → ⊥) → IsOff s t p q → IsSwept t u → Needed t q ⊎ IsBare u q → IsSwept s u
-link_swept s t u p q unneeded off w kid =
+pub link_swept : (leaf : Point → Bool) (s t u : NecessaryPart) (p q : Point) → (Needed s p → ⊥) → IsOff s t p q → IsSwept leaf q t u
+    → Needed t q ⊎ IsBare leaf u q → IsSwept leaf p s u
+link_swept leaf s t u p q unneeded off w kid =
     let thin = off_thinned s t p q unneeded off in record {
       thinned = thinned_then s t u thin w.thinned;
-      heights = w.heights ∙ off.heights;
+      heights = λ a. elim (w.heights a) [
+        | inl same ↦ inl (same ∙ ap (λ m. at m a) off.heights)
+        | inr shed ↦ inr (record {
+          is_leaf = shed.is_leaf;
+          unneeded = λ n. shed.unneeded (thinned_up s t thin a n);
+          leads = step (off_read s t p q off) (leads_more t.links s.links thin.fewer shed.leads);
+          gone = shed.gone;
+        })
+      ];
       followed = λ a b less. elim (link_cases a b p q) [
         | inl same ↦ elim kid [
           | inl n ↦ inl (rw same.1 (thinned_down s t thin q n))
@@ -101,12 +152,12 @@ link_swept s t u p q unneeded off w kid =
     }
 
 -- a sweep under way at p: a link to a kid came off, and the kid was swept unless it is needed
-module _ (s0 s t u : NecessaryPart) (p q : Point) (unneeded : Needed s0 p → ⊥) (so_far : IsSwept s0 s) (off : IsOff s t p q) where
+module _ (leaf : Point → Bool) (s0 s t u : NecessaryPart) (p q : Point) (unneeded : Needed s0 p → ⊥) (so_far : IsSwept leaf p s0 s) (off : IsOff s t p q) where
   pub unneeded_still : Needed s p → ⊥
   unneeded_still n = unneeded (thinned_down s0 s so_far.thinned p n)
 
-  pub more_swept : IsSwept t u → Needed t q ⊎ IsBare u q → IsSwept s0 u
-  more_swept w kid = swept_then s0 s u so_far (link_swept s t u p q unneeded_still off w kid)
+  pub more_swept : IsSwept leaf q t u → Needed t q ⊎ IsBare leaf u q → IsSwept leaf p s0 u
+  more_swept w kid = swept_then leaf p s0 s u p here so_far (link_swept leaf s t u p q unneeded_still off w kid)
 
 -- fewer links rise too
 pub rises_still : (s t : NecessaryPart) (height : Point → ℕ) → Rises (Reads s.links) height → ((a b : Point) → times t.links a b ≤ times s.links a b)
@@ -114,5 +165,5 @@ pub rises_still : (s t : NecessaryPart) (height : Point → ℕ) → Rises (Read
 rises_still s t height rises fewer a b r = rises a b (omega (arith, fewer a b, r))
 
 -- what was out of the heap stays out
-pub out_still : (t u : NecessaryPart) (p : Point) → IsSwept t u → at t.heap p ≡ None → at u.heap p ≡ None
-out_still t u p w out = none_of (at u.heap p) (λ h e. none-some h (sym out ∙ w.heap_fewer p h e))
+pub out_still : (leaf : Point → Bool) (first : Point) (t u : NecessaryPart) (p : Point) → IsSwept leaf first t u → at t.heap p ≡ None → at u.heap p ≡ None
+out_still leaf first t u p w out = none_of (at u.heap p) (λ h e. none-some h (sym out ∙ w.heap_fewer p h e))

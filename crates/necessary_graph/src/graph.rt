@@ -11,10 +11,10 @@ ghost use Rattle.height_order.specs.Levels.{level, KeepsPoints, IsExactBelow};
 ghost use Rattle.height_order.specs.Faults.{IfPath, IfOver};
 ghost use Rattle.necessary_graph.specs.Part.{web, Needed, IsInStep, AlsoNeeded};
 ghost use Rattle.necessary_graph.specs.Readers.{HasReaders};
-ghost use Rattle.necessary_graph.specs.Sweep.{IsUnlinked, IsUnrooted};
+ghost use Rattle.necessary_graph.specs.Sweep.{IsUnlinked, IsReduced, IsUnrooted};
 
 use crate::readers::{Skip, put, put_readers};
-use crate::sweep::{raise_moved, sweep, take_out};
+use crate::sweep::{Leaves, kid_beside, raise_moved, sweep, take_out};
 use height_order::{Heights, LinkFault};
 use inc_value::Point;
 use necessity::{Kids, Needs, Readers};
@@ -117,15 +117,23 @@ impl NecessaryGraph {
         Ok(newly)
     }
 
-    /// Takes a root off, once. What is no longer needed then loses its links and leaves the heap. This takes no memory.
-    pub fn root_off(&mut self, p: Point)
+    /// Takes a root off, once. What is no longer needed then loses its links and leaves the heap, and leaves that are no
+    /// longer needed are dropped. This takes no memory.
+    pub fn root_off<L: Leaves>(&mut self, p: Point, leaves: &L)
         requires root { IsRoot (web self.old) p }
-        ensures unrooted { IsUnrooted self.old self.new p }
+        ensures unrooted { IsUnrooted (L.is_leaf leaves.now) self.old self.new p }
         ensures in_step { IsInStep self.new }
     {
         self.needs.make_unneeded(p);
         if !self.needs.is_needed(p) {
-            sweep(&mut self.heights, &mut self.needs, &mut self.heap, p);
+            sweep(
+                &mut self.heights,
+                &mut self.needs,
+                &mut self.heap,
+                &mut self.points,
+                p,
+                leaves,
+            );
         }
     }
 
@@ -169,17 +177,36 @@ impl NecessaryGraph {
         }
     }
 
-    /// Takes a link from `p` to `q` off, once. What is no longer needed then loses its links and leaves the heap.
-    /// This takes no memory.
-    pub fn unlink(&mut self, p: Point, q: Point)
+    /// Takes a link from `p` to `q` off, once. What is no longer needed then loses its links and leaves the heap, and
+    /// leaves that are no longer needed are dropped. This takes no memory.
+    pub fn unlink<L: Leaves>(&mut self, p: Point, q: Point, leaves: &L)
         requires linked { Reads self.old.links p q }
-        ensures unlinked { IsUnlinked self.old self.new p q }
+        ensures unlinked { IsUnlinked (L.is_leaf leaves.now) self.old self.new p q }
         ensures in_step { IsInStep self.new }
     {
         self.needs.detach(p, q);
         self.heights.unlink(p, q);
         if !self.needs.is_needed(q) {
-            sweep(&mut self.heights, &mut self.needs, &mut self.heap, q);
+            sweep(
+                &mut self.heights,
+                &mut self.needs,
+                &mut self.heap,
+                &mut self.points,
+                q,
+                leaves,
+            );
+        }
+    }
+
+    /// Takes all links of a needed point off but those to one point. What is no longer needed then loses its links and
+    /// leaves the heap, and leaves that are no longer needed are dropped. This takes no memory.
+    pub fn reduce<L: Leaves>(&mut self, p: Point, kept: Point, leaves: &L)
+        requires needed { Needed self.old p }
+        ensures reduced { IsReduced (L.is_leaf leaves.now) self.old self.new p kept }
+        ensures in_step { IsInStep self.new }
+    {
+        while let Some(kid) = kid_beside(&self.needs, p, kept) {
+            self.unlink(p, kid, leaves);
         }
     }
 

@@ -10,3 +10,4 @@ pub use graph::NecessaryGraph;
 pub use height_order::LinkFault;
 pub use necessity::{Kids, Readers};
 pub use readers::Skip;
+pub use sweep::Leaves;

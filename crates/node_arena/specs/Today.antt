@@ -14,3 +14,7 @@ no_freezes = λ n. None
 -- no expert has a list
 abbrev pub no_experts : NodeId → List NodeId
 no_experts = λ n. []
+
+-- a node of another kind than constant, variable, map, fold, if, join and bind is well typed: none can be added yet
+abbrev pub OtherIsMade : Type 0
+OtherIsMade = ⊥

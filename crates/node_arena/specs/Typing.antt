@@ -15,6 +15,7 @@ use Rattle.inc_value.specs.declared.value.Value.{Value}
 use Rattle.inc_value.specs.declared.value.Value.TheVariants.{Node}
 use Rattle.inc_terms.specs.Graph.{Row, Def, Const, Var, Map, Fold, If, Join, Bind}
 use Rattle.node_arena.specs.Arena.{Arena, row_at, live, NamesGiven}
+use Rattle.node_arena.specs.Today.{OtherIsMade}
 
 -- the node is of the type, or dead
 abbrev pub Fits : Arena → NodeId → Ty → Type 0
@@ -80,7 +81,7 @@ Makes a (Fold f v kids) t = FoldMakes a f v kids t
 Makes a (If test left right) t = IfMakes a test left right t
 Makes a (Join kid) t = JoinMakes a kid t
 Makes a (Bind left f captures) t = BindMakes a left f captures t
-Makes a def t = ⊥
+Makes a def t = OtherIsMade
 
 -- a node of this definition and type can be added, where there is memory
 pub record IsAddable (a : Arena) (def : Def) (t : Ty) : Type 0 where

@@ -20,6 +20,10 @@ with_stage s k = record { stage = s; settled = k.settled; outcome = k.outcome; l
 abbrev pub with_outcome : Outcome → ℕ → Progress → Progress
 with_outcome o round k = record { stage = k.stage; settled = round; outcome = Some o; last = k.last; cutoff = k.cutoff }
 
+-- the row with no outcome
+abbrev pub without_outcome : Progress → Progress
+without_outcome k = record { stage = k.stage; settled = k.settled; outcome = None; last = k.last; cutoff = k.cutoff }
+
 -- the row with another last call
 abbrev pub with_call : machine.Call → Progress → Progress
 with_call c k = record { stage = k.stage; settled = k.settled; outcome = k.outcome; last = Some c; cutoff = k.cutoff }
@@ -41,6 +45,7 @@ pub record IsRewritten (old new : Rows Progress) (p : Point) (change : Progress 
 -- the machine's stage that a row's stage stands for
 abbrev pub stage_of : Stage → machine.Stage
 stage_of stage.Bare = machine.Bare
+stage_of stage.Gated = machine.Gated
 stage_of stage.Static = machine.Static
 stage_of stage.Full = machine.Full
 

@@ -3,7 +3,7 @@ ghost use Rattle.std.specs.Prelude.{◌≡◌, ◌↔◌, None, Some, IsTrue, On
 ghost use Rattle.point_map.specs.Rows.{at, Holds, KeepsRows};
 ghost use Rattle.inc_value.specs.declared.node.Part.TheVariants.{Change, Main};
 ghost use Rattle.node_outcomes.specs.declared.row.Progress.{Progress as Row};
-ghost use Rattle.node_outcomes.specs.Row.{with_stage, with_outcome, with_call, with_cutoff, stage_in, settled_in, IsRewritten, IsStopped};
+ghost use Rattle.node_outcomes.specs.Row.{with_stage, with_outcome, without_outcome, with_call, with_cutoff, stage_in, settled_in, IsRewritten, IsStopped};
 
 use crate::last_call::LastCall;
 use inc_value::{NodeId, Outcome, Part, Point, Value};
@@ -11,12 +11,13 @@ use map_nodes::{Cutoff, stops};
 use point_map::PointMap;
 use std::alloc::{AllocError, Global};
 
-/// Which links a needed point has. Scopes will add a stage between the first two: with its gate's link alone, until the
-/// gate ran.
-#[derive(Clone, Copy)]
+/// Which links a needed point has.
+#[derive(Clone, Copy, PartialEq, Eq)]
 pub enum Stage {
     /// None yet.
     Bare,
+    /// That to its gate alone: a point in the scope of a bind, until the bind's change ran.
+    Gated,
     /// All but that to its right side: a main of a node of two points, until the node's change ran.
     Static,
     /// All.
@@ -85,7 +86,20 @@ pub fn is_bare(rows: &PointMap<Progress>, p: Point) -> bool
     match rows.get(p) {
         Some(row) => match row.stage {
             Stage::Bare => true,
-            Stage::Static | Stage::Full => false,
+            Stage::Gated | Stage::Static | Stage::Full => false,
+        },
+        None => false,
+    }
+}
+
+/// Whether a point of a live node has its gate's link alone.
+pub fn is_gated(rows: &PointMap<Progress>, p: Point) -> bool
+    ensures { IsTrue result ↔ stage_in (at rows.now p) ≡ Some Stage.Gated }
+{
+    match rows.get(p) {
+        Some(row) => match row.stage {
+            Stage::Gated => true,
+            Stage::Bare | Stage::Static | Stage::Full => false,
         },
         None => false,
     }
@@ -98,7 +112,7 @@ pub fn is_static(rows: &PointMap<Progress>, p: Point) -> bool
     match rows.get(p) {
         Some(row) => match row.stage {
             Stage::Static => true,
-            Stage::Bare | Stage::Full => false,
+            Stage::Bare | Stage::Gated | Stage::Full => false,
         },
         None => false,
     }
@@ -111,10 +125,17 @@ pub fn is_full(rows: &PointMap<Progress>, p: Point) -> bool
     match rows.get(p) {
         Some(row) => match row.stage {
             Stage::Full => true,
-            Stage::Bare | Stage::Static => false,
+            Stage::Bare | Stage::Gated | Stage::Static => false,
         },
         None => false,
     }
+}
+
+/// The stage of a point of a live node.
+pub fn stage_of(rows: &PointMap<Progress>, p: Point) -> Option<Stage>
+    ensures { result ≡ stage_in (at rows.now p) }
+{
+    Some(rows.get(p)?.stage)
 }
 
 /// Gives a point another stage.
@@ -148,6 +169,15 @@ pub fn set_outcome(rows: &mut PointMap<Progress>, p: Point, outcome: Outcome, ro
     row.outcome = Some(outcome);
     row.settled = round;
     stopped
+}
+
+/// A change has no outcome any more: its node is built for nothing.
+pub fn forget_outcome(rows: &mut PointMap<Progress>, p: Point)
+    requires there { Holds rows.old p }
+    ensures { IsRewritten rows.old rows.new p without_outcome }
+{
+    let row = rows.get_mut(p).unwrap();
+    row.outcome = None;
 }
 
 /// Keeps the last call of a map's function. Without memory all rows stay.

@@ -1,2 +1,10 @@
-pub mod Levels
-pub mod Plain
+pub mod Evaluation
+pub mod Formula
+pub mod Found
+pub mod Laws
+pub mod Numbers
+pub mod Order
+pub mod Right
+pub mod Scopes
+pub mod Sweeping
+pub mod Verdicts

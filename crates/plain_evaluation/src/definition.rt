@@ -1,9 +1,4 @@
-//! What nodes are, and what they are worth, evaluated plainly from scratch.
-ghost use Rattle.std.specs.Prelude.{◌≡◌, IfOk};
-ghost use Rattle.plain_evaluation.specs.Plain.{at, found as found_at, target_of, value_of, passed, evaluated};
-ghost use Rattle.std.specs.Prelude.{slice_get};
-
-use std::alloc::{AllocError, Global};
+//! What nodes and right sides are.
 
 /// What a node is. Others are named by the place at which they stand in the order of making; a truth counts as 1,
 /// and its contrary as 0.
@@ -35,101 +30,64 @@ pub enum Definition {
 
     /// What the node is worth to which the variable at the place refers.
     Join(usize),
+
+    /// The right side that is made of the left number, over two captured nodes.
+    Bind {
+        left: usize,
+        side: usize,
+        first: usize,
+        second: usize,
+    },
+
+    /// The root of the right side that was built for the bind at a place, for this left number. It lives until the bind is
+    /// built anew.
+    Grab {
+        bind: usize,
+        left: i64,
+        lives: bool,
+    },
 }
 
-/// The value at a place, 0 where there is none.
-pub(crate) fn at(values: &[i64], place: usize) -> i64
-    ensures { result ≡ at values.now place }
-{
-    match values.get(place) {
-        Some(value) => *value,
-        None => 0,
-    }
+/// What a line of right sides reads.
+#[derive(Clone, Copy)]
+pub enum Part {
+    /// The node at a place.
+    Outside(usize),
+
+    /// The captured nodes.
+    First,
+    Second,
+
+    /// Another line of the same right sides. Line 0 is the left number.
+    Line(usize),
 }
 
-/// The value at a place that a pass found so far, else what the pass before found.
-pub(crate) fn found(values: &[i64], earlier: &[i64], place: usize) -> i64
-    ensures { result ≡ found_at values.now earlier.now place }
-{
-    match values.get(place) {
-        Some(value) => *value,
-        None => at(earlier, place),
-    }
+/// What a node of right sides is.
+#[derive(Clone, Copy)]
+pub enum Line {
+    Number(i64),
+    Neg(Part),
+    Sum(Part, Part),
+    Less(Part, Part),
+
+    /// The second where the first holds, else the third, by links that change.
+    If(Part, Part, Part),
+
+    /// What the node is worth to which the part refers.
+    Join(Part),
+
+    /// The right side that is made of the left part, over two captured parts. Its side stands before this one.
+    Bind {
+        left: Part,
+        side: usize,
+        first: Part,
+        second: Part,
+    },
 }
 
-/// The place to which a variable refers, if it does.
-pub(crate) fn target(definitions: &[Definition], place: usize) -> Option<usize>
-    ensures { result ≡ target_of (slice_get definitions.now place) }
-{
-    match definitions.get(place) {
-        Some(Definition::Refer(target)) => Some(*target),
-        _ => None,
-    }
-}
-
-/// What a definition is worth, by what a pass found so far and what the pass before found.
-fn value_of(
-    values: &[i64],
-    earlier: &[i64],
-    definitions: &[Definition],
-    definition: Definition,
-) -> i64
-    ensures { result ≡ value_of (found_at values.now earlier.now) definitions.now definition }
-{
-    match definition {
-        Definition::Var(value) => value,
-        Definition::Truth(true) => 1,
-        Definition::Truth(false) | Definition::Refer(_) => 0,
-        Definition::Neg(kid) => found(values, earlier, kid).wrapping_neg(),
-        Definition::Sum(left, right) => {
-            found(values, earlier, left).wrapping_add(found(values, earlier, right))
-        }
-        Definition::Less(left, right) => {
-            if found(values, earlier, left) < found(values, earlier, right) {
-                1
-            } else {
-                0
-            }
-        }
-        Definition::Pick(test, first, second) | Definition::If(test, first, second) => {
-            if 0 < found(values, earlier, test) {
-                found(values, earlier, first)
-            } else {
-                found(values, earlier, second)
-            }
-        }
-        Definition::Join(reference) => match target(definitions, reference) {
-            Some(place) => found(values, earlier, place),
-            None => 0,
-        },
-    }
-}
-
-/// What one pass over the nodes finds, in the order of making. A node that reads a later one takes what the pass before
-/// found of it.
-fn pass(alloc: Global, earlier: &[i64], definitions: &[Definition]) -> Result<Vec<i64>, AllocError>
-    ensures { IfOk result (λ values. values.items ≡ passed earlier.now definitions.now) }
-{
-    let mut values = Vec::new(alloc);
-    for definition in definitions {
-        let value = value_of(&values, earlier, definitions, *definition);
-        values.push(value)?;
-    }
-    Ok(values)
-}
-
-/// What the nodes are worth after so many passes over them, in the order of making: one more is enough than there are
-/// joins of nodes that were made later.
-pub fn evaluate(
-    alloc: Global,
-    definitions: &[Definition],
-    passes: usize,
-) -> Result<Vec<i64>, AllocError>
-    ensures { IfOk result (λ values. values.items ≡ evaluated passes definitions.now) }
-{
-    let mut values = Vec::new(alloc);
-    for _ in 0..passes {
-        values = pass(alloc, &values, definitions)?;
-    }
-    Ok(values)
+/// The right sides of binds: the lines behind line 0, each over earlier ones, and the part that they give.
+#[derive(Drop)]
+pub struct Side {
+    pub lines: Vec<Line>,
+    pub root: Part,
 }

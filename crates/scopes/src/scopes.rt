@@ -120,6 +120,13 @@ impl Scopes {
         }
     }
 
+    /// How many nodes stand in scopes, or were killed and aren't given yet.
+    pub fn len(&self) -> usize
+        ensures { result ≡ node_count self.now }
+    {
+        self.lists.len()
+    }
+
     /// Puts a node into a scope. The node stands in no scope yet, and doesn't wait to be given. Fails only for want of
     /// memory, and then nothing changes.
     pub fn enter(&mut self, scope: NodeId, node: NodeId) -> Result<(), AllocError>

@@ -1,5 +1,6 @@
 //! The functions of a library, and bodies, as those of a graph.
-ghost use Rattle.std.specs.Prelude.{◌≡◌, ◌≤◌, length};
+ghost use Rattle.std.specs.Prelude.{◌≡◌, ◌≤◌, length, option_map, option_copied};
+ghost use Rattle.script_functions.specs.Keeping.{maker_of, side_made};
 
 use crate::Body;
 use crate::keeping::{build_at, has_body};
@@ -42,6 +43,30 @@ impl<L: Library> ScriptFns<L> {
         ensures { result.now ≡ self.now.library }
     {
         &self.library
+    }
+
+    /// How often a right side was built, or was to be. The count stays at its last value.
+    pub fn builds(&self) -> u64
+        ensures { result ≡ self.now.builds }
+    {
+        self.builds
+    }
+
+    /// How many nodes were added by builds. The count stays at its last value.
+    pub fn adds(&self) -> u64
+        ensures { result ≡ self.now.adds }
+    {
+        self.adds
+    }
+
+    /// The body whose right sides the function makes, if it is one that is kept.
+    pub fn body(&self, f: FnRef) -> Option<&Body>
+        ensures { ⟦<ScriptFns<L> as Functions>⟧.right self.now f ≡ side_made (option_map maker_of (option_copied result)) }
+    {
+        match f.id.kind {
+            FnKind::Map => None,
+            FnKind::Rhs => self.bodies.get(f.id.number as usize),
+        }
     }
 
     /// The library, handed back.

@@ -13,3 +13,4 @@ pub use body::Body;
 pub use draft::{Draft, LineFault};
 pub use functions::ScriptFns;
 pub use line::{Line, ListedNode, Part, Parts, TypedLine};
+pub use typing::is_listed;

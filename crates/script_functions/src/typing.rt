@@ -20,7 +20,7 @@ fn holds(listed: &[ListedNode], wanted: ListedNode) -> bool
 }
 
 /// Whether the node is listed with the type.
-fn lists(listed: &[ListedNode], node: NodeId, ty: Ty) -> bool
+pub fn is_listed(listed: &[ListedNode], node: NodeId, ty: Ty) -> bool
     ensures { IsTrue result ↔ IsListedAs listed.now node ty }
 {
     holds(listed, ListedNode::new(node, ty))
@@ -31,7 +31,7 @@ fn names_listed(listed: &[ListedNode], value: &Value) -> bool
     ensures { IsTrue result ↔ ReferenceHas (IsListedAs listed.now) value.now }
 {
     match value {
-        Value::Node(node, base) => lists(listed, *node, base.ty()),
+        Value::Node(node, base) => is_listed(listed, *node, base.ty()),
         _ => true,
     }
 }

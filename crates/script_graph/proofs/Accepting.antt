@@ -7,20 +7,22 @@ use Rattle.inc_value.specs.declared.node.ObsId.{ObsId}
 use Rattle.inc_value.specs.declared.node.Point.{Point}
 use Rattle.inc_value.specs.declared.value.Value.{Value as GraphValue}
 use Rattle.inc_terms.specs.Depend.{Depends, none_died}
+use Rattle.inc_terms.specs.Graph.{Row}
 use Rattle.inc_terms.specs.Local.{Exact}
 use Rattle.inc_terms.specs.Term.{Functions}
 use Rattle.inc_terms.specs.Within.{Given}
 use Rattle.node_outcomes.specs.Meaning.{Meaning}
 use Rattle.graph.specs.Sound.{IsSound, IsWhole}
-use Rattle.graph.proofs.Still.{nodes_alone, Stabilizes as GraphStabilizes, IsObserved}
-use Rattle.graph.specs.Standing.{Standing, in_use, node_at, AreRooted}
+use Rattle.graph.proofs.Flat.{nodes_alone, Stabilizes as GraphStabilizes, IsObserved}
+use Rattle.graph.specs.Standing.{Standing, in_use, node_at, cutoff_of, AreRooted}
 use Rattle.graph.specs.declared.observer.Observer.{Observer as Looking}
 use Rattle.node_arena.specs.Arena.{Arena, row_at}
-use Rattle.stabilizer.specs.Today.{NoScopes}
+use Rattle.map_nodes.specs.declared.cutoff.Cutoff.TheVariants.{Equal}
+use Rattle.stabilizer.specs.Kept.{HasNoBinds}
 use Rattle.stabilize_round.specs.Calling.{costs_of}
 use Rattle.stabilize_round.specs.Counts.{RoseBy}
 use Rattle.formula_elab.specs.Today.{IsLaidOut, IsLaidOutBody}
-use Rattle.script_graph.specs.Today.{todays_graph, maps_alone, IsDeclaredTarget, RefersTo, AllPlain}
+use Rattle.script_graph.specs.Today.{NoScopes, todays_graph, maps_alone, IsDeclaredTarget, RefersTo, AllPlain}
 use Rattle.script_model.specs.Blocked.{InTheWay, on_cycle, too_deep}
 use Rattle.script_model.specs.Check.{is_among}
 use Rattle.script_model.specs.Evaluate.{NameGives}
@@ -35,7 +37,7 @@ use Rattle.script_graph.specs.Represents.{graph_functions, besides, beside, ther
 use Rattle.script_graph.specs.Settled.{side_of, observed_by, WasRun, Settled}
 use Rattle.script_graph.specs.Stabilizing.{IsAccepted}
 use Rattle.script_graph.specs.State.{MatchesMoment, Stands}
-use Rattle.script_graph.proofs.Beside.{represented_fits, grabs_bind}
+use Rattle.script_graph.proofs.Beside.{represented_fits, grabs_bind, none_scoped}
 use Rattle.script_graph.proofs.Functions.{functions_are}
 use Rattle.script_graph.proofs.Held.{held_needed}
 use Rattle.script_graph.proofs.Looking.{observed_of_root}
@@ -88,7 +90,8 @@ entries_become F before s after plain = all_become F before s after 0 s.entries
 
 module _ (named : List ℕ → Option FnRef) (value : FnRef → List GraphValue → GraphValue) (W : Meaning) (m : Moment) (k : Kept)
     (g : Standing (Unit {0})) (called calls : ℕ) (stands : Stands (meanings_of named value) k m) (unbroken : m.broken ≡ None)
-    (sound : IsSound W k.graph)
+    (sound : IsSound W k.graph) (flat : HasNoBinds (arena_of k)) (nodes : g.nodes ≡ arena_of k)
+    (dead : (n : NodeId) → row_at g.nodes n ≡ None → cutoff_of g n ≡ Equal)
     (done : GraphStabilizes (graph_functions (meanings_of named value)) k.graph g)
     (rose : RoseBy called (costs_of (nodes_alone k.graph) g.ran) calls) where
   abbrev F : Meanings
@@ -122,7 +125,7 @@ module _ (named : List ℕ → Option FnRef) (value : FnRef → List GraphValue 
   whole = sound.whole done.was
 
   no_scopes : NoScopes nodes_now
-  no_scopes = sound.today.flat
+  no_scopes = none_scoped nodes_now k.graph.work flat sound.scopes
 
   fits : Fits x
   fits = represented_fits named value s k stands.matches.represents
@@ -188,7 +191,7 @@ module _ (named : List ℕ → Option FnRef) (value : FnRef → List GraphValue 
   then = observed_so s (there_in (made_then F s k g stands.matches.watches.made shown)) (s.accepted + 1)
 
   represented : Represents F then new
-  represented = represents_so F s (there_in (made_then F s k g stands.matches.watches.made shown)) (s.accepted + 1) k new refl refl done.today.nodes stands.matches.represents
+  represented = represents_so F s (there_in (made_then F s k g stands.matches.watches.made shown)) (s.accepted + 1) k new refl refl nodes stands.matches.represents
 
   watched : Watches then new
   watched = watches_then F s k g stands.matches.watches shown (s.accepted + 1) (k.accepted + 1) done.observers done.rooted
@@ -207,8 +210,8 @@ module _ (named : List ℕ → Option FnRef) (value : FnRef → List GraphValue 
       (λ t among. inl (observed_of_root then represented.today.plain (node_in k.nodes) observed are t among)) exact done v is need in
       record {
         node = r.node;
-        is_node = subst (λ (a : Arena). node_of (besides F then k.nodes a) v.item ≡ Some r.node) (sym done.today.nodes) r.is_node;
-        given = subst (λ (a : Arena). Given a.given r.node) (sym done.today.nodes) (sound.nodes.given r.node (rw r.is_row refl));
+        is_node = subst (λ (a : Arena). node_of (besides F then k.nodes a) v.item ≡ Some r.node) (sym nodes) r.is_node;
+        given = subst (λ (a : Arena). Given a.given r.node) (sym nodes) (sound.nodes.given r.node (rw r.is_row refl));
         call = r.call;
         is_last = r.is_last;
         values_are = r.values_are;
@@ -217,6 +220,15 @@ module _ (named : List ℕ → Option FnRef) (value : FnRef → List GraphValue 
   rooted : AreRooted g (in_use g.observers)
   rooted = subst (λ (os : List Looking). AreRooted g (in_use os)) (sym done.observers) done.roots
 
+  -- each cutoff is Equal still
+  still_equal : (n : NodeId) → cutoff_of g n ≡ Equal
+  still_equal n = by_row (row_at g.nodes n) refl
+    where
+      by_row : (x : Option Row) → row_at g.nodes n ≡ x → cutoff_of g n ≡ Equal
+      by_row None is = dead n is
+      by_row (Some r) is =
+          done.cutoff n r (ap (λ (a : Arena). row_at a n) (sym nodes) ∙ is) ∙ (stands.matches.settled unbroken).today.equal n
+
   settled : Settled F then then new
   settled = record {
     nodes = k.nodes;
@@ -224,7 +236,7 @@ module _ (named : List ℕ → Option FnRef) (value : FnRef → List GraphValue 
     one_node_each = represented.one_node_each;
     fits = represented_fits named value then new represented;
     scopes = λ n r b row scope.
-        absurd (let none = no_scopes n r (subst (λ (a : Arena). row_at a n ≡ Some r) done.today.nodes row) in cc);
+        absurd (let none = no_scopes n r (subst (λ (a : Arena). row_at a n ≡ Some r) nodes row) in cc);
     still = record {
       formulas = λ owner path f e. e;
       targets = λ n e is. (e, is, refl);
@@ -232,10 +244,10 @@ module _ (named : List ℕ → Option FnRef) (value : FnRef → List GraphValue 
       rows = λ n r u is def. is;
     };
     links = λ p q held link.
-        subst (λ (a : Arena). Depends M (todays_graph a) none_died p q) (sym done.today.nodes) ((done.links p q (held_needed g rooted p held)).0 link);
+        subst (λ (a : Arena). Depends M (todays_graph a) none_died p q) (sym nodes) ((done.links p q (held_needed g rooted p held)).0 link);
     ran = recalled;
     watched = λ z among is. observed_root then z among;
-    today = record { plain = represented.today.plain; equal = λ n. done.cutoff n ∙ (stands.matches.settled unbroken).today.equal n };
+    today = record { plain = represented.today.plain; equal = still_equal };
   }
 
   -- ---- the moment after it
@@ -285,12 +297,14 @@ module _ {A : Type 0} where
   -- a stabilize of a session's graph that was accepted is one of its script
   pub session_accepted : (named : List ℕ → Option FnRef) (value : FnRef → List GraphValue → GraphValue) (W : Meaning) (k : Kept)
       (old new : Standing A) (called calls : ℕ) → k.graph ≡ without_functions old → k.broken ≡ None
-      → IsSound W old → GraphStabilizes (maps_alone (seen_value value)) old new
+      → IsSound W old → HasNoBinds (arena_of k) → new.nodes ≡ old.nodes → ((n : NodeId) → row_at new.nodes n ≡ None → cutoff_of new n ≡ Equal)
+      → GraphStabilizes (maps_alone (seen_value value)) old new
       → RoseBy called (costs_of (nodes_alone old) new.ran) calls → (m : Moment) → Stands (meanings_of named value) k m
       → IsAccepted (meanings_of named value) m (record k { accepted = k.accepted + 1; graph = without_functions new }) called calls
-  session_accepted named value W k old new called calls same unbroken sound done rose m stands =
+  session_accepted named value W k old new called calls same unbroken sound flat nodes dead done rose m stands =
       accepted_stands named value W m k (without_functions new) called calls stands (stands.matches.broken ∙ unbroken)
-      (subst (λ (h : Standing (Unit {0})). IsSound W h) (sym same) (sound_without W old sound))
+      (subst (λ (h : Standing (Unit {0})). IsSound W h) (sym same) (sound_without W old sound)) flat
+      (nodes ∙ sym (ap (λ (h : Standing (Unit {0})). h.nodes) same)) dead
       (subst (λ (h : Standing (Unit {0})). GraphStabilizes (graph_functions (meanings_of named value)) h (without_functions new)) (sym same)
       (subst (λ (M : Functions). GraphStabilizes M (without_functions old) (without_functions new)) (sym (functions_are named value))
       (stabilizes_without (maps_alone (seen_value value)) old new done)))

@@ -38,6 +38,7 @@ module _ (g : Standing (Unit {0})) (nodes : (n : NodeId) → row_at g.nodes n �
     one_node_each = refl;
     has_nodes = λ n d is. absurd (cc);
     today = λ n d is grab. cc;
+    flat = λ n r is. absurd (none-some r (sym (nodes n) ∙ is));
     few = omega (arith, none);
     one_observer_each = refl;
     looking = λ o among. absurd among;

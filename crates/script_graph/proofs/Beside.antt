@@ -1,5 +1,5 @@
 -- A state of a script and the graph that holds it fit.
-use Rattle.std.proofs.Common.{◌≡◌, ℕ, true, List, Option, Some, sym, ◌∙◌}
+use Rattle.std.proofs.Common.{◌≡◌, ℕ, true, List, Option, None, Some, refl, sym, ◌∙◌}
 use Rattle.std.proofs.lemmas.Option.{none-some}
 use Rattle.inc_value.specs.declared.function.FnRef.{FnRef}
 use Rattle.inc_value.specs.declared.node.NodeId.{NodeId}
@@ -8,15 +8,19 @@ use Rattle.inc_terms.specs.declared.def.Def as declared
 use Rattle.inc_terms.specs.declared.def.Def.TheVariants as form
 use Rattle.inc_terms.specs.Code.{def_of}
 use Rattle.inc_terms.specs.Graph.{Row, Freeze}
+use Rattle.inc_terms.specs.Local.{Scoped}
 use Rattle.node_arena.specs.Arena.{Arena, row_at}
 use Rattle.script_model.specs.Formula as script
 use Rattle.script_model.specs.Formula.{State, meanings_of, body_at, Name, Computed, Grab}
 use Rattle.script_model.specs.Values.{Value}
 use Rattle.script_graph.specs.Kept.{Kept}
-use Rattle.script_graph.specs.Today.{AllPlain}
+use Rattle.script_graph.specs.Today.{AllPlain, NoScopes}
 use Rattle.script_graph.specs.Represents.{beside, Represents}
 use Rattle.script_graph.proofs.Functions.{functions_fit}
-use Rattle.stabilizer.proofs.Agreeing.{code_row}
+use Rattle.stabilizer.specs.Kept.{HasNoBinds}
+use Rattle.wiring.proofs.Agreeing.{code_row}
+use Rattle.wiring.specs.Graph.{graph_at}
+use Rattle.wiring.specs.declared.work.Work.{Work}
 use Rattle.transfer.specs.Items.{GrabsBind}
 use Rattle.transfer.specs.Shows.{Fits, IsOwn}
 
@@ -29,6 +33,14 @@ no_freeze d kid f e = cc
 -- none is a freeze
 pub not_frozen : (a : Arena) (n : NodeId) (r : Row) (kid : NodeId) (f : FnRef) → row_at a n ≡ Some r → r.def ≡ Freeze kid f → ⊥
 not_frozen a n r kid f e def = let d = code_row a n r e in no_freeze d.0 kid f (sym d.1 ∙ def)
+
+-- where none is a bind none stands in a scope, which would be that of one
+pub none_scoped : (a : Arena) (work : Work) → HasNoBinds a → Scoped (graph_at a work) → NoScopes a
+none_scoped a work flat scoped n r is = by_scope r.scope refl
+  where
+    by_scope : (scope : Option NodeId) → r.scope ≡ scope → r.scope ≡ None
+    by_scope None e = e
+    by_scope (Some b) e = let s = scoped n r b is e in absurd (flat b s.0 s.4 (s.1, s.2, s.3, s.5))
 
 -- ---- plain states
 

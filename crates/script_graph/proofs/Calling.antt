@@ -12,7 +12,7 @@ use Rattle.inc_terms.specs.Graph.{Graph, Row, Def}
 use Rattle.inc_terms.specs.Term as term
 use Rattle.inc_terms.specs.Term.{Functions, Term, Terms, refs}
 use Rattle.inc_terms.specs.Work.{taken_by}
-use Rattle.graph.proofs.Still.{HasCalledMet}
+use Rattle.graph.proofs.Flat.{HasCalledMet}
 use Rattle.script_model.specs.Formula.{State, Body, Formula, Formulas, Meanings, meanings_of, body_at, Literal, Name, Apply, Fold, If, Join, End, More, Variable}
 use Rattle.script_model.specs.Need.{Edge, Named, Place, formula_at}
 use Rattle.script_model.specs.Run.{count_in, most_calls}

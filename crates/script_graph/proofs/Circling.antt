@@ -4,7 +4,7 @@ use Rattle.std.proofs.lemmas.Option.{slice_get-map}
 use Rattle.node_outcomes.specs.Meaning.{Meaning}
 use Rattle.graph.specs.Sound.{IsSound, IsWhole}
 use Rattle.graph.specs.Stabilizes.{ComesBack}
-use Rattle.graph.proofs.Still.{IsRefusedFor, HasCalledMet, IsListed, IsLawful}
+use Rattle.graph.proofs.Flat.{IsRefusedFor, HasCalledMet, IsListed, IsLawful}
 use Rattle.graph.specs.Standing.{Standing}
 use Rattle.graph.specs.Fault.{kept_of}
 use Rattle.graph.specs.declared.fault.Kept.TheVariants as fault
@@ -37,8 +37,8 @@ use Rattle.script_graph.proofs.Functions.{functions_are}
 use Rattle.script_graph.proofs.Owning.{aged_item, aged_part, own_body, own_node}
 use Rattle.script_graph.proofs.Remembering.{meeting_is_covered, same_owner}
 use Rattle.script_graph.proofs.Without.{sound_without, lawful_without, few_without}
-use Rattle.stabilizer.specs.declared.refused.Refused.{Refused}
-use Rattle.stabilizer.specs.declared.refused.Refused.TheVariants as refused
+use Rattle.wiring.specs.declared.refused.Refused.{Refused}
+use Rattle.wiring.specs.declared.refused.Refused.TheVariants as refused
 use Rattle.transfer.specs.Both.{Both}
 use Rattle.transfer.specs.Cycles.{IsForm, PartsApart, IsOwnRoot, IsPassed, Passes, EndsAt}
 use Rattle.transfer.specs.Items.{node_at}
@@ -188,7 +188,7 @@ module _ (named : List ℕ → Option FnRef) (value : FnRef → List GraphValue 
 
 module _ {A : Type 0} (named : List ℕ → Option FnRef) (value : FnRef → List GraphValue → GraphValue) (W : Meaning) (k : Kept)
     (old new : Standing A) (same : k.graph ≡ without_functions old) (unbroken : k.broken ≡ None) (sound : IsSound W old)
-    (done : IsRefusedFor (maps_alone (seen_value value)) old new fault.Cycle) (m : Moment) (stands : Stands (meanings_of named value) k m) where
+    (nodes : new.nodes ≡ old.nodes) (done : IsRefusedFor (maps_alone (seen_value value)) old new fault.Cycle) (m : Moment) (stands : Stands (meanings_of named value) k m) where
   kept_sound : IsSound W k.graph
   kept_sound = subst (λ (h : Standing (Unit {0})). IsSound W h) (sym same) (sound_without W old sound)
 
@@ -206,6 +206,6 @@ module _ {A : Type 0} (named : List ℕ → Option FnRef) (value : FnRef → Lis
       × IsCircular (meanings_of named value) m (record k { broken = Some 20; graph = without_functions new }) (first ∷ (more ++ first ∷ [])) called calls
   session_circular targets called calls passes few =
       circular_met named value W m k stands (stands.matches.broken ∙ unbroken) kept_sound kept_whole (without_functions new) called calls
-      (keeps_without k old new same (refused_keeps done)) (subst (λ (h : Standing (Unit {0})). HasCalledMet (maps_alone (seen_value value)) h called calls) (sym same)
+      (keeps_without k old new same (refused_keeps nodes done)) (subst (λ (h : Standing (Unit {0})). HasCalledMet (maps_alone (seen_value value)) h called calls) (sym same)
       (few_without (maps_alone (seen_value value)) old called calls few)) new.refused done.met targets done.broken done.is_cause
       kept_lawful passes

@@ -1,5 +1,5 @@
 -- A stabilize that was cut short, and a refusal that never comes.
-use Rattle.std.proofs.Common.{◌≡◌, ℕ, List, length, Option, Some, refl, ap, sym, subst, ◌∙◌}
+use Rattle.std.proofs.Common.{◌≡◌, inl, inr, ℕ, ◌+◌, ◌-◌, ◌^◌, ◌<◌, ◌≤◌, List, length, Option, Some, refl, ap, sym, subst, ◌∙◌, arith}
 use Rattle.inc_value.specs.declared.function.FnRef.{FnRef}
 use Rattle.inc_value.specs.declared.node.NodeId.{NodeId}
 use Rattle.inc_value.specs.declared.node.ObsId.{ObsId}
@@ -8,11 +8,12 @@ use Rattle.inc_terms.specs.Graph.{Graph}
 use Rattle.inc_terms.specs.Term.{Functions}
 use Rattle.graph.specs.Standing.{Standing, node_at}
 use Rattle.graph.specs.Stabilizes.{IsRefusedIn}
-use Rattle.graph.proofs.Still.{IsRefusedFor, HasCalledMet, IsLawful}
+use Rattle.graph.proofs.Flat.{IsRefusedFor, HasCalledMet}
 use Rattle.graph.specs.Fault.{kept_of}
 use Rattle.graph.specs.declared.fault.Kept.{Kept as Cause}
 use Rattle.graph.specs.declared.fault.Kept.TheVariants as fault
 use Rattle.graph.specs.declared.observer.Observer.{Observer as Looking}
+use Rattle.node_arena.specs.Arena.{Arena, live}
 use Rattle.script_model.specs.Formula.{State, Observer, Meanings}
 use Rattle.script_model.specs.Step.{Moment}
 use Rattle.script_graph.specs.Kept.{Kept, without_functions}
@@ -24,8 +25,9 @@ use Rattle.script_graph.proofs.Calling.{few_calls}
 use Rattle.script_graph.proofs.Held.{was_still}
 use Rattle.script_graph.proofs.Same.{represents_so}
 use Rattle.script_graph.proofs.Without.{few_without}
-use Rattle.stabilizer.specs.declared.refused.Refused.{Refused}
-use Rattle.stabilizer.specs.declared.refused.Refused.TheVariants as refused
+use Rattle.stabilizer.specs.Building.{LeavesNoRoom}
+use Rattle.wiring.specs.declared.refused.Refused.{Refused}
+use Rattle.wiring.specs.declared.refused.Refused.TheVariants as refused
 
 -- ---- broken
 
@@ -37,8 +39,8 @@ pub record KeepsNodes {A B : Type 0} (old : Standing A) (new : Standing B) : Typ
 
 -- so they do in a stabilize that was refused
 pub refused_keeps : {A : Type 0} {M : Functions} {G : Graph} {died : NodeId → Option NodeId} {old new : Standing A} {cause : Cause}
-    → IsRefusedIn M G died old new cause → KeepsNodes old new
-refused_keeps done = record { nodes = done.today.nodes; observers = done.observers; rooted = done.rooted }
+    → new.nodes ≡ old.nodes → IsRefusedIn M G died old new cause → KeepsNodes old new
+refused_keeps nodes done = record { nodes = nodes; observers = done.observers; rooted = done.rooted }
 
 -- the observers of a session that broke are there still
 watches_broken : (s : State) (k : Kept) (g : Standing (Unit {0})) (number : ℕ) → KeepsNodes k.graph g → Watches s k
@@ -86,12 +88,20 @@ cut_short_matches {M} F m k g called calls keeps matches few = record {
 
 -- ---- what never comes
 
--- no refusal is for what is full
-not_full : {A : Type 0} (M : Functions) (g : Standing A) (met : Refused) → IsLawful M g met → kept_of met ≡ fault.Full → ⊥
-not_full M g (refused.Cycle points) lawful e = cc
-not_full M g (refused.Height points) lawful e = cc
-not_full M g refused.Full lawful e = lawful
-not_full M g refused.Memory lawful e = cc
+-- what is met where it is for what is full
+met_full : (met : Refused) → kept_of met ≡ fault.Full → met ≡ refused.Full
+met_full (refused.Cycle points) e = absurd (cc)
+met_full (refused.Height points) e = absurd (cc)
+met_full refused.Full e = refl
+met_full refused.Memory e = absurd (cc)
+
+-- nodes that stay, and have room for one more, have room where a build began when no fewer ids were given
+leaves_room : (a b : Arena) (count : ℕ) → b ≡ a → a.given ≤ count → live a < 1048576 → a.given < 2 ^ 64 - 1 → LeavesNoRoom count b → ⊥
+leaves_room a b count same more few ids (inl full) =
+    let given = ap (λ (x : Arena). x.given) same in
+    let lives = ap (λ (x : Arena). live x) same in
+    omega (arith, full, given, lives, more, few)
+leaves_room a b count same more few ids (inr full) = let given = ap (λ (x : Arena). x.given) same in omega (arith, full, given, ids)
 
 -- ---- over a graph with its functions
 
@@ -111,6 +121,7 @@ module _ {A : Type 0} where
       (subst (λ (h : Standing (Unit {0})). HasCalledMet M h called calls) (sym same) (few_without M old called calls few))
 
   -- no graph of a session is refused so
-  pub never_for_full : (value : FnRef → List GraphValue → GraphValue) (old new : Standing A) → IsRefusedFor (maps_alone value) old new fault.Full → ⊥
-  never_for_full value old new done =
-      not_full (maps_alone value) old done.met done.lawful done.is_cause
+  pub never_for_full : (value : FnRef → List GraphValue → GraphValue) (old new : Standing A) → new.nodes ≡ old.nodes → live old.nodes < 1048576
+      → old.nodes.given < 2 ^ 64 - 1 → IsRefusedFor (maps_alone value) old new fault.Full → ⊥
+  never_for_full value old new same few ids done =
+      let full = done.full (met_full done.met done.is_cause) in leaves_room old.nodes new.nodes full.0 same full.1 few ids full.2

@@ -14,6 +14,7 @@ use Rattle.script_model.specs.Step.{Moment, moved}
 use Rattle.script_graph.specs.Kept.{Kept, arena_of, node_in}
 use Rattle.script_graph.specs.Represents.{rooted_at, there_in, IsShown, Watches}
 use Rattle.script_graph.specs.Settled.{StillDeclares}
+use Rattle.stabilizer.specs.Kept.{HasNoBinds}
 use Rattle.script_graph.specs.Sound.{HaveNodes, IsSound}
 use Rattle.script_graph.specs.State.{MatchesMoment}
 use Rattle.script_graph.proofs.Carrying.{LeavesBeside, settled_on}
@@ -309,6 +310,7 @@ module _ (k : Kept) (name d : List ℕ) (i : ℕ) (o : ObsId) (g : Standing (Uni
     one_node_each = sound.one_node_each;
     has_nodes = subst (λ (a : Arena). HaveNodes a k.names.declared k.nodes) (sym ends.nodes) sound.has_nodes;
     today = sound.today;
+    flat = subst HasNoBinds (sym ends.nodes) sound.flat;
     few = subst (λ (a : Arena). live a + k.room ≤ 1048575) (sym ends.nodes) sound.few;
     one_observer_each = swap_length k.observers i o ∙ ap (λ (n : ℕ). n - 1) sound.one_observer_each ∙ sym (swap_length k.names.observers i d);
     looking = looking_left;

@@ -1,6 +1,6 @@
 -- A graph to which nodes were added, and what is kept of a script over it.
-use Rattle.std.proofs.Common.{◌≡◌, ℕ, zero, suc, ◌<◌, ◌≤◌, List, [], ◌∷◌, length, Option, None, Some, refl, ap, sym, subst, ◌∙◌, arith, slice_get}
-use Rattle.std.proofs.lemmas.Option.{slice_get_within}
+use Rattle.std.proofs.Common.{◌≡◌, ◌⊎◌, inl, inr, ℕ, zero, suc, ◌<◌, ◌≤◌, List, [], ◌∷◌, length, Option, None, Some, refl, ap, sym, subst, ◌∙◌, arith, slice_get}
+use Rattle.std.proofs.lemmas.Option.{slice_get_within, none-some}
 use Rattle.inc_value.specs.Choice.{and_then}
 use Rattle.inc_value.specs.declared.function.FnRef.{FnRef}
 use Rattle.inc_value.specs.declared.node.NodeId.{NodeId}
@@ -10,7 +10,7 @@ use Rattle.inc_terms.specs.Graph.{Row}
 use Rattle.inc_terms.specs.Term as term
 use Rattle.inc_terms.specs.Term.{Term, Terms}
 use Rattle.inc_terms.specs.Within.{Given}
-use Rattle.graph.specs.Effects.{KeepsBeside, KeepsAll, Adds, TakesBack}
+use Rattle.graph.specs.Effects.{KeepsBeside, KeepsAll, Adds, TakesBack, NoneScopedSince}
 use Rattle.graph.specs.Standing.{Standing}
 use Rattle.node_arena.specs.Arena.{Arena, row_at}
 use Rattle.node_arena.specs.Sound as arena
@@ -20,7 +20,7 @@ use Rattle.script_model.specs.Values.{Value}
 use Rattle.script_graph.specs.Growing.{Extends}
 use Rattle.script_graph.specs.Kept.{Kept, arena_of, node_in, no_node, without_functions}
 use Rattle.script_graph.specs.Represents.{beside, Represents}
-use Rattle.script_graph.specs.Today.{todays_graph, IsPlain, ArePlain, IsPlainBody, IsEarlierTarget, IsDeclaredTarget, IsWithin, IsPartWithin}
+use Rattle.script_graph.specs.Today.{IsTodaysRow, todays_graph, IsPlain, ArePlain, IsPlainBody, IsEarlierTarget, IsDeclaredTarget, IsWithin, IsPartWithin}
 use Rattle.script_graph.specs.State.{MatchesMoment}
 use Rattle.script_graph.proofs.Carrying.{watches_on, leaves_beside, settled_on}
 use Rattle.script_graph.proofs.Placed.{item_still}
@@ -29,6 +29,8 @@ use Rattle.script_graph.proofs.Referring.{value_agrees}
 use Rattle.transfer.specs.Both.{Both, graph_value}
 use Rattle.transfer.specs.Keeping.{RowsStay}
 use Rattle.transfer.specs.Shows.{Built, Opens, Shows, ShowsAll, IsTop, Declares, IsOwn}
+use Rattle.stabilize_round.proofs.Points.{node_or_other}
+use Rattle.stabilizer.specs.Kept.{HasNoBinds}
 use Rattle.transfer.proofs.Typed.{body_entry}
 
 -- ---- extending
@@ -52,6 +54,7 @@ module _ {F : Type 0} where
     };
     given = omega arith;
     rows = λ n h. refl;
+    today = λ n r is. inl is;
   }
 
   pub extends_on : (a b c : Standing F) → Extends a b → Extends b c → Extends a c
@@ -72,13 +75,19 @@ module _ {F : Type 0} where
     };
     given = omega (arith, g.given, h.given);
     rows = λ n low. h.rows n (omega (arith, low, g.given)) ∙ g.rows n low;
+    today = λ n r is. elim (h.today n r is) [ inl was ↦ g.today n r was | inr is_todays ↦ inr is_todays ];
   }
 
-  pub adds_extends : (a b : Standing F) (id : NodeId) (r : Row) → Adds a b id r → Extends a b
-  adds_extends a b id r h = record {
+  pub adds_extends : (a b : Standing F) (id : NodeId) (r : Row) → Adds a b id r → IsTodaysRow r → Extends a b
+  adds_extends a b id r h is_todays = record {
     beside = h.beside;
     given = omega (arith, h.given);
     rows = λ n low. h.changes.others n (λ same. let gen = ap (λ (m : NodeId). m.gen_) same in omega (arith, low, gen, h.fresh));
+    today = λ n q is. elim (node_or_other n id) [
+      | inl same ↦
+          inr (subst IsTodaysRow (let e : Some r ≡ Some q = sym h.changes.changed ∙ (ap (row_at b.nodes) (sym same) ∙ is) in cc) is_todays)
+      | inr other ↦ inl (sym (h.changes.others n other) ∙ is)
+    ];
   }
 
   pub keeps_extends : (a b : Standing F) → KeepsAll a b → Extends a b
@@ -86,6 +95,7 @@ module _ {F : Type 0} where
     beside = h.beside;
     given = let same = ap (λ (a : Arena). a.given) h.nodes in omega (arith, same);
     rows = λ n low. ap (λ (a : Arena). row_at a n) h.nodes;
+    today = λ n r is. inl (sym (ap (λ (a : Arena). row_at a n) h.nodes) ∙ is);
   }
 
   -- nodes that were added and taken back again
@@ -107,7 +117,14 @@ module _ {F : Type 0} where
     };
     given = omega (arith, g.given, h.given);
     rows = λ n low. h.older n (omega (arith, low, later)) ∙ g.rows n low;
+    today = λ n r is. elim (below_or n.gen_ count) [
+      | inl low ↦ g.today n r (sym (h.older n low) ∙ is)
+      | inr high ↦ absurd (none-some r (sym (h.dropped n high) ∙ is))
+    ];
   }
+    where
+      below_or : (i j : ℕ) → (i < j) ⊎ (j ≤ i)
+      below_or i j = grind arith
 
   -- what stays beside nodes stays but for the functions
   pub beside_without : (Of : NodeId → Type 0) (a b : Standing F) → KeepsBeside Of a b → KeepsBeside Of (without_functions a) (without_functions b)
@@ -132,7 +149,16 @@ module _ {F : Type 0} where
     beside = beside_without (Given a.nodes.given) a b h.beside;
     given = h.given;
     rows = h.rows;
+    today = h.today;
   }
+
+  -- still no live node is a bind
+  pub flat_on : (a b : Standing F) → Extends a b → HasNoBinds a.nodes → HasNoBinds b.nodes
+  flat_on a b h flat n r is = elim (h.today n r is) [ inl was ↦ flat n r was | inr is_todays ↦ is_todays.no_bind ]
+
+  -- still none that was given since a count stands in a scope
+  pub unscoped_on : (a b : Standing F) (count : ℕ) → Extends a b → NoneScopedSince a.nodes count → NoneScopedSince b.nodes count
+  unscoped_on a b count h none n r is since = elim (h.today n r is) [ inl was ↦ none n r was since | inr is_todays ↦ is_todays.outside ]
 
   -- live nodes stay
   pub live_stays : (a b : Standing F) → arena.IsSound a.nodes → Extends a b → (n : NodeId) (r : Row)

@@ -19,6 +19,7 @@ mod Living
 pub mod Looking
 pub mod Making
 pub mod Observing
+pub mod OneOwner
 pub mod Owner
 pub mod Owning
 pub mod Placed

@@ -31,7 +31,7 @@ use Rattle.inc_value.specs.declared.ty.Ty.{Ty}
 use Rattle.inc_value.specs.declared.ty.Ty.TheVariants as types
 use Rattle.inc_value.specs.declared.value.Value.{Value}
 use Rattle.inc_value.specs.declared.value.Value.TheVariants as value
-use Rattle.inc_terms.specs.Graph.{Row}
+use Rattle.inc_terms.specs.Graph.{Row, Def}
 use Rattle.inc_terms.specs.Within.{Given, ValueWithin}
 use Rattle.node_arena.specs.Arena.{Arena, row_at}
 use Rattle.node_arena.specs.Sound as arena
@@ -40,6 +40,7 @@ use Rattle.script_graph.specs.Growing.{Extends, IsMadeIn, IsMaking, IsWelcome, I
 use Rattle.script_graph.specs.Today.{todays_graph}
 use Rattle.script_graph.proofs.Counting.{live_more}
 use Rattle.script_graph.proofs.Extending.{extends_itself, extends_on, adds_extends, live_stays}
+use Rattle.wiring.specs.Kept.{IsBind}
 
 -- ---- what is to be made next
 
@@ -55,6 +56,21 @@ next_open makes made m e = go (slice_get makes (length made)) refl e
 -- it is one of what is to be made
 pub next_within : (makes : List Open) (made : List Made) (m : Make) → next_make makes made ≡ Some m → length made < length makes
 next_within makes made m e = let x = next_open makes made m e in slice_get_within makes (length made) x.0 x.1
+
+-- it is no bind
+filled_no_bind : (made : List Made) (x : Open) → IsBind (filled made x) → ⊥
+filled_no_bind made (Const v) (l, f, captures, e) = cc
+filled_no_bind made (Var v) (l, f, captures, e) = cc
+filled_no_bind made (Map g parts) (l, f, captures, e) = cc
+filled_no_bind made (Fold g v parts) (l, f, captures, e) = cc
+filled_no_bind made (If ty test left right) (l, f, captures, e) = cc
+filled_no_bind made (Join ty child) (l, f, captures, e) = cc
+
+next_no_bind : (makes : List Open) (made : List Made) (d : Def) (ty : Ty) → next_make makes made ≡ Some (make.Node d ty) → IsBind d → ⊥
+next_no_bind makes made d ty next bind =
+    let x = next_open makes made (make.Node d ty) next in
+    let same : filled made x.0 ≡ d = (let e : make.Node (filled made x.0) (open_ty x.0) ≡ make.Node d ty = x.2 in cc) in
+    filled_no_bind made x.0 (subst IsBind (sym same) bind)
 
 -- ---- values
 
@@ -249,7 +265,7 @@ module _ {F : Type 0} where
       one = NodeMade id
 
       more : Extends now new
-      more = adds_extends now new id (top d ty) adds
+      more = adds_extends now new id (top d ty) adds (record { outside = refl; no_bind = next_no_bind makes made d ty next })
 
       size : length (made ++ one ∷ []) ≡ length made + 1
       size = length-append made (one ∷ [])

@@ -14,15 +14,15 @@ use Rattle.inc_terms.specs.Local.{PartExact, Exact, IsBuilt, shown_of as shown_a
 use Rattle.inc_terms.specs.Term.{Functions}
 use Rattle.inc_terms.specs.Work.{cost_of, predicate_cost, predicate_kids}
 use Rattle.graph.specs.Standing.{Standing, in_use, shown_of, chosen_by, called_last}
-use Rattle.graph.proofs.Still.{nodes_alone, Stabilizes, IsObserved}
+use Rattle.graph.proofs.Flat.{nodes_alone, Stabilizes, IsObserved}
 use Rattle.node_arena.specs.Arena.{Arena, row_at}
-use Rattle.stabilizer.specs.Today.{NoScopes}
 use Rattle.script_model.specs.Formula.{State, Meanings}
 use Rattle.script_model.specs.Need.{Visit, IsVisit, Needed}
 use Rattle.inc_terms.specs.Work.{taken_by}
 use Rattle.stabilize_round.specs.State.{Call}
 use Rattle.script_graph.specs.Kept.{node_in}
 use Rattle.script_graph.specs.Represents.{graph_functions, besides}
+use Rattle.script_graph.specs.Today.{NoScopes}
 use Rattle.transfer.specs.Both.{Both, graph_value}
 use Rattle.transfer.specs.Items.{node_of, GrabsBind, RootsHave}
 use Rattle.transfer.specs.Shows.{Fits}

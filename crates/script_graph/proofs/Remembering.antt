@@ -13,7 +13,7 @@ use Rattle.inc_terms.proofs.Plan.{among_left, among_map}
 use Rattle.node_outcomes.specs.Meaning.{Meaning}
 use Rattle.graph.specs.Sound.{IsSound, IsWhole}
 use Rattle.graph.specs.Stabilizes.{StoodBeside}
-use Rattle.graph.proofs.Still.{IsMet}
+use Rattle.graph.proofs.Flat.{IsMet}
 use Rattle.graph.specs.Standing.{in_use, node_at, IsNeeded, cutoff_of}
 use Rattle.map_nodes.specs.declared.cutoff.Cutoff.{Cutoff}
 use Rattle.map_nodes.specs.declared.cutoff.Cutoff.TheVariants.{Equal, Never}

@@ -10,7 +10,7 @@ use Rattle.graph.specs.declared.observer.Observer.{Observer as Looking}
 use Rattle.inc_value.specs.declared.node.NodeId.{NodeId}
 use Rattle.inc_value.specs.declared.ty.Ty.{Ty}
 use Rattle.inc_value.specs.declared.value.Value.{Value as GraphValue}
-use Rattle.inc_terms.specs.Graph.{Row}
+use Rattle.inc_terms.specs.Graph.{Row, Var}
 use Rattle.link_table.proofs.Lists.{get_append_last, get_append_other}
 use Rattle.node_arena.specs.Arena.{Arena, row_at, live, IsLive, IsVariable, with_value}
 use Rattle.node_arena.specs.Sound as arena
@@ -22,7 +22,9 @@ use Rattle.script_graph.specs.Sound.{HasTarget, HasLiveNode, HasNode, HaveNodes,
 use Rattle.script_graph.specs.Today.{NoGrabs}
 use Rattle.script_graph.proofs.Counting.{live_within}
 use Rattle.script_graph.proofs.Declaring.{with_declared}
-use Rattle.script_graph.proofs.Extending.{live_stays}
+use Rattle.script_graph.proofs.Extending.{live_stays, flat_on}
+use Rattle.stabilizer.specs.Kept.{HasNoBinds}
+use Rattle.wiring.specs.Kept.{IsBind}
 
 -- what is declared at a position
 abbrev pub declared_at : ℕ → List ℕ → Ty → Body → Declared
@@ -51,6 +53,10 @@ node_live a declared nodes has none n d is =
     let node = (target_live a declared nodes has none n d is).3 in
     subst (IsLive a) (has n d is).target.node (rw node.is_row refl)
 
+-- a variable is no bind
+variable_no_bind : (v : GraphValue) → IsBind (Var v) → ⊥
+variable_no_bind v (l, f, captures, e) = cc
+
 module _ (k : Kept) (h : IsSound k) (sound : arena.IsSound (arena_of k)) where
   module _ (g : Standing (Unit {0})) (more : Extends k.graph g) where
     looks_on : (o : _) → IsSome (standing.node_at k.graph.observers o) → IsSome (standing.node_at g.observers o)
@@ -76,6 +82,7 @@ module _ (k : Kept) (h : IsSound k) (sound : arena.IsSound (arena_of k)) where
       one_node_each = h.one_node_each;
       has_nodes = λ n d is. node_on n d (h.has_nodes n d is);
       today = h.today;
+      flat = flat_on k.graph g more h.flat;
       few = few;
       one_observer_each = h.one_observer_each;
       looking = λ o among. looks_on o (h.looking o among);
@@ -167,6 +174,7 @@ module _ (k : Kept) (h : IsSound k) (sound : arena.IsSound (arena_of k)) where
             let names = length-append k.names.declared (last ∷ []) in omega (arith, h.one_node_each, nodes, names);
         has_nodes = has_each;
         today = no_grabs;
+        flat = flat_on k.graph g more h.flat;
         few = few;
         one_observer_each = h.one_observer_each;
         looking = λ o among. looks_on o (h.looking o among);
@@ -221,11 +229,21 @@ module _ (k : Kept) (h : IsSound k) (sound : arena.IsSound (arena_of k)) where
     has_set : (i : ℕ) (d : Declared) → HasNode (arena_of k) k.names.declared k.nodes i d → HasNode g.nodes k.names.declared k.nodes i d
     has_set i d node = record { target = node.target; live = λ itself no_grab. live_set i d (node.live itself no_grab) }
 
+    flat_set : HasNoBinds g.nodes
+    flat_set p r is = elim (node_or p n) [
+      | inl same ↦
+          let e : Some (with_value sets.set.row w) ≡ Some r = sym sets.set.changes.changed ∙ (ap (row_at g.nodes) (sym same) ∙ is) in
+          let row : with_value sets.set.row w ≡ r = cc in
+          subst (λ (q : Row). IsBind q.def → ⊥) row (variable_no_bind w)
+      | inr other ↦ h.flat p r (sym (sets.set.changes.others p other) ∙ is)
+    ]
+
     pub sound_set : IsSound (record k { graph = g })
     sound_set = record {
       one_node_each = h.one_node_each;
       has_nodes = λ i d is. has_set i d (h.has_nodes i d is);
       today = h.today;
+      flat = flat_set;
       few = let count = live_within (arena_of k) g.nodes row_back in omega (arith, count, h.few);
       one_observer_each = h.one_observer_each;
       looking = λ o among. subst (λ (os : List Looking). IsSome (standing.node_at os o)) (sym sets.beside.observers) (h.looking o among);

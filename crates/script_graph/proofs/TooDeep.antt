@@ -1,11 +1,11 @@
 -- A stabilize that was refused for depth is one of the script.
 use Rattle.std.proofs.Common.{◌≡◌, ◌⊎◌, inl, inr, ℕ, ◌<◌, true, List, [], ◌∷◌, length, Option, None, Some, refl, ap, sym, subst, ◌∙◌, arith}
 use Rattle.std.proofs.lemmas.Option.{slice_get_within}
-use Rattle.node_arena.specs.Arena.{Arena, IsLive}
+use Rattle.node_arena.specs.Arena.{Arena, row_at}
 use Rattle.node_outcomes.specs.Meaning.{Meaning}
 use Rattle.graph.specs.Sound.{IsSound, IsWhole}
-use Rattle.graph.proofs.Still.{IsRefusedFor, HasCalledMet, IsListed, IsLawful}
-use Rattle.graph.specs.Standing.{Standing}
+use Rattle.graph.proofs.Flat.{IsRefusedFor, HasCalledMet, IsListed, IsLawful}
+use Rattle.graph.specs.Standing.{Standing, IsOwner, graph}
 use Rattle.graph.specs.Fault.{kept_of}
 use Rattle.graph.specs.declared.fault.Kept.TheVariants as fault
 use Rattle.height_order.specs.Chains.{StartsAt}
@@ -20,22 +20,24 @@ use Rattle.script_model.specs.Formula.{State, Entry, Body, Formula, Meanings, me
 use Rattle.script_model.specs.Need.{Item, Named, Place, formula_at, part_of}
 use Rattle.script_model.specs.Step.{Moment, by_height}
 use Rattle.script_model.specs.Values.{seen_value}
-use Rattle.script_graph.specs.Kept.{Kept, without_functions}
+use Rattle.script_graph.specs.Kept.{Kept, arena_of, without_functions}
 use Rattle.script_graph.specs.Represents.{graph_functions, beside}
-use Rattle.script_graph.specs.Today.{IsWithin, maps_alone, Computes, IsVariableBody, IsOwnFormula, owner_of}
+use Rattle.script_graph.specs.Today.{NoScopes, IsWithin, maps_alone, Computes, IsVariableBody, IsOwnFormula, owner_of}
 use Rattle.script_graph.specs.Stabilizing.{IsTooDeep, ChainBegins, IsFirstNotOlder, IsFirstOwned, NoneOwns}
 use Rattle.script_graph.specs.State.{Stands}
-use Rattle.script_graph.proofs.Beside.{represented_fits, grabs_bind}
+use Rattle.script_graph.proofs.Beside.{represented_fits, grabs_bind, none_scoped}
 use Rattle.script_graph.proofs.Calling.{few_calls}
 use Rattle.script_graph.proofs.CuttingShort.{broken_matches, refused_keeps}
 use Rattle.script_graph.proofs.Functions.{functions_are}
 use Rattle.script_graph.proofs.Owner.{IsTooDeepAt, deep_owner, told_node}
+use Rattle.script_graph.proofs.OneOwner.{one_owner}
 use Rattle.script_graph.proofs.Owning.{aged_item}
 use Rattle.script_graph.proofs.Living.{own_item_live}
 use Rattle.script_graph.proofs.Remembering.{meeting_is_covered}
 use Rattle.script_graph.proofs.Without.{sound_without, few_without, refused_without}
-use Rattle.stabilizer.specs.declared.refused.Refused.{Refused}
-use Rattle.stabilizer.specs.declared.refused.Refused.TheVariants as refused
+use Rattle.stabilizer.specs.Kept.{HasNoBinds}
+use Rattle.wiring.specs.declared.refused.Refused.{Refused}
+use Rattle.wiring.specs.declared.refused.Refused.TheVariants as refused
 use Rattle.transfer.specs.Both.{Both}
 use Rattle.transfer.specs.Items.{GrabsBind, GrabsStay}
 use Rattle.transfer.specs.Shows.{Fits}
@@ -83,7 +85,7 @@ holds_owner target (Place owner path) e = e
 
 module _ (named : List ℕ → Option FnRef) (value : FnRef → List GraphValue → GraphValue) (W : Meaning) (m : Moment) (k : Kept)
     (stands : Stands (meanings_of named value) k m) (unbroken : m.broken ≡ None) (sound : IsSound W k.graph)
-    (whole : IsWhole W k.graph) where
+    (whole : IsWhole W k.graph) (flat : HasNoBinds (arena_of k)) where
   abbrev F : Meanings
   F = meanings_of named value
 
@@ -98,6 +100,9 @@ module _ (named : List ℕ → Option FnRef) (value : FnRef → List GraphValue 
 
   fits : Fits x
   fits = represented_fits named value s k stands.matches.represents
+
+  no_scopes : NoScopes (arena_of k)
+  no_scopes = none_scoped (arena_of k) k.graph.work flat sound.scopes
 
   grabs : GrabsBind s
   grabs = grabs_bind s stands.matches.represents.today.plain
@@ -116,7 +121,7 @@ module _ (named : List ℕ → Option FnRef) (value : FnRef → List GraphValue 
       let covered = meeting_is_covered named value W m k stands unbroken sound whole q (listed.met q refl) in
       let i = deep_has_item x fits stands.keep stands.valid.1 before grabs_before (stands.matches.settled unbroken).still.formulas grabs_stay q rest covered
       (omega (arith, long)) listed.walk once in
-      let at = told_node x sound.today.flat stands.matches.represents.today.plain q i.0 i.2 in
+      let at = told_node x no_scopes stands.matches.represents.today.plain q i.0 i.2 in
       subst (IsTooDeepAt x before) (ap (λ (y : Point). y.node) starts)
       (deep_owner x fits stands.matches.represents.today.plain before grabs_before grabs (stands.matches.settled unbroken).still.formulas i.0 q.node i.1 at i.3)
 
@@ -130,22 +135,23 @@ module _ (named : List ℕ → Option FnRef) (value : FnRef → List GraphValue 
   begins_deep (Some (refused.Height points)) r e lawful p begins = absurd (cc)
   begins_deep (Some r) r' e lawful p begins = absurd begins
 
-  module _ (g : Standing (Unit {0})) (done : IsRefusedFor (graph_functions F) k.graph g fault.Height) (p : Point) (begins : ChainBegins g.refused p) where
+  module _ (g : Standing (Unit {0})) (nodes : g.nodes ≡ arena_of k) (done : IsRefusedFor (graph_functions F) k.graph g fault.Height) (p : Point) (begins : ChainBegins g.refused p) where
     deep : IsTooDeepAt x before p.node
     deep = begins_deep g.refused done.met done.broken done.lawful p begins
 
     within : IsWithin k.nodes (owner_of deep.item) p.node
     within = aged_item F s k stands.matches.represents deep.item p.node deep.computes deep.is_node
 
-    live : IsLive g.nodes p.node
-    live =
+    owner_is_itself : IsOwner (graph g) p.node p.node
+    owner_is_itself =
         let r = own_item_live F s k stands.matches.represents fits deep.item p.node deep.computes deep.is_node in
-        subst (λ (a : Arena). IsLive a p.node) (sym done.today.nodes) (rw r.1 refl)
+        let row = ap (λ (a : Arena). row_at a p.node) nodes ∙ r.1 in
+        record { row = r.0; is_row = row; outside = no_scopes p.node r.0 r.1; round = inl refl }
 
     -- some declaration's node isn't older than its owner
-    pub not_all_older : NoneOwns k.nodes g.nodes p.node → ⊥
+    pub not_all_older : NoneOwns k.nodes g p.node → ⊥
     not_all_older none =
-        let all = none p.node (refl, live) in
+        let all = none p.node owner_is_itself in
         let low = computes_within s deep.item deep.computes in
         let count = stands.matches.represents.one_node_each in
         let early = all (owner_of deep.item) (omega (arith, low, count)) in
@@ -153,16 +159,16 @@ module _ (named : List ℕ → Option FnRef) (value : FnRef → List GraphValue 
         omega (arith, early, late)
 
     -- the model may refuse the stabilize for the first of these declarations
-    pub too_deep_stands : {N : Functions} (target called calls : ℕ) → IsFirstOwned k.nodes g.nodes p.node target → HasCalledMet N k.graph called calls
+    pub too_deep_stands : {N : Functions} (target called calls : ℕ) → IsFirstOwned k.nodes g p.node target → HasCalledMet N k.graph called calls
         → IsTooDeep F m (record k { broken = Some 21; graph = g }) target called calls
     too_deep_stands {N} target called calls first few =
         record {
           after = record m { broken = Some 21 };
           stabilizes = by_height target deep.item deep.met deep.deep
               (own (holds_owner target deep.item (first_is_owner k.nodes p.node target (owner_of deep.item)
-              (subst (λ (q : NodeId). IsFirstNotOlder k.nodes q target) first.1.0 first.2) within))) refl refl;
+              (subst (λ (q : NodeId). IsFirstNotOlder k.nodes q target) (one_owner (graph g) p.node first.0 p.node first.1 owner_is_itself) first.2) within))) refl refl;
           within = few_calls N F s k stands.matches.represents called calls few;
-          matches = broken_matches F m k g 21 (refused_keeps done) stands.matches;
+          matches = broken_matches F m k g 21 (refused_keeps nodes done) stands.matches;
         }
 
 -- ---- over a graph with its functions
@@ -183,7 +189,7 @@ chain_begins M g (Some met) r e cause lawful = absurd (cc)
 module _ {A : Type 0} where
   module _ (named : List ℕ → Option FnRef) (value : FnRef → List GraphValue → GraphValue) (W : Meaning) (k : Kept) (old new : Standing A)
       (same : k.graph ≡ without_functions old) (unbroken : k.broken ≡ None)
-      (sound : IsSound W old)
+      (sound : IsSound W old) (flat : HasNoBinds (arena_of k)) (nodes : new.nodes ≡ old.nodes)
       (done : IsRefusedFor (maps_alone (seen_value value)) old new fault.Height) where
     kept_sound : IsSound W k.graph
     kept_sound = subst (λ (h : Standing (Unit {0})). IsSound W h) (sym same) (sound_without W old sound)
@@ -197,21 +203,25 @@ module _ {A : Type 0} where
         (subst (λ (M : Functions). IsRefusedFor M (without_functions old) (without_functions new) fault.Height) (sym (functions_are named value))
         (refused_without (maps_alone (seen_value value)) old new fault.Height done))
 
+    kept_nodes : new.nodes ≡ arena_of k
+    kept_nodes = nodes ∙ sym (ap (λ (h : Standing (Unit {0})). h.nodes) same)
+
     begins : (p : Point) × ChainBegins new.refused p
     begins = chain_begins (maps_alone (seen_value value)) old new.refused done.met done.broken done.is_cause done.lawful
 
     -- some declaration's node isn't older than the owner of the first of the chain
-    pub session_not_all_older : ((p : Point) → ChainBegins new.refused p → NoneOwns k.nodes new.nodes p.node) → (m : Moment)
+    pub session_not_all_older : ((p : Point) → ChainBegins new.refused p → NoneOwns k.nodes new p.node) → (m : Moment)
         → Stands (meanings_of named value) k m → ⊥
     session_not_all_older all m stands = not_all_older named value W m k stands (stands.matches.broken ∙ unbroken) kept_sound kept_whole
-        (without_functions new) kept_done begins.0 begins.1 (all begins.0 begins.1)
+        flat (without_functions new) kept_nodes kept_done begins.0 begins.1 (all begins.0 begins.1)
 
     -- a stabilize of a session's graph that was refused for depth is one of its script
-    pub session_too_deep : (target called calls : ℕ) → ((p : Point) → ChainBegins new.refused p → IsFirstOwned k.nodes new.nodes p.node target)
+    pub session_too_deep : (target called calls : ℕ) → ((p : Point) → ChainBegins new.refused p → IsFirstOwned k.nodes new p.node target)
         → HasCalledMet (maps_alone (seen_value value)) old called calls → (m : Moment) → Stands (meanings_of named value) k m
         → IsTooDeep (meanings_of named value) m (record k { broken = Some 21; graph = without_functions new }) target called calls
     session_too_deep target called calls first few m stands =
-        too_deep_stands named value W m k stands (stands.matches.broken ∙ unbroken) kept_sound kept_whole (without_functions new) kept_done begins.0 begins.1
+        too_deep_stands named value W m k stands (stands.matches.broken ∙ unbroken) kept_sound kept_whole flat (without_functions new)
+        kept_nodes kept_done begins.0 begins.1
         target called calls (first begins.0 begins.1)
         (subst (λ (h : Standing (Unit {0})). HasCalledMet (maps_alone (seen_value value)) h called calls) (sym same)
         (few_without (maps_alone (seen_value value)) old called calls few))

@@ -1,20 +1,20 @@
 -- What is so of a graph is so of it without its functions.
-use Rattle.std.proofs.Common.{inl, inr, ℕ, List, [], ◌∷◌, Option}
+use Rattle.std.proofs.Common.{inl, inr, ℕ, List, [], ◌∷◌, Option, None}
 use Rattle.inc_value.specs.declared.node.NodeId.{NodeId}
 use Rattle.inc_value.specs.declared.node.Point.{Point}
-use Rattle.inc_terms.specs.Depend.{main, none_died}
+use Rattle.inc_terms.specs.Depend.{main, change, none_died}
 use Rattle.inc_terms.specs.Graph.{Graph}
 use Rattle.inc_terms.specs.Need.{Beside, Observed, Met, from_root, from_held}
 use Rattle.inc_terms.specs.Term.{Functions}
 use Rattle.node_outcomes.specs.Meaning.{Meaning}
 use Rattle.graph.specs.Sound.{IsWhole, IsSound}
-use Rattle.graph.specs.Stabilizes.{StoodBeside, AllButLast, IsTried, LeavesTried}
-use Rattle.graph.proofs.Still.{nodes_alone, IsMet, WasCalled, Stabilizes, IsListed, IsLawful, HasCalledMet, IsRefusedFor}
+use Rattle.graph.specs.Stabilizes.{StoodBeside, AllButLast, IsTried, LeavesTried, IsBuiltMetIn, BuildsRightIn}
+use Rattle.graph.proofs.Flat.{nodes_alone, IsMet, WasCalled, Stabilizes, IsListed, IsLawful, HasCalledMet, IsRefusedFor}
 use Rattle.graph.specs.Standing.{Standing, in_use, IsNeeded}
 use Rattle.graph.specs.declared.fault.Kept.{Kept}
 use Rattle.script_graph.specs.Kept.{without_functions}
-use Rattle.stabilizer.specs.declared.refused.Refused.{Refused}
-use Rattle.stabilizer.specs.declared.refused.Refused.TheVariants as refused
+use Rattle.wiring.specs.declared.refused.Refused.{Refused}
+use Rattle.wiring.specs.declared.refused.Refused.TheVariants as refused
 
 -- more that was held, more is met
 pub met_more : (M : Functions) (G : Graph) (died : NodeId → Option NodeId) (observed : List NodeId) (held more : Point → Type 0)
@@ -38,8 +38,9 @@ module _ {A : Type 0} where
     few = h.few;
     earlier = h.earlier;
     nodes = h.nodes;
+    scopes = h.scopes;
+    built = h.built;
     whole = λ unbroken. whole_without W s (h.whole unbroken);
-    today = h.today;
   }
 
   -- ---- what is needed and met
@@ -57,6 +58,25 @@ module _ {A : Type 0} where
   module _ (M : Functions) where
     met_without : (s : Standing A) (p : Point) → IsMet M s p → IsMet M (without_functions s) p
     met_without s p met = met_more M (nodes_alone s) none_died (in_use s.observers) (IsNeeded s) (IsNeeded (without_functions s)) (needed_without s) p met
+
+    -- ---- what binds are built for
+
+    built_without : (s : Standing A) (b : NodeId) → IsBuiltMetIn M (nodes_alone s) none_died s b
+        → IsBuiltMetIn M (nodes_alone s) none_died (without_functions s) b
+    built_without s b h = record { right = h.right; met = met_without s (change b) h.met }
+
+    pub builds_without : (s : Standing A) (unbuilt : Option NodeId) → BuildsRightIn M (nodes_alone s) none_died s unbuilt
+        → BuildsRightIn M (nodes_alone s) none_died (without_functions s) unbuilt
+    builds_without s unbuilt h = record {
+      stays = λ b r given row. elim (h.stays b r given row) [
+        | inl same ↦ inl same
+        | inr (inl right) ↦ inr (inl (built_without s b right))
+        | inr (inr is) ↦ inr (inr is)
+      ];
+      made = λ b r late row. elim (h.made b r late row) [ inl none ↦ inl none | inr right ↦ inr (built_without s b right) ];
+      refused = λ b is. let u = h.refused b is in record { none = u.none; differs = u.differs; met = met_without s (change b) u.met };
+      was = h.was;
+    }
 
     -- ---- an accepted stabilize
 
@@ -80,6 +100,7 @@ module _ {A : Type 0} where
       was = done.was;
       unbroken = done.unbroken;
       stays = done.stays;
+      builds = builds_without old None done.builds;
       observers = done.observers;
       rooted = done.rooted;
       shows = done.shows;
@@ -91,13 +112,12 @@ module _ {A : Type 0} where
       shallow = done.shallow;
       links = λ p q need. done.links p q (needed_with new p need);
       recalls = λ n r kids values need. done.recalls n r kids values (needed_with new (main n) need);
-      kept = λ n not. elim (done.kept n not) [ inl same ↦ inl same | inr c ↦ inr (called_without old new n c.0, c.1) ];
+      kept = λ n r row not. elim (done.kept n r row not) [ inl same ↦ inl same | inr c ↦ inr (called_without old new n c.0, c.1) ];
       cutoff = done.cutoff;
       once = done.once;
       called = λ n among. called_without old new n (done.called n among);
       costs = done.costs;
       work = λ before observers stood. done.work before observers (stood_with before old observers stood);
-      today = record { nodes = done.today.nodes; same = done.today.same };
     }
 
     -- ---- a refused one
@@ -150,5 +170,8 @@ module _ {A : Type 0} where
     is_cause = done.is_cause;
     lawful = lawful_without M old done.met done.lawful;
     tried = leaves_without new done.met done.tried;
-    today = record { nodes = done.today.nodes; same = done.today.same };
+    unbuilt = done.unbuilt;
+    builds = builds_without M old done.unbuilt done.builds;
+    build = done.build;
+    full = done.full;
   }

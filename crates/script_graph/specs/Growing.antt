@@ -26,10 +26,9 @@ use Rattle.formula_elab.specs.declared.opened.Part.{Part}
 use Rattle.formula_elab.specs.declared.opened.Part.TheVariants as part
 use Rattle.graph.specs.Effects.{top, Adds, KeepsBesideGiven}
 use Rattle.graph.specs.Standing.{Standing}
-use Rattle.graph.specs.Today.{CallsKnown}
 use Rattle.node_arena.specs.Arena.{Arena, row_at, live, NamesGiven}
 use Rattle.node_arena.specs.Typing.{Makes}
-use Rattle.script_graph.specs.Today.{todays_graph}
+use Rattle.script_graph.specs.Today.{CallsKnown, IsTodaysRow, todays_graph}
 
 -- a value refers to a live node of its base type, if to any
 abbrev pub RefersToLive : Arena → Value → Type 0
@@ -81,11 +80,12 @@ module _ {F : Type 0} where
   abbrev pub IsMadeIn : Standing F → Standing F → Make → Made → Type 0
   IsMadeIn old new (make.Node d ty) (NodeMade n) = Adds old new n (top d ty)
 
-  -- nodes were added: what was given before is as it was
+  -- nodes were added: what was given before is as it was, and each that is live was so before, or is of those that scripts have today
   pub record Extends (old new : Standing F) : Type 0 where
     pub beside : KeepsBesideGiven old new
     pub given : old.nodes.given ≤ new.nodes.given
     pub rows : (n : NodeId) → Given old.nodes.given n → row_at new.nodes n ≡ row_at old.nodes n
+    pub today : (n : NodeId) (r : Row) → row_at new.nodes n ≡ Some r → (row_at old.nodes n ≡ Some r) ⊎ IsTodaysRow r
 
   -- over the first graph so many of what is to be made were made in order, each under the next id
   pub record IsMaking (first now : Standing F) (makes : List Open) (made : List Made) : Type 0 where

@@ -4,8 +4,7 @@ use Rattle.height_order.specs.Chains.{StartsAt}
 use Rattle.inc_value.specs.declared.node.NodeId.{NodeId}
 use Rattle.inc_value.specs.declared.node.Point.{Point}
 use Rattle.inc_terms.specs.Depend.{main}
-use Rattle.node_arena.specs.Arena.{Arena}
-use Rattle.graph.specs.Today.{IsOwner}
+use Rattle.graph.specs.Standing.{Standing, IsOwner, graph}
 use Rattle.script_model.specs.Check.{Declared}
 use Rattle.script_model.specs.Formula.{Meanings}
 use Rattle.script_model.specs.Need.{WithinWork}
@@ -16,8 +15,8 @@ use Rattle.script_model.specs.Step.{Moment, Stable, Stabilizes, Tells}
 use Rattle.script_graph.specs.Kept.{Kept, node_in}
 use Rattle.script_graph.specs.State.{MatchesMoment}
 use Rattle.script_graph.specs.Today.{NoNotices}
-use Rattle.stabilizer.specs.declared.refused.Refused.{Refused}
-use Rattle.stabilizer.specs.declared.refused.Refused.TheVariants.{Cycle, Height}
+use Rattle.wiring.specs.declared.refused.Refused.{Refused}
+use Rattle.wiring.specs.declared.refused.Refused.TheVariants.{Cycle, Height}
 
 -- it was accepted: the model accepts it with these notices, no more functions were called than are due, and the moment after it is matched
 pub record IsAccepted (F : Meanings) (m : Moment) (new : Kept) (called calls : ℕ) : Type 0 where
@@ -97,9 +96,9 @@ abbrev pub AllOlder : List NodeId → NodeId → Type 0
 AllOlder nodes n = (j : ℕ) → j < length nodes → (node_in nodes j).gen_ < n.gen_
 
 -- the node has an owner, and the declaration's node is the first that isn't older than that
-abbrev pub IsFirstOwned : List NodeId → Arena → NodeId → ℕ → Type 0
-IsFirstOwned nodes a n target = (top : NodeId) × IsOwner a n top × IsFirstNotOlder nodes top target
+abbrev pub IsFirstOwned : {A : Type 0} → List NodeId → Standing A → NodeId → ℕ → Type 0
+IsFirstOwned nodes g n target = (top : NodeId) × IsOwner (graph g) n top × IsFirstNotOlder nodes top target
 
 -- if the node has an owner, the nodes of all declarations are older than that
-abbrev pub NoneOwns : List NodeId → Arena → NodeId → Type 0
-NoneOwns nodes a n = (top : NodeId) → IsOwner a n top → AllOlder nodes top
+abbrev pub NoneOwns : {A : Type 0} → List NodeId → Standing A → NodeId → Type 0
+NoneOwns nodes g n = (top : NodeId) → IsOwner (graph g) n top → AllOlder nodes top

@@ -1,5 +1,5 @@
 -- What is so of scripts of today's forms alone, and goes with one later form or another.
-use Rattle.std.specs.Prelude.{◌≡◌, ◌<◌, ◌≤◌, ℕ, Bool, false, List, [], ◌∷◌, Option, None, Some, slice_get}
+use Rattle.std.specs.Prelude.{◌≡◌, ◌<◌, ◌≤◌, ℕ, Bool, IsTrue, false, List, [], ◌∷◌, Option, None, Some, slice_get}
 use Rattle.inc_value.specs.declared.function.FnRef.{FnRef}
 use Rattle.inc_value.specs.declared.node.NodeId.{NodeId}
 use Rattle.inc_value.specs.declared.value.Value.{Value}
@@ -9,7 +9,7 @@ use Rattle.inc_terms.specs.Term.{Functions}
 use Rattle.formula_elab.specs.Today.{IsLaidOut, AreLaidOut, IsLaidOutBody}
 use Rattle.graph.specs.Standing.{cutoff_of}
 use Rattle.map_nodes.specs.declared.cutoff.Cutoff.TheVariants.{Equal}
-use Rattle.node_arena.specs.Arena.{Arena}
+use Rattle.node_arena.specs.Arena.{Arena, row_at}
 use Rattle.node_arena.specs.Graph.{graph_of, nothing_held}
 use Rattle.node_arena.specs.RightSide.{no_side}
 use Rattle.node_arena.specs.RightSideLaws.{meaning}
@@ -21,6 +21,7 @@ use Rattle.script_model.specs.Settle.{Notice}
 use Rattle.script_model.specs.Values.{Outcome, Val, Invalid}
 use Rattle.script_graph.specs.Kept.{Kept, arena_of, node_in}
 use Rattle.transfer.specs.Shows.{IsOwn}
+use Rattle.wiring.specs.Kept.{IsBind}
 
 -- ---- functions: none makes right sides
 
@@ -81,6 +82,22 @@ abbrev pub NoNotices : List Notice → Type 0
 NoNotices notices = notices ≡ []
 
 -- ---- the graph: no bind is built
+
+-- the function of a map or a fold is known, whatever its kind; the definition is no bind
+abbrev pub CallsKnown : (FnRef → Bool) → Def → Type 0
+CallsKnown known (graph.Map f kids) = IsTrue (known f)
+CallsKnown known (graph.Fold f v kids) = IsTrue (known f)
+CallsKnown known (graph.Bind left f captures) = ⊥
+CallsKnown known def = Unit {0}
+
+-- a node that is made for a script stands in no scope, and is no bind
+pub record IsTodaysRow (r : Row) : Type 0 where
+  pub outside : r.scope ≡ None
+  pub no_bind : IsBind r.def → ⊥
+
+-- no live node stands in a scope
+abbrev pub NoScopes : Arena → Type 0
+NoScopes a = (n : NodeId) (r : Row) → row_at a n ≡ Some r → r.scope ≡ None
 
 -- the graph of the nodes of a script
 abbrev pub todays_graph : Arena → Graph

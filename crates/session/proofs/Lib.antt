@@ -1,5 +1,6 @@
 pub mod Answering
 mod Assigned
+mod Bodies
 mod Carried
 mod CarriageReturns
 mod Ended
@@ -9,6 +10,7 @@ mod InTurn
 mod Keeping
 mod Passing
 mod Observed
+mod Owned
 mod Referred
 mod Requests
 mod Stabilized

@@ -25,6 +25,7 @@ use Rattle.script_model.specs.Check.{Names, Declared, Observe, is_among}
 use Rattle.script_model.specs.Formula.{Meanings}
 use Rattle.script_model.specs.Step.{Moment, moved}
 use Rattle.script_graph.specs.Kept.{Kept, arena_of, no_node, node_in, without_functions}
+use Rattle.stabilizer.specs.Kept.{HasNoBinds}
 use Rattle.script_graph.specs.Sound.{HaveNodes, IsSound}
 use Rattle.script_graph.specs.Shown.{ShowsIt, ShowsNothing}
 use Rattle.script_graph.specs.State.{MatchesMoment}
@@ -218,6 +219,7 @@ module _ (k : Kept) (name : List ℕ) (target : ℕ) (o : ObsId) (g : Standing (
     one_node_each = sound.one_node_each;
     has_nodes = subst (λ (a : Arena). HaveNodes a k.names.declared k.nodes) (sym arena_same) sound.has_nodes;
     today = sound.today;
+    flat = subst HasNoBinds (sym arena_same) sound.flat;
     few = subst (λ (a : Arena). live a + k.room ≤ 1048575) (sym arena_same) sound.few;
     one_observer_each = length_more k.observers o ∙ ap (λ (n : ℕ). n + 1) sound.one_observer_each ∙ sym (length_more k.names.observers name);
     looking = λ p among. looks p (among_push k.observers o p among);

@@ -3,8 +3,8 @@ use Rattle.std.proofs.Common.{◌≡◌, Bool, ℕ, ◌+◌, ◌≤◌, ◌^◌,
 use Rattle.graph.specs.Fault.{kept_of}
 use Rattle.graph.specs.Stabilizes.{Stabilizes, IsRefusedFor, HasCalledMet, left_by}
 use Rattle.inc_terms.specs.Graph.{Graph}
-use Rattle.graph.proofs.Still as still
-use Rattle.graph.proofs.Still.{nodes_alone, is_alone, still_stabilizes, still_refused, still_called, from_graphs}
+use Rattle.graph.proofs.Flat as flat
+use Rattle.graph.proofs.Flat.{nodes_alone, is_alone, graph_stays, still_stabilizes, still_refused, still_called, from_graphs}
 use Rattle.graph.specs.Standing.{Standing, graph, IsUnbroken, node_at}
 use Rattle.graph.specs.declared.fault.Kept.{Kept as Cause}
 use Rattle.graph.specs.declared.fault.Kept.TheVariants as cause
@@ -20,7 +20,7 @@ use Rattle.inc_value.specs.declared.function.FnRef.{FnRef}
 use Rattle.inc_value.specs.declared.node.NodeId.{NodeId}
 use Rattle.inc_value.specs.declared.node.Point.{Point}
 use Rattle.node_arena.specs.Arena.{Arena, live}
-use Rattle.stabilizer.specs.Today.{NoBinds}
+use Rattle.stabilizer.specs.Kept.{HasNoBinds}
 use Rattle.node_arena.specs.RightSide.{RightSide, no_side}
 use Rattle.node_arena.specs.RightSideLaws.{meaning}
 use Rattle.stabilize_round.specs.Calling.{costs_of}
@@ -38,8 +38,8 @@ use Rattle.script_functions.specs.KeepingLaws.{map_known, known_map}
 use Rattle.script_graph.specs.Stabilizing.{ChainBegins, IsCircular, IsCycleMet, IsFirstOwned, NoneOwns, closed}
 use Rattle.script_model.specs.Formula.{Meanings}
 use Rattle.script_model.specs.Step.{Moment}
-use Rattle.stabilizer.specs.declared.refused.Refused.{Refused}
-use Rattle.stabilizer.specs.declared.refused.Refused.TheVariants as refused
+use Rattle.wiring.specs.declared.refused.Refused.{Refused}
+use Rattle.wiring.specs.declared.refused.Refused.TheVariants as refused
 
 -- ---- what is kept
 
@@ -50,6 +50,7 @@ same_sound k sound g nodes observers accepted broken unbroken = record {
   one_node_each = sound.one_node_each;
   has_nodes = subst (λ (a : Arena). HaveNodes a k.names.declared k.nodes) (sym nodes) sound.has_nodes;
   today = sound.today;
+  flat = subst HasNoBinds (sym nodes) sound.flat;
   few = subst (λ (a : Arena). live a + k.room ≤ 1048575) (sym nodes) sound.few;
   one_observer_each = sound.one_observer_each;
   looking = λ o among. subst (λ (os : List Looking). IsSome (node_at os o)) (sym observers) (sound.looking o among);
@@ -61,18 +62,19 @@ same_sound k sound g nodes observers accepted broken unbroken = record {
 pub few_given : (old new : Arena) → new ≡ old → new.given ≤ old.given + 2 ^ 20
 few_given old new same = let given = ap (λ (a : Arena). a.given) same in omega (arith, given)
 
-module _ {A : Type 0} (M : Functions) (k : Kept) (sound : IsSound k) (old new : Standing A) (same : k.graph ≡ without_functions old) where
+module _ {A : Type 0} (M : Functions) (k : Kept) (sound : IsSound k) (old new : Standing A) (same : k.graph ≡ without_functions old)
+    (nodes : new.nodes ≡ old.nodes) where
   -- what is kept fits together after a stabilize that was accepted
   pub accepted_sound : Stabilizes M old new → (accepted : ℕ) → IsSound (record k { accepted = accepted; graph = without_functions new })
   accepted_sound done accepted = same_sound k sound (without_functions new)
-      (done.today.nodes ∙ sym (ap (λ (g : Standing (Unit {0})). g.nodes) same))
+      (nodes ∙ sym (ap (λ (g : Standing (Unit {0})). g.nodes) same))
       (done.observers ∙ sym (ap (λ (g : Standing (Unit {0})). g.observers) same)) accepted k.broken (λ none. done.unbroken)
 
   -- and after one that was refused and broke the session
   pub refused_sound : (why : Cause) → IsRefusedFor M old new why → (number : ℕ)
       → IsSound (record k { broken = Some number; graph = without_functions new })
   refused_sound why done number = same_sound k sound (without_functions new)
-      (done.today.nodes ∙ sym (ap (λ (g : Standing (Unit {0})). g.nodes) same))
+      (nodes ∙ sym (ap (λ (g : Standing (Unit {0})). g.nodes) same))
       (done.observers ∙ sym (ap (λ (g : Standing (Unit {0})). g.observers) same)) k.accepted (Some number) (λ none. absurd (cc))
 
 -- ---- faults
@@ -111,13 +113,14 @@ circular_closed F m k targets first more called calls is circular =
 -- ---- where a chain begins
 
 module _ (met : Option Refused) (nodes others : List NodeId) (same : others ≡ nodes) where
-  pub first_of : (a : Arena) (owner target : ℕ) → owner ≡ target → ((p : Point) → ChainBegins met p → IsFirstOwned others a p.node owner)
-      → (p : Point) → ChainBegins met p → IsFirstOwned nodes a p.node target
-  first_of a owner target is first p begins =
-      subst (λ (ns : List NodeId). IsFirstOwned ns a p.node target) same (subst (IsFirstOwned others a p.node) is (first p begins))
+  pub first_of : {A : Type 0} (g : Standing A) (owner target : ℕ) → owner ≡ target
+      → ((p : Point) → ChainBegins met p → IsFirstOwned others g p.node owner) → (p : Point) → ChainBegins met p → IsFirstOwned nodes g p.node target
+  first_of g owner target is first p begins =
+      subst (λ (ns : List NodeId). IsFirstOwned ns g p.node target) same (subst (IsFirstOwned others g p.node) is (first p begins))
 
-  pub none_of : (a : Arena) → ((p : Point) → ChainBegins met p → NoneOwns others a p.node) → (p : Point) → ChainBegins met p → NoneOwns nodes a p.node
-  none_of a none p begins = subst (λ (ns : List NodeId). NoneOwns ns a p.node) same (none p begins)
+  pub none_of : {A : Type 0} (g : Standing A) → ((p : Point) → ChainBegins met p → NoneOwns others g p.node) → (p : Point) → ChainBegins met p
+      → NoneOwns nodes g p.node
+  none_of g none p begins = subst (λ (ns : List NodeId). NoneOwns ns g p.node) same (none p begins)
 
 -- ---- the library
 
@@ -139,26 +142,25 @@ alone value [] none = ap (λ (r : FnRef → RightSide). meaning (seen_value valu
 alone value (b ∷ bs) none = absurd (omega (arith, none))
 
 module _ {A : Type 0} (value : FnRef → List GraphValue → GraphValue) (bodies : List Body) (none : HasNoBodies bodies) (old new : Standing A)
-    (no_binds : NoBinds old.nodes) where
+    (no_binds : HasNoBinds old.nodes) (nodes : new.nodes ≡ old.nodes) where
   abbrev kept_functions : Functions
   kept_functions = meaning (seen_value value) (side_in (makers bodies))
 
   abbrev its_functions : Functions
   its_functions = maps_alone (seen_value value)
 
-  pub alone_stabilizes : Stabilizes kept_functions old new → still.Stabilizes its_functions old new
-  alone_stabilizes done = still_stabilizes its_functions old new no_binds (subst (λ (F : Functions). Stabilizes F old new) (alone value bodies none) done)
+  pub alone_stabilizes : Stabilizes kept_functions old new → flat.Stabilizes its_functions old new
+  alone_stabilizes done = still_stabilizes its_functions old new no_binds nodes (subst (λ (F : Functions). Stabilizes F old new) (alone value bodies none) done)
 
-  pub alone_refused : (why : Cause) → IsRefusedFor kept_functions old new why → still.IsRefusedFor its_functions old new why
-  alone_refused why done = still_refused its_functions old new no_binds why (subst (λ (F : Functions). IsRefusedFor F old new why) (alone value bodies none) done)
+  pub alone_refused : (why : Cause) → IsRefusedFor kept_functions old new why → flat.IsRefusedFor its_functions old new why
+  alone_refused why done = still_refused its_functions old new no_binds nodes why (subst (λ (F : Functions). IsRefusedFor F old new why) (alone value bodies none) done)
 
-  pub alone_called : graph new ≡ graph old → (before after : ℕ) → HasCalledMet kept_functions old new before after
-      → still.HasCalledMet its_functions old before after
-  alone_called same before after few = still_called its_functions old new no_binds same before after
+  pub alone_called : (before after : ℕ) → HasCalledMet kept_functions old new before after → flat.HasCalledMet its_functions old before after
+  alone_called before after few = still_called its_functions old new no_binds nodes before after
       (subst (λ (F : Functions). HasCalledMet F old new before after) (alone value bodies none) few)
 
 -- what was called in it
-pub costs_still : {A : Type 0} (old new : Standing A) → NoBinds old.nodes → graph new ≡ graph old → (ran : List NodeId) (before after : ℕ)
+pub costs_still : {A : Type 0} (old new : Standing A) → HasNoBinds old.nodes → new.nodes ≡ old.nodes → (ran : List NodeId) (before after : ℕ)
     → RoseBy before (costs_of (left_by old new) ran) after → RoseBy before (costs_of (nodes_alone old) ran) after
-costs_still old new no_binds same ran before after rose = subst (λ (G : Graph). RoseBy before (costs_of G ran) after) (is_alone old no_binds)
-    (from_graphs (λ G died later. RoseBy before (costs_of G ran) after) (graph old) (graph new) same rose)
+costs_still old new no_binds nodes ran before after rose = subst (λ (G : Graph). RoseBy before (costs_of G ran) after) (is_alone old no_binds)
+    (from_graphs (λ G died later. RoseBy before (costs_of G ran) after) (graph old) (graph new) (graph_stays old new no_binds nodes) rose)

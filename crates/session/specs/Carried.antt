@@ -16,7 +16,7 @@ use Rattle.session.specs.declared.answer.Did.{Did}
 use Rattle.session.specs.declared.answer.Did.TheVariants as did
 use Rattle.session.specs.declared.script.stabilizing.Stabilized.{Stabilized}
 use Rattle.session.specs.declared.script.stabilizing.Stabilized.TheVariants.{Accepted, Circular, TooDeep}
-use Rattle.stabilizer.specs.declared.refused.Refused.TheVariants.{Memory}
+use Rattle.wiring.specs.declared.refused.Refused.TheVariants.{Memory}
 
 -- what is kept is within the bounds of one line more: the count of stabilizes, ids of nodes and observers are not at their last
 pub record HasRoom (k : Kept) : Type 0 where

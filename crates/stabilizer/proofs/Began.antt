@@ -4,7 +4,7 @@ use Rattle.stabilize_round.specs.Machine.{Moves}
 use Rattle.stabilize_round.specs.State.{State, Start}
 use Rattle.stabilize_round.proofs.Ids.{moves_given}
 use Rattle.stabilize_round.proofs.Machine.{moves_keep}
-use Rattle.stabilizer.specs.Began.{IsRoundOf}
+use Rattle.wiring.specs.Began.{IsRoundOf}
 
 pub round_on : (M : Meaning) (z : Start) (s t : State) → Moves M.functions z s t → IsRoundOf M z s → IsRoundOf M z t
 round_on M z s t run begun = record {

@@ -1,4 +1,4 @@
--- A round begins: at the count of calls of now, with the last calls that the rows keep.
+-- A round begins: at the counts of now, with the last calls that the rows keep.
 use Rattle.std.proofs.Common.{◌≡◌, ◌<◌, ◌≤◌, arith, subst, inl, inr, ℕ, true, Option, None, Some, refl, sym, ap, ◌∙◌, false}
 use Rattle.std.specs.Prelude.{is_some, ◌↔◌}
 use Rattle.inc_value.specs.declared.node.NodeId.{NodeId}
@@ -21,19 +21,20 @@ use Rattle.node_arena.proofs.Graph.{names_are_given}
 use Rattle.node_outcomes.specs.Meaning.{Meaning}
 use Rattle.stabilize_round.specs.Ids.{IsStartOf, AllGiven}
 use Rattle.stabilize_round.proofs.Entry.{entry_holds}
-use Rattle.stabilizer.specs.Began.{IsRoundOf}
+use Rattle.wiring.specs.Began.{IsRoundOf}
 use Rattle.node_outcomes.specs.declared.row.Progress.{Progress}
-use Rattle.stabilizer.proofs.Agreeing.{no_freeze}
+use Rattle.wiring.proofs.Agreeing.{no_freeze}
 use Rattle.stabilize_round.specs.Invariant.{Recalls}
 use Rattle.stabilize_round.specs.Machine.{Entry}
 use Rattle.stabilize_round.specs.State.{State, Start}
 use Rattle.node_outcomes.specs.Computing.{has_part}
-use Rattle.stabilizer.specs.Kept.{IsKept}
+use Rattle.wiring.specs.Kept.{IsKept}
 use Rattle.stabilizer.specs.Round.{IsReady, last_of, last_call, never_at}
 use Rattle.node_outcomes.specs.Row.{never_in}
-use Rattle.stabilizer.specs.Stands.{Stands}
-use Rattle.stabilizer.specs.declared.work.Work.{Work}
-use Rattle.stabilizer.specs.Graph.{held_at, graph_at}
+use Rattle.wiring.specs.Stands.{Stands, Counts}
+use Rattle.stabilizer.specs.declared.parts.Parts.{Parts}
+use Rattle.wiring.specs.declared.work.Work.{Work}
+use Rattle.wiring.specs.Graph.{held_at, graph_at}
 use Rattle.node_outcomes.specs.Choosing.{built_in}
 use Rattle.node_outcomes.specs.Row.{outcome_in}
 use Rattle.node_outcomes.proofs.Held.{built_parts}
@@ -61,7 +62,8 @@ root_held : (arena : Arena) (work : Work) → IsKept arena work → (b : NodeId)
     → w.root ≡ Some m → Given arena.given m
 root_held arena work kept b w m built root = by_row (row_at arena b) refl built
   where
-    by_kept : (r : Row) → row_at arena b ≡ Some r → ((G : Graph) (n : NodeId) (o : Outcome) → G.built n ≡ Some w → right_of G n r.def o ≡ root_for (Some w) o)
+    by_kept : (r : Row) → row_at arena b ≡ Some r → ((G : Graph) (n : NodeId) (o : Outcome) → G.built n ≡ Some w
+        → right_of G n r.def o ≡ root_for (Some w) o)
         → (x : Option Progress) → at work.rows (change b) ≡ x → outcome_in (at work.rows (change b)) ≡ Some w.outcome → Given arena.given m
     by_kept r row rights None at_row out = absurd (none-some w.outcome (ap outcome_in (sym at_row) ∙ out))
     by_kept r row rights (Some k) at_row out = (kept.rights b m r k w.outcome row at_row (ap outcome_in (sym at_row) ∙ out)
@@ -75,37 +77,46 @@ root_held arena work kept b w m built root = by_row (row_at arena b) refl built
         by_kept r row parts.1 (at work.rows (change b)) refl parts.0
 
 -- a round may begin here, and this is what it begins with
-pub record Begun (F : Functions) (arena : Arena) (work : Work) (count : ℕ) : Type 0 where
+pub record Begun (F : Functions) (parts : Parts) (counts : Counts) : Type 0 where
   pub start : Start
   pub state : State
-  pub stands : Stands arena work count None state
+  pub stands : Stands parts.arena parts.work counts None state
   pub entry : Entry F start state
-  pub calls : start.calls ≡ count
-  pub last : (n : NodeId) → start.last n ≡ last_call work n
-  pub never : (n : NodeId) → start.never n ≡ never_at work n
+  pub calls : start.calls ≡ counts.calls
+  pub last : (n : NodeId) → start.last n ≡ last_call parts.work n
+  pub never : (n : NodeId) → start.never n ≡ never_at parts.work n
   pub stale : (n : NodeId) → start.stale n ≡ false
-  pub held : (p : Point) → (start.held p ≡ true) ↔ Needed work.graph p
+  pub held : (p : Point) → (start.held p ≡ true) ↔ Needed parts.work.graph p
 
 -- and it is one of these functions
-pub record BegunOf (M : Meaning) (arena : Arena) (work : Work) (count : ℕ) : Type 0 where
-  pub begun : Begun M.functions arena work count
+pub record BegunOf (M : Meaning) (parts : Parts) (counts : Counts) : Type 0 where
+  pub begun : Begun M.functions parts counts
   pub round : IsRoundOf M begun.start begun.state
 
-module _ (M : Meaning) (arena : Arena) (work : Work) (ready : IsReady M arena work) (count : ℕ) where
+module _ (M : Meaning) (parts : Parts) (ready : IsReady M parts) (counts : Counts) where
   abbrev F : Functions
   F = M.functions
+
+  abbrev arena : Arena
+  arena = parts.arena
+
+  abbrev work : Work
+  work = parts.work
+
+  abbrev kept : IsKept parts.arena parts.work
+  kept = ready.kept.work
 
   abbrev old : State
   old = ready.state
 
   abbrev state : State
-  state = record old { calls = count; last = last_call work; never = never_at work }
+  state = record old { calls = counts.calls; builds = counts.builds; adds = counts.adds; last = last_call work; never = never_at work }
 
   abbrev start : Start
   start = record ready.start {
     known = M.known;
     ids = M.ids;
-    calls = count;
+    calls = counts.calls;
     last = last_call work;
     held = old.needed;
     never = never_at work;
@@ -114,7 +125,7 @@ module _ (M : Meaning) (arena : Arena) (work : Work) (ready : IsReady M arena wo
   -- of a live node the state knew this last call
   last_known : (n : NodeId) (r : Row) → old.graph.row n ≡ Some r → last_call work n ≡ old.last n
   last_known n r row =
-      let there = there_as (at work.rows (main n)) (row_at arena n) r (main_there arena work ready.kept n)
+      let there = there_as (at work.rows (main n)) (row_at arena n) r (main_there arena work kept n)
       (sym (ap (λ G. G.row n) ready.stands.graph) ∙ row) in
       ap last_of there.1 ∙ sym (ready.stands.last n there.0 there.1)
 
@@ -123,7 +134,7 @@ module _ (M : Meaning) (arena : Arena) (work : Work) (ready : IsReady M arena wo
       let c = was r kids values row part def gives in
       (c.0, last_known p.node r row ∙ c.1, c.2)
 
-  stands : Stands arena work count None state
+  stands : Stands arena work counts None state
   stands = record {
     graph = ready.stands.graph;
     out = ready.stands.out;
@@ -142,7 +153,7 @@ module _ (M : Meaning) (arena : Arena) (work : Work) (ready : IsReady M arena wo
     strict = ready.stands.strict;
     died = ready.stands.died;
     ran = ready.stands.ran;
-    calls = refl;
+    counts = refl;
     given = ready.stands.given;
   }
 
@@ -191,19 +202,19 @@ module _ (M : Meaning) (arena : Arena) (work : Work) (ready : IsReady M arena wo
       no_place (Some k) e = absurd (cc)
 
       by_row : (x : Option Row) → row_at arena n ≡ x → at work.rows (main n) ≡ None
-      by_row None e = no_place (at work.rows (main n)) (main_there arena work ready.kept n ∙ ap is_some e)
-      by_row (Some r) e = absurd (let g = ready.kept.sound.given n (ap is_some e) in omega (arith, g, le))
+      by_row None e = no_place (at work.rows (main n)) (main_there arena work kept n ∙ ap is_some e)
+      by_row (Some r) e = absurd (let g = kept.sound.given n (ap is_some e) in omega (arith, g, le))
 
   needed_given : (p : Point) → Needed work.graph p → Given arena.given p.node
-  needed_given p need = ready.kept.given p (ready.kept.step.there p need)
+  needed_given p need = kept.given p (kept.step.there p need)
 
   root_given : (p : Point) → 0 < state.root p → Given arena.given p.node
   root_given p h = needed_given p (root_needed work.graph p (subst (λ (k : ℕ). 0 < k) (ready.stands.root p) h))
 
   keeps : Keeps (Given arena.given) (graph_at arena work) state.died
   keeps = record {
-    roots = λ b w m given built root. root_held arena work ready.kept b w m built root;
-    scopes = λ n b given died. absurd (none-some b (sym (ready.stands.died n) ∙ died));
+    roots = λ b w m given built root. root_held arena work kept b w m built root;
+    scopes = λ n b given died. absurd (none-some b (sym (ready.entry.died n) ∙ died));
     freezes = λ n r kid f row is. absurd (no_freeze arena n r kid f row is);
   }
 
@@ -228,7 +239,7 @@ module _ (M : Meaning) (arena : Arena) (work : Work) (ready : IsReady M arena wo
     laws = ready.laws;
     names = subst (λ (G : Graph). Names (Given old.given) (Fit old.given M.known M.ids) G) (sym ready.stands.graph)
         (subst (λ (k : ℕ). Names (Given k) (Fit k M.known M.ids) (graph_at arena work)) (sym ready.stands.given)
-        (names_are_given arena (held_at arena work) M.known M.ids ready.kept.sound ready.fit).1);
+        (names_are_given arena (held_at arena work) M.known M.ids kept.sound ready.fit).1);
     keeps = subst (λ (G : Graph). Keeps (Given old.given) G old.died) (sym ready.stands.graph)
         (subst (λ (k : ℕ). Keeps (Given k) (graph_at arena work) old.died) (sym ready.stands.given) keeps);
     needed = λ p h. as_given p (needed_given p ((ready.stands.needed p).0 h));
@@ -239,7 +250,7 @@ module _ (M : Meaning) (arena : Arena) (work : Work) (ready : IsReady M arena wo
     start = subst (λ (k : ℕ). IsStartOf M.known M.ids k start) (sym ready.stands.given) begins;
   }
 
-  pub begun_of : BegunOf M arena work count
+  pub begun_of : BegunOf M parts counts
   begun_of = record {
     begun = record {
       start = start;

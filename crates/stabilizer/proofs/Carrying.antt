@@ -1,7 +1,6 @@
 -- What the parts keep stays so while a point is taken from the heap, settled, or put back.
-use Rattle.std.proofs.Common.{◌≡◌, ◌≢◌, inl, inr, ℕ, ◌≤◌, true, Option, None, Some, refl, sym, ap, subst, ◌∙◌, arith}
+use Rattle.std.proofs.Common.{◌≡◌, ◌≢◌, ◌⊎◌, inl, inr, ℕ, ◌≤◌, true, Option, None, Some, refl, sym, ap, subst, ◌∙◌, arith}
 use Rattle.std.specs.Prelude.{is_some}
-use Rattle.inc_value.specs.Choice.{Among}
 use Rattle.inc_value.specs.declared.node.NodeId.{NodeId}
 use Rattle.inc_value.specs.declared.node.Point.{Point}
 use Rattle.inc_value.specs.declared.outcome.Outcome.{Outcome}
@@ -9,7 +8,6 @@ use Rattle.inc_value.specs.declared.outcome.Outcome.TheVariants.{Val}
 use Rattle.inc_value.specs.declared.value.Value.{Value}
 use Rattle.inc_terms.specs.Depend.{main, change, right_of}
 use Rattle.inc_terms.specs.Graph.{Row}
-use Rattle.inc_terms.specs.Within.{Given}
 use Rattle.point_map.specs.Rows.{Rows, at, Holds, Changes, KeepsRows}
 use Rattle.point_map.proofs.Places.{point_cases}
 use Rattle.link_table.specs.Links.{Links, Reads}
@@ -18,16 +16,16 @@ use Rattle.necessary_graph.proofs.Standing.{has_level, put_in_step, taken_in_ste
 use Rattle.height_order.specs.Levels.{level}
 use Rattle.node_arena.specs.Arena.{Arena, row_at}
 use Rattle.node_arena.specs.Graph.{Holdings, graph_of}
-use Rattle.node_arena.specs.Typing.{Fits}
 use Rattle.node_outcomes.specs.Computing.{IsOfType}
+use Rattle.node_outcomes.specs.Row.{outcome_in}
 use Rattle.stabilize_round.specs.State.{Call}
-use Rattle.stabilizer.specs.Graph.{held_at}
-use Rattle.stabilizer.specs.Kept.{IsKept}
+use Rattle.wiring.specs.Graph.{held_at}
+use Rattle.wiring.specs.Kept.{IsKept, IsGhostLink}
 use Rattle.stabilizer.specs.Settling.{IsSettled}
-use Rattle.stabilizer.specs.Wiring.{KeepsGraph}
+use Rattle.wiring.specs.Wiring.{KeepsGraph, KeepsLists}
 use Rattle.node_outcomes.specs.declared.row.Progress.{Progress}
-use Rattle.stabilizer.specs.declared.work.Work.{Work}
-use Rattle.stabilizer.proofs.Holding.{held_rows, held_main}
+use Rattle.wiring.specs.declared.work.Work.{Work}
+use Rattle.wiring.proofs.Holding.{held_same, died_same, links_same, root_same, pairs_same, scoped_same}
 
 -- what needs the same roots and links is needed alike
 module _ (old new : NecessaryPart) (same : KeepsGraph old new) where
@@ -37,18 +35,15 @@ module _ (old new : NecessaryPart) (same : KeepsGraph old new) where
   pub needed_before : (p : Point) → Needed new p → Needed old p
   needed_before p n = rw (same.roots, same.links) at n
 
--- the same points have rows, roots, links and heights stay, and as much is held
+-- the same points have rows, changes keep theirs, and roots, links and heights stay
 module _ (arena : Arena) (old new : Work) (kept : IsKept arena old) (rows : (p : Point) → is_some (at new.rows p) ≡ is_some (at old.rows p))
     (same : KeepsGraph old.graph new.graph) (step : IsInStep new.graph) (heap : (p : Point) → Holds new.graph.heap p → Holds old.rows p)
     (outcomes : (n : NodeId) (r : Row) (k : Progress) (v : Value) → row_at arena n ≡ Some r → at new.rows (main n) ≡ Some k
     → k.outcome ≡ Some (Val v) → IsOfType arena v r.ty)
-    (rights : (n m : NodeId) (r : Row) (k : Progress) (o : Outcome) → row_at arena n ≡ Some r → at new.rows (change n) ≡ Some k
-    → k.outcome ≡ Some o → right_of (graph_of arena (held_at arena old)) n r.def o ≡ Some m → Given arena.given m × Fits arena m r.ty)
-    (held : held_at arena new ≡ held_at arena old)
+    (changes : (n : NodeId) → at new.rows (change n) ≡ at old.rows (change n)) (roots : new.roots ≡ old.roots) (deaths : new.deaths ≡ old.deaths)
     (calls : (n : NodeId) (r : Row) (k : Progress) (c : Call) → row_at arena n ≡ Some r → at new.rows (main n) ≡ Some k
     → k.last ≡ Some c → IsOfType arena c.result r.ty)
-    (rounds : (p : Point) (k : Progress) → at new.rows p ≡ Some k → k.settled ≤ new.round)
-    (pairs : (n : NodeId) → Among n old.pairs.items → Among n new.pairs.items) where
+    (rounds : (p : Point) (k : Progress) → at new.rows p ≡ Some k → k.settled ≤ new.round) (lists : KeepsLists old new) where
   before : (p : Point) → Holds new.rows p → Holds old.rows p
   before p h = sym (rows p) ∙ h
 
@@ -58,36 +53,43 @@ module _ (arena : Arena) (old new : Work) (kept : IsKept arena old) (rows : (p :
   there_before : (p : Point) → Holds new.graph.heights p → Holds old.graph.heights p
   there_before p h = subst (λ (m : Rows ℕ). Holds m p) same.heights h
 
+  held : held_at arena new ≡ held_at arena old
+  held = held_same arena old new (λ n. ap outcome_in (changes n)) roots
+
   pub kept_with : IsKept arena new
   kept_with = record {
     step = step;
     rows = λ p. rows p ∙ kept.rows p;
-    leaves = λ p h. elim (kept.leaves p (there_before p h)) [ inl r ↦ inl (now p r) | inr is ↦ inr is ];
+    leaves = λ p h. elim (kept.leaves p (there_before p h)) [ inl r ↦ inl (now p r) | inr d ↦ inr (d.0, needed_now old.graph new.graph same p d.1) ];
     there = λ p h. subst (λ (m : Rows ℕ). Holds m p) (sym same.heights) (kept.there p (before p h));
     given = λ p h. kept.given p (there_before p h);
-    links = λ p q r. now p (kept.links p q (subst (λ (l : Links). Reads l p q) same.links r));
+    links = λ p q r. links_same old new rows deaths p q (kept.links p q (subst (λ (l : Links). Reads l p q) same.links r));
     heap = λ p h. now p (heap p h);
+    dead = λ n b e. kept.dead n b (sym (died_same old new deaths n) ∙ e);
     sound = kept.sound;
-    today = kept.today;
+    scopes = kept.scopes;
+    older = kept.older;
     outcomes = outcomes;
-    rights = λ n m r k o row e out right. rights n m r k o row e out
+    rights = λ n m r k o row e out right. kept.rights n m r k o row (sym (changes n) ∙ e) out
         (subst (λ (h : Holdings). right_of (graph_of arena h) n r.def o ≡ Some m) held right);
-    rootless = λ n w is. kept.rootless n w (subst (λ (h : Holdings). h.built n ≡ Some w) held is);
+    roots = λ n h. let v = kept.roots n (root_same old new roots (change n) h) in (v.0, ap outcome_in (changes n) ∙ v.1);
+    binds = λ n r row h. kept.binds n r row (root_same old new roots (change n) h);
     calls = calls;
     rounds = rounds;
-    pairs = λ n r live some. pairs n (kept.pairs n r live some);
+    pairs = λ n r live some. pairs_same old new lists n (kept.pairs n r live some);
+    scoped = λ n r live some. scoped_same old new lists n (kept.scoped n r live some);
   }
 
 -- all rows stay, and the roots of binds
 pub kept_same : (arena : Arena) (old new : Work) → IsKept arena old → KeepsRows old.rows new.rows → KeepsGraph old.graph new.graph → IsInStep new.graph
-    → ((p : Point) → Holds new.graph.heap p → Holds old.rows p) → new.round ≡ old.round → new.roots ≡ old.roots → new.pairs ≡ old.pairs → IsKept arena new
-kept_same arena old new kept rows same step heap round roots pairs = kept_with arena old new kept (λ p. ap is_some (rows p)) same step heap
+    → ((p : Point) → Holds new.graph.heap p → Holds old.rows p) → new.round ≡ old.round → new.roots ≡ old.roots → new.deaths ≡ old.deaths
+    → KeepsLists old new → IsKept arena new
+kept_same arena old new kept rows same step heap round roots deaths lists = kept_with arena old new kept (λ p. ap is_some (rows p)) same step heap
     (λ n r k v live is o. kept.outcomes n r k v live (sym (rows (main n)) ∙ is) o)
-    (λ n m r k o live is out right. kept.rights n m r k o live (sym (rows (change n)) ∙ is) out right)
-    (held_rows arena old new rows roots)
+    (λ n. rows (change n)) roots deaths
     (λ n r k c live is l. kept.calls n r k c live (sym (rows (main n)) ∙ is) l)
     (λ p k is. subst (λ (m : ℕ). k.settled ≤ m) (sym round) (kept.rounds p k (sym (rows p) ∙ is)))
-    (λ n a. rw pairs a)
+    lists
 
 -- ---- a point leaves the heap, and comes back
 
@@ -102,6 +104,7 @@ module _ (arena : Arena) (old : Work) (g : NecessaryPart) (rest : g ≡ record o
   heap_kept : IsKept arena old → IsInStep (record old.graph { heap = g.heap }) → ((p : Point) → Holds g.heap p → Holds old.rows p)
       → IsKept arena (record old { graph = g })
   heap_kept kept step heap = kept_same arena old (record old { graph = g }) kept (λ p. refl) heap_graph (subst IsInStep (sym rest) step) heap refl refl refl
+      (record { pairs = refl; scoped = refl })
 
   pub taken_kept : (p : Point) → IsKept arena old → Changes old.graph.heap g.heap p None → IsKept arena (record old { graph = g })
   taken_kept p kept c = heap_kept kept (taken_in_step old.graph kept.step g.heap p c)
@@ -127,7 +130,7 @@ some_row : (a b : Progress) → ◌≡◌ {A = Option Progress} (Some a) (Some b
 some_row a b e = cc
 
 module _ (arena : Arena) (old new : Work) (n : NodeId) (o : Outcome) (last : Option Call) (made : ℕ)
-    (kept : IsKept arena old) (w : IsSettled old new n o last made) (step : IsInStep new.graph) (pairs : new.pairs ≡ old.pairs)
+    (kept : IsKept arena old) (w : IsSettled old new n o last made) (step : IsInStep new.graph) (lists : KeepsLists old new)
     (typed : (r : Row) (v : Value) → row_at arena n ≡ Some r → o ≡ Val v → IsOfType arena v r.ty)
     (answer_typed : (r : Row) (c : Call) → row_at arena n ≡ Some r → last ≡ Some c → IsOfType arena c.result r.ty) where
   abbrev fresh : Progress
@@ -145,12 +148,17 @@ module _ (arena : Arena) (old new : Work) (n : NodeId) (o : Outcome) (last : Opt
   change_other : (m : NodeId) → change m ≢ main n
   change_other m e = absurd (let parts = ap (λ (x : Point). x.part) e in cc)
 
+  -- who reads a main isn't dead: those are linked to changes alone
+  row_of : (p : Point) → Holds old.rows p ⊎ IsGhostLink old p (main n) → Holds old.rows p
+  row_of p (inl h) = h
+  row_of p (inr g) = absurd (change_other g.scope (sym g.gate))
+
   heap_rows : (p : Point) → Holds new.graph.heap p → Holds old.rows p
   heap_rows p h = elim (point_cases p (main n)) [
     | inl e ↦ subst (λ (x : Point). Holds old.rows x) (sym e) (ap is_some w.was)
     | inr ne ↦ elim (w.only p ne h) [
       | inl k ↦ kept.heap p k
-      | inr k ↦ kept.links p (main n) k.0
+      | inr k ↦ row_of p (kept.links p (main n) k.0)
     ]
   ]
 
@@ -164,8 +172,7 @@ module _ (arena : Arena) (old new : Work) (n : NodeId) (o : Outcome) (last : Opt
             typed r v (subst (λ (x : NodeId). row_at arena x ≡ Some r) same live) (cc)
         | inr ne ↦ kept.outcomes m r k v live (sym (w.others (main m) ne) ∙ is) out
       ])
-      (λ m i r k x live is out right. kept.rights m i r k x live (sym (w.others (change m) (change_other m)) ∙ is) out right)
-      (held_main arena old new n w.others w.roots)
+      (λ m. w.others (change m) (change_other m)) w.roots w.deaths
       (λ m r k c live is l. elim (point_cases (main m) (main n)) [
         | inl e ↦
             let same : m ≡ n = ap (λ (x : Point). x.node) e in
@@ -181,4 +188,4 @@ module _ (arena : Arena) (old new : Work) (n : NodeId) (o : Outcome) (last : Opt
             let before = kept.rounds p k (sym (w.others p ne) ∙ is) in
             let r = w.round in omega arith
       ])
-      (λ m a. rw pairs a)
+      lists

@@ -1,220 +1,456 @@
--- A change is settled: how the state follows.
-use Rattle.std.proofs.Common.{◌≡◌, ◌≢◌, ◌⊎◌, inl, inr, ℕ, Bool, true, false, ◌&&◌, List, [], Option, None, Some, refl, sym, ap, subst, ◌∙◌}
-use Rattle.std.specs.Prelude.{Result, Ok, Err, OnOk, IfErr, is_some, reverse, option_map}
-use Rattle.std.proofs.lemmas.Bool.{and_from, and_parts}
+-- A change is turned: how the state follows.
+use Rattle.std.proofs.Common.{◌≡◌, ◌≢◌, ◌⊎◌, inl, inr, ℕ, ◌+◌, ◌<◌, ◌≤◌, Bool, true, false, List, [], ◌∷◌, Option, None, Some, refl, sym, ap, subst, ◌∙◌, arith}
+use Rattle.std.specs.Prelude.{Result, Ok, Err, OnOk, IfErr, is_some, option_map}
 use Rattle.std.proofs.lemmas.Option.{none-some}
+use Rattle.inc_value.specs.declared.function.FnRef.{FnRef}
 use Rattle.inc_value.specs.declared.node.NodeId.{NodeId}
 use Rattle.inc_value.specs.declared.node.Point.{Point}
 use Rattle.inc_value.specs.declared.outcome.Outcome.{Outcome}
-use Rattle.inc_value.specs.Choice.{Reaches, here, step}
-use Rattle.inc_terms.specs.Depend.{main, change, subject_of}
+use Rattle.inc_value.specs.Choice.{Among, Reaches, here}
+use Rattle.inc_terms.specs.Depend.{main, change}
+use Rattle.inc_terms.specs.Graph as graph
 use Rattle.inc_terms.specs.Graph.{Graph, Row}
 use Rattle.inc_terms.specs.Local.{shown}
+use Rattle.inc_terms.specs.Plan.{gate_of}
 use Rattle.inc_terms.specs.Term.{Functions}
 use Rattle.point_map.specs.Rows.{Rows, at, Holds}
-use Rattle.link_table.specs.Links.{Links, times}
-use Rattle.height_order.specs.Levels.{level}
-use Rattle.necessity.specs.Need.{Roots, root_times}
+use Rattle.link_table.specs.Links.{times}
+use Rattle.height_order.specs.Levels.{level, or_zero}
+use Rattle.necessary_graph.specs.Part.{NecessaryPart, Needed}
 use Rattle.node_arena.specs.Arena.{Arena, row_at}
+use Rattle.node_outcomes.specs.Row.{IsRewritten, with_stage, with_outcome, stage_in, stage_of, outcome_in}
+use Rattle.node_outcomes.specs.declared.row.Progress.{Progress}
+use Rattle.node_outcomes.specs.declared.row.Stage.{Stage}
+use Rattle.node_outcomes.specs.declared.row.Stage.TheVariants as code
 use Rattle.stabilize_round.specs.Invariant.{Invariant}
-use Rattle.stabilize_round.specs.Machine as move
-use Rattle.stabilize_round.specs.Moves.{Quiet, IsLeast, changed, StepChange}
+use Rattle.stabilize_round.specs.Machine.{Move}
+use Rattle.stabilize_round.specs.Moves.{Quiet, IsLeast, Awaits}
 use Rattle.stabilize_round.specs.State as machine
-use Rattle.stabilize_round.specs.State.{State, Start, at_point}
-use Rattle.stabilize_round.specs.Steps.{TakingOff}
+use Rattle.stabilize_round.specs.State.{State, Start, count, plan_at}
+use Rattle.stabilize_round.specs.Steps as steps
+use Rattle.stabilize_round.specs.Steps.{TakingOff, Preparing}
 use Rattle.stabilize_round.proofs.Machine.{moves_keep}
 use Rattle.stabilize_round.proofs.Main.{main_change}
-use Rattle.stabilize_round.proofs.Points.{same_or_other, at_same, at_other}
-use Rattle.node_outcomes.specs.Row.{IsRewritten, with_outcome, settled_in, stage_of}
-use Rattle.stabilizer.specs.Today.{NoScopes, NoBinds}
-use Rattle.stabilizer.specs.Stands.{Stands, hand}
-use Rattle.stabilizer.specs.Wiring.{KeepsGraph, KeepsRound, IsTurnedIn}
-use Rattle.node_outcomes.specs.declared.row.Progress.{Progress}
-use Rattle.stabilizer.specs.declared.work.Work.{Work}
-use Rattle.stabilizer.proofs.Carrying.{needed_now, needed_before}
-use Rattle.stabilizer.proofs.Settling.{same_number}
-use Rattle.stabilizer.proofs.Retrying.{Keeps}
-use Rattle.stabilizer.proofs.Agreeing.{unbound_built}
-use Rattle.stabilizer.proofs.Holding.{graph_any}
+use Rattle.stabilize_round.proofs.Parts.{bool_cases}
+use Rattle.stabilize_round.proofs.Points.{same_or_other, one_same}
+use Rattle.stabilize_round.proofs.Steps.{off_moves}
+use Rattle.wiring.specs.Graph.{graph_at}
+use Rattle.wiring.specs.Kept.{IsKept}
+use Rattle.wiring.specs.Stands.{Stands, Counts}
+use Rattle.wiring.specs.Wiring.{IsTurnedIn}
+use Rattle.wiring.specs.declared.work.Work.{Work}
+use Rattle.wiring.proofs.Retrying.{off_keeps}
+use Rattle.wiring.proofs.Sight.{sees, reads_known, change_is}
+use Rattle.wiring.specs.Began.{IsRoundOf}
+use Rattle.wiring.specs.Turning.{IsAttached, IsLoosened, HasTurned}
+use Rattle.node_outcomes.specs.Choosing.{right_in}
+use Rattle.node_outcomes.specs.Computing.{has_part}
+use Rattle.node_outcomes.specs.Meaning.{Meaning}
+use Rattle.inc_value.specs.declared.node.Part.TheVariants.{Main}
+use Rattle.inc_terms.specs.Depend.{change_reads}
+use Rattle.link_table.specs.Links.{Reads}
+use Rattle.point_map.specs.Rows.{Changes}
+use Rattle.stabilizer.specs.Dying.{TakesLeast, StandsBefore}
+use Rattle.stabilizer.specs.Kept.{PartsKept}
+use Rattle.stabilizer.specs.Stepping.{ChangeIsTurned}
+use Rattle.stabilizer.specs.declared.parts.Parts.{Parts}
+use Rattle.stabilizer.proofs.Waiting.{put_changes, put_back, with_change, change_back_kept, last, out_left, own_linked, loose_fewer, loose_heap, taken_off, last_kept}
+use Rattle.stabilizer.proofs.Running.{IsRun, StaysAbove, some_same, all_off_prepare, off_stays, graph_run, next, settles, turned_in}
 
--- of the parts just a change's row and its place in the heap are others: it was settled on this outcome, and left the heap
-pub record IsRun (old new : Work) (n : NodeId) (given : Outcome) : Type 0 where
-  pub rows : IsRewritten old.rows new.rows (change n) (with_outcome given old.round)
-  pub graph : KeepsGraph old.graph new.graph
-  pub gone : at new.graph.heap (change n) ≡ None
-  pub heap : (a : Point) → a ≢ change n → is_some (at new.graph.heap a) ≡ is_some (at old.graph.heap a)
-  pub todo : new.todo.items ≡ old.todo.items
-  pub round : KeepsRound old new
+-- ---- the state in which it is settled
 
 -- the state in which the change is settled, and the parts that stand for it: a main with a right side waits again where the outcome is another
-pub record IsReadied (F : Functions) (z : Start) (s : State) (arena : Arena) (turned : Work) (calls : ℕ) (n : NodeId) (given : Outcome) : Type 0 where
+pub record IsReadied (F : Functions) (z : Start) (s : State) (arena : Arena) (taken woken turned : Work) (counts : Counts) (n : NodeId) (given : Outcome) : Type 0 where
   pub work : Work
   pub state : State
   pub prepared : Reaches (TakingOff F z) s state
-  pub keeps : Keeps s state
-  pub stands : Stands arena work calls None state
-  pub there : Holds work.rows (change n)
-  pub mine : Holds work.rows (main n)
-  pub todo : work.todo.items ≡ []
+  pub stands : Stands arena work counts None state
+  pub kept : IsKept arena work
+  pub quiet : Quiet state
   pub least : IsLeast state (change n)
   pub right : (state.out (change n) ≡ Some given) ⊎ (state.needed (main n) ≡ true → state.stage (main n) ≡ machine.Full → ⊥)
   pub run : IsRun work turned n given
   pub again : s.settled (change n) ≡ true → state ≡ s
+  pub links : (a b : Point) → times work.graph.links a b ≤ times taken.graph.links a b
+  pub rows : (a : Point) → a ≢ main n → at work.rows a ≡ at taken.rows a
+  pub todo : turned.todo.items ≡ woken.todo.items
 
-abbrev nothing : Point → List Point
-nothing p = []
+module _ (arena : Arena) (taken turned : Work) (n : NodeId) (counts : Counts) (kept : IsKept arena taken) (row_own : Holds taken.rows (change n))
+    (need_own : Needed taken.graph (change n)) (out_own : at taken.graph.heap (change n) ≡ None) (c : ChangeIsTurned arena taken turned n) where
+  abbrev old : Work
+  old = with_change taken n
 
-abbrev nowhere : Point → Bool
-nowhere p = false
+  old_kept : IsKept arena old
+  old_kept = change_back_kept taken n need_own arena row_own kept
 
--- a main without its right side, as a test
-abbrev pub is_static : machine.Stage → Bool
-is_static machine.Static = true
-is_static stage = false
+  abbrev woken : Work
+  woken = record taken { todo = c.woken.todo }
 
-static_is : (st : machine.Stage) → is_static st ≡ true → st ≡ machine.Static
-static_is machine.Static e = refl
-static_is machine.Bare e = absurd (cc)
-static_is machine.Gated e = absurd (cc)
-static_is machine.Full e = absurd (cc)
+  abbrev right_side : Option NodeId
+  right_side = right_in taken.rows taken.roots n c.row.def
 
--- a row that was settled so keeps its stage
-record IsBefore (k row : Progress) (given : Outcome) : Type 0 where
-  outcome : k.outcome ≡ Some given
-  stage : k.stage ≡ row.stage
+  t : HasTurned woken turned n right_side c.given
+  t = subst (λ (w : Work). HasTurned w turned n right_side c.given) c.wakes.rest c.turned
 
-run_row : (given : Outcome) (round : ℕ) (x : Option Progress) (k : Progress) → option_map (with_outcome given round) x ≡ Some k
-    → (row : Progress) × (x ≡ Some row) × IsBefore k row given
-run_row given round None k e = absurd (none-some k e)
-run_row given round (Some row) k e = (row, refl, record { outcome = ap (λ (x : Progress). x.outcome) (same e); stage = ap (λ (x : Progress). x.stage) (same e) })
-  where
-    same : ◌≡◌ {A = Option Progress} (Some (with_outcome given round row)) (Some k) → k ≡ with_outcome given round row
-    same h = cc
+  module _ (F : Functions) (z : Start) (s : State) (inv : Invariant F z s) (quiet : Quiet s) (st : Stands arena old counts None s)
+      (least : IsLeast s (change n)) where
+    s_row : s.graph.row n ≡ Some c.row
+    s_row = ap (λ (G : Graph). G.row n) st.graph ∙ c.is_row
 
-run_settled : (given : Outcome) (round : ℕ) (x : Option Progress) → is_some x ≡ true → settled_in round (option_map (with_outcome given round) x) ≡ true
-run_settled given round None e = absurd (cc)
-run_settled given round (Some row) e = same_number round
+    subject_known : (o : Outcome) × (shown s.graph s.out (main c.subject) ≡ Some o)
+    subject_known = reads_known s arena old counts old_kept st F z inv quiet (change n) least c.row c.is_row c.subject
+        (subst (λ (x : Option NodeId). Among (main c.subject) (change_reads x)) (sym c.is_subject) (inl refl))
 
--- what is no bind isn't built
+    seen_now : shown s.graph s.out (main c.subject) ≡ Some c.given
+    seen_now = elim c.sees [
+      | inl e ↦ sees s arena old counts old_kept st c.subject ∙ e
+      | inr none ↦ absurd (none-some subject_known.0 (sym none ∙ (sym (sees s arena old counts old_kept st c.subject) ∙ subject_known.1)))
+    ]
 
-module _ (s : State) (arena : Arena) (no_binds : NoBinds arena) (old new : Work) (calls : ℕ) (st : Stands arena old calls None s) (n : NodeId) (given : Outcome)
-    (there : Holds old.rows (change n)) (run : IsRun old new n given) where
-  abbrev pub todo' : Point → Bool
-  todo' = at_point (main n) (s.needed (main n) && is_static (s.stage (main n))) nowhere
+    own_is : s.out (change n) ≡ outcome_in (at taken.rows (change n))
+    own_is = change_is s arena old counts old_kept st n c.row c.is_row (ap is_some c.is_subject)
 
-  abbrev pub next : State
-  next = changed s n given todo'
+    -- a change that was settled ran with what its subject shows
+    ran_so : s.settled (change n) ≡ true → outcome_in (at taken.rows (change n)) ≡ Some c.given
+    ran_so settled =
+        let a = (inv.settled.done (change n) settled).agrees c.row s_row c.subject c.is_subject in
+        let same : Some a.0 ≡ Some c.given = sym a.2 ∙ seen_now in
+        sym own_is ∙ (a.1 ∙ same)
 
-  other_row : (a : Point) (k : Progress) → (change n ≡ a → ⊥) → at new.rows a ≡ Some k → at old.rows a ≡ Some k
-  other_row a k ne e = sym (run.rows.others a (λ h. ne (sym h))) ∙ e
+    -- ---- it has no right side, or has it by this outcome
 
-  main_row : (m : NodeId) (k : Progress) → at new.rows (main m) ≡ Some k → at old.rows (main m) ≡ Some k
-  main_row m k e = sym (run.rows.others (main m) (main_change m n)) ∙ e
+    full_in : (x : Option Progress) → at taken.rows (main n) ≡ x → s.stage (main n) ≡ machine.Full → is_some x ≡ true → stage_in x ≡ Some code.Full
+    full_in None e f h = absurd (cc)
+    full_in (Some k) e f h = ap (λ (y : Stage). Some y) (full_of k.stage (sym (st.stage (main n) k e) ∙ f))
+      where
+        full_of : (y : Stage) → stage_of y ≡ machine.Full → y ≡ code.Full
+        full_of code.Bare q = absurd (cc)
+        full_of code.Gated q = absurd (cc)
+        full_of code.Static q = absurd (cc)
+        full_of code.Full q = refl
 
-  before : (k : Progress) → at new.rows (change n) ≡ Some k → (row : Progress) × (at old.rows (change n) ≡ Some row) × IsBefore k row given
-  before k e = run_row given old.round (at old.rows (change n)) k (sym run.rows.changed ∙ e)
+    right_stays : (outcome_in (at taken.rows (change n)) ≡ Some c.given) ⊎ (IsAttached woken n → ⊥)
+        → (s.out (change n) ≡ Some c.given) ⊎ (s.needed (main n) ≡ true → s.stage (main n) ≡ machine.Full → ⊥)
+    right_stays (inl e) = inl (own_is ∙ e)
+    right_stays (inr not) = inr (λ need f. not (record {
+      needed = (st.needed (main n)).0 need;
+      stage = full_in (at taken.rows (main n)) refl f (kept.rows (main n) ∙ ap (λ (x : Option Row). has_part x Main) c.is_row);
+    }))
 
-  -- the parts stand for it, with the main in hand
-  pub run_stands : Stands arena new calls (Some (hand (main n) [])) next
-  run_stands = record {
-    graph = st.graph ∙ sym (graph_any arena no_binds old new);
-    out = λ a k e. elim (same_or_other (change n) a) [
-      | inl h ↦ subst (λ (x : Point). at_point (change n) (Some given) s.out x ≡ k.outcome) h
-          (at_same (change n) (Some given) s.out ∙ sym (before k (subst (λ (x : Point). at new.rows x ≡ Some k) (sym h) e)).2.outcome)
-      | inr ne ↦ at_other (change n) (Some given) s.out a ne ∙ st.out a k (other_row a k ne e)
-    ];
-    last = λ m k e. st.last m k (main_row m k e);
-    never = λ m k e. st.never m k (main_row m k e);
-    stale = st.stale;
-    links = λ a b. st.links a b ∙ ap (λ (l : Links). times l a b) (sym run.graph.links);
-    root = λ a. st.root a ∙ ap (λ (r : Roots). root_times r a) (sym run.graph.roots);
-    needed = λ a. (
-      λ t. needed_now old.graph new.graph run.graph a ((st.needed a).0 t),
-      λ h. (st.needed a).1 (needed_before old.graph new.graph run.graph a h),
-    );
-    height = λ a. st.height a ∙ ap (λ (h : Rows ℕ). level h a) (sym run.graph.heights);
-    heap = λ a. elim (same_or_other (change n) a) [
-      | inl h ↦ subst (λ (x : Point). at_point (change n) false s.heap x ≡ is_some (at new.graph.heap x)) h
-          (at_same (change n) false s.heap ∙ sym (ap is_some run.gone))
-      | inr ne ↦ at_other (change n) false s.heap a ne ∙ (st.heap a ∙ sym (run.heap a (λ h. ne (sym h))))
-    ];
-    settled = λ a. elim (same_or_other (change n) a) [
-      | inl h ↦ subst (λ (x : Point). at_point (change n) true s.settled x ≡ settled_in new.round (at new.rows x)) h
-          (at_same (change n) true s.settled ∙ sym (ap (settled_in new.round) run.rows.changed
-          ∙ (ap (λ (i : ℕ). settled_in i (option_map (with_outcome given old.round) (at old.rows (change n)))) run.round.round
-          ∙ run_settled given old.round (at old.rows (change n)) there)))
-      | inr ne ↦ at_other (change n) true s.settled a ne ∙ (st.settled a ∙ sym (ap (λ (i : ℕ). settled_in i (at new.rows a)) run.round.round
-          ∙ ap (settled_in old.round) (run.rows.others a (λ h. ne (sym h)))))
-    ];
-    stage = λ a k e. elim (same_or_other (change n) a) [
-      | inl h ↦ subst (λ (x : Point). s.stage x ≡ stage_of k.stage) h
-          (let b = before k (subst (λ (x : Point). at new.rows x ≡ Some k) (sym h) e) in st.stage (change n) b.0 b.1 ∙ ap stage_of (sym b.2.stage))
-      | inr ne ↦ st.stage a k (other_row a k ne e)
-    ];
-    owed = λ a. st.owed a ∙ elim (same_or_other (main n) a) [
-      | inl h ↦ subst (λ (x : Point). [] ≡ at_point (main n) [] nothing x) h (sym (at_same (main n) [] nothing))
-      | inr ne ↦ sym (at_other (main n) [] nothing a ne)
-    ];
-    todo = λ a t. elim (same_or_other (main n) a) [
-      | inl h ↦ inr (sym h)
-      | inr ne ↦ absurd (let f = at_other (main n) (s.needed (main n) && is_static (s.stage (main n))) nowhere a ne in cc)
-    ];
-    strict = st.strict ∙ sym run.round.strict;
-    died = st.died;
-    ran = st.ran ∙ ap reverse (sym run.round.ran);
-    calls = st.calls;
-    given = st.given;
-  }
+    module _ (rows : IsRewritten taken.rows turned.rows (change n) (with_outcome c.given taken.round)) (only : turned ≡ record woken { rows = turned.rows }) where
+      run_same : IsRun old turned n c.given
+      run_same = record {
+        rows = rows;
+        graph = record {
+          links = ap (λ (w : Work). w.graph.links) only;
+          roots = ap (λ (w : Work). w.graph.roots) only;
+          heights = ap (λ (w : Work). w.graph.heights) only;
+        };
+        gone = ap (λ (w : Work). at w.graph.heap (change n)) only ∙ out_own;
+        heap = λ a ne. ap (λ (w : Work). is_some (at w.graph.heap a)) only ∙ sym (ap is_some ((put_back taken n).others a ne));
+        round = record {
+          roots = ap (λ (w : Work). w.roots) only;
+          deaths = ap (λ (w : Work). w.deaths) only;
+          ran = ap (λ (w : Work). w.ran.items) only;
+          strict = ap (λ (w : Work). w.strict) only;
+          round = ap (λ (w : Work). w.round) only;
+        };
+      }
 
-  -- what is woken waits for it
-  only_main : (a : Point) → todo' a ≡ true → (a ≡ main n) × (s.needed (main n) ≡ true) × (s.stage (main n) ≡ machine.Static)
-  only_main a t = elim (same_or_other (main n) a) [
-    | inl h ↦
-        let b : (s.needed (main n) && is_static (s.stage (main n))) ≡ true =
-        sym (at_same (main n) (s.needed (main n) && is_static (s.stage (main n))) nowhere) ∙ subst (λ (x : Point). todo' x ≡ true) (sym h) t in
-        let k = and_parts (s.needed (main n)) (is_static (s.stage (main n))) b in
-        (sym h, k.0, static_is (s.stage (main n)) k.1)
-    | inr ne ↦ absurd (let f = at_other (main n) (s.needed (main n) && is_static (s.stage (main n))) nowhere a ne in cc)
+      readied_same : (outcome_in (at taken.rows (change n)) ≡ Some c.given) ⊎ (IsAttached woken n → ⊥)
+          → IsReadied F z s arena taken c.woken turned counts n c.given
+      readied_same right = record {
+        work = old;
+        state = s;
+        prepared = here;
+        stands = st;
+        kept = old_kept;
+        quiet = quiet;
+        least = least;
+        right = right_stays right;
+        run = run_same;
+        again = λ settled. refl;
+        links = λ a b. omega arith;
+        rows = λ a ne. refl;
+        todo = ap (λ (w : Work). w.todo.items) only;
+      }
+
+    -- ---- it loses its right side
+
+    module _ (attached : IsAttached woken n) (loose : IsLoosened woken t.mid n right_side)
+        (other : outcome_in (at taken.rows (change n)) ≢ Some c.given) where
+      unsettled : s.settled (change n) ≡ false
+      unsettled = elim (bool_cases (s.settled (change n))) [ inl e ↦ absurd (other (ran_so e)) | inr f ↦ f ]
+
+      abbrev mid : Work
+      mid = t.mid
+
+      abbrev then : Work
+      then = last arena taken mid c.woken.todo n c.row c.subject kept c.is_row c.is_subject row_own need_own attached loose
+
+      off : (u : State) × Reaches (TakingOff F z) s u × Stands arena then counts None u
+      off = taken_off arena taken mid c.woken.todo n c.row c.subject kept c.is_row c.is_subject row_own need_own attached loose F z s counts inv st unsettled
+
+      abbrev u : State
+      u = off.0
+
+      above : StaysAbove s u
+      above = off_stays F z s u off.1
+
+      on : Stands arena then counts None u
+      on = off.2
+
+      put_in : Changes mid.graph.heap then.graph.heap (change n) (Some (level mid.graph.heights (change n)))
+      put_in = put_changes mid.graph.heap (change n) (level mid.graph.heights (change n))
+
+      own_below : s.height (change n) < s.height (main n)
+      own_below = inv.web.rises (main n) (change n) (
+          let l = own_linked arena taken mid c.woken.todo n c.row c.subject kept c.is_row c.is_subject row_own need_own attached loose F z s counts inv st unsettled in
+          let w = st.links (main n) (change n) in
+          omega (arith, l, w))
+
+      still_least : IsLeast u (change n)
+      still_least = record {
+        heap = on.heap (change n) ∙ ap is_some put_in.changed;
+        least = λ q h.
+            let one = ap (λ (f : Point → ℕ). f (change n)) above.height in
+            let two = ap (λ (f : Point → ℕ). f q) above.height in
+            elim (same_or_other q (change n)) [
+              | inl e ↦ subst (λ (x : Point). u.height (change n) ≤ u.height x) (sym e) (omega arith)
+              | inr ne ↦ elim (loose_heap arena taken mid c.woken.todo n c.row c.subject kept c.is_row c.is_subject row_own need_own attached loose
+                  q (sym (ap is_some (put_in.others q ne)) ∙ (sym (on.heap q) ∙ h))) [
+                    | inl was ↦ let l = least.least q (st.heap q ∙ (ap is_some ((put_back taken n).others q ne) ∙ was)) in omega (arith, one, two, l)
+                    | inr k ↦ let l = own_below in let e = ap s.height k in omega (arith, one, two, l, e)
+                  ]
+            ];
+      }
+
+      static_now : u.stage (main n) ≡ machine.Full → ⊥
+      static_now f = by_row (at taken.rows (main n)) refl attached.stage
+        where
+          by_row : (x : Option Progress) → at taken.rows (main n) ≡ x → stage_in x ≡ Some code.Full → ⊥
+          by_row None e a = none-some code.Full a
+          by_row (Some k) e a =
+              let static : u.stage (main n) ≡ machine.Static =
+              on.stage (main n) (with_stage code.Static k) (loose.rows.changed ∙ ap (option_map (with_stage code.Static)) e) in
+              let x : machine.Static ≡ machine.Full = sym static ∙ f in
+              cc
+
+      rest_round : mid.round ≡ taken.round
+      rest_round = ap (λ (w : Work). w.round) loose.last ∙ ap (λ (w : Work). w.round) loose.rest
+
+      run_last : IsRun then turned n c.given
+      run_last = record {
+        rows = t.rows;
+        graph = record {
+          links = ap (λ (w : Work). w.graph.links) t.rest;
+          roots = ap (λ (w : Work). w.graph.roots) t.rest;
+          heights = ap (λ (w : Work). w.graph.heights) t.rest;
+        };
+        gone = ap (λ (w : Work). at w.graph.heap (change n)) t.rest
+            ∙ out_left arena taken mid c.woken.todo n c.row c.subject kept c.is_row c.is_subject row_own need_own attached loose out_own;
+        heap = λ a ne. ap (λ (w : Work). is_some (at w.graph.heap a)) t.rest ∙ sym (ap is_some (put_in.others a ne));
+        round = record {
+          roots = ap (λ (w : Work). w.roots) t.rest ∙ (ap (λ (w : Work). w.roots) loose.last ∙ ap (λ (w : Work). w.roots) loose.rest);
+          deaths = ap (λ (w : Work). w.deaths) t.rest ∙ (ap (λ (w : Work). w.deaths) loose.last ∙ ap (λ (w : Work). w.deaths) loose.rest);
+          ran = ap (λ (w : Work). w.ran.items) t.rest ∙ (ap (λ (w : Work). w.ran.items) loose.last ∙ ap (λ (w : Work). w.ran.items) loose.rest);
+          strict = ap (λ (w : Work). w.strict) t.rest ∙ (ap (λ (w : Work). w.strict) loose.last ∙ ap (λ (w : Work). w.strict) loose.rest);
+          round = ap (λ (w : Work). w.round) t.rest ∙ rest_round;
+        };
+      }
+
+      readied_loose : IsReadied F z s arena taken c.woken turned counts n c.given
+      readied_loose = record {
+        work = then;
+        state = u;
+        prepared = off.1;
+        stands = on;
+        kept = last_kept arena taken mid c.woken.todo n c.row c.subject kept c.is_row c.is_subject row_own need_own attached loose F z s counts inv st unsettled;
+        quiet = λ a. ap (λ (f : Point → Bool). f a) above.todo ∙ quiet a;
+        least = still_least;
+        right = inr (λ need f. static_now f);
+        run = run_last;
+        again = λ settled. absurd (other (ran_so settled));
+        links = loose_fewer arena taken mid c.woken.todo n c.row c.subject kept c.is_row c.is_subject row_own need_own attached loose;
+        rows = λ a ne. loose.rows.others a ne;
+        todo = ap (λ (w : Work). w.todo.items) t.rest
+            ∙ (ap (λ (w : Work). w.todo.items) loose.last ∙ ap (λ (w : Work). w.todo.items) loose.rest);
+      }
+
+    pub readied : IsReadied F z s arena taken c.woken turned counts n c.given
+    readied = elim t.turned [
+      | inl k ↦ readied_same
+          (subst (λ (w : Work). IsRewritten w.rows turned.rows (change n) (with_outcome c.given taken.round)) k.0 t.rows)
+          (subst (λ (w : Work). turned ≡ record w { rows = turned.rows }) k.0 t.rest) k.1
+      | inr k ↦ readied_loose k.1 k.0 k.2
+    ]
+
+    -- ---- who is woken
+
+    abbrev ready : State
+    ready = readied.state
+
+    ready_inv : Invariant F z ready
+    ready_inv = moves_keep F z s ready (off_moves F z s ready readied.prepared) inv
+
+    ready_row : (a : Point) (r : Row) → ready.graph.row a.node ≡ Some r → row_at arena a.node ≡ Some r
+    ready_row a r e = sym (ap (λ (G : Graph). G.row a.node) readied.stands.graph) ∙ e
+
+    kept_of : (a : Point) (r : Row) → ready.needed a ≡ true → ready.graph.row a.node ≡ Some r → Holds readied.work.rows a
+    kept_of a r need row = elim (readied.kept.leaves a (readied.kept.step.there a ((readied.stands.needed a).0 need))) [
+      | inl h ↦ h
+      | inr dead ↦ absurd (none-some r (sym dead.0 ∙ ready_row a r row))
+    ]
+
+    gated_in : (a : Point) (x : Option Progress) → at readied.work.rows a ≡ x → is_some x ≡ true → ready.stage a ≡ machine.Gated → stage_in x ≡ Some code.Gated
+    gated_in a None e h g = absurd (cc)
+    gated_in a (Some k) e h g = ap (λ (y : Stage). Some y) (gated_of k.stage (sym (readied.stands.stage a k e) ∙ g))
+      where
+        gated_of : (y : Stage) → stage_of y ≡ machine.Gated → y ≡ code.Gated
+        gated_of code.Bare q = absurd (cc)
+        gated_of code.Gated q = refl
+        gated_of code.Static q = absurd (cc)
+        gated_of code.Full q = absurd (cc)
+
+    reads_gate : (a : Point) (r : Row) → ready.needed a ≡ true → ready.graph.row a.node ≡ Some r → r.scope ≡ Some n → ready.stage a ≡ machine.Gated
+        → Reads taken.graph.links a (change n)
+    reads_gate a r need row scope g =
+        let l = ready_inv.rows.links a (change n) need in
+        let o : count (change n) (ready.owed a) ≡ 0 = ap (count (change n)) (readied.stands.owed a) in
+        let p : plan_at ready.graph ready.out ready.died a (ready.graph.row a.node) (ready.stage a) ≡ change n ∷ [] =
+        ap (λ (x : Option Row). plan_at ready.graph ready.out ready.died a x (ready.stage a)) row
+        ∙ (ap (λ (x : machine.Stage). plan_at ready.graph ready.out ready.died a (Some r) x) g ∙ ap gate_of scope) in
+        let k : count (change n) (plan_at ready.graph ready.out ready.died a (ready.graph.row a.node) (ready.stage a)) ≡ machine.one (change n) (change n) + 0 =
+        ap (count (change n)) p in
+        let one = one_same (change n) in
+        let w = readied.stands.links a (change n) in
+        let f = readied.links a (change n) in
+        omega (arith, l, o, k, one, w, f)
+
+    is_woken : (a : Point) → Awaits ready n a → a ≢ main n → Among a turned.todo.items
+    is_woken a w ne = elim w.1 [
+      | inl x ↦ absurd (ne x.0)
+      | inr x ↦ subst (λ (xs : List Point). Among a xs) (sym readied.todo) ((c.wakes.listed a).1 (record {
+        reads = reads_gate a x.0 w.0 x.1 x.2 x.3;
+        stage = ap stage_in (sym (readied.rows a ne)) ∙ gated_in a (at readied.work.rows a) refl (kept_of a x.0 w.0 x.1) x.3;
+      }))
+    ]
+
+    -- ---- the move
+
+    there : Holds readied.work.rows (change n)
+    there = ap is_some (readied.rows (change n) (λ e. main_change n n (sym e))) ∙ row_own
+
+    ran : (r : Row) (l : NodeId) (f : FnRef) (captures : List NodeId) → row_at arena n ≡ Some r → r.def ≡ graph.Bind l f captures
+        → outcome_in (at readied.work.rows (change n)) ≡ Some c.given
+    ran r l f captures row is = ap outcome_in (readied.rows (change n) (λ e. main_change n n (sym e)))
+        ∙ c.built l f captures (ap (λ (x : Row). x.def) (some_same c.row r (sym c.is_row ∙ row)) ∙ is)
+
+    same_graph : graph_at arena turned ≡ graph_at arena readied.work
+    same_graph = graph_run arena readied.work turned n c.given readied.work.round readied.run.rows readied.run.round.roots ran
+
+    out_ready : ready.out (change n) ≡ outcome_in (at readied.work.rows (change n))
+    out_ready = change_is ready arena readied.work counts readied.kept readied.stands n c.row c.is_row (ap is_some c.is_subject)
+
+    seen_ready : shown ready.graph ready.out (main c.subject) ≡ Some c.given
+    seen_ready =
+        let k = off_keeps F z s ready readied.prepared in
+        subst (λ (o : Point → Option Outcome). shown ready.graph o (main c.subject) ≡ Some c.given) (sym k.out)
+        (subst (λ (G : Graph). shown G s.out (main c.subject) ≡ Some c.given) (sym k.graph) seen_now)
+
+    pub moves : (r x : State) × Reaches (Preparing F z (change n)) s r × (m : Move F z r x) × steps.Settles (change n) m
+        × IsTurnedIn F z x arena turned counts n × (s.settled (change n) ≡ true → r ≡ s)
+    moves = (
+      ready,
+      next ready arena readied.work turned counts readied.stands n c.given there readied.run same_graph is_woken,
+      all_off_prepare F z (change n) s ready readied.prepared,
+      settles ready arena readied.work turned counts readied.stands n c.given there readied.run same_graph is_woken F z ready_inv readied.quiet c.row c.subject
+          c.is_row c.is_subject readied.least seen_ready (λ l f captures is. out_ready ∙ ran c.row l f captures c.is_row is) readied.right
+          (λ b x row scope same. (let low = kept.older n b x row scope in let gens = ap (λ (i : NodeId). i.gen_) same in omega (arith, low, gens))),
+      refl,
+      turned_in ready arena readied.work turned counts readied.stands n c.given there readied.run same_graph is_woken F z ready_inv readied.quiet c.row c.subject
+          c.is_row c.is_subject readied.least seen_ready (λ l f captures is. out_ready ∙ ran c.row l f captures c.is_row is) readied.right
+          (λ b x row scope same. (let low = kept.older n b x row scope in let gens = ap (λ (i : NodeId). i.gen_) same in omega (arith, low, gens))),
+      readied.again,
+    )
+
+-- ---- with the change in the heap
+
+module _ (arena : Arena) (work taken : Work) (n : NodeId) (counts : Counts) (s : State) (takes : TakesLeast work taken (change n))
+    (st : Stands arena work counts None s) where
+  abbrev heap : Rows ℕ
+  heap = (with_change taken n).graph.heap
+
+  whole : with_change taken n ≡ record work { graph = record work.graph { heap = heap } }
+  whole = ap (λ (w : Work). record w { graph = record taken.graph { heap = heap } }) takes.rest
+      ∙ ap (λ (g : NecessaryPart). record work { graph = record g { heap = heap } }) takes.graph
+
+  same_heap : (a : Point) → is_some (at work.graph.heap a) ≡ is_some (at heap a)
+  same_heap a = elim (same_or_other a (change n)) [
+    | inl e ↦ subst (λ (x : Point). is_some (at work.graph.heap x) ≡ is_some (at heap x)) (sym e)
+        (takes.held ∙ sym (ap is_some (put_back taken n).changed))
+    | inr ne ↦ ap is_some (sym ((put_back taken n).others a ne ∙ takes.heap.others a ne))
   ]
 
-  main_woken : s.needed (main n) ≡ true → s.stage (main n) ≡ machine.Static → todo' (main n) ≡ true
-  main_woken need stage = at_same (main n) (s.needed (main n) && is_static (s.stage (main n))) nowhere
-      ∙ and_from (s.needed (main n)) (is_static (s.stage (main n))) need (ap is_static stage)
+  -- the state stands for the parts whose heap holds the change
+  pub before_stands : Stands arena (with_change taken n) counts None s
+  before_stands = subst (λ (w : Work). Stands arena w counts None s) (sym whole) (record {
+    graph = st.graph;
+    out = st.out;
+    last = st.last;
+    never = st.never;
+    stale = st.stale;
+    links = st.links;
+    root = st.root;
+    needed = st.needed;
+    height = st.height;
+    heap = λ a. st.heap a ∙ same_heap a;
+    settled = st.settled;
+    stage = st.stage;
+    owed = st.owed;
+    todo = st.todo;
+    strict = st.strict;
+    died = st.died;
+    ran = st.ran;
+    counts = st.counts;
+    given = st.given;
+  })
 
-  module _ (F : Functions) (z : Start) (inv : Invariant F z s) (quiet : Quiet s) (flat : NoScopes arena) (r : Row) (m : NodeId)
-      (live : row_at arena n ≡ Some r) (sub : subject_of r.def ≡ Some m) (taken : IsLeast s (change n)) (seen : shown s.graph s.out (main m) ≡ Some given)
-      (right : (s.out (change n) ≡ Some given) ⊎ (s.needed (main n) ≡ true → s.stage (main n) ≡ machine.Full → ⊥)) where
-    pub change_step : StepChange F s n given todo'
-    change_step = record {
-      row = r;
-      subject = m;
-      is_row = ap (λ (G : Graph). G.row n) st.graph ∙ live;
-      is_subject = sub;
-      taken = taken;
-      seen = seen;
-      built = unbound_built F s.graph n r.def given (no_binds n r live);
-      right = right;
-      woken = λ a t. let k = only_main a t in
-          (subst (λ (x : Point). s.needed x ≡ true) (sym k.0) k.1, inl (k.0, subst (λ (x : Point). s.stage x ≡ machine.Static) (sym k.0) k.2));
-      wakes = λ a w. elim w.1 [
-        | inl k ↦ subst (λ (x : Point). todo' x ≡ true) (sym k.0)
-            (main_woken (subst (λ (x : Point). s.needed x ≡ true) k.0 w.0) (subst (λ (x : Point). s.stage x ≡ machine.Static) k.0 k.1))
-        | inr k ↦ absurd (none-some n (sym (flat a.node k.0 (sym (ap (λ (G : Graph). G.row a.node) st.graph) ∙ k.1)) ∙ k.2))
-      ];
-    }
+  heights_as : taken.graph.heights ≡ work.graph.heights
+  heights_as = ap (λ (g : NecessaryPart). g.heights) takes.graph
 
-    abbrev pub settles : move.Move F z s next
-    settles = move.step_change quiet change_step refl
+  -- and the change is least there
+  pub before_least : IsKept arena taken → Needed taken.graph (change n) → IsLeast s (change n)
+  before_least kept need = record {
+    heap = st.heap (change n) ∙ takes.held;
+    least = λ q h. elim (same_or_other q (change n)) [
+      | inl e ↦ subst (λ (x : Point). s.height (change n) ≤ s.height x) (sym e) (omega arith)
+      | inr ne ↦ above q ne (at work.graph.heap q) refl (sym (st.heap q) ∙ h)
+    ];
+  }
+    where
+      above : (q : Point) → q ≢ change n → (x : Option ℕ) → at work.graph.heap q ≡ x → is_some x ≡ true → s.height (change n) ≤ s.height q
+      above q ne None e h = absurd (cc)
+      above q ne (Some y) e h =
+          let low = takes.least q y e in
+          let in_step = kept.step.heap q y (takes.heap.others q ne ∙ e) in
+          let a = before_stands.height (change n) need in
+          let b = before_stands.height q in_step.1 in
+          let l : level taken.graph.heights (change n) ≡ level work.graph.heights (change n) = ap (λ (x : Rows ℕ). level x (change n)) heights_as in
+          let k : level taken.graph.heights q ≡ y = ap or_zero in_step.0 in
+          omega (arith, low, a, b, l, k)
 
-    pub turned_in : IsTurnedIn F z next arena new calls n
-    turned_in = record {
-      holds = moves_keep F z s next (step settles here) inv;
-      taken = refl;
-      stands = run_stands;
-      only = λ t. let k = only_main (main n) t in (k.1, k.2);
-      wakes = λ need stage. main_woken need stage;
-      unlinked = λ a t need. inr (inr (only_main a t).0);
-    }
+-- from each state that the parts stand for whose heap lacks the change, moves lead to one in which the change was turned
+pub turned_moves : (M : Meaning) (old turned : Parts) (n : NodeId) (counts : Counts) → PartsKept old → Holds old.work.rows (change n)
+    → Needed old.work.graph (change n) → turned ≡ record old { work = turned.work } → ChangeIsTurned old.arena old.work turned.work n
+    → (z : Start) (s : State) → IsRoundOf M z s → Quiet s → StandsBefore old counts s n
+    → (ready next : State) × Reaches (Preparing M.functions z (change n)) s ready × (m : Move M.functions z ready next) × steps.Settles (change n) m
+    × IsTurnedIn M.functions z next turned.arena turned.work counts n × (s.settled (change n) ≡ true → ready ≡ s)
+turned_moves M old turned n counts kept row need only c z s begun quiet before =
+    let st = before_stands old.arena before.work old.work n counts s before.taken before.stands in
+    let least = before_least old.arena before.work old.work n counts s before.taken before.stands kept.work need in
+    let m = moves old.arena old.work turned.work n counts kept.work row need before.taken.heap.changed c M.functions z s begun.holds quiet st least in
+    (m.0, m.1, m.2, m.3, m.4, subst (λ (a : Arena). IsTurnedIn M.functions z m.1 a turned.work counts n) (sym (ap (λ (p : Parts). p.arena) only)) m.5, m.6)
 
 -- ---- results
 

@@ -5,73 +5,62 @@ use Rattle.std.proofs.lemmas.List.Sums.{sum_by-cons}
 use Rattle.inc_value.specs.declared.node.NodeId.{NodeId}
 use Rattle.inc_value.specs.declared.node.Point.{Point}
 use Rattle.inc_value.specs.Choice.{Among, NoRepeats, Every}
-use Rattle.inc_terms.specs.Depend.{main, none_died}
-use Rattle.inc_terms.specs.Evaluate.{Stands, GiveAll, answer}
+use Rattle.inc_terms.specs.Depend.{main}
+use Rattle.inc_terms.specs.Evaluate.{Stands, GiveAll}
 use Rattle.inc_terms.specs.Graph.{Graph}
 use Rattle.inc_terms.specs.Need.{IsRoot, Beside, Observed, nodes_of, Held, Met, from_root, from_held}
 use Rattle.inc_terms.specs.Term.{Functions}
 use Rattle.inc_terms.specs.Work.{Visit, HasReason, other, passed, IsDueVisit, WithinWork}
 use Rattle.necessary_graph.specs.Part.{Needed}
-use Rattle.node_arena.specs.Arena.{Arena}
-use Rattle.node_arena.specs.Graph.{graph_of, Holdings}
-use Rattle.stabilizer.specs.Today.{NoScopes}
 use Rattle.stabilize_round.specs.Calling.{cost_at, costs_of}
 use Rattle.stabilize_round.proofs.Calling.{kids_taken, cost_of_taken}
 use Rattle.stabilize_round.specs.Calls.{arguments_of}
 use Rattle.stabilize_round.specs.State.{Call}
-use Rattle.stabilizer.specs.Round.{last_call, StoodBeside}
-use Rattle.stabilizer.proofs.Still.{WasCalled}
-use Rattle.stabilizer.specs.declared.work.Work.{Work}
+use Rattle.stabilizer.specs.Round.{last_call, StoodBeside, WasCalledIn}
+use Rattle.wiring.specs.declared.work.Work.{Work}
 
--- what stands in no scope stands
-top_stands : (F : Functions) (G : Graph) → Stands F G None
-unfolding answer
-top_stands F G = (1, refl)
-
-module _ (F : Functions) (arena : Arena) (held : Holdings) (flat : NoScopes arena) (old new : Work) (observed : List NodeId)
-    (roots : (n : NodeId) → IsRoot (graph_of arena held) observed n → Among n observed) (before : Beside) (observers : List Observed)
+module _ (F : Functions) (G : Graph) (died : NodeId → Option NodeId) (old new : Work) (observed : List NodeId)
+    (roots : (n : NodeId) → IsRoot G observed n → Among n observed) (before : Beside) (observers : List Observed)
     (stood : StoodBeside before old observers) (looks : (n : NodeId) → Among n observed → Among n (nodes_of observers)) where
-  abbrev G : Graph
-  G = graph_of arena held
+  -- a node whose function was called, in a scope that stands
+  abbrev pub Called : NodeId → Type 0
+  Called n = (c : WasCalledIn F G died old new observed n) × Stands F G c.row.scope
 
-  abbrev Called : NodeId → Type 0
-  Called n = WasCalled F G old new observed n
-
-  is_met : (p : Point) → Met F G none_died observed (λ (q : Point). Needed old.graph q) p → Met F G none_died (nodes_of observers) (Held before observers) p
+  is_met : (p : Point) → Met F G died observed (λ (q : Point). Needed old.graph q) p → Met F G died (nodes_of observers) (Held before observers) p
   is_met p (from_root {n} root way) = from_root (inl (looks n (roots n root))) way
   is_met p (from_held {h} held row stands way) = from_held (stood.held h held) row stands way
 
   visit_of : (n : NodeId) → Called n → Visit
-  visit_of n c = record { node = n; values = c.values; cost = cost_at G n }
+  visit_of n c = record { node = n; values = c.0.values; cost = cost_at G n }
 
-  other_arguments : (n : NodeId) (c : Called n) → ((k : Call) → last_call old n ≡ Some k → k.arguments ≡ c.values → ⊥) → (x : Option Call)
-      → last_call old n ≡ x → before.last n ≡ Some c.values → ⊥
+  other_arguments : (n : NodeId) (c : Called n) → ((k : Call) → last_call old n ≡ Some k → k.arguments ≡ c.0.values → ⊥) → (x : Option Call)
+      → last_call old n ≡ x → before.last n ≡ Some c.0.values → ⊥
   other_arguments n c differs None e last =
-      let k : before.last n ≡ None = stood.last n ∙ ap arguments_of e in let x : None ≡ Some c.values = sym k ∙ last in cc
+      let k : before.last n ≡ None = stood.last n ∙ ap arguments_of e in let x : None ≡ Some c.0.values = sym k ∙ last in cc
   other_arguments n c differs (Some call) e last =
       let k : before.last n ≡ Some call.arguments = stood.last n ∙ ap arguments_of e in
-      let x : Some call.arguments ≡ Some c.values = sym k ∙ last in
+      let x : Some call.arguments ≡ Some c.0.values = sym k ∙ last in
       differs call e (cc)
 
   reason_of : (n : NodeId) (c : Called n) → HasReason G before (visit_of n c)
   unfolding visit_of
-  reason_of n c = elim c.reason [
+  reason_of n c = elim c.0.reason [
     | inl differs ↦ other (λ last. other_arguments n c differs (last_call old n) refl last)
-    | inr k ↦ passed {r = c.row} {kid = k.0} c.is_row
-        (subst (λ (ks : List NodeId). Among k.0 ks) (sym (kids_taken G n c.row.def c.nodes c.takes)) k.1) (stood.never k.0 ∙ k.2)
+    | inr k ↦ passed {r = c.0.row} {kid = k.0} c.0.is_row
+        (subst (λ (ks : List NodeId). Among k.0 ks) (sym (kids_taken G n c.0.row.def c.0.nodes c.0.takes)) k.1) (stood.never k.0 ∙ k.2)
   ]
 
-  due : (n : NodeId) (c : Called n) → IsDueVisit F G none_died observers before (visit_of n c)
+  due : (n : NodeId) (c : Called n) → IsDueVisit F G died observers before (visit_of n c)
   unfolding visit_of
   due n c = record {
     visit = record {
-      row = c.row;
-      is_row = c.is_row;
-      stands = subst (Stands F G) (sym (flat n c.row c.is_row)) (top_stands F G);
-      values = subst (λ (ks : List NodeId). GiveAll F G ks c.values) (sym (kids_taken G n c.row.def c.nodes c.takes)) c.gives;
-      cost = cost_of_taken G n c.row c.nodes c.is_row c.takes;
+      row = c.0.row;
+      is_row = c.0.is_row;
+      stands = c.1;
+      values = subst (λ (ks : List NodeId). GiveAll F G ks c.0.values) (sym (kids_taken G n c.0.row.def c.0.nodes c.0.takes)) c.0.gives;
+      cost = cost_of_taken G n c.0.row c.0.nodes c.0.is_row c.0.takes;
     };
-    met = is_met (main n) c.met;
+    met = is_met (main n) c.0.met;
     reason = reason_of n c;
   }
 
@@ -92,7 +81,7 @@ module _ (F : Functions) (arena : Arena) (held : Holdings) (flat : NoScopes aren
       ((λ a. once.0 (visited (visit_of n (called n (inl refl))) ns (λ m h. called m (inr h)) a)), distinct ns (λ m h. called m (inr h)) once.1)
 
   all_due : (ns : List NodeId) (called : (n : NodeId) → Among n ns → Called n)
-      → Every (IsDueVisit F G none_died observers before) (visits ns called)
+      → Every (IsDueVisit F G died observers before) (visits ns called)
   all_due [] called = tt
   all_due (n ∷ ns) called = (due n (called n (inl refl)), all_due ns (λ m h. called m (inr h)))
 
@@ -108,7 +97,7 @@ module _ (F : Functions) (arena : Arena) (held : Holdings) (flat : NoScopes aren
       with_first (cost_at G n) _ _ _ one e ∙ sym (sum_by-cons (cost_at G) n ns)
 
   pub within : (ran : List NodeId) → NoRepeats ran → ((n : NodeId) → Among n ran → Called n) → (calls : ℕ) → calls ≤ costs_of G ran
-      → WithinWork F G none_died observers before calls
+      → WithinWork F G died observers before calls
   within ran once called calls few =
       let e = costs ran called in
       record {

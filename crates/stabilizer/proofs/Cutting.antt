@@ -14,16 +14,18 @@ use Rattle.node_arena.specs.Arena.{Arena}
 use Rattle.stabilize_round.specs.Machine.{Entry}
 use Rattle.stabilize_round.specs.State.{State, Start}
 use Rattle.stabilize_round.proofs.Points.{same_or_other, node_or_other}
-use Rattle.stabilizer.specs.Kept.{IsKept}
-use Rattle.stabilizer.specs.Places.{ChangesNode, for_parts}
+use Rattle.wiring.specs.Kept.{IsKept}
+use Rattle.wiring.specs.Places.{ChangesNode, for_parts}
+use Rattle.stabilizer.specs.Kept.{PartsKept}
 use Rattle.stabilizer.specs.Round.{IsReady, never_at, cutoff_at}
+use Rattle.stabilizer.specs.declared.parts.Parts.{Parts}
 use Rattle.node_outcomes.specs.Row.{IsRewritten, with_cutoff, settled_in, stage_of, never_in, cutoff_in}
-use Rattle.stabilizer.specs.Stands.{Stands}
+use Rattle.wiring.specs.Stands.{Stands, counts_of}
 use Rattle.node_outcomes.specs.declared.row.Progress.{Progress}
-use Rattle.stabilizer.specs.declared.work.Work.{Work}
+use Rattle.wiring.specs.declared.work.Work.{Work}
 use Rattle.stabilizer.proofs.Keeping.{kept_rewritten}
-use Rattle.stabilizer.proofs.Placing.{unsettled}
-use Rattle.stabilizer.proofs.Holding.{held_rewritten, graph_rewritten}
+use Rattle.wiring.proofs.Placing.{unsettled}
+use Rattle.wiring.proofs.Holding.{graph_rewritten}
 
 -- but for its cutoff a row is what it was
 record WasCut (old : Rows Progress) (p : Point) (k : Progress) : Type 0 where
@@ -49,8 +51,8 @@ module _ (arena : Arena) (old : Work) (rows : Rows Progress) (id : NodeId) (c : 
   abbrev new : Work
   new = record old { rows = rows }
 
-  pub cut_kept : IsKept arena new
-  cut_kept = kept_rewritten arena old new (main id) (with_cutoff c) kept w refl refl (held_rewritten arena old new (main id) (with_cutoff c) w (λ k is. refl) refl) refl
+  cut_kept : IsKept arena new
+  cut_kept = kept_rewritten arena old new (main id) (with_cutoff c) kept w (λ k. refl) refl
       (λ k is fit. record { outcome = fit.outcome; right = fit.right; call = fit.call; settled = fit.settled })
 
   row_was : (p : Point) (k : Progress) → at rows p ≡ Some k → WasCut old.rows p k
@@ -74,18 +76,36 @@ module _ (arena : Arena) (old : Work) (rows : Rows Progress) (id : NodeId) (c : 
     | inr ne ↦ ap (settled_in old.round) (w.others p (λ h. ne (sym h)))
   ]
 
-  module _ (M : Meaning) (ready : IsReady M arena old) where
+-- so parts are kept, and a round may begin with them
+module _ (old new : Parts) (id : NodeId) (c : Cutoff) (kept : PartsKept old) (w : IsRewritten old.work.rows new.work.rows (main id) (with_cutoff c))
+    (rest : new ≡ record old { work = record old.work { rows = new.work.rows } }) where
+  abbrev arena : Arena
+  arena = old.arena
+
+  abbrev work : Work
+  work = record old.work { rows = new.work.rows }
+
+  abbrev parts : Parts
+  parts = record old { work = work }
+
+  parts_kept : PartsKept parts
+  parts_kept = record { work = cut_kept arena old.work new.work.rows id c kept.work w; scopes = kept.scopes; dying = kept.dying }
+
+  pub cut_parts : PartsKept new
+  cut_parts = subst PartsKept (sym rest) parts_kept
+
+  module _ (M : Meaning) (ready : IsReady M old) where
     abbrev state : State
-    state = record ready.state { never = never_at new }
+    state = record ready.state { never = never_at work }
 
     abbrev start : Start
-    start = record ready.start { never = never_at new }
+    start = record ready.start { never = never_at work }
 
-    stands : Stands arena new ready.state.calls None state
+    stands : Stands arena work (counts_of state) None state
     stands = record {
-      graph = ready.stands.graph ∙ sym (graph_rewritten arena old new (main id) (with_cutoff c) w (λ k is. refl) refl);
-      out = λ p k e. let b = row_was p k e in ready.stands.out p b.row b.was ∙ sym b.outcome;
-      last = λ n k e. let b = row_was (main n) k e in ready.stands.last n b.row b.was ∙ sym b.last;
+      graph = ready.stands.graph ∙ sym (graph_rewritten arena old.work work (main id) (with_cutoff c) w (λ k is. refl) refl);
+      out = λ p k e. let b = was p k e in ready.stands.out p b.row b.was ∙ sym b.outcome;
+      last = λ n k e. let b = was (main n) k e in ready.stands.last n b.row b.was ∙ sym b.last;
       never = λ n k e. ap never_in e;
       stale = ready.stands.stale;
       links = ready.stands.links;
@@ -93,16 +113,19 @@ module _ (arena : Arena) (old : Work) (rows : Rows Progress) (id : NodeId) (c : 
       needed = ready.stands.needed;
       height = ready.stands.height;
       heap = ready.stands.heap;
-      settled = λ p. ready.stands.settled p ∙ sym (settled_as p);
-      stage = λ p k e. let b = row_was p k e in ready.stands.stage p b.row b.was ∙ ap stage_of (sym b.stage);
+      settled = λ p. ready.stands.settled p ∙ sym (settled_as arena old.work new.work.rows id c kept.work w p);
+      stage = λ p k e. let b = was p k e in ready.stands.stage p b.row b.was ∙ ap stage_of (sym b.stage);
       owed = ready.stands.owed;
       todo = ready.stands.todo;
       strict = ready.stands.strict;
       died = ready.stands.died;
       ran = ready.stands.ran;
-      calls = refl;
+      counts = refl;
       given = ready.stands.given;
     }
+      where
+        was : (p : Point) (k : Progress) → at new.work.rows p ≡ Some k → WasCut old.work.rows p k
+        was p k e = row_was arena old.work new.work.rows id c kept.work w p k e
 
     entry : Entry M.functions start state
     entry = record {
@@ -139,9 +162,9 @@ module _ (arena : Arena) (old : Work) (rows : Rows Progress) (id : NodeId) (c : 
       answers = ready.entry.answers;
     }
 
-    pub cut_ready : IsReady M arena new
-    cut_ready = record {
-      kept = cut_kept;
+    parts_ready : IsReady M parts
+    parts_ready = record {
+      kept = parts_kept;
       laws = ready.laws;
       fit = ready.fit;
       start = start;
@@ -153,10 +176,13 @@ module _ (arena : Arena) (old : Work) (rows : Rows Progress) (id : NodeId) (c : 
       ran = ready.ran;
     }
 
+    pub cut_ready : IsReady M new
+    cut_ready = subst (IsReady M) (sym rest) parts_ready
+
 -- ---- cutoffs stay
 
-pub rows_cutoffs : (old new : Work) → KeepsRows old.rows new.rows → (n : NodeId) → cutoff_at new n ≡ cutoff_at old n
-rows_cutoffs old work same n = ap cutoff_in (same (main n))
+pub rows_cutoffs : (old last : Work) → KeepsRows old.rows last.rows → (n : NodeId) → cutoff_at last n ≡ cutoff_at old n
+rows_cutoffs old last same n = ap cutoff_in (same (main n))
 
 -- a new node's is Equal, as that of a node that isn't there
 pub added_cutoffs : (old new : Work) (id : NodeId) (def : Def) → at old.rows (main id) ≡ None

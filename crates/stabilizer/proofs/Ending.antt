@@ -1,10 +1,10 @@
 -- A round ends: what is needed is up to date, and another round may begin.
 use Rattle.std.proofs.Common.{◌≡◌, ◌⊎◌, inl, inr, ℕ, suc, Bool, ◌<◌, ◌≤◌, ◌+◌, ◌++◌, true, false, List, [], ◌∷◌, map, Option, None, Some, refl, sym, ap, subst, ◌∙◌, arith}
 use Rattle.std.specs.Prelude.{is_some, ◌↔◌, ◌==◌, reverse}
-use Rattle.std.proofs.Math.Path.{fun_ext}
 use Rattle.std.proofs.lemmas.Grind.{common_steps}
 use Rattle.std.proofs.lemmas.List.{reverse-append}
 use Rattle.std.proofs.lemmas.List.Sums.{sum_by-cons, sum_by_push}
+use Rattle.std.proofs.Math.Path.{fun_ext}
 use Rattle.std.specs.List.{sum_by}
 use Rattle.inc_value.specs.declared.node.NodeId.{NodeId}
 use Rattle.inc_value.specs.declared.node.Part.TheVariants.{Main, Change}
@@ -13,84 +13,101 @@ use Rattle.inc_value.specs.declared.outcome.Outcome.{Outcome}
 use Rattle.inc_value.specs.declared.outcome.Outcome.TheVariants.{Val}
 use Rattle.inc_value.specs.declared.value.Value.{Value}
 use Rattle.inc_value.specs.Choice.{Among, NoRepeats, Reaches}
-use Rattle.inc_terms.specs.Depend.{Depends, main, change, subject_of, none_died, fixed, fixed_reads}
-use Rattle.inc_terms.specs.Evaluate.{Of, Values, gathered, NodeGives, GiveAll}
+use Rattle.inc_terms.specs.Depend.{Depends, main, change, subject_of, none_died, died_in, scope_lost, fixed, fixed_reads}
+use Rattle.inc_terms.specs.Evaluate.{Of, Values, gathered, NodeGives, GiveAll, Stands as ScopeStands}
 use Rattle.inc_terms.specs.Graph.{Graph, Row}
-use Rattle.inc_terms.specs.Local.{shown, shown_of, by_sight, Sees, Agrees}
+use Rattle.inc_terms.specs.Local.{shown, by_sight, Sees, Agrees}
+use Rattle.inc_terms.specs.Local as sight
 use Rattle.inc_terms.specs.Need.{IsRoot, Needed, Met, from_root, from_held}
 use Rattle.inc_terms.specs.Term as term
 use Rattle.inc_terms.specs.Term.{Functions, refs}
+use Rattle.inc_terms.specs.Within.{FunctionLaws}
+use Rattle.inc_terms.specs.Work.{taken_by}
 use Rattle.inc_terms.proofs.Evaluation.{one_outcome}
 use Rattle.inc_terms.proofs.Local.{needed_more}
 use Rattle.inc_terms.proofs.Plan.{among_left, among_right, among_parts, among_map}
 use Rattle.map_nodes.specs.declared.cutoff.Cutoff.{Cutoff}
 use Rattle.map_nodes.specs.declared.cutoff.Cutoff.TheVariants.{Equal, Never}
 use Rattle.point_map.specs.Rows.{at}
-use Rattle.link_table.specs.Links.{Reads}
+use Rattle.link_table.specs.Links.{times, Reads}
+use Rattle.height_order.specs.Levels.{level, or_zero}
 use Rattle.necessary_graph.specs.Part as part
+use Rattle.necessary_graph.specs.Part.{IsInStep}
 use Rattle.recompute_heap.specs.Agree.{IsEmpty}
 use Rattle.node_arena.specs.Arena.{Arena, row_at}
-use Rattle.inc_value.specs.declared.function.FnRef.{FnRef}
-use Rattle.inc_terms.specs.Within.{FunctionLaws}
 use Rattle.node_arena.specs.Graph.{AllCallFit, Holdings, graph_of}
+use Rattle.node_outcomes.specs.Computing.{seen, seen_of, has_part}
+use Rattle.node_outcomes.specs.Meaning.{Meaning}
+use Rattle.node_outcomes.specs.Row.{settled_in, is_never, cutoff_in, outcome_in}
+use Rattle.node_outcomes.specs.declared.row.Progress.{Progress}
 use Rattle.stabilize_round.specs.Calling as reason
 use Rattle.stabilize_round.specs.Calling.{Reason, cost_at, costs_of}
-use Rattle.stabilize_round.specs.Freezing.{fires_at}
-use Rattle.stabilize_round.proofs.Freezing.{other_rests}
-use Rattle.stabilizer.specs.Round.{WasForced, IsReady, AreRooted, last_of, last_call, cutoff_at}
-use Rattle.stabilizer.proofs.Still.{WasCalled, IsUpToDate}
-use Rattle.inc_terms.specs.Work.{taken_by}
+use Rattle.stabilize_round.specs.Closing.{next_start}
 use Rattle.stabilize_round.specs.Counts.{RoseBy}
-use Rattle.stabilize_round.proofs.Planned.{reads_taken}
 use Rattle.stabilize_round.specs.Ended.{RootsAre, Ended}
+use Rattle.stabilize_round.specs.Freezing.{fires_at}
+use Rattle.stabilize_round.specs.Ids.{AllGiven}
 use Rattle.stabilize_round.specs.Invariant as invariant
 use Rattle.stabilize_round.specs.Invariant.{Invariant, MetNow, HasCalled, Recalls, IsUnmarked}
-use Rattle.stabilize_round.specs.Machine.{Entry, Moves}
+use Rattle.stabilize_round.specs.Machine.{Entry, Moves, Stops, as_it_is}
 use Rattle.stabilize_round.specs.Moves.{Quiet}
-use Rattle.stabilize_round.specs.State.{State, Start, Call, Full, count, planned, plan_at}
-use Rattle.stabilize_round.proofs.Low.{low_points}
-use Rattle.stabilize_round.proofs.Meanings.{round_keeps, round_is_right}
+use Rattle.stabilize_round.specs.State.{State, Start, Call, Full, count, planned}
+use Rattle.stabilize_round.proofs.Freezing.{other_rests, graph_rests}
+use Rattle.stabilize_round.proofs.Low.{low_points, links_are}
+use Rattle.stabilize_round.proofs.Meanings.{round_keeps, round_is_right, round_again}
 use Rattle.stabilize_round.proofs.Parts.{bool_cases}
+use Rattle.stabilize_round.proofs.Planned.{reads_taken}
 use Rattle.stabilize_round.proofs.Points.{count_among, among_count}
-use Rattle.node_outcomes.specs.Computing.{seen, seen_of, has_part}
-use Rattle.stabilizer.specs.Kept.{IsKept}
-use Rattle.node_outcomes.specs.Row.{settled_in, is_never, never_in, cutoff_in, outcome_in}
-use Rattle.stabilizer.specs.Stands.{Stands}
-use Rattle.node_outcomes.specs.declared.row.Progress.{Progress}
-use Rattle.stabilizer.specs.declared.work.Work.{Work}
-use Rattle.stabilizer.proofs.Agreeing.{no_freeze}
-use Rattle.stabilizer.proofs.Beginning.{Begun, main_there}
+use Rattle.wiring.specs.Deciding.{is_needed}
+use Rattle.wiring.specs.Graph.{held_at}
+use Rattle.wiring.specs.Kept.{IsKept}
+use Rattle.wiring.specs.Scoped.{IsReleased}
+use Rattle.wiring.specs.Stands.{Stands, Counts, counts_of, Hand}
+use Rattle.wiring.specs.declared.work.Work.{Work}
+use Rattle.wiring.proofs.Agreeing.{no_freeze}
+use Rattle.wiring.proofs.Deciding.{decides_needed}
+use Rattle.stabilizer.specs.Kept.{graph_in, PartsKept}
+use Rattle.stabilizer.specs.Round.{WasForced, WasCalledIn, IsUpToDateIn, IsUpToDate, IsReady, AreRooted, last_of, last_call, cutoff_at, died_by}
+use Rattle.stabilizer.specs.declared.parts.Parts.{Parts}
+use Rattle.stabilizer.proofs.Beginning.{Begun, BegunOf, main_there}
 use Rattle.stabilizer.proofs.Counting.{within}
-use Rattle.stabilizer.specs.Graph.{held_at, graph_at}
+use Rattle.stabilizer.proofs.NewDeaths.{deaths_told}
+use Rattle.stabilizer.proofs.Released.{IsClosed, closes, leaf_links, undied, is_closed, kept_next, same_height, needed_back}
+use Rattle.stabilizer.proofs.Rounding.{quiet_of}
 
 -- ---- states
 
--- where no node died and the graph is this one, the state is so by itself
-pub as_graph : (G : Graph) (t : State) → t.graph ≡ G → ((n : NodeId) → t.died n ≡ None) → t ≡ record t { graph = G; died = none_died }
-as_graph G t graph died =
-    let e : t.died ≡ none_died = fun_ext died in
+-- with this graph, and these that died, the state is so by itself
+pub as_graph : (G : Graph) (died : NodeId → Option NodeId) (t : State) → t.graph ≡ G → t.died ≡ died → t ≡ record t { graph = G; died = died }
+as_graph G died t graph e =
     ap (λ (x : Graph). record t { graph = x }) graph ∙ ap (λ (x : NodeId → Option NodeId). record t { graph = G; died = x }) e
 
--- with an empty worklist the state is quiet
-pub quiet_of : (arena : Arena) (work : Work) (calls : ℕ) (t : State) → Stands arena work calls None t → work.todo.items ≡ [] → Quiet t
-quiet_of arena work calls t st idle p = elim (bool_cases (t.todo p)) [
-  | inr e ↦ e
-  | inl e ↦ absurd (elim (st.todo p e) [
-    | inl a ↦ subst (λ (xs : List Point). Among p xs) idle a
-    | inr h ↦ h
-  ])
-]
-
 -- with an empty heap none is in the state's
-no_heap : (arena : Arena) (work : Work) (calls : ℕ) (t : State) → Stands arena work calls None t → IsEmpty work.graph.heap
+no_heap : (arena : Arena) (work : Work) (counts : Counts) (t : State) → Stands arena work counts None t → IsEmpty work.graph.heap
     → (p : Point) → t.heap p ≡ true → ⊥
-no_heap arena work calls t st empty p e = absurd (let a = st.heap p in let b = ap is_some (empty p) in cc)
+no_heap arena work counts t st empty p e = absurd (let a = st.heap p in let b = ap is_some (empty p) in cc)
+
+none_lost : (x y : Option Row) (r : Row) → y ≡ Some r → scope_lost x y ≡ None
+none_lost None y r e = refl
+none_lost (Some x) y r e = rw e refl
+
+-- who died by the state died by the graphs before and then
+pub died_same : (F : Functions) (z : Start) (old new : Parts) (counts later : Counts) (left : Option Hand) (s t u : State)
+    → IsKept new.arena new.work
+    → Stands old.arena old.work counts None s → Entry F z s → AllGiven F z s → Moves F z s t → Stops F z t u → Stands new.arena new.work later left u
+    → u.died ≡ died_by old new
+died_same F z old new counts later left s t u kept was entry given run stop now = fun_ext (λ n. by_row n (row_at new.arena n) refl)
+  where
+    by_row : (n : NodeId) (x : Option Row) → row_at new.arena n ≡ x → u.died n ≡ died_by old new n
+    by_row n None e = deaths_told F z s t u entry given run stop n (ap (λ (G : Graph). G.row n) now.graph ∙ e)
+        ∙ (ap (λ (G : Graph). died_in G u.graph n) was.graph ∙ ap (λ (G : Graph). died_in (graph_in old) G n) now.graph)
+    by_row n (Some r) e = now.died n ∙ (undied new.arena new.work kept n r e ∙ sym (none_lost (row_at old.arena n) (row_at new.arena n) r e))
 
 -- ---- what rows show
 
 -- what is seen of a node is what is shown of it
 pub seen_case : (x : Option Progress) (y : Option Row) (o : Option Outcome) → is_some x ≡ is_some y → ((k : Progress) → x ≡ Some k → o ≡ k.outcome)
-    → seen_of x ≡ shown_of y o
+    → seen_of x ≡ sight.shown_of y o
 seen_case None None o same is = refl
 seen_case None (Some r) o same is = absurd (cc)
 seen_case (Some k) None o same is = absurd (cc)
@@ -107,11 +124,6 @@ last_case : (x : Option Progress) (y : Option Row) (r : Row) (c : Option Call) �
 last_case None y r c same e is = absurd (let k = same ∙ ap is_some e in cc)
 last_case (Some k) y r c same e is = sym (is k refl)
 
--- a dead node has none
-last_none : (x : Option Progress) (y : Option Row) → is_some x ≡ is_some y → y ≡ None → last_of x ≡ None
-last_none None y same e = refl
-last_none (Some k) y same e = absurd (let h = same ∙ ap is_some e in cc)
-
 -- a cutoff is told by whether it is Never
 same_cutoff : (a b : Cutoff) → is_never a ≡ is_never b → a ≡ b
 same_cutoff Equal Equal is = refl
@@ -119,12 +131,11 @@ same_cutoff Equal Never is = absurd (cc)
 same_cutoff Never Equal is = absurd (cc)
 same_cutoff Never Never is = refl
 
--- who has a row has the same cutoff
-pub cutoff_case : (x y : Option Progress) → is_some x ≡ is_some y → ((k : Progress) → x ≡ Some k → is_never k.cutoff ≡ never_in y)
-    → cutoff_in x ≡ cutoff_in y
-cutoff_case None None same is = refl
-cutoff_case None (Some k) same is = absurd (cc)
-cutoff_case (Some k) y same is = same_cutoff k.cutoff (cutoff_in y) (is k refl)
+-- who has a row has this cutoff
+pub cutoff_live : (x : Option Progress) (c : Cutoff) → is_some x ≡ true → ((k : Progress) → x ≡ Some k → is_never k.cutoff ≡ is_never c)
+    → cutoff_in x ≡ c
+cutoff_live None c there is = absurd (cc)
+cutoff_live (Some k) c there is = same_cutoff k.cutoff c (is k refl)
 
 -- what nodes give that show what they give, put together
 gathered_by : (F : Functions) (G : Graph) (out : Point → Option Outcome) (ns : List NodeId) (vs : List Value) → GiveAll F G ns vs
@@ -140,7 +151,8 @@ gathered_by F G out (n ∷ ns) (v ∷ vs) gives sees =
     rw (first, rest) refl
 
 -- no node is a freeze that keeps no value yet, so roots are what is observed
-pub root_observed : (arena : Arena) (held : Holdings) (observed : List NodeId) (n : NodeId) → IsRoot (graph_of arena held) observed n → Among n observed
+pub root_observed : (arena : Arena) (held : Holdings) (observed : List NodeId) (n : NodeId) → IsRoot (graph_of arena held) observed n
+    → Among n observed
 root_observed arena held observed n (inl a) = a
 root_observed arena held observed n (inr u) = absurd (no_freeze arena n u.row u.kid u.predicate u.is_row u.is_freeze)
 
@@ -153,7 +165,8 @@ among_main p (n ∷ ns) (inr a) = let k = among_main p ns a in (k.0, inr k.1, k.
 
 among_reverse : (n : NodeId) (ns : List NodeId) → Among n ns → Among n (reverse ns)
 among_reverse n [] a = absurd a
-among_reverse n (m ∷ ms) (inl e) = subst (λ (xs : List NodeId). Among n xs) (sym (reverse-append (m ∷ []) ms)) (among_right n (reverse ms) (m ∷ []) (inl e))
+among_reverse n (m ∷ ms) (inl e) = subst (λ (xs : List NodeId). Among n xs) (sym (reverse-append (m ∷ []) ms)) (among_right n (reverse ms)
+    (m ∷ []) (inl e))
 among_reverse n (m ∷ ms) (inr a) =
     subst (λ (xs : List NodeId). Among n xs) (sym (reverse-append (m ∷ []) ms)) (among_left n (reverse ms) (m ∷ []) (among_reverse n ms a))
 
@@ -189,19 +202,36 @@ once_reverse (m ∷ ms) once =
 
 -- ---- a round that ended is one that begins
 
--- the state after it, where no node died and no freeze fires
-abbrev pub rested : State → State
-rested t = record t { taken = None; died = none_died; settled = λ (p : Point). false; strict = false; ran = [] }
-
--- what the next round begins with
-abbrev pub start_after : Start → State → Start
-start_after z t = record z { held = t.needed; last = t.last; calls = t.calls; never = t.never; stale = t.stale }
+-- the state after it
+abbrev pub rested : State → (Point → Point → ℕ) → (Point → Bool) → State
+rested t links' needed' = record t {
+  links = links';
+  needed = needed';
+  taken = None;
+  died = none_died;
+  settled = λ (p : Point). false;
+  strict = false;
+  ran = [];
+}
 
 module _ (F : Functions) (z : Start) (t : State) (inv : Invariant F z t) (quiet : Quiet t) (empty : (p : Point) → t.heap p ≡ true → ⊥)
-    (died : (n : NodeId) → t.died n ≡ None) (still : (n : NodeId) → fires_at t n ≡ None) where
-  links_rest : (p q : Point) → t.needed p ≡ true → t.links p q + count q (t.owed p) ≡ count q (planned (rested t) p)
-  links_rest p q need = inv.rows.links p q need
-      ∙ ap (λ (d : NodeId → Option NodeId). count q (plan_at t.graph t.out d p (t.graph.row p.node) (t.stage p))) (fun_ext died)
+    (still : (n : NodeId) → fires_at t n ≡ None) (links' : Point → Point → ℕ) (needed' : Point → Bool) (c : IsClosed t links' needed') where
+  from : (a b : Point) → 0 < links' a b → needed' a ≡ true
+  from a b l = elim (bool_cases (needed' a)) [ inl e ↦ e | inr e ↦ absurd (omega (arith, c.gone a b e, l)) ]
+
+  rises : (a b : Point) → 0 < links' a b → t.height b < t.height a
+  rises a b l = by_row (t.graph.row a.node) refl
+    where
+      by_row : (x : Option Row) → t.graph.row a.node ≡ x → t.height b < t.height a
+      by_row None e = absurd (omega (arith, c.dead a b e, l))
+      by_row (Some r) e = inv.web.rises a b (omega (arith, c.live a b r e (from a b l), l))
+
+  links_rest : (p q : Point) → needed' p ≡ true → links' p q ≡ count q (planned (rested t links' needed') p)
+  links_rest p q need = by_row (t.graph.row p.node) refl
+    where
+      by_row : (x : Option Row) → t.graph.row p.node ≡ x → links' p q ≡ count q (planned (rested t links' needed') p)
+      by_row None e = rw e (c.dead p q e ∙ sym (leaf_links q (t.stage p)))
+      by_row (Some r) e = rw e (c.live p q r e need ∙ (rw e at (links_are F z t inv quiet p q (c.was p need))))
 
   full : (p : Point) (r : Row) → t.graph.row p.node ≡ Some r → t.needed p ≡ true → t.stage p ≡ Full
   full p r row need = (low_points F z t inv quiet (suc (t.height p)) (λ q h. absurd (empty q h)) p (omega arith) need).full r row
@@ -220,17 +250,25 @@ module _ (F : Functions) (z : Start) (t : State) (inv : Invariant F z t) (quiet 
     | inr (inr h) ↦ (h.1, h.2, h.3)
   ]
 
-  pub begins_again : Entry F (start_after z t) (rested t)
+  pub begins_again : Entry F (next_start z t needed') (rested t links' needed')
   begins_again = record {
-    web = inv.web;
+    web = record {
+      from = from;
+      onto = c.onto;
+      rooted = c.rooted;
+      reached = c.reached;
+      rises = rises;
+      low = inv.web.low;
+      heap = λ p h. absurd (empty p h);
+    };
     alive = inv.alive;
-    links = links_rest;
-    full = full;
-    bare = λ p need e. let a = inv.rows.bare p need e in let b = quiet p in cc;
+    links = λ p q need. let o = inv.rows.owed p (quiet p) in let e = links_rest p q need in rw o (omega (arith, e));
+    full = λ p r row need. full p r row (c.was p need);
+    bare = λ p need e. let a = inv.rows.bare p (c.was p need) e in let b = quiet p in cc;
     scoped = inv.scoped;
     rooted = inv.rooted;
     built = inv.built;
-    fresh = λ p r row need. inr (fresh p r row need);
+    fresh = λ p r row need. inr (fresh p r row (c.was p need));
     settled = λ p. refl;
     owed = λ p h. inv.rows.owed p (quiet p);
     todo = λ p need h. absurd (let x = quiet p in cc);
@@ -249,300 +287,328 @@ module _ (F : Functions) (z : Start) (t : State) (inv : Invariant F z t) (quiet 
 
 -- ---- a round that ended
 
-module _ (F : Functions) (arena : Arena) (old mid : Work) (before after : ℕ) (first : IsKept arena old) (begun : Begun F arena old before)
-    (kept : IsKept arena mid) (t : State) (run : Moves F begun.start begun.state t) (stands : Stands arena mid after None t)
-    (idle : mid.todo.items ≡ []) (empty : IsEmpty mid.graph.heap) where
+module _ (M : Meaning) (old mid : Parts) (before after : Counts) (first : PartsKept old) (begins : BegunOf M old before) (kept : PartsKept mid)
+    (t : State) (run : Moves M.functions begins.begun.start begins.begun.state t) (stands : Stands mid.arena mid.work after None t)
+    (idle : mid.work.todo.items ≡ []) (empty : IsEmpty mid.work.graph.heap) where
+  abbrev F : Functions
+  F = M.functions
+
+  abbrev b : Begun M.functions old before
+  b = begins.begun
+
+  abbrev z : Start
+  z = begins.begun.start
+
+  abbrev arena : Arena
+  arena = mid.arena
+
+  abbrev work : Work
+  work = mid.work
+
   abbrev G : Graph
-  G = graph_at arena mid
+  G = graph_in mid
+
+  abbrev D : NodeId → Option NodeId
+  D = died_by old mid
 
   abbrev last : State
-  last = record t { graph = G; died = none_died }
+  last = record t { graph = G; died = D }
 
-  moves : Moves F begun.start begun.state last
-  moves = subst (λ (x : State). Moves F begun.start begun.state x) (as_graph G t stands.graph stands.died) run
+  is_last : t ≡ last
+  is_last = as_graph G D t stands.graph
+      (died_same F z old mid before after None b.state t t kept.work b.stands b.entry begins.round.given run (as_it_is refl) stands)
 
-  inv : Invariant F begun.start last
-  inv = round_keeps F begun.start begun.state last begun.entry moves
+  moves : Moves F z b.state last
+  moves = subst (λ (x : State). Moves F z b.state x) is_last run
 
-  quiet : Quiet last
-  quiet = quiet_of arena mid after t stands idle
+  inv : Invariant F z t
+  inv = round_keeps F z b.state t b.entry run
 
-  none : (p : Point) → last.heap p ≡ true → ⊥
-  none = no_heap arena mid after t stands empty
+  inv_last : Invariant F z last
+  inv_last = round_keeps F z b.state last b.entry moves
 
-  still : (n : NodeId) → fires_at last n ≡ None
-  still n = other_rests last n (λ r kid f row is. no_freeze arena n r kid f row is)
+  quiet : Quiet t
+  quiet = quiet_of arena work after t stands idle
+
+  none : (p : Point) → t.heap p ≡ true → ⊥
+  none = no_heap arena work after t stands empty
+
+  still : (n : NodeId) → fires_at t n ≡ None
+  still n = other_rests t n (λ r kid f row is. no_freeze arena n r kid f (sym (ap (λ (H : Graph). H.row n) stands.graph) ∙ row) is)
+
+  still_last : (n : NodeId) → fires_at last n ≡ None
+  still_last n = other_rests last n (λ r kid f row is. no_freeze arena n r kid f row is)
 
   -- ---- outcomes and last calls
 
-  seen_is : (n : NodeId) → seen mid.rows (main n) ≡ shown G t.out (main n)
-  seen_is n = seen_case (at mid.rows (main n)) (row_at arena n) (t.out (main n)) (main_there arena mid kept n) (λ k e. stands.out (main n) k e)
+  seen_is : (n : NodeId) → seen work.rows (main n) ≡ shown G t.out (main n)
+  seen_is n = seen_case (at work.rows (main n)) (row_at arena n) (t.out (main n)) (main_there arena work kept.work n) (λ k e. stands.out
+      (main n) k e)
 
-  last_is : (n : NodeId) (r : Row) → row_at arena n ≡ Some r → last_call mid n ≡ t.last n
-  last_is n r row = last_case (at mid.rows (main n)) (row_at arena n) r (t.last n) (main_there arena mid kept n) row (λ k e. stands.last n k e)
+  last_is : (n : NodeId) (r : Row) → row_at arena n ≡ Some r → last_call work n ≡ t.last n
+  last_is n r row = last_case (at work.rows (main n)) (row_at arena n) r (t.last n) (main_there arena work kept.work n) row
+      (λ k e. stands.last n k e)
 
   -- cutoffs stay
-  cutoffs : (n : NodeId) → cutoff_at mid n ≡ cutoff_at old n
-  cutoffs n = cutoff_case (at mid.rows (main n)) (at old.rows (main n)) (main_there arena mid kept n ∙ sym (main_there arena old first n)) (λ k e.
-      sym (stands.never n k e) ∙ (inv.accounts.cutoffs n ∙ begun.never n))
+  cutoffs : (n : NodeId) (r : Row) → row_at arena n ≡ Some r → cutoff_at work n ≡ cutoff_at old.work n
+  cutoffs n r row = cutoff_live (at work.rows (main n)) (cutoff_at old.work n) (main_there arena work kept.work n ∙ ap is_some row)
+      (λ k e. sym (stands.never n k e) ∙ (inv.accounts.cutoffs n ∙ b.never n))
 
   -- the count of calls rose by what each costs
-  pub counted : RoseBy before (costs_of G mid.ran.items) after
-  counted = subst (λ (k : ℕ). RoseBy before k after) (ap (costs_of G) stands.ran ∙ sum_reverse (cost_at G) mid.ran.items)
-      (subst (λ (k : ℕ). RoseBy k (costs_of G t.ran) after) begun.calls
-      (subst (λ (k : ℕ). RoseBy begun.start.calls (costs_of G t.ran) k) stands.calls inv.accounts.count))
+  pub counted : RoseBy before.calls (costs_of G work.ran.items) after.calls
+  counted = subst (λ (k : ℕ). RoseBy before.calls k after.calls) (ap (costs_of G) stands.ran ∙ sum_reverse (cost_at G) work.ran.items)
+      (subst (λ (k : ℕ). RoseBy k (costs_of G t.ran) after.calls) b.calls
+      (subst (λ (k : ℕ). RoseBy z.calls (costs_of G t.ran) k) (ap (λ (x : Counts). x.calls) stands.counts) inv_last.accounts.count))
 
   -- ---- the next round
 
   later : (n m : ℕ) → n ≤ m → (n == m + 1) ≡ false
   later n m le = grind (arith, common_steps)
 
-  module _ (new : Work) (graph : new.graph ≡ mid.graph) (rows : new.rows ≡ mid.rows) (roots : new.roots ≡ mid.roots) (pairs : new.pairs ≡ mid.pairs) (todo : new.todo ≡ mid.todo)
-      (ran : new.ran.items ≡ []) (strict : new.strict ≡ false) (round : new.round ≡ mid.round + 1) where
+  module _ (end : Parts) (r : IsReleased mid.work end.work) (in_step : IsInStep end.work.graph) (ran : end.work.ran.items ≡ [])
+      (strict : end.work.strict ≡ false) (round : end.work.round ≡ mid.work.round + 1) where
+    abbrev new : Work
+    new = end.work
+
     abbrev next : Work
-    next = record mid { ran = new.ran; strict = new.strict; round = new.round }
+    next = record mid.work { graph = end.work.graph; deaths = end.work.deaths; ran = end.work.ran; strict = end.work.strict; round = end.work.round }
 
-    pub is_next : next ≡ new
-    is_next =
-        ap (λ g. record next { graph = g }) (sym graph) ∙ (ap (λ r. record next { graph = new.graph; rows = r }) (sym rows)
-        ∙ (ap (λ m. record next { graph = new.graph; rows = new.rows; roots = m }) (sym roots)
-        ∙ (ap (λ ps. record next { graph = new.graph; rows = new.rows; roots = new.roots; pairs = ps }) (sym pairs)
-        ∙ ap (λ x. record next { graph = new.graph; rows = new.rows; roots = new.roots; pairs = new.pairs; todo = x }) (sym todo))))
+    abbrev next_parts : Parts
+    next_parts = record mid { work = next; ran = end.ran }
 
-    unsettled : (x : Option Progress) → ((k : Progress) → x ≡ Some k → k.settled ≤ mid.round) → settled_in (mid.round + 1) x ≡ false
+    abbrev links' : Point → Point → ℕ
+    links' p q = times end.work.graph.links p q
+
+    abbrev needed' : Point → Bool
+    needed' = is_needed end.work.graph
+
+    is_shut : IsClosed t links' needed'
+    is_shut = is_closed F z t inv quiet arena work new after kept.work stands r in_step
+
+    shut_last : IsClosed last links' needed'
+    shut_last = subst (λ (x : State). IsClosed x links' needed') is_last is_shut
+
+    unsettled : (x : Option Progress) → ((k : Progress) → x ≡ Some k → k.settled ≤ work.round) → settled_in (work.round + 1) x ≡ false
     unsettled None low = refl
-    unsettled (Some k) low = later k.settled mid.round (low k refl)
+    unsettled (Some k) low = later k.settled work.round (low k refl)
 
-    keeps : IsKept arena next
-    keeps = record {
-      step = kept.step;
-      rows = kept.rows;
-      leaves = kept.leaves;
-      there = kept.there;
-      given = kept.given;
-      links = kept.links;
-      heap = kept.heap;
-      sound = kept.sound;
-      today = kept.today;
-      outcomes = kept.outcomes;
-      rights = kept.rights;
-      rootless = kept.rootless;
-      calls = kept.calls;
-      rounds = λ p k e. let l = kept.rounds p k e in rw round (omega arith);
-      pairs = kept.pairs;
-    }
+    height_is : (p : Point) → part.Needed new.graph p → t.height p ≡ level new.graph.heights p
+    height_is p n =
+        let held = in_step.there p n in
+        let same = same_height F z t inv quiet arena work new after kept.work stands r in_step p held in
+        stands.height p (needed_back F z t inv quiet arena work new after kept.work stands r in_step p n)
+        ∙ sym (height_at (at new.graph.heights p) same)
+      where
+        height_at : (x : Option ℕ) → x ≡ at work.graph.heights p → or_zero x ≡ or_zero (at work.graph.heights p)
+        height_at x e = ap or_zero e
 
-    stands_next : Stands arena next t.calls None (rested last)
+    no_place : (p : Point) (x : Option ℕ) → at new.graph.heap p ≡ x → false ≡ is_some x
+    no_place p None e = refl
+    no_place p (Some h) e = absurd (let a = (r.sweep.heap p h e).0 in let c = empty p in cc)
+
+    heap_is : (p : Point) → t.heap p ≡ is_some (at new.graph.heap p)
+    heap_is p = stands.heap p ∙ (ap is_some (empty p) ∙ no_place p (at new.graph.heap p) refl)
+
+    stands_next : Stands arena next (counts_of (rested t links' needed')) None (rested t links' needed')
     stands_next = record {
-      graph = refl;
+      graph = stands.graph;
       out = stands.out;
       last = stands.last;
       never = stands.never;
       stale = stands.stale;
-      links = stands.links;
-      root = stands.root;
-      needed = stands.needed;
-      height = stands.height;
-      heap = stands.heap;
-      settled = λ p. sym (ap (λ (k : ℕ). settled_in k (at mid.rows p)) round ∙ unsettled (at mid.rows p) (kept.rounds p));
+      links = λ p q. refl;
+      root = λ p. stands.root p ∙ sym (r.sweep.roots p);
+      needed = λ p. decides_needed new.graph in_step p;
+      height = height_is;
+      heap = heap_is;
+      settled = λ p. sym (ap (λ (k : ℕ). settled_in k (at work.rows p)) round ∙ unsettled (at work.rows p) (kept.work.rounds p));
       stage = stands.stage;
       owed = stands.owed;
       todo = stands.todo;
       strict = sym strict;
-      died = λ n. refl;
+      died = λ n. sym (r.deaths n);
       ran = sym (ap reverse ran);
-      calls = refl;
+      counts = refl;
       given = stands.given;
     }
 
-    pub ready_again : (known : FnRef → Bool) (ids : FnRef → List NodeId) → FunctionLaws F known ids → AllCallFit known ids arena
-        → IsReady (record { functions = F; known = known; ids = ids }) arena new
-    ready_again known ids laws fit = subst (λ (w : Work). IsReady (record { functions = F; known = known; ids = ids }) arena w) is_next (record {
-      kept = keeps;
+    pub ready_next : FunctionLaws M.functions M.known M.ids → AllCallFit M.known M.ids arena → IsReady M next_parts
+    ready_next laws fit = record {
+      kept = record {
+        work = kept_next F z t inv quiet arena work new after kept.work stands r in_step round;
+        scopes = kept.scopes;
+        dying = kept.dying;
+      };
       laws = laws;
       fit = fit;
-      start = start_after begun.start last;
-      state = rested last;
+      start = next_start z t needed';
+      state = rested t links' needed';
       stands = stands_next;
-      entry = begins_again F begun.start last inv quiet none (λ n. refl) still;
+      entry = begins_again F z t inv quiet none still links' needed' is_shut;
       todo = idle;
       ran = ran;
-      numbered = rw round (omega arith);
-    })
-
-  -- ---- what is up to date
-
-  module _ (same_round : mid.round ≡ old.round) (observed : List NodeId) (rooted : AreRooted mid observed) where
-    are : RootsAre last observed
-    are = record {
-      on = λ n r. subst (λ (k : ℕ). 0 < k) (sym (stands.root (main n) ∙ rooted (main n)))
-          (among_count (main n) (map main observed) (among_map main n observed (root_observed arena (held_at arena mid) observed n r)));
-      listed = λ p h.
-          let a = among_main p observed (count_among p (map main observed) (subst (λ (k : ℕ). 0 < k) (stands.root p ∙ rooted p) h)) in (a.0, inl a.1, a.2);
+      numbered = omega (arith, round);
     }
 
-    ended : Ended F begun.start last observed
-    ended = round_is_right F begun.start begun.state last observed begun.entry moves are quiet none
+    -- ---- what is up to date
 
-    abbrev IsWanted : Point → Type 0
-    IsWanted p = Needed F G none_died observed p
+    module _ (same_round : mid.work.round ≡ old.work.round) (observed : List NodeId) (rooted : AreRooted mid.work observed) where
+      are : RootsAre last observed
+      are = record {
+        on = λ n root. subst (λ (k : ℕ). 0 < k) (sym (stands.root (main n) ∙ rooted (main n)))
+            (among_count (main n) (map main observed) (among_map main n observed (root_observed arena (held_at arena work) observed n root)));
+        listed = λ p h.
+            let a = among_main p observed (count_among p (map main observed) (subst (λ (k : ℕ). 0 < k) (stands.root p
+            ∙ rooted p) h)) in (a.0, inl a.1, a.2);
+      }
 
-    -- ---- what is needed
+      ended : Ended F z last observed
+      ended = round_is_right F z b.state last observed b.entry moves are quiet none
 
-    wanted : (p : Point) → part.Needed mid.graph p → IsWanted p
-    wanted p need = (ended.needs p).0 ((stands.needed p).1 need)
+      -- the state after it, where those that died are forgotten
+      abbrev rest : State
+      rest = rested last links' needed'
 
-    needed : (p : Point) → IsWanted p → part.Needed mid.graph p
-    needed p want = (stands.needed p).0 ((ended.needs p).1 want)
+      ended_again : Ended F (next_start z last needed') rest observed
+      ended_again =
+          let again = round_again F z b.state last observed b.entry moves are quiet none last.root links' needed'
+          (closes last observed links' needed' still_last are shut_last) in
+          subst (λ (H : Graph). Ended F (next_start z last needed') (record rest { graph = H }) observed) (graph_rests last still_last) again.1
 
-    sees : (n : NodeId) → IsWanted (main n) → (o : Outcome) × (seen mid.rows (main n) ≡ Some o) × NodeGives F G n o
-    sees n want = let s = ended.sees n want in (s.0, seen_is n ∙ s.1, s.2)
+      abbrev IsWanted : Point → Type 0
+      IsWanted p = Needed F G D observed p
 
-    links : (p q : Point) → part.Needed mid.graph p → Reads mid.graph.links p q ↔ Depends F G none_died p q
-    links p q need =
-        let l = ended.links p q ((stands.needed p).1 need) in
-        (λ r. l.0 (subst (λ (k : ℕ). 0 < k) (sym (stands.links p q)) r), λ d. subst (λ (k : ℕ). 0 < k) (stands.links p q) (l.1 d))
+      -- ---- what was needed
 
-    -- a change shows what its subject gives
-    chose : (n m : NodeId) (r : Row) → row_at arena n ≡ Some r → subject_of r.def ≡ Some m → IsWanted (change n)
-        → (o : Outcome) × (outcome_in (at mid.rows (change n)) ≡ Some o) × NodeGives F G m o
-    chose n m r row subject want =
-        let run = (ended.exact (change n) ((ended.needs (change n)).1 want) r row).1 m subject in
-        let there : is_some (at mid.rows (change n)) ≡ true =
-        kept.rows (change n) ∙ (ap (λ (x : Option Row). has_part x Change) row ∙ ap is_some subject) in
-        (run.0, shows (at mid.rows (change n)) (t.out (change n)) there (λ k e. stands.out (change n) k e) ∙ run.1, run.2)
+      sees : (n : NodeId) → IsWanted (main n) → (o : Outcome) × (seen work.rows (main n) ≡ Some o) × NodeGives F G n o
+      sees n want = let s = ended.sees n want in (s.0, seen_is n ∙ s.1, s.2)
 
-    -- ---- last calls
+      -- a change shows what its subject gives
+      chose : (n m : NodeId) (x : Row) → row_at arena n ≡ Some x → subject_of x.def ≡ Some m → IsWanted (change n)
+          → (o : Outcome) × (outcome_in (at work.rows (change n)) ≡ Some o) × NodeGives F G m o
+      chose n m x row subject want =
+          let now = (ended.exact (change n) ((ended.needs (change n)).1 want) x row).1 m subject in
+          let there : is_some (at work.rows (change n)) ≡ true =
+          kept.work.rows (change n) ∙ (ap (λ (y : Option Row). has_part y Change) row ∙ ap is_some subject) in
+          (now.0, shows (at work.rows (change n)) (t.out (change n)) there (λ k e. stands.out (change n) k e) ∙ now.1, now.2)
 
-    kid_wanted : (n : NodeId) (r : Row) (nodes : List NodeId) (k : NodeId) → part.Needed mid.graph (main n) → row_at arena n ≡ Some r
-        → taken_by G n r.def ≡ Some nodes → Among k nodes → IsWanted (main k)
-    kid_wanted n r nodes k need row def a =
-        let among : Among (main k) (fixed_reads G n r.def Main) =
-        reads_taken G n r.def nodes (main k) def (among_map main k nodes a) in
-        needed_more F G none_died observed (main n) (main k) (wanted (main n) need)
-        (fixed row (ended.exact (main n) ((stands.needed (main n)).1 need) r row).0 among)
+      -- ---- what is needed then
 
-    recalls : (n : NodeId) (r : Row) (nodes : List NodeId) (values : List Value) → part.Needed mid.graph (main n) → row_at arena n ≡ Some r
-        → taken_by G n r.def ≡ Some nodes → GiveAll F G nodes values → (c : Call) × (last_call mid n ≡ Some c) × (c.arguments ≡ values)
-    recalls n r nodes values need row def gives =
-        let all = gathered_by F G t.out nodes values gives (λ k a. ended.sees k (kid_wanted n r nodes k need row def a)) in
-        let c = ended.recalls (main n) ((stands.needed (main n)).1 need) r nodes values row refl def all in
-        (c.0, last_is n r row ∙ c.1, c.2)
+      abbrev IsNeededThen : Point → Type 0
+      IsNeededThen p = Needed F G none_died observed p
 
-    is_met : (p : Point) → MetNow F begun.start G none_died t.root p → Met F G none_died observed (λ (q : Point). part.Needed old.graph q) p
-    is_met p (invariant.from_root {r} root way) =
-        let l = are.listed r root in
-        from_root l.1 (subst (λ (y : Point). Reaches (Depends F G none_died) y p) l.2 way)
-    is_met p (invariant.from_held {h} held row stands way) = from_held ((begun.held h).0 held) row stands way
+      decides : (p : Point) → (is_needed new.graph p ≡ true) ↔ part.Needed new.graph p
+      decides p = decides_needed new.graph in_step p
 
-    was_called : (n : NodeId) → HasCalled F begun.start G none_died t.root last.settled t.last n → WasCalled F G old mid observed n
-    was_called n c = record {
-      row = c.row;
-      nodes = c.kids;
-      values = c.values;
-      result = c.result;
-      is_row = c.is_row;
-      takes = c.takes;
-      answers = c.answers;
-      gives = c.gives;
-      reason = by_reason c.kids c.values c.reason;
-      is_last = last_is n c.row c.is_row ∙ c.is_last;
-      met = is_met (main n) c.met;
-    }
-      where
-        by_reason : (kids : List NodeId) (values : List Value) → Reason begun.start.last begun.start.never last.settled begun.start.stale n kids values
-            → ((c : Call) → last_call old n ≡ Some c → c.arguments ≡ values → ⊥) ⊎ WasForced old mid kids
-        by_reason kids values (reason.other differs) = inl (λ k e. differs k (begun.last n ∙ e))
-        by_reason kids values (reason.forced {kid} a never settled) = inr (
-          kid,
-          a,
-          sym (begun.never kid) ∙ never,
-          sym (ap (λ (r : ℕ). settled_in r (at mid.rows (main kid))) same_round) ∙ (sym (stands.settled (main kid)) ∙ settled),
-        )
-        by_reason kids values (reason.made_stale marked) = absurd (let x = begun.stale n in cc)
+      wanted : (p : Point) → part.Needed new.graph p → IsNeededThen p
+      wanted p need = (ended_again.needs p).0 ((decides p).1 need)
 
-    in_state : (n : NodeId) → Among n mid.ran.items → Among n t.ran
-    in_state n a = subst (λ (ns : List NodeId). Among n ns) (sym stands.ran) (among_reverse n mid.ran.items a)
+      needed : (p : Point) → IsNeededThen p → part.Needed new.graph p
+      needed p want = (decides p).0 ((ended_again.needs p).1 want)
 
-    called : (n : NodeId) → Among n mid.ran.items → WasCalled F G old mid observed n
-    called n a = was_called n (ended.ran n (in_state n a))
+      links : (p q : Point) → part.Needed new.graph p → Reads new.graph.links p q ↔ Depends F G none_died p q
+      links p q need = ended_again.links p q ((decides p).1 need)
 
-    costs : (n : NodeId) → Among n mid.ran.items → 0 < cost_at G n
-    costs n a = ended.costs n (in_state n a)
+      -- ---- last calls
 
-    abbrev IsKeptAt : NodeId → Type 0
-    IsKeptAt n = (last_call mid n ≡ last_call old n) ⊎ (WasCalled F G old mid observed n × (cost_at G n ≡ 0))
+      kid_wanted : (n : NodeId) (x : Row) (nodes : List NodeId) (k : NodeId) → part.Needed new.graph (main n) → row_at arena n ≡ Some x
+          → taken_by G n x.def ≡ Some nodes → Among k nodes → IsNeededThen (main k)
+      kid_wanted n x nodes k need row def a =
+          let among : Among (main k) (fixed_reads G n x.def Main) = reads_taken G n x.def nodes (main k) def (among_map main k nodes a) in
+          needed_more F G none_died observed (main n) (main k) (wanted (main n) need)
+          (fixed row (ended_again.exact (main n) ((decides (main n)).1 need) x row).0 among)
 
-    uncalled : (n : NodeId) → (Among n mid.ran.items → ⊥) → IsKeptAt n
-    uncalled n not = by_row (row_at arena n) refl
-      where
-        by_row : (x : Option Row) → row_at arena n ≡ x → IsKeptAt n
-        by_row None e = inl (last_none (at mid.rows (main n)) (row_at arena n) (main_there arena mid kept n) e
-            ∙ sym (last_none (at old.rows (main n)) (row_at arena n) (main_there arena old first n) e))
-        by_row (Some r) e =
-            elim (ended.kept n r e (λ a. not (reverse_among n mid.ran.items (subst (λ (ns : List NodeId). Among n ns) stands.ran a)))) [
-              | inl k ↦ inl (last_is n r e ∙ (k ∙ begun.last n))
-              | inr c ↦ inr (was_called n c.0, c.1)
-            ]
+      recalls : (n : NodeId) (x : Row) (nodes : List NodeId) (values : List Value) → part.Needed new.graph (main n) → row_at arena n ≡ Some x
+          → taken_by G n x.def ≡ Some nodes → GiveAll F G nodes values → (c : Call) × (last_call work n ≡ Some c) × (c.arguments ≡ values)
+      recalls n x nodes values need row def gives =
+          let all = gathered_by F G t.out nodes values gives (λ k a. ended_again.sees k (kid_wanted n x nodes k need row def a)) in
+          let c = ended_again.recalls (main n) ((decides (main n)).1 need) x nodes values row refl def all in
+          (c.0, last_is n x row ∙ c.1, c.2)
 
-    once : NoRepeats mid.ran.items
-    once = once_reverse mid.ran.items (subst (λ (ns : List NodeId). NoRepeats ns) stands.ran ended.once)
+      is_met : (p : Point) → MetNow F z G D t.root p → Met F G D observed (λ (q : Point). part.Needed old.work.graph q) p
+      is_met p (invariant.from_root {r = top} root way) =
+          let l = are.listed top root in
+          from_root l.1 (subst (λ (y : Point). Reaches (Depends F G D) y p) l.2 way)
+      is_met p (invariant.from_held {h} held row stand way) = from_held ((b.held h).0 held) row stand way
 
-    up_to_date : IsUpToDate F G old mid observed mid.ran.items
-    up_to_date = record {
-      rooted = rooted;
-      needs = λ p. (wanted p, needed p);
-      sees = sees;
-      chose = chose;
-      acyclic = ended.acyclic;
-      shallow = ended.shallow;
-      links = links;
-      recalls = recalls;
-      kept = uncalled;
-      cutoffs = cutoffs;
-      once = once;
-      called = called;
-      costs = costs;
-      work = λ beside observers stood are_on calls few. within F arena (held_at arena mid) kept.today.flat old mid observed (root_observed arena (held_at arena mid) observed) beside observers stood are_on
-          mid.ran.items once called calls few;
-    }
-
-    module _ (new : Work) (graph : new.graph ≡ mid.graph) (rows : new.rows ≡ mid.rows) (roots : new.roots ≡ mid.roots) (pairs : new.pairs ≡ mid.pairs) (todo : new.todo ≡ mid.todo)
-        (ran : new.ran.items ≡ []) (strict : new.strict ≡ false) (round : new.round ≡ mid.round + 1) where
-      called_next : (n : NodeId) → WasCalled F G old mid observed n
-          → WasCalled F G old (record mid { ran = new.ran; strict = new.strict; round = new.round }) observed n
-      called_next n c = record {
+      was_called : (n : NodeId) → HasCalled F z G D t.root t.settled t.last n → WasCalledIn F G D old.work next observed n
+      was_called n c = record {
         row = c.row;
-        nodes = c.nodes;
+        nodes = c.kids;
         values = c.values;
         result = c.result;
         is_row = c.is_row;
         takes = c.takes;
         answers = c.answers;
         gives = c.gives;
-        reason = c.reason;
-        is_last = c.is_last;
-        met = c.met;
+        reason = by_reason c.kids c.values c.reason;
+        is_last = last_is n c.row c.is_row ∙ c.is_last;
+        met = is_met (main n) c.met;
+      }
+        where
+          by_reason : (kids : List NodeId) (values : List Value) → Reason z.last z.never t.settled z.stale n kids values
+              → ((c : Call) → last_call old.work n ≡ Some c → c.arguments ≡ values → ⊥) ⊎ WasForced old.work next kids
+          by_reason kids values (reason.other differs) = inl (λ k e. differs k (b.last n ∙ e))
+          by_reason kids values (reason.forced {kid} a never settled) = inr (
+            kid,
+            a,
+            sym (b.never kid) ∙ never,
+            sym (ap (λ (k : ℕ). settled_in k (at work.rows (main kid))) same_round) ∙ (sym (stands.settled (main kid)) ∙ settled),
+          )
+          by_reason kids values (reason.made_stale marked) = absurd (let x = b.stale n in cc)
+
+      in_state : (n : NodeId) → Among n work.ran.items → Among n t.ran
+      in_state n a = subst (λ (ns : List NodeId). Among n ns) (sym stands.ran) (among_reverse n work.ran.items a)
+
+      called : (n : NodeId) → Among n work.ran.items → WasCalledIn F G D old.work next observed n
+      called n a = was_called n (ended.ran n (in_state n a))
+
+      -- and its scope stands
+      called_standing : (n : NodeId) → Among n work.ran.items → (c : WasCalledIn F G D old.work next observed n) × ScopeStands F G c.row.scope
+      unfolding was_called
+      called_standing n a =
+          let c = ended.ran n (in_state n a) in
+          (was_called n c, ((inv_last.settled.done (main n) c.is_settled).exact c.row c.is_row).0)
+
+      costs : (n : NodeId) → Among n work.ran.items → 0 < cost_at G n
+      costs n a = ended.costs n (in_state n a)
+
+      uncalled : (n : NodeId) (x : Row) → row_at arena n ≡ Some x → (Among n work.ran.items → ⊥)
+          → (last_call work n ≡ last_call old.work n) ⊎ (WasCalledIn F G D old.work next observed n × (cost_at G n ≡ 0))
+      uncalled n x row not =
+          elim (ended.kept n x row (λ a. not (reverse_among n work.ran.items (subst (λ (ns : List NodeId). Among n ns) stands.ran a)))) [
+            | inl k ↦ inl (last_is n x row ∙ (k ∙ b.last n))
+            | inr c ↦ inr (was_called n c.0, c.1)
+          ]
+
+      once : NoRepeats work.ran.items
+      once = once_reverse work.ran.items (subst (λ (ns : List NodeId). NoRepeats ns) stands.ran ended.once)
+
+      pub up_next : IsUpToDateIn F G D G old.work next observed work.ran.items
+      up_next = record {
+        rooted = λ p. r.sweep.roots p ∙ rooted p;
+        needs = λ p. (wanted p, needed p);
+        sees = sees;
+        chose = chose;
+        acyclic = ended.acyclic;
+        shallow = ended.shallow;
+        links = links;
+        recalls = recalls;
+        kept = uncalled;
+        cutoffs = cutoffs;
+        once = once;
+        called = called;
+        costs = costs;
+        work = λ beside observers stood are_on calls few. within F G D old.work next observed (root_observed arena
+            (held_at arena work) observed) beside
+            observers stood are_on work.ran.items once called_standing calls few;
       }
 
-      up_next : IsUpToDate F G old (record mid { ran = new.ran; strict = new.strict; round = new.round }) observed mid.ran.items
-      up_next = let up = up_to_date in record {
-        rooted = up.rooted;
-        needs = up.needs;
-        sees = up.sees;
-        chose = up.chose;
-        acyclic = up.acyclic;
-        shallow = up.shallow;
-        links = up.links;
-        recalls = up.recalls;
-        kept = λ n not. elim (up.kept n not) [ inl e ↦ inl e | inr c ↦ inr (called_next n c.0, c.1) ];
-        cutoffs = up.cutoffs;
-        once = up.once;
-        called = λ n a. called_next n (up.called n a);
-        costs = up.costs;
-        work = up.work;
-      }
+      -- as the round's end leaves it
+      pub up_end : next ≡ end.work → end.ran.items ≡ work.ran.items → IsUpToDate F old (record mid { work = end.work; ran = end.ran }) observed
+      up_end is ran_is = subst (λ (w : Work). IsUpToDate F old (record mid { work = w; ran = end.ran }) observed) is
+          (subst (λ (xs : List NodeId). IsUpToDateIn F G D G old.work next observed xs) (sym ran_is) up_next)
 
-      pub right_again : IsUpToDate F (graph_at arena new) old new observed mid.ran.items
-      right_again = subst (λ (w : Work). IsUpToDate F (graph_at arena w) old w observed mid.ran.items)
-          (is_next new graph rows roots pairs todo ran strict round) up_next
+    pub ready_end : next ≡ end.work → FunctionLaws M.functions M.known M.ids → AllCallFit M.known M.ids arena
+        → IsReady M (record mid { work = end.work; ran = end.ran })
+    ready_end is laws fit = subst (λ (w : Work). IsReady M (record mid { work = w; ran = end.ran })) is (ready_next laws fit)

@@ -1,5 +1,5 @@
--- What the parts keep between calls, carried over the calls.
-use Rattle.std.proofs.Common.{◌≡◌, ◌⊎◌, inl, inr, ℕ, ◌≤◌, Option, None, Some, refl, sym, ap, subst, ◌∙◌}
+-- What the parts keep between calls, carried over calls that leave the nodes.
+use Rattle.std.proofs.Common.{◌≡◌, ◌⊎◌, inl, inr, ℕ, ◌≤◌, true, Option, None, Some, refl, sym, ap, subst, ◌∙◌}
 use Rattle.std.specs.Prelude.{is_some, option_map}
 use Rattle.std.proofs.lemmas.Option.{none-some}
 use Rattle.inc_value.specs.Choice.{Among}
@@ -15,21 +15,25 @@ use Rattle.inc_terms.specs.Graph.{Row}
 use Rattle.inc_terms.specs.Within.{Given}
 use Rattle.point_map.specs.Rows.{Rows, at, Holds}
 use Rattle.link_table.specs.Links.{Links, Reads}
-use Rattle.necessary_graph.specs.Part.{NecessaryPart, IsInStep}
+use Rattle.necessary_graph.specs.Part.{NecessaryPart, Needed, IsInStep}
 use Rattle.node_arena.specs.Arena.{Arena, row_at}
 use Rattle.node_arena.specs.Graph.{Holdings, graph_of}
 use Rattle.node_arena.specs.Typing.{Fits}
 use Rattle.node_outcomes.specs.Computing.{IsOfType}
+use Rattle.node_outcomes.specs.Row.{IsRewritten, outcome_in}
+use Rattle.node_outcomes.specs.declared.row.Progress.{Progress}
+use Rattle.scopes.specs.Scopes.{Scopes}
 use Rattle.stabilize_round.specs.State.{Call}
 use Rattle.stabilize_round.proofs.Points.{same_or_other}
-use Rattle.stabilizer.specs.Graph.{held_at}
-use Rattle.stabilizer.specs.Kept.{IsKept}
-use Rattle.node_outcomes.specs.Row.{IsRewritten, with_stage}
-use Rattle.stabilizer.specs.Wiring.{KeepsGraph}
-use Rattle.node_outcomes.specs.declared.row.Progress.{Progress}
-use Rattle.node_outcomes.specs.declared.row.Stage.{Stage}
-use Rattle.stabilizer.specs.declared.work.Work.{Work}
-use Rattle.stabilizer.proofs.Holding.{held_rewritten, held_rows}
+use Rattle.wiring.specs.Graph.{held_at}
+use Rattle.wiring.specs.Kept.{IsKept}
+use Rattle.wiring.specs.Wiring.{KeepsGraph, KeepsLists}
+use Rattle.wiring.specs.declared.work.Work.{Work}
+use Rattle.wiring.proofs.Deciding.{need_same}
+use Rattle.wiring.proofs.Holding.{held_rewritten, died_same, links_same, root_same, pairs_same, scoped_same}
+use Rattle.stabilizer.specs.Between.{Stays}
+use Rattle.stabilizer.specs.Kept.{KeepsScopes, PartsKept}
+use Rattle.stabilizer.specs.declared.parts.Parts.{Parts}
 
 -- ---- rows
 
@@ -58,9 +62,10 @@ all_fit arena work kept p k e = record {
 }
 
 -- rows and round stay
-pub fit_still : (arena : Arena) (old new : Work) → IsKept arena old → new.rows ≡ old.rows → new.round ≡ old.round → AllFit arena (held_at arena old) new
+pub fit_still : (arena : Arena) (old new : Work) → IsKept arena old → ((p : Point) → at new.rows p ≡ at old.rows p) → new.round ≡ old.round
+    → AllFit arena (held_at arena old) new
 fit_still arena old new kept rows round p k e = subst (λ (r : ℕ). FitsPoint arena (held_at arena old) r p k) (sym round)
-    (all_fit arena old kept p k (subst (λ (m : Rows Progress). at m p ≡ Some k) rows e))
+    (all_fit arena old kept p k (sym (rows p) ∙ e))
 
 mapped : (f : Progress → Progress) (x : Option Progress) (k : Progress) → option_map f x ≡ Some k → (row : Progress) × (x ≡ Some row) × (f row ≡ k)
 mapped f None k e = absurd (none-some k e)
@@ -92,20 +97,42 @@ rewritten_fit arena held old new p f w round fit changed q k e = subst (λ (r : 
   | inr ne ↦ fit q k (sym (w.others q (λ s. ne (sym s))) ∙ e)
 ])
 
+-- where the changed row keeps its outcome, all do
+pub rewritten_out : (old new : Rows Progress) (p : Point) (f : Progress → Progress) → IsRewritten old new p f
+    → ((k : Progress) → (f k).outcome ≡ k.outcome) → (q : Point) → outcome_in (at new q) ≡ outcome_in (at old q)
+rewritten_out old new p f w keeps q = elim (same_or_other p q) [
+  | inl same ↦ subst (λ (x : Point). outcome_in (at new x) ≡ outcome_in (at old x)) same (ap outcome_in w.changed ∙ mapped_out (at old p))
+  | inr ne ↦ ap outcome_in (w.others q (λ s. ne (sym s)))
+]
+  where
+    mapped_out : (x : Option Progress) → outcome_in (option_map f x) ≡ outcome_in x
+    mapped_out None = refl
+    mapped_out (Some k) = keeps k
+
 -- ---- all of it
 
--- what is to be shown of a call: points that are there stay, and another is the main of a given node; what has links or is in the heap had a
--- row; rows stay where they are, and fit; as much is held
+-- what is to be shown of a call that leaves the nodes: rows stay where they are, and their points; no other point is there that wasn't, and
+-- each without a row that is there is needed; links come off alone; what is in the heap had a row; rows fit, as much is held, and what has a root keeps its outcome;
+-- no root, death or node of a list of live ones goes
 pub record Carries (arena : Arena) (old new : Work) : Type 0 where
   pub step : IsInStep new.graph
   pub same : (p : Point) → is_some (at new.rows p) ≡ is_some (at old.rows p)
-  pub there : (p : Point) → Holds old.graph.heights p → Holds new.graph.heights p
-  pub opened : (p : Point) → Holds new.graph.heights p → Holds old.graph.heights p ⊎ ((p.part ≡ Main) × Given arena.given p.node)
-  pub links : (p q : Point) → Reads new.graph.links p q → Holds old.rows p
+  pub there : (p : Point) → Holds old.rows p → Holds old.graph.heights p → Holds new.graph.heights p
+  pub opened : (p : Point) → Holds new.graph.heights p → Holds old.graph.heights p
+  pub leaves : (p : Point) → Holds new.graph.heights p → at old.rows p ≡ None → Needed old.graph p → Needed new.graph p
+  pub links : (p q : Point) → Reads new.graph.links p q → Reads old.graph.links p q
   pub heap : (p : Point) → Holds new.graph.heap p → Holds old.rows p
   pub fit : AllFit arena (held_at arena old) new
   pub held : held_at arena new ≡ held_at arena old
-  pub pairs : (n : NodeId) → Among n old.pairs.items → Among n new.pairs.items
+  pub chosen : (n : NodeId) → Holds old.roots (change n) → outcome_in (at new.rows (change n)) ≡ outcome_in (at old.rows (change n))
+  pub roots : new.roots ≡ old.roots
+  pub deaths : new.deaths ≡ old.deaths
+  pub pairs : (n : NodeId) (r : Row) → row_at arena n ≡ Some r → Among n old.pairs.nodes → Among n new.pairs.nodes
+  pub scoped : (n : NodeId) (r : Row) → row_at arena n ≡ Some r → Among n old.scoped.nodes → Among n new.scoped.nodes
+
+holds_or_none : {A : Type 0} (x : Option A) → (is_some x ≡ true) ⊎ (x ≡ None)
+holds_or_none None = inr refl
+holds_or_none (Some a) = inl refl
 
 module _ (arena : Arena) (old new : Work) (kept : IsKept arena old) (c : Carries arena old new) where
   before : (p : Point) → Holds new.rows p → Holds old.rows p
@@ -114,81 +141,100 @@ module _ (arena : Arena) (old new : Work) (kept : IsKept arena old) (c : Carries
   now : (p : Point) → Holds old.rows p → Holds new.rows p
   now p h = c.same p ∙ h
 
+  left : (p : Point) → Holds new.graph.heights p → Holds new.rows p ⊎ ((row_at arena p.node ≡ None) × Needed new.graph p)
+  left p h = elim (holds_or_none (at old.rows p)) [
+    | inl row ↦ inl (now p row)
+    | inr none ↦ elim (kept.leaves p (c.opened p h)) [ inl row ↦ inl (now p row) | inr dead ↦ inr (dead.0, c.leaves p h none dead.1) ]
+  ]
+
   pub carried : IsKept arena new
   carried = record {
     step = c.step;
     rows = λ p. c.same p ∙ kept.rows p;
-    leaves = λ p h. elim (c.opened p h) [ inl k ↦ elim (kept.leaves p k) [ inl r ↦ inl (now p r) | inr is ↦ inr is ] | inr k ↦ inr k.0 ];
-    there = λ p h. c.there p (kept.there p (before p h));
-    given = λ p h. elim (c.opened p h) [ inl k ↦ kept.given p k | inr k ↦ k.1 ];
-    links = λ p q r. now p (c.links p q r);
+    leaves = left;
+    there = λ p h. c.there p (before p h) (kept.there p (before p h));
+    given = λ p h. kept.given p (c.opened p h);
+    links = λ p q r. links_same old new c.same c.deaths p q (kept.links p q (c.links p q r));
     heap = λ p h. now p (c.heap p h);
+    dead = λ n b d. kept.dead n b (sym (died_same old new c.deaths n) ∙ d);
     sound = kept.sound;
-    today = kept.today;
+    scopes = kept.scopes;
+    older = kept.older;
     outcomes = λ n r k v row e o. (c.fit (main n) k e).outcome r v refl row o;
     rights = λ n m r k o row e out right. (c.fit (change n) k e).right r m o refl row out
         (subst (λ (h : Holdings). right_of (graph_of arena h) n r.def o ≡ Some m) c.held right);
-    rootless = λ n w is. kept.rootless n w (subst (λ (h : Holdings). h.built n ≡ Some w) c.held is);
+    roots = λ n h. let had = root_same old new c.roots (change n) h in let v = kept.roots n had in (v.0, c.chosen n had ∙ v.1);
+    binds = λ n r row h. kept.binds n r row (root_same old new c.roots (change n) h);
     calls = λ n r k l row e h. (c.fit (main n) k e).call r l refl row h;
     rounds = λ p k e. (c.fit p k e).settled;
-    pairs = λ n r row some. c.pairs n (kept.pairs n r row some);
+    pairs = λ n r row some. c.pairs n r row (kept.pairs n r row some);
+    scoped = λ n r row some. c.scoped n r row (kept.scoped n r row some);
   }
 
 -- ---- links, roots and heights stay
 
 module _ (arena : Arena) (old new : Work) (kept : IsKept arena old) (graph : KeepsGraph old.graph new.graph) (step : IsInStep new.graph)
     (heap : (p : Point) → Holds new.graph.heap p → Holds old.rows p) (same : (p : Point) → is_some (at new.rows p) ≡ is_some (at old.rows p))
-    (fit : AllFit arena (held_at arena old) new) (held : held_at arena new ≡ held_at arena old) (pairs : new.pairs ≡ old.pairs) where
+    (fit : AllFit arena (held_at arena old) new) (held : held_at arena new ≡ held_at arena old)
+    (chosen : (n : NodeId) → Holds old.roots (change n) → outcome_in (at new.rows (change n)) ≡ outcome_in (at old.rows (change n)))
+    (roots : new.roots ≡ old.roots) (deaths : new.deaths ≡ old.deaths) (lists : KeepsLists old new) where
   pub kept_in_graph : IsKept arena new
   kept_in_graph = carried arena old new kept (record {
     step = step;
     same = same;
-    there = λ p h. subst (λ (m : Rows ℕ). Holds m p) (sym graph.heights) h;
-    opened = λ p h. inl (subst (λ (m : Rows ℕ). Holds m p) graph.heights h);
-    links = λ p q r. kept.links p q (subst (λ (l : Links). Reads l p q) graph.links r);
+    there = λ p row h. subst (λ (m : Rows ℕ). Holds m p) (sym graph.heights) h;
+    opened = λ p h. subst (λ (m : Rows ℕ). Holds m p) graph.heights h;
+    leaves = λ p h none need. need_same old.graph new.graph graph.links graph.roots p need;
+    links = λ p q r. subst (λ (l : Links). Reads l p q) graph.links r;
     heap = heap;
     fit = fit;
     held = held;
-    pairs = λ n a. rw pairs a;
+    chosen = chosen;
+    roots = roots;
+    deaths = deaths;
+    pairs = λ n r row a. pairs_same old new lists n a;
+    scoped = λ n r row a. scoped_same old new lists n a;
   })
 
--- graph, rows, roots of binds, round and pairs stay
-pub kept_same : (arena : Arena) (old new : Work) → IsKept arena old → new.graph ≡ old.graph → new.rows ≡ old.rows → new.round ≡ old.round
-    → new.roots ≡ old.roots → new.pairs ≡ old.pairs → IsKept arena new
-kept_same arena old new kept graph rows round roots pairs = kept_in_graph arena old new kept
-    (record {
-      links = ap (λ (g : NecessaryPart). g.links) graph;
-      roots = ap (λ (g : NecessaryPart). g.roots) graph;
-      heights = ap (λ (g : NecessaryPart). g.heights) graph;
-    })
-    (subst IsInStep (sym graph) kept.step)
-    (λ p h. kept.heap p (subst (λ (g : NecessaryPart). Holds g.heap p) graph h))
-    (λ p. ap (λ (m : Rows Progress). is_some (at m p)) rows)
-    (fit_still arena old new kept rows round)
-    (held_rows arena old new (λ p. ap (λ (m : Rows Progress). at m p) rows) roots)
-    pairs
-
--- a row is rewritten, and the graph stays, and what is held
+-- a row is rewritten, which keeps its outcome, and all else stays
 pub kept_rewritten : (arena : Arena) (old new : Work) (p : Point) (f : Progress → Progress) → IsKept arena old → IsRewritten old.rows new.rows p f
-    → new.graph ≡ old.graph → new.round ≡ old.round → held_at arena new ≡ held_at arena old → new.pairs ≡ old.pairs
+    → ((k : Progress) → (f k).outcome ≡ k.outcome) → new ≡ record old { rows = new.rows }
     → ((k : Progress) → at old.rows p ≡ Some k → FitsPoint arena (held_at arena old) old.round p k → FitsPoint arena (held_at arena old) old.round p (f k))
     → IsKept arena new
-kept_rewritten arena old new p f kept w graph round held pairs changed = kept_in_graph arena old new kept
+kept_rewritten arena old new p f kept w keeps rest changed = kept_in_graph arena old new kept
     (record {
-      links = ap (λ (g : NecessaryPart). g.links) graph;
-      roots = ap (λ (g : NecessaryPart). g.roots) graph;
-      heights = ap (λ (g : NecessaryPart). g.heights) graph;
+      links = ap (λ (x : Work). x.graph.links) rest;
+      roots = ap (λ (x : Work). x.graph.roots) rest;
+      heights = ap (λ (x : Work). x.graph.heights) rest;
     })
-    (subst IsInStep (sym graph) kept.step)
-    (λ q h. kept.heap q (subst (λ (g : NecessaryPart). Holds g.heap q) graph h))
+    (subst IsInStep (sym (ap (λ (x : Work). x.graph) rest)) kept.step)
+    (λ q h. kept.heap q (subst (λ (g : NecessaryPart). Holds g.heap q) (ap (λ (x : Work). x.graph) rest) h))
     (rewritten_there old.rows new.rows p f w)
-    (rewritten_fit arena (held_at arena old) old new p f w round (all_fit arena old kept) changed)
-    held
-    pairs
+    (rewritten_fit arena (held_at arena old) old new p f w (ap (λ (x : Work). x.round) rest) (all_fit arena old kept) changed)
+    (held_rewritten arena old new p f w (λ k is. keeps k) (ap (λ (x : Work). x.roots) rest))
+    (λ n h. rewritten_out old.rows new.rows p f w keeps (change n))
+    (ap (λ (x : Work). x.roots) rest)
+    (ap (λ (x : Work). x.deaths) rest)
+    (record { pairs = ap (λ (x : Work). x.pairs) rest; scoped = ap (λ (x : Work). x.scoped) rest })
 
--- `set_stage`
-pub kept_staged : (arena : Arena) (old new : Work) (p : Point) (stage : Stage) → IsKept arena old → IsRewritten old.rows new.rows p (with_stage stage)
-    → new.graph ≡ old.graph → new.round ≡ old.round → new.roots ≡ old.roots → new.pairs ≡ old.pairs → IsKept arena new
-kept_staged arena old new p stage kept w graph round roots pairs = kept_rewritten arena old new p (with_stage stage) kept w graph round
-    (held_rewritten arena old new p (with_stage stage) w (λ k is. refl) roots) pairs
-    (λ k is fit. record { outcome = fit.outcome; right = fit.right; call = fit.call; settled = fit.settled })
+-- ---- scopes
+
+-- who stood in scopes stands there
+pub scopes_stay : (before arena : Arena) (old work : Work) (scopes : Scopes) → Stays before arena old work → KeepsScopes before scopes
+    → KeepsScopes arena scopes
+scopes_stay before arena old work scopes stays kept = record {
+  stands = λ n b. (
+    λ in_scope. let r = (kept.stands n b).0 in_scope in let s = stays.scoped n b r.0 r.1 r.2 in (s.row, s.is_row, s.scope),
+    λ r. (kept.stands n b).1 (stays.entered n b r.0 r.1 r.2),
+  );
+  none = kept.none;
+}
+
+-- so parts are kept whose nodes and work are
+pub parts_stay : (old new : Parts) → PartsKept old → IsKept new.arena new.work → Stays old.arena new.arena old.work new.work → new.scopes ≡ old.scopes
+    → new.dying.items ≡ old.dying.items → PartsKept new
+parts_stay old new kept work stays scopes dying = record {
+  work = work;
+  scopes = subst (KeepsScopes new.arena) (sym scopes) (scopes_stay old.arena new.arena old.work new.work old.scopes stays kept.scopes);
+  dying = dying ∙ kept.dying;
+}

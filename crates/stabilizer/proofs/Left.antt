@@ -17,15 +17,15 @@ use Rattle.stabilize_round.specs.Ended.{unsettled}
 use Rattle.stabilize_round.specs.State.{State}
 use Rattle.stabilize_round.specs.StepLaws as law
 use Rattle.stabilize_round.specs.StepLaws.{Falls, loose, again}
-use Rattle.stabilizer.specs.Deciding.{is_needed}
-use Rattle.stabilizer.specs.Kept.{IsKept}
-use Rattle.stabilizer.specs.Stands.{Stands}
+use Rattle.wiring.specs.Deciding.{is_needed}
+use Rattle.wiring.specs.Kept.{IsKept}
+use Rattle.wiring.specs.Stands.{Stands, Counts}
 use Rattle.stabilizer.specs.Stepping.{is_loose, is_again, is_unsettled, left_to_settle}
 use Rattle.node_outcomes.specs.declared.row.Progress.{Progress}
 use Rattle.node_outcomes.specs.declared.row.Stage.{Stage}
 use Rattle.node_outcomes.specs.declared.row.Stage.TheVariants as code
-use Rattle.stabilizer.specs.declared.work.Work.{Work}
-use Rattle.stabilizer.proofs.Deciding.{decides_needed}
+use Rattle.wiring.specs.declared.work.Work.{Work}
+use Rattle.wiring.proofs.Deciding.{decides_needed}
 
 -- ---- one number
 
@@ -68,6 +68,7 @@ same_test false true f g = absurd (let e = g refl in cc)
 
 full_as : (st : Stage) → law.is_full (stage_of st) ≡ row.is_full (Some st)
 full_as code.Bare = refl
+full_as code.Gated = refl
 full_as code.Static = refl
 full_as code.Full = refl
 
@@ -75,7 +76,7 @@ no_test : (a : Bool) (x y : Bool) → a ≡ false → (a && x) ≡ (a && y)
 no_test false x y e = refl
 no_test true x y e = absurd (cc)
 
-module _ (arena : Arena) (work : Work) (calls : ℕ) (s : State) (kept : IsKept arena work) (st : Stands arena work calls None s) where
+module _ (arena : Arena) (work : Work) (counts : Counts) (s : State) (kept : IsKept arena work) (st : Stands arena work counts None s) where
   pub unsettled_as : (points : List Point) → number_of (is_unsettled work) points ≡ unsettled s.settled points
   unsettled_as points = number_same (is_unsettled work) (λ (p : Point). cond (s.settled p) false true)
       (λ p. not_as (s.settled p) (settled_in work.round (at work.rows p)) (st.settled p)) points
@@ -143,35 +144,28 @@ module _ (P N : ℕ) where
 abbrev weak : Bool → ℕ
 weak strict = cond strict 0 1
 
--- with as many refusals to become final
-pub less_unsettled : (old new : Work) (points : List Point) (nodes : List NodeId) → new.strict ≡ old.strict
-    → number_of (is_unsettled new) points < number_of (is_unsettled old) points → left_to_settle new points nodes < left_to_settle old points nodes
-less_unsettled old new points nodes strict less =
-    less_second (length points) (length nodes) (weak old.strict) (weak new.strict) _ _ _ _ _ _ (ap weak strict) less
-    (number_few (is_loose new) nodes) (number_few (is_again new) points)
-
-module _ (arena : Arena) (old new : Work) (calls calls' : ℕ) (s t : State) (kept : IsKept arena old) (kept' : IsKept arena new)
-    (st : Stands arena old calls None s) (on : Stands arena new calls' None t) (points : List Point) (nodes : List NodeId) where
+module _ (arena arena' : Arena) (old new : Work) (counts counts' : Counts) (s t : State) (kept : IsKept arena old) (kept' : IsKept arena' new)
+    (st : Stands arena old counts None s) (on : Stands arena' new counts' None t) (points : List Point) (nodes : List NodeId) where
   same_strict : t.strict ≡ s.strict → weak new.strict ≡ weak old.strict
   same_strict e = ap weak (sym on.strict ∙ (e ∙ st.strict))
 
   u : number_of (is_unsettled old) points ≡ unsettled s.settled points
-  u = unsettled_as arena old calls s kept st points
+  u = unsettled_as arena old counts s kept st points
 
   u' : number_of (is_unsettled new) points ≡ unsettled t.settled points
-  u' = unsettled_as arena new calls' t kept' on points
+  u' = unsettled_as arena' new counts' t kept' on points
 
   l : number_of (is_loose old) nodes ≡ loose s nodes
-  l = loose_as arena old calls s kept st nodes
+  l = loose_as arena old counts s kept st nodes
 
   l' : number_of (is_loose new) nodes ≡ loose t nodes
-  l' = loose_as arena new calls' t kept' on nodes
+  l' = loose_as arena' new counts' t kept' on nodes
 
   a : number_of (is_again old) points ≡ again s points
-  a = again_as arena old calls s kept st points
+  a = again_as arena old counts s kept st points
 
   a' : number_of (is_again new) points ≡ again t points
-  a' = again_as arena new calls' t kept' on points
+  a' = again_as arena' new counts' t kept' on points
 
   few_l : number_of (is_loose new) nodes ≤ length nodes
   few_l = number_few (is_loose new) nodes

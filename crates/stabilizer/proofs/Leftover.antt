@@ -1,185 +1,166 @@
 -- What a refused round leaves: cutoffs stay, what is shown is what was or is right, and whose functions were called is met.
 use Rattle.std.proofs.Common.{◌≡◌, inl, inr, ℕ, ◌<◌, ◌++◌, List, [], map, true, Option, None, Some, refl, sym, ap, subst, ◌∙◌, arith}
+use Rattle.std.specs.Prelude.{is_some}
 use Rattle.inc_value.specs.declared.node.NodeId.{NodeId}
 use Rattle.inc_value.specs.declared.node.Point.{Point}
-use Rattle.inc_terms.specs.Depend.{main, none_died}
+use Rattle.inc_value.specs.declared.outcome.Outcome.{Outcome}
+use Rattle.inc_terms.specs.Depend.{main}
 use Rattle.inc_terms.specs.Evaluate.{NodeGives}
 use Rattle.inc_terms.specs.Graph.{Graph, Row}
-use Rattle.inc_terms.specs.Local.{shown, shown_of}
-use Rattle.inc_terms.specs.Within.{Given}
-use Rattle.inc_terms.proofs.Local.{main_sees}
-use Rattle.inc_value.specs.declared.outcome.Outcome.{Outcome}
-use Rattle.node_outcomes.specs.Computing.{seen}
-use Rattle.std.specs.Prelude.{is_some}
-use Rattle.inc_terms.specs.Need.{Met}
+use Rattle.inc_terms.specs.Local.{shown_of, Sees}
 use Rattle.inc_terms.specs.Term.{Functions}
+use Rattle.inc_terms.specs.Within.{Given}
 use Rattle.inc_terms.specs.Work.{taken_by}
-use Rattle.necessary_graph.specs.Part as part
+use Rattle.inc_terms.proofs.Local.{main_sees}
 use Rattle.necessity.specs.Need.{Roots, KeepsRoots}
 use Rattle.node_arena.specs.Arena.{Arena, row_at}
+use Rattle.node_outcomes.specs.Computing.{seen}
+use Rattle.node_outcomes.specs.Meaning.{Meaning}
 use Rattle.point_map.specs.Rows.{at}
-use Rattle.stabilize_round.specs.Calling.{cost_at, costs_of}
+use Rattle.stabilize_round.specs.Calling.{costs_of}
 use Rattle.stabilize_round.specs.Counts.{RoseAtMost}
 use Rattle.stabilize_round.specs.Invariant.{Invariant, MetNow}
-use Rattle.stabilize_round.specs.Machine.{Move, Moves, Stops, as_it_is, unkept, called_more}
+use Rattle.stabilize_round.specs.Machine.{called_more}
 use Rattle.stabilize_round.specs.State.{State}
 use Rattle.stabilize_round.proofs.Calls.{refused_calls}
-use Rattle.stabilize_round.proofs.Entry.{entry_holds}
-use Rattle.stabilize_round.proofs.Machine.{moves_keep}
-use Rattle.stabilize_round.proofs.Steps.{joined}
-use Rattle.stabilizer.specs.Kept.{IsKept}
-use Rattle.stabilizer.specs.Round.{IsReady, AreRooted, OnlyRoots, SettleRefused, cutoff_at}
-use Rattle.stabilizer.proofs.Still.{HasCalledMet, ShowsStill}
-use Rattle.stabilizer.specs.Stands.{Hand, Stands}
-use Rattle.stabilizer.specs.Wiring.{PutsRoots, RootRefused}
-use Rattle.stabilizer.specs.declared.refused.Refused.{Refused}
-use Rattle.stabilizer.specs.declared.work.Work.{Work}
-use Rattle.stabilizer.proofs.Beginning.{Begun, BegunOf, begun_of, main_there}
-use Rattle.stabilizer.proofs.Began.{round_on}
-use Rattle.node_outcomes.specs.Meaning.{Meaning}
-use Rattle.stabilizer.proofs.Ending.{as_graph, cutoff_case, seen_case}
+use Rattle.stabilize_round.proofs.Runs.{refused_keeps}
+use Rattle.wiring.specs.Kept.{IsKept}
+use Rattle.wiring.specs.Stands.{Hand, Stands, Counts}
+use Rattle.wiring.specs.declared.refused.Refused.{Refused}
+use Rattle.wiring.specs.declared.work.Work.{Work}
+use Rattle.stabilizer.specs.Kept.{graph_in}
+use Rattle.stabilizer.specs.Round.{AreRooted, OnlyRoots, Pauses, HasCalledMet, ShowsStill, IsLeftBy, cutoff_at}
+use Rattle.stabilizer.specs.declared.parts.Parts.{Parts}
+use Rattle.stabilizer.proofs.Beginning.{Begun, main_there}
+use Rattle.stabilizer.proofs.Ending.{cutoff_live, seen_case}
 use Rattle.stabilizer.proofs.Lawful.{met_as}
-use Rattle.stabilizer.proofs.Remaining.{moves_out}
-use Rattle.stabilizer.specs.Graph.{graph_at}
+use Rattle.stabilizer.proofs.LeftBy.{left_by_parts}
+use Rattle.stabilizer.proofs.Paused.{IsPaused, paused_died}
+use Rattle.stabilizer.proofs.Remaining.{stopped_out}
+use Rattle.stabilizer.proofs.Stopped.{IsLeftOver, stops_leave_over}
 
 -- no function was called
-pub none_called : (F : Functions) (G : Graph) (old : Work) (observed : List NodeId) (count : ℕ) → HasCalledMet F G old observed count count
-none_called F G old observed count = record {
+pub none_called : (F : Functions) (old new : Parts) (observed : List NodeId) (count : ℕ) → HasCalledMet F old new observed count count
+none_called F old new observed count = record {
   few = record { nodes = []; once = tt; callers = λ n among. absurd among; count = record { kept = omega arith; within = omega arith } };
   met = λ n among. absurd among;
 }
 
-module _ (F : Functions) (arena : Arena) (old new : Work) (before between : ℕ) (b : Begun F arena old before) (left : Option Hand) (t : State)
-    (run : Moves F b.start b.state t) (stands : Stands arena new between left t) where
-  -- cutoffs stay
-  cutoffs_still : IsKept arena old → IsKept arena new → (n : NodeId) → cutoff_at new n ≡ cutoff_at old n
-  cutoffs_still first kept n =
-      let inv = moves_keep F b.start b.state t run (entry_holds F b.start b.state b.entry) in
-      cutoff_case (at new.rows (main n)) (at old.rows (main n)) (main_there arena new kept n ∙ sym (main_there arena old first n))
-      (λ k e. sym (stands.never n k e) ∙ (inv.accounts.cutoffs n ∙ b.never n))
-
-  -- what is shown of a node stays, or is what it gives
-  shows_still : IsKept arena old → IsKept arena new → (n : NodeId) → ShowsStill F (graph_at arena new) old new n
-  shows_still first kept n = by_row (row_at arena n) refl
-    where
-      shows : (work : Work) (calls : ℕ) (h : Option Hand) (s : State) → IsKept arena work → Stands arena work calls h s
-          → seen work.rows (main n) ≡ shown_of (row_at arena n) (s.out (main n))
-      shows work calls h s k w =
-          seen_case (at work.rows (main n)) (row_at arena n) (s.out (main n)) (main_there arena work k n) (λ x e. w.out (main n) x e)
-
-      by_row : (x : Option Row) → row_at arena n ≡ x → ShowsStill F (graph_at arena new) old new n
-      by_row None dead = inl (shows new between left t kept stands
-          ∙ (subst (λ (x : Option Row). shown_of x (t.out (main n)) ≡ shown_of x (b.state.out (main n))) (sym dead) refl
-          ∙ sym (shows old before None b.state first b.stands)))
-      by_row (Some r) live =
-          let row : t.graph.row n ≡ Some r = ap (λ (G : Graph). G.row n) stands.graph ∙ live in
-          let there : is_some (at old.rows (main n)) ≡ true = main_there arena old first n ∙ ap is_some live in
-          let given : Given arena.given n = first.given (main n) (first.there (main n) there) in
-          elim (moves_out F b.start b.state t n r run row (subst (λ (k : ℕ). Given k n) (sym b.stands.given) given)) [
-            | inl settled ↦
-                let inv = moves_keep F b.start b.state t run (entry_holds F b.start b.state b.entry) in
-                let s = main_sees F t.graph t.out n (inv.settled.done (main n) settled).exact in
-                inr (
-                  s.0,
-                  shows new between left t kept stands ∙ subst (λ (G : Graph). shown G t.out (main n) ≡ Some s.0) stands.graph s.1,
-                  subst (λ (G : Graph). NodeGives F G n s.0) stands.graph s.2,
-                )
-            | inr stays ↦ inl (shows new between left t kept stands
-                ∙ (ap (λ (o : Option Outcome). shown_of (row_at arena n) o) stays ∙ sym (shows old before None b.state first b.stands)))
-          ]
-
-  -- nodes whose functions were called are met, wherever the round stopped
-  module _ (nodes observed : List NodeId) (only : OnlyRoots old.graph.roots new.graph.roots (map main nodes)) (rooted : AreRooted old observed) where
-    is_met : (p : Point) → MetNow F b.start t.graph t.died t.root p
-        → Met F (graph_at arena new) none_died (nodes ++ observed) (λ (q : Point). part.Needed old.graph q) p
-    is_met p met =
-        met_as F arena old new before between b left t run stands nodes observed only rooted p
-        (subst (λ (x : State). MetNow F b.start x.graph x.died x.root p) (as_graph (graph_at arena new) t stands.graph stands.died) met)
-
-    called_met : (after : ℕ) (u : State) → Stops F b.start t u → u.graph ≡ graph_at arena new → u.calls ≡ after
-        → ((p : Point) → MetNow F b.start u.graph u.died u.root p → MetNow F b.start t.graph t.died t.root p)
-        → HasCalledMet F (graph_at arena new) old (nodes ++ observed) before after
-    called_met after u stops graph calls back =
-        let k = refused_calls F b.start b.state t u b.entry run stops in
-        record {
-          few = record {
-            nodes = k.0;
-            once = k.1;
-            callers = λ n a. let m = k.3 n a in record {
-              row = m.0;
-              nodes = m.1;
-              is_row = subst (λ (G : Graph). G.row n ≡ Some m.0) graph m.2;
-              takes = subst (λ (G : Graph). taken_by G n m.0.def ≡ Some m.1) graph m.3;
-            };
-            count = subst (λ (x : ℕ). RoseAtMost before (costs_of (graph_at arena new) k.0) x) calls
-                (subst (λ (x : ℕ). RoseAtMost x (costs_of (graph_at arena new) k.0) u.calls) b.calls
-                (subst (λ (G : Graph). RoseAtMost b.start.calls (costs_of G k.0) u.calls) graph k.2));
-          };
-          met = λ n a. is_met (main n) (back (main n) (k.3 n a).4);
-        }
-
 -- what keeps roots adds none
-only_still : (old mid new : Roots) (ps : List Point) → OnlyRoots old mid ps → KeepsRoots mid new → OnlyRoots old new ps
+pub only_still : (old mid new : Roots) (ps : List Point) → OnlyRoots old mid ps → KeepsRoots mid new → OnlyRoots old new ps
 only_still old mid new ps only same p h = only p (subst (λ (n : ℕ). 0 < n) (same p) h)
 
--- a root or its links were refused
-pub roots_cutoffs : (M : Meaning) (arena : Arena) (old new : Work) (before : ℕ) → IsReady M arena old → IsKept arena new → (e : Refused)
-    → RootRefused arena old new e → (n : NodeId) → cutoff_at new n ≡ cutoff_at old n
-roots_cutoffs M arena old new before ready kept e refused =
-    let F = M.functions in
-    let b = (begun_of M arena old ready before).begun in
-    let k = refused F b.start b.state before (entry_holds F b.start b.state b.entry) b.stands in
-    cutoffs_still F arena old new before before b k.1 k.0 k.2 k.3 ready.kept kept
+-- what is seen of a node is what is shown of it
+sees_shown : (arena : Arena) (work : Work) (counts : Counts) (left : Option Hand) (s : State) → IsKept arena work → Stands arena work counts left s
+    → (n : NodeId) → seen work.rows (main n) ≡ shown_of (row_at arena n) (s.out (main n))
+sees_shown arena work counts left s kept stands n =
+    seen_case (at work.rows (main n)) (row_at arena n) (s.out (main n)) (main_there arena work kept n) (λ x e. stands.out (main n) x e)
 
-pub roots_show : (M : Meaning) (arena : Arena) (old new : Work) (before : ℕ) → IsReady M arena old → IsKept arena new → (e : Refused)
-    → RootRefused arena old new e → (n : NodeId) → ShowsStill M.functions (graph_at arena new) old new n
-roots_show M arena old new before ready kept e refused =
-    let F = M.functions in
-    let b = (begun_of M arena old ready before).begun in
-    let k = refused F b.start b.state before (entry_holds F b.start b.state b.entry) b.stands in
-    shows_still F arena old new before before b k.1 k.0 k.2 k.3 ready.kept kept
-
-module _ (M : Meaning) (arena : Arena) (old mid new : Work) (before after : ℕ) (ready : IsReady M arena old) (put : PutsRoots arena old mid) (e : Refused)
-    (refused : SettleRefused M arena mid new before after e) where
+module _ (M : Meaning) (old new : Parts) (before after : Counts) (e : Refused) (p : IsPaused M old new before after e) where
   abbrev F : Functions
   F = M.functions
 
-  begins : BegunOf M arena old before
-  begins = begun_of M arena old ready before
+  abbrev b : Begun M.functions old before
+  b = p.begins.begun
 
-  abbrev b : Begun F arena old before
-  b = begins.begun
+  abbrev k : Pauses M.functions p.begins.begun.start p.begins.begun.state new after e
+  k = p.pauses
 
-  inv : Invariant F b.start b.state
-  inv = begins.round.holds
+  abbrev u : State
+  u = p.pauses.state
 
-  -- a step was refused
-  pub steps_cutoffs : IsKept arena new → (n : NodeId) → cutoff_at new n ≡ cutoff_at old n
-  steps_cutoffs kept =
-      let m = put F b.start b.state before inv b.stands in
-      let k = refused b.start m.0 (round_on M b.start b.state m.0 m.1 begins.round) m.2 in
-      cutoffs_still F arena old new before k.between b k.left k.state (joined (Move F b.start) b.state m.0 k.state m.1 k.moves) k.stands ready.kept kept
+  abbrev stands : Stands new.arena new.work after p.pauses.left p.pauses.state
+  stands = p.pauses.stands
 
-  pub steps_show : IsKept arena new → (n : NodeId) → ShowsStill M.functions (graph_at arena new) old new n
-  steps_show kept =
-      let m = put F b.start b.state before inv b.stands in
-      let k = refused b.start m.0 (round_on M b.start b.state m.0 m.1 begins.round) m.2 in
-      shows_still F arena old new before k.between b k.left k.state (joined (Move F b.start) b.state m.0 k.state m.1 k.moves) k.stands ready.kept kept
+  -- the invariant holds there, the count of calls apart
+  holds : (v : State) × Invariant F b.start v × (u ≡ called_more v u.calls)
+  holds = refused_keeps F b.start b.state k.before k.state b.entry k.moves k.stops
 
-  -- and some of a least point's calls may have been made
-  pub steps_called : (nodes observed : List NodeId) → OnlyRoots old.graph.roots mid.graph.roots (map main nodes) → KeepsRoots mid.graph.roots new.graph.roots
-      → AreRooted old observed → HasCalledMet M.functions (graph_at arena new) old (nodes ++ observed) before after
-  steps_called nodes observed only same rooted =
-      let m = put F b.start b.state before inv b.stands in
-      let k = refused b.start m.0 (round_on M b.start b.state m.0 m.1 begins.round) m.2 in
-      let run = joined (Move F b.start) b.state m.0 k.state m.1 k.moves in
-      let graph = k.stands.graph in
-      let stays = only_still old.graph.roots mid.graph.roots new.graph.roots (map main nodes) only same in
-      elim k.calls [
-        | inl e ↦ called_met F arena old new before k.between b k.left k.state run k.stands nodes observed stays rooted after k.state (as_it_is refl) graph
-            (sym e) (λ p met. met)
-        | inr c ↦ called_met F arena old new before k.between b k.left k.state run k.stands nodes observed stays rooted after (called_more k.state after)
-            (unkept c.0 c.2 (subst (λ (G : Graph). G.row c.1 ≡ Some c.3.caller.row) (sym graph) c.3.caller.is_row)
-            (subst (λ (G : Graph). taken_by G c.1 c.3.caller.row.def ≡ Some c.3.caller.nodes) (sym graph) c.3.caller.takes)
-            (subst (λ (G : Graph). RoseAtMost k.state.calls (cost_at G c.1) after) (sym graph) c.3.count) refl) graph refl (λ p met. met)
+  left_there : IsLeftOver F b.state u
+  left_there = stops_leave_over F b.start b.state k.before k.state b.entry p.begins.round.given k.moves k.stops
+
+  row_was : (n : NodeId) → b.state.graph.row n ≡ row_at old.arena n
+  row_was n = ap (λ (G : Graph). G.row n) b.stands.graph
+
+  row_now : (n : NodeId) → u.graph.row n ≡ row_at new.arena n
+  row_now n = ap (λ (G : Graph). G.row n) stands.graph
+
+  given_then : (n : NodeId) → Given old.arena.given n → Given b.state.given n
+  given_then n g = omega (arith, b.stands.given, g)
+
+  -- cutoffs stay
+  pub paused_cutoffs : (n : NodeId) (r : Row) → row_at new.arena n ≡ Some r → cutoff_at new.work n ≡ cutoff_at old.work n
+  paused_cutoffs n r row = cutoff_live (at new.work.rows (main n)) (cutoff_at old.work n) (main_there new.arena new.work p.kept.work n
+      ∙ ap is_some row)
+      (λ x is. sym (stands.never n x is) ∙ (ap (λ (s : State). s.never n) holds.2 ∙ (holds.1.accounts.cutoffs n ∙ b.never n)))
+
+  -- ---- what is shown
+
+  abbrev Shows : NodeId → Type 0
+  Shows n = (o : Outcome) × (seen new.work.rows (main n) ≡ Some o) × NodeGives F (graph_in new) n o
+
+  -- what is seen of the node in the state is seen in the parts
+  shows_now : (n : NodeId) → Sees F u.graph u.out n → Shows n
+  shows_now n s = (
+    s.0,
+    sees_shown new.arena new.work after k.left u p.kept.work stands n ∙ (ap (λ (x : Option Row). shown_of x (u.out (main n))) (sym (row_now n))
+        ∙ s.1),
+    subst (λ (G : Graph). NodeGives F G n s.0) stands.graph s.2,
+  )
+
+  settled_sees : (n : NodeId) → u.settled (main n) ≡ true → Sees F u.graph u.out n
+  settled_sees n settled =
+      let v = holds.0 in
+      let there : v.settled (main n) ≡ true = ap (λ (s : State). s.settled (main n)) (sym holds.2) ∙ settled in
+      subst (λ (s : State). Sees F s.graph s.out n) (sym holds.2) (main_sees F v.graph v.out n (holds.1.settled.done (main n) there).exact)
+
+  -- what is shown of a node stays, or is what it gives
+  pub paused_shows : (n : NodeId) → Given old.arena.given n → ShowsStill M.functions old new n
+  paused_shows n given = by_row (row_at new.arena n) refl
+    where
+      by_row : (x : Option Row) → row_at new.arena n ≡ x → ShowsStill M.functions old new n
+      by_row None dead = inr (shows_now n (main_sees F u.graph u.out n (λ r is. absurd (let x = row_now n ∙ dead in cc))))
+      by_row (Some r) live = elim (stopped_out F b.start b.state k.before u n r k.moves k.stops (row_now n ∙ live) (given_then n given)) [
+        | inl settled ↦ inr (shows_now n (settled_sees n settled))
+        | inr stays ↦ elim (left_there.left.rest.rows n (given_then n given)) [
+          | inr gone ↦ absurd (let x = sym gone ∙ (row_now n ∙ live) in cc)
+          | inl same ↦
+              let rows : row_at new.arena n ≡ row_at old.arena n = sym (row_now n) ∙ (same ∙ row_was n) in
+              inl (sees_shown new.arena new.work after k.left u p.kept.work stands n
+              ∙ (ap (λ (x : Option Row). shown_of x (u.out (main n))) rows
+              ∙ (ap (λ (o : Option Outcome). shown_of (row_at old.arena n) o) stays
+              ∙ sym (sees_shown old.arena old.work before None b.state p.first.work b.stands n))))
+        ]
       ]
+
+  -- ---- what was called
+
+  pub paused_called : (nodes observed : List NodeId) → OnlyRoots old.work.graph.roots new.work.graph.roots (map main nodes)
+      → AreRooted old.work observed
+      → HasCalledMet M.functions old new (nodes ++ observed) before.calls after.calls
+  paused_called nodes observed only rooted =
+      let c = refused_calls F b.start b.state k.before u b.entry k.moves k.stops in
+      record {
+        few = record {
+          nodes = c.0;
+          once = c.1;
+          callers = λ n a. let m = c.3 n a in record {
+            row = m.0;
+            nodes = m.1;
+            is_row = ap (λ (G : Graph). G.row n) (sym stands.graph) ∙ m.2;
+            takes = ap (λ (G : Graph). taken_by G n m.0.def) (sym stands.graph) ∙ m.3;
+          };
+          count = subst (λ (x : ℕ). RoseAtMost before.calls (costs_of (graph_in new) c.0) x) (ap (λ (x : Counts). x.calls) stands.counts)
+              (subst (λ (x : ℕ). RoseAtMost x (costs_of (graph_in new) c.0) u.calls) b.calls
+              (subst (λ (G : Graph). RoseAtMost b.start.calls (costs_of G c.0) u.calls) stands.graph c.2));
+        };
+        met = λ n a. met_as F old new before after b k.left u stands nodes observed only rooted (main n)
+            (subst (λ (D : NodeId → Option NodeId). MetNow F b.start (graph_in new) D u.root (main n)) (paused_died M old new before after e p)
+            (subst (λ (G : Graph). MetNow F b.start G u.died u.root (main n)) stands.graph (c.3 n a).4));
+      }
+
+  -- ---- what is left of the nodes
+
+  pub paused_left : IsLeftBy M.functions old new before after
+  paused_left = left_by_parts F old new before after b.state u b.stands.graph b.stands.given b.stands.counts stands.graph stands.given stands.counts
+      (λ n r row. p.first.work.sound.given n (ap is_some row)) left_there

@@ -11,10 +11,11 @@ use Rattle.inc_terms.specs.Graph.{Row}
 use Rattle.inc_terms.specs.Term.{Functions}
 use Rattle.inc_terms.specs.Within.{Given}
 use Rattle.stabilize_round.specs.Machine.{Move, step_main, step_change, link, link_new, root, root_new, raise, finish, schedule, cut, rebuild, level}
-use Rattle.stabilize_round.specs.Machine.{turn_strict, Moves}
+use Rattle.stabilize_round.specs.Machine.{turn_strict, Moves, Stops, as_it_is, unbuilt, unkept}
 use Rattle.stabilize_round.specs.State.{State, Start, at_point}
 use Rattle.stabilize_round.proofs.Machine.{moves_settled}
 use Rattle.stabilize_round.proofs.Points.{same_or_other, at_same, at_other}
+use Rattle.stabilize_round.proofs.Runs.{lived, run_grows}
 use Rattle.stabilize_round.proofs.Staying.{move_given, moves_rest}
 
 -- a live main of before has its outcome, or is settled
@@ -66,3 +67,19 @@ module _ (F : Functions) (z : Start) where
           ]
         ]
       ]
+
+  -- so it is where moves stop
+  pub stopped_out : (s t u : State) (n : NodeId) (r : Row) → Moves F z s t → Stops F z t u → u.graph.row n ≡ Some r → Given s.given n
+      → (u.settled (main n) ≡ true) ⊎ (u.out (main n) ≡ s.out (main n))
+  stopped_out s t u n r run (as_it_is e) row given = subst (λ (x : State). (x.settled (main n) ≡ true) ⊎ (x.out (main n) ≡ s.out (main n))) (sym e)
+      (moves_out s t n r run (ap (λ (x : State). x.graph.row n) (sym e) ∙ row) given)
+  stopped_out s t u n r run (unkept quiet taken at takes count e) row given =
+      subst (λ (x : State). (x.settled (main n) ≡ true) ⊎ (x.out (main n) ≡ s.out (main n))) (sym e)
+      (moves_out s t n r run (ap (λ (x : State). x.graph.row n) (sym e) ∙ row) given)
+  stopped_out s t u n r run (unbuilt {b} {now} {m} move none count e) row given =
+      let there : Given t.given n = omega (arith, run_grows F z s t run, given) in
+      let row' : m.graph.row n ≡ Some r = ap (λ (x : State). x.graph.row n) (sym e) ∙ row in
+      let was = (lived F z t b now m move n r there row').1 in
+      let out = move.beside.out (main n) r row' there (other_part b n) in
+      subst (λ (x : State). (x.settled (main n) ≡ true) ⊎ (x.out (main n) ≡ s.out (main n))) (sym e)
+      (elim (moves_out s t n r run was given) [ inl settled ↦ inl settled | inr stays ↦ inr (out ∙ stays) ])

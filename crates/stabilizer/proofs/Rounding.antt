@@ -1,49 +1,53 @@
 -- Roots are put on one by one, and steps are made one by one.
-use Rattle.std.proofs.Common.{◌≡◌, ◌≢◌, ◌⊎◌, inl, inr, ℕ, ◌<◌, ◌+◌, ◌++◌, zero, suc, Bool, true, false, List, [], ◌∷◌, length, map, take, drop, get_or, Option, None, Some, refl, sym, ap, subst, ◌∙◌, arith}
-use Rattle.std.specs.Prelude.{Result, Ok, Err, OnErr, IfErr, is_some}
+use Rattle.std.proofs.Common.{◌≡◌, ◌≢◌, ◌⊎◌, inl, inr, ℕ, ◌<◌, ◌+◌, ◌++◌, zero, suc, List, [], ◌∷◌, length, map, take, drop, get_or, None, refl, sym, ap, subst, ◌∙◌, arith}
+use Rattle.std.specs.Prelude.{Result, Ok, Err, OnErr, IfErr}
 use Rattle.std.specs.Result.{IsErrAnd}
 use Rattle.std.proofs.lemmas.List.{take_more, map-append, take-append-drop}
 use Rattle.inc_value.specs.declared.node.NodeId.{NodeId}
 use Rattle.inc_value.specs.declared.node.Point.{Point}
 use Rattle.inc_value.specs.Choice.{Among, here}
 use Rattle.inc_terms.specs.Depend.{main}
+use Rattle.inc_terms.specs.Graph.{Graph}
+use Rattle.inc_terms.specs.Work.{taken_by}
 use Rattle.inc_terms.specs.Term.{Functions}
 use Rattle.inc_terms.proofs.Plan.{among_left, among_map}
-use Rattle.point_map.specs.Rows.{Place, row_in, same_point, at, Holds}
-use Rattle.point_map.proofs.Places.{same_point_eq}
-use Rattle.recompute_heap.specs.Agree.{IsEmpty}
 use Rattle.necessity.specs.Need.{Roots, root_times, KeepsRoots, OneRootMore}
 use Rattle.node_arena.specs.Arena.{Arena}
-use Rattle.stabilize_round.specs.Calling.{costs_of}
-use Rattle.stabilize_round.specs.Counts.{RoseBy}
 use Rattle.node_outcomes.specs.Computing.{HasCalledSome}
-use Rattle.stabilize_round.specs.Invariant.{Invariant}
-use Rattle.stabilize_round.specs.Machine.{Move, Moves}
-use Rattle.stabilize_round.specs.Moves.{Quiet}
+use Rattle.node_outcomes.specs.Meaning.{Meaning}
+use Rattle.stabilize_round.specs.Calling.{cost_at}
+use Rattle.stabilize_round.specs.Counts.{RoseAtMost}
+use Rattle.stabilize_round.specs.Machine.{Move, Moves, as_it_is, unkept, called_more}
+use Rattle.stabilize_round.specs.Moves.{Quiet, IsLeast}
 use Rattle.stabilize_round.specs.State.{State, count}
 use Rattle.stabilize_round.proofs.Machine.{moves_keep}
+use Rattle.stabilize_round.proofs.Parts.{bool_cases}
 use Rattle.stabilize_round.proofs.Points.{same_or_other, one_same, one_other, count_append, count_among}
+use Rattle.stabilize_round.proofs.Runs.{run_grows}
 use Rattle.stabilize_round.proofs.Steps.{joined, step_moves}
-use Rattle.stabilizer.specs.Kept.{IsKept}
-use Rattle.node_outcomes.specs.Meaning.{Meaning}
-use Rattle.stabilizer.specs.Round.{IsReady, AreRooted, IsInRound, RootsMore, OnlyRoots, Settles, Pauses, SettleRefused}
-use Rattle.stabilizer.proofs.Still.{IsUpToDate}
-use Rattle.stabilizer.specs.Stands.{Stands}
-use Rattle.stabilizer.specs.Stepping.{Steps, StepRefused, StepStops, as_it_was, wiring, StepFalls, CoversAll, left_to_settle}
-use Rattle.stabilizer.specs.Wiring.{PutsRoots, RootRefused, KeepsPlaces}
-use Rattle.stabilizer.specs.Refusing.{TellsWhy, no_memory}
-use Rattle.node_outcomes.specs.declared.row.Progress.{Progress}
-use Rattle.stabilizer.specs.declared.refused.Refused.{Refused}
-use Rattle.stabilizer.specs.declared.work.Work.{Work}
+use Rattle.wiring.specs.Kept.{IsKept}
+use Rattle.wiring.specs.Refusing.{TellsWhy, no_memory}
+use Rattle.wiring.specs.Stands.{Stands, Counts, counts_of}
+use Rattle.wiring.specs.Wiring.{PutsRoots, RootRefused}
+use Rattle.wiring.specs.declared.refused.Refused.{Refused}
+use Rattle.wiring.specs.declared.refused.Refused.TheVariants.{Memory}
+use Rattle.wiring.specs.declared.work.Work.{Work}
+use Rattle.stabilizer.specs.Kept.{PartsKept, graph_in}
+use Rattle.stabilizer.specs.Round.{IsInRound, RootsMore, OnlyRoots, Settles, Pauses, SettleRefused}
+use Rattle.stabilizer.specs.Stepping.{Steps, StepRefused, StepStops, as_it_was, unbuilt, wiring, StepFalls, left_to_settle, IsOfBuilds}
+use Rattle.stabilizer.specs.declared.parts.Parts.{Parts}
 use Rattle.stabilizer.proofs.Began.{round_on}
-use Rattle.stabilizer.proofs.Beginning.{Begun, BegunOf, begun_of}
-use Rattle.stabilizer.proofs.Ending.{quiet_of, counted, ready_again, right_again}
-use Rattle.stabilizer.specs.Graph.{graph_at}
+use Rattle.stabilizer.proofs.EveryPoint.{every_point, every_node, covers}
 
 -- what holds anyhow holds on an error
 pub on_err : {A E P : Type 0} (r : Result A E) → P → OnErr r P
 on_err (Ok x) h = tt
 on_err (Err e) h = h
+
+-- what holds of any error holds of this one
+pub exit_is : {A E : Type 0} (r : Result A E) (e : E) (P : E → Type 0) → IsErrAnd r (λ x. x ≡ e) → P e → IfErr r P
+exit_is (Ok x) e P is h = absurd is
+exit_is (Err x) e P is h = rw is h
 
 -- ---- roots
 
@@ -83,18 +87,19 @@ none_put arena old kept quiet = record {
   kept = kept;
   quiet = quiet;
   more = λ p. omega arith;
-  wired = λ F z s calls inv st. (s, here, st);
+  wired = λ F z s counts inv st. (s, here, st);
   round = refl;
 }
 
 puts_join : (arena : Arena) (old mid new : Work) → PutsRoots arena old mid → PutsRoots arena mid new → PutsRoots arena old new
-puts_join arena old mid new first next F z s calls inv st =
-    let m = first F z s calls inv st in
-    let k = next F z m.0 calls (moves_keep F z s m.0 m.1 inv) m.2 in
+puts_join arena old mid new first next F z s counts inv st =
+    let m = first F z s counts inv st in
+    let k = next F z m.0 counts (moves_keep F z s m.0 m.1 inv) m.2 in
     (k.0, joined (Move F z) s m.0 k.0 m.1 k.1, k.2)
 
 -- one more of them
-pub one_put : (arena : Arena) (old mid new : Work) (nodes : List NodeId) (i : ℕ) (d : NodeId) → i < length nodes → ArePut arena old mid (take i nodes)
+pub one_put : (arena : Arena) (old mid new : Work) (nodes : List NodeId) (i : ℕ) (d : NodeId) → i < length nodes
+    → ArePut arena old mid (take i nodes)
     → OneRootMore mid.graph.roots new.graph.roots (main (get_or nodes i d)) → PutsRoots arena mid new → new.todo.items ≡ [] → new.round ≡ mid.round
     → IsKept arena new → ArePut arena old new (take (i + 1) nodes)
 one_put arena old mid new nodes i d within put more wired quiet round kept = record {
@@ -132,209 +137,171 @@ roots_tried old mid new nodes i d within more others p is = elim (same_or_other 
 ]
 
 -- where one was refused
-pub put_refused : (arena : Arena) (old mid new : Work) (e : Refused) → PutsRoots arena old mid → RootRefused arena mid new e → RootRefused arena old new e
-put_refused arena old mid new e first next F z s calls inv st =
-    let m = first F z s calls inv st in
-    let k = next F z m.0 calls (moves_keep F z s m.0 m.1 inv) m.2 in
+pub put_refused : (arena : Arena) (old mid new : Work) (e : Refused) → PutsRoots arena old mid → RootRefused arena mid new e
+    → RootRefused arena old new e
+put_refused arena old mid new e first next F z s counts inv st =
+    let m = first F z s counts inv st in
+    let k = next F z m.0 counts (moves_keep F z s m.0 m.1 inv) m.2 in
     (k.0, k.1, joined (Move F z) s m.0 k.0 m.1 k.2, k.3, k.4)
 
 -- ---- steps
 
-pub none_settled : (M : Meaning) (arena : Arena) (work : Work) (calls : ℕ) → Settles M arena work work calls calls
-none_settled M arena work calls z s begun st = (s, here, st)
+-- with an empty worklist the state is quiet
+pub quiet_of : (arena : Arena) (work : Work) (counts : Counts) (t : State) → Stands arena work counts None t → work.todo.items ≡ [] → Quiet t
+quiet_of arena work counts t st idle p = elim (bool_cases (t.todo p)) [
+  | inr e ↦ e
+  | inl e ↦ absurd (elim (st.todo p e) [
+    | inl a ↦ subst (λ (xs : List Point). Among p xs) idle a
+    | inr h ↦ h
+  ])
+]
 
-pub settles_more : (M : Meaning) (arena : Arena) (old mid new : Work) (before between after : ℕ) → Settles M arena old mid before between
-    → mid.todo.items ≡ [] → Steps M arena mid new between after → Settles M arena old new before after
-settles_more M arena old mid new before between after first idle next z s begun st =
+pub none_settled : (M : Meaning) (parts : Parts) (counts : Counts) → Settles M parts parts counts counts
+none_settled M parts counts z s begun st = (s, here, st)
+
+pub settles_more : (M : Meaning) (old mid new : Parts) (before between after : Counts) → Settles M old mid before between
+    → mid.work.todo.items ≡ [] → Steps M mid new between after → Settles M old new before after
+settles_more M old mid new before between after first idle next z s begun st =
     let F = M.functions in
     let m = first z s begun st in
-    let k = next z m.0 (round_on M z s m.0 m.1 begun) (quiet_of arena mid between m.0 m.2 idle) m.2 in
+    let k = next z m.0 (round_on M z s m.0 m.1 begun) (quiet_of mid.arena mid.work between m.0 m.2 idle) m.2 in
     (k.0, joined (Move F z) s m.0 k.0 m.1 (step_moves F z m.0 k.0 k.1), k.2)
 
-pub settle_stops : (M : Meaning) (arena : Arena) (old mid new : Work) (before between after : ℕ) (e : Refused) → Settles M arena old mid before between
-    → mid.todo.items ≡ [] → StepRefused M arena mid new between after e → SettleRefused M arena old new before after e
-settle_stops M arena old mid new before between after e first idle next z s begun st =
+-- some more calls were made
+more_calls : (parts : Parts) (counts : Counts) {between : Counts} (u : State) → Stands parts.arena parts.work between None u
+    → u.builds ≡ counts.builds
+    → u.adds ≡ counts.adds → Stands parts.arena parts.work counts None (called_more u counts.calls)
+more_calls parts counts u st builds adds = record {
+  graph = st.graph;
+  out = st.out;
+  last = st.last;
+  never = st.never;
+  stale = st.stale;
+  links = st.links;
+  root = st.root;
+  needed = st.needed;
+  height = st.height;
+  heap = st.heap;
+  settled = st.settled;
+  stage = st.stage;
+  owed = st.owed;
+  todo = st.todo;
+  strict = st.strict;
+  died = st.died;
+  ran = st.ran;
+  counts = λ i. record { calls = counts.calls; builds = builds i; adds = adds i };
+  given = st.given;
+}
+
+pub settle_stops : (M : Meaning) (old mid new : Parts) (before between after : Counts) (e : Refused) → Settles M old mid before between
+    → mid.work.todo.items ≡ [] → StepRefused M mid new between after e → SettleRefused M old new before after e
+settle_stops M old mid new before between after e first idle next z s begun st =
     let m = first z s begun st in
-    let quiet = quiet_of arena mid between m.0 m.2 idle in
-    by m.0 m.1 m.2.calls quiet (next z m.0 (round_on M z s m.0 m.1 begun) quiet m.2)
+    let quiet = quiet_of mid.arena mid.work between m.0 m.2 idle in
+    by m.0 m.1 m.2.counts quiet (next z m.0 (round_on M z s m.0 m.1 begun) quiet m.2)
   where
     F : Functions
     F = M.functions
 
-    by : (u : State) → Moves F z s u → u.calls ≡ between → Quiet u → StepStops F z u arena new between after e → Pauses F z s arena new after e
-    by u run calls quiet (as_it_was stands count is) = record {
+    stops_there : (u : State) → Moves F z s u → counts_of u ≡ between → Stands new.arena new.work between None u → Quiet u
+        → (after ≡ between) ⊎ ((n : NodeId) × IsLeast u (main n) × HasCalledSome (graph_in new) n between.calls after.calls
+        × IsOfBuilds between after)
+        → e ≡ Memory → Pauses F z s new after e
+    stops_there u run counts stands quiet (inl same) is = record {
+      before = u;
       state = u;
       left = None;
-      between = between;
       moves = run;
-      stands = stands;
-      calls = elim count [
-        | inl same ↦ inl (same ∙ sym calls)
-        | inr c ↦ inr (quiet, c.0, c.1, subst (λ (x : ℕ). HasCalledSome (graph_at arena new) c.0 x after) (sym calls) c.2)
-      ];
-      told = subst (λ (x : Refused). TellsWhy F u new None x) (sym is) no_memory;
+      stops = as_it_is refl;
+      stands = subst (λ (c : Counts). Stands new.arena new.work c None u) (sym same) stands;
+      told = inl (
+        ap (λ (k : ℕ). called_more u k) (ap (λ (c : Counts). c.calls) (counts ∙ sym same)),
+        subst (λ (x : Refused). TellsWhy F u new.work None x) (sym is) no_memory,
+      );
     }
-    by u run calls quiet (wiring {t} {left} moves stands same told) = record {
+    stops_there u run counts stands quiet (inr c) is =
+        let caller = c.2.caller in
+        record {
+          before = u;
+          state = called_more u after.calls;
+          left = None;
+          moves = run;
+          stops = unkept quiet c.1 (ap (λ (G : Graph). G.row c.0) stands.graph ∙ caller.is_row)
+              (ap (λ (G : Graph). taken_by G c.0 caller.row.def) stands.graph ∙ caller.takes)
+              (subst (λ (G : Graph). RoseAtMost u.calls (cost_at G c.0) after.calls) (sym stands.graph)
+              (subst (λ (k : ℕ). RoseAtMost k (cost_at (graph_in new) c.0) after.calls) (sym (ap (λ (x : Counts). x.calls) counts)) c.2.count)) refl;
+          stands = more_calls new after u stands (ap (λ (x : Counts). x.builds) counts ∙ sym c.3.builds) (ap (λ (x : Counts). x.adds) counts
+              ∙ sym c.3.adds);
+          told = inl (refl, subst (λ (x : Refused). TellsWhy F (called_more u after.calls) new.work None x) (sym is) no_memory);
+        }
+
+    by : (u : State) → Moves F z s u → counts_of u ≡ between → Quiet u → StepStops F z u new between after e → Pauses F z s new after e
+    by u run counts quiet (as_it_was stands count is) = stops_there u run counts stands quiet count is
+    by u run counts quiet (unbuilt {r} {t} {count} moves stops stands same later stopped) = record {
+      before = r;
+      state = t;
+      left = None;
+      moves = joined (Move F z) s u r run moves;
+      stops = stops;
+      stands = stands;
+      told = inr (count, omega (arith, run_grows F z s u run, later), stopped);
+    }
+    by u run counts quiet (wiring {t} {left} moves stands same told) = record {
+      before = t;
       state = t;
       left = left;
-      between = between;
       moves = joined (Move F z) s u t run moves;
+      stops = as_it_is refl;
       stands = stands;
-      calls = inl (same ∙ sym stands.calls);
-      told = told;
+      told = inl (ap (λ (k : ℕ). called_more t k) (ap (λ (c : Counts). c.calls) stands.counts), told);
     }
 
--- ---- how much is left to settle
-
--- the points that stand at some places
-abbrev pub points_at : List (Place Progress) → List Point
-points_at [] = []
-points_at (None ∷ rest) = points_at rest
-points_at (Some e ∷ rest) = e.0 ∷ points_at rest
-
--- their nodes
-abbrev pub nodes_at : List (Place Progress) → List NodeId
-nodes_at places = map (λ (p : Point). p.node) (points_at places)
-
--- a point that has a row stands there
-row_listed : (places : List (Place Progress)) (p : Point) (k : Progress) → row_in places p ≡ Some k → Among p (points_at places)
-row_listed [] p k e = absurd (cc)
-row_listed (None ∷ rest) p k e = row_listed rest p k e
-row_listed (Some x ∷ rest) p k e = by_test (same_point x.0 p) refl (row_listed rest p k)
-  where
-    by_test : (b : Bool) → same_point x.0 p ≡ b → (row_in rest p ≡ Some k → Among p (points_at rest)) → Among p (points_at (Some x ∷ rest))
-    by_test true t later = inl (sym (same_point_eq x.0 p t))
-    by_test false t later = inr (later (rw t at e))
-
-node_listed : (p : Point) (ps : List Point) → Among p ps → Among p.node (map (λ (q : Point). q.node) ps)
-node_listed p [] a = absurd a
-node_listed p (q ∷ qs) (inl e) = inl (ap (λ (x : Point). x.node) e)
-node_listed p (q ∷ qs) (inr a) = inr (node_listed p qs a)
-
--- rows are where they were at first, so the points and nodes of then are all
-covers : (first now : Work) → ((p : Point) → is_some (at now.rows p) ≡ is_some (at first.rows p))
-    → CoversAll now (points_at first.rows.places) (nodes_at first.rows.places)
-covers first now there = record { points_of = points_of; nodes_of = λ p h. node_listed p (points_at first.rows.places) (points_of p h) }
-  where
-    points_of : (p : Point) → Holds now.rows p → Among p (points_at first.rows.places)
-    points_of p h =
-        let k = there_now (at first.rows p) (sym (there p) ∙ h) in
-        row_listed first.rows.places p k.0 k.1
-      where
-        there_now : (x : Option Progress) → is_some x ≡ true → (k : Progress) × (x ≡ Some k)
-        there_now None e = absurd (cc)
-        there_now (Some k) e = (k, refl)
-
 -- the steps so far settled points
-pub record AreSettled (M : Meaning) (arena : Arena) (old now : Work) (before between : ℕ) : Type 0 where
-  pub kept : IsKept arena now
-  pub quiet : now.todo.items ≡ []
-  pub settled : Settles M arena old now before between
-  pub roots : KeepsRoots old.graph.roots now.graph.roots
-  pub round : now.round ≡ old.round
-  pub there : (p : Point) → is_some (at now.rows p) ≡ is_some (at old.rows p)
+pub record AreSettled (M : Meaning) (old now : Parts) (before between : Counts) : Type 0 where
+  pub kept : PartsKept now
+  pub quiet : now.work.todo.items ≡ []
+  pub settled : Settles M old now before between
+  pub roots : KeepsRoots old.work.graph.roots now.work.graph.roots
+  pub round : now.work.round ≡ old.work.round
+  pub ran : now.ran ≡ old.ran
 
-pub no_step : (M : Meaning) (arena : Arena) (old : Work) (before : ℕ) → IsKept arena old → old.todo.items ≡ [] → AreSettled M arena old old before before
-no_step M arena old before kept quiet = record {
+pub no_step : (M : Meaning) (old : Parts) (before : Counts) → PartsKept old → old.work.todo.items ≡ [] → AreSettled M old old before before
+no_step M old before kept quiet = record {
   kept = kept;
   quiet = quiet;
-  settled = none_settled M arena old before;
+  settled = none_settled M old before;
   roots = λ p. refl;
   round = refl;
-  there = λ p. refl;
+  ran = refl;
 }
 
--- a step of functions that mean the same, over the same arena
-module _ (M N : Meaning) (same : N ≡ M) (arena a : Arena) (is : a ≡ arena) where
-  as_meant : (P : Meaning → Arena → Type 0) → P N a → P M arena
-  as_meant P h =
-      subst (λ (x : Arena). P M x) is (subst (λ (L : Meaning). P L a) same h)
+-- a step of functions that mean the same
+module _ (M N : Meaning) (same : N ≡ M) (old mid new : Parts) (before between after : Counts) (so : AreSettled M old mid before between) where
+  as_meant : (P : Meaning → Type 0) → P N → P M
+  as_meant P h = subst P same h
 
   -- one step more
-  pub next_step : (b : Arena) (old mid new : Work) (before between after : ℕ) → AreSettled M arena old mid before between → b ≡ a
-      → IsKept b new → new.todo.items ≡ [] → Steps N a mid new between after → KeepsPlaces mid new
-      → AreSettled M arena old new before after
-  next_step b old mid new before between after so e kept quiet steps places = record {
-    kept = subst (λ (x : Arena). IsKept x new) (e ∙ is) kept;
+  pub next_step : PartsKept new → new.work.todo.items ≡ [] → Steps N mid new between after → KeepsRoots mid.work.graph.roots new.work.graph.roots
+      → new.work.round ≡ mid.work.round → new.ran ≡ mid.ran → AreSettled M old new before after
+  next_step kept quiet steps roots round ran = record {
+    kept = kept;
     quiet = quiet;
-    settled = settles_more M arena old mid new before between after so.settled so.quiet
-        (as_meant (λ L x. Steps L x mid new between after) steps);
-    roots = λ p. places.roots p ∙ so.roots p;
-    round = places.round ∙ so.round;
-    there = λ p. places.rows p ∙ so.there p;
+    settled = settles_more M old mid new before between after so.settled so.quiet (as_meant (λ (L : Meaning). Steps L mid new between after) steps);
+    roots = λ p. roots p ∙ so.roots p;
+    round = round ∙ so.round;
+    ran = ran ∙ so.ran;
   }
 
   -- it leaves less
-  pub less_left : (old mid new : Work) (before between : ℕ) → IsInRound M arena old before
-      → AreSettled M arena old mid before between → StepFalls N a mid new between
-      → left_to_settle new (points_at old.rows.places) (nodes_at old.rows.places) < left_to_settle mid (points_at old.rows.places) (nodes_at old.rows.places)
-  less_left old mid new before between begins so falls =
+  pub less_left : IsInRound M old before → StepFalls N mid new between
+      → left_to_settle new.work every_point every_node < left_to_settle mid.work every_point every_node
+  less_left begins falls =
       let m = so.settled begins.start begins.state begins.round begins.stands in
-      as_meant (λ L x. StepFalls L x mid new between) falls begins.start m.0
-      (round_on M begins.start begins.state m.0 m.1 begins.round) (quiet_of arena mid between m.0 m.2 so.quiet) m.2
-      (points_at old.rows.places) (nodes_at old.rows.places) (covers old mid so.there)
+      as_meant (λ (L : Meaning). StepFalls L mid new between) falls begins.start m.0
+      (round_on M begins.start begins.state m.0 m.1 begins.round) (quiet_of mid.arena mid.work between m.0 m.2 so.quiet) m.2
+      every_point every_node (covers mid.arena mid.work so.kept.work)
 
   -- one is refused
-  pub step_stops : (old mid new : Work) (before between after : ℕ) (e : Refused) → AreSettled M arena old mid before between
-      → StepRefused N a mid new between after e → SettleRefused M arena old new before after e
-  step_stops old mid new before between after e so refused =
-      settle_stops M arena old mid new before between after e so.settled so.quiet
-      (as_meant (λ L x. StepRefused L x mid new between after e) refused)
-
--- ---- a whole round
-
--- what holds of any error holds of this one
-pub exit_is : {A E : Type 0} (r : Result A E) (e : E) (P : E → Type 0) → IsErrAnd r (λ x. x ≡ e) → P e → IfErr r P
-exit_is (Ok x) e P is h = absurd is
-exit_is (Err x) e P is h = rw is h
-
-module _ (M : Meaning) (arena : Arena) (old rooted : Work) (before : ℕ) (ready : IsReady M arena old) (put : PutsRoots arena old rooted) where
-  abbrev F : Functions
-  F = M.functions
-
-  begins : BegunOf M arena old before
-  begins = begun_of M arena old ready before
-
-  abbrev first : Begun F arena old before
-  first = begins.begun
-
-  inv : Invariant F first.start first.state
-  inv = begins.round.holds
-
-  pub in_round : IsInRound M arena rooted before
-  in_round =
-      let w = put F first.start first.state before inv first.stands in
-      record { start = first.start; state = w.0; round = round_on M first.start first.state w.0 w.1 begins.round; stands = w.2 }
-
-  -- a round that ended
-  module _ (settled : Work) (after : ℕ) (steps : Settles M arena rooted settled before after) (kept : IsKept arena settled)
-      (idle : settled.todo.items ≡ []) (empty : IsEmpty settled.graph.heap) where
-    last : (t : State) × Moves F first.start first.state t × Stands arena settled after None t
-    last =
-        let w = put F first.start first.state before inv first.stands in
-        let k = steps first.start w.0 (round_on M first.start first.state w.0 w.1 begins.round) w.2 in
-        (k.0, joined (Move F first.start) first.state w.0 k.0 w.1 k.1, k.2)
-
-    pub round_counts : RoseBy before (costs_of (graph_at arena settled) settled.ran.items) after
-    round_counts = counted F arena old settled before after ready.kept first kept last.0 last.1 last.2 idle empty
-
-    module _ (new : Work) (graph : new.graph ≡ settled.graph) (rows : new.rows ≡ settled.rows) (roots_same : new.roots ≡ settled.roots) (pairs : new.pairs ≡ settled.pairs)
-        (todo : new.todo ≡ settled.todo) (ran : new.ran.items ≡ []) (strict : new.strict ≡ false) (round : new.round ≡ settled.round + 1) where
-      pub round_readies : IsReady M arena new
-      round_readies = ready_again F arena old settled before after ready.kept first kept last.0 last.1 last.2 idle empty new graph rows roots_same pairs todo ran
-          strict round M.known M.ids ready.laws ready.fit
-
-      module _ (same_round : settled.round ≡ old.round) (nodes observed : List NodeId) (roots : KeepsRoots rooted.graph.roots settled.graph.roots)
-          (more : RootsMore old.graph.roots rooted.graph.roots (map main nodes)) (looks : AreRooted old observed) where
-        all_rooted : AreRooted settled (nodes ++ observed)
-        all_rooted p =
-            let a = roots p in
-            let b = more p in
-            let d = looks p in
-            let e = ap (count p) (map-append main nodes observed) in
-            let f = count_append p (map main nodes) (map main observed) in
-            omega arith
-
-        pub round_rights : IsUpToDate F (graph_at arena new) old new (nodes ++ observed) settled.ran.items
-        round_rights = right_again F arena old settled before after ready.kept first kept last.0 last.1 last.2 idle empty same_round (nodes ++ observed)
-            all_rooted new graph rows roots_same pairs todo ran strict round
+  pub step_stops : (e : Refused) → StepRefused N mid new between after e → SettleRefused M old new before after e
+  step_stops e refused = settle_stops M old mid new before between after e so.settled so.quiet
+      (as_meant (λ (L : Meaning). StepRefused L mid new between after e) refused)

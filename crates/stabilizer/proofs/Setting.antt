@@ -1,7 +1,8 @@
 -- A variable is set to another value.
-use Rattle.std.proofs.Common.{◌≡◌, ◌⊎◌, inl, inr, ◌≤◌, false, Option, Some, refl, sym, ap, subst, ◌∙◌, arith, None}
+use Rattle.std.proofs.Common.{◌≡◌, ◌⊎◌, inl, inr, ◌≤◌, false, List, Option, Some, refl, sym, ap, subst, ◌∙◌, arith, None}
 use Rattle.std.specs.Prelude.{is_some, IsSome}
 use Rattle.std.proofs.lemmas.Option.{none-some}
+use Rattle.inc_value.specs.declared.function.FnRef.{FnRef}
 use Rattle.inc_value.specs.declared.node.NodeId.{NodeId}
 use Rattle.inc_value.specs.declared.node.Part.{Part}
 use Rattle.inc_value.specs.declared.node.Part.TheVariants.{Main, Change}
@@ -13,6 +14,7 @@ use Rattle.inc_terms.specs.declared.def.Def as declared
 use Rattle.inc_terms.specs.declared.def.Def.TheVariants as form
 use Rattle.inc_terms.specs.Code.{def_of}
 use Rattle.inc_terms.specs.Depend.{main, change, subject_of, right_of}
+use Rattle.inc_terms.specs.Graph as graph
 use Rattle.inc_terms.specs.Graph.{Row, Def, Var}
 use Rattle.inc_terms.specs.Within.{Given}
 use Rattle.point_map.specs.Rows.{Rows, at, Holds}
@@ -24,18 +26,25 @@ use Rattle.node_arena.specs.Sound.{IsSound}
 use Rattle.node_arena.specs.Typing.{Fits}
 use Rattle.node_outcomes.specs.Computing.{has_part, IsOfType}
 use Rattle.stabilize_round.proofs.Points.{node_or_other}
-use Rattle.stabilizer.specs.Between.{Stays}
-use Rattle.stabilizer.specs.Wiring.{IsMarked, KeepsRound}
-use Rattle.stabilizer.specs.Kept.{IsKept}
+use Rattle.stabilizer.specs.Between.{Stays, StandsAs}
+use Rattle.wiring.specs.Wiring.{IsMarked, KeepsLists, KeepsRound}
+use Rattle.wiring.specs.Kept.{IsKept, IsDead, IsBind}
 use Rattle.inc_terms.specs.Work.{taken_by}
 use Rattle.node_outcomes.specs.Row.{outcome_in}
 use Rattle.node_outcomes.specs.declared.row.Progress.{Progress}
-use Rattle.stabilizer.specs.declared.work.Work.{Work}
-use Rattle.stabilizer.proofs.Agreeing.{code_row}
-use Rattle.stabilizer.proofs.Between.{same_some, need_same, needed_row}
+use Rattle.wiring.specs.declared.work.Work.{Work}
+use Rattle.wiring.proofs.Agreeing.{code_row}
+use Rattle.stabilizer.specs.Kept.{PartsKept}
+use Rattle.stabilizer.specs.Round.{IsReady}
+use Rattle.stabilizer.specs.declared.parts.Parts.{Parts}
+use Rattle.stabilizer.proofs.Between.{same_some, needed_row, ready_stays}
+use Rattle.stabilizer.proofs.Fitting.{set_fit}
+use Rattle.stabilizer.proofs.Keeping.{parts_stay}
+use Rattle.node_outcomes.specs.Meaning.{Meaning}
+use Rattle.wiring.proofs.Deciding.{need_same}
 use Rattle.stabilizer.proofs.Typing.{KeepsTypes, typed_still, right_still}
-use Rattle.stabilizer.proofs.Holding.{built_same, right_as}
-use Rattle.stabilizer.specs.Graph.{held_at, graph_at}
+use Rattle.wiring.proofs.Holding.{built_same, right_as, died_same, links_same, root_same, pairs_same, scoped_same}
+use Rattle.wiring.specs.Graph.{held_at, graph_at}
 use Rattle.node_outcomes.specs.Choosing.{built_by}
 use Rattle.node_outcomes.proofs.Held.{built_live}
 
@@ -67,7 +76,7 @@ record Before (before : Arena) (id n : NodeId) (v : Value) (r : Row) : Type 0 wh
 module _ (before arena : Arena) (old work : Work) (id : NodeId) (v : Value) (kept : IsKept before old) (set : IsSet before arena id v)
     (not_other : (IsVariable before id → ⊥) → ⊥) (given : arena.given ≡ before.given) (rows : work.rows ≡ old.rows)
     (marked : IsMarked old.graph work.graph (main id)) (step : IsInStep work.graph) (round : KeepsRound old work)
-    (todo : work.todo.items ≡ old.todo.items) (pairs : work.pairs ≡ old.pairs) (sound : IsSound arena) where
+    (todo : work.todo.items ≡ old.todo.items) (lists : KeepsLists old work) (sound : IsSound arena) where
   row_was : (n : NodeId) (r : Row) → row_at arena n ≡ Some r → Before before id n v r
   row_was n r e = elim (node_or_other n id) [
     | inl is ↦
@@ -132,6 +141,32 @@ module _ (before arena : Arena) (old work : Work) (id : NodeId) (v : Value) (kep
     | inr h ↦ absurd (let e = sym (ap (λ (x : Row). is_some (subject_of x.def)) h.is_now) ∙ some in cc)
   ]
 
+  -- a dead node was dead
+  dead_still : (n : NodeId) → row_at before n ≡ None → row_at arena n ≡ None
+  dead_still n dead = set.changes.others n (λ is. absurd (none-some set.row (sym dead ∙ (ap (row_at before) is ∙ set.there)))) ∙ dead
+
+  still_dead : (n b : NodeId) → IsDead before n b → IsDead arena n b
+  still_dead n b d = record {
+    gone = dead_still n d.gone;
+    given = rw given d.given;
+    scope_given = rw given d.scope_given;
+    scope_two = λ r row. let w = row_was b r row in elim w.same [
+      | inl same ↦ subst (λ (x : Row). IsSome (subject_of x.def)) same (d.scope_two w.was w.is_was)
+      | inr h ↦ absurd (let e = sym (ap (λ (x : Def). is_some (subject_of x)) h.is_was) ∙ d.scope_two w.was w.is_was in cc)
+    ];
+  }
+
+  -- a bind is no variable, and keeps its row
+  bind_stays : (b l : NodeId) (f : FnRef) (caps : List NodeId) (r : Row) → row_at before b ≡ Some r → r.def ≡ graph.Bind l f caps
+      → row_at arena b ≡ Some r
+  bind_stays b l f caps r row is = elim (node_or_other b id) [
+    | inr ne ↦ set.changes.others b ne ∙ row
+    | inl same ↦ absurd (
+        let variable = is_variable before id set.row set.there not_other in
+        let one : set.row ≡ r = same_some (sym set.there ∙ (ap (row_at before) (sym same) ∙ row)) in
+        let e : graph.Var variable.0 ≡ graph.Bind l f caps = sym variable.1 ∙ (ap (λ (x : Row). x.def) one ∙ is) in cc)
+  ]
+
   same_heights : (p : Point) → at work.graph.heights p ≡ at old.graph.heights p
   same_heights p = ap (λ (m : Rows _). at m p) marked.graph.heights
 
@@ -139,22 +174,25 @@ module _ (before arena : Arena) (old work : Work) (id : NodeId) (v : Value) (kep
   set_kept = record {
     step = step;
     rows = λ p. ap is_some (same_rows p) ∙ (kept.rows p ∙ sym (parts_as p.node p.part));
-    leaves = λ p h. elim (kept.leaves p (ap is_some (sym (same_heights p)) ∙ h)) [ inl r ↦ inl (ap is_some (same_rows p) ∙ r) | inr is ↦ inr is ];
+    leaves = λ p h. elim (kept.leaves p (ap is_some (sym (same_heights p)) ∙ h)) [
+      | inl r ↦ inl (ap is_some (same_rows p) ∙ r)
+      | inr d ↦ inr (dead_still p.node d.0, need_same old.graph work.graph marked.graph.links marked.graph.roots p d.1)
+    ];
     there = λ p h. ap is_some (same_heights p) ∙ kept.there p (ap is_some (sym (same_rows p)) ∙ h);
     given = λ p h. rw given (kept.given p (ap is_some (sym (same_heights p)) ∙ h));
-    links = λ p q l. ap is_some (same_rows p) ∙ kept.links p q (subst (λ (x : Links). Reads x p q) marked.graph.links l);
+    links = λ p q l. links_same old work (λ x. ap is_some (same_rows x)) round.deaths p q
+        (kept.links p q (subst (λ (x : Links). Reads x p q) marked.graph.links l));
     heap = λ p h. ap is_some (same_rows p) ∙ elim (point_cases p (main id)) [
       | inl is ↦ rw is (kept.rows (main id) ∙ ap (λ (x : Option Row). has_part x Main) set.there)
       | inr ne ↦ kept.heap p (sym (ap is_some (marked.others p ne)) ∙ h)
     ];
     sound = sound;
-    today = record {
-      flat = λ n r e. let w = row_was n r e in sym w.scope ∙ kept.today.flat n w.was w.is_was;
-      no_binds = λ n r e l f caps is. let w = row_was n r e in elim w.same [
-        | inl same ↦ kept.today.no_binds n w.was w.is_was l f caps (ap (λ (x : Row). x.def) same ∙ is)
-        | inr h ↦ absurd (let d = sym (ap (λ (x : Row). x.def) h.is_now) ∙ is in cc)
-      ];
-    };
+    dead = λ n b d. still_dead n b (kept.dead n b (sym (died_same old work round.deaths n) ∙ d));
+    scopes = λ n r b row scope.
+        let w = row_was n r row in
+        let s = kept.scopes n w.was b w.is_was (w.scope ∙ scope) in
+        (s.0, s.1, s.2, s.3, bind_stays b s.1 s.2 s.3 s.0 s.4 s.5, s.5);
+    older = λ n b r row scope. let w = row_was n r row in kept.older n b w.was w.is_was (w.scope ∙ scope);
     outcomes = λ n r k o e is shows. let w = row_was n r e in
         subst (IsOfType arena o) w.type
         (typed_still before arena more types o w.was.ty (kept.outcomes n w.was k o w.is_was (sym (same_rows (main n)) ∙ is) shows));
@@ -162,12 +200,20 @@ module _ (before arena : Arena) (old work : Work) (id : NodeId) (v : Value) (kep
         subst (λ (t : Ty). Given arena.given m × Fits arena m t) w.type
         (right_still before arena more types m w.was.ty
         (kept.rights n m w.was k o w.is_was (sym (same_rows (change n)) ∙ is) shows (right_was n m r o w right)));
-    rootless = λ n w is. kept.rootless n w (sym (built_as n) ∙ is);
+    roots = λ n h. let v = kept.roots n (root_same old work round.roots (change n) h) in (v.0, ap outcome_in (same_rows (change n)) ∙ v.1);
+    binds = λ n r row h.
+        let w = row_was n r row in
+        let b = kept.binds n w.was w.is_was (root_same old work round.roots (change n) h) in
+        elim w.same [
+          | inl same ↦ subst (λ (x : Row). IsBind x.def) same b
+          | inr x ↦ absurd (let e = sym x.is_was ∙ b.3 in cc)
+        ];
     calls = λ n r k l e is last. let w = row_was n r e in
         subst (IsOfType arena l.result) w.type
         (typed_still before arena more types l.result w.was.ty (kept.calls n w.was k l w.is_was (sym (same_rows (main n)) ∙ is) last));
     rounds = λ p k e. rw round.round (kept.rounds p k (sym (same_rows p) ∙ e));
-    pairs = λ n r e some. let w = row_was n r e in rw pairs (kept.pairs n w.was w.is_was (subject_was n r w some));
+    pairs = λ n r e some. let w = row_was n r e in pairs_same old work lists n (kept.pairs n w.was w.is_was (subject_was n r w some));
+    scoped = λ n r e some. let w = row_was n r e in scoped_same old work lists n (kept.scoped n w.was w.is_was (ap is_some w.scope ∙ some));
   }
 
   need_before : (p : Point) → Needed work.graph p → Needed old.graph p
@@ -189,6 +235,19 @@ module _ (before arena : Arena) (old work : Work) (id : NodeId) (v : Value) (kep
           let none : has_part (row_at before p.node) p.part ≡ false =
           ap (has_part (row_at before p.node)) is ∙ (ap (λ (x : Option Row). has_part x Change) there ∙ ap (λ (d : Def). is_some (subject_of d)) h.is_was) in
           absurd (let has = sym (kept.rows p) ∙ ap is_some k.1 in cc)
+
+  stands_still : (n b : NodeId) (r : Row) → row_at before n ≡ Some r → r.scope ≡ Some b → StandsAs arena n b r
+  stands_still n b r row scope = elim (node_or_other n id) [
+    | inr ne ↦ record { row = r; is_row = set.changes.others n ne ∙ row; scope = scope; same = inl refl }
+    | inl is ↦
+        let one : set.row ≡ r = same_some (sym set.there ∙ (ap (row_at before) (sym is) ∙ row)) in
+        let variable = is_variable before id set.row set.there not_other in record {
+          row = with_value set.row v;
+          is_row = ap (row_at arena) is ∙ set.changes.changed;
+          scope = ap (λ (x : Row). x.scope) one ∙ scope;
+          same = inr (variable.0, ap (λ (x : Row). x.def) (sym one) ∙ variable.1);
+        }
+  ]
 
   pub set_stays : Stays before arena old work
   set_stays = record {
@@ -212,6 +271,44 @@ module _ (before arena : Arena) (old work : Work) (id : NodeId) (v : Value) (kep
       | inr h ↦ absurd (none-some s (sym (ap (λ (x : Row). subject_of x.def) h.is_now) ∙ def))
     ];
     unsettled = λ p k e. inl (sym (same_rows p) ∙ e);
-    round = round;
+    roots = λ n r row. ap (λ (m : Rows NodeId). at m (change n)) round.roots;
+    scoped = stands_still;
+    entered = λ n b r row scope. let w = row_was n r row in (w.was, w.is_was, w.scope ∙ scope);
+    deaths = round.deaths;
+    ran = round.ran;
+    strict = round.strict;
+    round = round.round;
     todo = todo;
   }
+
+-- parts are kept, and a round may begin with them
+module _ (old new : Parts) (id : NodeId) (v : Value) (kept : PartsKept old) (set : IsSet old.arena new.arena id v)
+    (not_other : (IsVariable old.arena id → ⊥) → ⊥) (given : new.arena.given ≡ old.arena.given)
+    (marked : IsMarked old.work.graph new.work.graph (main id)) (step : IsInStep new.work.graph) (sound : IsSound new.arena)
+    (rest : new ≡ record old { arena = new.arena; work = record old.work { graph = new.work.graph } }) where
+  abbrev work : Work
+  work = record old.work { graph = new.work.graph }
+
+  abbrev parts : Parts
+  parts = record old { arena = new.arena; work = work }
+
+  round_stays : KeepsRound old.work work
+  round_stays = record { roots = refl; deaths = refl; ran = refl; strict = refl; round = refl }
+
+  lists_stay : KeepsLists old.work work
+  lists_stay = record { pairs = refl; scoped = refl }
+
+  stays : Stays old.arena new.arena old.work work
+  stays = set_stays old.arena new.arena old.work work id v kept.work set not_other given refl marked step round_stays refl lists_stay sound
+
+  parts_kept : PartsKept parts
+  parts_kept = parts_stay old parts kept
+      (set_kept old.arena new.arena old.work work id v kept.work set not_other given refl marked step round_stays refl lists_stay sound)
+      stays refl refl
+
+  pub set_parts : PartsKept new
+  set_parts = subst PartsKept (sym rest) parts_kept
+
+  pub set_ready : (M : Meaning) → IsReady M old → IsReady M new
+  set_ready M ready = subst (IsReady M) (sym rest)
+      (ready_stays M old parts ready (set_fit M old.arena new.arena id ready.fit v set given) parts_kept stays)

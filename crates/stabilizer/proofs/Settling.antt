@@ -14,7 +14,7 @@ use Rattle.necessity.specs.Need.{Roots, root_times}
 use Rattle.height_order.specs.Levels.{level}
 use Rattle.necessary_graph.specs.Part.{Needed}
 use Rattle.node_arena.specs.Arena.{Arena}
-use Rattle.stabilizer.specs.Graph.{graph_at}
+use Rattle.wiring.specs.Graph.{graph_at}
 use Rattle.inc_terms.specs.Graph.{Graph}
 use Rattle.stabilize_round.specs.State.{State, Call, Linked, at_point, at_node}
 use Rattle.stabilize_round.specs.Moves.{Enqueues, computed, calls_of, ran_more}
@@ -23,10 +23,11 @@ use Rattle.stabilize_round.proofs.Points.{same_or_other, at_same, at_other, node
 use Rattle.node_outcomes.specs.Computing.{ran_then}
 use Rattle.node_outcomes.specs.Row.{settled_in, stage_of, is_never}
 use Rattle.stabilizer.specs.Settling.{IsSettled}
-use Rattle.stabilizer.specs.Stands.{Stands}
+use Rattle.stabilizer.specs.Stepping.{IsOfBuilds}
+use Rattle.wiring.specs.Stands.{Stands, Counts, counts_of}
 use Rattle.node_outcomes.specs.declared.row.Progress.{Progress}
-use Rattle.stabilizer.specs.declared.work.Work.{Work}
-use Rattle.stabilizer.proofs.Holding.{graph_main}
+use Rattle.wiring.specs.declared.work.Work.{Work}
+use Rattle.wiring.proofs.Holding.{graph_main, died_same}
 
 pub same_number : (n : ℕ) → (n == n) ≡ true
 same_number n = grind (arith, common_steps)
@@ -38,8 +39,18 @@ ran_is (suc k) n ran = sym (reverse-append ran (n ∷ []))
 some_row : (a b : Progress) → ◌≡◌ {A = Option Progress} (Some a) (Some b) → a ≡ b
 some_row a b e = cc
 
-module _ (s : State) (arena : Arena) (old new : Work) (calls calls' : ℕ) (n : NodeId) (o : Outcome) (last' : Option Call) (called : Bool)
-    (st : Stands arena old calls None s) (w : IsSettled old new n o last' (calls_of called (cost_at (graph_at arena old) n)))
+-- so many calls, builds and nodes that were added
+abbrev pub counted : ℕ → ℕ → ℕ → Counts
+counted calls builds adds = record { calls = calls; builds = builds; adds = adds }
+
+-- the calls are those that are counted then
+counts_are : (s : State) (before after : Counts) → counts_of s ≡ before → IsOfBuilds before after → counted after.calls s.builds s.adds ≡ after
+counts_are s before after same rest =
+    ap (λ (x : ℕ). counted after.calls x s.adds) (ap (λ (c : Counts). c.builds) same ∙ sym rest.builds)
+    ∙ ap (λ (x : ℕ). counted after.calls after.builds x) (ap (λ (c : Counts). c.adds) same ∙ sym rest.adds)
+
+module _ (s : State) (arena : Arena) (old new : Work) (counts counts' : Counts) (n : NodeId) (o : Outcome) (last' : Option Call) (called : Bool)
+    (st : Stands arena old counts None s) (more : IsOfBuilds counts counts') (w : IsSettled old new n o last' (calls_of called (cost_at (graph_at arena old) n)))
     (needs : (a : Point) → (Needed new.graph a → Needed old.graph a) × (Needed old.graph a → Needed new.graph a)) where
   abbrev made : ℕ
   made = calls_of called (cost_at (graph_at arena old) n)
@@ -53,7 +64,7 @@ module _ (s : State) (arena : Arena) (old new : Work) (calls calls' : ℕ) (n : 
   row_other : (a : Point) (k : Progress) → (main n ≡ a → ⊥) → at new.rows a ≡ Some k → at old.rows a ≡ Some k
   row_other a k ne e = sym (w.others a (λ h. ne (sym h))) ∙ e
 
-  pub settled_stands : Stands arena new calls' None (computed s n o heap' last' called calls')
+  pub settled_stands : Stands arena new counts' None (computed s n o heap' last' called counts'.calls)
   settled_stands = record {
     graph = st.graph ∙ sym (graph_main arena old new n w.others w.roots);
     out = λ a k e. elim (same_or_other (main n) a) [
@@ -78,7 +89,7 @@ module _ (s : State) (arena : Arena) (old new : Work) (calls calls' : ℕ) (n : 
     links = λ a b. st.links a b ∙ ap (λ (l : Links). times l a b) (sym w.graph.links);
     root = λ a. st.root a ∙ ap (λ (r : Roots). root_times r a) (sym w.graph.roots);
     needed = λ a. (λ t. (needs a).1 ((st.needed a).0 t), λ h. (st.needed a).1 ((needs a).0 h));
-    height = λ a. st.height a ∙ ap (λ (h : Rows ℕ). level h a) (sym w.graph.heights);
+    height = λ a need. st.height a ((needs a).0 need) ∙ ap (λ (h : Rows ℕ). level h a) (sym w.graph.heights);
     heap = λ a. refl;
     settled = λ a. elim (same_or_other (main n) a) [
       | inl h ↦ subst (λ (x : Point). at_point (main n) true s.settled x ≡ settled_in new.round (at new.rows x)) h
@@ -94,10 +105,10 @@ module _ (s : State) (arena : Arena) (old new : Work) (calls calls' : ℕ) (n : 
     owed = st.owed;
     todo = λ a t. subst (λ (xs : List Point). Among a xs ⊎ ⊥) (sym w.todo) (st.todo a t);
     strict = st.strict ∙ sym w.strict;
-    died = st.died;
+    died = λ m. st.died m ∙ sym (died_same old new w.deaths m);
     ran = ap (λ (G : Graph). ran_more n (calls_of called (cost_at G n)) s.ran) st.graph ∙ (ap (ran_more n made) st.ran
         ∙ (ran_is made n old.ran.items ∙ ap reverse (sym w.ran)));
-    calls = refl;
+    counts = counts_are s counts counts' st.counts more;
     given = st.given;
   }
 

@@ -11,29 +11,29 @@ use Rattle.inc_terms.specs.Term.{Functions}
 use Rattle.height_order.specs.Chains.{ReadsWith, IsChain}
 use Rattle.necessary_graph.specs.Part.{Needed, IsInStep}
 use Rattle.node_arena.specs.Arena.{Arena}
-use Rattle.stabilizer.specs.Graph.{graph_at}
+use Rattle.node_outcomes.specs.Meaning.{Meaning}
 use Rattle.node_outcomes.specs.Row.{outcome_in}
 use Rattle.node_outcomes.specs.declared.row.Progress.{Progress}
 use Rattle.point_map.specs.Rows.{at}
 use Rattle.stabilize_round.specs.Invariant.{Invariant}
+use Rattle.stabilize_round.specs.Machine.{called_more}
 use Rattle.stabilize_round.specs.State.{State, Start}
 use Rattle.stabilize_round.specs.Wire.{IsConfirmed}
-use Rattle.stabilizer.specs.Refusing.{RefusedBy, TellsWhy, no_memory, by_link}
-use Rattle.stabilizer.specs.Round.{IsReady, AllButLast, IsTried, LeavesTried, SettleRefused}
-use Rattle.stabilizer.specs.Stands.{Hand, Stands, hand}
-use Rattle.stabilizer.specs.Wiring.{PutsRoots, RootRefused}
-use Rattle.stabilizer.specs.declared.refused.Refused.{Refused}
-use Rattle.stabilizer.specs.declared.refused.Refused.TheVariants.{Height, Cycle, Full, Memory}
-use Rattle.stabilizer.specs.declared.work.Work.{Work}
-use Rattle.stabilize_round.proofs.Entry.{entry_holds}
 use Rattle.stabilize_round.proofs.Machine.{moves_keep}
-use Rattle.stabilizer.proofs.Beginning.{begun_of}
-use Rattle.stabilizer.proofs.Began.{round_on}
-use Rattle.node_outcomes.specs.Meaning.{Meaning}
+use Rattle.wiring.specs.Graph.{graph_at}
+use Rattle.wiring.specs.Refusing.{RefusedBy, TellsWhy, no_memory, by_link}
+use Rattle.wiring.specs.Stands.{Hand, Stands, Counts, hand}
+use Rattle.wiring.specs.declared.refused.Refused.{Refused}
+use Rattle.wiring.specs.declared.refused.Refused.TheVariants.{Height, Cycle, Full, Memory}
+use Rattle.wiring.specs.declared.work.Work.{Work}
+use Rattle.stabilizer.specs.Building.{StopsBuilding}
+use Rattle.stabilizer.specs.Round.{AllButLast, IsTried, LeavesTried}
+use Rattle.stabilizer.specs.declared.parts.Parts.{Parts}
+use Rattle.stabilizer.proofs.Paused.{IsPaused}
 
-module _ (F : Functions) (z : Start) (t : State) (holds : Invariant F z t) (arena : Arena) (work : Work) (calls : ℕ) (left : Option Hand)
-    (stands : Stands arena work calls left t) (step : IsInStep work.graph) where
-  module _ (p q : Point) (need : t.needed p ≡ true) (confirmed : IsConfirmed t p q) where
+module _ (F : Functions) (z : Start) (t : State) (holds : Invariant F z t) (arena : Arena) (work : Work) (counts : Counts) (left : Option Hand)
+    (stands : Stands arena work counts left (called_more t counts.calls)) (step : IsInStep work.graph) where
+  module _ (p q : Point) (need : t.needed p ≡ true) (confirmed : IsConfirmed (called_more t counts.calls) p q) where
     walks : (list : List Point) → IsChain (ReadsWith work.graph.links p q) list → IsWalk (ReadsWith work.graph.links p q) list
     walks [] chain = tt
     walks (a ∷ []) chain = tt
@@ -71,34 +71,35 @@ module _ (F : Functions) (z : Start) (t : State) (holds : Invariant F z t) (aren
     pub tried_by : (e : Refused) → RefusedBy work p q e → LeavesTried arena work e
     tried_by (Height points) why = tried points.items why.chain
     tried_by (Cycle points) why = tried points.items why.path.chain
-    tried_by Full why = why
+    tried_by Full why = absurd why
     tried_by Memory why = tt
 
 -- whatever the refusal says
-leaves_tried : (F : Functions) (z : Start) (t : State) → Invariant F z t → (arena : Arena) (work : Work) (calls : ℕ) (left : Option Hand)
-    → Stands arena work calls left t → IsInStep work.graph → (e : Refused) → TellsWhy F t work left e → LeavesTried arena work e
-leaves_tried F z t holds arena work calls left stands step e no_memory = tt
-leaves_tried F z t holds arena work calls left stands step e (by_link {p} {q} {rest} need depends confirmed why) =
-    tried_by F z t holds arena work calls (Some (hand p (q ∷ rest))) stands step p q need confirmed e why
+leaves_tried : (F : Functions) (z : Start) (t : State) → Invariant F z t → (arena : Arena) (work : Work) (counts : Counts) (left : Option Hand)
+    → Stands arena work counts left (called_more t counts.calls) → IsInStep work.graph → (e : Refused)
+    → TellsWhy F (called_more t counts.calls) work left e
+    → LeavesTried arena work e
+leaves_tried F z t holds arena work counts left stands step e no_memory = tt
+leaves_tried F z t holds arena work counts left stands step e (by_link {p} {q} {rest} need depends confirmed why) =
+    tried_by F z t holds arena work counts (Some (hand p (q ∷ rest))) stands step p q need confirmed e why
 
--- a root or its links were refused
-pub roots_tried : (M : Meaning) (arena : Arena) (old new : Work) (before : ℕ) → IsReady M arena old → IsInStep new.graph → (e : Refused)
-    → RootRefused arena old new e → LeavesTried arena new e
-roots_tried M arena old new before ready step e refused =
-    let F = M.functions in
-    let b = (begun_of M arena old ready before).begun in
-    let holds = entry_holds F b.start b.state b.entry in
-    let k = refused F b.start b.state before holds b.stands in
-    leaves_tried F b.start k.0 (moves_keep F b.start b.state k.0 k.2 holds) arena new before k.1 k.3 step e k.4
+-- where a build found no room
+room_tried : (count : ℕ) (arena : Arena) (work : Work) (e : Refused) → StopsBuilding count arena e → LeavesTried arena work e
+room_tried count arena work Full room = tt
+room_tried count arena work Memory room = tt
+room_tried count arena work (Height points) room = absurd room
+room_tried count arena work (Cycle points) room = absurd room
 
--- a step was refused
-pub steps_tried : (M : Meaning) (arena : Arena) (old mid new : Work) (before after : ℕ) → IsReady M arena old → PutsRoots arena old mid
-    → IsInStep new.graph → (e : Refused) → SettleRefused M arena mid new before after e → LeavesTried arena new e
-steps_tried M arena old mid new before after ready put step e refused =
-    let F = M.functions in
-    let begins = begun_of M arena old ready before in
-    let b = begins.begun in
-    let m = put F b.start b.state before begins.round.holds b.stands in
-    let round = round_on M b.start b.state m.0 m.1 begins.round in
-    let k = refused b.start m.0 round m.2 in
-    leaves_tried F b.start k.state (moves_keep F b.start m.0 k.state k.moves round.holds) arena new k.between k.left k.stands step e k.told
+-- wherever a round stops
+pub paused_tried : (M : Meaning) (old new : Parts) (before after : Counts) (e : Refused) → IsPaused M old new before after e
+    → LeavesTried new.arena new.work e
+paused_tried M old new before after e p =
+    let b = p.begins.begun in
+    let k = p.pauses in
+    elim k.told [
+      | inl why ↦ leaves_tried M.functions b.start k.before
+          (moves_keep M.functions b.start b.state k.before k.moves p.begins.round.holds) new.arena new.work after
+          k.left (subst (λ (x : State). Stands new.arena new.work after k.left x) why.0 k.stands) p.kept.work.step e
+          (subst (λ (x : State). TellsWhy M.functions x new.work k.left e) why.0 why.1)
+      | inr full ↦ room_tried full.0 new.arena new.work e full.2
+    ]

@@ -1,52 +1,50 @@
 -- A main waits again before its node's change is settled. In the machine the change is in the heap still while that is done.
-use Rattle.std.proofs.Common.{◌≡◌, ◌≢◌, ◌⊎◌, inl, inr, ℕ, ◌+◌, ◌<◌, ◌≤◌, ◌++◌, Bool, true, false, List, [], ◌∷◌, map, Option, None, Some, refl, sym, ap, subst, ◌∙◌, arith}
-use Rattle.std.specs.Prelude.{is_some, IsSome, option_map}
+use Rattle.std.proofs.Common.{◌≡◌, ◌≢◌, ◌⊎◌, inl, inr, ℕ, ◌+◌, ◌<◌, ◌≤◌, ◌++◌, Bool, true, false, List, ◌∷◌, map, Option, None, Some, refl, sym, ap, subst, ◌∙◌, arith, Vec, Global}
+use Rattle.std.specs.Prelude.{is_some, not}
 use Rattle.std.proofs.lemmas.Option.{none-some}
 use Rattle.inc_value.specs.declared.node.NodeId.{NodeId}
 use Rattle.inc_value.specs.declared.node.Part.TheVariants.{Main}
 use Rattle.inc_value.specs.declared.node.Point.{Point}
-use Rattle.inc_value.specs.declared.outcome.Outcome.{Outcome}
-use Rattle.inc_value.specs.Choice.{Among, Reaches, here}
+use Rattle.inc_value.specs.Choice.{Among, Reaches}
 use Rattle.inc_terms.specs.Depend.{main, change, subject_of, fixed_reads, at_most_one}
 use Rattle.inc_terms.specs.Graph.{Graph, Row}
-use Rattle.inc_terms.specs.Local.{shown}
 use Rattle.inc_terms.specs.Plan.{targets, gate_of}
 use Rattle.inc_terms.specs.Term.{Functions}
 use Rattle.point_map.specs.Rows.{Rows, at, Holds, Changes, same_point}
 use Rattle.point_map.proofs.Places.{same_point_eq, same_point_self}
 use Rattle.link_table.specs.Links.{Links, times, Reads, OneLinkMore}
 use Rattle.link_table.specs.declared.link.Link.{Link}
-use Rattle.necessity.specs.Need.{Roots, root_times}
-use Rattle.height_order.specs.Levels.{level}
+use Rattle.necessity.specs.Need.{Roots, root_times, KeepsRoots}
+use Rattle.height_order.specs.Levels.{level, or_zero}
 use Rattle.necessary_graph.specs.Part.{NecessaryPart, Needed, IsInStep}
-use Rattle.necessary_graph.specs.Sweep.{Sweep, IsUnlinked}
+use Rattle.necessary_graph.specs.Sweep.{Sweep, IsUnlinked, DropsLeaves}
 use Rattle.necessary_graph.proofs.Reaching.{root_needed, read_needed, needed_has, needed_more}
 use Rattle.necessary_graph.proofs.Standing.{put_in_step}
 use Rattle.node_arena.specs.Arena.{Arena, row_at}
+use Rattle.node_outcomes.specs.Choosing.{right_in}
+use Rattle.node_outcomes.specs.Computing.{has_part}
+use Rattle.node_outcomes.specs.Row.{stage_in, stage_of, settled_in, outcome_in}
+use Rattle.node_outcomes.specs.declared.row.Progress.{Progress}
+use Rattle.node_outcomes.specs.declared.row.Stage.TheVariants as code
 use Rattle.stabilize_round.specs.Invariant.{Invariant}
-use Rattle.stabilize_round.specs.Moves.{IsLeast}
 use Rattle.stabilize_round.specs.State as machine
 use Rattle.stabilize_round.specs.State.{State, Start, count, one, planned, live_plan, plan_at}
 use Rattle.stabilize_round.specs.Steps.{TakingOff}
+use Rattle.stabilize_round.specs.Wire.{Drop}
 use Rattle.stabilize_round.proofs.Points.{same_or_other, count_append, one_same, one_other, among_count}
-use Rattle.stabilizer.specs.Kept.{IsKept}
-use Rattle.node_outcomes.specs.Computing.{has_part}
-use Rattle.node_outcomes.specs.Row.{IsRewritten, with_stage, with_outcome, stage_in, stage_of, settled_in, outcome_in}
-use Rattle.node_outcomes.specs.Choosing.{right_in}
-use Rattle.stabilizer.specs.Stands.{Stands, Hand}
-use Rattle.stabilizer.specs.Turning.{IsAttached, IsLoosened, IsOff}
-use Rattle.stabilizer.specs.Wiring.{KeepsGraph}
-use Rattle.node_outcomes.specs.declared.row.Progress.{Progress}
-use Rattle.node_outcomes.specs.declared.row.Stage.{Stage}
-use Rattle.node_outcomes.specs.declared.row.Stage.TheVariants as code
-use Rattle.stabilizer.specs.declared.work.Work.{Work}
-use Rattle.stabilizer.proofs.Carrying.{heap_graph, needed_now, needed_before}
-use Rattle.stabilizer.proofs.Changing.{IsRun, IsReadied}
-use Rattle.stabilizer.proofs.Loosening.{change_is_other}
-use Rattle.stabilizer.proofs.Retrying.{off_keeps}
-use Rattle.stabilizer.proofs.Sight.{change_is}
-use Rattle.stabilizer.proofs.TakingOff.{IsTakenOff, takes, stands_off}
-use Rattle.stabilizer.proofs.Holding.{targets_at}
+use Rattle.wiring.specs.Graph.{rowless}
+use Rattle.wiring.specs.Kept.{IsKept}
+use Rattle.wiring.specs.Stands.{Stands, Counts}
+use Rattle.wiring.specs.Turning.{IsAttached, IsLoosened, IsOff}
+use Rattle.wiring.specs.Wiring.{IsMarked}
+use Rattle.wiring.specs.declared.work.Work.{Work}
+use Rattle.wiring.proofs.Deciding.{need_same}
+use Rattle.wiring.proofs.GoingBack.{IsLowered, lowered_kept}
+use Rattle.wiring.proofs.Holding.{targets_at}
+use Rattle.wiring.proofs.Loosening.{change_is_other}
+use Rattle.wiring.proofs.Scheduling.{marked_kept}
+use Rattle.wiring.proofs.Sight.{change_is}
+use Rattle.wiring.proofs.TakingOff.{MayLower, scheduled, row_at_stage, takes, stands_off}
 
 -- ---- a point is put into a heap
 
@@ -61,38 +59,66 @@ module _ (h : Rows ℕ) (p : Point) (k : ℕ) where
       by_test q ne true e = absurd (ne (sym (same_point_eq p q e)))
       by_test q ne false e = rw e refl
 
+-- the work as if the change hadn't left the heap
+abbrev pub with_change : Work → NodeId → Work
+with_change work n = record work { graph = record work.graph { heap = put work.graph.heap (change n) (level work.graph.heights (change n)) } }
+
+module _ (work : Work) (n : NodeId) where
+  pub put_back : Changes work.graph.heap (with_change work n).graph.heap (change n) (Some (level work.graph.heights (change n)))
+  put_back = put_changes work.graph.heap (change n) (level work.graph.heights (change n))
+
+  -- where the change is needed it comes into the heap
+  module _ (need : Needed work.graph (change n)) where
+    pub change_marked : IsMarked work.graph (with_change work n).graph (change n)
+    change_marked = record {
+      graph = record { links = refl; roots = refl; heights = refl };
+      others = λ q ne. put_back.others q ne;
+      told = λ is. ap is_some put_back.changed;
+      only = λ h. inr need;
+    }
+
+    pub change_in_step : IsInStep work.graph → IsInStep (with_change work n).graph
+    change_in_step step = put_in_step work.graph step (with_change work n).graph.heap (change n) (level work.graph.heights (change n)) need refl put_back
+
+    pub change_back_kept : (arena : Arena) → Holds work.rows (change n) → IsKept arena work → IsKept arena (with_change work n)
+    change_back_kept arena row kept = marked_kept (change n) work (with_change work n) change_marked refl arena row (change_in_step kept.step) kept
+
 -- ---- what is swept stands
 
--- nothing is taken off
-same_swept : (g : NecessaryPart) → IsInStep g → Sweep g g
-same_swept g in_step = record {
-  heights = refl;
-  roots = λ p. refl;
-  reached = λ p. ((λ n. n), (λ n. n));
-  kept = λ p q n. refl;
-  gone = λ p q r. in_step.readers p q r;
-  fewer = λ p q. omega arith;
-  heap_kept = λ p n. refl;
-  heap = λ p h e. (e, (in_step.heap p h e).1);
-}
-
-module _ (g : NecessaryPart) (links : Links) (new : NecessaryPart) (in_step : IsInStep g) (fewer : (p q : Point) → times links p q ≤ times g.links p q)
-    (sweep : Sweep (record g { links = links }) new) where
+module _ (g : NecessaryPart) (links : Links) (new : NecessaryPart) (leaf : Point → Bool) (in_step : IsInStep g)
+    (fewer : (p q : Point) → times links p q ≤ times g.links p q) (sweep : Sweep (record g { links = links }) new) (drops : DropsLeaves leaf g new) where
   read_before : (p q : Point) → Reads new.links p q → Reads g.links p q
   read_before p q r = let a = fewer p q in let b = sweep.fewer p q in omega (arith, a, b, r)
 
   need_before : (p : Point) → Needed (record g { links = links }) p → Needed g p
   need_before p n = needed_more (record g { links = links }) g (λ a r. r) (λ a b l. let f = fewer a b in omega (arith, f, l)) p n
 
+  still_at : (p : Point) → Needed new p → at new.heights p ≡ at g.heights p
+  still_at p n = elim (drops.heights p) [ inl e ↦ e | inr d ↦ absurd (d.unneeded n) ]
+
+  reader : (p q : Point) → Reads new.links p q → Needed new p
+  reader p q r = (sweep.reached p).1 (sweep.gone p q r)
+
   pub swept_in_step : IsInStep new
   swept_in_step = record {
-    ends = λ p q r. subst (λ (h : Rows ℕ). Holds h p × Holds h q) (sym sweep.heights) (in_step.ends p q (read_before p q r));
-    rises = λ p q r. subst (λ (h : Rows ℕ). level h q < level h p) (sym sweep.heights) (in_step.rises p q (read_before p q r));
-    low = λ p. subst (λ (h : Rows ℕ). level h p ≤ 128) (sym sweep.heights) (in_step.low p);
-    readers = λ p q r. (sweep.reached p).1 (sweep.gone p q r);
-    there = λ p n. subst (λ (h : Rows ℕ). Holds h p) (sym sweep.heights) (in_step.there p (need_before p ((sweep.reached p).0 n)));
-    heap = λ p h e. let b = sweep.heap p h e in
-        (subst (λ (x : Rows ℕ). at x p ≡ Some h) (sym sweep.heights) (in_step.heap p h b.0).0, (sweep.reached p).1 b.1);
+    ends = λ p q r.
+        let e = in_step.ends p q (read_before p q r) in
+        (ap is_some (still_at p (reader p q r)) ∙ e.0, ap is_some (still_at q (read_needed new p q (reader p q r) r)) ∙ e.1);
+    rises = λ p q r.
+        let e = in_step.rises p q (read_before p q r) in
+        let a : level new.heights p ≡ level g.heights p = ap or_zero (still_at p (reader p q r)) in
+        let b : level new.heights q ≡ level g.heights q = ap or_zero (still_at q (read_needed new p q (reader p q r) r)) in
+        omega (arith, e, a, b);
+    low = λ p. elim (drops.heights p) [
+      | inl e ↦ let l = in_step.low p in let a : level new.heights p ≡ level g.heights p = ap or_zero e in omega (arith, l, a)
+      | inr d ↦ let a : level new.heights p ≡ 0 = ap or_zero d.gone in omega (arith, a)
+    ];
+    readers = reader;
+    there = λ p n. ap is_some (still_at p n) ∙ in_step.there p (need_before p ((sweep.reached p).0 n));
+    heap = λ p h e.
+        let b = sweep.heap p h e in
+        let n = (sweep.reached p).1 b.1 in
+        (still_at p n ∙ (in_step.heap p h b.0).0, n);
   }
 
 -- one link fewer
@@ -106,64 +132,194 @@ fewer_links fewer more p q off a b = elim (same_or_other a p) [
   | inr ne ↦ let o = off.others a b (λ h. ne (ap (λ (l : Link). l.reader) h)) in omega (arith, o)
 ]
 
--- ---- a main's links, but for its right side
+-- nothing is taken off
+pub same_swept : (g : NecessaryPart) → IsInStep g → Sweep g g
+same_swept g in_step = record {
+  roots = λ p. refl;
+  reached = λ p. ((λ n. n), (λ n. n));
+  kept = λ p q n. refl;
+  gone = λ p q r. in_step.readers p q r;
+  fewer = λ p q. omega arith;
+  heap_kept = λ p n. refl;
+  heap = λ p h e. (e, (in_step.heap p h e).1);
+}
 
-module _ (arena : Arena) (old mid : Work) (g : NecessaryPart) (n : NodeId) (r : Row) (m : NodeId) (kept : IsKept arena old)
-    (live : row_at arena n ≡ Some r) (sub : subject_of r.def ≡ Some m) (was : Holds old.graph.heap (change n))
-    (rest : g ≡ record old.graph { heap = g.heap }) (c : Changes old.graph.heap g.heap (change n) None)
-    (attached : IsAttached (record old { graph = g }) n) (loose : IsLoosened (record old { graph = g }) mid n (right_in old.rows old.roots n r.def)) where
+-- the graph without a main's right side, and what is left where points are no longer needed
+pub record IsWithout (leaf : Point → Bool) (g new : NecessaryPart) (n : NodeId) (right : Option NodeId) : Type 0 where
+  pub links : Links
+  pub others : (a b : Point) → (main n ≡ a → ⊥) → times links a b ≡ times g.links a b
+  pub mine : (m : NodeId) → right ≡ Some m → Reads g.links (main n) (main m) → (b : Point)
+      → times links (main n) b + one b (main m) ≡ times g.links (main n) b
+  pub all : right ≡ None → (b : Point) → times links (main n) b ≡ times g.links (main n) b
+  pub fewer : (a b : Point) → times links a b ≤ times g.links a b
+  pub sweep : Sweep (record g { links = links }) new
+  pub drops : DropsLeaves leaf g new
+
+off_none : (leaf : Point → Bool) (g new : NecessaryPart) (n : NodeId) (right : Option NodeId) → IsInStep g → new ≡ g
+    → ((m : NodeId) → right ≡ Some m → Reads g.links (main n) (main m) → ⊥) → IsWithout leaf g new n right
+off_none leaf g new n right in_step same not = record {
+  links = g.links;
+  others = λ a b ne. refl;
+  mine = λ m is reads. absurd (not m is reads);
+  all = λ is b. refl;
+  fewer = λ a b. omega arith;
+  sweep = subst (λ (x : NecessaryPart). Sweep g x) (sym same) (same_swept g in_step);
+  drops = subst (λ (x : NecessaryPart). DropsLeaves leaf g x) (sym same) (record { heights = λ a. inl refl; leaves = λ a is need. inl need });
+}
+
+off_one : (leaf : Point → Bool) (g new : NecessaryPart) (n m : NodeId) → IsUnlinked leaf g new (main n) (main m) → IsWithout leaf g new n (Some m)
+off_one leaf g new n m u = record {
+  links = u.links;
+  others = λ a b ne. sym (u.off.others a b (λ e. ne (sym (ap (λ (l : Link). l.reader) e))));
+  mine = λ k is reads b. subst (λ (x : NodeId). times u.links (main n) b + one b (main x) ≡ times g.links (main n) b) (some_node m k is) (its b);
+  all = λ none. absurd (none-some m (sym none));
+  fewer = fewer_links u.links g.links (main n) (main m) u.off;
+  sweep = u.sweep;
+  drops = u.drops;
+}
+  where
+    some_node : (a b : NodeId) → ◌≡◌ {A = Option NodeId} (Some a) (Some b) → a ≡ b
+    some_node a b e = cc
+
+    its : (b : Point) → times u.links (main n) b + one b (main m) ≡ times g.links (main n) b
+    its b = elim (same_or_other b (main m)) [
+      | inl e ↦ subst (λ (x : Point). times u.links (main n) x + one x (main m) ≡ times g.links (main n) x) (sym e)
+          (let raised = u.off.raised in let o = one_same (main m) in omega (arith, raised, o))
+      | inr ne ↦
+          let same = u.off.others (main n) b (λ e. ne (ap (λ (l : Link). l.kid) e)) in
+          let o = one_other b (main m) ne in
+          omega (arith, same, o)
+    ]
+
+pub off_without : (leaf : Point → Bool) (g new : NecessaryPart) (n : NodeId) (right : Option NodeId) → IsInStep g → IsOff leaf g new n right
+    → IsWithout leaf g new n right
+off_without leaf g new n None in_step same = off_none leaf g new n None in_step same (λ m is. absurd (none-some m is))
+off_without leaf g new n (Some m) in_step (inl u) = off_one leaf g new n m u
+off_without leaf g new n (Some m) in_step (inr x) = off_none leaf g new n (Some m) in_step x.0 (λ k is reads. x.1
+    (subst (λ (y : NodeId). Reads g.links (main n) (main y)) (sym (some_node m k is)) reads))
+  where
+    some_node : (a b : NodeId) → ◌≡◌ {A = Option NodeId} (Some a) (Some b) → a ≡ b
+    some_node a b e = cc
+
+-- ---- a main loses its right side
+
+module _ (arena : Arena) (taken mid : Work) (todo : Vec Point Global) (n : NodeId) (r : Row) (k : NodeId) (kept : IsKept arena taken)
+    (live : row_at arena n ≡ Some r) (sub : subject_of r.def ≡ Some k) (own_row : Holds taken.rows (change n)) (own_need : Needed taken.graph (change n))
+    (attached : IsAttached (record taken { todo = todo }) n)
+    (loose : IsLoosened (record taken { todo = todo }) mid n (right_in taken.rows taken.roots n r.def)) where
   abbrev g0 : NecessaryPart
   g0 = loose.mid.graph
 
-  same_first : KeepsGraph old.graph g
-  same_first = heap_graph arena old g rest
+  abbrev right : Option NodeId
+  right = right_in taken.rows taken.roots n r.def
 
-  links_mid : g0.links ≡ old.graph.links
-  links_mid = loose.enqueued.graph.links ∙ same_first.links
+  links_mid : g0.links ≡ taken.graph.links
+  links_mid = loose.enqueued.graph.links
 
-  roots_mid : g0.roots ≡ old.graph.roots
-  roots_mid = loose.enqueued.graph.roots ∙ same_first.roots
+  roots_mid : g0.roots ≡ taken.graph.roots
+  roots_mid = loose.enqueued.graph.roots
 
-  heights_mid : g0.heights ≡ old.graph.heights
-  heights_mid = loose.enqueued.graph.heights ∙ same_first.heights
+  heights_mid : g0.heights ≡ taken.graph.heights
+  heights_mid = loose.enqueued.graph.heights
 
-  -- the graph without the link, and what is left where points are no longer needed
-  record Drops (rest_of : List Point) : Type 0 where
-    links : Links
-    others : (a b : Point) → (main n ≡ a → ⊥) → times links a b ≡ times old.graph.links a b
-    mine : (b : Point) → times links (main n) b ≡ count b rest_of
-    fewer : (a b : Point) → times links a b ≤ times g0.links a b
-    sweep : Sweep (record g0 { links = links }) mid.graph
+  links_as : (a b : Point) → times g0.links a b ≡ times taken.graph.links a b
+  links_as a b = ap (λ (x : Links). times x a b) links_mid
 
-  module _ (F : Functions) (z : Start) (s : State) (calls : ℕ) (inv : Invariant F z s) (st : Stands arena old calls None s) where
+  d : IsWithout (rowless mid) g0 mid.graph n right
+  d = off_without (rowless mid) g0 mid.graph n right loose.enqueued.step loose.off
+
+  pub loose_in_step : IsInStep mid.graph
+  loose_in_step = swept_in_step g0 d.links mid.graph (rowless mid) loose.enqueued.step d.fewer d.sweep d.drops
+
+  -- links that are left were there, roots stay, and what is needed was
+  pub loose_fewer : (a b : Point) → times mid.graph.links a b ≤ times taken.graph.links a b
+  loose_fewer a b = let f = d.sweep.fewer a b in let g = d.fewer a b in let w = links_as a b in omega (arith, f, g, w)
+
+  pub loose_roots : KeepsRoots taken.graph.roots mid.graph.roots
+  loose_roots a = d.sweep.roots a ∙ ap (λ (x : Roots). root_times x a) roots_mid
+
+  pub loose_need : (a : Point) → Needed mid.graph a → Needed taken.graph a
+  loose_need a need = needed_more mid.graph taken.graph (λ x root. let e = loose_roots x in omega (arith, e, root))
+      (λ x y reads. let f = loose_fewer x y in omega (arith, f, reads)) a need
+
+  -- what was there is, but for what is needed no more and has no row
+  pub loose_heights : (a : Point) → (at mid.graph.heights a ≡ at taken.graph.heights a)
+      ⊎ ((is_some (at mid.rows a) ≡ false) × (at mid.graph.heights a ≡ None))
+  loose_heights a = elim (d.drops.heights a) [
+    | inl e ↦ inl (e ∙ ap (λ (x : Rows ℕ). at x a) heights_mid)
+    | inr x ↦ inr (not_true (is_some (at mid.rows a)) x.is_leaf, x.gone)
+  ]
+    where
+      not_true : (b : Bool) → not b ≡ true → b ≡ false
+      not_true true e = absurd (cc)
+      not_true false e = refl
+
+  pub loose_leaves : (a : Point) → is_some (at mid.rows a) ≡ false → Needed taken.graph a → Needed mid.graph a ⊎ (at mid.graph.heights a ≡ None)
+  loose_leaves a none need = d.drops.leaves a (ap not none)
+      (need_same taken.graph g0 loose.enqueued.graph.links loose.enqueued.graph.roots a need)
+
+  -- no other point comes into the heap but the main
+  pub loose_heap : (a : Point) → Holds mid.graph.heap a → Holds taken.graph.heap a ⊎ (a ≡ main n)
+  loose_heap a h = by (at mid.graph.heap a) refl h
+    where
+      in_mid : Holds g0.heap a → Holds taken.graph.heap a ⊎ (a ≡ main n)
+      in_mid into = elim (same_or_other a (main n)) [
+        | inl e ↦ inr e
+        | inr other ↦ inl (sym (ap is_some (loose.enqueued.others a other)) ∙ into)
+      ]
+
+      by : (x : Option ℕ) → at mid.graph.heap a ≡ x → is_some x ≡ true → Holds taken.graph.heap a ⊎ (a ≡ main n)
+      by None e is = absurd (cc)
+      by (Some y) e is = in_mid (ap is_some (d.sweep.heap a y e).0)
+
+  -- the change isn't in the heap
+  pub out_left : at taken.graph.heap (change n) ≡ None → at mid.graph.heap (change n) ≡ None
+  out_left out = by (at mid.graph.heap (change n)) refl
+    where
+      by : (x : Option ℕ) → at mid.graph.heap (change n) ≡ x → x ≡ None
+      by None e = refl
+      by (Some y) e = absurd (none-some y (sym (loose.enqueued.others (change n) (change_is_other n) ∙ out) ∙ (d.sweep.heap (change n) y e).0))
+
+  -- the work before, and as it is then, with the change in the heap
+  abbrev old : Work
+  old = with_change taken n
+
+  abbrev top : ℕ
+  top = level mid.graph.heights (change n)
+
+  abbrev pub last : Work
+  last = record taken { graph = record mid.graph { heap = put mid.graph.heap (change n) top }; rows = mid.rows }
+
+  old_kept : IsKept arena old
+  old_kept = change_back_kept taken n own_need arena own_row kept
+
+  module _ (F : Functions) (z : Start) (s : State) (counts : Counts) (inv : Invariant F z s) (st : Stands arena old counts None s)
+      (unsettled : s.settled (change n) ≡ false) where
     s_row : s.graph.row n ≡ Some r
     s_row = ap (λ (G : Graph). G.row n) st.graph ∙ live
 
     need : s.needed (main n) ≡ true
-    need = (st.needed (main n)).1 (needed_before old.graph g same_first (main n) attached.needed)
+    need = (st.needed (main n)).1 attached.needed
 
-    by_stage : (x : Option Progress) → at old.rows (main n) ≡ x → stage_in x ≡ Some code.Full → s.stage (main n) ≡ machine.Full
+    by_stage : (x : Option Progress) → at taken.rows (main n) ≡ x → stage_in x ≡ Some code.Full → s.stage (main n) ≡ machine.Full
     by_stage None e f = absurd (none-some code.Full f)
-    by_stage (Some k) e f = st.stage (main n) k e ∙ ap stage_of (same f)
+    by_stage (Some y) e f = st.stage (main n) y e ∙ ap stage_of (same f)
       where
-        same : ◌≡◌ {A = Option _} (Some k.stage) (Some code.Full) → k.stage ≡ code.Full
+        same : ◌≡◌ {A = Option _} (Some y.stage) (Some code.Full) → y.stage ≡ code.Full
         same h = cc
 
     full : s.stage (main n) ≡ machine.Full
-    full = by_stage (at old.rows (main n)) refl attached.stage
+    full = by_stage (at taken.rows (main n)) refl attached.stage
 
-    two : IsSome (subject_of r.def)
-    two = ap is_some sub
-
-    rights : targets s.graph n r.def (s.out (change n)) ≡ map main (at_most_one (right_in old.rows old.roots n r.def))
+    rights : targets s.graph n r.def (s.out (change n)) ≡ map main (at_most_one right)
     rights =
-        ap (targets s.graph n r.def) (change_is s arena old calls kept st n r live two)
-        ∙ (ap (λ (G : Graph). targets G n r.def (outcome_in (at old.rows (change n)))) st.graph ∙ targets_at arena old n r live)
+        ap (targets s.graph n r.def) (change_is s arena old counts old_kept st n r live (ap is_some sub))
+        ∙ (ap (λ (G : Graph). targets G n r.def (outcome_in (at taken.rows (change n)))) st.graph ∙ targets_at arena old n r live)
 
     abbrev static_plan : List Point
     static_plan = live_plan s.graph s.out (main n) r machine.Static
 
-    linked_all : (b : Point) → times old.graph.links (main n) b ≡ count b static_plan + count b (map main (at_most_one (right_in old.rows old.roots n r.def)))
+    linked_all : (b : Point) → times taken.graph.links (main n) b ≡ count b static_plan + count b (map main (at_most_one right))
     linked_all b =
         let l = inv.rows.links (main n) b need in
         let o : count b (s.owed (main n)) ≡ 0 = ap (count b) (st.owed (main n)) in
@@ -178,127 +334,88 @@ module _ (arena : Arena) (old mid : Work) (g : NecessaryPart) (n : NodeId) (r : 
         let w = st.links (main n) b in
         omega (arith, l, o, all, one_part, two_part, t, mine, w)
 
-    links_as : (a b : Point) → times g0.links a b ≡ times old.graph.links a b
-    links_as a b = ap (λ (x : Links). times x a b) links_mid
+    -- by its right side
+    links_by : (x : Option NodeId) → right ≡ x → (b : Point) → times d.links (main n) b ≡ count b static_plan
+    links_by None is b =
+        let l = linked_all b in
+        let t : count b (map main (at_most_one right)) ≡ 0 = ap (λ (x : Option NodeId). count b (map main (at_most_one x))) is in
+        let same = d.all is b in
+        let w = links_as (main n) b in
+        omega (arith, l, t, same, w)
+    links_by (Some m) is b =
+        let chosen : (q : Point) → count q (map main (at_most_one right)) ≡ one q (main m) + 0 = λ q. ap (λ (x : Option NodeId). count q (map main (at_most_one x))) is in
+        let there : Reads g0.links (main n) (main m) =
+        (let l = linked_all (main m) in let t = chosen (main m) in let o = one_same (main m) in let w = links_as (main n) (main m) in omega (arith, l, t, o, w)) in
+        let off = d.mine m is there b in
+        let l = linked_all b in
+        let t = chosen b in
+        let w = links_as (main n) b in
+        omega (arith, off, l, t, w)
 
-    -- there was no right side
-    drops_none : right_in old.rows old.roots n r.def ≡ None → mid.graph ≡ g0 → Drops static_plan
-    drops_none none same = record {
-      links = g0.links;
-      others = λ a b ne. links_as a b;
-      mine = λ b. let l = linked_all b in let w = links_as (main n) b in
-          let t : count b (map main (at_most_one (right_in old.rows old.roots n r.def))) ≡ 0 = ap (λ (x : Option NodeId). count b (map main (at_most_one x))) none in
-          omega (arith, l, w, t);
-      fewer = λ a b. omega arith;
-      sweep = subst (λ (x : NecessaryPart). Sweep g0 x) (sym same) (same_swept g0 loose.enqueued.step);
-    }
-
-    -- there was one
-    module _ (k : NodeId) (is : right_in old.rows old.roots n r.def ≡ Some k) where
-      linked_one : (b : Point) → times old.graph.links (main n) b ≡ count b static_plan + one b (main k)
-      linked_one b =
-          let l = linked_all b in
-          let t : count b (map main (at_most_one (right_in old.rows old.roots n r.def))) ≡ one b (main k) + 0 =
-          ap (λ (x : Option NodeId). count b (map main (at_most_one x))) is in
-          omega (arith, l, t)
-
-      drops_one : IsUnlinked g0 mid.graph (main n) (main k) → Drops static_plan
-      drops_one u = record {
-        links = u.links;
-        others = λ a b ne. sym (u.off.others a b (λ e. ne (sym (ap (λ (l : Link). l.reader) e)))) ∙ links_as a b;
-        mine = λ b. elim (same_or_other b (main k)) [
-          | inl e ↦
-              let raised = u.off.raised in let all = linked_one (main k) in let o = one_same (main k) in let l = links_as (main n) (main k) in
-              subst (λ (x : Point). times u.links (main n) x ≡ count x static_plan) (sym e) (omega (arith, raised, all, o, l))
-          | inr ne ↦
-              let same = u.off.others (main n) b (λ e. ne (ap (λ (l : Link). l.kid) e)) in let all = linked_one b in let o = one_other b (main k) ne in
-              let l = links_as (main n) b in
-              omega (arith, same, all, o, l)
-        ];
-        fewer = λ a b. fewer_links u.links g0.links (main n) (main k) u.off a b;
-        sweep = u.sweep;
-      }
-
-      -- the link was there
-      never_absent : (Reads g0.links (main n) (main k) → ⊥) → ⊥
-      never_absent not = not (let w = linked_one (main k) in let o = one_same (main k) in let l = links_as (main n) (main k) in omega (arith, w, o, l))
-
-    by_right : (x : Option NodeId) → right_in old.rows old.roots n r.def ≡ x → IsOff g0 mid.graph n x → Drops static_plan
-    by_right None e off = drops_none e off
-    by_right (Some k) e (inl u) = drops_one k e u
-    by_right (Some k) e (inr absent) = absurd (never_absent k e absent.1)
-
-    d : Drops static_plan
-    d = by_right (right_in old.rows old.roots n r.def) refl loose.off
-
-    -- ---- with the change in the heap
-
-    abbrev top : ℕ
-    top = level mid.graph.heights (change n)
-
-    abbrev G1 : NecessaryPart
-    G1 = record g0 { links = d.links }
-
-    abbrev G1' : NecessaryPart
-    G1' = record g0 { links = d.links; heap = put g0.heap (change n) top }
-
-    -- the work as if the change hadn't left the heap
-    abbrev pub last : Work
-    last = record mid { graph = record mid.graph { heap = put mid.graph.heap (change n) top } }
+    main_links : (b : Point) → times d.links (main n) b ≡ count b static_plan
+    main_links = links_by right refl
 
     own_in_plan : 0 < count (change n) static_plan
     own_in_plan =
         let a : Among (change n) (fixed_reads s.graph n r.def Main) = rw sub (inl refl) in
-        let k = among_count (change n) (fixed_reads s.graph n r.def Main) a in
+        let c = among_count (change n) (fixed_reads s.graph n r.def Main) a in
         let mine = count_append (change n) (gate_of r.scope) (fixed_reads s.graph n r.def Main) in
-        omega (arith, k, mine)
+        omega (arith, c, mine)
+
+    -- the main reads its own change
+    pub own_linked : Reads taken.graph.links (main n) (change n)
+    own_linked = let l = linked_all (change n) in let o = own_in_plan in omega (arith, l, o)
+
+    abbrev G1 : NecessaryPart
+    G1 = record g0 { links = d.links }
 
     -- no point that stands as high as the main is needed over the main alone
     main_needed : Needed G1 (main n)
-    main_needed = needed_has old.graph StillNeeded roots_too links_too (main n) needed_then (omega arith)
+    main_needed = needed_has taken.graph StillNeeded roots_too links_too (main n) attached.needed (omega arith)
       where
         StillNeeded : Point → Type 0
-        StillNeeded p = level old.graph.heights (main n) ≤ level old.graph.heights p → Needed G1 p
+        StillNeeded p = level taken.graph.heights (main n) ≤ level taken.graph.heights p → Needed G1 p
 
-        needed_then : Needed old.graph (main n)
-        needed_then = (st.needed (main n)).0 need
-
-        roots_too : (a : Point) → 0 < root_times old.graph.roots a → StillNeeded a
+        roots_too : (a : Point) → 0 < root_times taken.graph.roots a → StillNeeded a
         roots_too a root high = root_needed G1 a (subst (λ (x : Roots). 0 < root_times x a) (sym roots_mid) root)
 
-        links_too : (a b : Point) → Reads old.graph.links a b → StillNeeded a → StillNeeded b
+        links_too : (a b : Point) → Reads taken.graph.links a b → StillNeeded a → StillNeeded b
         links_too a b reads above high =
             let rises = kept.step.rises a b reads in
             read_needed G1 a b (above (omega (arith, rises, high))) (let e = d.others a b (λ same.
-            let h = ap (level old.graph.heights) same in absurd (omega (arith, rises, high, h))) in omega (arith, e, reads))
+            let h = ap (level taken.graph.heights) same in absurd (omega (arith, rises, high, h))) in let w = links_as a b in omega (arith, e, reads, w))
 
     own_needed : Needed G1 (change n)
-    own_needed = read_needed G1 (main n) (change n) main_needed (let e = d.mine (change n) in let o = own_in_plan in omega (arith, e, o))
+    own_needed = read_needed G1 (main n) (change n) main_needed (let e = main_links (change n) in let o = own_in_plan in omega (arith, e, o))
 
-    in_step : IsInStep mid.graph
-    in_step = swept_in_step g0 d.links mid.graph loose.enqueued.step d.fewer d.sweep
+    -- ---- with the change in the heap
+
+    abbrev first : NecessaryPart
+    first = record g0 { heap = put g0.heap (change n) top }
 
     put_mid : Changes mid.graph.heap last.graph.heap (change n) (Some top)
     put_mid = put_changes mid.graph.heap (change n) top
 
-    put_first : Changes g0.heap G1'.heap (change n) (Some top)
+    put_first : Changes g0.heap first.heap (change n) (Some top)
     put_first = put_changes g0.heap (change n) top
 
-    last_swept : Sweep G1' last.graph
+    put_old : Changes taken.graph.heap old.graph.heap (change n) (Some (level taken.graph.heights (change n)))
+    put_old = put_back taken n
+
+    last_swept : Sweep (record first { links = d.links }) last.graph
     last_swept = record {
-      heights = d.sweep.heights;
       roots = d.sweep.roots;
       reached = d.sweep.reached;
       kept = d.sweep.kept;
       gone = d.sweep.gone;
       fewer = d.sweep.fewer;
-      heap_kept = λ p need. elim (same_or_other p (change n)) [
-        | inl e ↦ subst (λ (x : Point). at last.graph.heap x ≡ at G1'.heap x) (sym e) (put_mid.changed ∙ sym put_first.changed)
-        | inr ne ↦ put_mid.others p ne ∙ (d.sweep.heap_kept p need ∙ sym (put_first.others p ne))
+      heap_kept = λ p is. elim (same_or_other p (change n)) [
+        | inl e ↦ subst (λ (x : Point). at last.graph.heap x ≡ at first.heap x) (sym e) (put_mid.changed ∙ sym put_first.changed)
+        | inr ne ↦ put_mid.others p ne ∙ (d.sweep.heap_kept p is ∙ sym (put_first.others p ne))
       ];
       heap = λ p h e. elim (same_or_other p (change n)) [
         | inl same ↦ (
-          subst (λ (x : Point). at G1'.heap x ≡ Some h) (sym same)
+          subst (λ (x : Point). at first.heap x ≡ Some h) (sym same)
               (put_first.changed ∙ (sym put_mid.changed ∙ subst (λ (x : Point). at last.graph.heap x ≡ Some h) same e)),
           subst (λ (x : Point). Needed G1 x) (sym same) own_needed,
         )
@@ -306,230 +423,106 @@ module _ (arena : Arena) (old mid : Work) (g : NecessaryPart) (n : NodeId) (r : 
       ];
     }
 
+    last_drops : DropsLeaves (rowless last) first last.graph
+    last_drops = record {
+      heights = λ p. elim (d.drops.heights p) [
+        | inl e ↦ inl e
+        | inr x ↦ inr (record { is_leaf = x.is_leaf; was = x.was; unneeded = x.unneeded; gone = x.gone })
+      ];
+      leaves = λ p is was. d.drops.leaves p is was;
+    }
+
+    own_still : Needed mid.graph (change n)
+    own_still = (d.sweep.reached (change n)).1 own_needed
+
     last_in_step : IsInStep last.graph
-    last_in_step = put_in_step mid.graph in_step last.graph.heap (change n) top ((d.sweep.reached (change n)).1 own_needed) refl put_mid
+    last_in_step = put_in_step mid.graph loose_in_step last.graph.heap (change n) top own_still refl put_mid
 
-    in_first : (a : Point) → a ≢ change n → Holds old.graph.heap a → Holds g0.heap a
-    in_first a ne h = elim (same_or_other a (main n)) [
-      | inl e ↦ subst (λ (x : Point). Holds g0.heap x) (sym e) (loose.enqueued.kept (subst (λ (x : Point). Holds g.heap x) e (ap is_some (c.others a ne) ∙ h)))
-      | inr other ↦ ap is_some (loose.enqueued.others a other) ∙ (ap is_some (c.others a ne) ∙ h)
+    into_first : (a : Point) → Holds old.graph.heap a → Holds first.heap a
+    into_first a h = elim (same_or_other a (change n)) [
+      | inl e ↦ subst (λ (x : Point). Holds first.heap x) (sym e) (ap is_some put_first.changed)
+      | inr ne ↦ ap is_some (put_first.others a ne) ∙ in_mid a (sym (ap is_some (put_old.others a ne)) ∙ h)
     ]
-
-    in_before : (a : Point) → a ≢ change n → Holds g.heap a → Holds old.graph.heap a
-    in_before a ne h = sym (ap is_some (c.others a ne)) ∙ h
+      where
+        in_mid : (a : Point) → Holds taken.graph.heap a → Holds g0.heap a
+        in_mid a h = elim (same_or_other a (main n)) [
+          | inl e ↦ subst (λ (x : Point). Holds g0.heap x) (sym e) (loose.enqueued.kept (subst (λ (x : Point). Holds taken.graph.heap x) e h))
+          | inr ne ↦ ap is_some (loose.enqueued.others a ne) ∙ h
+        ]
 
     -- what came into the heap
-    new_in_heap : (a : Point) → a ≢ change n → Holds g0.heap a → Holds old.graph.heap a ⊎ ((a ≡ main n) × (settled_in old.round (at old.rows a) ≡ false))
-    new_in_heap a ne h = elim (same_or_other a (main n)) [
-      | inr other ↦ inl (in_before a ne (sym (ap is_some (loose.enqueued.others a other)) ∙ h))
+    in_before : (a : Point) → a ≢ change n → Holds g0.heap a → Holds old.graph.heap a ⊎ ((a ≡ main n) × (settled_in taken.round (at taken.rows a) ≡ false))
+    in_before a ne h = elim (same_or_other a (main n)) [
+      | inr other ↦ inl (ap is_some (put_old.others a ne) ∙ (sym (ap is_some (loose.enqueued.others a other)) ∙ h))
       | inl e ↦ elim (loose.enqueued.only (subst (λ (x : Point). Holds g0.heap x) e h)) [
-        | inl k ↦ inl (in_before a ne (subst (λ (x : Point). Holds g.heap x) (sym e) k))
-        | inr f ↦ inr (e, subst (λ (x : Point). settled_in old.round (at old.rows x) ≡ false) (sym e) f)
+        | inl was ↦ inl (ap is_some (put_old.others a ne) ∙ subst (λ (x : Point). Holds taken.graph.heap x) (sym e) was)
+        | inr f ↦ inr (e, subst (λ (x : Point). settled_in taken.round (at taken.rows x) ≡ false) (sym e) f)
       ]
     ]
 
-    off_taken : IsTakenOff arena old last n r G1'
-    off_taken = record {
-      links = d.others;
-      roots = λ a. ap (λ (x : Roots). root_times x a) roots_mid;
-      heights = λ a. ap (λ (x : Rows ℕ). level x a) heights_mid;
-      heap_kept = λ a h. elim (same_or_other a (change n)) [
-        | inl e ↦ subst (λ (x : Point). Holds G1'.heap x) (sym e) (ap is_some put_first.changed)
-        | inr ne ↦ ap is_some (put_first.others a ne) ∙ in_first a ne h
-      ];
+    main_other : main n ≡ change n → ⊥
+    main_other e = change_is_other n (sym e)
+
+    lowered_last : IsLowered old last (main n) (change n) code.Static d.links
+    lowered_last = record {
+      rows = loose.rows;
+      mid = first;
+      graph = record { links = links_mid; roots = roots_mid; heights = heights_mid };
+      heap_kept = into_first;
       heap_new = λ a h. elim (same_or_other a (change n)) [
-        | inl e ↦ inl (subst (λ (x : Point). Holds old.graph.heap x) (sym e) was)
-        | inr ne ↦ elim (new_in_heap a ne (sym (ap is_some (put_first.others a ne)) ∙ h)) [ inl k ↦ inl k | inr k ↦ inr (inr k.0, k.1) ]
+        | inl e ↦ inr (inl (e, own_need))
+        | inr ne ↦ elim (in_before a ne (sym (ap is_some (put_first.others a ne)) ∙ h)) [
+          | inl was ↦ inl was
+          | inr x ↦ inr (inr (x.0, subst (λ (y : Point). settled_in taken.round (at taken.rows y) ≡ false) x.0 x.1))
+        ]
       ];
-      own_in = ap is_some put_first.changed;
-      main_in = elim loose.enqueued.told [
-        | inl h ↦ inl (ap is_some (put_first.others (main n) (λ e. change_is_other n (sym e))) ∙ h)
+      waits = λ is. ap is_some put_first.changed;
+      told = elim loose.enqueued.told [
+        | inl h ↦ inl (ap is_some (put_first.others (main n) main_other) ∙ h)
         | inr f ↦ inr f
       ];
-      rows = loose.rows;
+      fewer = λ b. let f = d.fewer (main n) b in let w = links_as (main n) b in omega (arith, f, w);
+      others = λ a b ne. d.others a b ne ∙ links_as a b;
       sweep = last_swept;
+      drops = last_drops;
       step = last_in_step;
-      todo = ap (λ (w : Work). w.todo.items) loose.last ∙ ap (λ (w : Work). w.todo.items) loose.rest;
-      round = record {
-        roots = ap (λ (w : Work). w.roots) loose.last ∙ ap (λ (w : Work). w.roots) loose.rest;
-        ran = ap (λ (w : Work). w.ran.items) loose.last ∙ ap (λ (w : Work). w.ran.items) loose.rest;
-        strict = ap (λ (w : Work). w.strict) loose.last ∙ ap (λ (w : Work). w.strict) loose.rest;
-        round = ap (λ (w : Work). w.round) loose.last ∙ ap (λ (w : Work). w.round) loose.rest;
-      };
+      rest = refl;
     }
 
-    no_hand : (h : Hand) → ◌≡◌ {A = Option Hand} None (Some h) → h.point ≡ main n → ⊥
-    no_hand h e is = none-some h e
+    drops_now : Drop (scheduled s first) (main n) r machine.Static (row_at_stage s (main n) r code.Static)
+    unfolding lowered_last
+    drops_now = record {
+      row = s_row;
+      links = λ b. refl;
+      fewer = λ b l. let was = linked_all b in let w = st.links (main n) b in omega (arith, l, was, w);
+      bare = λ e. cc;
+      full = λ e. cc;
+      lower = λ e. inr full;
+      fresh = elim lowered_last.told [ inl h ↦ inl h | inr h ↦ inr (st.settled (main n) ∙ h) ];
+      gated = λ e. absurd (cc);
+      static = λ e. (refl, k, sub, ap is_some put_first.changed);
+    }
 
-    pub taken_off : (t : State) × Reaches (TakingOff F z) s t × Stands arena last calls None t
+    may : MayLower s old last None (main n) (change n) code.Static d.links r lowered_last
+    unfolding lowered_last
+    may = record {
+      need = need;
+      row = s_row;
+      waited_row = (r, s_row);
+      waited_need = (st.needed (change n)).1 own_need;
+      unsettled = unsettled;
+      linked = main_links;
+      drops = drops_now;
+      back = λ h e is. absurd (none-some h e);
+    }
+
+    pub taken_off : (t : State) × Reaches (TakingOff F z) s t × Stands arena last counts None t
     taken_off = (
       _,
-      takes F z s inv arena old last calls None st n r m s_row sub need full no_hand G1' off_taken d.mine,
-      stands_off F z s inv arena old last calls None st n r m s_row sub need full no_hand G1' off_taken d.mine,
+      takes F z s arena old last counts None st (main n) (change n) code.Static d.links r lowered_last may,
+      stands_off F z s arena old last counts None st (main n) (change n) code.Static d.links r lowered_last may,
     )
 
-    -- ---- the state in which the change is settled
-
-    same_height : (t : State) → Stands arena last calls None t → (a : Point) → t.height a ≡ s.height a
-    same_height t on a = on.height a ∙ (ap (λ (h : Rows ℕ). level h a) d.sweep.heights ∙ (ap (λ (h : Rows ℕ). level h a) heights_mid ∙ sym (st.height a)))
-
-    in_mid : (a : Point) (x : Option ℕ) → at mid.graph.heap a ≡ x → is_some x ≡ true → Holds g0.heap a
-    in_mid a None e h = absurd (cc)
-    in_mid a (Some k) e h = ap is_some (d.sweep.heap a k e).0
-
-    own_below : s.height (change n) < s.height (main n)
-    own_below = inv.web.rises (main n) (change n) (
-        let l = linked_all (change n) in let o = own_in_plan in let w = st.links (main n) (change n) in omega (arith, l, o, w))
-
-    still_least : (t : State) → Stands arena last calls None t → IsLeast s (change n) → IsLeast t (change n)
-    still_least t on least = record {
-      heap = on.heap (change n) ∙ ap is_some put_mid.changed;
-      least = λ q h.
-          let one = same_height t on (change n) in
-          let two_ = same_height t on q in
-          elim (same_or_other q (change n)) [
-            | inl e ↦ subst (λ (x : Point). t.height (change n) ≤ t.height x) (sym e) (omega arith)
-            | inr ne ↦ elim (new_in_heap q ne (in_mid q (at mid.graph.heap q) refl (sym (ap is_some (put_mid.others q ne)) ∙ (sym (on.heap q) ∙ h)))) [
-              | inl k ↦ let l = least.least q (st.heap q ∙ k) in omega (arith, one, two_, l)
-              | inr k ↦ let l = own_below in let e = ap s.height k.0 in omega (arith, one, two_, l, e)
-            ]
-          ];
-    }
-
-    static_now : (t : State) → Stands arena last calls None t → t.stage (main n) ≡ machine.Full → ⊥
-    static_now t on f = by_row (at old.rows (main n)) refl attached.stage
-      where
-        by_row : (x : Option Progress) → at old.rows (main n) ≡ x → stage_in x ≡ Some code.Full → ⊥
-        by_row None e a = none-some code.Full a
-        by_row (Some k) e a =
-            let static : t.stage (main n) ≡ machine.Static =
-            on.stage (main n) (with_stage code.Static k) (loose.rows.changed ∙ ap (option_map (with_stage code.Static)) e) in
-            let x : machine.Static ≡ machine.Full = sym static ∙ f in
-            cc
-
-    out_of_heap : at mid.graph.heap (change n) ≡ None
-    out_of_heap = by_place (at mid.graph.heap (change n)) refl
-      where
-        by_place : (x : Option ℕ) → at mid.graph.heap (change n) ≡ x → x ≡ None
-        by_place None e = refl
-        by_place (Some k) e =
-            let b = (d.sweep.heap (change n) k e).0 in
-            let a = loose.enqueued.others (change n) (change_is_other n) ∙ c.changed in
-            absurd (none-some k (sym a ∙ b))
-
-    run_last : (turned : Work) (given : Outcome) → IsRewritten mid.rows turned.rows (change n) (with_outcome given old.round)
-        → turned ≡ record mid { rows = turned.rows } → IsRun last turned n given
-    run_last turned given rows only = record {
-      rows = subst (λ (i : ℕ). IsRewritten mid.rows turned.rows (change n) (with_outcome given i))
-          (sym (ap (λ (w : Work). w.round) loose.last ∙ ap (λ (w : Work). w.round) loose.rest)) rows;
-      graph = record {
-        links = ap (λ (w : Work). w.graph.links) only;
-        roots = ap (λ (w : Work). w.graph.roots) only;
-        heights = ap (λ (w : Work). w.graph.heights) only;
-      };
-      gone = ap (λ (w : Work). at w.graph.heap (change n)) only ∙ out_of_heap;
-      heap = λ a ne. ap (λ (w : Work). is_some (at w.graph.heap a)) only ∙ sym (ap is_some (put_mid.others a ne));
-      todo = ap (λ (w : Work). w.todo.items) only;
-      round = record {
-        roots = ap (λ (w : Work). w.roots) only;
-        ran = ap (λ (w : Work). w.ran.items) only;
-        strict = ap (λ (w : Work). w.strict) only;
-        round = ap (λ (w : Work). w.round) only;
-      };
-    }
-
-    -- a change that was settled ran with what its subject shows
-    ran_so : (given : Outcome) → shown s.graph s.out (main m) ≡ Some given → s.settled (change n) ≡ true → outcome_in (at old.rows (change n)) ≡ Some given
-    ran_so given seen settled =
-        let a = (inv.settled.done (change n) settled).agrees r s_row m sub in
-        let same : Some a.0 ≡ Some given = sym a.2 ∙ seen in
-        sym (change_is s arena old calls kept st n r live two) ∙ (a.1 ∙ same)
-
-    main_row : is_some (at old.rows (main n)) ≡ true
-    main_row = kept.rows (main n) ∙ ap (λ (x : Option Row). has_part x Main) live
-
-    staged_there : (x : Option Progress) → is_some (option_map (with_stage code.Static) x) ≡ is_some x
-    staged_there None = refl
-    staged_there (Some k) = refl
-
-    pub readied_loose : (turned : Work) (given : Outcome) → IsRewritten mid.rows turned.rows (change n) (with_outcome given old.round)
-        → turned ≡ record mid { rows = turned.rows } → old.todo.items ≡ [] → shown s.graph s.out (main m) ≡ Some given
-        → outcome_in (at old.rows (change n)) ≢ Some given → IsLeast s (change n) → IsReadied F z s arena turned calls n given
-    readied_loose turned given rows only idle seen other least =
-        let t = taken_off in record {
-          work = last;
-          state = t.0;
-          prepared = t.1;
-          keeps = off_keeps F z s t.0 t.1;
-          stands = t.2;
-          there = ap is_some (loose.rows.others (change n) (change_is_other n)) ∙ kept.heap (change n) was;
-          mine = ap is_some loose.rows.changed ∙ (staged_there (at old.rows (main n)) ∙ main_row);
-          todo = off_taken.todo ∙ idle;
-          least = still_least t.0 t.2 least;
-          right = inr (λ need' f. static_now t.0 t.2 f);
-          run = run_last turned given rows only;
-          again = λ settled. absurd (other (ran_so given seen settled));
-        }
-
--- ---- the main has no right side, or has it by this outcome
-
-module _ (arena : Arena) (old turned : Work) (g : NecessaryPart) (n : NodeId) (r : Row) (given : Outcome) (kept : IsKept arena old)
-    (live : row_at arena n ≡ Some r) (two : IsSome (subject_of r.def)) (was : Holds old.graph.heap (change n))
-    (rest : g ≡ record old.graph { heap = g.heap }) (c : Changes old.graph.heap g.heap (change n) None)
-    (rows : IsRewritten old.rows turned.rows (change n) (with_outcome given old.round)) (only : turned ≡ record old { graph = g; rows = turned.rows })
-    (F : Functions) (z : Start) (s : State) (calls : ℕ) (st : Stands arena old calls None s) where
-  graph_only : KeepsGraph old.graph turned.graph
-  graph_only = let k = heap_graph arena old g rest in record {
-    links = ap (λ (w : Work). w.graph.links) only ∙ k.links;
-    roots = ap (λ (w : Work). w.graph.roots) only ∙ k.roots;
-    heights = ap (λ (w : Work). w.graph.heights) only ∙ k.heights;
-  }
-
-  run_old : IsRun old turned n given
-  run_old = record {
-    rows = rows;
-    graph = graph_only;
-    gone = ap (λ (w : Work). at w.graph.heap (change n)) only ∙ c.changed;
-    heap = λ a ne. ap (λ (w : Work). is_some (at w.graph.heap a)) only ∙ ap is_some (c.others a ne);
-    todo = ap (λ (w : Work). w.todo.items) only;
-    round = record {
-      roots = ap (λ (w : Work). w.roots) only;
-      ran = ap (λ (w : Work). w.ran.items) only;
-      strict = ap (λ (w : Work). w.strict) only;
-      round = ap (λ (w : Work). w.round) only;
-    };
-  }
-
-  full_in : (x : Option Progress) → at old.rows (main n) ≡ x → s.stage (main n) ≡ machine.Full → is_some x ≡ true → stage_in x ≡ Some code.Full
-  full_in None e f h = absurd (cc)
-  full_in (Some k) e f h = ap (λ (y : Stage). Some y) (full_of k.stage (sym (st.stage (main n) k e) ∙ f))
-    where
-      full_of : (y : Stage) → stage_of y ≡ machine.Full → y ≡ code.Full
-      full_of code.Bare q = absurd (cc)
-      full_of code.Static q = absurd (cc)
-      full_of code.Full q = refl
-
-  right_stays : (outcome_in (at old.rows (change n)) ≡ Some given) ⊎ (IsAttached (record old { graph = g }) n → ⊥)
-      → (s.out (change n) ≡ Some given) ⊎ (s.needed (main n) ≡ true → s.stage (main n) ≡ machine.Full → ⊥)
-  right_stays (inl e) = inl (change_is s arena old calls kept st n r live two ∙ e)
-  right_stays (inr not) = inr (λ need f. not (record {
-    needed = needed_now old.graph g (heap_graph arena old g rest) (main n) ((st.needed (main n)).0 need);
-    stage = full_in (at old.rows (main n)) refl f (kept.rows (main n) ∙ ap (λ (x : Option Row). has_part x Main) live);
-  }))
-
-  pub readied_same : (outcome_in (at old.rows (change n)) ≡ Some given) ⊎ (IsAttached (record old { graph = g }) n → ⊥) → old.todo.items ≡ []
-      → IsLeast s (change n) → IsReadied F z s arena turned calls n given
-  readied_same right idle least = record {
-    work = old;
-    state = s;
-    prepared = here;
-    keeps = record { graph = refl; died = refl; settled = refl; out = refl; taken = refl };
-    stands = st;
-    there = kept.heap (change n) was;
-    mine = kept.rows (main n) ∙ ap (λ (x : Option Row). has_part x Main) live;
-    todo = idle;
-    least = least;
-    right = right_stays right;
-    run = run_old;
-    again = λ settled. refl;
-  }
+    pub last_kept : IsKept arena last
+    last_kept = lowered_kept arena old last (main n) (change n) code.Static d.links lowered_last old_kept
+        (kept.rows (main n) ∙ ap (λ (x : Option Row). has_part x Main) live) (λ is. own_row)

@@ -1,5 +1,5 @@
 -- What stands between rounds, of the parts alone, and what calls made there leave.
-use Rattle.std.specs.Prelude.{◌≡◌, ◌⊎◌, ◌<◌, ℕ, false, List, [], Option, Some}
+use Rattle.std.specs.Prelude.{◌≡◌, ◌⊎◌, ◌<◌, ℕ, false, List, [], Option, None, Some}
 use Rattle.inc_value.specs.declared.node.NodeId.{NodeId}
 use Rattle.inc_value.specs.declared.node.Point.{Point}
 use Rattle.inc_value.specs.declared.outcome.Outcome.{Outcome}
@@ -18,22 +18,24 @@ use Rattle.stabilize_round.specs.State.{Call, count}
 use Rattle.stabilize_round.specs.Invariant.{Recalls}
 use Rattle.node_outcomes.specs.Computing.{KeepsAnswers}
 use Rattle.node_outcomes.specs.Meaning.{Meaning}
-use Rattle.stabilizer.specs.Graph.{graph_at}
-use Rattle.stabilizer.specs.Kept.{IsKept}
+use Rattle.wiring.specs.Graph.{graph_at, died_at}
+use Rattle.wiring.specs.Kept.{IsKept}
+use Rattle.stabilizer.specs.Kept.{PartsKept}
+use Rattle.stabilizer.specs.declared.parts.Parts.{Parts}
 use Rattle.map_nodes.specs.declared.cutoff.Cutoff.TheVariants.{Equal}
 use Rattle.stabilizer.specs.Round.{IsReady, last_call, cutoff_at}
 use Rattle.node_outcomes.specs.Row.{settled_in, outcome_in}
-use Rattle.stabilizer.specs.Wiring.{KeepsRound}
+use Rattle.wiring.specs.Wiring.{KeepsRound}
 use Rattle.node_outcomes.specs.declared.row.Progress.{Progress}
 use Rattle.node_outcomes.specs.declared.row.Stage.TheVariants.{Full}
-use Rattle.stabilizer.specs.declared.work.Work.{Work}
+use Rattle.wiring.specs.declared.work.Work.{Work}
 
 -- outcomes by point
 abbrev pub out_of : Work → Point → Option Outcome
 out_of work p = outcome_in (at work.rows p)
 
 -- a needed point of a live node has all its links, and is in the heap, or agrees with what it is linked to; a bind whose change has run is built for the
--- outcome; nothing was settled, called or found final since the last round
+-- outcome; nothing was settled, called or found final since the last round, and no node died
 pub record IsBetween (F : Functions) (arena : Arena) (work : Work) : Type 0 where
   pub kept : IsKept arena work
   pub full : (p : Point) (k : Progress) → Needed work.graph p → at work.rows p ≡ Some k → k.stage ≡ Full
@@ -45,6 +47,7 @@ pub record IsBetween (F : Functions) (arena : Arena) (work : Work) : Type 0 wher
   pub built : (n : NodeId) (r : Row) (o : Outcome) → row_at arena n ≡ Some r → out_of work (change n) ≡ Some o → IsBuilt F (graph_at arena work) n r.def o
   pub answers : KeepsAnswers F (graph_at arena work) work.rows
   pub unsettled : (p : Point) → settled_in work.round (at work.rows p) ≡ false
+  pub deaths : (n : NodeId) → died_at work n ≡ None
   pub numbered : 0 < work.round
   pub strict : work.strict ≡ false
   pub todo : work.todo.items ≡ []
@@ -60,8 +63,16 @@ pub record KeepsWork (old new : Work) : Type 0 where
   pub todo : new.todo.items ≡ old.todo.items
   pub round : KeepsRound old new
 
--- between rounds this may change: less may be needed, and what is so keeps its links, its row and its place in the heap; its node stays, or is a variable with
--- another value and in the heap; what was called or has run was so before; and no row is settled that wasn't
+-- the node stands in the scope with this row, or is a variable there, as it was
+pub record StandsAs (arena : Arena) (n b : NodeId) (was : Row) : Type 0 where
+  pub row : Row
+  pub is_row : row_at arena n ≡ Some row
+  pub scope : row.scope ≡ Some b
+  pub same : (row ≡ was) ⊎ ((v : Value) × (was.def ≡ Var v))
+
+-- between rounds this may change: less may be needed, and what is so keeps its links, its row and its place in the heap; its node stays, or is a
+-- variable with another value and in the heap; what was called or has run was so before; no row is settled that wasn't; live binds keep their
+-- roots; and the nodes in scopes stand there as they did, each as it is, but for variables
 pub record Stays (before arena : Arena) (old work : Work) : Type 0 where
   pub needed : (p : Point) → Needed work.graph p → Needed old.graph p
   pub links : (p q : Point) → Needed work.graph p → times work.graph.links p q ≡ times old.graph.links p q
@@ -74,18 +85,26 @@ pub record Stays (before arena : Arena) (old work : Work) : Type 0 where
   pub runs : (n s : NodeId) (r : Row) (o : Outcome) → row_at arena n ≡ Some r → subject_of r.def ≡ Some s → out_of work (change n) ≡ Some o
       → (row_at before n ≡ Some r) × (out_of old (change n) ≡ Some o)
   pub unsettled : (p : Point) (k : Progress) → at work.rows p ≡ Some k → (at old.rows p ≡ Some k) ⊎ (k.settled ≡ 0)
-  pub round : KeepsRound old work
+  pub roots : (n : NodeId) (r : Row) → row_at arena n ≡ Some r → at work.roots (change n) ≡ at old.roots (change n)
+  pub scoped : (n b : NodeId) (r : Row) → row_at before n ≡ Some r → r.scope ≡ Some b → StandsAs arena n b r
+  pub entered : (n b : NodeId) (r : Row) → row_at arena n ≡ Some r → r.scope ≡ Some b
+      → (was : Row) × (row_at before n ≡ Some was) × (was.scope ≡ Some b)
+  pub deaths : work.deaths ≡ old.deaths
+  pub ran : work.ran.items ≡ old.ran.items
+  pub strict : work.strict ≡ old.strict
+  pub round : work.round ≡ old.round
   pub todo : work.todo.items ≡ old.todo.items
 
 -- nodes whose ids were given since the count were dropped, none of them needed
-pub record HasDropped (before arena : Arena) (old work : Work) (count : ℕ) : Type 0 where
-  pub older : (n : NodeId) → n.gen_ < count → row_at arena n ≡ row_at before n
-  pub given : arena.given ≡ before.given
-  pub rows : (p : Point) → p.node.gen_ < count → at work.rows p ≡ at old.rows p
-  pub cutoffs : (n : NodeId) → n.gen_ < count → cutoff_at work n ≡ cutoff_at old n
-  pub other_cutoffs : (n : NodeId) → (cutoff_at work n ≡ cutoff_at old n) ⊎ (cutoff_at work n ≡ Equal)
-  pub links : work.graph.links ≡ old.graph.links
-  pub roots : work.graph.roots ≡ old.graph.roots
-  pub heap : work.graph.heap ≡ old.graph.heap
-  pub kept : IsKept arena work
-  pub ready : (M : Meaning) → IsReady M before old → IsReady M arena work
+pub record HasDropped (old new : Parts) (count : ℕ) : Type 0 where
+  pub older : (n : NodeId) → n.gen_ < count → row_at new.arena n ≡ row_at old.arena n
+  pub given : new.arena.given ≡ old.arena.given
+  pub rows : (p : Point) → p.node.gen_ < count → at new.work.rows p ≡ at old.work.rows p
+  pub cutoffs : (n : NodeId) → n.gen_ < count → cutoff_at new.work n ≡ cutoff_at old.work n
+  pub other_cutoffs : (n : NodeId) → (cutoff_at new.work n ≡ cutoff_at old.work n) ⊎ (cutoff_at new.work n ≡ Equal)
+  pub links : new.work.graph.links ≡ old.work.graph.links
+  pub roots : new.work.graph.roots ≡ old.work.graph.roots
+  pub heap : new.work.graph.heap ≡ old.work.graph.heap
+  pub unscoped : (n b : NodeId) (r : Row) → row_at new.arena n ≡ Some r → r.scope ≡ Some b → (n.gen_ < count) × (b.gen_ < count)
+  pub kept : PartsKept new
+  pub ready : (M : Meaning) → IsReady M old → IsReady M new

@@ -1,47 +1,59 @@
--- What the parts of a stabilizer keep between any two calls.
-use Rattle.std.specs.Prelude.{◌≡◌, ◌⊎◌, ◌≤◌, None, Some, IsSome, is_some}
-use Rattle.inc_value.specs.Choice.{Among}
+-- What the parts keep between any two calls, and what a keeper of functions counted.
+use Rattle.std.specs.Prelude.{◌≡◌, ◌↔◌, ◌<◌, min, [], Some}
 use Rattle.inc_value.specs.declared.node.NodeId.{NodeId}
-use Rattle.inc_value.specs.declared.node.Part.TheVariants.{Main}
-use Rattle.inc_value.specs.declared.node.Point.{Point}
-use Rattle.inc_value.specs.declared.outcome.Outcome.{Outcome}
-use Rattle.inc_value.specs.declared.outcome.Outcome.TheVariants.{Val, Invalid}
-use Rattle.inc_value.specs.declared.value.Value.{Value}
-use Rattle.inc_terms.specs.Depend.{main, change, subject_of, right_of}
-use Rattle.inc_terms.specs.Graph.{Row, Built}
-use Rattle.inc_terms.specs.Within.{Given}
-use Rattle.point_map.specs.Rows.{at, Holds}
-use Rattle.link_table.specs.Links.{Reads}
-use Rattle.necessary_graph.specs.Part.{IsInStep}
+use Rattle.inc_terms.specs.Graph.{Graph, Row}
+use Rattle.scopes.specs.Scopes.{Scopes, StandsIn}
 use Rattle.node_arena.specs.Arena.{Arena, row_at}
-use Rattle.node_arena.specs.Sound.{IsSound}
-use Rattle.node_arena.specs.Typing.{Fits}
-use Rattle.stabilize_round.specs.State.{Call}
-use Rattle.node_outcomes.specs.Computing.{has_part, IsOfType}
-use Rattle.node_outcomes.specs.declared.row.Progress.{Progress}
-use Rattle.stabilizer.specs.Graph.{held_at, graph_at}
-use Rattle.stabilizer.specs.Today.{IsToday}
-use Rattle.stabilizer.specs.declared.work.Work.{Work}
+use Rattle.node_arena.specs.Meanings.{SameNames, SameKnown, SameValues}
+use Rattle.node_arena.specs.RightSide.{SameSides}
+use Rattle.node_arena.specs.declared.functions.Functions.{Ghosts}
+use Rattle.stabilize_round.specs.Counts.{last_count}
+use Rattle.wiring.specs.Graph.{graph_at}
+use Rattle.wiring.specs.Kept.{IsKept, IsBind}
+use Rattle.wiring.specs.Stands.{Counts}
+use Rattle.stabilizer.specs.declared.parts.Parts.{Parts}
 
--- the points of live nodes are what has rows, and they are there; what else is there is a main of a given node; what has links or is in the heap has a
--- row; the nodes are as every arena keeps them, and those of today; outcomes and results of calls have their nodes' types, and so have right sides; a bind that is built for Invalid has
--- no root; what was settled was so in no later round; nodes of two points are listed
-pub record IsKept (arena : Arena) (work : Work) : Type 0 where
-  pub step : IsInStep work.graph
-  pub rows : (p : Point) → is_some (at work.rows p) ≡ has_part (row_at arena p.node) p.part
-  pub leaves : (p : Point) → Holds work.graph.heights p → Holds work.rows p ⊎ (p.part ≡ Main)
-  pub there : (p : Point) → Holds work.rows p → Holds work.graph.heights p
-  pub given : (p : Point) → Holds work.graph.heights p → Given arena.given p.node
-  pub links : (p q : Point) → Reads work.graph.links p q → Holds work.rows p
-  pub heap : (p : Point) → Holds work.graph.heap p → Holds work.rows p
-  pub sound : IsSound arena
-  pub today : IsToday arena
-  pub outcomes : (n : NodeId) (r : Row) (k : Progress) (v : Value) → row_at arena n ≡ Some r → at work.rows (main n) ≡ Some k
-      → k.outcome ≡ Some (Val v) → IsOfType arena v r.ty
-  pub rights : (n m : NodeId) (r : Row) (k : Progress) (o : Outcome) → row_at arena n ≡ Some r → at work.rows (change n) ≡ Some k
-      → k.outcome ≡ Some o → right_of (graph_at arena work) n r.def o ≡ Some m → Given arena.given m × Fits arena m r.ty
-  pub rootless : (n : NodeId) (w : Built) → (held_at arena work).built n ≡ Some w → w.outcome ≡ Invalid → w.root ≡ None
-  pub calls : (n : NodeId) (r : Row) (k : Progress) (c : Call) → row_at arena n ≡ Some r → at work.rows (main n) ≡ Some k
-      → k.last ≡ Some c → IsOfType arena c.result r.ty
-  pub rounds : (p : Point) (k : Progress) → at work.rows p ≡ Some k → k.settled ≤ work.round
-  pub pairs : (n : NodeId) (r : Row) → row_at arena n ≡ Some r → IsSome (subject_of r.def) → Among n work.pairs.items
+-- the nodes of parts as a graph
+abbrev pub graph_in : Parts → Graph
+graph_in parts = graph_at parts.arena parts.work
+
+-- each scope is of a bind that was given before the nodes that stand there
+abbrev pub ScopesAreOlder : Arena → Type 0
+ScopesAreOlder arena = (n b : NodeId) (r : Row) → row_at arena n ≡ Some r → r.scope ≡ Some b → b.gen_ < n.gen_
+
+-- no live node is a bind
+abbrev pub HasNoBinds : Arena → Type 0
+HasNoBinds arena = (n : NodeId) (r : Row) → row_at arena n ≡ Some r → IsBind r.def → ⊥
+
+-- where no live node is a bind, the nodes stay
+abbrev pub StaysFlat : Arena → Arena → Type 0
+StaysFlat old new = HasNoBinds old → new ≡ old
+
+-- who stands in a scope by the scopes stands there by the nodes, and none waits to be given
+pub record KeepsScopes (arena : Arena) (scopes : Scopes) : Type 0 where
+  pub stands : (n b : NodeId) → StandsIn scopes n b ↔ ((r : Row) × (row_at arena n ≡ Some r) × (r.scope ≡ Some b))
+  pub none : scopes.killed ≡ []
+
+-- what parts keep between any two calls
+pub record PartsKept (parts : Parts) : Type 0 where
+  pub work : IsKept parts.arena parts.work
+  pub scopes : KeepsScopes parts.arena parts.scopes
+  pub dying : parts.dying.items ≡ []
+
+module _ {F More : Type 0} (keeper : Ghosts F More) where
+  -- the calls, builds and nodes that were added which a keeper counted; the last two stand still at the last value that a count can show
+  abbrev pub counts_by : F → Counts
+  counts_by s = record {
+    calls = keeper.calls s;
+    builds = min (keeper.tally s).builds last_count;
+    adds = min (keeper.tally s).adds last_count;
+  }
+
+  -- the keeper is still sound. Names stand for the functions that they stood for, the same functions are known, maps give what they gave, and right
+  -- sides are made as they were
+  pub record KeepsMeaning (old new : F) : Type 0 where
+    pub sound : keeper.is_sound new
+    pub names : SameNames (keeper.named old) (keeper.named new)
+    pub known : SameKnown (keeper.known old) (keeper.known new)
+    pub values : SameValues (keeper.value old) (keeper.value new)
+    pub sides : SameSides (keeper.right old) (keeper.right new)

@@ -1,14 +1,7 @@
-pub mod Graph
-pub mod Stands
-pub mod Began
-pub mod Today
 pub mod Kept
-pub mod Places
-pub mod Deciding
-pub mod Refusing
-pub mod Wiring
-pub mod Turning
-pub mod Growing
+pub mod Dying
+pub mod Building
+pub mod Rebuilding
 pub mod Settling
 pub mod Stepping
 pub mod Round

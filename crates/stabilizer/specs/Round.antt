@@ -7,13 +7,15 @@ use Rattle.inc_value.specs.declared.outcome.Outcome.{Outcome}
 use Rattle.inc_value.specs.declared.value.Value.{Value}
 use Rattle.inc_value.specs.Choice.{Among, NoRepeats}
 use Rattle.inc_value.specs.Walk.{IsWalk, IsDeep, IsOnCycle}
-use Rattle.inc_terms.specs.Depend.{Depends, main, change, subject_of, died_in}
+use Rattle.inc_terms.specs.Depend.{Depends, main, change, subject_of, none_died, died_in}
 use Rattle.inc_terms.specs.Evaluate.{NodeGives, GiveAll}
 use Rattle.inc_terms.specs.Graph.{Graph, Row}
 use Rattle.inc_terms.specs.Plan.{targets}
 use Rattle.inc_terms.specs.Need.{Beside, Observed, nodes_of, Held, Needed, Met, left_by_call}
 use Rattle.inc_terms.specs.Term.{Functions}
-use Rattle.inc_terms.specs.Within.{FunctionLaws}
+use Rattle.inc_terms.specs.Within.{FunctionLaws, Given}
+use Rattle.inc_terms.specs.Rebuild.{Inside}
+use Rattle.inc_terms.specs.Rebuilding.{outcome_of}
 use Rattle.inc_terms.specs.Work.{WithinWork}
 use Rattle.map_nodes.specs.declared.cutoff.Cutoff.{Cutoff}
 use Rattle.link_table.specs.Links.{Reads}
@@ -25,38 +27,41 @@ use Rattle.point_map.specs.Rows.{at}
 use Rattle.stabilize_round.specs.Calls.{arguments_of}
 use Rattle.inc_terms.specs.Work.{taken_by}
 use Rattle.stabilize_round.specs.Calling.{IsAnswer, cost_at, costs_of}
-use Rattle.stabilize_round.specs.Counts.{RoseAtMost}
-use Rattle.stabilize_round.specs.Machine.{Entry, Moves}
-use Rattle.stabilize_round.specs.Moves.{Quiet, IsLeast}
+use Rattle.stabilize_round.specs.Counts.{RoseBy, RoseAtMost}
+use Rattle.stabilize_round.specs.Laws.{GraphStays}
+use Rattle.stabilize_round.specs.Invariant.{Rooted}
+use Rattle.stabilize_round.specs.Runs.{LeftDiffers, IsBuiltRight}
+use Rattle.stabilize_round.specs.Machine.{Entry, Moves, Stops, called_more}
 use Rattle.stabilize_round.specs.State.{State, Start, Call, count}
-use Rattle.node_outcomes.specs.Computing.{seen, IsCallerAt, HasCalledSome}
+use Rattle.node_outcomes.specs.Computing.{seen, IsCallerAt}
 use Rattle.height_order.specs.Chains.{ReadsWith, StartsAt, EndsAt}
+use Rattle.stabilizer.specs.Building.{LeavesNoRoom, StopsBuilding}
+use Rattle.stabilizer.specs.Kept.{graph_in, PartsKept}
 use Rattle.stabilizer.specs.declared.parts.Parts.{Parts}
-use Rattle.stabilizer.specs.declared.refused.Refused.{Refused}
-use Rattle.stabilizer.specs.declared.refused.Refused.TheVariants.{Height, Cycle, Full, Memory}
+use Rattle.wiring.specs.declared.refused.Refused.{Refused}
+use Rattle.wiring.specs.declared.refused.Refused.TheVariants.{Height, Cycle, Full, Memory}
 use Rattle.node_outcomes.specs.Meaning.{Meaning}
-use Rattle.stabilizer.specs.Began.{IsRoundOf}
-use Rattle.stabilizer.specs.Graph.{graph_at}
-use Rattle.stabilizer.specs.Kept.{IsKept}
+use Rattle.wiring.specs.Began.{IsRoundOf}
+use Rattle.wiring.specs.Graph.{graph_at}
 use Rattle.node_outcomes.specs.Row.{cutoff_in, is_never, settled_in, outcome_in}
-use Rattle.stabilizer.specs.Refusing.{TellsWhy}
-use Rattle.stabilizer.specs.Stands.{Stands, Hand}
+use Rattle.wiring.specs.Refusing.{TellsWhy}
+use Rattle.wiring.specs.Stands.{Stands, Counts, counts_of, Hand}
 use Rattle.node_outcomes.specs.declared.row.Progress.{Progress}
-use Rattle.stabilizer.specs.declared.work.Work.{Work}
+use Rattle.wiring.specs.declared.work.Work.{Work}
 
--- a round of these functions may begin: they promise what the laws of graphs ask, and those of nodes are known and list given nodes; the parts stand for a
--- state in which rounds begin, and its number isn't that of what was never settled
-pub record IsReady (M : Meaning) (arena : Arena) (work : Work) : Type 0 where
-  pub kept : IsKept arena work
+-- a round of these functions may begin: they promise what the laws of graphs ask, and those of nodes are known and list given nodes; the parts
+-- stand for a state in which rounds begin, and its number isn't that of what was never settled
+pub record IsReady (M : Meaning) (parts : Parts) : Type 0 where
+  pub kept : PartsKept parts
   pub laws : FunctionLaws M.functions M.known M.ids
-  pub fit : AllCallFit M.known M.ids arena
+  pub fit : AllCallFit M.known M.ids parts.arena
   pub start : Start
   pub state : State
-  pub stands : Stands arena work state.calls None state
+  pub stands : Stands parts.arena parts.work (counts_of state) None state
   pub entry : Entry M.functions start state
-  pub numbered : 0 < work.round
-  pub todo : work.todo.items ≡ []
-  pub ran : work.ran.items ≡ []
+  pub numbered : 0 < parts.work.round
+  pub todo : parts.work.todo.items ≡ []
+  pub ran : parts.work.ran.items ≡ []
 
 -- the roots are the mains of these nodes, each as often as it is listed
 abbrev pub AreRooted : Work → List NodeId → Type 0
@@ -80,10 +85,6 @@ abbrev pub never_at : Work → NodeId → Bool
 never_at work n = is_never (cutoff_at work n)
 
 -- ---- what a round did, over the graph that it left and those who died in it
-
--- the nodes of parts as a graph
-abbrev pub graph_in : Parts → Graph
-graph_in parts = graph_at parts.arena parts.work
 
 -- the graph that a call leaves, as its round read it: a freeze that got its value still follows its child
 abbrev pub left_by : Parts → Parts → Graph
@@ -125,7 +126,8 @@ module _ (F : Functions) (G : Graph) (died : NodeId → Option NodeId) where
   abbrev pub IsMetIn : Work → List NodeId → Point → Type 0
   IsMetIn old observed p = Met F G died observed (λ (q : Point). part.Needed old.graph q) p
 
-  -- a node's function was called: it is met, its children give these values, of which it wasn't the last call before unless it was forced, and it is now
+  -- a node's function was called: it is met, its children give these values, of which it wasn't the last call before unless it was forced, and it
+  -- is now
   pub record WasCalledIn (old new : Work) (observed : List NodeId) (n : NodeId) : Type 0 where
     pub row : Row
     pub nodes : List NodeId
@@ -139,22 +141,24 @@ module _ (F : Functions) (G : Graph) (died : NodeId → Option NodeId) where
     pub answers : IsAnswer F row.def values result
     pub met : IsMetIn old observed (main n)
 
-  -- after a round that was accepted, with these nodes observed; need, links and last calls are those of the graph after it. The last call of a node whose
-  -- function wasn't called stays, but for a node that takes no call: a fold of no nodes keeps that it was computed on none
+  -- after a round that was accepted, with these nodes observed; need, links and last calls are those of the graph after it, in which nobody is known
+  -- to have died. Of a node that lives its cutoff stays, and its last call where its function wasn't called, but for a node that takes no call: a
+  -- fold of no nodes keeps that it was computed on none
   pub record IsUpToDateIn (after : Graph) (old new : Work) (observed : List NodeId) (ran : List NodeId) : Type 0 where
     pub rooted : AreRooted new observed
-    pub needs : (p : Point) → part.Needed new.graph p ↔ Needed F after died observed p
+    pub needs : (p : Point) → part.Needed new.graph p ↔ Needed F after none_died observed p
     pub sees : (n : NodeId) → Needed F G died observed (main n) → (o : Outcome) × (seen new.rows (main n) ≡ Some o) × NodeGives F G n o
     pub chose : (n m : NodeId) (r : Row) → G.row n ≡ Some r → subject_of r.def ≡ Some m → Needed F G died observed (change n)
         → (o : Outcome) × (outcome_in (at new.rows (change n)) ≡ Some o) × NodeGives F G m o
     pub acyclic : (p : Point) → Needed F G died observed p → IsOnCycle (Depends F G died) p → ⊥
     pub shallow : (p : Point) → Needed F G died observed p → IsDeep (Depends F G died) p → ⊥
-    pub links : (p q : Point) → part.Needed new.graph p → Reads new.graph.links p q ↔ Depends F after died p q
+    pub links : (p q : Point) → part.Needed new.graph p → Reads new.graph.links p q ↔ Depends F after none_died p q
     pub recalls : (n : NodeId) (r : Row) (nodes : List NodeId) (values : List Value) → part.Needed new.graph (main n)
         → after.row n ≡ Some r → taken_by after n r.def ≡ Some nodes → GiveAll F after nodes values
         → (c : Call) × (last_call new n ≡ Some c) × (c.arguments ≡ values)
-    pub kept : (n : NodeId) → (Among n ran → ⊥) → (last_call new n ≡ last_call old n) ⊎ (WasCalledIn old new observed n × (cost_at G n ≡ 0))
-    pub cutoffs : (n : NodeId) → cutoff_at new n ≡ cutoff_at old n
+    pub kept : (n : NodeId) (r : Row) → G.row n ≡ Some r → (Among n ran → ⊥)
+        → (last_call new n ≡ last_call old n) ⊎ (WasCalledIn old new observed n × (cost_at G n ≡ 0))
+    pub cutoffs : (n : NodeId) (r : Row) → G.row n ≡ Some r → cutoff_at new n ≡ cutoff_at old n
     pub once : NoRepeats ran
     pub called : (n : NodeId) → Among n ran → WasCalledIn old new observed n
     pub costs : (n : NodeId) → Among n ran → 0 < cost_at G n
@@ -171,8 +175,7 @@ module _ (F : Functions) (G : Graph) (died : NodeId → Option NodeId) where
   abbrev pub IsLawfulIn : Work → List NodeId → Refused → Type 0
   IsLawfulIn old observed (Height points) = IsListedIn old observed points.items × (length points.items ≡ 130) × NoRepeats points.items
   IsLawfulIn old observed (Cycle points) = IsListedIn old observed points.items × ComesBack points.items
-  IsLawfulIn old observed Full = ⊥
-  IsLawfulIn old observed Memory = Unit {0}
+  IsLawfulIn old observed e = Unit {0}
 
   -- a refused round made few calls, and each of these nodes is met, where these are observed
   pub record HasCalledMetIn (old : Work) (observed : List NodeId) (before after : ℕ) : Type 0 where
@@ -181,7 +184,40 @@ module _ (F : Functions) (G : Graph) (died : NodeId → Option NodeId) where
 
   -- what is shown of a node is what was before, or what it gives
   abbrev pub ShowsStillIn : Work → Work → NodeId → Type 0
-  ShowsStillIn old new n = (seen new.rows (main n) ≡ seen old.rows (main n)) ⊎ ((o : Outcome) × (seen new.rows (main n) ≡ Some o) × NodeGives F G n o)
+  ShowsStillIn old new n = (seen new.rows (main n) ≡ seen old.rows (main n))
+      ⊎ ((o : Outcome) × (seen new.rows (main n) ≡ Some o) × NodeGives F G n o)
+
+  -- a live bind is built for what its left gives, and its change is met
+  pub record IsBuiltMetIn (old : Work) (observed : List NodeId) (b : NodeId) : Type 0 where
+    pub right : IsBuiltRight F G b
+    pub met : IsMetIn old observed (change b)
+
+  -- a live bind is built for nothing, though its left gives an outcome and its change is met
+  pub record IsUnbuiltIn (old : Work) (observed : List NodeId) (b : NodeId) : Type 0 where
+    pub none : G.built b ≡ None
+    pub differs : LeftDiffers F G b
+    pub met : IsMetIn old observed (change b)
+
+  -- what a round leaves of what live binds are built for, of which one couldn't be built, or none. That of a bind that was given before stays, or is
+  -- what its left gives, and then its change is met; a bind that was made in the round is built for nothing, or for what its left gives, and then its
+  -- change is met. The one that couldn't be built is built for nothing; where it was given before, its left gave another outcome than it was built for
+  pub record BuildsRightIn (before : Graph) (given : ℕ) (old : Work) (observed : List NodeId) (unbuilt : Option NodeId) : Type 0 where
+    pub stays : (b : NodeId) (r : Row) → Given given b → G.row b ≡ Some r
+        → (G.built b ≡ before.built b) ⊎ IsBuiltMetIn old observed b ⊎ (unbuilt ≡ Some b)
+    pub made : (b : NodeId) (r : Row) → given ≤ b.gen_ → G.row b ≡ Some r → (G.built b ≡ None) ⊎ IsBuiltMetIn old observed b
+    pub refused : (b : NodeId) → unbuilt ≡ Some b → IsUnbuiltIn old observed b
+    pub was : (b : NodeId) → unbuilt ≡ Some b → Given given b → LeftDiffers F before b
+
+-- a build is refused for want of room or of memory alone
+abbrev pub RefusesBuild : Refused → Type 0
+RefusesBuild Full = Unit {0}
+RefusesBuild Memory = Unit {0}
+RefusesBuild e = ⊥
+
+-- a round stops as full only where a build in it found no room for a further node
+abbrev pub IsFullBy : Arena → Arena → Refused → Type 0
+IsFullBy old new Full = (count : ℕ) × (old.given ≤ count) × LeavesNoRoom count new
+IsFullBy old new e = Unit {0}
 
 -- so it is of a round from these parts to those
 module _ (F : Functions) (old new : Parts) where
@@ -189,13 +225,58 @@ module _ (F : Functions) (old new : Parts) where
   IsUpToDate observed = IsUpToDateIn F (left_by old new) (died_by old new) (graph_in new) old.work new.work observed new.ran.items
 
   abbrev pub IsLawful : List NodeId → Refused → Type 0
-  IsLawful observed e = IsLawfulIn F (left_by old new) (died_by old new) old.work observed e
+  IsLawful observed e = IsLawfulIn F (left_by old new) (died_by old new) old.work observed e × IsFullBy old.arena new.arena e
 
   abbrev pub HasCalledMet : List NodeId → ℕ → ℕ → Type 0
   HasCalledMet observed before after = HasCalledMetIn F (left_by old new) (died_by old new) old.work observed before after
 
   abbrev pub ShowsStill : NodeId → Type 0
   ShowsStill n = ShowsStillIn F (left_by old new) (died_by old new) old.work new.work n
+
+  abbrev pub BuildsRight : List NodeId → Option NodeId → Type 0
+  BuildsRight observed unbuilt = BuildsRightIn F (left_by old new) (died_by old new) (graph_in old) old.arena.given old.work observed unbuilt
+
+  -- each bind could be built
+  abbrev pub BuildsAll : List NodeId → Type 0
+  BuildsAll observed = BuildsRight observed None
+
+  -- all but one could be built, or all
+  abbrev pub BuildsAllBut : List NodeId → Refused → Type 0
+  BuildsAllBut observed e = (unbuilt : Option NodeId) × BuildsRight observed unbuilt × ((b : NodeId) → unbuilt ≡ Some b → RefusesBuild e)
+
+-- ---- what a round leaves of the nodes, wherever it stops
+
+-- a live node that is new stands in the scope, or in one within it, of a bind that was there before, and lives
+pub record StandsAnewBy (old new : Parts) (n : NodeId) : Type 0 where
+  pub bind : NodeId
+  pub row : Row
+  pub given : Given old.arena.given bind
+  pub is_row : row_at new.arena bind ≡ Some row
+  pub inside : Inside (graph_in new) bind n
+  pub there : Given new.arena.given n
+
+-- the outcome for which a bind is built is another than before
+abbrev pub IsBuiltOtherBy : Parts → Parts → NodeId → Type 0
+IsBuiltOtherBy old new b = outcome_of ((graph_in new).built b) ≡ outcome_of ((graph_in old).built b) → ⊥
+
+-- what a round leaves that stops: of what was given all stays, but for what died: that stood inside a bind whose left gives another outcome than it
+-- was built for. Who stood inside a bind that is built for another outcome than before, or for nothing now, is dead. A bind that is built for the same
+-- outcome has the same root, and each live bind that is built has one that reads back as its function's term at that, or none for Invalid; a new node
+-- stands inside a bind that is built for another outcome than before, or for nothing. The count of builds rose by at most one for each of some binds, and
+-- of those that were given before each had a left that gives another outcome than it was built for; and as many nodes were added as ids were given
+pub record IsLeftBy (F : Functions) (old new : Parts) (before after : Counts) : Type 0 where
+  pub rest : GraphStays old.arena.given new.arena.given (graph_in old) (graph_in new)
+  pub dead : (n : NodeId) (r : Row) → row_at old.arena n ≡ Some r → row_at new.arena n ≡ None
+      → (b : NodeId) × Inside (graph_in old) b n × LeftDiffers F (graph_in old) b
+  pub killed : (n b : NodeId) → Inside (graph_in old) b n → IsBuiltOtherBy old new b → row_at new.arena n ≡ None
+  pub rooted : Rooted F (graph_in new)
+  pub roots : (b : NodeId) (r : Row) → Given old.arena.given b → row_at new.arena b ≡ Some r
+      → outcome_of ((graph_in new).built b) ≡ outcome_of ((graph_in old).built b) → (graph_in new).built b ≡ (graph_in old).built b
+  pub born : (n : NodeId) (r : Row) → old.arena.given ≤ n.gen_ → row_at new.arena n ≡ Some r
+      → (a : StandsAnewBy old new n) × (((graph_in new).built a.bind ≡ None) ⊎ IsBuiltOtherBy old new a.bind)
+  pub builds : (binds : List NodeId) × NoRepeats binds × ((b : NodeId) → Among b binds → Given old.arena.given b → LeftDiffers F (graph_in old) b)
+      × RoseAtMost before.builds (length binds) after.builds
+  pub adds : (number : ℕ) × (new.arena.given ≡ old.arena.given + number) × RoseBy before.adds number after.adds
 
 -- ---- what a refused round tried
 
@@ -205,8 +286,8 @@ AllButLast P [] = Unit {0}
 AllButLast P (p ∷ []) = Unit {0}
 AllButLast P (p ∷ q ∷ rest) = P p × AllButLast P (q ∷ rest)
 
--- in the parts that a refused round leaves, all points that are listed but the last are needed, and each is linked to the next, but for one link at most:
--- the one that was refused. Where that is one to a right side, its node's change ran in this round
+-- in the parts that a refused round leaves, all points that are listed but the last are needed, and each is linked to the next, but for one link at
+-- most: the one that was refused. Where that is one to a right side, its node's change ran in this round
 pub record IsTried (arena : Arena) (work : Work) (points : List Point) : Type 0 where
   pub reader : Point
   pub kid : Point
@@ -220,8 +301,7 @@ pub record IsTried (arena : Arena) (work : Work) (points : List Point) : Type 0 
 abbrev pub LeavesTried : Arena → Work → Refused → Type 0
 LeavesTried arena work (Height points) = IsTried arena work points.items
 LeavesTried arena work (Cycle points) = IsTried arena work points.items
-LeavesTried arena work Full = ⊥
-LeavesTried arena work Memory = Unit {0}
+LeavesTried arena work e = Unit {0}
 
 -- ---- the parts of a round
 
@@ -234,29 +314,30 @@ abbrev pub OnlyRoots : Roots → Roots → List Point → Type 0
 OnlyRoots old new points = (p : Point) → 0 < root_times new p → (0 < root_times old p) ⊎ Among p points
 
 -- the parts stand for a state of a round of these functions, with the count of calls
-pub record IsInRound (M : Meaning) (arena : Arena) (work : Work) (calls : ℕ) : Type 0 where
+pub record IsInRound (M : Meaning) (parts : Parts) (counts : Counts) : Type 0 where
   pub start : Start
   pub state : State
   pub round : IsRoundOf M start state
-  pub stands : Stands arena work calls None state
+  pub stands : Stands parts.arena parts.work counts None state
 
 -- from each state that the parts stand for, with the count of calls, moves lead to one that they stand for then
-abbrev pub Settles : Meaning → Arena → Work → Work → ℕ → ℕ → Type 0
-Settles M arena old new before after =
-    (z : Start) (s : State) → IsRoundOf M z s → Stands arena old before None s
-    → (t : State) × Moves M.functions z s t × Stands arena new after None t
+abbrev pub Settles : Meaning → Parts → Parts → Counts → Counts → Type 0
+Settles M old new before after =
+    (z : Start) (s : State) → IsRoundOf M z s → Stands old.arena old.work before None s
+    → (t : State) × Moves M.functions z s t × Stands new.arena new.work after None t
 
--- where steps stop: in a state that moves lead to; some of the calls of a least point's function may have been made
-pub record Pauses (F : Functions) (z : Start) (s : State) (arena : Arena) (new : Work) (after : ℕ) (e : Refused) : Type 0 where
+-- where a round stops, as the machine says: it is told why, or a build found no room for a further node
+pub record Pauses (F : Functions) (z : Start) (s : State) (new : Parts) (after : Counts) (e : Refused) : Type 0 where
+  pub before : State
   pub state : State
   pub left : Option Hand
-  pub between : ℕ
-  pub moves : Moves F z s state
-  pub stands : Stands arena new between left state
-  pub calls : (after ≡ state.calls) ⊎ (Quiet state × (n : NodeId) × IsLeast state (main n) × HasCalledSome (graph_at arena new) n state.calls after)
-  pub told : TellsWhy F state new left e
+  pub moves : Moves F z s before
+  pub stops : Stops F z before state
+  pub stands : Stands new.arena new.work after left state
+  pub told : ((state ≡ called_more before after.calls) × TellsWhy F state new.work left e)
+      ⊎ ((count : ℕ) × (s.given ≤ count) × StopsBuilding count new.arena e)
 
 -- from each state that the parts stood for, with the count of calls, steps stop so
-abbrev pub SettleRefused : Meaning → Arena → Work → Work → ℕ → ℕ → Refused → Type 0
-SettleRefused M arena old new before after e =
-    (z : Start) (s : State) → IsRoundOf M z s → Stands arena old before None s → Pauses M.functions z s arena new after e
+abbrev pub SettleRefused : Meaning → Parts → Parts → Counts → Counts → Refused → Type 0
+SettleRefused M old new before after e =
+    (z : Start) (s : State) → IsRoundOf M z s → Stands old.arena old.work before None s → Pauses M.functions z s new after e

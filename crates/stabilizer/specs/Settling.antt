@@ -10,13 +10,13 @@ use Rattle.map_nodes.specs.declared.cutoff.Cutoff.TheVariants.{Equal}
 use Rattle.stabilize_round.specs.State.{Call}
 use Rattle.node_outcomes.specs.Computing.{ran_then}
 use Rattle.node_outcomes.specs.Row.{settled_in, is_never}
-use Rattle.stabilizer.specs.Wiring.{KeepsGraph}
+use Rattle.wiring.specs.Wiring.{KeepsGraph}
 use Rattle.node_outcomes.specs.declared.row.Progress.{Progress}
-use Rattle.stabilizer.specs.declared.work.Work.{Work}
+use Rattle.wiring.specs.declared.work.Work.{Work}
 
 -- a main of the heap was settled on an outcome, with this last call, for which so many calls were made. It left the heap, and where its outcome is another than before, or its cutoff is
 -- Never, the points that read it and weren't settled came in. Where its outcome is the one before and its cutoff Equal, none came in. All binds
--- keep their roots
+-- keep their roots, and none died
 pub record IsSettled (old new : Work) (n : NodeId) (o : Outcome) (last : Option Call) (calls : ℕ) : Type 0 where
   pub row : Progress
   pub was : at old.rows (main n) ≡ Some row
@@ -31,6 +31,7 @@ pub record IsSettled (old new : Work) (n : NodeId) (o : Outcome) (last : Option 
       → Holds old.graph.heap p ⊎ (Reads old.graph.links p (main n) × (settled_in old.round (at old.rows p) ≡ false))
   pub stops : row.outcome ≡ Some o → row.cutoff ≡ Equal → (p : Point) → p ≢ main n → Holds new.graph.heap p → Holds old.graph.heap p
   pub roots : new.roots ≡ old.roots
+  pub deaths : new.deaths ≡ old.deaths
   pub ran : new.ran.items ≡ ran_then calls old.ran.items n
   pub todo : new.todo.items ≡ old.todo.items
   pub strict : new.strict ≡ old.strict

@@ -1,61 +1,98 @@
 -- What a step does.
-use Rattle.std.specs.Prelude.{◌≡◌, ◌⊎◌, ◌<◌, ◌+◌, ◌*◌, ℕ, Bool, cond, not, ◌&&◌, List, length, Option, None, Some, is_some}
+use Rattle.std.specs.Prelude.{◌≡◌, ◌≢◌, ◌⊎◌, ◌↔◌, ◌<◌, ◌≤◌, ◌+◌, ◌*◌, ℕ, Bool, true, false, cond, not, ◌&&◌, List, [], length, Option, None, Some, is_some}
 use Rattle.inc_value.specs.declared.node.NodeId.{NodeId}
 use Rattle.inc_value.specs.declared.node.Point.{Point}
 use Rattle.inc_value.specs.declared.outcome.Outcome.{Outcome}
 use Rattle.inc_value.specs.Choice.{Among}
 use Rattle.inc_terms.specs.Depend.{main, change, subject_of}
-use Rattle.inc_terms.specs.Graph.{Row}
+use Rattle.inc_value.specs.declared.function.FnRef.{FnRef}
+use Rattle.inc_terms.specs.Graph.{Row, Def, Bind}
 use Rattle.inc_terms.specs.Term.{Functions}
-use Rattle.point_map.specs.Rows.{at, Holds, KeepsRows, Changes}
-use Rattle.recompute_heap.specs.Agree.{IsLeast as IsLowest}
-use Rattle.height_order.specs.Levels.{level}
+use Rattle.point_map.specs.Rows.{at, Holds, KeepsRows}
 use Rattle.node_arena.specs.Arena.{Arena, row_at}
 use Rattle.stabilize_round.specs.Calling.{cost_at}
 use Rattle.stabilize_round.specs.Counts.{RoseBy, number_of}
 use Rattle.stabilize_round.specs.Moves.{Quiet, IsLeast, calls_of}
-use Rattle.stabilize_round.specs.Machine.{Moves}
+use Rattle.stabilize_round.specs.Machine.{Moves, Stops}
 use Rattle.stabilize_round.specs.State.{State, Start, Call}
-use Rattle.stabilize_round.specs.Steps.{Step}
+use Rattle.inc_value.specs.Choice.{Reaches}
+use Rattle.stabilize_round.specs.Steps.{Step, Preparing}
 use Rattle.node_outcomes.specs.Computing.{IsComputed, HasCalledSome, seen}
 use Rattle.node_outcomes.specs.Meaning.{Meaning}
-use Rattle.stabilizer.specs.Began.{IsRoundOf}
-use Rattle.stabilizer.specs.Deciding.{is_needed}
-use Rattle.stabilizer.specs.Graph.{graph_at}
-use Rattle.stabilizer.specs.Growing.{Covers}
-use Rattle.stabilizer.specs.Refusing.{TellsWhy}
-use Rattle.node_outcomes.specs.Row.{settled_in, stage_in, is_full}
+use Rattle.wiring.specs.Began.{IsRoundOf}
+use Rattle.wiring.specs.Deciding.{is_needed}
+use Rattle.wiring.specs.Graph.{graph_at}
+use Rattle.wiring.specs.Refusing.{TellsWhy}
+use Rattle.node_outcomes.specs.Row.{settled_in, outcome_in, stage_in, is_full}
 use Rattle.stabilizer.specs.Settling.{IsSettled}
-use Rattle.stabilizer.specs.Turning.{HasTurned, IsWaiting}
+use Rattle.wiring.specs.Turning.{HasTurned, IsWaiting}
 use Rattle.node_outcomes.specs.Choosing.{right_in}
-use Rattle.stabilizer.specs.Wiring.{Wires, WireRefused, Attaches, AttachRefused}
+use Rattle.wiring.specs.Wiring.{Wires, WireRefused, Attaches, AttachRefused, WaitsFor}
 use Rattle.node_outcomes.specs.declared.row.Stage.TheVariants.{Full}
-use Rattle.stabilizer.specs.Stands.{Stands, Hand}
-use Rattle.stabilizer.specs.declared.refused.Refused.{Refused}
-use Rattle.stabilizer.specs.declared.refused.Refused.TheVariants.{Memory}
-use Rattle.stabilizer.specs.declared.work.Work.{Work}
+use Rattle.wiring.specs.Stands.{Stands, Counts, Hand}
+use Rattle.stabilizer.specs.Building.{StopsBuilding}
+use Rattle.stabilizer.specs.Dying.{TakesLeast, StandsBefore}
+use Rattle.stabilizer.specs.Kept.{graph_in}
+use Rattle.stabilizer.specs.Rebuilding.{IsToBuild, BuildsAnew}
+use Rattle.stabilizer.specs.declared.parts.Parts.{Parts}
+use Rattle.wiring.specs.declared.refused.Refused.{Refused}
+use Rattle.wiring.specs.declared.refused.Refused.TheVariants.{Memory}
+use Rattle.wiring.specs.declared.work.Work.{Work}
+
+-- nothing was built
+pub record IsOfBuilds (before after : Counts) : Type 0 where
+  pub builds : after.builds ≡ before.builds
+  pub adds : after.adds ≡ before.adds
 
 -- a live main was computed, and settled on its outcome
-pub record MainIsSettled (F : Functions) (arena : Arena) (old new : Work) (n : NodeId) (before after : ℕ) : Type 0 where
+pub record MainIsSettled (F : Functions) (arena : Arena) (old new : Work) (n : NodeId) (before after : Counts) : Type 0 where
   pub outcome : Outcome
   pub last : Option Call
   pub called : Bool
   pub computed : IsComputed F (graph_at arena old) old.round old.rows n outcome last called
   pub settled : IsSettled old new n outcome last (calls_of called (cost_at (graph_at arena old) n))
-  pub count : RoseBy before (calls_of called (cost_at (graph_at arena old) n)) after
+  pub count : RoseBy before.calls (calls_of called (cost_at (graph_at arena old) n)) after.calls
+  pub rest : IsOfBuilds before after
 
 -- without memory a main stays as it was; some of the calls that it takes may have been made
-pub record MainIsLeft (arena : Arena) (old new : Work) (n : NodeId) (before after : ℕ) : Type 0 where
+pub record MainIsLeft (arena : Arena) (old new : Work) (n : NodeId) (before after : Counts) : Type 0 where
   pub rows : KeepsRows old.rows new.rows
   pub graph : new.graph ≡ old.graph
   pub roots : new.roots ≡ old.roots
+  pub deaths : new.deaths ≡ old.deaths
   pub todo : new.todo.items ≡ old.todo.items
   pub ran : new.ran.items ≡ old.ran.items
   pub strict : new.strict ≡ old.strict
   pub round : new.round ≡ old.round
-  pub count : (after ≡ before) ⊎ HasCalledSome (graph_at arena old) n before after
+  pub count : (after.calls ≡ before.calls) ⊎ HasCalledSome (graph_at arena old) n before.calls after.calls
+  pub rest : IsOfBuilds before after
 
--- the parts turned: a change of the heap was settled on what its subject shows
+-- the points in the scope of a bind that wait for its change are in the worklist, and none else
+pub record AreWoken (old new : Work) (n : NodeId) : Type 0 where
+  pub listed : (p : Point) → Among p new.todo.items ↔ WaitsFor old p (change n)
+  pub rest : new ≡ record old { todo = new.todo }
+
+-- a bind that is built by this function from these captures isn't built for the outcome
+abbrev pub IsUnbuiltBind : Def → FnRef → List NodeId → Option Outcome → Outcome → Type 0
+IsUnbuiltBind def f captures o given = (left : NodeId) × (def ≡ Bind left f captures) × (o ≢ Some given)
+
+-- a bind is built for the outcome
+abbrev pub IsBuiltFor : Def → Option Outcome → Outcome → Type 0
+IsBuiltFor def o given = (left : NodeId) (f : FnRef) (captures : List NodeId) → def ≡ Bind left f captures → o ≡ Some given
+
+-- then a change was settled on the outcome
+pub record IsTurnedAwake (old new : Work) (n : NodeId) (def : Def) (given : Outcome) : Type 0 where
+  pub woken : Work
+  pub wakes : AreWoken old woken n
+  pub turned : HasTurned woken new n (right_in woken.rows woken.roots n def) given
+
+-- there was no memory to put them there, and the worklist is empty
+pub record IsAsleep (old new : Work) (e : Refused) : Type 0 where
+  pub rest : new ≡ record old { todo = new.todo }
+  pub quiet : new.todo.items ≡ []
+  pub memory : e ≡ Memory
+
+-- the parts turned: a change of the heap was settled on what its subject shows, for which its node, if it is a bind, is built
 pub record ChangeIsTurned (arena : Arena) (old new : Work) (n : NodeId) : Type 0 where
   pub row : Row
   pub subject : NodeId
@@ -63,58 +100,69 @@ pub record ChangeIsTurned (arena : Arena) (old new : Work) (n : NodeId) : Type 0
   pub is_row : row_at arena n ≡ Some row
   pub is_subject : subject_of row.def ≡ Some subject
   pub sees : (seen old.rows (main subject) ≡ Some given) ⊎ (seen old.rows (main subject) ≡ None)
-  pub turned : HasTurned old new n (right_in old.rows old.roots n row.def) given
+  pub built : (left : NodeId) (f : FnRef) (captures : List NodeId) → row.def ≡ Bind left f captures → outcome_in (at old.rows (change n)) ≡ Some given
+  pub woken : Work
+  pub wakes : AreWoken old woken n
+  pub turned : HasTurned woken new n (right_in old.rows old.roots n row.def) given
+
+-- a change that was taken was turned, or its bind was built anew and that was settled
+pub data IsTurned (M : Meaning) (old new : Parts) (n : NodeId) (before after : Counts) : Type 0 where
+  turned : ChangeIsTurned old.arena old.work new.work n → new ≡ record old { work = new.work } → after ≡ before → IsTurned M old new n before after
+  built : {f : FnRef} {captures : List NodeId} {given : Outcome} → IsToBuild old n f captures given → BuildsAnew M old new n before after
+      → after.calls ≡ before.calls → IsTurned M old new n before after
 
 -- then its main got its right side, if it waits, and what is newly needed its links
-pub record ChangeIsSettled (arena : Arena) (old new : Work) (n : NodeId) : Type 0 where
-  pub turned : Work
-  pub turns : ChangeIsTurned arena old turned n
+pub record ChangeIsSettled (M : Meaning) (old new : Parts) (n : NodeId) (before after : Counts) : Type 0 where
+  pub turned : Parts
+  pub turns : IsTurned M old turned n before after
   pub attached : Work
-  pub attaches : Attaches arena turned attached n
-  pub full : IsWaiting turned n → stage_in (at attached.rows (main n)) ≡ Some Full
-  pub wires : Wires arena attached new None
+  pub attaches : Attaches turned.arena turned.work attached n
+  pub full : IsWaiting turned.work n → (stage_in (at attached.rows (main n)) ≡ Some Full) ⊎ ((turned.work.strict ≡ false) × (attached.strict ≡ true))
+  pub wires : Wires turned.arena attached new.work None
+  pub rest : new ≡ record turned { work = new.work }
 
--- or that was refused
-pub data ChangeIsLeft (arena : Arena) (old new : Work) (n : NodeId) (e : Refused) : Type 0 where
-  as_it_was : KeepsRows old.rows new.rows → new ≡ record old { graph = new.graph } → Changes old.graph.heap new.graph.heap (change n)
-      (at old.graph.heights (change n)) → new.graph ≡ record old.graph { heap = new.graph.heap } → e ≡ Memory → ChangeIsLeft arena old new n e
-  unattached : {turned : Work} → ChangeIsTurned arena old turned n → AttachRefused arena turned new n e → ChangeIsLeft arena old new n e
-  unwired : {turned attached : Work} → ChangeIsTurned arena old turned n → Attaches arena turned attached n
-      → WireRefused arena attached new None e → ChangeIsLeft arena old new n e
+-- or that was refused: the change is in the heap again and all else as it was; the bind couldn't be built; or a link was refused, or found no memory
+pub data ChangeIsLeft (M : Meaning) (old new : Parts) (n : NodeId) (before after : Counts) (e : Refused) : Type 0 where
+  as_it_was : ((s : State) → StandsBefore old before s n → Stands new.arena new.work after None s) → new.arena ≡ old.arena → after ≡ before → e ≡ Memory
+      → ChangeIsLeft M old new n before after e
+  unbuilt : {count : ℕ} → ((z : Start) (s : State) → IsRoundOf M z s → Quiet s → StandsBefore old before s n
+      → (ready stopped : State) × Reaches (Preparing M.functions z (change n)) s ready × Stops M.functions z ready stopped
+      × Stands new.arena new.work after None stopped)
+      → after.calls ≡ before.calls → old.arena.given ≤ count → StopsBuilding count new.arena e
+      → ChangeIsLeft M old new n before after e
+  unattached : {turned : Parts} → IsTurned M old turned n before after → AttachRefused turned.arena turned.work new.work n e
+      → new ≡ record turned { work = new.work } → ChangeIsLeft M old new n before after e
+  unwired : {turned : Parts} {attached : Work} → IsTurned M old turned n before after → Attaches turned.arena turned.work attached n
+      → WireRefused turned.arena attached new.work None e → new ≡ record turned { work = new.work } → ChangeIsLeft M old new n before after e
 
--- the parts without a point of the heap that none there is lower than
-pub record TakesLeast (old taken : Work) (p : Point) : Type 0 where
-  pub held : Holds old.graph.heap p
-  pub least : IsLowest old.graph.heap (level old.graph.heights p)
-  pub heap : Changes old.graph.heap taken.graph.heap p None
-  pub graph : taken.graph ≡ record old.graph { heap = taken.graph.heap }
-  pub rest : taken ≡ record old { graph = taken.graph }
+-- a least point left the heap and was settled: a main was computed, or a change turned or its bind built anew
+pub data SettlesLeast (M : Meaning) (old new : Parts) (before after : Counts) : Type 0 where
+  of_main : {n : NodeId} {taken : Work} → TakesLeast old.work taken (main n) → MainIsSettled M.functions old.arena taken new.work n before after
+      → new ≡ record old { work = new.work } → SettlesLeast M old new before after
+  of_change : {n : NodeId} {taken : Work} → TakesLeast old.work taken (change n)
+      → ChangeIsSettled M (record old { work = taken }) new n before after → SettlesLeast M old new before after
 
--- a least point left the heap and was settled: a main was computed, or a change that calls no function turned
-pub data SettlesLeast (F : Functions) (arena : Arena) (old new : Work) (before after : ℕ) : Type 0 where
-  of_main : {n : NodeId} {taken : Work} → TakesLeast old taken (main n) → MainIsSettled F arena taken new n before after
-      → SettlesLeast F arena old new before after
-  of_change : {n : NodeId} {taken : Work} → TakesLeast old taken (change n) → ChangeIsSettled arena taken new n → after ≡ before
-      → SettlesLeast F arena old new before after
+-- from each state that the parts stand for, with the counts, a step leads to one that they stand for then
+abbrev pub Steps : Meaning → Parts → Parts → Counts → Counts → Type 0
+Steps M old new before after =
+    (z : Start) (s : State) → IsRoundOf M z s → Quiet s → Stands old.arena old.work before None s
+    → (t : State) × Step M.functions z s t × Stands new.arena new.work after None t
 
--- from each state that the parts stand for, with the count of calls, a step leads to one that they stand for then
-abbrev pub Steps : Meaning → Arena → Work → Work → ℕ → ℕ → Type 0
-Steps M arena old new before after =
-    (z : Start) (s : State) → IsRoundOf M z s → Quiet s → Stands arena old before None s
-    → (t : State) × Step M.functions z s t × Stands arena new after None t
-
--- where a step stops that is refused: as it was, but for some of the calls of a least point's function; or where points get their links, of which one was
--- refused, or had no memory
-pub data StepStops (F : Functions) (z : Start) (s : State) (arena : Arena) (new : Work) (before after : ℕ) (e : Refused) : Type 0 where
-  as_it_was : Stands arena new before None s → (after ≡ before) ⊎ ((n : NodeId) × IsLeast s (main n) × HasCalledSome (graph_at arena new) n before after) → e ≡ Memory
-      → StepStops F z s arena new before after e
-  wiring : {t : State} {left : Option Hand} → Moves F z s t → Stands arena new before left t → after ≡ before → TellsWhy F t new left e
-      → StepStops F z s arena new before after e
+-- where a step stops that is refused: as it was, but for some of the calls of a least point's function; where a bind couldn't be built; or where points get
+-- their links, of which one was refused, or had no memory
+pub data StepStops (F : Functions) (z : Start) (s : State) (new : Parts) (before after : Counts) (e : Refused) : Type 0 where
+  as_it_was : Stands new.arena new.work before None s
+      → (after ≡ before) ⊎ ((n : NodeId) × IsLeast s (main n) × HasCalledSome (graph_in new) n before.calls after.calls × IsOfBuilds before after) → e ≡ Memory
+      → StepStops F z s new before after e
+  unbuilt : {r t : State} {count : ℕ} → Moves F z s r → Stops F z r t → Stands new.arena new.work after None t → after.calls ≡ before.calls
+      → s.given ≤ count → StopsBuilding count new.arena e → StepStops F z s new before after e
+  wiring : {t : State} {left : Option Hand} → Moves F z s t → Stands new.arena new.work after left t → after.calls ≡ before.calls → TellsWhy F t new.work left e
+      → StepStops F z s new before after e
 
 -- so it is from each state that the parts stand for
-abbrev pub StepRefused : Meaning → Arena → Work → Work → ℕ → ℕ → Refused → Type 0
-StepRefused M arena old new before after e =
-    (z : Start) (s : State) → IsRoundOf M z s → Quiet s → Stands arena old before None s → StepStops M.functions z s arena new before after e
+abbrev pub StepRefused : Meaning → Parts → Parts → Counts → Counts → Refused → Type 0
+StepRefused M old new before after e =
+    (z : Start) (s : State) → IsRoundOf M z s → Quiet s → Stands old.arena old.work before None s → StepStops M.functions z s new before after e
 
 -- ---- what is left of a round
 
@@ -138,12 +186,12 @@ left_to_settle work points nodes =
     * (length points + 1) + number_of (is_again work) points
 
 -- each point that has a row is of these, and its node
-pub record CoversAll (work : Work) (points : List Point) (nodes : List NodeId) : Type 0 where
-  pub points_of : Covers work points
+pub record CoversRows (work : Work) (points : List Point) (nodes : List NodeId) : Type 0 where
+  pub points_of : (p : Point) → Holds work.rows p → Among p points
   pub nodes_of : (p : Point) → Holds work.rows p → Among p.node nodes
 
 -- less is left after a step, where the parts stand for some state of a round
-abbrev pub StepFalls : Meaning → Arena → Work → Work → ℕ → Type 0
-StepFalls M arena old new before =
-    (z : Start) (s : State) → IsRoundOf M z s → Quiet s → Stands arena old before None s → (points : List Point) (nodes : List NodeId)
-    → CoversAll old points nodes → left_to_settle new points nodes < left_to_settle old points nodes
+abbrev pub StepFalls : Meaning → Parts → Parts → Counts → Type 0
+StepFalls M old new before =
+    (z : Start) (s : State) → IsRoundOf M z s → Quiet s → Stands old.arena old.work before None s → (points : List Point) (nodes : List NodeId)
+    → CoversRows old.work points nodes → left_to_settle new.work points nodes < left_to_settle old.work points nodes

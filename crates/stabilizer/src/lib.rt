@@ -2,12 +2,9 @@
 #![tactic(auto)]
 
 mod parts;
-mod refused;
-mod settled;
+mod rebuild;
 mod stabilizer;
-mod wire;
-mod work;
 
 pub use parts::Parts;
-pub use refused::Refused;
 pub use stabilizer::Stabilizer;
+pub use wiring::Refused;

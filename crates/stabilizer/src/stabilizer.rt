@@ -1,35 +1,41 @@
 //! Steps and rounds.
-ghost use Rattle.std.specs.Prelude.{◌≡◌, ◌+◌, ◌++◌, [], None, List, map, All};
-ghost use Rattle.std.specs.Prelude.{IfOk, OnOk, OnErr, IfErr, IsTrue, IsFalse};
+ghost use Rattle.std.specs.Prelude.{◌≡◌, ◌+◌, ◌++◌, ◌≤◌, [], None, Some, List, map, All, true};
+ghost use Rattle.std.specs.Prelude.{IfOk, OnOk, OnErr, IfErr, IfSome, IsTrue, IsFalse};
 ghost use Rattle.inc_value.specs.declared.node.NodeId.{NodeId};
+ghost use Rattle.inc_terms.specs.Code.{def_of};
 ghost use Rattle.inc_terms.specs.Depend.{main, change};
+ghost use Rattle.inc_terms.specs.Graph.{Row as ARow};
 ghost use Rattle.inc_terms.specs.Within.{Given};
 ghost use Rattle.point_map.specs.Rows.{at, Holds};
 ghost use Rattle.stabilize_round.specs.Calling.{costs_of};
 ghost use Rattle.stabilize_round.specs.Counts.{RoseBy};
 ghost use Rattle.necessity.specs.Need.{KeepsRoots};
 ghost use Rattle.recompute_heap.specs.Agree.{IsEmpty};
-ghost use Rattle.necessary_graph.specs.Part.{Needed};
-ghost use Rattle.node_arena.specs.Graph.{AllCallFit};
-ghost use Rattle.stabilizer.specs.Kept.{IsKept};
-ghost use Rattle.node_arena.specs.RightSideLaws.{ids_of};
-ghost use Rattle.node_outcomes.specs.Meaning.{functions_of, meaning_of, KeepsFunctions};
+ghost use Rattle.necessary_graph.specs.Part.{Needed, IsInStep};
+ghost use Rattle.node_arena.specs.Arena.{row_at};
+ghost use Rattle.node_arena.specs.RightSideLaws.{AllFit};
+ghost use Rattle.node_outcomes.specs.Meaning.{functions_of, meaning_of};
+ghost use Rattle.node_outcomes.specs.Row.{settled_in, outcome_in};
+ghost use Rattle.wiring.specs.Kept.{IsKept};
+ghost use Rattle.wiring.specs.Wiring.{PutsRoots, RootRefused};
+ghost use Rattle.stabilizer.specs.Kept.{PartsKept, KeepsMeaning, StaysFlat, counts_by};
+ghost use Rattle.stabilizer.specs.Rebuilding.{BuildRefused};
 ghost use Rattle.stabilizer.specs.Round.{IsReady, AreRooted, IsUpToDate, IsLawful, LeavesTried, HasCalledMet, ShowsStill};
-ghost use Rattle.stabilizer.specs.Round.{cutoff_at, left_by};
+ghost use Rattle.stabilizer.specs.Round.{cutoff_at, left_by, IsLeftBy, BuildsAll, BuildsAllBut};
 ghost use Rattle.stabilizer.specs.Round.{IsInRound, RootsMore, OnlyRoots, Settles, SettleRefused};
-ghost use Rattle.stabilizer.specs.Stepping.{MainIsSettled, MainIsLeft, ChangeIsSettled, ChangeIsLeft, SettlesLeast};
+ghost use Rattle.stabilizer.specs.Stepping.{MainIsSettled, MainIsLeft, IsUnbuiltBind, IsBuiltFor, IsTurnedAwake, IsAsleep, IsTurned, ChangeIsSettled, ChangeIsLeft, SettlesLeast};
 ghost use Rattle.stabilizer.specs.Stepping.{Steps, StepRefused, StepFalls};
-ghost use Rattle.stabilizer.specs.Today.{NodesStay};
-ghost use Rattle.stabilizer.specs.Wiring.{PutsRoots, RootRefused, KeepsPlaces};
 
 use crate::parts::Parts;
-use crate::refused::Refused;
-use crate::work::Work;
-use inc_value::{NodeId, Part, Point};
+use crate::rebuild::Recipe;
+use inc_terms::Def;
+use inc_value::{NodeId, Outcome, Part};
 use node_arena::{Arena, Functions};
-use node_outcomes::{change_point, compute, main_point, shown};
-use std::alloc::AllocError;
+use node_outcomes::{Progress, change_point, compute, main_point, ran_with, shown};
+use point_map::PointMap;
+use std::alloc::{AllocError, Global};
 use std::mem;
+use wiring::{Refused, Work};
 
 /// Brings what is needed of a graph up to date.
 pub struct Stabilizer;
@@ -37,37 +43,37 @@ pub struct Stabilizer;
 impl Stabilizer {
     /// Takes a point of least height from the heap, any one of them, and settles it. False where the heap is empty.
     pub fn step<F: Functions>(parts: &mut Parts, functions: &mut F) -> Result<bool, Refused>
-        requires kept { IsKept parts.old.arena parts.old.work }
+        requires kept { PartsKept parts.old }
         requires quiet { parts.old.work.todo.items ≡ [] }
         requires sound { F.is_sound functions.old }
-        requires fit { AllCallFit (F.known functions.old) (ids_of (F.right functions.old)) parts.old.arena }
+        requires fit { AllFit (F.known functions.old) (F.right functions.old) parts.old.arena }
         ensures stepped { IfOk result (λ more. IsTrue more → Steps (meaning_of F.Functions functions.old)
-            parts.old.arena parts.old.work parts.new.work (F.calls functions.old) (F.calls functions.new)) }
-        ensures settled { IfOk result (λ more. IsTrue more → SettlesLeast (functions_of F.Functions functions.old) parts.old.arena
-            parts.old.work parts.new.work (F.calls functions.old) (F.calls functions.new)) }
+            parts.old parts.new (counts_by F.Functions functions.old) (counts_by F.Functions functions.new)) }
+        ensures settled { IfOk result (λ more. IsTrue more → SettlesLeast (meaning_of F.Functions functions.old) parts.old parts.new
+            (counts_by F.Functions functions.old) (counts_by F.Functions functions.new)) }
         ensures more { IfOk result (λ more. IsTrue more → ¬ IsEmpty parts.old.work.graph.heap) }
         ensures empty { IfOk result (λ more. IsFalse more → IsEmpty parts.old.work.graph.heap) }
         ensures unchanged { IfOk result (λ more. IsFalse more → parts.new ≡ parts.old) }
-        ensures uncalled { IfOk result (λ more. IsFalse more → F.calls functions.new ≡ F.calls functions.old) }
-        ensures refused { IfErr result (StepRefused (meaning_of F.Functions functions.old) parts.old.arena parts.old.work
-            parts.new.work (F.calls functions.old) (F.calls functions.new)) }
-        ensures arena { NodesStay parts.old.arena parts.new.arena }
-        ensures kept { IsKept parts.new.arena parts.new.work }
+        ensures uncalled { IfOk result (λ more. IsFalse more → counts_by F.Functions functions.new ≡ counts_by F.Functions functions.old) }
+        ensures refused { IfErr result (StepRefused (meaning_of F.Functions functions.old) parts.old parts.new
+            (counts_by F.Functions functions.old) (counts_by F.Functions functions.new)) }
+        ensures kept { PartsKept parts.new }
         ensures quiet { OnOk result (parts.new.work.todo.items ≡ []) }
         ensures falls { IfOk result (λ more. IsTrue more → StepFalls (meaning_of F.Functions functions.old)
-            parts.old.arena parts.old.work parts.new.work (F.calls functions.old)) }
-        ensures places { KeepsPlaces parts.old.work parts.new.work }
+            parts.old parts.new (counts_by F.Functions functions.old)) }
+        ensures fit { AllFit (F.known functions.new) (F.right functions.new) parts.new.arena }
         ensures roots { KeepsRoots parts.old.work.graph.roots parts.new.work.graph.roots }
         ensures round { parts.new.work.round ≡ parts.old.work.round }
         ensures ran { parts.new.ran ≡ parts.old.ran }
-        ensures functions { KeepsFunctions F.Functions functions.old functions.new }
+        ensures functions { KeepsMeaning F.Functions functions.old functions.new }
+        ensures flat { StaysFlat parts.old.arena parts.new.arena }
     {
         let Some(p) = parts.work.graph.pop_least() else {
             return Ok(false);
         };
         match p.part {
             Part::Change => {
-                step_change(parts, p.node)?;
+                step_change(parts, functions, p.node)?;
                 Ok(true)
             }
             Part::Main => match step_main(parts, functions, p.node) {
@@ -86,14 +92,16 @@ impl Stabilizer {
         functions: &mut F,
         roots: &[NodeId],
     ) -> Result<(), Refused>
-        requires ready { IsReady (meaning_of F.Functions functions.old) parts.old.arena parts.old.work }
+        requires ready { IsReady (meaning_of F.Functions functions.old) parts.old }
         requires sound { F.is_sound functions.old }
+        requires fit { AllFit (F.known functions.old) (F.right functions.old) parts.old.arena }
         requires given { All (Given parts.old.arena.given) roots.now }
         ensures right { OnOk result ((observed : List NodeId) → AreRooted parts.old.work observed
             → IsUpToDate (functions_of F.Functions functions.old) parts.old parts.new (roots.now ++ observed)) }
         ensures calls { OnOk result (RoseBy (F.calls functions.old)
             (costs_of (left_by parts.old parts.new) parts.new.ran.items) (F.calls functions.new)) }
-        ensures ready { OnOk result (IsReady (meaning_of F.Functions functions.new) parts.new.arena parts.new.work) }
+        ensures ready { OnOk result (IsReady (meaning_of F.Functions functions.new) parts.new) }
+        ensures fit { AllFit (F.known functions.new) (F.right functions.new) parts.new.arena }
         ensures round { OnOk result (parts.new.work.round ≡ parts.old.work.round + 1) }
         ensures lawful { IfErr result (λ e. (observed : List NodeId) → AreRooted parts.old.work observed
             → IsLawful (functions_of F.Functions functions.old) parts.old parts.new (roots.now ++ observed) e) }
@@ -101,13 +109,20 @@ impl Stabilizer {
         ensures few { OnErr result ((observed : List NodeId) → AreRooted parts.old.work observed
             → HasCalledMet (functions_of F.Functions functions.old) parts.old parts.new (roots.now ++ observed)
             (F.calls functions.old) (F.calls functions.new)) }
-        ensures kept { OnErr result (IsKept parts.new.arena parts.new.work) }
-        ensures cutoffs { OnErr result ((n : NodeId) → cutoff_at parts.new.work n ≡ cutoff_at parts.old.work n) }
-        ensures shows { OnErr result ((n : NodeId)
+        ensures kept { OnErr result (PartsKept parts.new) }
+        ensures cutoffs { OnErr result ((n : NodeId) (r : ARow) → row_at parts.new.arena n ≡ Some r
+            → cutoff_at parts.new.work n ≡ cutoff_at parts.old.work n) }
+        ensures shows { OnErr result ((n : NodeId) → Given parts.old.arena.given n
             → ShowsStill (functions_of F.Functions functions.old) parts.old parts.new n) }
+        ensures left { IsLeftBy (functions_of F.Functions functions.old) parts.old parts.new
+            (counts_by F.Functions functions.old) (counts_by F.Functions functions.new) }
+        ensures built { OnOk result ((observed : List NodeId) → AreRooted parts.old.work observed
+            → BuildsAll (functions_of F.Functions functions.old) parts.old parts.new (roots.now ++ observed)) }
+        ensures unbuilt { IfErr result (λ e. (observed : List NodeId) → AreRooted parts.old.work observed
+            → BuildsAllBut (functions_of F.Functions functions.old) parts.old parts.new (roots.now ++ observed) e) }
         ensures ran { OnErr result (parts.new.ran ≡ parts.old.ran) }
-        ensures arena { NodesStay parts.old.arena parts.new.arena }
-        ensures functions { KeepsFunctions F.Functions functions.old functions.new }
+        ensures functions { KeepsMeaning F.Functions functions.old functions.new }
+        ensures flat { StaysFlat parts.old.arena parts.new.arena }
     {
         let Some(next) = parts.work.round.checked_add(1) else {
             return Err(Refused::Memory);
@@ -141,24 +156,24 @@ fn put_roots(work: &mut Work, arena: &Arena, roots: &[NodeId]) -> Result<(), Ref
 
 /// Makes steps until the heap is empty.
 fn settle_all<F: Functions>(parts: &mut Parts, functions: &mut F) -> Result<(), Refused>
-    requires kept { IsKept parts.old.arena parts.old.work }
+    requires kept { PartsKept parts.old }
     requires quiet { parts.old.work.todo.items ≡ [] }
     requires sound { F.is_sound functions.old }
-    requires fit { AllCallFit (F.known functions.old) (ids_of (F.right functions.old)) parts.old.arena }
-    requires in_round { IsInRound (meaning_of F.Functions functions.old) parts.old.arena parts.old.work
-        (F.calls functions.old) }
-    ensures settled { OnOk result (Settles (meaning_of F.Functions functions.old) parts.old.arena
-        parts.old.work parts.new.work (F.calls functions.old) (F.calls functions.new)) }
+    requires fit { AllFit (F.known functions.old) (F.right functions.old) parts.old.arena }
+    requires in_round { IsInRound (meaning_of F.Functions functions.old) parts.old (counts_by F.Functions functions.old) }
+    ensures settled { OnOk result (Settles (meaning_of F.Functions functions.old) parts.old parts.new
+        (counts_by F.Functions functions.old) (counts_by F.Functions functions.new)) }
     ensures empty { OnOk result (IsEmpty parts.new.work.graph.heap) }
-    ensures refused { IfErr result (SettleRefused (meaning_of F.Functions functions.old) parts.old.arena parts.old.work
-        parts.new.work (F.calls functions.old) (F.calls functions.new)) }
-    ensures arena { NodesStay parts.old.arena parts.new.arena }
-    ensures kept { IsKept parts.new.arena parts.new.work }
+    ensures refused { IfErr result (SettleRefused (meaning_of F.Functions functions.old) parts.old parts.new
+        (counts_by F.Functions functions.old) (counts_by F.Functions functions.new)) }
+    ensures fit { AllFit (F.known functions.new) (F.right functions.new) parts.new.arena }
+    ensures kept { PartsKept parts.new }
     ensures quiet { OnOk result (parts.new.work.todo.items ≡ []) }
     ensures roots { KeepsRoots parts.old.work.graph.roots parts.new.work.graph.roots }
     ensures round { parts.new.work.round ≡ parts.old.work.round }
     ensures ran { parts.new.ran ≡ parts.old.ran }
-    ensures functions { KeepsFunctions F.Functions functions.old functions.new }
+    ensures functions { KeepsMeaning F.Functions functions.old functions.new }
+    ensures flat { StaysFlat parts.old.arena parts.new.arena }
 {
     while Stabilizer::step(parts, functions)? {}
     Ok(())
@@ -170,20 +185,20 @@ fn step_main<F: Functions>(
     functions: &mut F,
     node: NodeId,
 ) -> Result<(), Refused>
-    requires kept { IsKept parts.old.arena parts.old.work }
+    requires kept { PartsKept parts.old }
     requires row { Holds parts.old.work.rows (main node) }
     requires taken { at parts.old.work.graph.heap (main node) ≡ None }
     requires sound { F.is_sound functions.old }
-    requires fit { AllCallFit (F.known functions.old) (ids_of (F.right functions.old)) parts.old.arena }
+    requires fit { AllFit (F.known functions.old) (F.right functions.old) parts.old.arena }
     ensures settled { OnOk result (MainIsSettled (functions_of F.Functions functions.old) parts.old.arena parts.old.work parts.new.work
-        node (F.calls functions.old) (F.calls functions.new)) }
+        node (counts_by F.Functions functions.old) (counts_by F.Functions functions.new)) }
     ensures refused { OnErr result (MainIsLeft parts.old.arena parts.old.work parts.new.work node
-        (F.calls functions.old) (F.calls functions.new)) }
+        (counts_by F.Functions functions.old) (counts_by F.Functions functions.new)) }
     ensures memory { IfErr result (λ e. e ≡ Refused.Memory) }
-    ensures arena { NodesStay parts.old.arena parts.new.arena }
-    ensures ran { parts.new.ran ≡ parts.old.ran }
-    ensures kept { IsKept parts.new.arena parts.new.work }
-    ensures functions { KeepsFunctions F.Functions functions.old functions.new }
+    ensures rest { parts.new ≡ record parts.old { work = parts.new.work } }
+    ensures kept { PartsKept parts.new }
+    ensures functions { KeepsMeaning F.Functions functions.old functions.new }
+    ensures flat { StaysFlat parts.old.arena parts.new.arena }
 {
     let computed = compute(
         parts.alloc,
@@ -205,20 +220,74 @@ fn step_main<F: Functions>(
 }
 
 /// Settles a change that was taken from the heap: with another outcome of its subject than before its main loses its
-/// right side. A main that waits for it gets the right side that it chooses now.
-fn step_change(parts: &mut Parts, node: NodeId) -> Result<(), Refused>
-    requires kept { IsKept parts.old.arena parts.old.work }
+/// right side, and a bind is built anew. A main that waits for it gets the right side that it chooses now, and points of a
+/// bind's scope that wait for it get their links.
+fn step_change<F: Functions>(
+    parts: &mut Parts,
+    functions: &mut F,
+    node: NodeId,
+) -> Result<(), Refused>
+    requires kept { PartsKept parts.old }
     requires row { Holds parts.old.work.rows (change node) }
     requires needed { Needed parts.old.work.graph (change node) }
     requires taken { at parts.old.work.graph.heap (change node) ≡ None }
     requires quiet { parts.old.work.todo.items ≡ [] }
-    ensures settled { OnOk result (ChangeIsSettled parts.old.arena parts.old.work parts.new.work node) }
-    ensures refused { IfErr result (ChangeIsLeft parts.old.arena parts.old.work parts.new.work node) }
-    ensures arena { NodesStay parts.old.arena parts.new.arena }
+    requires sound { F.is_sound functions.old }
+    requires fit { AllFit (F.known functions.old) (F.right functions.old) parts.old.arena }
+    ensures settled { OnOk result (ChangeIsSettled (meaning_of F.Functions functions.old) parts.old parts.new node
+        (counts_by F.Functions functions.old) (counts_by F.Functions functions.new)) }
+    ensures refused { IfErr result (ChangeIsLeft (meaning_of F.Functions functions.old) parts.old parts.new node
+        (counts_by F.Functions functions.old) (counts_by F.Functions functions.new)) }
     ensures ran { parts.new.ran ≡ parts.old.ran }
-    ensures kept { IsKept parts.new.arena parts.new.work }
+    ensures roots { KeepsRoots parts.old.work.graph.roots parts.new.work.graph.roots }
+    ensures round { parts.new.work.round ≡ parts.old.work.round }
+    ensures kept { PartsKept parts.new }
     ensures quiet { OnOk result (parts.new.work.todo.items ≡ []) }
-    ensures places { KeepsPlaces parts.old.work parts.new.work }
+    ensures fit { AllFit (F.known functions.new) (F.right functions.new) parts.new.arena }
+    ensures functions { KeepsMeaning F.Functions functions.old functions.new }
+    ensures flat { StaysFlat parts.old.arena parts.new.arena }
+{
+    match turn_change(parts, functions, node) {
+        Ok(()) => {}
+        Err(refused) => {
+            parts.work.schedule(change_point(node));
+            return Err(refused);
+        }
+    }
+    parts.work.attach_right(&parts.arena, node)?;
+    parts.work.wire(&parts.arena)
+}
+
+/// Settles a change on what its subject shows. Where that is another outcome than before, the node's main loses its right
+/// side, and a bind is built anew. Where it is what a bind is built for, the points of its scope that wait for the change
+/// are put into the worklist. A refused call settles nothing.
+fn turn_change<F: Functions>(
+    parts: &mut Parts,
+    functions: &mut F,
+    node: NodeId,
+) -> Result<(), Refused>
+    requires kept { PartsKept parts.old }
+    requires row { Holds parts.old.work.rows (change node) }
+    requires needed { Needed parts.old.work.graph (change node) }
+    requires taken { at parts.old.work.graph.heap (change node) ≡ None }
+    requires quiet { parts.old.work.todo.items ≡ [] }
+    requires sound { F.is_sound functions.old }
+    requires fit { AllFit (F.known functions.old) (F.right functions.old) parts.old.arena }
+    ensures turned { OnOk result (IsTurned (meaning_of F.Functions functions.old) parts.old parts.new node
+        (counts_by F.Functions functions.old) (counts_by F.Functions functions.new)) }
+    ensures refused { IfErr result (BuildRefused (meaning_of F.Functions functions.old) parts.old parts.new node
+        (counts_by F.Functions functions.old) (counts_by F.Functions functions.new)) }
+    ensures settled { OnOk result (settled_in parts.new.work.round (at parts.new.work.rows (change node)) ≡ true) }
+    ensures row { (r : ARow) → row_at parts.old.arena node ≡ Some r → row_at parts.new.arena node ≡ Some r }
+    ensures there { Holds parts.new.work.rows (change node) }
+    ensures ran { parts.new.ran ≡ parts.old.ran }
+    ensures roots { KeepsRoots parts.old.work.graph.roots parts.new.work.graph.roots }
+    ensures round { parts.new.work.round ≡ parts.old.work.round }
+    ensures kept { PartsKept parts.new }
+    ensures quiet { OnErr result (parts.new.work.todo.items ≡ []) }
+    ensures fit { AllFit (F.known functions.new) (F.right functions.new) parts.new.arena }
+    ensures functions { KeepsMeaning F.Functions functions.old functions.new }
+    ensures flat { StaysFlat parts.old.arena parts.new.arena }
 {
     let Some(row) = parts.arena.get(node) else {
         return Ok(());
@@ -226,13 +295,64 @@ fn step_change(parts: &mut Parts, node: NodeId) -> Result<(), Refused>
     let Some(subject) = row.def.subject() else {
         return Ok(());
     };
-    match shown(parts.alloc, &parts.work.rows, subject) {
-        Ok(given) => parts.work.turn(node, &row.def, given),
+    let given = shown(parts.alloc, &parts.work.rows, subject)?;
+    match due_recipe(parts.alloc, &parts.work.rows, node, &row.def, &given) {
+        Ok(None) => turn_as_built(&mut parts.work, node, &row.def, given),
+        Ok(Some(recipe)) => {
+            let built = parts.rebuild(functions, node, &recipe, given);
+            drop(recipe);
+            built
+        }
         Err(AllocError) => {
-            parts.work.graph.insert(change_point(node));
-            return Err(Refused::Memory);
+            drop(given);
+            Err(Refused::Memory)
         }
     }
-    parts.work.attach_right(&parts.arena, node)?;
-    parts.work.wire(&parts.arena)
+}
+
+/// What a node's right side is to be built by, if the node is a bind that isn't built for the outcome.
+fn due_recipe(
+    alloc: Global,
+    rows: &PointMap<Progress>,
+    node: NodeId,
+    def: &Def,
+    given: &Outcome,
+) -> Result<Option<Recipe>, AllocError>
+    ensures due { IfOk result (λ due. IfSome due (λ r. IsUnbuiltBind (def_of def.now) r.function r.captures
+        (outcome_in (at rows.now (change node))) given.now)) }
+    ensures built { IfOk result (λ due. due ≡ None → IsBuiltFor (def_of def.now) (outcome_in (at rows.now (change node))) given.now) }
+{
+    match def {
+        Def::Bind {
+            function,
+            captures,
+            ..
+        } if !ran_with(rows, node, given) => Ok(Some(Recipe::new(
+            alloc,
+            *function,
+            captures.as_slice(),
+        )?)),
+        _ => Ok(None),
+    }
+}
+
+/// Settles the change of a node that is no bind, or is built for the outcome. The points of its scope that wait for the
+/// change are put into the worklist. Without memory nothing is settled, and the worklist is empty.
+fn turn_as_built(work: &mut Work, node: NodeId, def: &Def, given: Outcome) -> Result<(), Refused>
+    requires row { Holds work.old.rows (change node) }
+    requires step { IsInStep work.old.graph }
+    requires quiet { work.old.todo.items ≡ [] }
+    ensures turned { OnOk result (IsTurnedAwake work.old work.new node (def_of def.now) given) }
+    ensures refused { IfErr result (IsAsleep work.old work.new) }
+{
+    match work.wake_scope(node) {
+        Ok(()) => {
+            work.turn(node, def, given);
+            Ok(())
+        }
+        Err(AllocError) => {
+            drop(given);
+            Err(Refused::Memory)
+        }
+    }
 }

@@ -4,9 +4,8 @@ ghost use Rattle.inc_value.specs.Value.{type_of};
 ghost use Rattle.inc_value.specs.declared.node.NodeId.{NodeId};
 ghost use Rattle.inc_terms.specs.Code.{def_of};
 ghost use Rattle.inc_terms.specs.Graph.{Const, Var, Map, Fold, If, Join};
-ghost use Rattle.graph.specs.Today.{CallsKnown};
 ghost use Rattle.graph.specs.Standing.{IsUnbroken, IsBroken};
-ghost use Rattle.graph.specs.Effects.{top, NamesUnknown, IsMistyped, HasNoRoom, KeepsAll, IsAddFault, Adds};
+ghost use Rattle.graph.specs.Effects.{CallsKnown, top, NamesUnknown, IsMistyped, HasNoRoom, KeepsAll, IsAddFault, Adds};
 ghost use Rattle.graph.specs.declared.fault.Kept.{Kept as ACause};
 
 use super::Graph;
@@ -147,8 +146,8 @@ impl<F: Functions> Graph<F> {
     }
 
     /// Adds a node.
-    fn add(&mut self, def: Def, ty: Ty) -> Result<NodeId, GraphFault>
-        requires known { CallsKnown (F.known self.old.functions) (def_of def) }
+    pub(super) fn add(&mut self, def: Def, ty: Ty) -> Result<NodeId, GraphFault>
+        requires known { CallsKnown (F.known self.old.functions) (F.right self.old.functions) self.old.nodes (def_of def) }
         ensures broken { (cause : ACause) → IsErrOf result (GraphFault.Broken cause) ↔ IsBroken self.old cause }
         ensures added { IfOk result (λ id. Adds self.old self.new id (top (def_of def) ty)) }
         ensures unknown { IsErrOf result GraphFault.Unknown

@@ -5,12 +5,15 @@ ghost use Rattle.node_arena.specs.Meanings.{SameNames, SameKnown, SameValues};
 ghost use Rattle.node_arena.specs.RightSide.{SameSides};
 ghost use Rattle.stabilize_round.specs.Calling.{costs_of};
 ghost use Rattle.stabilize_round.specs.Counts.{RoseBy};
-ghost use Rattle.node_outcomes.specs.Meaning.{functions_of, meaning_of, KeepsFunctions};
+ghost use Rattle.node_arena.specs.RightSideLaws.{AllFit};
+ghost use Rattle.node_outcomes.specs.Meaning.{functions_of, meaning_of};
+ghost use Rattle.stabilizer.specs.Kept.{KeepsMeaning, counts_by};
+ghost use Rattle.stabilizer.specs.Kept.{HasNoBinds};
 ghost use Rattle.graph.specs.Inside.{CanStabilize, BringsUpToDate, calls_in, IsNextRound, IsRefusedLawfully, WasTried};
 ghost use Rattle.graph.specs.Inside.{CalledMet, FitTogether, AllShowStill, KeepsCutoffs, KeepsCalled};
-ghost use Rattle.graph.specs.Today.{KeepsNodes};
-ghost use Rattle.graph.specs.Standing.{IsBroken, in_use};
-ghost use Rattle.graph.specs.Stabilizes.{Stabilizes, IsRefusedFor, HasCalledMet, left_by};
+ghost use Rattle.graph.specs.Inside.{LeavesParts, KeepsNodes, BuildsEach, BuildsEachBut};
+ghost use Rattle.graph.specs.Standing.{IsBroken, IsUnbroken, in_use};
+ghost use Rattle.graph.specs.Stabilizes.{Stabilizes, IsRefusedFor, HasCalledMet, LeavesNodes, left_by};
 ghost use Rattle.graph.specs.declared.fault.Kept.{Kept as ACause};
 
 use super::Graph;
@@ -42,13 +45,15 @@ impl<F: Functions> Graph<F> {
         ensures few { (cause : ACause) → IsErrOf result (StabilizeFault.Refused cause)
             → HasCalledMet (functions_of F.Functions self.old.functions) self.old self.new
             (F.calls self.old.functions) (F.calls self.new.functions) }
+        ensures left { IsUnbroken self.old → LeavesNodes (functions_of F.Functions self.old.functions) self.old self.new
+            (counts_by F.Functions self.old.functions) (counts_by F.Functions self.new.functions) }
+        ensures flat { HasNoBinds self.old.nodes → self.new.nodes ≡ self.old.nodes }
         ensures calls_grow { F.calls self.old.functions ≤ F.calls self.new.functions }
         ensures unchanged { (cause : ACause) → IsErrOf result (StabilizeFault.Broken cause) → self.new ≡ self.old }
         ensures names { SameNames (F.named self.old.functions) (F.named self.new.functions) }
         ensures known { SameKnown (F.known self.old.functions) (F.known self.new.functions) }
         ensures values { SameValues (F.value self.old.functions) (F.value self.new.functions) }
         ensures sides { SameSides (F.right self.old.functions) (F.right self.new.functions) }
-        ensures tally { F.tally self.new.functions ≡ F.tally self.old.functions }
     {
         if let Some(cause) = self.cause() {
             return Err(StabilizeFault::Broken(cause));
@@ -93,6 +98,7 @@ fn run<F: Functions>(
     requires within { rooted ≤ length observers.now }
     requires sound { F.is_sound functions.old }
     requires can { CanStabilize (meaning_of F.Functions functions.old) parts.old observers.now rooted }
+    requires fit { AllFit (F.known functions.old) (F.right functions.old) parts.old.arena }
     ensures right { OnOk result (BringsUpToDate (functions_of F.Functions functions.old) parts.old parts.new (in_use observers.now)) }
     ensures calls { OnOk result (RoseBy (F.calls functions.old) (calls_in parts.old parts.new) (F.calls functions.new)) }
     ensures can { OnOk result (CanStabilize (meaning_of F.Functions functions.new) parts.new observers.now
@@ -102,12 +108,17 @@ fn run<F: Functions>(
     ensures tried { IfErr result (WasTried parts.new) }
     ensures few { OnErr result (CalledMet (functions_of F.Functions functions.old) parts.old parts.new (in_use observers.now)
         (F.calls functions.old) (F.calls functions.new)) }
+    ensures built { OnOk result (BuildsEach (functions_of F.Functions functions.old) parts.old parts.new (in_use observers.now)) }
+    ensures unbuilt { IfErr result (BuildsEachBut (functions_of F.Functions functions.old) parts.old parts.new (in_use observers.now)) }
     ensures kept { OnErr result (FitTogether parts.new) }
     ensures shows { OnErr result (AllShowStill (functions_of F.Functions functions.old) parts.old parts.new) }
     ensures cutoffs { OnErr result (KeepsCutoffs parts.old parts.new) }
     ensures ran { OnErr result (KeepsCalled parts.old parts.new) }
-    ensures arena { KeepsNodes parts.old parts.new }
-    ensures functions { KeepsFunctions F.Functions functions.old functions.new }
+    ensures left { LeavesParts (functions_of F.Functions functions.old) parts.old parts.new
+        (counts_by F.Functions functions.old) (counts_by F.Functions functions.new) }
+    ensures flat { HasNoBinds parts.old.arena → KeepsNodes parts.old parts.new }
+    ensures fit { AllFit (F.known functions.new) (F.right functions.new) parts.new.arena }
+    ensures functions { KeepsMeaning F.Functions functions.old functions.new }
 {
     let roots = nodes_in_use(alloc, observers, rooted)?;
     Stabilizer::run(parts, functions, &roots)

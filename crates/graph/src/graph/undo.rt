@@ -4,7 +4,7 @@ ghost use Rattle.inc_value.specs.declared.node.NodeId.{NodeId};
 ghost use Rattle.inc_value.specs.declared.node.Point.{Point};
 ghost use Rattle.inc_value.specs.Choice.{Among};
 ghost use Rattle.graph.specs.Standing.{IsUnbroken, IsBroken, IsNeeded, in_use, rooted_nodes};
-ghost use Rattle.graph.specs.Effects.{TakesBack};
+ghost use Rattle.graph.specs.Effects.{TakesBack, NoneScopedSince};
 ghost use Rattle.graph.specs.declared.fault.Kept.{Kept as ACause};
 
 use super::Graph;
@@ -25,6 +25,7 @@ impl<F: Functions> Graph<F> {
         ensures observed { IfOk result (λ mark. (n : NodeId) → Among n (in_use self.now.observers) → n.gen_ < mark.given) }
         ensures rooted { IfOk result (λ mark. (n : NodeId) → Among n (rooted_nodes self.now) → n.gen_ < mark.given) }
         ensures needed { IfOk result (λ mark. (p : Point) → IsNeeded self.now p → p.node.gen_ < mark.given) }
+        ensures unscoped { IfOk result (λ mark. NoneScopedSince self.now.nodes mark.given) }
         ensures unbroken { IsOk result ↔ IsUnbroken self.now }
     {
         self.check()?;
@@ -40,6 +41,7 @@ impl<F: Functions> Graph<F> {
         ensures observed { (n : NodeId) → Among n (in_use self.now.observers) → n.gen_ < result.given }
         ensures rooted { (n : NodeId) → Among n (rooted_nodes self.now) → n.gen_ < result.given }
         ensures needed { (p : Point) → IsNeeded self.now p → p.node.gen_ < result.given }
+        ensures unscoped { NoneScopedSince self.now.nodes result.given }
     {
         match self.mark() {
             Ok(mark) => mark,
@@ -47,10 +49,11 @@ impl<F: Functions> Graph<F> {
         }
     }
 
-    /// Drops the nodes that were added since the mark. None of them is needed: `mark` says so of what is needed then, and
-    /// only a stabilize makes more be needed. This takes no memory.
+    /// Drops the nodes that were added since the mark. None of them is needed, and none stands in a scope: `mark` says so
+    /// of the nodes then, and only a stabilize makes more be needed, and nodes that stand in scopes. This takes no memory.
     pub fn back_to(&mut self, mark: Mark) -> Result<(), GraphFault>
         requires unneeded { IsUnbroken self.old → (p : Point) → IsNeeded self.old p → p.node.gen_ < mark.given }
+        requires unscoped { IsUnbroken self.old → NoneScopedSince self.old.nodes mark.given }
         ensures broken { (cause : ACause) → IsErrOf result (GraphFault.Broken cause) ↔ IsBroken self.old cause }
         ensures taken { OnOk result (TakesBack self.old self.new mark.given) }
         ensures unbroken { IsOk result ↔ IsUnbroken self.old }
@@ -62,10 +65,11 @@ impl<F: Functions> Graph<F> {
     }
 
     /// Drops the nodes that were added since the mark, for a caller who knows that the graph is unbroken. None of them is
-    /// needed. This takes no memory.
+    /// needed, and none stands in a scope. This takes no memory.
     pub fn take_back(&mut self, mark: Mark)
         requires unbroken { IsUnbroken self.old }
         requires unneeded { (p : Point) → IsNeeded self.old p → p.node.gen_ < mark.given }
+        requires unscoped { NoneScopedSince self.old.nodes mark.given }
         ensures { TakesBack self.old self.new mark.given }
     {
         match self.back_to(mark) {

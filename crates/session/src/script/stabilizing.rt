@@ -1,7 +1,8 @@
 //! Stabilizes of a script.
-ghost use Rattle.std.specs.Prelude.{◌≡◌, ◌<◌, ◌+◌, ◌^◌, length, None, IfSome, IfNone};
+ghost use Rattle.std.specs.Prelude.{◌≡◌, ◌<◌, ◌+◌, ◌-◌, ◌^◌, length, None, IfSome, IfNone};
 ghost use Rattle.inc_value.specs.declared.node.Point.{Point};
 ghost use Rattle.script_model.specs.Formula.{meanings_of};
+ghost use Rattle.script_graph.specs.Kept.{arena_of};
 ghost use Rattle.script_graph.specs.Stabilizing.{AllOlder, ChainBegins, IsFirstNotOlder, IsFirstOwned, NoneOwns};
 ghost use Rattle.session.specs.Carried.{EndsStabilize};
 
@@ -28,11 +29,13 @@ impl<L: Library> Script<L> {
     pub(crate) fn stabilize(&mut self) -> Result<Stabilized, AllocError>
         requires unbroken { self.old.kept.broken ≡ None }
         requires count { self.old.kept.accepted + 1 < 2 ^ 64 }
+        requires ids { (arena_of self.old.kept).given + 2 ^ 20 < 2 ^ 64 - 1 }
         ensures { EndsStabilize (λ l. meanings_of (L.named l) (L.value l)) L.known L.calls self.old self.new result }
     {
         self.graph.keeps_sound();
         match self.graph.stabilize() {
             Ok(()) => {
+                self.graph.keeps_sound();
                 self.accepted += 1;
                 Ok(Stabilized::Accepted)
             }
@@ -67,9 +70,9 @@ impl<L: Library> Script<L> {
 /// The declaration in whose formula the chain of points begins that was too long. A chain begins in one of a script's
 /// formulas, so that there is none only where nothing is too deep.
 fn deep_owner<L: Library>(graph: &Graph<ScriptFns<L>>, nodes: &[NodeId]) -> Option<usize>
-    ensures found { IfSome result (λ i. (p : Point) → ChainBegins graph.now.refused p → IsFirstOwned nodes.now graph.now.nodes p.node i) }
+    ensures found { IfSome result (λ i. (p : Point) → ChainBegins graph.now.refused p → IsFirstOwned nodes.now graph.now p.node i) }
     ensures within { IfSome result (λ i. i < length nodes.now) }
-    ensures none { IfNone result ((p : Point) → ChainBegins graph.now.refused p → NoneOwns nodes.now graph.now.nodes p.node) }
+    ensures none { IfNone result ((p : Point) → ChainBegins graph.now.refused p → NoneOwns nodes.now graph.now p.node) }
 {
     match graph.broken() {
         Some(Refused::Height(points)) => match points.first() {
@@ -86,9 +89,9 @@ fn owned_by<L: Library>(
     nodes: &[NodeId],
     node: NodeId,
 ) -> Option<usize>
-    ensures found { IfSome result (IsFirstOwned nodes.now graph.now.nodes node) }
+    ensures found { IfSome result (IsFirstOwned nodes.now graph.now node) }
     ensures within { IfSome result (λ i. i < length nodes.now) }
-    ensures none { IfNone result (NoneOwns nodes.now graph.now.nodes node) }
+    ensures none { IfNone result (NoneOwns nodes.now graph.now node) }
 {
     match graph.owner(node) {
         Some(top) => first_not_older(nodes, top),

@@ -6,4 +6,6 @@ back_to-requires c =
     record {
       unneeded = λ whole. absurd (refused_breaks _ c.args.graph.now c.stabilize.new.self c.stabilize.result _ c.in-Err-stabilize.is
           c.stabilize.ensures.refused (λ cause is. (c.stabilize.ensures.broken cause).0 is) c.stabilize.ensures.unchanged whole);
+      unscoped = λ whole. absurd (refused_breaks _ c.args.graph.now c.stabilize.new.self c.stabilize.result _ c.in-Err-stabilize.is
+          c.stabilize.ensures.refused (λ cause is. (c.stabilize.ensures.broken cause).0 is) c.stabilize.ensures.unchanged whole);
     }

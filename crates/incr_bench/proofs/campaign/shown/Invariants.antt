@@ -1,8 +1,8 @@
-use Rattle.std.proofs.Common.{◌≡◌, ◌++◌, drop, map, Some}
+use Rattle.std.proofs.Common.{◌≡◌, ◌++◌, drop}
 use Rattle.incr_bench.specs.Comparing.{all_shown}
 use Rattle.incr_bench.proofs.campaign.shown.Given as goal
 
 abbrev pub invariant-loop-watch : goal.invariant-loop-watch
 invariant-loop-watch l =
-    map Some l.all.items ++ all_shown l.live.engine l.live.observers.items (drop l.watch-index l.watched)
+    l.all.items ++ all_shown l.live.engine l.live.observers.items (drop l.watch-index l.watched)
     ≡ all_shown l.live.engine l.live.observers.items l.watched

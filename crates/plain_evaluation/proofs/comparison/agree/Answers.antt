@@ -1,6 +1,8 @@
-use Rattle.std.proofs.lemmas.Bool.Decides.{Decides-int_eq}
+use Rattle.std.proofs.Common.{rules}
 use Rattle.std.proofs.lemmas.Slice.Eq.{slice_eq-Decides}
 use Rattle.plain_evaluation.proofs.comparison.agree.Goals as goal
 
 pub returns : goal.returns
-returns c = slice_eq-Decides Decides-int_eq _ _ _ c.eq.ensures
+returns c =
+    let e = slice_eq-Decides (λ a b. search rules) c.args.left.now c.args.right.now c.eq.result c.eq.ensures in
+    (λ h. e.0 h, λ h. e.1 h)

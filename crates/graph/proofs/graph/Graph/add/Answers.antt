@@ -7,7 +7,7 @@ use Rattle.inc_terms.specs.Depend.{main}
 use Rattle.necessity.specs.Need.{Roots, root_times}
 use Rattle.inc_terms.specs.Within.{Given}
 use Rattle.graph.proofs.Seeing.{beside_as}
-use Rattle.graph.proofs.Sounding.{AddAnswers, adds_of, sound_still, answer_ready, answer_given, known_no_bind}
+use Rattle.graph.proofs.Sounding.{AddAnswers, adds_of, sound_still, answer_ready, answer_given, answer_fit}
 use Rattle.graph.proofs.graph.Graph.add.Goals as goal
 use Rattle.graph.proofs.graph.Graph.add.Goals.{in-Ok-added, in-Err-added}
 
@@ -21,10 +21,17 @@ invariant_of-self g c = (
       let known = rw (← c.self.view_is) at c.requires.known in
       sound_still _ c.self.inside.parts c.add-added.new.self c.self.inside.observers.items c.self.inside.rooted c.self.inside.refused c.self.invariant.1
       (rw (← c.self.view_is) at c.in-Ok.ensures.unbroken) (answer_ready (g.F.Functions.known f) (g.F.Functions.value f) (g.F.Functions.right f)
-      (g.met.F.Functions.sides f c.self.invariant.2) c.self.inside.parts c.add-added.new.self (def_of c.args.def) c.args.ty c.add-added.result answers known a.kept a.ready a.err_ready)
+      (g.met.F.Functions.sides f c.self.invariant.2) c.self.inside.parts c.add-added.new.self (def_of c.args.def) c.args.ty c.add-added.result answers known a.kept.work.sound a.ready a.err_ready)
       (λ p. ap (λ (r : Roots). root_times r p) a.roots)
       (answer_given _ _ (def_of c.args.def) c.args.ty c.add-added.result answers) (λ n given. a.rows (main n) given)),
   c.self.invariant.2,
+  (let a = c.add-added.ensures in
+      let answers : AddAnswers c.self.inside.parts.arena c.add-added.new.self.arena (def_of c.args.def) c.args.ty c.add-added.result
+      = record { added = a.added; given = a.given; err = a.err; fresh = a.id; unknown = a.unknown.1 } in
+      let f = c.self.inside.functions in
+      let known = rw (← c.self.view_is) at c.requires.known in
+      answer_fit (g.F.Functions.known f) (g.F.Functions.right f) (g.met.F.Functions.sides f c.self.invariant.2) c.self.inside.parts.arena
+      c.add-added.new.self.arena (def_of c.args.def) c.args.ty c.add-added.result answers known a.kept.work.sound a.keeps c.self.invariant.3),
 )
 
 pub returns-clause-wrong_type : goal.returns-clause-wrong_type
@@ -47,6 +54,3 @@ returns-clause-added g c =
     c.self.inside.refused (Given c.self.inside.parts.arena.given) a.ran a.links a.roots a.rows (λ n. inl (a.cutoffs n)) in
     rw (← c.self.view_is) (id_passes _ c.add-added.result c.match-added.result passes
     (adds_of _ _ (def_of c.args.def) c.args.ty c.add-added.result _ refl refl refl answers a.row beside))
-
-pub add-added-requires-clause-today : goal.add-added-requires-clause-today
-add-added-requires-clause-today g c = known_no_bind (g.F.Functions.known c.self.inside.functions) (def_of c.args.def) (rw (← c.self.view_is) at c.requires.known)

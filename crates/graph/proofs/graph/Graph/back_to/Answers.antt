@@ -1,7 +1,7 @@
 use Rattle.std.proofs.Common.{◌<◌, arith}
 use Rattle.inc_terms.specs.Depend.{main}
 use Rattle.graph.proofs.Seeing.{needed_out, beside_as}
-use Rattle.graph.proofs.TakingBack.{sound_back}
+use Rattle.graph.proofs.TakingBack.{sound_back, scoped_before, fit_back}
 use Rattle.graph.proofs.graph.Graph.back_to.Goals as goal
 
 pub back_to-requires-clause-unneeded : goal.back_to-requires-clause-unneeded
@@ -9,6 +9,12 @@ back_to-requires-clause-unneeded g c p since need =
     let whole = rw (← c.self.view_is) at c.in_ok-check.ensures.unbroken in
     let low = (rw (← c.self.view_is) at c.requires.unneeded) whole p (needed_out c.self.inside.functions c.self.inside.parts
     c.self.inside.observers.items c.self.inside.rooted c.self.inside.refused p need) in omega (arith, low, since)
+
+pub back_to-requires-clause-unscoped : goal.back_to-requires-clause-unscoped
+back_to-requires-clause-unscoped g c =
+    let whole = rw (← c.self.view_is) at c.in_ok-check.ensures.unbroken in
+    scoped_before c.self.inside.parts.arena c.self.inside.parts.work c.args.mark.given c.self.invariant.1.kept.work
+    ((rw (← c.self.view_is) at c.requires.unscoped) whole)
 
 pub invariant_of-self : goal.invariant_of-self
 invariant_of-self g c = (
@@ -21,6 +27,9 @@ invariant_of-self g c = (
       (λ p need. low p (needed_out c.self.inside.functions c.self.inside.parts c.self.inside.observers.items c.self.inside.rooted
       c.self.inside.refused p need))),
   c.self.invariant.2,
+  (let b = c.back_to.ensures in
+      fit_back (g.F.Functions.known c.self.inside.functions) (g.F.Functions.right c.self.inside.functions) c.self.inside.parts.arena
+      c.back_to.new.self.arena c.args.mark.given b.older b.dropped b.given c.self.invariant.3),
 )
 
 pub returns-clause-taken : goal.returns-clause-taken

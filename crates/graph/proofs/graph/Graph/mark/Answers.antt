@@ -1,3 +1,5 @@
+use Rattle.std.proofs.Common.{ap, arith}
+use Rattle.std.specs.Prelude.{is_some}
 use Rattle.graph.proofs.Observing.{front_is_among}
 use Rattle.graph.proofs.Seeing.{needed_in}
 use Rattle.graph.proofs.graph.Graph.mark.Goals as goal
@@ -18,6 +20,12 @@ returns-clause-rooted g c n among =
 pub returns-clause-needed : goal.returns-clause-needed
 returns-clause-needed g c p need =
     let whole = rw (← c.self.view_is) at c.in_ok-check.ensures.unbroken in
-    let kept = (c.self.invariant.1.unbroken whole).ready.kept in
+    let kept = (c.self.invariant.1.unbroken whole).ready.kept.work in
     rw (c.given.ensures, c.arena.ensures) (kept.given p (kept.step.there p (needed_in c.self.inside.functions c.self.inside.parts
     c.self.inside.observers.items c.self.inside.rooted c.self.inside.refused p (rw (← c.self.view_is) at need))))
+
+pub returns-clause-unscoped : goal.returns-clause-unscoped
+returns-clause-unscoped g c n r row since =
+    let given = c.self.invariant.1.kept.work.sound.given n (ap is_some (rw (← c.self.view_is) at row)) in
+    let late = rw (c.given.ensures, c.arena.ensures) at since in
+    absurd (omega (arith, given, late))

@@ -1,9 +1,10 @@
-use Rattle.std.proofs.Common.{List, None, refl, sym, subst, arith}
+use Rattle.std.proofs.Common.{List, None, refl, sym, subst, arith, ◌∙◌}
 use Rattle.inc_terms.specs.Within.{FunctionLaws}
 use Rattle.node_arena.proofs.RightSides.{sides_are_lawful}
 use Rattle.node_outcomes.specs.Meaning.{Meaning, meaning_of}
 use Rattle.graph.specs.Inside.{FitsInside}
 use Rattle.graph.specs.declared.observer.Observer.{Observer}
+use Rattle.graph.proofs.Sound.{ready_built}
 use Rattle.graph.proofs.graph.Graph.new.Goals as goal
 
 pub invariant_of-result : goal.invariant_of-result
@@ -16,6 +17,7 @@ invariant_of-result g c =
         few = omega arith;
         earlier = omega arith;
         kept = (c.new.ensures.ready M laws).kept;
+        built = ready_built M c.new.result (c.new.ensures.ready M laws);
         unbroken = λ whole. record {
           ready = c.new.ensures.ready M laws;
           roots = c.new.ensures.roots;
@@ -24,4 +26,5 @@ invariant_of-result g c =
         };
       }),
       c.requires.sound,
+      (λ n r is. absurd (let e = sym (c.new.ensures.empty n) ∙ is in cc)),
     )

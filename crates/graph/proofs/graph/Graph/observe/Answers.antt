@@ -13,4 +13,5 @@ invariant_of-self-2 g c = (
       (sound_observed _ c.self.inside.parts c.self.inside.observers.items c.self.inside.rooted c.self.inside.refused c.self.invariant.1 c.args.node
       (omega (arith, c.if-count.false, c.len-count.ensures)) (rw (c.given.ensures, c.arena.ensures) at c.if-node-given.false)),
   c.self.invariant.2,
+  c.self.invariant.3,
 )

@@ -10,6 +10,7 @@ use Rattle.graph.proofs.Faulting.{Passes, passed, ok_passes, set_unknown, set_no
 use Rattle.inc_terms.specs.Within.{Given}
 use Rattle.node_outcomes.specs.Row.{cutoff_in}
 use Rattle.graph.proofs.Seeing.{beside_as}
+use Rattle.graph.proofs.Fitting.{set_answer_fit}
 use Rattle.graph.proofs.Sounding.{sound_still}
 use Rattle.graph.proofs.graph.Graph.set_var.Goals as goal
 use Rattle.graph.proofs.graph.Graph.set_var.Goals.{in-Ok-set_var, in-Err-set_var}
@@ -43,6 +44,9 @@ invariant_of-self g c = (
       (rw (← c.self.view_is) at c.in-Ok.ensures.unbroken) (a.ready _) (λ p. ap (λ (r : Roots). root_times r p) a.roots)
       (omega (arith, a.given)) (λ n given. ap (λ (m : Rows Progress). at m (main n)) a.rows)),
   c.self.invariant.2,
+  (let a = c.set_var.ensures in
+      set_answer_fit (g.F.Functions.known c.self.inside.functions) (g.F.Functions.right c.self.inside.functions) c.self.inside.parts c.set_var.new.self
+      c.args.node c.args.value c.set_var.result a.set a.err (omega (arith, a.given)) c.self.invariant.3),
 )
 
 pub returns-clause-set : goal.returns-clause-set

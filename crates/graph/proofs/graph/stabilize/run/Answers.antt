@@ -1,16 +1,15 @@
-use Rattle.std.proofs.Common.{List, refl, subst, ◌∙◌}
+use Rattle.std.proofs.Common.{List, subst, ◌∙◌}
 use Rattle.inc_value.specs.declared.node.NodeId.{NodeId}
 use Rattle.inc_value.specs.Choice.{Among}
 use Rattle.inc_terms.specs.Within.{Given}
 use Rattle.node_outcomes.specs.Meaning.{functions_of, meaning_of}
-use Rattle.stabilizer.proofs.Leftover.{none_called}
-use Rattle.stabilizer.proofs.Rounding.{on_err}
-use Rattle.stabilizer.proofs.Still.{as_called}
+use Rattle.stabilizer.specs.Kept.{counts_by}
 use Rattle.graph.specs.Standing.{in_use}
 use Rattle.graph.proofs.Observing.{all_of}
-use Rattle.graph.proofs.Stabilizing.{on_ok, err_as, on_both, if_err, rest_given, all_right, all_lawful, all_few, can_again}
+use Rattle.graph.proofs.Sound.{ready_built}
+use Rattle.graph.proofs.Stabilizing.{on_ok, on_err, err_as, on_both, if_err, rest_given, all_right, all_lawful, all_few, all_built, all_built_but, can_again}
 use Rattle.graph.proofs.graph.stabilize.run.Goals as goal
-use Rattle.stabilizer.specs.Round.{graph_in}
+use Rattle.graph.proofs.Leaving.{none_met, left_same, built_same}
 
 pub run-requires-clause-given : goal.run-requires-clause-given
 run-requires-clause-given g c =
@@ -31,7 +30,7 @@ returns-clause-can g c =
     on_both c.run.result
     (λ right ready. can_again (meaning_of g.F.Functions c.args.functions.now)
     c.args.parts.now c.run.new.parts c.args.observers.now c.args.rooted c.requires.can c.requires.within
-    (meaning_of g.F.Functions c.run.new.functions) c.run.ensures.arena ready right)
+    (meaning_of g.F.Functions c.run.new.functions) c.run.ensures.left.rest.given ready right)
     (returns-clause-right g c) c.run.ensures.ready
 
 pub returns-clause-lawful : goal.returns-clause-lawful
@@ -49,10 +48,27 @@ returns-clause-few g c =
     c.args.parts.now c.run.new.parts c.args.observers.now c.args.rooted c.requires.can c.requires.within
     (g.F.Functions.calls c.args.functions.now) (g.F.Functions.calls c.run.new.functions)) few
 
+pub returns-clause-built : goal.returns-clause-built
+returns-clause-built g c =
+    let e = c.deref.ensures.value ∙ c.in_ok-roots.ensures in
+    let built = rw e at c.run.ensures.built in
+    on_ok c.run.result (all_built (meaning_of g.F.Functions c.args.functions.now)
+    c.args.parts.now c.run.new.parts c.args.observers.now c.args.rooted c.requires.can c.requires.within) built
+
+pub returns-clause-unbuilt : goal.returns-clause-unbuilt
+returns-clause-unbuilt g c =
+    let e = c.deref.ensures.value ∙ c.in_ok-roots.ensures in
+    let unbuilt = rw e at c.run.ensures.unbuilt in
+    if_err c.run.result (all_built_but (meaning_of g.F.Functions c.args.functions.now)
+    c.args.parts.now c.run.new.parts c.args.observers.now c.args.rooted c.requires.can c.requires.within) unbuilt
+
 pub returns-in_err-roots-clause-few : goal.returns-in_err-roots-clause-few
 returns-in_err-roots-clause-few g c =
-    let F = functions_of g.F.Functions c.args.functions.now in
-    let calls = g.F.Functions.calls c.args.functions.now in
     on_err c.from_residual.result
-    (as_called F c.args.parts.now c.args.parts.now refl c.requires.can.ready.kept.today.no_binds (in_use c.args.observers.now) calls calls
-    (none_called F (graph_in c.args.parts.now) c.args.parts.now.work (in_use c.args.observers.now) calls))
+    (none_met (functions_of g.F.Functions c.args.functions.now) c.args.parts.now c.args.parts.now (in_use c.args.observers.now)
+    (g.F.Functions.calls c.args.functions.now))
+
+pub returns-in_err-roots-clause-left : goal.returns-in_err-roots-clause-left
+returns-in_err-roots-clause-left g c =
+    left_same (functions_of g.F.Functions c.args.functions.now) c.args.parts.now (counts_by g.F.Functions c.args.functions.now) c.requires.can.ready.kept.work
+    (ready_built (meaning_of g.F.Functions c.args.functions.now) c.args.parts.now c.requires.can.ready)

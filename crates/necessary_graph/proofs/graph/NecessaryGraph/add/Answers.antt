@@ -25,7 +25,7 @@ invariant_of-self-2 c =
     let e : c.in_ok-points.points ≡ i.points + 1 = one_more _ _ _ _ c.checked_add.ensures c.in_ok-points.ensures.ok_part in (
       rw c.add_at.ensures.links c.self.invariant.0,
       added_in_step (part_of i.heights i.needs i.heap) c.self.invariant.1 c.add_at.new.self.heights c.reserve.new.self c.args.p c.args.height c.requires.low absent added heap,
-      rw e (room_added i.heights.heights c.add_at.new.self.heights i.heap c.reserve.new.self i.points c.args.p c.args.height c.self.invariant.2 added heap
+      rw e (room_added i.heights.heights c.add_at.new.self.heights i.heap c.reserve.new.self i.points c.args.p c.args.height c.self.invariant.2 absent added heap
           c.reserve.ensures.count (omega (arith, e, c.len.ensures, c.reserve.ensures.count, c.in_ok-reserve.ensures.room))),
     )
 

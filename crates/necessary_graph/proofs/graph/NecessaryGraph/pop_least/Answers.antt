@@ -1,3 +1,5 @@
+use Rattle.std.proofs.Common.{ap}
+use Rattle.std.specs.Prelude.{is_some}
 use Rattle.necessary_graph.specs.Part.{part_of}
 use Rattle.necessary_graph.proofs.Room.{room_taken}
 use Rattle.necessary_graph.proofs.Standing.{taken_in_step}
@@ -9,7 +11,7 @@ invariant_of-self-2 c =
     let e = c.in_ok-p.ensures in (
       c.self.invariant.0,
       taken_in_step (part_of i.heights i.needs i.heap) c.self.invariant.1 c.pop_least.new.self c.in_ok-p.p e.changes,
-      room_taken i.heights.heights i.heap c.pop_least.new.self i.points c.in_ok-p.p c.self.invariant.2 e.changes e.count e.spare,
+      room_taken i.heights.heights i.heap c.pop_least.new.self i.points c.in_ok-p.p c.self.invariant.2 (ap is_some e.was) e.changes e.count e.spare,
     )
 
 pub returns-clause-in_step : goal.returns-clause-in_step

@@ -2,11 +2,15 @@
 use Rattle.std.proofs.Common.{ap, ◌∙◌, length}
 use Rattle.formula_lang.specs.CommandView.{body_view}
 use Rattle.script_graph.proofs.Declared.{back_extends, back_few, back_live, declared_sound, declared_stands, returned_sound, returned_stands}
+use Rattle.script_graph.proofs.Extending.{unscoped_on}
 use Rattle.graph.proofs.TakingBack.{below_still}
 use Rattle.session.proofs.script.Script.declare.Goals as goal
 
 pub take_back-requires-clause-unneeded : goal.take_back-requires-clause-unneeded
 take_back-requires-clause-unneeded g c = below_still _ _ c.in-Err.ensures.kept.beside _ c.current_mark-mark.ensures.needed
+
+pub take_back-requires-clause-unscoped : goal.take_back-requires-clause-unscoped
+take_back-requires-clause-unscoped g c = unscoped_on _ _ _ c.in-Err.ensures.kept c.current_mark-mark.ensures.unscoped
 
 pub invariant_of-self : goal.invariant_of-self
 invariant_of-self g c =

@@ -1,30 +1,46 @@
-use Rattle.std.proofs.Common.{◌≡◌, Some, ap, ◌∙◌}
+use Rattle.std.proofs.Common.{◌≡◌, ap, Some, ◌∙◌}
 use Rattle.std.specs.Prelude.{is_some}
 use Rattle.inc_value.specs.Choice.{Among}
 use Rattle.inc_value.specs.declared.node.NodeId.{NodeId}
 use Rattle.inc_terms.specs.Graph.{Row}
 use Rattle.node_arena.specs.Arena.{row_at}
-use Rattle.stabilizer.proofs.Dropping.{dropped_more, forgotten_kept, forgotten_ready}
+use Rattle.stabilizer.specs.declared.parts.Parts.{Parts}
+use Rattle.wiring.specs.declared.work.Work.{Work}
+use Rattle.stabilizer.proofs.Dropping.{dropped_more, apart_since, forgotten_parts, forgotten_ready}
 use Rattle.stabilizer.proofs.parts.Parts.back_to.Goals as goal
 
 pub loop-id-preserved : goal.loop-id-preserved
 loop-id-preserved c =
     let d = c.drop_node.ensures in record {
-      so_far = dropped_more c.args.self.now.arena c.loop-id.self.arena c.drop_node.new.self.arena c.args.self.now.work c.loop-id.self.work
-          c.drop_node.new.self.work c.args.count c.in-Some.id c.loop-id.invariant.so_far c.in-Some.ensures.some.since d.dropped d.given d.rows d.links d.roots
-          d.heap d.kept d.ready;
+      so_far = dropped_more c.args.self.now c.loop-id.self c.drop_node.new.self c.args.count c.in-Some.id c.loop-id.invariant.so_far
+          c.in-Some.ensures.some.since d.dropped d.given d.rows d.links d.roots d.heap d.kept d.ready;
       ran = d.ran ∙ c.loop-id.invariant.ran;
     }
 
--- what is left was given before the count, and is listed still
-listed : (c : goal.After-forget_since) (n : NodeId) (r : Row) → row_at c.loop-id.self.arena n ≡ Some r → Among n c.loop-id.self.work.pairs.items
-    → Among n c.forget_since.new.self.pairs.items
-listed c n r e among = c.forget_since.ensures.kept n (c.in_default.ensures.none n (ap is_some e)) among
+pub drop_node-requires-clause-unscoped : goal.drop_node-requires-clause-unscoped
+drop_node-requires-clause-unscoped c n b r e scope =
+    apart_since c.args.self.now c.loop-id.self c.args.count c.in-Some.id c.loop-id.invariant.so_far c.in-Some.ensures.some.since n b r e scope
+
+module _ (c : goal.After-forget_since) where
+  abbrev left : Parts
+  left = c.loop-id.self
+
+  abbrev new : Parts
+  new = record left { work = c.forget_since.new.self }
+
+  -- what is left was given before the count, and is listed still
+  pairs : (n : NodeId) (r : Row) → row_at left.arena n ≡ Some r → Among n left.work.pairs.nodes → Among n new.work.pairs.nodes
+  pairs n r e among = c.forget_since.ensures.kept n (c.in_default.ensures.none n (ap is_some e)) (ap is_some e) among
+
+  scoped : (n : NodeId) (r : Row) → row_at left.arena n ≡ Some r → Among n left.work.scoped.nodes → Among n new.work.scoped.nodes
+  scoped n r e among = c.forget_since.ensures.kept_scoped n (c.in_default.ensures.none n (ap is_some e)) (ap is_some e) among
+
+  rest : new ≡ record left { work = record left.work { pairs = new.work.pairs; scoped = new.work.scoped } }
+  rest = ap (λ (w : Work). record left { work = w }) c.forget_since.ensures.rest
 
 pub returns-clause-kept : goal.returns-clause-kept
-returns-clause-kept c = forgotten_kept c.loop-id.self.arena c.loop-id.self.work c.forget_since.new.self c.loop-id.invariant.so_far.kept
-    c.forget_since.ensures.rest (listed c)
+returns-clause-kept c = forgotten_parts (left c) (new c) c.loop-id.invariant.so_far.kept (pairs c) (scoped c) (rest c)
 
 pub returns-clause-ready : goal.returns-clause-ready
-returns-clause-ready c M ready = forgotten_ready c.loop-id.self.arena c.loop-id.self.work c.forget_since.new.self c.loop-id.invariant.so_far.kept
-    c.forget_since.ensures.rest (listed c) M (c.loop-id.invariant.so_far.ready M ready)
+returns-clause-ready c M ready = forgotten_ready (left c) (new c) c.loop-id.invariant.so_far.kept (pairs c) (scoped c) (rest c) M
+    (c.loop-id.invariant.so_far.ready M ready)

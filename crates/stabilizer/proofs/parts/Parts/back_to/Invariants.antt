@@ -5,7 +5,7 @@ use Rattle.stabilizer.proofs.parts.Parts.back_to.Given as goal
 
 abbrev pub invariant-loop-id : goal.invariant-loop-id
 invariant-loop-id l = record {
-  so_far : HasDropped l.fn.self.arena l.self.arena l.fn.self.work l.self.work l.count;
+  so_far : HasDropped l.fn.self l.self l.count;
   ran : l.self.ran ≡ l.fn.self.ran;
 }
 

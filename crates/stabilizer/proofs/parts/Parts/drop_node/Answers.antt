@@ -1,34 +1,38 @@
-use Rattle.std.proofs.Common.{ap}
-use Rattle.stabilizer.specs.Between.{Stays}
-use Rattle.stabilizer.specs.Kept.{IsKept}
-use Rattle.stabilizer.specs.declared.work.Work.{Work}
-use Rattle.stabilizer.proofs.Between.{ready_stays, same_todo}
-use Rattle.stabilizer.proofs.Fitting.{dropped_fit}
-use Rattle.stabilizer.proofs.Dropping.{dropped_kept, dropped_stays}
+use Rattle.std.proofs.Common.{◌≡◌, None, refl, ap, subst}
+use Rattle.inc_value.specs.declared.node.NodeId.{NodeId}
+use Rattle.point_map.specs.Rows.{Rows}
+use Rattle.stabilizer.specs.declared.parts.Parts.{Parts}
+use Rattle.wiring.specs.Places.{ChangesNode}
+use Rattle.wiring.specs.declared.work.Work.{Work}
+use Rattle.stabilizer.proofs.Dropping.{dropped_parts, dropped_ready}
 use Rattle.stabilizer.proofs.parts.Parts.drop_node.Goals as goal
 
-module _ (c : goal.After-drop_node-2) where
-  abbrev old : Work
-  old = c.args.self.now.work
+module _ (c : goal.After-forget_roots) where
+  abbrev old : Parts
+  old = c.args.self.now
 
-  abbrev work : Work
-  work = c.drop_node-2.new.self
+  abbrev mid : Work
+  mid = c.drop_node-2.new.self
 
-  kept : IsKept c.drop_node.new.self work
-  kept = let d = c.drop_node-2.ensures in
-      dropped_kept c.args.self.now.arena c.drop_node.new.self old work c.args.id c.requires.kept c.requires.unneeded c.drop_node.ensures.dropped
-      c.drop_node.ensures.given d.rows d.dropped d.links d.roots d.heap d.step d.round (same_todo old work d.todo)
-      (ap (λ (w : Work). w.pairs) d.rest) c.drop_node.ensures.sound
+  abbrev new : Parts
+  new = record old { arena = c.drop_node.new.self; work = record mid { roots = c.forget_roots.new.roots } }
 
-  stays : Stays c.args.self.now.arena c.drop_node.new.self old work
-  stays = let d = c.drop_node-2.ensures in
-      dropped_stays c.args.self.now.arena c.drop_node.new.self old work c.args.id c.requires.kept c.requires.unneeded c.drop_node.ensures.dropped
-      c.drop_node.ensures.given d.rows d.dropped d.links d.roots d.heap d.step d.round (same_todo old work d.todo)
-      (ap (λ (w : Work). w.pairs) d.rest) c.drop_node.ensures.sound
+  rest : new.work ≡ record old.work { graph = new.work.graph; rows = new.work.rows; roots = new.work.roots }
+  rest = ap (λ (w : Work). record w { roots = c.forget_roots.new.roots }) c.drop_node-2.ensures.rest
+
+  rights : ChangesNode old.work.roots new.work.roots c.args.id (λ part. None)
+  rights = subst (λ (roots : Rows NodeId). ChangesNode roots c.forget_roots.new.roots c.args.id (λ part. None))
+      (ap (λ (w : Work). w.roots) c.drop_node-2.ensures.rest) c.forget_roots.ensures
+
+pub returns-clause-right_sides : goal.returns-clause-right_sides
+returns-clause-right_sides c = rights c
 
 pub returns-clause-kept : goal.returns-clause-kept
-returns-clause-kept c = kept c
+returns-clause-kept c = let d = c.drop_node-2.ensures in
+    dropped_parts (old c) (new c) c.args.id c.requires.kept c.requires.unneeded c.requires.unscoped c.drop_node.ensures.dropped
+    c.drop_node.ensures.given d.rows d.dropped (rights c) d.links d.roots d.heap d.step c.drop_node.ensures.sound (rest c) refl refl
 
 pub returns-clause-ready : goal.returns-clause-ready
-returns-clause-ready c M ready = ready_stays M _ _ _ _ ready
-    (dropped_fit M c.args.self.now.arena c.drop_node.new.self c.args.id ready.fit c.drop_node.ensures.dropped c.drop_node.ensures.given) (kept c) (stays c)
+returns-clause-ready c M ready = let d = c.drop_node-2.ensures in
+    dropped_ready (old c) (new c) c.args.id c.requires.kept c.requires.unneeded c.requires.unscoped c.drop_node.ensures.dropped
+    c.drop_node.ensures.given d.rows d.dropped (rights c) d.links d.roots d.heap d.step c.drop_node.ensures.sound (rest c) refl refl M ready

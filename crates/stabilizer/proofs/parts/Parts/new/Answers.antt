@@ -1,7 +1,26 @@
-use Rattle.stabilizer.proofs.Empty.{empty_ready}
+use Rattle.stabilizer.specs.Kept.{PartsKept}
+use Rattle.stabilizer.specs.declared.parts.Parts.{Parts}
+use Rattle.stabilizer.proofs.Empty.{empty_kept, empty_between, empty_scopes, empty_ready}
 use Rattle.stabilizer.proofs.parts.Parts.new.Goals as goal
 
+abbrev parts : (c : goal.After-new-5) → Parts
+parts c = record {
+  alloc = c.args.alloc;
+  arena = c.new.result;
+  scopes = c.new-2.result;
+  work = c.new-3.result;
+  dying = c.new-4.result;
+  ran = c.new-5.result;
+}
+
+kept : (c : goal.After-new-5) → PartsKept (parts c)
+kept c = let w = c.new-3.ensures in record {
+  work = empty_kept c.new.result c.new-3.result c.new.ensures.sound w.step c.new.ensures.empty w.rows w.heights w.links w.heap w.right_sides w.died;
+  scopes = empty_scopes c.new.result c.new-2.result c.new.ensures.empty c.new-2.ensures.standing c.new-2.ensures.killed;
+  dying = c.new-4.ensures.items;
+}
+
 pub returns-clause-ready : goal.returns-clause-ready
-returns-clause-ready c M laws =
-    let w = c.new-2.ensures in
-    empty_ready c.new.result c.new-2.result c.new.ensures.sound w.step c.new.ensures.empty w.rows w.heights w.links w.heap w.todo w.ran w.strict w.round M laws
+returns-clause-ready c M laws = let w = c.new-3.ensures in empty_ready M (parts c) (kept c) laws c.new.ensures.empty
+    (empty_between c.new.result c.new-3.result c.new.ensures.sound w.step c.new.ensures.empty w.rows w.heights w.links w.heap w.right_sides w.died
+    w.todo w.ran w.strict w.round M.functions)

@@ -1,47 +1,57 @@
-use Rattle.std.proofs.Common.{refl, sym, subst}
+use Rattle.std.proofs.Common.{◌≡◌, Result, Ok, Err, sym, ap, subst}
+use Rattle.std.specs.Prelude.{◌↔◌, IsErrAnd, IsErrOf}
+use Rattle.node_arena.specs.declared.arena.variable.SetFault.TheVariants.{NotVar, Unknown, WrongType}
 use Rattle.inc_value.specs.declared.node.Point.{Point}
 use Rattle.inc_terms.specs.Depend.{main}
 use Rattle.inc_terms.specs.Within.{Given, ValueWithin}
 use Rattle.node_arena.specs.Arena.{IsVariable}
-use Rattle.stabilizer.specs.Between.{Stays}
-use Rattle.stabilizer.specs.Wiring.{IsMarked, KeepsRound}
-use Rattle.stabilizer.specs.Kept.{IsKept}
-use Rattle.stabilizer.specs.Round.{IsReady}
-use Rattle.stabilizer.specs.declared.work.Work.{Work}
-use Rattle.stabilizer.proofs.Between.{ready_stays}
-use Rattle.stabilizer.proofs.Fitting.{set_fit}
-use Rattle.stabilizer.proofs.Setting.{set_kept, set_stays}
+use Rattle.wiring.specs.Wiring.{IsMarked}
+use Rattle.wiring.specs.declared.work.Work.{Work}
+use Rattle.stabilizer.specs.declared.parts.Parts.{Parts}
+use Rattle.stabilizer.proofs.Setting.{set_parts, set_ready}
 use Rattle.stabilizer.proofs.parts.Parts.set_var.Goals as goal
 
 module _ (c : goal.After-schedule) where
-  abbrev work : Work
-  work = record c.args.self.now.work { graph = c.schedule.new.self.graph }
+  abbrev old : Parts
+  old = c.args.self.now
 
-  marked : IsMarked c.args.self.now.work.graph c.schedule.new.self.graph (main c.args.id)
-  marked = subst (λ (p : Point). IsMarked c.args.self.now.work.graph c.schedule.new.self.graph p) c.main_point.ensures c.schedule.ensures.scheduled
+  abbrev new : Parts
+  new = record old { arena = c.set_var.new.self; work = c.schedule.new.self }
 
-  not_other : (IsVariable c.args.self.now.arena c.args.id → ⊥) → ⊥
+  rest : new ≡ record old { arena = c.set_var.new.self; work = record old.work { graph = c.schedule.new.self.graph } }
+  rest = ap (λ (w : Work). record old { arena = c.set_var.new.self; work = w }) c.schedule.ensures.rest
+
+  marked : IsMarked old.work.graph c.schedule.new.self.graph (main c.args.id)
+  marked = subst (λ (p : Point). IsMarked old.work.graph c.schedule.new.self.graph p) c.main_point.ensures c.schedule.ensures.scheduled
+
+  not_other : (IsVariable old.arena c.args.id → ⊥) → ⊥
   not_other isnt = absurd (
-      let named : (Given c.args.self.now.arena.given c.args.id × ValueWithin (Given c.args.self.now.arena.given) c.args.value) → ⊥ =
+      let named : (Given old.arena.given c.args.id × ValueWithin (Given old.arena.given) c.args.value) → ⊥ =
       λ given. absurd (let e = c.in_ok-set_var.ensures.not_var.1 (given.0, given.1, isnt) in cc) in
       let e = c.in_ok-set_var.ensures.unknown.1 named in cc)
 
-  round : KeepsRound c.args.self.now.work work
-  round = record { roots = refl; ran = refl; strict = refl; round = refl }
-
-  kept : IsKept c.set_var.new.self work
-  kept = set_kept c.args.self.now.arena c.set_var.new.self c.args.self.now.work work c.args.id c.args.value c.requires.kept c.in_ok-set_var.ensures.set
-      not_other c.in_ok-set_var.ensures.given refl marked c.schedule.ensures.step round refl refl c.set_var.ensures.sound
-
-  stays : Stays c.args.self.now.arena c.set_var.new.self c.args.self.now.work work
-  stays = set_stays c.args.self.now.arena c.set_var.new.self c.args.self.now.work work c.args.id c.args.value c.requires.kept c.in_ok-set_var.ensures.set
-      not_other c.in_ok-set_var.ensures.given refl marked c.schedule.ensures.step round refl refl c.set_var.ensures.sound
-
 pub returns-clause-kept : goal.returns-clause-kept
-returns-clause-kept c = subst (λ (w : Work). IsKept c.set_var.new.self w) (sym c.schedule.ensures.rest) (kept c)
+returns-clause-kept c = set_parts (old c) (new c) c.args.id c.args.value c.requires.kept c.in_ok-set_var.ensures.set (not_other c)
+    c.in_ok-set_var.ensures.given (marked c) c.schedule.ensures.step c.set_var.ensures.sound (rest c)
 
 pub returns-clause-ready : goal.returns-clause-ready
-returns-clause-ready c M ready =
-    subst (λ (w : Work). IsReady M c.set_var.new.self w) (sym c.schedule.ensures.rest) (ready_stays M _ _ _ _ ready
-    (set_fit M c.args.self.now.arena c.set_var.new.self c.args.id ready.fit c.args.value c.in_ok-set_var.ensures.set c.in_ok-set_var.ensures.given)
-    (kept c) (stays c))
+returns-clause-ready c M ready = set_ready (old c) (new c) c.args.id c.args.value c.requires.kept c.in_ok-set_var.ensures.set (not_other c)
+    c.in_ok-set_var.ensures.given (marked c) c.schedule.ensures.step c.set_var.ensures.sound (rest c) M ready
+
+-- a fault that is handed on is the one that was met
+fault_as : {T E : Type 0} (r : Result T E) (met fault : E) (Cause : Type 0) → IsErrAnd r (λ (x : E). x ≡ met)
+    → IsErrOf {T = T} (Err met) fault ↔ Cause → IsErrOf r fault ↔ Cause
+fault_as (Ok t) met fault Cause is h = absurd is
+fault_as {T = T} (Err e) met fault Cause is h = subst (λ x. IsErrOf {T = T} (Err x) fault ↔ Cause) (sym is) h
+
+pub returns-in_err-set_var-clause-wrong_type : goal.returns-in_err-set_var-clause-wrong_type
+returns-in_err-set_var-clause-wrong_type c =
+    fault_as c.from_residual.result c.in_err-set_var.field-0.0 WrongType _ c.from_residual.ensures.1 c.in_err-set_var.ensures.wrong_type
+
+pub returns-in_err-set_var-clause-unknown : goal.returns-in_err-set_var-clause-unknown
+returns-in_err-set_var-clause-unknown c =
+    fault_as c.from_residual.result c.in_err-set_var.field-0.0 Unknown _ c.from_residual.ensures.1 c.in_err-set_var.ensures.unknown
+
+pub returns-in_err-set_var-clause-not_var : goal.returns-in_err-set_var-clause-not_var
+returns-in_err-set_var-clause-not_var c =
+    fault_as c.from_residual.result c.in_err-set_var.field-0.0 NotVar _ c.from_residual.ensures.1 c.in_err-set_var.ensures.not_var

@@ -1,24 +1,35 @@
-use Rattle.std.proofs.Common.{subst}
+use Rattle.std.proofs.Common.{◌≡◌, ap, subst}
 use Rattle.inc_value.specs.declared.node.Point.{Point}
 use Rattle.inc_terms.specs.Depend.{main}
 use Rattle.necessary_graph.specs.Sweep.{IsUnrooted}
-use Rattle.stabilizer.proofs.Between.{ready_stays}
-use Rattle.stabilizer.proofs.Unrooting.{still_rooted, unrooted_kept, unrooted_stays}
+use Rattle.stabilizer.specs.declared.parts.Parts.{Parts}
+use Rattle.wiring.specs.Graph.{rowless}
+use Rattle.wiring.specs.declared.work.Work.{Work}
+use Rattle.stabilizer.proofs.Unrooting.{root_less, still_rooted, unrooted_parts, unrooted_ready}
 use Rattle.stabilizer.proofs.parts.Parts.unroot.Goals as goal
 
 module _ (c : goal.After-root_off) where
-  off : IsUnrooted c.args.self.now.work.graph c.root_off.new.self (main c.args.id)
-  off = subst (λ (p : Point). IsUnrooted c.args.self.now.work.graph c.root_off.new.self p) c.main_point.ensures c.root_off.ensures.unrooted
+  abbrev old : Parts
+  old = c.args.self.now
+
+  abbrev new : Parts
+  new = record old { work = c.root_off.new.self }
+
+  rest : new ≡ record old { work = record old.work { graph = c.root_off.new.self.graph } }
+  rest = ap (λ (w : Work). record old { work = w }) c.root_off.ensures.rest
+
+  off : IsUnrooted (rowless old.work) old.work.graph c.root_off.new.self.graph (main c.args.id)
+  off = subst (λ (p : Point). IsUnrooted (rowless old.work) old.work.graph c.root_off.new.self.graph p) c.main_point.ensures
+      c.root_off.ensures.unrooted
+
+pub returns-clause-roots : goal.returns-clause-roots
+returns-clause-roots c = root_less (old c).work c.root_off.new.self.graph c.args.id (off c)
 
 pub returns-clause-rooted : goal.returns-clause-rooted
-returns-clause-rooted c =
-    still_rooted c.args.self.now.arena c.args.self.now.work c.root_off.new.self c.args.id c.requires.kept (off c)
+returns-clause-rooted c = still_rooted (old c).work c.root_off.new.self.graph c.args.id (off c)
 
 pub returns-clause-kept : goal.returns-clause-kept
-returns-clause-kept c =
-    unrooted_kept c.args.self.now.arena c.args.self.now.work c.root_off.new.self c.args.id c.requires.kept (off c) c.root_off.ensures.in_step
+returns-clause-kept c = unrooted_parts (old c) (new c) c.args.id (off c) c.requires.kept c.root_off.ensures.step (rest c)
 
 pub returns-clause-ready : goal.returns-clause-ready
-returns-clause-ready c M ready = ready_stays M _ _ _ _ ready ready.fit
-    (unrooted_kept c.args.self.now.arena c.args.self.now.work c.root_off.new.self c.args.id c.requires.kept (off c) c.root_off.ensures.in_step)
-    (unrooted_stays c.args.self.now.arena c.args.self.now.work c.root_off.new.self c.args.id c.requires.kept (off c))
+returns-clause-ready c M ready = unrooted_ready (old c) (new c) c.args.id (off c) c.requires.kept c.root_off.ensures.step (rest c) M ready

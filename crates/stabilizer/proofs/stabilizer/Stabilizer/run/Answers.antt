@@ -2,124 +2,288 @@ use Rattle.std.proofs.Common.{inl, refl, ◌≡◌, ◌+◌, ◌++◌, ℕ, List
 use Rattle.std.specs.Option.{SomeIff}
 use Rattle.std.specs.Result.{IsErrAnd}
 use Rattle.inc_value.specs.declared.node.NodeId.{NodeId}
-use Rattle.node_arena.specs.Arena.{Arena}
-use Rattle.stabilizer.specs.Graph.{graph_at}
-use Rattle.stabilize_round.specs.Calling.{costs_of}
-use Rattle.stabilize_round.specs.Counts.{RoseBy}
-use Rattle.stabilizer.specs.Kept.{IsKept}
+use Rattle.node_arena.specs.Graph.{AllCallFit}
+use Rattle.node_arena.proofs.RightSides.{fit_lists_given}
 use Rattle.node_outcomes.specs.Meaning.{Meaning, functions_of, meaning_of}
-use Rattle.node_outcomes.proofs.Keeping.{still_means}
-use Rattle.stabilizer.specs.Round.{IsReady, AreRooted, IsLawful, LeavesTried}
+use Rattle.wiring.specs.declared.refused.Refused.TheVariants.{Memory}
+use Rattle.stabilizer.specs.Kept.{counts_by}
+use Rattle.stabilizer.specs.Round.{IsReady, AreRooted, IsLawful, LeavesTried, BuildsAllBut}
 use Rattle.stabilizer.specs.declared.parts.Parts.{Parts}
-use Rattle.stabilizer.proofs.Still as still
-use Rattle.stabilizer.proofs.Still.{as_lawful, as_up_to_date, as_called, as_shown, costs_same}
-use Rattle.stabilizer.proofs.Lawful.{roots_lawful, steps_lawful}
-use Rattle.stabilizer.proofs.Leftover.{none_called, roots_cutoffs, roots_show, steps_cutoffs, steps_show, steps_called}
-use Rattle.stabilizer.proofs.Tried.{roots_tried, steps_tried}
-use Rattle.stabilizer.proofs.Rounding.{on_err, exit_is, in_round, round_counts, round_readies, round_rights}
+use Rattle.stabilizer.proofs.BuiltFor.{paused_built}
+use Rattle.stabilizer.proofs.Lawful.{paused_lawful}
+use Rattle.stabilizer.proofs.Leftover.{none_called, only_still, paused_cutoffs, paused_shows, paused_called, paused_left}
+use Rattle.stabilizer.proofs.MeaningKept.{nothing_meant, means_still}
+use Rattle.stabilizer.proofs.Paused.{none_paused, roots_paused, steps_paused}
+use Rattle.stabilizer.proofs.Rounding.{on_err, exit_is}
+use Rattle.stabilizer.proofs.Tried.{paused_tried}
+use Rattle.stabilizer.proofs.Released.{released_of}
+use Rattle.stabilizer.proofs.WholeRound.{in_round, round_calls, round_readies, round_rights, round_left, round_built}
 use Rattle.stabilizer.proofs.stabilizer.Stabilizer.run.Goals as goal
+
+-- ---- what is called
+
+pub put_roots-requires-clause-kept : goal.put_roots-requires-clause-kept
+put_roots-requires-clause-kept g c = c.requires.ready.kept.work
+
+pub settle_all-requires-clause-kept : goal.settle_all-requires-clause-kept
+settle_all-requires-clause-kept g c = record {
+  work = c.put_roots.ensures.kept;
+  scopes = c.requires.ready.kept.scopes;
+  dying = c.requires.ready.kept.dying;
+}
+
+pub settle_all-requires-clause-fit : goal.settle_all-requires-clause-fit
+settle_all-requires-clause-fit g c = c.requires.fit
+
+pub settle_all-requires-clause-in_round : goal.settle_all-requires-clause-in_round
+settle_all-requires-clause-in_round g c =
+    in_round (meaning_of g.F.Functions c.args.functions.now) c.args.parts.now c.put_roots.new.work (counts_by g.F.Functions c.args.functions.now)
+    c.requires.ready c.in_ok-put_roots.ensures.wired
+
+pub end_round-requires : goal.end_round-requires
+end_round-requires g c = record { step = c.settle_all.ensures.kept.work.step }
+
+-- ---- no further round has a number
+
+pub returns-in_default-clause-lawful : goal.returns-in_default-clause-lawful
+returns-in_default-clause-lawful g c = λ observed looks. (tt, tt)
+
+pub returns-in_default-clause-few : goal.returns-in_default-clause-few
+returns-in_default-clause-few g c = λ observed looks. none_called (functions_of g.F.Functions c.args.functions.now) c.args.parts.now c.args.parts.now
+    (c.args.roots.now ++ observed) (g.F.Functions.calls c.args.functions.now)
+
+pub returns-in_default-clause-cutoffs : goal.returns-in_default-clause-cutoffs
+returns-in_default-clause-cutoffs g c = λ n r row. refl
+
+pub returns-in_default-clause-shows : goal.returns-in_default-clause-shows
+returns-in_default-clause-shows g c = λ n given. inl refl
+
+pub returns-in_default-clause-left : goal.returns-in_default-clause-left
+returns-in_default-clause-left g c =
+    let M = meaning_of g.F.Functions c.args.functions.now in
+    let counts = counts_by g.F.Functions c.args.functions.now in
+    paused_left M c.args.parts.now c.args.parts.now counts counts Memory (none_paused M c.args.parts.now counts c.requires.ready)
+
+pub returns-in_default-clause-unbuilt : goal.returns-in_default-clause-unbuilt
+returns-in_default-clause-unbuilt g c =
+    let M = meaning_of g.F.Functions c.args.functions.now in
+    let counts = counts_by g.F.Functions c.args.functions.now in
+    λ observed looks. paused_built M c.args.parts.now c.args.parts.now counts counts Memory (none_paused M c.args.parts.now counts c.requires.ready)
+    c.args.roots.now observed (λ p h. inl h) looks
+
+pub returns-in_default-clause-functions : goal.returns-in_default-clause-functions
+returns-in_default-clause-functions g c = nothing_meant g.F.Functions c.args.functions.now c.requires.sound
+
+pub returns-in_default-clause-fit : goal.returns-in_default-clause-fit
+returns-in_default-clause-fit g c = c.requires.fit
+
+pub returns-in_default-clause-kept : goal.returns-in_default-clause-kept
+returns-in_default-clause-kept g c = c.requires.ready.kept
+
+-- ---- a root was refused
 
 pub returns-in_err-put_roots-clause-lawful : goal.returns-in_err-put_roots-clause-lawful
 returns-in_err-put_roots-clause-lawful g c =
     let M = meaning_of g.F.Functions c.args.functions.now in
-    let F = M.functions in
-    let arena = c.args.parts.now.arena in
-    let old = c.args.parts.now.work in
+    let counts = counts_by g.F.Functions c.args.functions.now in
     let e = c.in_err-put_roots.field-0.0 in
+    let new : Parts = record c.args.parts.now { work = c.put_roots.new.work } in
     let is : IsErrAnd c.from_residual.result (λ x. x ≡ e) = c.from_residual.ensures.1 in
     exit_is c.from_residual.result e
-    (λ x. (observed : List NodeId) → AreRooted old observed → IsLawful F c.args.parts.now (record c.args.parts.now { work = c.put_roots.new.work }) (c.args.roots.now ++ observed) x) is
-    (λ observed looks. as_lawful F c.args.parts.now (record c.args.parts.now { work = c.put_roots.new.work }) refl c.requires.ready.kept.today.no_binds (c.args.roots.now ++ observed) e
-    (roots_lawful M arena old c.put_roots.new.work (g.F.Functions.calls c.args.functions.now) c.requires.ready
-    c.args.roots.now observed c.put_roots.ensures.roots looks e c.in_err-put_roots.ensures.refused))
-
-pub returns-in_err-settle_all-clause-lawful : goal.returns-in_err-settle_all-clause-lawful
-returns-in_err-settle_all-clause-lawful g c =
-    let M = meaning_of g.F.Functions c.args.functions.now in
-    let F = M.functions in
-    let arena = c.args.parts.now.arena in
-    let old = c.args.parts.now.work in
-    let e = c.in_err-settle_all.field-0.0 in
-    let is : IsErrAnd c.from_residual-in_err-settle_all.result (λ x. x ≡ e) = c.from_residual-in_err-settle_all.ensures.1 in
-    exit_is c.from_residual-in_err-settle_all.result e
-    (λ x. (observed : List NodeId) → AreRooted old observed → IsLawful F c.args.parts.now c.settle_all.new.parts (c.args.roots.now ++ observed) x) is
-    (λ observed looks. as_lawful F c.args.parts.now c.settle_all.new.parts c.settle_all.ensures.arena c.requires.ready.kept.today.no_binds (c.args.roots.now ++ observed) e
-    (steps_lawful M arena old c.put_roots.new.work c.settle_all.new.parts.work (g.F.Functions.calls c.args.functions.now)
-    (g.F.Functions.calls c.settle_all.new.functions) c.requires.ready c.in_ok-put_roots.ensures.wired c.args.roots.now observed
-    c.put_roots.ensures.roots c.settle_all.ensures.roots looks e c.in_err-settle_all.ensures.refused))
+    (λ x. (observed : List NodeId) → AreRooted c.args.parts.now.work observed
+    → IsLawful M.functions c.args.parts.now new (c.args.roots.now ++ observed) x) is
+    (λ observed looks. paused_lawful M c.args.parts.now new counts counts e
+    (roots_paused M c.args.parts.now counts c.requires.ready c.put_roots.new.work e c.in_err-put_roots.ensures.refused c.put_roots.ensures.kept)
+    c.args.roots.now observed c.put_roots.ensures.roots looks)
 
 pub returns-in_err-put_roots-clause-tried : goal.returns-in_err-put_roots-clause-tried
 returns-in_err-put_roots-clause-tried g c =
-    let e = c.in_err-put_roots.field-0.0 in
-    let is : IsErrAnd c.from_residual.result (λ x. x ≡ e) = c.from_residual.ensures.1 in
-    exit_is c.from_residual.result e (λ x. LeavesTried c.args.parts.now.arena c.put_roots.new.work x) is
-    (roots_tried (meaning_of g.F.Functions c.args.functions.now) c.args.parts.now.arena c.args.parts.now.work c.put_roots.new.work
-    (g.F.Functions.calls c.args.functions.now) c.requires.ready c.put_roots.ensures.kept.step e c.in_err-put_roots.ensures.refused)
-
-pub returns-in_err-settle_all-clause-tried : goal.returns-in_err-settle_all-clause-tried
-returns-in_err-settle_all-clause-tried g c =
     let M = meaning_of g.F.Functions c.args.functions.now in
-    let F = M.functions in
-    let arena = c.args.parts.now.arena in
-    let new = c.settle_all.new.parts.work in
-    let e = c.in_err-settle_all.field-0.0 in
-    let is : IsErrAnd c.from_residual-in_err-settle_all.result (λ x. x ≡ e) = c.from_residual-in_err-settle_all.ensures.1 in
-    exit_is c.from_residual-in_err-settle_all.result e (λ x. LeavesTried c.settle_all.new.parts.arena new x) is
-    (subst (λ (a : Arena). LeavesTried a new e) (sym c.settle_all.ensures.arena)
-    (steps_tried M arena c.args.parts.now.work c.put_roots.new.work new (g.F.Functions.calls c.args.functions.now)
-    (g.F.Functions.calls c.settle_all.new.functions) c.requires.ready c.in_ok-put_roots.ensures.wired c.settle_all.ensures.kept.step e
-    c.in_err-settle_all.ensures.refused))
-
-pub settle_all-requires-clause-in_round : goal.settle_all-requires-clause-in_round
-settle_all-requires-clause-in_round g c =
-    in_round (meaning_of g.F.Functions c.args.functions.now) c.args.parts.now.arena c.args.parts.now.work c.put_roots.new.work
-    (g.F.Functions.calls c.args.functions.now) c.requires.ready c.in_ok-put_roots.ensures.wired
-
-pub returns-in_err-settle_all-clause-few : goal.returns-in_err-settle_all-clause-few
-returns-in_err-settle_all-clause-few g c =
-    on_err c.from_residual-in_err-settle_all.result
-    (λ observed looks. as_called (functions_of g.F.Functions c.args.functions.now) c.args.parts.now c.settle_all.new.parts c.settle_all.ensures.arena
-    c.requires.ready.kept.today.no_binds (c.args.roots.now ++ observed)
-    (g.F.Functions.calls c.args.functions.now) (g.F.Functions.calls c.settle_all.new.functions)
-    (steps_called (meaning_of g.F.Functions c.args.functions.now) c.args.parts.now.arena c.args.parts.now.work c.put_roots.new.work
-    c.settle_all.new.parts.work (g.F.Functions.calls c.args.functions.now) (g.F.Functions.calls c.settle_all.new.functions) c.requires.ready
-    c.in_ok-put_roots.ensures.wired c.in_err-settle_all.field-0.0 c.in_err-settle_all.ensures.refused c.args.roots.now observed
-    c.put_roots.ensures.roots c.settle_all.ensures.roots looks))
-
-pub returns-in_err-settle_all-clause-cutoffs : goal.returns-in_err-settle_all-clause-cutoffs
-returns-in_err-settle_all-clause-cutoffs g c =
-    on_err c.from_residual-in_err-settle_all.result
-    (steps_cutoffs (meaning_of g.F.Functions c.args.functions.now) c.args.parts.now.arena c.args.parts.now.work c.put_roots.new.work
-    c.settle_all.new.parts.work (g.F.Functions.calls c.args.functions.now) (g.F.Functions.calls c.settle_all.new.functions) c.requires.ready
-    c.in_ok-put_roots.ensures.wired c.in_err-settle_all.field-0.0 c.in_err-settle_all.ensures.refused
-    (subst (λ (a : Arena). IsKept a c.settle_all.new.parts.work) c.settle_all.ensures.arena c.settle_all.ensures.kept))
+    let counts = counts_by g.F.Functions c.args.functions.now in
+    let e = c.in_err-put_roots.field-0.0 in
+    let new : Parts = record c.args.parts.now { work = c.put_roots.new.work } in
+    let is : IsErrAnd c.from_residual.result (λ x. x ≡ e) = c.from_residual.ensures.1 in
+    exit_is c.from_residual.result e (λ x. LeavesTried new.arena new.work x) is
+    (paused_tried M c.args.parts.now new counts counts e
+    (roots_paused M c.args.parts.now counts c.requires.ready c.put_roots.new.work e c.in_err-put_roots.ensures.refused c.put_roots.ensures.kept))
 
 pub returns-in_err-put_roots-clause-few : goal.returns-in_err-put_roots-clause-few
 returns-in_err-put_roots-clause-few g c =
     on_err c.from_residual.result
-    (λ observed looks. as_called (functions_of g.F.Functions c.args.functions.now) c.args.parts.now (record c.args.parts.now { work = c.put_roots.new.work }) refl
-    c.requires.ready.kept.today.no_binds (c.args.roots.now ++ observed) (g.F.Functions.calls c.args.functions.now) (g.F.Functions.calls c.args.functions.now)
-    (none_called (functions_of g.F.Functions c.args.functions.now) (graph_at c.args.parts.now.arena c.put_roots.new.work) c.args.parts.now.work
-    (c.args.roots.now ++ observed) (g.F.Functions.calls c.args.functions.now)))
+    (λ observed looks. none_called (functions_of g.F.Functions c.args.functions.now) c.args.parts.now (record c.args.parts.now {
+      work =
+          c.put_roots.new.work;
+    })
+    (c.args.roots.now ++ observed) (g.F.Functions.calls c.args.functions.now))
+
+pub returns-in_err-put_roots-clause-kept : goal.returns-in_err-put_roots-clause-kept
+returns-in_err-put_roots-clause-kept g c = on_err c.from_residual.result (record {
+  work = c.put_roots.ensures.kept;
+  scopes = c.requires.ready.kept.scopes;
+  dying = c.requires.ready.kept.dying;
+})
 
 pub returns-in_err-put_roots-clause-cutoffs : goal.returns-in_err-put_roots-clause-cutoffs
 returns-in_err-put_roots-clause-cutoffs g c =
-    on_err c.from_residual.result
-    (roots_cutoffs (meaning_of g.F.Functions c.args.functions.now) c.args.parts.now.arena c.args.parts.now.work c.put_roots.new.work
-    (g.F.Functions.calls c.args.functions.now) c.requires.ready c.put_roots.ensures.kept c.in_err-put_roots.field-0.0 c.in_err-put_roots.ensures.refused)
+    let M = meaning_of g.F.Functions c.args.functions.now in
+    let counts = counts_by g.F.Functions c.args.functions.now in
+    let e = c.in_err-put_roots.field-0.0 in
+    on_err c.from_residual.result (paused_cutoffs M c.args.parts.now (record c.args.parts.now { work = c.put_roots.new.work }) counts counts e
+    (roots_paused M c.args.parts.now counts c.requires.ready c.put_roots.new.work e c.in_err-put_roots.ensures.refused c.put_roots.ensures.kept))
 
-pub returns-clause-calls : goal.returns-clause-calls
-returns-clause-calls g c =
-    let before = g.F.Functions.calls c.args.functions.now in
-    let after = g.F.Functions.calls c.settle_all.new.functions in
-    let settled = c.settle_all.new.parts.work in
-    let ended : Parts = record c.settle_all.new.parts { work = c.end_round.new.self; ran = c.swap.new.x } in
-    subst (λ (k : ℕ). RoseBy before k after) (sym (costs_same c.args.parts.now ended c.settle_all.ensures.arena ended.ran.items))
-    (subst (λ v. RoseBy before (costs_of (graph_at c.args.parts.now.arena settled) v.items) after) (sym c.swap.ensures.x_after)
-    (round_counts (meaning_of g.F.Functions c.args.functions.now) c.args.parts.now.arena c.args.parts.now.work c.put_roots.new.work before
-    c.requires.ready c.in_ok-put_roots.ensures.wired settled after c.in_ok-settle_all.ensures.settled
-    (subst (λ (a : Arena). IsKept a settled) c.settle_all.ensures.arena c.settle_all.ensures.kept) c.in_ok-settle_all.ensures.quiet
-    c.in_ok-settle_all.ensures.empty))
+pub returns-in_err-put_roots-clause-shows : goal.returns-in_err-put_roots-clause-shows
+returns-in_err-put_roots-clause-shows g c =
+    let M = meaning_of g.F.Functions c.args.functions.now in
+    let counts = counts_by g.F.Functions c.args.functions.now in
+    let e = c.in_err-put_roots.field-0.0 in
+    on_err c.from_residual.result (paused_shows M c.args.parts.now (record c.args.parts.now { work = c.put_roots.new.work }) counts counts e
+    (roots_paused M c.args.parts.now counts c.requires.ready c.put_roots.new.work e c.in_err-put_roots.ensures.refused c.put_roots.ensures.kept))
+
+pub returns-in_err-put_roots-clause-left : goal.returns-in_err-put_roots-clause-left
+returns-in_err-put_roots-clause-left g c =
+    let M = meaning_of g.F.Functions c.args.functions.now in
+    let counts = counts_by g.F.Functions c.args.functions.now in
+    let e = c.in_err-put_roots.field-0.0 in
+    paused_left M c.args.parts.now (record c.args.parts.now { work = c.put_roots.new.work }) counts counts e
+    (roots_paused M c.args.parts.now counts c.requires.ready c.put_roots.new.work e c.in_err-put_roots.ensures.refused c.put_roots.ensures.kept)
+
+pub returns-in_err-put_roots-clause-unbuilt : goal.returns-in_err-put_roots-clause-unbuilt
+returns-in_err-put_roots-clause-unbuilt g c =
+    let M = meaning_of g.F.Functions c.args.functions.now in
+    let counts = counts_by g.F.Functions c.args.functions.now in
+    let e = c.in_err-put_roots.field-0.0 in
+    let new : Parts = record c.args.parts.now { work = c.put_roots.new.work } in
+    let is : IsErrAnd c.from_residual.result (λ x. x ≡ e) = c.from_residual.ensures.1 in
+    exit_is c.from_residual.result e
+    (λ x. (observed : List NodeId) → AreRooted c.args.parts.now.work observed
+    → BuildsAllBut M.functions c.args.parts.now new (c.args.roots.now ++ observed) x) is
+    (λ observed looks. paused_built M c.args.parts.now new counts counts e
+    (roots_paused M c.args.parts.now counts c.requires.ready c.put_roots.new.work e c.in_err-put_roots.ensures.refused c.put_roots.ensures.kept)
+    c.args.roots.now observed c.put_roots.ensures.roots looks)
+
+pub returns-in_err-put_roots-clause-functions : goal.returns-in_err-put_roots-clause-functions
+returns-in_err-put_roots-clause-functions g c = nothing_meant g.F.Functions c.args.functions.now c.requires.sound
+
+pub returns-in_err-put_roots-clause-fit : goal.returns-in_err-put_roots-clause-fit
+returns-in_err-put_roots-clause-fit g c = c.requires.fit
+
+pub returns-in_err-put_roots-clause-ran : goal.returns-in_err-put_roots-clause-ran
+returns-in_err-put_roots-clause-ran g c = on_err c.from_residual.result refl
+
+-- ---- a step was refused
+
+pub returns-in_err-settle_all-clause-lawful : goal.returns-in_err-settle_all-clause-lawful
+returns-in_err-settle_all-clause-lawful g c =
+    let M = meaning_of g.F.Functions c.args.functions.now in
+    let before = counts_by g.F.Functions c.args.functions.now in
+    let after = counts_by g.F.Functions c.settle_all.new.functions in
+    let old = c.args.parts.now in
+    let new = c.settle_all.new.parts in
+    let e = c.in_err-settle_all.field-0.0 in
+    let is : IsErrAnd c.from_residual-in_err-settle_all.result (λ x. x ≡ e) = c.from_residual-in_err-settle_all.ensures.1 in
+    exit_is c.from_residual-in_err-settle_all.result e
+    (λ x. (observed : List NodeId) → AreRooted old.work observed → IsLawful M.functions old new (c.args.roots.now ++ observed) x) is
+    (λ observed looks. paused_lawful M old new before after e
+    (steps_paused M old before c.requires.ready c.put_roots.new.work new after e c.in_ok-put_roots.ensures.wired c.in_err-settle_all.ensures.refused
+    c.settle_all.ensures.kept) c.args.roots.now observed
+    (only_still old.work.graph.roots c.put_roots.new.work.graph.roots new.work.graph.roots _ c.put_roots.ensures.roots
+    c.settle_all.ensures.roots) looks)
+
+pub returns-in_err-settle_all-clause-tried : goal.returns-in_err-settle_all-clause-tried
+returns-in_err-settle_all-clause-tried g c =
+    let M = meaning_of g.F.Functions c.args.functions.now in
+    let before = counts_by g.F.Functions c.args.functions.now in
+    let after = counts_by g.F.Functions c.settle_all.new.functions in
+    let old = c.args.parts.now in
+    let new = c.settle_all.new.parts in
+    let e = c.in_err-settle_all.field-0.0 in
+    let is : IsErrAnd c.from_residual-in_err-settle_all.result (λ x. x ≡ e) = c.from_residual-in_err-settle_all.ensures.1 in
+    exit_is c.from_residual-in_err-settle_all.result e (λ x. LeavesTried new.arena new.work x) is
+    (paused_tried M old new before after e
+    (steps_paused M old before c.requires.ready c.put_roots.new.work new after e c.in_ok-put_roots.ensures.wired c.in_err-settle_all.ensures.refused
+    c.settle_all.ensures.kept))
+
+pub returns-in_err-settle_all-clause-few : goal.returns-in_err-settle_all-clause-few
+returns-in_err-settle_all-clause-few g c =
+    let M = meaning_of g.F.Functions c.args.functions.now in
+    let before = counts_by g.F.Functions c.args.functions.now in
+    let after = counts_by g.F.Functions c.settle_all.new.functions in
+    let old = c.args.parts.now in
+    let new = c.settle_all.new.parts in
+    let e = c.in_err-settle_all.field-0.0 in
+    on_err c.from_residual-in_err-settle_all.result
+    (λ observed looks. paused_called M old new before after e
+    (steps_paused M old before c.requires.ready c.put_roots.new.work new after e c.in_ok-put_roots.ensures.wired c.in_err-settle_all.ensures.refused
+    c.settle_all.ensures.kept) c.args.roots.now observed
+    (only_still old.work.graph.roots c.put_roots.new.work.graph.roots new.work.graph.roots _ c.put_roots.ensures.roots
+    c.settle_all.ensures.roots) looks)
+
+pub returns-in_err-settle_all-clause-kept : goal.returns-in_err-settle_all-clause-kept
+returns-in_err-settle_all-clause-kept g c = on_err c.from_residual-in_err-settle_all.result c.settle_all.ensures.kept
+
+pub returns-in_err-settle_all-clause-cutoffs : goal.returns-in_err-settle_all-clause-cutoffs
+returns-in_err-settle_all-clause-cutoffs g c =
+    let M = meaning_of g.F.Functions c.args.functions.now in
+    let before = counts_by g.F.Functions c.args.functions.now in
+    let after = counts_by g.F.Functions c.settle_all.new.functions in
+    let e = c.in_err-settle_all.field-0.0 in
+    on_err c.from_residual-in_err-settle_all.result (paused_cutoffs M c.args.parts.now c.settle_all.new.parts before after e
+    (steps_paused M c.args.parts.now before c.requires.ready c.put_roots.new.work c.settle_all.new.parts after e c.in_ok-put_roots.ensures.wired
+    c.in_err-settle_all.ensures.refused c.settle_all.ensures.kept))
+
+pub returns-in_err-settle_all-clause-shows : goal.returns-in_err-settle_all-clause-shows
+returns-in_err-settle_all-clause-shows g c =
+    let M = meaning_of g.F.Functions c.args.functions.now in
+    let before = counts_by g.F.Functions c.args.functions.now in
+    let after = counts_by g.F.Functions c.settle_all.new.functions in
+    let e = c.in_err-settle_all.field-0.0 in
+    on_err c.from_residual-in_err-settle_all.result (paused_shows M c.args.parts.now c.settle_all.new.parts before after e
+    (steps_paused M c.args.parts.now before c.requires.ready c.put_roots.new.work c.settle_all.new.parts after e c.in_ok-put_roots.ensures.wired
+    c.in_err-settle_all.ensures.refused c.settle_all.ensures.kept))
+
+pub returns-in_err-settle_all-clause-left : goal.returns-in_err-settle_all-clause-left
+returns-in_err-settle_all-clause-left g c =
+    let M = meaning_of g.F.Functions c.args.functions.now in
+    let before = counts_by g.F.Functions c.args.functions.now in
+    let after = counts_by g.F.Functions c.settle_all.new.functions in
+    let e = c.in_err-settle_all.field-0.0 in
+    paused_left M c.args.parts.now c.settle_all.new.parts before after e
+    (steps_paused M c.args.parts.now before c.requires.ready c.put_roots.new.work c.settle_all.new.parts after e c.in_ok-put_roots.ensures.wired
+    c.in_err-settle_all.ensures.refused c.settle_all.ensures.kept)
+
+pub returns-in_err-settle_all-clause-unbuilt : goal.returns-in_err-settle_all-clause-unbuilt
+returns-in_err-settle_all-clause-unbuilt g c =
+    let M = meaning_of g.F.Functions c.args.functions.now in
+    let before = counts_by g.F.Functions c.args.functions.now in
+    let after = counts_by g.F.Functions c.settle_all.new.functions in
+    let old = c.args.parts.now in
+    let new = c.settle_all.new.parts in
+    let e = c.in_err-settle_all.field-0.0 in
+    let is : IsErrAnd c.from_residual-in_err-settle_all.result (λ x. x ≡ e) = c.from_residual-in_err-settle_all.ensures.1 in
+    exit_is c.from_residual-in_err-settle_all.result e
+    (λ x. (observed : List NodeId) → AreRooted old.work observed → BuildsAllBut M.functions old new (c.args.roots.now ++ observed) x) is
+    (λ observed looks. paused_built M old new before after e
+    (steps_paused M old before c.requires.ready c.put_roots.new.work new after e c.in_ok-put_roots.ensures.wired c.in_err-settle_all.ensures.refused
+    c.settle_all.ensures.kept) c.args.roots.now observed
+    (only_still old.work.graph.roots c.put_roots.new.work.graph.roots new.work.graph.roots _ c.put_roots.ensures.roots
+    c.settle_all.ensures.roots) looks)
+
+pub returns-in_err-settle_all-clause-fit : goal.returns-in_err-settle_all-clause-fit
+returns-in_err-settle_all-clause-fit g c = c.settle_all.ensures.fit
+
+pub returns-in_err-settle_all-clause-ran : goal.returns-in_err-settle_all-clause-ran
+returns-in_err-settle_all-clause-ran g c = on_err c.from_residual-in_err-settle_all.result c.settle_all.ensures.ran
+
+pub returns-in_err-settle_all-clause-functions : goal.returns-in_err-settle_all-clause-functions
+returns-in_err-settle_all-clause-functions g c = c.settle_all.ensures.functions
+
+-- ---- the round ended
+
+pub returns-clause-fit : goal.returns-clause-fit
+returns-clause-fit g c = c.settle_all.ensures.fit
+
+pub returns-clause-functions : goal.returns-clause-functions
+returns-clause-functions g c = c.settle_all.ensures.functions
 
 next_is : (result : Option ℕ) (P : Type 0) (v next : ℕ) → SomeIff result P v → result ≡ Some next → next ≡ v
 next_is result P v next h e = (subst (λ (r : Option ℕ). SomeIff r P v) e h).1
@@ -128,71 +292,104 @@ pub returns-clause-round : goal.returns-clause-round
 returns-clause-round g c =
     c.end_round.ensures.round ∙ next_is c.checked_add.result _ (c.args.parts.now.work.round + 1) c.in-Some.next c.checked_add.ensures c.in-Some.is
 
+pub returns-clause-calls : goal.returns-clause-calls
+returns-clause-calls g c =
+    let M = meaning_of g.F.Functions c.args.functions.now in
+    let before = counts_by g.F.Functions c.args.functions.now in
+    let after = counts_by g.F.Functions c.settle_all.new.functions in
+    let old = c.args.parts.now in
+    let settled = c.settle_all.new.parts in
+    let end : Parts = record settled { work = c.end_round.new.self; ran = c.swap.new.x } in
+    let released = released_of settled.work (record settled.work { ran = c.swap.new.y }) c.end_round.new.self c.end_round.ensures.released in
+    let round : c.end_round.new.self.round ≡ settled.work.round + 1 =
+    c.end_round.ensures.round ∙ (next_is c.checked_add.result _ (old.work.round + 1) c.in-Some.next c.checked_add.ensures c.in-Some.is
+    ∙ ap (λ (k : ℕ). k + 1) (sym (c.settle_all.ensures.round ∙ c.put_roots.ensures.round))) in
+    round_calls M old c.put_roots.new.work before c.requires.ready c.in_ok-put_roots.ensures.wired settled after c.in_ok-settle_all.ensures.settled
+    c.settle_all.ensures.kept c.in_ok-settle_all.ensures.quiet c.in_ok-settle_all.ensures.empty end released c.end_round.ensures.step
+    c.end_round.ensures.ran
+    c.end_round.ensures.strict round c.end_round.ensures.rows c.end_round.ensures.right_sides c.end_round.ensures.pairs c.end_round.ensures.scoped
+    c.end_round.ensures.todo (ap (λ v. v.items) c.swap.ensures.x_after)
+
 pub returns-clause-right : goal.returns-clause-right
 returns-clause-right g c =
     let M = meaning_of g.F.Functions c.args.functions.now in
-    let F = M.functions in
-    let arena = c.args.parts.now.arena in
-    let old = c.args.parts.now.work in
-    let new = c.end_round.new.self in
-    let settled = c.settle_all.new.parts.work in
-    let kept : IsKept arena settled = subst (λ (a : Arena). IsKept a settled) c.settle_all.ensures.arena c.settle_all.ensures.kept in
-    let round : new.round ≡ settled.round + 1 =
-    c.end_round.ensures.round ∙ (next_is c.checked_add.result _ (old.round + 1) c.in-Some.next c.checked_add.ensures c.in-Some.is
+    let before = counts_by g.F.Functions c.args.functions.now in
+    let after = counts_by g.F.Functions c.settle_all.new.functions in
+    let old = c.args.parts.now in
+    let settled = c.settle_all.new.parts in
+    let end : Parts = record settled { work = c.end_round.new.self; ran = c.swap.new.x } in
+    let released = released_of settled.work (record settled.work { ran = c.swap.new.y }) c.end_round.new.self c.end_round.ensures.released in
+    let round : c.end_round.new.self.round ≡ settled.work.round + 1 =
+    c.end_round.ensures.round ∙ (next_is c.checked_add.result _ (old.work.round + 1) c.in-Some.next c.checked_add.ensures c.in-Some.is
     ∙ ap (λ (k : ℕ). k + 1) (sym (c.settle_all.ensures.round ∙ c.put_roots.ensures.round))) in
-    let ended : Parts = record c.settle_all.new.parts { work = new; ran = c.swap.new.x } in
-    λ observed looks. as_up_to_date F c.args.parts.now ended c.settle_all.ensures.arena c.requires.ready.kept.today.no_binds (c.args.roots.now ++ observed)
-    (subst (λ v. still.IsUpToDate F (graph_at arena new) old new (c.args.roots.now ++ observed) v.items) (sym c.swap.ensures.x_after)
-    (round_rights M arena old c.put_roots.new.work (g.F.Functions.calls c.args.functions.now) c.requires.ready c.in_ok-put_roots.ensures.wired settled
-    (g.F.Functions.calls c.settle_all.new.functions) c.in_ok-settle_all.ensures.settled kept c.in_ok-settle_all.ensures.quiet c.in_ok-settle_all.ensures.empty
-    new c.end_round.ensures.graph c.end_round.ensures.rows c.end_round.ensures.roots c.end_round.ensures.pairs c.end_round.ensures.todo c.end_round.ensures.ran
-    c.end_round.ensures.strict round (c.settle_all.ensures.round ∙ c.put_roots.ensures.round) c.args.roots.now observed c.settle_all.ensures.roots
-    c.in_ok-put_roots.ensures.rooted looks))
+    λ observed looks. round_rights M old c.put_roots.new.work before c.requires.ready c.in_ok-put_roots.ensures.wired settled after
+    c.in_ok-settle_all.ensures.settled
+    c.settle_all.ensures.kept c.in_ok-settle_all.ensures.quiet c.in_ok-settle_all.ensures.empty end released c.end_round.ensures.step
+    c.end_round.ensures.ran
+    c.end_round.ensures.strict round c.end_round.ensures.rows c.end_round.ensures.right_sides c.end_round.ensures.pairs c.end_round.ensures.scoped
+    c.end_round.ensures.todo
+    (c.settle_all.ensures.round ∙ c.put_roots.ensures.round) c.args.roots.now observed c.settle_all.ensures.roots
+    c.in_ok-put_roots.ensures.rooted looks
+    (ap (λ v. v.items) c.swap.ensures.x_after)
+
+pub returns-clause-left : goal.returns-clause-left
+returns-clause-left g c =
+    let M = meaning_of g.F.Functions c.args.functions.now in
+    let before = counts_by g.F.Functions c.args.functions.now in
+    let after = counts_by g.F.Functions c.settle_all.new.functions in
+    let old = c.args.parts.now in
+    let settled = c.settle_all.new.parts in
+    let end : Parts = record settled { work = c.end_round.new.self; ran = c.swap.new.x } in
+    let released = released_of settled.work (record settled.work { ran = c.swap.new.y }) c.end_round.new.self c.end_round.ensures.released in
+    let round : c.end_round.new.self.round ≡ settled.work.round + 1 =
+    c.end_round.ensures.round ∙ (next_is c.checked_add.result _ (old.work.round + 1) c.in-Some.next c.checked_add.ensures c.in-Some.is
+    ∙ ap (λ (k : ℕ). k + 1) (sym (c.settle_all.ensures.round ∙ c.put_roots.ensures.round))) in
+    round_left M old c.put_roots.new.work before c.requires.ready c.in_ok-put_roots.ensures.wired settled after c.in_ok-settle_all.ensures.settled
+    c.settle_all.ensures.kept c.in_ok-settle_all.ensures.quiet c.in_ok-settle_all.ensures.empty end released c.end_round.ensures.step
+    c.end_round.ensures.ran
+    c.end_round.ensures.strict round c.end_round.ensures.rows c.end_round.ensures.right_sides c.end_round.ensures.pairs c.end_round.ensures.scoped
+    c.end_round.ensures.todo
+
+pub returns-clause-built : goal.returns-clause-built
+returns-clause-built g c =
+    let M = meaning_of g.F.Functions c.args.functions.now in
+    let before = counts_by g.F.Functions c.args.functions.now in
+    let after = counts_by g.F.Functions c.settle_all.new.functions in
+    let old = c.args.parts.now in
+    let settled = c.settle_all.new.parts in
+    let end : Parts = record settled { work = c.end_round.new.self; ran = c.swap.new.x } in
+    let released = released_of settled.work (record settled.work { ran = c.swap.new.y }) c.end_round.new.self c.end_round.ensures.released in
+    let round : c.end_round.new.self.round ≡ settled.work.round + 1 =
+    c.end_round.ensures.round ∙ (next_is c.checked_add.result _ (old.work.round + 1) c.in-Some.next c.checked_add.ensures c.in-Some.is
+    ∙ ap (λ (k : ℕ). k + 1) (sym (c.settle_all.ensures.round ∙ c.put_roots.ensures.round))) in
+    λ observed looks. round_built M old c.put_roots.new.work before c.requires.ready c.in_ok-put_roots.ensures.wired settled after
+    c.in_ok-settle_all.ensures.settled
+    c.settle_all.ensures.kept c.in_ok-settle_all.ensures.quiet c.in_ok-settle_all.ensures.empty end released c.end_round.ensures.step
+    c.end_round.ensures.ran
+    c.end_round.ensures.strict round c.end_round.ensures.rows c.end_round.ensures.right_sides c.end_round.ensures.pairs c.end_round.ensures.scoped
+    c.end_round.ensures.todo c.args.roots.now observed
+    (only_still old.work.graph.roots c.put_roots.new.work.graph.roots settled.work.graph.roots _ c.put_roots.ensures.roots
+    c.settle_all.ensures.roots) looks
 
 pub returns-clause-ready : goal.returns-clause-ready
 returns-clause-ready g c =
     let M = meaning_of g.F.Functions c.args.functions.now in
-    let F = M.functions in
-    let arena = c.args.parts.now.arena in
-    let old = c.args.parts.now.work in
-    let new = c.end_round.new.self in
-    let settled = c.settle_all.new.parts.work in
-    let kept : IsKept arena settled = subst (λ (a : Arena). IsKept a settled) c.settle_all.ensures.arena c.settle_all.ensures.kept in
-    let round : new.round ≡ settled.round + 1 =
-    c.end_round.ensures.round ∙ (next_is c.checked_add.result _ (old.round + 1) c.in-Some.next c.checked_add.ensures c.in-Some.is
+    let before = counts_by g.F.Functions c.args.functions.now in
+    let after = counts_by g.F.Functions c.settle_all.new.functions in
+    let old = c.args.parts.now in
+    let settled = c.settle_all.new.parts in
+    let end : Parts = record settled { work = c.end_round.new.self; ran = c.swap.new.x } in
+    let released = released_of settled.work (record settled.work { ran = c.swap.new.y }) c.end_round.new.self c.end_round.ensures.released in
+    let round : c.end_round.new.self.round ≡ settled.work.round + 1 =
+    c.end_round.ensures.round ∙ (next_is c.checked_add.result _ (old.work.round + 1) c.in-Some.next c.checked_add.ensures c.in-Some.is
     ∙ ap (λ (k : ℕ). k + 1) (sym (c.settle_all.ensures.round ∙ c.put_roots.ensures.round))) in
-    subst (λ (a : Arena). IsReady (meaning_of g.F.Functions c.settle_all.new.functions) a new) (sym c.settle_all.ensures.arena)
-    (subst (λ (L : Meaning). IsReady L arena new) (sym (still_means g.F.Functions _ _ c.settle_all.ensures.functions))
-    (round_readies M arena old c.put_roots.new.work (g.F.Functions.calls c.args.functions.now) c.requires.ready c.in_ok-put_roots.ensures.wired settled
-    (g.F.Functions.calls c.settle_all.new.functions) c.in_ok-settle_all.ensures.settled kept c.in_ok-settle_all.ensures.quiet c.in_ok-settle_all.ensures.empty
-    new c.end_round.ensures.graph c.end_round.ensures.rows c.end_round.ensures.roots c.end_round.ensures.pairs c.end_round.ensures.todo c.end_round.ensures.ran
-    c.end_round.ensures.strict round))
-
-pub returns-in_default-clause-few : goal.returns-in_default-clause-few
-returns-in_default-clause-few g c =
-    λ observed looks. as_called (functions_of g.F.Functions c.args.functions.now) c.args.parts.now c.args.parts.now refl
-    c.requires.ready.kept.today.no_binds (c.args.roots.now ++ observed) (g.F.Functions.calls c.args.functions.now) (g.F.Functions.calls c.args.functions.now)
-    (none_called (functions_of g.F.Functions c.args.functions.now) (graph_at c.args.parts.now.arena c.args.parts.now.work) c.args.parts.now.work
-    (c.args.roots.now ++ observed) (g.F.Functions.calls c.args.functions.now))
-
-pub returns-in_err-settle_all-clause-shows : goal.returns-in_err-settle_all-clause-shows
-returns-in_err-settle_all-clause-shows g c =
-    on_err c.from_residual-in_err-settle_all.result
-    (λ n. as_shown (functions_of g.F.Functions c.args.functions.now) c.args.parts.now c.settle_all.new.parts c.settle_all.ensures.arena
-    c.requires.ready.kept.today.no_binds n (steps_show (meaning_of g.F.Functions c.args.functions.now) c.args.parts.now.arena c.args.parts.now.work c.put_roots.new.work
-    c.settle_all.new.parts.work (g.F.Functions.calls c.args.functions.now) (g.F.Functions.calls c.settle_all.new.functions) c.requires.ready
-    c.in_ok-put_roots.ensures.wired c.in_err-settle_all.field-0.0 c.in_err-settle_all.ensures.refused
-    (subst (λ (a : Arena). IsKept a c.settle_all.new.parts.work) c.settle_all.ensures.arena c.settle_all.ensures.kept) n))
-
-pub returns-in_err-put_roots-clause-shows : goal.returns-in_err-put_roots-clause-shows
-returns-in_err-put_roots-clause-shows g c =
-    on_err c.from_residual.result
-    (λ n. as_shown (functions_of g.F.Functions c.args.functions.now) c.args.parts.now (record c.args.parts.now { work = c.put_roots.new.work }) refl
-    c.requires.ready.kept.today.no_binds n (roots_show (meaning_of g.F.Functions c.args.functions.now) c.args.parts.now.arena c.args.parts.now.work c.put_roots.new.work
-    (g.F.Functions.calls c.args.functions.now) c.requires.ready c.put_roots.ensures.kept c.in_err-put_roots.field-0.0 c.in_err-put_roots.ensures.refused n))
-
-pub returns-in_default-clause-shows : goal.returns-in_default-clause-shows
-returns-in_default-clause-shows g c = λ n. inl refl
-
-pub settle_all-requires-clause-fit : goal.settle_all-requires-clause-fit
-settle_all-requires-clause-fit g c = c.requires.ready.fit
+    let same = means_still g.F.Functions _ _ c.settle_all.ensures.functions in
+    let fit : AllCallFit M.known M.ids settled.arena = subst (λ (L : Meaning). AllCallFit L.known L.ids settled.arena) same
+    (fit_lists_given (g.F.Functions.known c.settle_all.new.functions) (g.F.Functions.right c.settle_all.new.functions) settled.arena
+    c.settle_all.ensures.fit) in
+    subst (λ (L : Meaning). IsReady L end) (sym same) (round_readies M old c.put_roots.new.work before c.requires.ready
+    c.in_ok-put_roots.ensures.wired settled after c.in_ok-settle_all.ensures.settled
+    c.settle_all.ensures.kept c.in_ok-settle_all.ensures.quiet c.in_ok-settle_all.ensures.empty end released c.end_round.ensures.step
+    c.end_round.ensures.ran
+    c.end_round.ensures.strict round c.end_round.ensures.rows c.end_round.ensures.right_sides c.end_round.ensures.pairs c.end_round.ensures.scoped
+    c.end_round.ensures.todo fit)

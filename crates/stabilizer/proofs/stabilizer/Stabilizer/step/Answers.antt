@@ -1,61 +1,87 @@
-use Rattle.std.proofs.Common.{refl, subst, sym}
+use Rattle.std.proofs.Common.{refl, sym, ap, subst, ◌∙◌}
+use Rattle.necessary_graph.specs.Part.{NecessaryPart, Needed}
 use Rattle.node_arena.specs.Arena.{Arena}
+use Rattle.node_arena.specs.RightSideLaws.{AllFit}
 use Rattle.node_outcomes.specs.Meaning.{meaning_of}
-use Rattle.stabilizer.specs.Kept.{IsKept}
+use Rattle.stabilizer.specs.Kept.{counts_by}
 use Rattle.stabilizer.specs.Stepping.{of_main, of_change, StepRefused}
 use Rattle.stabilizer.proofs.Carrying.{taken_kept}
-use Rattle.stabilizer.proofs.ChangeSteps.{is_change, change_steps, change_falls, change_stops}
+use Rattle.stabilizer.proofs.ChangeSteps.{change_steps, change_stops}
+use Rattle.stabilizer.proofs.Falling.{is_change, steps_leave_less}
 use Rattle.stabilizer.proofs.Mains.{is_main}
-use Rattle.stabilizer.proofs.Raising.{if_refusal}
-use Rattle.stabilizer.proofs.Stepping.{not_empty, takes_least, steps, falls, step_refused, refused_kept}
+use Rattle.wiring.proofs.Raising.{if_refusal}
+use Rattle.stabilizer.specs.declared.parts.Parts.{Parts}
+use Rattle.stabilizer.proofs.StillFit.{same_fit}
+use Rattle.stabilizer.proofs.Stepping.{not_empty, takes_least, steps, step_refused, main_back, arena_kept, popped_row, popped_needed, popped_taken, same_roots}
 use Rattle.stabilizer.proofs.stabilizer.Stabilizer.step.Goals as goal
 
 -- ---- a change
 
 pub step_change-requires-clause-kept : goal.step_change-requires-clause-kept
-step_change-requires-clause-kept g c =
-    taken_kept c.args.parts.now.arena c.args.parts.now.work c.pop_least.new.self c.pop_least.ensures.rest c.in-Some.p c.requires.kept c.in-Some.ensures.removed
+step_change-requires-clause-kept g c = record {
+  work = taken_kept c.args.parts.now.arena c.args.parts.now.work c.pop_least.new.self c.pop_least.ensures.rest c.in-Some.p c.requires.kept.work
+      c.in-Some.ensures.removed;
+  scopes = c.requires.kept.scopes;
+  dying = c.requires.kept.dying;
+}
+
+pub step_change-requires-clause-row : goal.step_change-requires-clause-row
+step_change-requires-clause-row g c =
+    let p = c.in-Some.p in
+    popped_row c.args.parts.now.arena c.args.parts.now.work c.pop_least.new.self p _ (is_change p c.in-Change.is) c.requires.kept.work c.in-Some.ensures.was
+    c.pop_least.ensures.rest c.in-Some.ensures.removed
+
+pub step_change-requires-clause-needed : goal.step_change-requires-clause-needed
+step_change-requires-clause-needed g c =
+    let p = c.in-Some.p in
+    popped_needed c.args.parts.now.arena c.args.parts.now.work c.pop_least.new.self p _ (is_change p c.in-Change.is) c.requires.kept.work
+    c.in-Some.ensures.was c.pop_least.ensures.rest c.in-Some.ensures.removed
+
+pub step_change-requires-clause-taken : goal.step_change-requires-clause-taken
+step_change-requires-clause-taken g c =
+    let p = c.in-Some.p in
+    popped_taken c.args.parts.now.arena c.args.parts.now.work c.pop_least.new.self p _ (is_change p c.in-Change.is) c.requires.kept.work
+    c.in-Some.ensures.was c.pop_least.ensures.rest c.in-Some.ensures.removed
 
 pub returns-in_err-step_change-in-Change-clause-refused : goal.returns-in_err-step_change-in-Change-clause-refused
 returns-in_err-step_change-in-Change-clause-refused g c =
     let M = meaning_of g.F.Functions c.args.functions.now in
-    let arena = c.args.parts.now.arena in
-    let old = c.args.parts.now.work in
-    let new = c.step_change.new.parts.work in
+    let old = c.args.parts.now in
+    let new = c.step_change.new.parts in
     let p = c.in-Some.p in
-    let calls = g.F.Functions.calls c.args.functions.now in
+    let before = counts_by g.F.Functions c.args.functions.now in
+    let after = counts_by g.F.Functions c.step_change.new.functions in
     let e = c.in_err-step_change-in-Change.field-0.0 in
-    if_refusal (StepRefused M arena old new calls calls) e c.from_residual.result c.from_residual.ensures.1
-    (change_stops arena old c.pop_least.new.self p p.node (is_change p c.in-Change.is) calls c.requires.kept
-    c.in-Some.ensures.was c.in-Some.ensures.least
-    c.pop_least.ensures.rest c.in-Some.ensures.removed c.requires.quiet M new e c.in_err-step_change-in-Change.ensures.refused)
+    if_refusal (StepRefused M old new before after) e c.from_residual.result c.from_residual.ensures.1
+    (change_stops M old c.pop_least.new.self p p.node (is_change p c.in-Change.is) before c.requires.kept c.requires.quiet
+    c.in-Some.ensures.was c.in-Some.ensures.least c.pop_least.ensures.rest c.in-Some.ensures.removed
+    new after e c.in_err-step_change-in-Change.ensures.refused)
 
 pub returns-in_ok-step_change-in-Change-clause-stepped : goal.returns-in_ok-step_change-in-Change-clause-stepped
 returns-in_ok-step_change-in-Change-clause-stepped g c = λ more.
     let M = meaning_of g.F.Functions c.args.functions.now in
     let p = c.in-Some.p in
-    change_steps c.args.parts.now.arena c.args.parts.now.work c.pop_least.new.self p p.node (is_change p c.in-Change.is)
-    (g.F.Functions.calls c.args.functions.now) c.requires.kept
-    c.in-Some.ensures.was c.in-Some.ensures.least
-    c.pop_least.ensures.rest c.in-Some.ensures.removed c.requires.quiet M c.step_change.new.parts.work c.in_ok-step_change-in-Change.ensures.settled
+    change_steps M c.args.parts.now c.pop_least.new.self p p.node (is_change p c.in-Change.is) (counts_by g.F.Functions c.args.functions.now)
+    c.requires.kept c.requires.quiet c.in-Some.ensures.was c.in-Some.ensures.least c.pop_least.ensures.rest c.in-Some.ensures.removed
+    c.step_change.new.parts (counts_by g.F.Functions c.step_change.new.functions) c.in_ok-step_change-in-Change.ensures.settled
     c.in_ok-step_change-in-Change.ensures.quiet
 
 pub returns-in_ok-step_change-in-Change-clause-falls : goal.returns-in_ok-step_change-in-Change-clause-falls
 returns-in_ok-step_change-in-Change-clause-falls g c = λ more.
     let M = meaning_of g.F.Functions c.args.functions.now in
     let p = c.in-Some.p in
-    change_falls c.args.parts.now.arena c.args.parts.now.work c.pop_least.new.self p p.node (is_change p c.in-Change.is)
-    (g.F.Functions.calls c.args.functions.now) c.requires.kept
-    c.in-Some.ensures.was c.in-Some.ensures.least
-    c.pop_least.ensures.rest c.in-Some.ensures.removed c.requires.quiet M c.step_change.new.parts.work c.in_ok-step_change-in-Change.ensures.settled
-    c.in_ok-step_change-in-Change.ensures.quiet
-    (subst (λ (a : Arena). IsKept a c.step_change.new.parts.work) c.step_change.ensures.arena c.step_change.ensures.kept)
+    let before = counts_by g.F.Functions c.args.functions.now in
+    let after = counts_by g.F.Functions c.step_change.new.functions in
+    steps_leave_less M c.args.parts.now c.step_change.new.parts before after c.requires.kept.work c.step_change.ensures.kept.work
+    (change_steps M c.args.parts.now c.pop_least.new.self p p.node (is_change p c.in-Change.is) before
+    c.requires.kept c.requires.quiet c.in-Some.ensures.was c.in-Some.ensures.least c.pop_least.ensures.rest c.in-Some.ensures.removed
+    c.step_change.new.parts after c.in_ok-step_change-in-Change.ensures.settled c.in_ok-step_change-in-Change.ensures.quiet)
 
 pub returns-in_ok-step_change-in-Change-clause-settled : goal.returns-in_ok-step_change-in-Change-clause-settled
 returns-in_ok-step_change-in-Change-clause-settled g c = λ more.
     let p = c.in-Some.p in
     of_change (takes_least c.args.parts.now.work c.pop_least.new.self p _ (is_change p c.in-Change.is) c.in-Some.ensures.was c.in-Some.ensures.least
-    c.pop_least.ensures.rest c.in-Some.ensures.removed) c.in_ok-step_change-in-Change.ensures.settled refl
+    c.pop_least.ensures.rest c.in-Some.ensures.removed) c.in_ok-step_change-in-Change.ensures.settled
 
 pub returns-in_ok-step_change-in-Change-clause-more : goal.returns-in_ok-step_change-in-Change-clause-more
 returns-in_ok-step_change-in-Change-clause-more g c = λ more. λ empty.
@@ -64,28 +90,99 @@ returns-in_ok-step_change-in-Change-clause-more g c = λ more. λ empty.
 -- ---- a main
 
 pub step_main-requires-clause-kept : goal.step_main-requires-clause-kept
-step_main-requires-clause-kept g c =
-    taken_kept c.args.parts.now.arena c.args.parts.now.work c.pop_least.new.self c.pop_least.ensures.rest c.in-Some.p c.requires.kept c.in-Some.ensures.removed
+step_main-requires-clause-kept g c = record {
+  work = taken_kept c.args.parts.now.arena c.args.parts.now.work c.pop_least.new.self c.pop_least.ensures.rest c.in-Some.p c.requires.kept.work
+      c.in-Some.ensures.removed;
+  scopes = c.requires.kept.scopes;
+  dying = c.requires.kept.dying;
+}
+
+pub step_main-requires-clause-row : goal.step_main-requires-clause-row
+step_main-requires-clause-row g c =
+    let p = c.in-Some.p in
+    popped_row c.args.parts.now.arena c.args.parts.now.work c.pop_least.new.self p _ (is_main p c.in-Main.is) c.requires.kept.work c.in-Some.ensures.was
+    c.pop_least.ensures.rest c.in-Some.ensures.removed
+
+pub step_main-requires-clause-taken : goal.step_main-requires-clause-taken
+step_main-requires-clause-taken g c =
+    let p = c.in-Some.p in
+    popped_taken c.args.parts.now.arena c.args.parts.now.work c.pop_least.new.self p _ (is_main p c.in-Main.is) c.requires.kept.work
+    c.in-Some.ensures.was c.pop_least.ensures.rest c.in-Some.ensures.removed
+
+pub insert-requires : goal.insert-requires
+insert-requires g c =
+    let p = c.in-Some.p in record {
+      needed = subst (λ (x : NecessaryPart). Needed x p) (sym c.in-Err.ensures.refused.graph)
+          (popped_needed c.args.parts.now.arena c.args.parts.now.work c.pop_least.new.self p p refl c.requires.kept.work
+          c.in-Some.ensures.was c.pop_least.ensures.rest c.in-Some.ensures.removed);
+    }
+
+pub returns-in-Ok-clause-quiet : goal.returns-in-Ok-clause-quiet
+returns-in-Ok-clause-quiet g c = c.in-Ok.ensures.settled.settled.todo ∙ c.requires.quiet
+
+pub returns-in-Ok-clause-roots : goal.returns-in-Ok-clause-roots
+returns-in-Ok-clause-roots g c = same_roots c.args.parts.now.work.graph c.pop_least.new.self c.step_main.new.parts.work.graph c.pop_least.ensures.rest
+    c.in-Ok.ensures.settled.settled.graph.roots
+
+pub returns-in-Ok-clause-round : goal.returns-in-Ok-clause-round
+returns-in-Ok-clause-round g c = c.in-Ok.ensures.settled.settled.round
+
+pub returns-in-Ok-clause-ran : goal.returns-in-Ok-clause-ran
+returns-in-Ok-clause-ran g c = ap (λ (x : Parts). x.ran) c.step_main.ensures.rest
+
+pub returns-in-Ok-clause-fit : goal.returns-in-Ok-clause-fit
+returns-in-Ok-clause-fit g c =
+    let keeper = g.F.Functions in
+    let k = c.step_main.ensures.functions in
+    subst (λ (a : Arena). AllFit (keeper.known c.step_main.new.functions) (keeper.right c.step_main.new.functions) a)
+    (sym (arena_kept c.args.parts.now c.step_main.new.parts c.step_main.ensures.rest))
+    (same_fit (keeper.known c.args.functions.now) (keeper.known c.step_main.new.functions) (keeper.right c.args.functions.now)
+    (keeper.right c.step_main.new.functions) c.args.parts.now.arena k.known k.sides c.requires.fit)
+
+pub returns-in-Err-clause-fit : goal.returns-in-Err-clause-fit
+returns-in-Err-clause-fit g c =
+    let keeper = g.F.Functions in
+    let k = c.step_main.ensures.functions in
+    subst (λ (a : Arena). AllFit (keeper.known c.step_main.new.functions) (keeper.right c.step_main.new.functions) a)
+    (sym (arena_kept c.args.parts.now c.step_main.new.parts c.step_main.ensures.rest))
+    (same_fit (keeper.known c.args.functions.now) (keeper.known c.step_main.new.functions) (keeper.right c.args.functions.now)
+    (keeper.right c.step_main.new.functions) c.args.parts.now.arena k.known k.sides c.requires.fit)
+
+pub returns-in-Err-clause-roots : goal.returns-in-Err-clause-roots
+returns-in-Err-clause-roots g c = same_roots c.args.parts.now.work.graph c.pop_least.new.self c.insert.new.self c.pop_least.ensures.rest
+    (ap (λ (x : NecessaryPart). x.roots) c.insert.ensures.rest ∙ ap (λ (x : NecessaryPart). x.roots) c.in-Err.ensures.refused.graph)
+
+pub returns-in-Err-clause-round : goal.returns-in-Err-clause-round
+returns-in-Err-clause-round g c = c.in-Err.ensures.refused.round
+
+pub returns-in-Err-clause-ran : goal.returns-in-Err-clause-ran
+returns-in-Err-clause-ran g c = ap (λ (x : Parts). x.ran) c.step_main.ensures.rest
 
 pub returns-in-Ok-clause-stepped : goal.returns-in-Ok-clause-stepped
 returns-in-Ok-clause-stepped g c = λ more.
     let p = c.in-Some.p in
-    steps (meaning_of g.F.Functions c.args.functions.now) c.args.parts.now.arena c.args.parts.now.work c.step_main.new.parts.work c.pop_least.new.self
-    p p.node (is_main p c.in-Main.is) (g.F.Functions.calls c.args.functions.now) (g.F.Functions.calls c.step_main.new.functions) c.requires.kept
+    steps (meaning_of g.F.Functions c.args.functions.now) c.args.parts.now c.step_main.new.parts c.pop_least.new.self
+    p p.node (is_main p c.in-Main.is) (counts_by g.F.Functions c.args.functions.now) (counts_by g.F.Functions c.step_main.new.functions) c.requires.kept.work
     c.in-Some.ensures.was c.in-Some.ensures.least c.pop_least.ensures.rest c.in-Some.ensures.removed c.in-Ok.ensures.settled
+    (arena_kept c.args.parts.now c.step_main.new.parts c.step_main.ensures.rest)
 
 pub returns-in-Ok-clause-falls : goal.returns-in-Ok-clause-falls
 returns-in-Ok-clause-falls g c = λ more.
     let p = c.in-Some.p in
-    falls (meaning_of g.F.Functions c.args.functions.now) c.args.parts.now.arena c.args.parts.now.work c.step_main.new.parts.work c.pop_least.new.self
-    p p.node (is_main p c.in-Main.is) (g.F.Functions.calls c.args.functions.now) (g.F.Functions.calls c.step_main.new.functions) c.requires.kept
+    let M = meaning_of g.F.Functions c.args.functions.now in
+    let before = counts_by g.F.Functions c.args.functions.now in
+    let after = counts_by g.F.Functions c.step_main.new.functions in
+    steps_leave_less M c.args.parts.now c.step_main.new.parts before after c.requires.kept.work c.step_main.ensures.kept.work
+    (steps M c.args.parts.now c.step_main.new.parts c.pop_least.new.self
+    p p.node (is_main p c.in-Main.is) before after c.requires.kept.work
     c.in-Some.ensures.was c.in-Some.ensures.least c.pop_least.ensures.rest c.in-Some.ensures.removed c.in-Ok.ensures.settled
+    (arena_kept c.args.parts.now c.step_main.new.parts c.step_main.ensures.rest))
 
 pub returns-in-Ok-clause-settled : goal.returns-in-Ok-clause-settled
 returns-in-Ok-clause-settled g c = λ more.
     let p = c.in-Some.p in
     of_main (takes_least c.args.parts.now.work c.pop_least.new.self p _ (is_main p c.in-Main.is) c.in-Some.ensures.was c.in-Some.ensures.least
-    c.pop_least.ensures.rest c.in-Some.ensures.removed) c.in-Ok.ensures.settled
+    c.pop_least.ensures.rest c.in-Some.ensures.removed) c.in-Ok.ensures.settled c.step_main.ensures.rest
 
 pub returns-in-Ok-clause-more : goal.returns-in-Ok-clause-more
 returns-in-Ok-clause-more g c = λ more. λ empty.
@@ -94,17 +191,21 @@ returns-in-Ok-clause-more g c = λ more. λ empty.
 pub returns-in-Err-clause-refused : goal.returns-in-Err-clause-refused
 returns-in-Err-clause-refused g c =
     let p = c.in-Some.p in
-    step_refused c.args.parts.now.arena c.args.parts.now.work c.step_main.new.parts.work c.pop_least.new.self c.insert.new.self
-    p p.node (g.F.Functions.calls c.args.functions.now) (g.F.Functions.calls c.step_main.new.functions) c.requires.kept c.in-Some.ensures.was
-    c.pop_least.ensures.rest c.in-Some.ensures.removed c.in-Err.ensures.refused c.insert.ensures.rest c.insert.ensures.inserted
-    (is_main p c.in-Main.is) (meaning_of g.F.Functions c.args.functions.now) _ c.in-Err.ensures.memory c.in-Some.ensures.least
+    step_refused (meaning_of g.F.Functions c.args.functions.now) c.args.parts.now c.step_main.new.parts _ c.pop_least.new.self c.insert.new.self
+    p p.node (counts_by g.F.Functions c.args.functions.now) (counts_by g.F.Functions c.step_main.new.functions) c.requires.kept.work c.in-Some.ensures.was
+    c.in-Some.ensures.least c.pop_least.ensures.rest c.in-Some.ensures.removed c.in-Err.ensures.refused
+    (arena_kept c.args.parts.now c.step_main.new.parts c.step_main.ensures.rest)
+    c.insert.ensures.rest c.insert.ensures.inserted refl (is_main p c.in-Main.is) _ c.in-Err.ensures.memory
 
 pub returns-in-Err-clause-kept : goal.returns-in-Err-clause-kept
 returns-in-Err-clause-kept g c =
-    let same = c.step_main.ensures.arena in
     let p = c.in-Some.p in
-    subst (λ (a : Arena). IsKept a (record c.step_main.new.parts.work { graph = c.insert.new.self })) (sym same)
-    (refused_kept c.args.parts.now.arena c.args.parts.now.work c.step_main.new.parts.work c.pop_least.new.self c.insert.new.self
-    p p.node (g.F.Functions.calls c.args.functions.now) (g.F.Functions.calls c.step_main.new.functions) c.requires.kept c.in-Some.ensures.was
-    c.pop_least.ensures.rest c.in-Some.ensures.removed c.in-Err.ensures.refused c.insert.ensures.rest c.insert.ensures.inserted
-    (subst (λ (a : Arena). IsKept a c.step_main.new.parts.work) same c.step_main.ensures.kept))
+    let mid = c.step_main.new.parts in
+    let k = c.step_main.ensures.kept in record {
+      work = main_back c.args.parts.now mid c.pop_least.new.self c.insert.new.self
+          p p.node (counts_by g.F.Functions c.args.functions.now) (counts_by g.F.Functions c.step_main.new.functions) c.requires.kept.work c.in-Some.ensures.was
+          c.pop_least.ensures.rest c.in-Some.ensures.removed c.in-Err.ensures.refused c.insert.ensures.rest c.insert.ensures.inserted
+          (arena_kept c.args.parts.now mid c.step_main.ensures.rest) k.work;
+      scopes = k.scopes;
+      dying = k.dying;
+    }

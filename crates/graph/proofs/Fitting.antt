@@ -1,0 +1,127 @@
+-- Functions of nodes stay fit over calls between stabilizes.
+use Rattle.std.proofs.Common.{◌≡◌, inl, inr, ◌≤◌, Bool, List, [], ◌∷◌, Option, Some, Ok, Err, IfSome, refl, sym, ap, subst, ◌∙◌, arith}
+use Rattle.std.specs.Prelude.{Result, IsTrue, OnOk, OnErr}
+use Rattle.inc_value.specs.Choice.{Among, Every}
+use Rattle.inc_value.specs.declared.function.FnKind.{FnKind}
+use Rattle.inc_value.specs.declared.function.FnKind.TheVariants as kind
+use Rattle.inc_value.specs.declared.function.FnRef.{FnRef}
+use Rattle.inc_value.specs.declared.node.NodeId.{NodeId}
+use Rattle.inc_value.specs.declared.ty.Ty.{Ty}
+use Rattle.inc_value.specs.declared.value.Value.{Value}
+use Rattle.inc_value.specs.declared.value.Value.TheVariants as value
+use Rattle.inc_terms.specs.Graph as graph
+use Rattle.inc_terms.specs.Graph.{Row, Def}
+use Rattle.inc_terms.specs.Within.{Given, Fit, DefWithin, ValueWithin}
+use Rattle.node_arena.specs.Arena.{Arena, row_at, Changes, IsSet}
+use Rattle.node_arena.specs.Graph.{CallsFit}
+use Rattle.node_arena.specs.Listing.{Listed, nodes_of}
+use Rattle.node_arena.specs.RightSide.{RightSide, SidesHold}
+use Rattle.node_arena.specs.RightSideLaws.{ids_of, IsFitIn, AllFit, RowsLast, SidesLast}
+use Rattle.node_arena.specs.Typing.{Fits, Makes}
+use Rattle.node_arena.proofs.Graph.{calls_more}
+use Rattle.node_arena.proofs.RightSides.{fit_lasts}
+use Rattle.stabilize_round.proofs.Points.{node_or_other}
+use Rattle.stabilizer.specs.declared.parts.Parts.{Parts}
+use Rattle.graph.specs.Effects.{CallsKnown}
+
+-- ---- of a definition
+
+value_within : (v : Value) → ValueWithin (λ (n : NodeId). Unit {0}) v
+value_within (value.Node n base) = tt
+value_within (value.Int z) = tt
+value_within (value.Bool z) = tt
+value_within (value.Text z) = tt
+
+every_unit : (ns : List NodeId) → Every (λ (n : NodeId). Unit {0}) ns
+every_unit [] = tt
+every_unit (n ∷ ns) = (tt, every_unit ns)
+
+-- each function of the definition is fit
+abbrev pub IsDefFit : (FnRef → Bool) → (FnRef → RightSide) → Arena → Def → Type 0
+IsDefFit known right a def = DefWithin (λ (n : NodeId). Unit {0}) (IsFitIn known right a) def
+
+-- what makes its type has functions of the kinds that stand there, and maps list no node
+module _ (known : FnRef → Bool) (right : FnRef → RightSide) (sides : SidesHold known right) where
+  map_fits : (a : Arena) (f : FnRef) → IsTrue (known f) → f.id.kind ≡ kind.Map → IsFitIn known right a kind.Map f
+  map_fits a f k is = ((k, is), λ x among. absurd (subst (λ (ids : List Listed). Among x ids) (sides.maps f (k, is)).ids among))
+
+  pub known_fits : (a b : Arena) (ty : Ty) (def : Def) → CallsKnown known right a def → Makes b def ty → IsDefFit known right a def
+  known_fits a b ty (graph.Const v) k m = value_within v
+  known_fits a b ty (graph.Var v) k m = value_within v
+  known_fits a b ty (graph.Fold f v ns) k m = (map_fits a f k m.kind, value_within v, every_unit ns)
+  known_fits a b ty (graph.Map f ns) k m = (map_fits a f k m.kind, every_unit ns)
+  known_fits a b ty (graph.If t l r) k m = (tt, tt, tt)
+  known_fits a b ty (graph.Join kid) k m = tt
+  known_fits a b ty (graph.Bind l f captures) k m = (((k.0, m.kind), k.1), tt, every_unit captures)
+  known_fits a b ty def k m = absurd m
+
+listed_of : (xs : List Listed) (n : NodeId) → Among n (nodes_of xs) → (x : Listed) × Among x xs × (x.node ≡ n)
+listed_of [] n h = absurd h
+listed_of (x ∷ xs) n (inl e) = (x, inl refl, sym e)
+listed_of (x ∷ xs) n (inr h) = let r = listed_of xs n h in (r.0, inr r.1, r.2)
+
+-- then they list given nodes
+pub calls_fit : (known : FnRef → Bool) (right : FnRef → RightSide) (a : Arena) (def : Def) → IsDefFit known right a def
+    → CallsFit a.given known (ids_of right) def
+calls_fit known right a def fit = calls_more (IsFitIn known right a) (Fit a.given known (ids_of right))
+    (λ k f h. (h.0, λ n among. (let x = listed_of (right f).ids n among in subst (Given a.given) x.2 (h.1 x.0 x.1).0))) def fit
+
+-- ---- of all nodes
+
+module _ (known : FnRef → Bool) (right : FnRef → RightSide) (old new : Arena) (le : old.given ≤ new.given) where
+  -- rows stay or go
+  pub fit_left : ((n : NodeId) (r : Row) → row_at new n ≡ Some r → row_at old n ≡ Some r) → RowsLast old new → AllFit known right old
+      → AllFit known right new
+  fit_left were rows fit n r is =
+      calls_more (IsFitIn known right old) (IsFitIn known right new)
+      (fit_lasts known known right right old new (record { keeps = λ f h. h; same = λ f h. refl }) le rows) r.def (fit n r (were n r is))
+
+  -- a node is added whose functions fit
+  pub fit_added : ((n : NodeId) → Given old.given n → row_at new n ≡ row_at old n) → (id : NodeId) (row : Row) → Changes old new id (Some row)
+      → IsDefFit known right old row.def → AllFit known right old → AllFit known right new
+  fit_added keeps id row changes own fit n r is =
+      calls_more (IsFitIn known right old) (IsFitIn known right new)
+      (fit_lasts known known right right old new (record { keeps = λ f h. h; same = λ f h. refl }) le (λ m given. inl (keeps m given))) r.def
+      (elim (node_or_other n id) [
+        | inl e ↦
+            subst (λ (x : Option Row). IfSome x (λ (q : Row). IsDefFit known right old q.def))
+            (sym changes.changed ∙ (ap (row_at new) (sym e) ∙ is)) own
+        | inr other ↦ fit n r (sym (changes.others n other) ∙ is)
+      ])
+
+-- a variable is set
+module _ (known : FnRef → Bool) (right : FnRef → RightSide) (old new : Arena) (le : old.given ≤ new.given) (id : NodeId) (v : Value)
+    (set : IsSet old new id v) where
+  abbrev has_type : Ty → Option Row → Type 0
+  has_type t x = IfSome x (λ (r : Row). r.ty ≡ t)
+
+  fits_set : (n : NodeId) (t : Ty) → Fits old n t → Fits new n t
+  fits_set n t h = elim (node_or_other n id) [
+    | inl e ↦
+        subst (has_type t) (sym (ap (row_at new) e ∙ set.changes.changed)) (subst (has_type t) (ap (row_at old) e ∙ set.there) h)
+    | inr other ↦ subst (has_type t) (sym (set.changes.others n other)) h
+  ]
+
+  fit_in : (k : FnKind) (f : FnRef) → IsFitIn known right old k f → IsFitIn known right new k f
+  fit_in k f h = (h.0, λ x among. (let g = (h.1 x among).0 in omega (arith, g, le), fits_set x.node x.ty (h.1 x among).1))
+
+  pub fit_set : AllFit known right old → AllFit known right new
+  fit_set fit n r is = elim (node_or_other n id) [
+    | inl e ↦
+        subst (λ (x : Option Row). IfSome x (λ (q : Row). IsDefFit known right new q.def))
+        (sym set.changes.changed ∙ (ap (row_at new) (sym e) ∙ is)) (value_within v)
+    | inr other ↦ calls_more (IsFitIn known right old) (IsFitIn known right new) fit_in r.def (fit n r (sym (set.changes.others n other) ∙ is))
+  ]
+
+-- or isn't
+pub set_answer_fit : {T E : Type 0} (known : FnRef → Bool) (right : FnRef → RightSide) (old new : Parts) (id : NodeId) (v : Value) (r : Result T E)
+    → OnOk r (IsSet old.arena new.arena id v) → OnErr r (new ≡ old) → old.arena.given ≤ new.arena.given → AllFit known right old.arena
+    → AllFit known right new.arena
+set_answer_fit known right old new id v (Ok u) set err le fit = fit_set known right old.arena new.arena le id v set fit
+set_answer_fit known right old new id v (Err e) set err le fit = subst (λ (p : Parts). AllFit known right p.arena) (sym err) fit
+
+-- more functions are known
+pub fit_more : (known known' : FnRef → Bool) (right right' : FnRef → RightSide) (a : Arena) → SidesLast known known' right right' → AllFit known right a
+    → AllFit known' right' a
+fit_more known known' right right' a last fit n r is = calls_more (IsFitIn known right a) (IsFitIn known' right' a)
+    (fit_lasts known known' right right' a a last (omega arith) (λ m given. inl refl)) r.def (fit n r is)

@@ -1,0 +1,117 @@
+//! Binds, whose right sides functions build, and functions that are kept beside the others.
+ghost use Rattle.std.specs.Prelude.{◌≡◌, ◌⊎◌, ◌↔◌, ◌<◌, Some, IfOk, IfErr, OnErr, IsErrOf, IsTrue, IsOk};
+ghost use Rattle.inc_value.specs.declared.node.NodeId.{NodeId};
+ghost use Rattle.inc_terms.specs.Graph.{Bind};
+ghost use Rattle.inc_terms.specs.Within.{Given};
+ghost use Rattle.node_arena.specs.Meanings.{SameNames, KeepsKnown};
+ghost use Rattle.node_arena.specs.RightSide.{AreFit, IsKeepable, Means, KeepsMeanings, one_taken};
+ghost use Rattle.node_arena.specs.Typing.{Fits};
+ghost use Rattle.graph.specs.Standing.{IsUnbroken, IsBroken, graph, root_in};
+ghost use Rattle.graph.specs.Effects.{top, NamesUnknown, IsMistyped, HasNoRoom, KeepsAll, IsAddFault, Adds};
+ghost use Rattle.graph.specs.declared.fault.Kept.{Kept as ACause};
+
+use super::Graph;
+use crate::fault::{GraphFault, more_fault};
+use inc_terms::{Def, Nodes};
+use inc_value::{FnRef, NodeId, Ty};
+use node_arena::Functions;
+
+impl<F: Functions> Graph<F> {
+    /// A node that reads a left node, and the right side that a function of right sides, which is known, builds of its
+    /// value and the captured nodes, whose outcome it shows. The right side is built anew exactly where the left gives
+    /// another outcome than the one that it was built for; the nodes of the old one then die. Where the left is Invalid it
+    /// shows Invalid, and nothing is built.
+    pub fn bind(
+        &mut self,
+        left: NodeId,
+        function: FnRef,
+        captures: &[NodeId],
+    ) -> Result<NodeId, GraphFault>
+        requires known { IsTrue (F.known self.old.functions function) }
+        requires fit { AreFit self.old.nodes (F.right self.old.functions function).ids }
+        ensures broken { (cause : ACause) → IsErrOf result (GraphFault.Broken cause) ↔ IsBroken self.old cause }
+        ensures added { IfOk result (λ id. Adds self.old self.new id (top (Bind left function captures.now) function.sig.gives)) }
+        ensures unknown { IsErrOf result GraphFault.Unknown
+            → IsUnbroken self.old × NamesUnknown self.old (Bind left function captures.now) }
+        ensures unknown_told { IsUnbroken self.old → NamesUnknown self.old (Bind left function captures.now)
+            → IsErrOf result GraphFault.Unknown ⊎ IsErrOf result GraphFault.Memory }
+        ensures wrong_type { IsErrOf result GraphFault.WrongType
+            → IsUnbroken self.old × IsMistyped self.old (Bind left function captures.now) function.sig.gives }
+        ensures wrong_type_told { IsUnbroken self.old → IsMistyped self.old (Bind left function captures.now) function.sig.gives
+            → IsErrOf result GraphFault.WrongType ⊎ IsErrOf result GraphFault.Memory }
+        ensures full { IsErrOf result GraphFault.Full
+            → IsUnbroken self.old × HasNoRoom self.old (Bind left function captures.now) function.sig.gives }
+        ensures full_told { IsUnbroken self.old → HasNoRoom self.old (Bind left function captures.now) function.sig.gives
+            → IsErrOf result GraphFault.Full ⊎ IsErrOf result GraphFault.Memory }
+        ensures adding { IfErr result IsAddFault }
+        ensures err { OnErr result (KeepsAll self.old self.new) }
+    {
+        self.check()?;
+        let captures = Nodes::from_slice(self.alloc, captures)?;
+        let def = Def::Bind {
+            left,
+            function,
+            captures,
+        };
+        self.add(def, function.sig.gives())
+    }
+
+    /// Keeps one more function beside the others, and gives its name. Functions that were known stay so and mean what they
+    /// meant. A refused call hands the function back, and changes nothing.
+    pub fn more(&mut self, function: F::More) -> Result<FnRef, (GraphFault, F::More)>
+        requires keepable { IsKeepable (F.known self.old.functions) (F.right self.old.functions)
+            (F.brings function).kind (F.brings function).sig (F.brings function).side }
+        ensures broken { IfErr result (λ e. (cause : ACause) → (e.0 ≡ GraphFault.Broken cause) ↔ IsBroken self.old cause) }
+        ensures too_many { IfErr result (λ e. (e.0 ≡ GraphFault.TooMany)
+            ↔ (IsUnbroken self.old × ((F.tally self.old.functions).taken ≡ (F.tally self.old.functions).most))) }
+        ensures known { IfOk result (λ f. IsTrue (F.known self.new.functions f)) }
+        ensures means { IfOk result (λ f. Means (F.value self.new.functions) (F.right self.new.functions) f (F.brings function)) }
+        ensures keeps_known { KeepsKnown (F.known self.old.functions) (F.known self.new.functions) }
+        ensures keeps_meanings { KeepsMeanings (F.known self.old.functions) (F.value self.old.functions) (F.value self.new.functions)
+            (F.right self.old.functions) (F.right self.new.functions) }
+        ensures same_names { SameNames (F.named self.old.functions) (F.named self.new.functions) }
+        ensures tally { IsUnbroken self.old → F.tally self.new.functions ≡ one_taken result (F.tally self.old.functions) }
+        ensures calls { F.calls self.new.functions ≡ F.calls self.old.functions }
+        ensures back { IfErr result (λ e. e.1 ≡ function) }
+        ensures rest { self.new ≡ record self.old { functions = self.new.functions } }
+    {
+        match self.check() {
+            Ok(()) => {}
+            Err(fault) => return Err((fault, function)),
+        }
+        match self.functions.more(self.alloc, function) {
+            Ok(f) => Ok(f),
+            Err((fault, function)) => Err((more_fault(fault), function)),
+        }
+    }
+
+    /// Whether the node was given, and is of the type or dead. `bind` wants it so of each node that right sides list.
+    pub fn fits(&self, node: NodeId, ty: Ty) -> bool
+        ensures { IsTrue result ↔ (Given self.now.nodes.given node × Fits self.now.nodes node ty) }
+    {
+        let arena = self.parts.arena();
+        if node.gen_ >= arena.given() {
+            return false;
+        }
+        match arena.get(node) {
+            Some(row) => row.ty == ty,
+            None => true,
+        }
+    }
+
+    /// The root of what a bind is built for. None where the node is no live bind, or isn't built for a value.
+    pub fn right_side(&self, node: NodeId) -> Result<Option<NodeId>, GraphFault>
+        ensures broken { (cause : ACause) → IsErrOf result (GraphFault.Broken cause) ↔ IsBroken self.now cause }
+        ensures root { IfOk result (λ root. root ≡ root_in ((graph self.now).built node)) }
+        ensures unbroken { IsOk result ↔ IsUnbroken self.now }
+    {
+        self.check()?;
+        let Some(row) = self.parts.arena().get(node) else {
+            return Ok(None);
+        };
+        match row.def {
+            Def::Bind { .. } => Ok(self.parts.root_of(node)),
+            _ => Ok(None),
+        }
+    }
+}

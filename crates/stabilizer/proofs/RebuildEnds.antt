@@ -1,0 +1,413 @@
+-- How building a bind anew ends: what the calls left, put together.
+use Rattle.std.proofs.Common.{◌≡◌, ℕ, ◌-◌, ◌<◌, ◌≤◌, Bool, true, List, [], Option, None, Some, refl, sym, ap, subst, ◌∙◌, arith, Vec, Global}
+use Rattle.std.specs.Prelude.{is_some, option_map, Result, Ok, Err, OnErr}
+use Rattle.std.proofs.lemmas.Option.{none-some, same_Some}
+use Rattle.inc_value.specs.Choice.{Reaches}
+use Rattle.inc_value.specs.declared.function.FnKind.TheVariants.{Rhs}
+use Rattle.inc_value.specs.declared.function.FnRef.{FnRef}
+use Rattle.inc_value.specs.declared.node.NodeId.{NodeId}
+use Rattle.inc_value.specs.declared.outcome.Outcome.{Outcome}
+use Rattle.inc_value.specs.declared.outcome.Outcome.TheVariants.{Val, Invalid}
+use Rattle.inc_value.specs.declared.ty.Ty.{Ty}
+use Rattle.inc_value.specs.declared.value.Value.{Value}
+use Rattle.inc_terms.specs.Depend.{change}
+use Rattle.inc_terms.specs.Graph.{Row}
+use Rattle.inc_terms.specs.Within.{Given, KnownAs}
+use Rattle.point_map.specs.Rows.{Rows, at, Holds, Changes, KeepsRows}
+use Rattle.necessity.specs.Need.{Roots, KeepsRoots}
+use Rattle.node_arena.specs.Arena.{Arena, row_at}
+use Rattle.node_arena.specs.Building.{building_in}
+use Rattle.node_arena.specs.Graph.{AllCallFit}
+use Rattle.node_arena.specs.RightSide.{RightSide, MayBuild, IsRoot, one_built}
+use Rattle.node_arena.specs.RightSideLaws.{AllFit, ids_of}
+use Rattle.node_arena.specs.Typing.{Fits}
+use Rattle.node_arena.specs.declared.functions.Functions.{Ghosts}
+use Rattle.node_lists.specs.Deaths.{Deaths}
+use Rattle.stabilize_round.specs.Counts.{RoseBy}
+use Rattle.stabilize_round.specs.Machine.{Stops}
+use Rattle.stabilize_round.specs.Moves.{Quiet}
+use Rattle.stabilize_round.specs.Rebuilding.{builds_of}
+use Rattle.stabilize_round.specs.State.{State, Start}
+use Rattle.stabilize_round.specs.Steps.{Preparing}
+use Rattle.stabilize_round.proofs.Counts.{none_yet, at_most}
+use Rattle.node_outcomes.specs.Meaning.{Meaning, meaning_of}
+use Rattle.node_outcomes.specs.Row.{IsRewritten, with_outcome, without_outcome, settled_in}
+use Rattle.node_outcomes.specs.declared.row.Progress.{Progress}
+use Rattle.wiring.specs.Began.{IsRoundOf}
+use Rattle.wiring.specs.Stands.{Stands, Counts}
+use Rattle.wiring.specs.Wiring.{KeepsGraph}
+use Rattle.wiring.specs.declared.refused.Refused.TheVariants.{Memory}
+use Rattle.wiring.specs.declared.work.Work.{Work}
+use Rattle.stabilizer.specs.Building.{HasGrown}
+use Rattle.stabilizer.specs.Dying.{IsCutOff, HasDied, StandsBefore}
+use Rattle.stabilizer.specs.Kept.{PartsKept, KeepsMeaning, counts_by}
+use Rattle.stabilizer.specs.Rebuilding.{IsToBuild, BuildsAnew, BuildRefused, as_it_was, IsSettledOn, IsToSettle, RebuildStays}
+use Rattle.stabilizer.specs.declared.parts.Parts.{Parts}
+use Rattle.stabilizer.proofs.BuiltAnew.{IsRebuilt, HasRoot, run_settled}
+use Rattle.stabilizer.proofs.RebuildAsks.{dead_fit, dead_given, bind_stays, is_known, may_build, gives_type, fit_then, built_root, no_root_built}
+use Rattle.stabilizer.proofs.RebuildCounts.{tally_adds, tally_builds}
+use Rattle.stabilizer.proofs.Rebuilds.{builds_anew, stops_unbuilt}
+use Rattle.stabilizer.proofs.RebuiltKept.{rebuilt_kept, roomy, roomy_kept, roomy_to, roomy_before, died_roomy, roots_roomy, none_grown, no_adds}
+use Rattle.stabilizer.proofs.RebuiltKept.{no_builds}
+
+-- ---- the change's row
+
+mapped_there : (f : Progress → Progress) (x : Option Progress) → is_some x ≡ true → is_some (option_map f x) ≡ true
+mapped_there f None e = absurd (cc)
+mapped_there f (Some k) e = refl
+
+-- it is there after the deaths
+pub own_after : (cut dead : Parts) (b : NodeId) → HasDied cut dead b → Holds cut.work.rows (change b) → Holds dead.work.rows (change b)
+own_after cut dead b d own = ap is_some d.own ∙ mapped_there without_outcome (at cut.work.rows (change b)) own
+
+-- and after the build
+pub own_grown : (dead last : Parts) (b : NodeId) → HasGrown dead last b → Given dead.arena.given b → Holds dead.work.rows (change b)
+    → Holds last.work.rows (change b)
+own_grown dead last b g given own = ap is_some (g.rows (change b) given) ∙ own
+
+-- ---- what settling it does
+
+-- a root was put there, if one was built, and the change was settled
+pub settled_rebuilt : (old new : Work) (roots : Rows NodeId) (n : NodeId) (given : Outcome) (root : Option NodeId)
+    → Changes old.roots roots (change n) root → IsRewritten old.rows new.rows (change n) (with_outcome given old.round)
+    → KeepsGraph old.graph new.graph → Changes old.graph.heap new.graph.heap (change n) None
+    → new ≡ record old { graph = new.graph; rows = new.rows; roots = roots } → IsRebuilt old new n given root
+settled_rebuilt old new roots n given root put rows graph heap rest = record {
+  rows = rows;
+  graph = graph;
+  heap = heap;
+  roots = subst (λ (m : Rows NodeId). Changes old.roots m (change n) root) (sym (ap (λ (w : Work). w.roots) rest)) put;
+  todo = ap (λ (w : Work). w.todo.items) rest;
+  deaths = ap (λ (w : Work). w.deaths) rest;
+  ran = ap (λ (w : Work). w.ran.items) rest;
+  strict = ap (λ (w : Work). w.strict) rest;
+  round = ap (λ (w : Work). w.round) rest;
+}
+
+-- a bind that has no root keeps none
+pub no_root_put : (old : Work) (n : NodeId) → at old.roots (change n) ≡ None → Changes old.roots old.roots (change n) None
+no_root_put old n none = record { changed = none; others = λ p ne. refl }
+
+-- ---- the ends
+
+-- where it is so it is so of a refusal
+pub on_err : {A E P : Type 0} (r : Result A E) → P → OnErr r P
+on_err (Ok x) h = tt
+on_err (Err e) h = h
+
+-- parts in which the deaths have room were built as they were
+pub left_roomy : (M : Meaning) (old : Parts) (deaths : Deaths) (roots : Rows NodeId) (same_deaths : KeepsRows old.work.deaths.scopes deaths.scopes)
+    (same_roots : KeepsRows old.work.roots roots) (dying : Vec NodeId Global) (same_dying : dying.items ≡ old.dying.items) (b : NodeId)
+    (counts : Counts)
+    → BuildRefused M old (roomy old deaths roots same_deaths same_roots dying same_dying) b counts counts Memory
+left_roomy M old deaths roots same_deaths same_roots dying same_dying b counts =
+    as_it_was (λ s before. roomy_before old deaths roots same_deaths same_roots dying same_dying counts s b before) refl refl refl
+
+-- what moves lead to where a bind couldn't be built
+abbrev pub StopsThere : Meaning → NodeId → Parts → Counts → Start → State → Type 0
+StopsThere M b last after z s =
+    (ready stopped : State) × Reaches (Preparing M.functions z (change b)) s ready × Stops M.functions z ready stopped
+    × Stands last.arena last.work after None stopped × (stopped.heap (change b) ≡ true)
+
+-- then it is settled
+pub settled_on : (mid new : Work) (b : NodeId) (given : Outcome) → IsSettledOn mid new b given → Holds mid.rows (change b)
+    → settled_in new.round (at new.rows (change b)) ≡ true
+settled_on mid new b given on there = ap (settled_in new.round) on.rows.changed
+    ∙ (ap (λ (i : ℕ). settled_in i (option_map (with_outcome given mid.round) (at mid.rows (change b)))) (ap (λ (w : Work). w.round) on.rest)
+    ∙ run_settled given mid.round (at mid.rows (change b)) there)
+
+module _ {K More : Type 0} (keeper : Ghosts K More) (fs : K) where
+  abbrev M : Meaning
+  M = meaning_of keeper fs
+
+  abbrev known : FnRef → Bool
+  known = keeper.known fs
+
+  abbrev right : FnRef → RightSide
+  right = keeper.right fs
+
+  abbrev before : Counts
+  before = counts_by keeper fs
+
+  -- a bind is to be built, there is room for the deaths, and what stood in its scope was cut off and died
+  pub record AreCut (first old cut dead : Parts) (b : NodeId) (f : FnRef) (captures : List NodeId) (given : Outcome) : Type 0 where
+    pub kept : PartsKept old
+    pub to : IsToBuild old b f captures given
+    pub own : Holds old.work.rows (change b)
+    pub fit : AllFit (keeper.known fs) (keeper.right fs) old.arena
+    pub cuts : IsCutOff old cut b
+    pub died : HasDied cut dead b
+    pub lasts : PartsKept dead
+    pub arena : old.arena ≡ first.arena
+    pub ran : old.ran ≡ first.ran
+    pub roots : old.work.graph.roots ≡ first.work.graph.roots
+    pub round : old.work.round ≡ first.work.round
+    pub quiet : old.work.todo.items ≡ []
+    pub sound : keeper.is_sound fs
+    pub from : (counts : Counts) (s : State) → StandsBefore first counts s b → StandsBefore old counts s b
+
+  -- so it is with the parts in which room was made
+  pub are_cut : (old : Parts) (deaths : Deaths) (same : KeepsRows old.work.deaths.scopes deaths.scopes) (dying : Vec NodeId Global)
+      (items : dying.items ≡ old.dying.items) {cut dead : Parts} {b : NodeId} {f : FnRef} {captures : List NodeId} {given : Outcome}
+      → PartsKept old → IsToBuild old b f captures given → Holds old.work.rows (change b) → old.work.todo.items ≡ [] → keeper.is_sound fs
+      → AllFit known right old.arena
+      → IsCutOff (roomy old deaths old.work.roots same (λ p. refl) dying items) cut b → HasDied cut dead b → PartsKept dead
+      → AreCut old (roomy old deaths old.work.roots same (λ p. refl) dying items) cut dead b f captures given
+  are_cut old deaths same dying items {b = b} {f = f} {captures = captures} {given = given} kept to own quiet sound fit cuts died lasts = record {
+    kept = roomy_kept old deaths old.work.roots same (λ p. refl) dying items kept;
+    to = roomy_to old deaths old.work.roots same (λ p. refl) dying items b f captures given to;
+    own = own;
+    fit = fit;
+    cuts = cuts;
+    died = died;
+    lasts = lasts;
+    arena = refl;
+    ran = refl;
+    roots = refl;
+    round = refl;
+    quiet = quiet;
+    sound = sound;
+    from = λ counts s stands. roomy_before old deaths old.work.roots same (λ p. refl) dying items counts s b stands;
+  }
+
+  same_meaning : keeper.is_sound fs → KeepsMeaning keeper fs fs
+  same_meaning sound = record { sound = sound; names = λ n. refl; known = λ f. refl; values = λ f a. refl; sides = λ f. refl }
+
+  -- where there was no room for the deaths all stays
+  pub roomy_stays : (old : Parts) (deaths : Deaths) (same : KeepsRows old.work.deaths.scopes deaths.scopes) (dying : Vec NodeId Global)
+      (items : dying.items ≡ old.dying.items) (b : NodeId) → Holds old.work.rows (change b) → old.work.todo.items ≡ [] → keeper.is_sound fs
+      → AllFit known right old.arena → RebuildStays keeper fs fs old (roomy old deaths old.work.roots same (λ p. refl) dying items) b
+  roomy_stays old deaths same dying items b own quiet sound fit = record {
+    calls = refl;
+    own = λ r e. e;
+    there = own;
+    ran = refl;
+    roots = λ p. refl;
+    round = refl;
+    quiet = quiet;
+    fit = fit;
+    meaning = same_meaning sound;
+  }
+
+  -- a right side was built, or couldn't be
+  pub record WasBuilt (ready grown : Parts) (b : NodeId) (fs' : K) : Type 0 where
+    pub grew : HasGrown ready grown b
+    pub kept : PartsKept grown
+    pub meaning : KeepsMeaning keeper fs fs'
+    pub fit : AllFit (keeper.known fs') (keeper.right fs') grown.arena
+    pub calls : keeper.calls fs' ≡ keeper.calls fs
+    pub tally : keeper.tally fs' ≡ one_built (grown.arena.given - ready.arena.given) (keeper.tally fs)
+
+  module _ {first old cut dead : Parts} {b : NodeId} {f : FnRef} {captures : List NodeId} {given : Outcome}
+      (h : AreCut first old cut dead b f captures given) where
+    own_cut : Holds cut.work.rows (change b)
+    own_cut = ap is_some h.cuts.own ∙ h.own
+
+    -- functions fit after the deaths
+    pub fits_dead : AllFit known right dead.arena
+    fits_dead = dead_fit old cut dead b h.cuts.arena h.died own_cut known right h.fit
+
+    as_given : dead.arena.given ≡ old.arena.given
+    as_given = dead_given old cut dead b h.cuts.arena h.died own_cut
+
+    -- no fewer ids were given then
+    pub given_first : first.arena.given ≤ dead.arena.given
+    given_first = let e = as_given in let first_as = ap (λ (a : Arena). a.given) h.arena in omega (arith, e, first_as)
+
+    same_row : row_at dead.arena b ≡ row_at old.arena b
+    same_row = bind_stays old cut dead b h.cuts.arena h.died own_cut
+
+    was_given : Given dead.arena.given b
+    was_given = subst (λ (k : ℕ). b.gen_ < k) (sym as_given) (h.kept.work.sound.given b (ap is_some h.to.is_row))
+
+    own_dead : Holds dead.work.rows (change b)
+    own_dead = own_after cut dead b h.died own_cut
+
+    -- the bind's function is known, and a right side can be built for a value
+    pub asks_known : KnownAs known Rhs f
+    asks_known = is_known old cut dead b h.cuts.arena h.died own_cut h.kept.work f captures given h.to known right h.fit
+
+    pub asks_ready : (left : Value) → given ≡ Val left → MayBuild (building_in b dead.arena) f.sig (right f) left captures
+    asks_ready left is = may_build old cut dead b h.cuts.arena h.died own_cut h.kept.work f captures given h.to left is known right h.fit
+
+    calls_fit : AllCallFit known (ids_of right) dead.arena
+    calls_fit = fit_then known known right right dead.arena (λ g. refl) (λ g. refl) fits_dead
+
+    same_roots : KeepsRoots first.work.graph.roots dead.work.graph.roots
+    same_roots = subst (λ (r : Roots). KeepsRoots first.work.graph.roots r) (sym h.died.graph_roots)
+        (subst (λ (r : Roots). KeepsRoots r cut.work.graph.roots) h.roots h.cuts.places.roots)
+
+    -- what stays in the deaths
+    pub dead_stays : RebuildStays keeper fs fs first dead b
+    dead_stays = record {
+      calls = refl;
+      own = λ r e. same_row ∙ (ap (λ (a : Arena). row_at a b) h.arena ∙ e);
+      there = own_dead;
+      ran = h.died.ran ∙ (h.cuts.ran ∙ h.ran);
+      roots = same_roots;
+      round = h.died.round ∙ (h.cuts.places.round ∙ h.round);
+      quiet = h.died.todo ∙ (ap (λ (w : Work). w.todo.items) h.cuts.rest ∙ h.quiet);
+      fit = fits_dead;
+      meaning = same_meaning h.sound;
+    }
+
+    -- there was room for a root
+    module _ (roots : Rows NodeId) (same : KeepsRows dead.work.roots roots) where
+      abbrev pub ready : Parts
+      ready = record dead { work = record dead.work { roots = roots } }
+
+      ready_kept : PartsKept ready
+      ready_kept = roots_roomy dead roots same h.lasts
+
+      ready_died : HasDied cut ready b
+      ready_died = died_roomy cut dead b roots same h.died
+
+      pub ready_stays : RebuildStays keeper fs fs first ready b
+      ready_stays = record {
+        calls = refl;
+        own = dead_stays.own;
+        there = dead_stays.there;
+        ran = dead_stays.ran;
+        roots = dead_stays.roots;
+        round = dead_stays.round;
+        quiet = dead_stays.quiet;
+        fit = dead_stays.fit;
+        meaning = dead_stays.meaning;
+      }
+
+      -- or there wasn't
+      pub stops_roomless : (z : Start) (s : State) → IsRoundOf M z s → Quiet s → StandsBefore first before s b → StopsThere M b ready before z s
+      stops_roomless z s begun quiet stands =
+          stops_unbuilt M old cut ready ready b f captures given before h.kept.work h.to h.own h.cuts ready_died (none_grown ready b ready_kept.work)
+          ready_kept.work calls_fit before refl (no_adds dead.arena.given before.adds) (no_builds given before.builds) z s begun quiet
+          (h.from before s stands)
+
+      module _ (left : Value) (is : given ≡ Val left) {grown : Parts} {fs' : K} (w : WasBuilt ready grown b fs') where
+        abbrev after : Counts
+        after = counts_by keeper fs'
+
+        abbrev number : ℕ
+        number = grown.arena.given - ready.arena.given
+
+        adds : RoseBy before.adds number after.adds
+        adds = tally_adds number (keeper.tally fs) (keeper.tally fs') w.tally
+
+        builds : RoseBy before.builds (builds_of given) after.builds
+        builds = subst (λ (o : Outcome). RoseBy before.builds (builds_of o) after.builds) (sym is)
+            (tally_builds number (keeper.tally fs) (keeper.tally fs') w.tally left)
+
+        calls_fit_then : AllCallFit known (ids_of right) grown.arena
+        calls_fit_then = fit_then known (keeper.known fs') right (keeper.right fs') grown.arena w.meaning.known w.meaning.sides w.fit
+
+        -- a right side couldn't be built
+        pub stops_building : (z : Start) (s : State) → IsRoundOf M z s → Quiet s → StandsBefore first before s b → StopsThere M b grown after z s
+        stops_building z s begun quiet stands =
+            stops_unbuilt M old cut ready grown b f captures given before h.kept.work h.to h.own h.cuts ready_died w.grew w.kept.work calls_fit_then
+            after w.calls adds (at_most builds) z s begun quiet (h.from before s stands)
+
+        -- the change's row is there
+        pub there_grown : Holds grown.work.rows (change b)
+        there_grown = own_grown ready grown b w.grew was_given own_dead
+
+        row_grown : (r : Row) → row_at old.arena b ≡ Some r → row_at grown.arena b ≡ Some r
+        row_grown r e = w.grew.nodes b was_given ∙ (same_row ∙ e)
+
+        -- the bind keeps its row
+        pub own_row : (r : Row) → row_at first.arena b ≡ Some r → row_at grown.arena b ≡ Some r
+        own_row r e = row_grown r (ap (λ (a : Arena). row_at a b) h.arena ∙ e)
+
+        pub grown_stays : RebuildStays keeper fs fs' first grown b
+        grown_stays = record {
+          calls = w.calls;
+          own = own_row;
+          there = there_grown;
+          ran = w.grew.ran ∙ dead_stays.ran;
+          roots = subst (λ (r : Roots). KeepsRoots first.work.graph.roots r) (sym w.grew.roots) dead_stays.roots;
+          round = w.grew.round.round ∙ dead_stays.round;
+          quiet = w.grew.todo ∙ dead_stays.quiet;
+          fit = w.fit;
+          meaning = w.meaning;
+        }
+
+        -- one was, and the change is to be settled
+        module _ (root : NodeId) (is_root : IsRoot (building_in b grown.arena) captures root ((right f).term left) f.sig.gives)
+            (roots' : Rows NodeId) (put : Changes grown.work.roots roots' (change b) (Some root)) where
+          abbrev rooted : Parts
+          rooted = record grown { work = record grown.work { roots = roots' } }
+
+          has_root : HasRoot M.functions grown.arena b f captures given (Some root)
+          has_root = subst (λ (o : Outcome). HasRoot M.functions grown.arena b f captures o (Some root)) (sym is)
+              (built_root known (keeper.value fs) right grown.arena b f captures left root f.sig.gives is_root)
+
+          run_of : (new : Work) → IsSettledOn rooted.work new b given → IsRebuilt grown.work new b given (Some root)
+          run_of new on = settled_rebuilt grown.work new roots' b given (Some root) put on.rows on.graph on.heap on.rest
+
+          builds_of_root : (new : Work) → IsSettledOn rooted.work new b given → BuildsAnew M first (record rooted { work = new }) b before after
+          builds_of_root new on z s begun quiet stands =
+              builds_anew M old cut ready grown b f captures given before h.kept.work h.to h.own h.cuts ready_died w.grew w.kept.work calls_fit_then
+              after w.calls adds builds (record rooted { work = new }) refl (Some root) (run_of new on) there_grown has_root z s begun quiet
+              (h.from before s stands)
+
+          root_fits : (m : NodeId) → Some root ≡ Some m → Given grown.arena.given m × Fits grown.arena m h.to.row.ty
+          root_fits m e =
+              let same_type = gives_type old cut dead b h.cuts.arena h.died own_cut h.kept.work f captures given h.to in
+              let at_m : root ≡ m = same_Some root m e in (
+                subst (λ (x : NodeId). Given grown.arena.given x) at_m is_root.given,
+                subst (λ (x : NodeId). Fits grown.arena x h.to.row.ty) at_m (subst (λ (t : Ty). Fits grown.arena root t) same_type is_root.fits),
+              )
+
+          kept_of_root : (new : Work) → IsSettledOn rooted.work new b given → PartsKept (record rooted { work = new })
+          kept_of_root new on = record {
+            work = rebuilt_kept grown.arena grown.work new b given (Some root) w.kept.work (run_of new on) there_grown on.step
+                (ap (λ (x : Work). x.pairs) on.rest) (ap (λ (x : Work). x.scoped) on.rest) h.to.row (row_grown h.to.row h.to.is_row) h.to.left
+                f captures h.to.is_bind root_fits (λ some. (left, is));
+            scopes = w.kept.scopes;
+            dying = w.kept.dying;
+          }
+
+          pub settles_root : IsToSettle keeper fs fs' first rooted b given
+          settles_root = record { builds = builds_of_root; kept = kept_of_root; step = w.kept.work.step }
+
+          pub root_stays : RebuildStays keeper fs fs' first rooted b
+          root_stays = record {
+            calls = w.calls;
+            own = own_row;
+            there = there_grown;
+            ran = grown_stays.ran;
+            roots = grown_stays.roots;
+            round = grown_stays.round;
+            quiet = grown_stays.quiet;
+            fit = w.fit;
+            meaning = w.meaning;
+          }
+
+    -- there is no right side of Invalid
+    module _ (is : given ≡ Invalid) where
+      no_more : RoseBy before.builds (builds_of given) before.builds
+      no_more = subst (λ (o : Outcome). RoseBy before.builds (builds_of o) before.builds) (sym is) none_yet
+
+      has_none : HasRoot M.functions dead.arena b f captures given None
+      has_none = subst (λ (o : Outcome). HasRoot M.functions dead.arena b f captures o None) (sym is)
+          (no_root_built M.functions dead.arena b f captures)
+
+      run_none : (new : Work) → IsSettledOn dead.work new b given → IsRebuilt dead.work new b given None
+      run_none new on =
+          settled_rebuilt dead.work new dead.work.roots b given None (no_root_put dead.work b h.died.own_root) on.rows on.graph on.heap on.rest
+
+      builds_none : (new : Work) → IsSettledOn dead.work new b given → BuildsAnew M first (record dead { work = new }) b before before
+      builds_none new on z s begun quiet stands =
+          builds_anew M old cut dead dead b f captures given before h.kept.work h.to h.own h.cuts h.died (none_grown dead b h.lasts.work) h.lasts.work
+          calls_fit before refl (no_adds dead.arena.given before.adds) no_more (record dead { work = new }) refl None (run_none new on) own_dead
+          has_none z s begun quiet (h.from before s stands)
+
+      kept_none : (new : Work) → IsSettledOn dead.work new b given → PartsKept (record dead { work = new })
+      kept_none new on = record {
+        work = rebuilt_kept dead.arena dead.work new b given None h.lasts.work (run_none new on) own_dead on.step
+            (ap (λ (x : Work). x.pairs) on.rest) (ap (λ (x : Work). x.scoped) on.rest) h.to.row (same_row ∙ h.to.is_row) h.to.left f captures
+            h.to.is_bind (λ m e. absurd (none-some m e)) (λ some. absurd (cc));
+        scopes = h.lasts.scopes;
+        dying = h.lasts.dying;
+      }
+
+      pub settles_none : IsToSettle keeper fs fs first dead b given
+      settles_none = record { builds = builds_none; kept = kept_none; step = h.lasts.work.step }

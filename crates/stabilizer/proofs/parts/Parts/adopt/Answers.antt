@@ -1,0 +1,24 @@
+use Rattle.std.proofs.Common.{sym}
+use Rattle.node_arena.specs.Arena.{row_of}
+use Rattle.stabilizer.proofs.Adopting.{gets_points, gets_rest, back_rest}
+use Rattle.stabilizer.proofs.parts.Parts.adopt.Goals as goal
+
+pub returns-in-Ok-clause-points : goal.returns-in-Ok-clause-points
+returns-in-Ok-clause-points c =
+    let a = c.in_ok-add_scoped.ensures in
+    gets_points c.args.self.now.arena c.args.self.now.work c.add_scoped.new.self c.args.node (row_of c.in-Some.row.now) (sym c.in-Some.ensures)
+    a.rows a.added.0 a.added.1 a.pairs a.scoped a.others_scoped a.links a.roots a.heap a.step a.todo a.round
+
+pub returns-in-Ok-clause-rest : goal.returns-in-Ok-clause-rest
+returns-in-Ok-clause-rest c =
+    let a = c.in_ok-add_scoped.ensures in
+    gets_rest c.args.self.now.arena c.args.self.now.work c.add_scoped.new.self c.args.node (row_of c.in-Some.row.now) (sym c.in-Some.ensures)
+    a.rows a.added.0 a.added.1 a.pairs a.scoped a.others_scoped a.links a.roots a.heap a.step a.todo a.round
+
+pub returns-in-Err-clause-rest : goal.returns-in-Err-clause-rest
+returns-in-Err-clause-rest c =
+    let a = c.in_ok-add_scoped.ensures in
+    let d = c.drop_node.ensures in
+    back_rest c.args.self.now.arena c.args.self.now.work c.add_scoped.new.self c.args.node (row_of c.in-Some.row.now) (sym c.in-Some.ensures)
+    a.rows a.added.0 a.added.1 a.pairs a.scoped a.others_scoped a.links a.roots a.heap a.step a.todo a.round
+    c.requires.step c.requires.no_row c.requires.no_point c.drop_node.new.self d.rows d.dropped d.links d.roots d.heap d.step d.rest d.todo d.round

@@ -1,0 +1,12 @@
+use Rattle.std.proofs.Common.{◌≡◌, length}
+use Rattle.stabilizer.proofs.BuryingAll.{IsBurying}
+use Rattle.stabilizer.proofs.parts.Parts.bury_dying.Given as goal
+
+abbrev pub invariant-loop-node : goal.invariant-loop-node
+invariant-loop-node l = record {
+  burying : IsBurying l.fn.self.arena l.fn.self.work l.fn.self.dying.items l.self.arena l.self.work l.self.dying.items;
+  rest : l.self ≡ record l.fn.self { arena = l.self.arena; work = l.self.work; dying = l.self.dying };
+}
+
+abbrev pub decreases-loop-node : goal.decreases-loop-node
+decreases-loop-node l = length l.self.dying.items

@@ -1,0 +1,110 @@
+use Rattle.std.proofs.Common.{◌≡◌, refl, sym, ap, ◌∙◌}
+use Rattle.inc_value.specs.declared.node.NodeId.{NodeId}
+use Rattle.inc_terms.specs.Depend.{change, subject_of}
+use Rattle.inc_terms.specs.Graph.{Bind}
+use Rattle.node_arena.specs.Arena.{row_of}
+use Rattle.node_outcomes.specs.Meaning.{meaning_of}
+use Rattle.node_outcomes.specs.Row.{outcome_in}
+use Rattle.point_map.specs.Rows.{at}
+use Rattle.stabilizer.specs.declared.rebuild.Recipe.{Recipe}
+use Rattle.stabilizer.specs.Kept.{counts_by}
+use Rattle.stabilizer.specs.Rebuilding.{BuildsAnew, IsToBuild}
+use Rattle.stabilizer.specs.Stepping.{IsUnbuiltBind, IsBuiltFor, built, turned}
+use Rattle.stabilizer.proofs.Again.{woken_refused, woken_own, woken_roots, woken_round, woken_kept, parts_with, by_result, some_of}
+use Rattle.stabilizer.proofs.Changing.{on_ok, if_err}
+use Rattle.stabilizer.proofs.Running.{some_same}
+use Rattle.stabilizer.proofs.Turned.{turned_own, turned_settled, turned_roots, turned_round, turned_kept, is_turned}
+use Rattle.stabilizer.proofs.stabilizer.turn_change.Goals as goal
+
+pub returns-in-Ok-None-clause-turned : goal.returns-in-Ok-None-clause-turned
+returns-in-Ok-None-clause-turned g c =
+    let old = c.args.parts.now in
+    let r = row_of c.in-Some.row.now in
+    let ran : IsBuiltFor r.def (outcome_in (at old.work.rows (change c.args.node))) c.in_ok-given.given = c.in-Ok-None.ensures.built c.in-Ok-None.field-0-is in
+    on_ok c.turn_as_built.result (λ t. turned (is_turned old.arena old.work t.woken c.turn_as_built.new.work c.args.node c.in-Some-subject.subject r
+    c.in_ok-given.given c.requires.kept.work c.requires.row c.requires.needed (sym c.in-Some.ensures) (sym c.subject.ensures ∙ c.in-Some-subject.is)
+    t.wakes.rest t.turned c.in_ok-given.ensures ran t.wakes.listed) refl refl) c.turn_as_built.ensures.turned
+
+pub returns-in-Ok-None-clause-refused : goal.returns-in-Ok-None-clause-refused
+returns-in-Ok-None-clause-refused g c = if_err c.turn_as_built.result (λ e asleep. woken_refused c.args.parts.now c.turn_as_built.new.work asleep.rest
+    c.requires.quiet asleep.quiet (meaning_of g.F.Functions c.args.functions.now) c.args.node (counts_by g.F.Functions c.args.functions.now) e asleep.memory)
+    c.turn_as_built.ensures.refused
+
+pub returns-in-Ok-None-clause-settled : goal.returns-in-Ok-None-clause-settled
+returns-in-Ok-None-clause-settled g c =
+    let old = c.args.parts.now in
+    let r = row_of c.in-Some.row.now in
+    on_ok c.turn_as_built.result (λ t. turned_settled old.arena old.work t.woken c.turn_as_built.new.work c.args.node c.in-Some-subject.subject r
+    c.in_ok-given.given c.requires.kept.work c.requires.row c.requires.needed (sym c.in-Some.ensures) (sym c.subject.ensures ∙ c.in-Some-subject.is)
+    t.wakes.rest t.turned) c.turn_as_built.ensures.turned
+
+pub returns-in-Ok-None-clause-there : goal.returns-in-Ok-None-clause-there
+returns-in-Ok-None-clause-there g c =
+    let old = c.args.parts.now in
+    let r = row_of c.in-Some.row.now in
+    by_result c.turn_as_built.result c.turn_as_built.ensures.turned c.turn_as_built.ensures.refused
+    (λ t. turned_own old.arena old.work t.woken c.turn_as_built.new.work c.args.node c.in-Some-subject.subject r
+    c.in_ok-given.given c.requires.kept.work c.requires.row c.requires.needed (sym c.in-Some.ensures) (sym c.subject.ensures ∙ c.in-Some-subject.is)
+    t.wakes.rest t.turned)
+    (λ e asleep. woken_own old c.turn_as_built.new.work asleep.rest (change c.args.node) c.requires.row)
+
+pub returns-in-Ok-None-clause-roots : goal.returns-in-Ok-None-clause-roots
+returns-in-Ok-None-clause-roots g c =
+    let old = c.args.parts.now in
+    let r = row_of c.in-Some.row.now in
+    by_result c.turn_as_built.result c.turn_as_built.ensures.turned c.turn_as_built.ensures.refused
+    (λ t. turned_roots old.arena old.work t.woken c.turn_as_built.new.work c.args.node c.in-Some-subject.subject r
+    c.in_ok-given.given c.requires.kept.work c.requires.row c.requires.needed (sym c.in-Some.ensures) (sym c.subject.ensures ∙ c.in-Some-subject.is)
+    t.wakes.rest t.turned)
+    (λ e asleep. woken_roots old c.turn_as_built.new.work asleep.rest)
+
+pub returns-in-Ok-None-clause-round : goal.returns-in-Ok-None-clause-round
+returns-in-Ok-None-clause-round g c =
+    let old = c.args.parts.now in
+    let r = row_of c.in-Some.row.now in
+    by_result c.turn_as_built.result c.turn_as_built.ensures.turned c.turn_as_built.ensures.refused
+    (λ t. turned_round old.arena old.work t.woken c.turn_as_built.new.work c.args.node c.in-Some-subject.subject r
+    c.in_ok-given.given c.requires.kept.work c.requires.row c.requires.needed (sym c.in-Some.ensures) (sym c.subject.ensures ∙ c.in-Some-subject.is)
+    t.wakes.rest t.turned)
+    (λ e asleep. woken_round old c.turn_as_built.new.work asleep.rest)
+
+pub returns-in-Ok-None-clause-kept : goal.returns-in-Ok-None-clause-kept
+returns-in-Ok-None-clause-kept g c =
+    let old = c.args.parts.now in
+    let r = row_of c.in-Some.row.now in
+    let ran : IsBuiltFor r.def (outcome_in (at old.work.rows (change c.args.node))) c.in_ok-given.given = c.in-Ok-None.ensures.built c.in-Ok-None.field-0-is in
+    by_result c.turn_as_built.result c.turn_as_built.ensures.turned c.turn_as_built.ensures.refused
+    (λ t. parts_with old c.turn_as_built.new.work c.requires.kept (turned_kept old.arena old.work t.woken c.turn_as_built.new.work c.args.node
+    c.in-Some-subject.subject r c.in_ok-given.given c.requires.kept.work c.requires.row c.requires.needed (sym c.in-Some.ensures)
+    (sym c.subject.ensures ∙ c.in-Some-subject.is) t.wakes.rest t.turned c.in_ok-given.ensures ran))
+    (λ e asleep. woken_kept old c.turn_as_built.new.work asleep.rest c.requires.kept)
+
+pub returns-in-Ok-Some-clause-turned : goal.returns-in-Ok-Some-clause-turned
+returns-in-Ok-Some-clause-turned g c =
+    let r = row_of c.in-Some.row.now in
+    let recipe = c.in-Ok-Some.recipe in
+    let due : IsUnbuiltBind r.def recipe.function recipe.captures (outcome_in (at c.args.parts.now.work.rows (change c.args.node))) c.in_ok-given.given =
+    some_of (λ (x : Recipe). IsUnbuiltBind r.def x.function x.captures (outcome_in (at c.args.parts.now.work.rows (change c.args.node))) c.in_ok-given.given)
+    c.in-Ok-Some.field-0 recipe c.in-Ok-Some.field-0-is c.in-Ok-Some.ensures.due in
+    let same : due.0 ≡ c.in-Some-subject.subject =
+    some_same due.0 c.in-Some-subject.subject (sym (ap subject_of due.1) ∙ (sym c.subject.ensures ∙ c.in-Some-subject.is)) in
+    let to_build : IsToBuild c.args.parts.now c.args.node recipe.function recipe.captures c.in_ok-given.given = record {
+      row = r;
+      left = c.in-Some-subject.subject;
+      is_row = sym c.in-Some.ensures;
+      is_bind = due.1 ∙ ap (λ (x : NodeId). Bind x recipe.function recipe.captures) same;
+      sees = c.in_ok-given.ensures;
+      differs = due.2;
+    } in
+    on_ok {P = BuildsAnew (meaning_of g.F.Functions c.args.functions.now) c.args.parts.now c.rebuild-built.new.self c.args.node
+    (counts_by g.F.Functions c.args.functions.now) (counts_by g.F.Functions c.rebuild-built.new.functions)} c.rebuild-built.result
+    (λ anew. built to_build anew c.rebuild-built.ensures.calls) c.rebuild-built.ensures.built
+
+pub returns-in-Ok-Some-clause-flat : goal.returns-in-Ok-Some-clause-flat
+returns-in-Ok-Some-clause-flat g c none =
+    let r = row_of c.in-Some.row.now in
+    let recipe = c.in-Ok-Some.recipe in
+    let due : IsUnbuiltBind r.def recipe.function recipe.captures (outcome_in (at c.args.parts.now.work.rows (change c.args.node))) c.in_ok-given.given =
+    some_of (λ (x : Recipe). IsUnbuiltBind r.def x.function x.captures (outcome_in (at c.args.parts.now.work.rows (change c.args.node))) c.in_ok-given.given)
+    c.in-Ok-Some.field-0 recipe c.in-Ok-Some.field-0-is c.in-Ok-Some.ensures.due in
+    absurd (none c.args.node r (sym c.in-Some.ensures) (due.0, recipe.function, recipe.captures, due.1))

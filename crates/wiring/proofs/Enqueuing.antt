@@ -1,0 +1,160 @@
+-- Points that come into the heap.
+use Rattle.std.proofs.Common.{◌≡◌, ◌⊎◌, inl, inr, ℕ, ◌++◌, Bool, true, false, List, [], ◌∷◌, Option, None, Some, refl, sym, ap, subst, ◌∙◌, arith, Vec, Global}
+use Rattle.std.specs.Prelude.{is_some, IsSome, option_map}
+use Rattle.std.proofs.lemmas.Bool.{cases_lt}
+use Rattle.inc_value.specs.Choice.{Among}
+use Rattle.inc_value.specs.declared.node.Point.{Point}
+use Rattle.point_map.specs.Rows.{Rows, at, Holds, Changes}
+use Rattle.link_table.specs.Links.{Links, Reads, times}
+use Rattle.height_order.specs.Levels.{level}
+use Rattle.necessary_graph.specs.Part.{NecessaryPart, Needed, IsInStep}
+use Rattle.necessary_graph.specs.Readers.{HasReaders}
+use Rattle.necessary_graph.proofs.Standing.{has_level, put_in_step}
+use Rattle.stabilize_round.proofs.Parts.{bool_cases}
+use Rattle.node_outcomes.specs.Row.{IsRewritten, settled_in, with_stage}
+use Rattle.wiring.specs.Graph.{HasLinks, died_at}
+use Rattle.wiring.specs.Wiring.{KeepsGraph, IsEnqueued, AreEnqueued, IsWoken}
+use Rattle.node_outcomes.specs.declared.row.Progress.{Progress}
+use Rattle.node_outcomes.specs.declared.row.Stage.TheVariants.{Bare}
+use Rattle.wiring.specs.declared.work.Work.{Work}
+
+-- where just the heap changed, all else of the graph stays
+pub keeps_graph : (old new : NecessaryPart) → new ≡ record old { heap = new.heap } → KeepsGraph old new
+keeps_graph old new e = record {
+  links = ap (λ (g : NecessaryPart). g.links) e;
+  roots = ap (λ (g : NecessaryPart). g.roots) e;
+  heights = ap (λ (g : NecessaryPart). g.heights) e;
+}
+
+-- a needed point was inserted that wasn't settled
+pub inserted : (old new : Work) (q : Point) → new.graph ≡ record old.graph { heap = new.graph.heap }
+    → Changes old.graph.heap new.graph.heap q (at old.graph.heights q) → IsInStep old.graph → Needed old.graph q
+    → settled_in old.round (at old.rows q) ≡ false → IsEnqueued old new q
+inserted old new q e ch step needed unsettled =
+    let there = step.there q needed in
+    let now : Holds new.graph.heap q = ap is_some ch.changed ∙ there in
+    record {
+      graph = keeps_graph old.graph new.graph e;
+      others = ch.others;
+      kept = λ h. now;
+      told = inl now;
+      only = λ h. inr unsettled;
+      step = subst IsInStep (sym e) (put_in_step old.graph step new.graph.heap q (level old.graph.heights q) needed refl
+          (record { changed = ch.changed ∙ has_level (at old.graph.heights q) there; others = ch.others }));
+    }
+
+-- ---- the points that read one
+
+-- the point reads it and wasn't settled, or not
+is_told : (links : Links) (q r : Point) (settled : Bool) → (Reads links r q × (settled ≡ false)) ⊎ (Reads links r q → settled ≡ false → ⊥)
+is_told links q r true = inr (λ _ e. cc)
+is_told links q r false = elim (cases_lt 0 (times links r q)) [ inl h ↦ inl (h, refl) | inr none ↦ inr (λ h _. omega (arith, h, none)) ]
+
+-- they were inserted, but for those that were settled
+module _ (old new : Work) (q : Point) (e : new.graph ≡ record old.graph { heap = new.graph.heap }) (step : IsInStep old.graph)
+    (so : HasReaders old.graph.heights old.graph.links q (λ (r : Point). settled_in old.round (at old.rows r)) old.graph.heap new.graph.heap) where
+  abbrev settled : Point → Bool
+  settled r = settled_in old.round (at old.rows r)
+
+  put : (r : Point) → Reads old.graph.links r q → settled r ≡ false → Holds new.graph.heap r
+  put r reads f = ap is_some (so.put r reads f) ∙ step.there r (step.readers r q reads)
+
+  pub readers_enqueued : AreEnqueued old new q
+  readers_enqueued = record {
+    graph = keeps_graph old.graph new.graph e;
+    kept = λ r h. elim (is_told old.graph.links q r (settled r)) [
+      | inl told ↦ put r told.0 told.1
+      | inr none ↦ ap is_some (so.others r none) ∙ h
+    ];
+    told = λ r reads. elim (bool_cases (settled r)) [ inl t ↦ inr t | inr f ↦ inl (put r reads f) ];
+    only = λ r h. elim (is_told old.graph.links q r (settled r)) [
+      | inl told ↦ inr told
+      | inr none ↦ inl (sym (ap is_some (so.others r none)) ∙ h)
+    ];
+  }
+
+-- ---- a point that is newly needed
+
+among_before : (p q : Point) (points : List Point) → Among p points → Among p (points ++ q ∷ [])
+among_before p q [] a = elim a [ ]
+among_before p q (x ∷ xs) (inl e) = inl e
+among_before p q (x ∷ xs) (inr a) = inr (among_before p q xs a)
+
+among_last : (q : Point) (points : List Point) → Among q (points ++ q ∷ [])
+among_last q [] = inl refl
+among_last q (x ∷ xs) = inr (among_last q xs)
+
+settled_bare : (round : ℕ) (row : Option Progress) → settled_in round (option_map (with_stage Bare) row) ≡ settled_in round row
+settled_bare round None = refl
+settled_bare round (Some k) = refl
+
+-- its stage is Bare, it was enqueued, and it is the last of the worklist
+pub woken : (old mid : Work) (todo : Vec Point Global) (rows : Rows Progress) (q : Point) → IsRewritten old.rows rows q (with_stage Bare)
+    → IsEnqueued (record old { rows = rows }) mid q → mid ≡ record old { graph = mid.graph; rows = rows } → Holds old.rows q
+    → todo.items ≡ old.todo.items ++ q ∷ [] → IsWoken old (record mid { todo = todo }) q
+woken old mid todo rows q w e rest there more =
+    let settled : settled_in old.round (at rows q) ≡ settled_in old.round (at old.rows q) =
+    ap (settled_in old.round) w.changed ∙ settled_bare old.round (at old.rows q) in
+    record {
+      graph = e.graph;
+      others = e.others;
+      kept = e.kept;
+      told = λ _. elim e.told [ inl h ↦ inl h | inr t ↦ inr (sym settled ∙ t) ];
+      only = λ h. elim (e.only h) [ inl k ↦ inl k | inr f ↦ inr (there, sym settled ∙ f) ];
+      rows = subst (λ (r : Rows Progress). IsRewritten old.rows r q (with_stage Bare)) (sym (ap (λ (k : Work). k.rows) rest)) w;
+      listed = λ _. subst (Among q) (sym more) (among_last q old.todo.items);
+      pushed = λ _. more;
+      leaf = λ none. absurd (let none' = ap is_some none in let k = sym none' ∙ there in cc);
+      todo = λ p a. subst (Among p) (sym more) (among_before p q old.todo.items a);
+      lists = record { pairs = ap (λ (k : Work). k.pairs) rest; scoped = ap (λ (k : Work). k.scoped) rest };
+      round = record {
+        roots = ap (λ (k : Work). k.roots) rest;
+        deaths = ap (λ (k : Work). k.deaths) rest;
+        ran = ap (λ (k : Work). k.ran.items) rest;
+        strict = ap (λ (k : Work). k.strict) rest;
+        round = ap (λ (k : Work). k.round) rest;
+      };
+      step = e.step;
+    }
+
+-- ---- a point of a dead node that is newly needed
+
+module _ (old : Work) (q : Point) (step_is : IsInStep old.graph) (dead : at old.rows q ≡ None) where
+  -- it has no row, so none has another stage
+  bare_rows : IsRewritten old.rows old.rows q (with_stage Bare)
+  bare_rows = record {
+    changed = dead ∙ sym (ap (option_map (with_stage Bare)) dead);
+    others = λ p ne. refl;
+    points = λ i. refl;
+  }
+
+  no_row : Holds old.rows q → ⊥
+  no_row h = let none = ap is_some dead in cc
+
+  woken_with : (todo : Vec Point Global) → (HasLinks old q → todo.items ≡ old.todo.items ++ q ∷ []) → (died_at old q.node ≡ None → todo.items ≡ old.todo.items)
+      → ((p : Point) → Among p old.todo.items → Among p todo.items) → IsWoken old (record old { todo = todo }) q
+  woken_with todo pushed leaf before = record {
+    graph = record { links = refl; roots = refl; heights = refl };
+    others = λ p ne. refl;
+    kept = λ h. h;
+    told = λ h. absurd (no_row h);
+    only = λ h. inl h;
+    rows = bare_rows;
+    listed = λ h. subst (Among q) (sym (pushed h)) (among_last q old.todo.items);
+    pushed = pushed;
+    leaf = λ none. leaf;
+    todo = before;
+    lists = record { pairs = refl; scoped = refl };
+    round = record { roots = refl; deaths = refl; ran = refl; strict = refl; round = refl };
+    step = step_is;
+  }
+
+  -- of one that died in this round: it is the last of the worklist
+  pub ghost_woken : IsSome (died_at old q.node) → (todo : Vec Point Global) → todo.items ≡ old.todo.items ++ q ∷ []
+      → IsWoken old (record old { todo = todo }) q
+  ghost_woken died todo more = woken_with todo (λ h. more) (λ none. absurd (let e = ap is_some none in let d = died in cc))
+      (λ p a. subst (Among p) (sym more) (among_before p q old.todo.items a))
+
+  -- of another: nothing is to be done
+  pub leaf_woken : died_at old q.node ≡ None → IsWoken old old q
+  leaf_woken none = woken_with old.todo (λ h. absurd (elim h [ inl row ↦ no_row row | inr died ↦ let e = ap is_some none in cc ])) (λ n. refl) (λ p a. a)

@@ -1,0 +1,411 @@
+-- A link that was refused is tried again, once what wasn't confirmed is off.
+use Rattle.std.proofs.Common.{◌≡◌, inl, inr, ℕ, ◌≤◌, Bool, true, false, cond, List, [], ◌∷◌, length, Option, None, Some, refl, sym, ap, subst, ◌∙◌, arith}
+use Rattle.std.specs.Prelude.{not, option_map}
+use Rattle.std.proofs.lemmas.Option.{none-some}
+use Rattle.inc_value.specs.declared.node.NodeId.{NodeId}
+use Rattle.inc_value.specs.declared.node.Point.{Point}
+use Rattle.inc_value.specs.declared.outcome.Outcome.{Outcome}
+use Rattle.inc_value.specs.Choice.{here, step, Among, Reaches}
+use Rattle.inc_terms.specs.Depend.{Depends, change}
+use Rattle.inc_terms.specs.Graph.{Graph, Row}
+use Rattle.inc_terms.specs.Plan.{targets, gate_of}
+use Rattle.inc_terms.specs.Term.{Functions}
+use Rattle.point_map.specs.Rows.{at}
+use Rattle.link_table.specs.Links.{Reads}
+use Rattle.height_order.specs.Levels.{level}
+use Rattle.necessary_graph.specs.Part.{NecessaryPart, Needed, IsInStep}
+use Rattle.necessary_graph.proofs.Reaching.{needed_more}
+use Rattle.node_arena.specs.Arena.{Arena, row_at}
+use Rattle.stabilize_round.specs.Invariant.{Invariant}
+use Rattle.stabilize_round.specs.Machine.{Move, step_main, step_change, link, link_new, root, root_new, raise, finish, schedule, cut, rebuild, turn_strict}
+use Rattle.stabilize_round.specs.Machine as move
+use Rattle.stabilize_round.specs.State as machine
+use Rattle.stabilize_round.specs.State.{State, Start, at_point, count, planned, plan_at, live_plan}
+use Rattle.stabilize_round.specs.Steps.{TakesOff as OffMove, TakingOff, Turns, Wiring, Wired, after_refusal}
+use Rattle.stabilize_round.specs.Wire.{IsConfirmed, levelled, finished, Finish}
+use Rattle.stabilize_round.proofs.Machine.{moves_keep}
+use Rattle.stabilize_round.proofs.Steps.{off_moves, wiring_moves}
+use Rattle.stabilize_round.proofs.Parts.{bool_cases}
+use Rattle.stabilize_round.proofs.Points.{same_or_other, at_same, at_other}
+use Rattle.stabilize_round.specs.Counts.{number_of}
+use Rattle.wiring.specs.Deciding.{is_needed}
+use Rattle.wiring.specs.Growing.{Grows, unneeded}
+use Rattle.wiring.specs.Refusing.{RefusedBy, TellsWhy, by_link}
+use Rattle.node_outcomes.specs.Row.{with_stage, settled_in, stage_in}
+use Rattle.node_outcomes.specs.declared.row.Progress.{Progress}
+use Rattle.node_outcomes.specs.declared.row.Stage.{Stage}
+use Rattle.node_outcomes.specs.declared.row.Stage.TheVariants as code
+use Rattle.wiring.specs.Stands.{Stands, Hand, hand, Counts}
+use Rattle.wiring.specs.Wiring.{IsDue, IsLevelled, IsSpared, IsPutBack, HasMore, IsTarget, MayRead, KeepsPlaces, TakesOff, Links, is_gated, is_still, hand_now, AreUnlinked}
+use Rattle.wiring.specs.declared.refused.Refused.{Refused}
+use Rattle.wiring.specs.declared.work.Work.{Work}
+use Rattle.wiring.proofs.Deciding.{decides_needed}
+use Rattle.wiring.proofs.Holding.{links_same}
+use Rattle.wiring.proofs.InHand.{still_same, still_not, still_needed, nothing, nothing_at, change_settled}
+use Rattle.wiring.proofs.Levelling.{low_wiring, low_stands, low_confirmed}
+use Rattle.wiring.proofs.PuttingBack.{gate_once, gated_now, more_isnt_gated}
+use Rattle.wiring.proofs.TakingAll.{RowsSpared, rows_keep, places_then}
+use Rattle.wiring.proofs.Unlinked.{off_unlinked, turn_unlinked, finished_unlinked}
+
+-- ---- what the moves that take off keep
+
+pub record Keeps (s t : State) : Type 0 where
+  pub graph : t.graph ≡ s.graph
+  pub died : t.died ≡ s.died
+  pub settled : t.settled ≡ s.settled
+  pub out : t.out ≡ s.out
+  pub taken : t.taken ≡ s.taken
+
+keeps_self : (s : State) → Keeps s s
+keeps_self s = record { graph = refl; died = refl; settled = refl; out = refl; taken = refl }
+
+keeps_then : (s t u : State) → Keeps s t → Keeps t u → Keeps s u
+keeps_then s t u a b = record {
+  graph = b.graph ∙ a.graph;
+  died = b.died ∙ a.died;
+  settled = b.settled ∙ a.settled;
+  out = b.out ∙ a.out;
+  taken = b.taken ∙ a.taken;
+}
+
+off_keeps_one : (F : Functions) (z : Start) (s t : State) (m : Move F z s t) → OffMove m → Keeps s t
+off_keeps_one F z s t (schedule x e) h = subst (λ (u : State). Keeps s u) (sym e) (record { graph = refl; died = refl; settled = refl; out = refl; taken = refl })
+off_keeps_one F z s t (cut d w e) h = subst (λ (u : State). Keeps s u) (sym e) (record { graph = refl; died = refl; settled = refl; out = refl; taken = refl })
+off_keeps_one F z s t (step_main q x e) h = absurd h
+off_keeps_one F z s t (step_change q x e) h = absurd h
+off_keeps_one F z s t (link x n e) h = absurd h
+off_keeps_one F z s t (link_new x n k e) h = absurd h
+off_keeps_one F z s t (root n e) h = absurd h
+off_keeps_one F z s t (root_new g n k e) h = absurd h
+off_keeps_one F z s t (raise x e) h = absurd h
+off_keeps_one F z s t (finish x e) h = absurd h
+off_keeps_one F z s t (rebuild r b k e) h = absurd h
+off_keeps_one F z s t (move.level x e) h = absurd h
+off_keeps_one F z s t (turn_strict u k e) h = absurd h
+
+pub off_keeps : (F : Functions) (z : Start) (s t : State) → Reaches (TakingOff F z) s t → Keeps s t
+off_keeps F z s t here = keeps_self s
+off_keeps F z s t (step {b = u} m rest) = keeps_then s u t (off_keeps_one F z s u m.0 m.1) (off_keeps F z u t rest)
+
+turns_keep : (F : Functions) (z : Start) (s t : State) (m : Move F z s t) → Turns m → Keeps s t
+turns_keep F z s t (turn_strict u k e) h = subst (λ (x : State). Keeps s x) (sym e) (record { graph = refl; died = refl; settled = refl; out = refl; taken = refl })
+turns_keep F z s t (schedule x e) h = absurd h
+turns_keep F z s t (cut d w e) h = absurd h
+turns_keep F z s t (step_main q x e) h = absurd h
+turns_keep F z s t (step_change q x e) h = absurd h
+turns_keep F z s t (link x n e) h = absurd h
+turns_keep F z s t (link_new x n k e) h = absurd h
+turns_keep F z s t (root n e) h = absurd h
+turns_keep F z s t (root_new g n k e) h = absurd h
+turns_keep F z s t (raise x e) h = absurd h
+turns_keep F z s t (finish x e) h = absurd h
+turns_keep F z s t (rebuild r b k e) h = absurd h
+turns_keep F z s t (move.level x e) h = absurd h
+
+still_confirmed : (s t : State) (p q : Point) → Keeps s t → IsConfirmed s p q → IsConfirmed t p q
+still_confirmed s t p q k c = record {
+  gate = λ r b row scope. elim (c.gate r b (sym (ap (λ (G : Graph). G.row p.node) k.graph) ∙ row) scope) [
+    | inl e ↦ inl e
+    | inr (inl e) ↦ inr (inl (ap (λ (f : Point → _). f (change b)) k.settled ∙ e))
+    | inr (inr e) ↦ inr (inr (
+      e.0,
+      ap (λ (G : Graph). G.row p.node) k.graph ∙ e.1,
+      e.2,
+      subst (λ (G : Graph). Among q (targets G p.node e.0.def (t.out (change p.node)))) (sym k.graph)
+          (subst (λ (f : Point → Option Outcome). Among q (targets s.graph p.node e.0.def (f (change p.node)))) (sym k.out) e.3),
+      k.taken ∙ e.4,
+    ))
+  ];
+  right = λ r row main among. k.taken ∙ c.right r (sym (ap (λ (G : Graph). G.row p.node) k.graph) ∙ row) main
+      (subst (λ (f : Point → Option Outcome). Among q (targets s.graph p.node r.def (f (change p.node)))) k.out
+      (subst (λ (G : Graph). Among q (targets G p.node r.def (t.out (change p.node)))) k.graph among));
+}
+
+still_depends : (F : Functions) (s t : State) (p q : Point) → Keeps s t → Depends F s.graph s.died p q → Depends F t.graph t.died p q
+still_depends F s t p q k d = subst (λ (G : Graph). Depends F G t.died p q) (sym k.graph)
+    (subst (λ (f : NodeId → Option NodeId). Depends F s.graph f p q) (sym k.died) d)
+
+-- ---- the link is tried again
+
+pub not_both : (b : Bool) → b ≡ false → b ≡ true → ⊥
+not_both true f t = cc
+not_both false f t = cc
+
+-- who may read what stays
+pub may_read : (old new : Work) → KeepsPlaces old new → (p q : Point) → MayRead old p q → MayRead new p q
+may_read old new places p q may = links_same old new places.rows places.deaths p q may
+
+pub is_target : (arena : Arena) (old new : Work) → KeepsPlaces old new → (q : Point) → IsTarget arena old q → IsTarget arena new q
+is_target arena old new places q target = record {
+  given = target.given;
+  there = elim target.there [ inl row ↦ inl (places.rows q ∙ row) | inr dead ↦ inr dead ];
+}
+
+gated_for : (x : Option Progress) → HasMore (stage_in x) → stage_in (option_map (with_stage code.Gated) x) ≡ Some code.Gated
+gated_for None (inl e) = absurd (none-some code.Static e)
+gated_for None (inr e) = absurd (none-some code.Full e)
+gated_for (Some k) h = refl
+
+more_or_gated : (x : Option Stage) → HasMore x → x ≡ Some code.Gated → ⊥
+more_or_gated x (inl e) g = cc
+more_or_gated x (inr e) g = cc
+
+-- a point is needed, and wasn't put back
+abbrev pub IsStill : Work → Work → Point → Type 0
+IsStill old new p = Needed new.graph p × (stage_in (at new.rows p) ≡ Some code.Gated → stage_in (at old.rows p) ≡ Some code.Gated)
+
+-- what is spared and wasn't put back keeps its row
+pub kept_row : (arena : Arena) (old new : Work) (p : Point) → RowsSpared arena old new → IsSpared arena old p → IsStill old new p
+    → at new.rows p ≡ at old.rows p
+kept_row arena old new p rows spared still = elim (rows p spared) [
+  | inl e ↦ e
+  | inr b ↦ absurd (more_or_gated (stage_in (at old.rows p)) b.back.more
+      (still.1 (ap stage_in b.back.now ∙ gated_for (at old.rows p) b.back.more)))
+]
+
+module _ (F : Functions) (z : Start) (s : State) (arena : Arena) (old mid new : Work) (counts : Counts) (p q : Point) (rest : List Point)
+    (due : IsDue F z s arena old counts p q rest) (l : IsLevelled old mid) (weak : old.strict ≡ false) (need : Needed mid.graph p)
+    (spared : IsSpared arena mid p) (off : TakesOff arena mid new) (in_step : IsInStep new.graph) (rows : RowsSpared arena mid new)
+    (round : new.round ≡ mid.round) where
+  abbrev pub held : Option Hand
+  held = Some (hand p (q ∷ rest))
+
+  abbrev pub first : State
+  first = levelled s (level mid.graph.heights)
+
+  first_stands : Stands arena mid counts held first
+  first_stands = low_stands F z s arena old mid counts held due.stands l
+
+  first_wiring : Reaches (Wiring F z) s first
+  first_wiring = low_wiring F z s arena old mid counts held due.stands l
+
+  first_inv : Invariant F z first
+  first_inv = moves_keep F z s first (wiring_moves F z s first first_wiring) due.holds
+
+  gate_ran : (r : Row) (b : NodeId) → row_at arena p.node ≡ Some r → r.scope ≡ Some b → Among (change b) (q ∷ rest)
+      → HasMore (stage_in (at mid.rows p)) → settled_in mid.round (at mid.rows (change b)) ≡ true
+  gate_ran r b row scope among more = ap (λ (i : ℕ). settled_in i (at mid.rows (change b))) l.round.round
+      ∙ (ap (settled_in old.round) (l.rows (change b))
+      ∙ due.gate r b row scope among (subst (λ (x : Option Progress). HasMore (stage_in x)) (l.rows p) more))
+
+  pub was : (t u : State) × Reaches (TakingOff F z) first t × ((m : Move F z t u) × Turns m) × Stands arena new counts (hand_now mid new held) u
+  was = off F z first counts held first_inv (due.stands.strict ∙ weak)
+      (record { spared = spared; needed = inr need; gate = gate_ran }) first_stands
+
+  abbrev pub then : State
+  then = was.1
+
+  keeps : Keeps s then
+  keeps = keeps_then s was.0 then (keeps_then s first was.0 (record { graph = refl; died = refl; settled = refl; out = refl; taken = refl })
+      (off_keeps F z first was.0 was.2)) (turns_keep F z was.0 then was.3.0 was.3.1)
+
+  then_inv : Invariant F z then
+  then_inv = moves_keep F z was.0 then (step was.3.0 here) (moves_keep F z first was.0 (off_moves F z first was.0 was.2) first_inv)
+
+  wired_on : (t : State) → Reaches (Wiring F z) then t → Wired F z s t
+  wired_on t more = after_refusal {u = first} {v = was.0} {w = then} first_wiring was.2 was.3.0 was.3.1 more
+
+  unlinked : AreUnlinked (Some (hand p [])) then
+  unlinked = turn_unlinked F z (Some (hand p [])) was.0 then was.3.0 was.3.1 (off_unlinked F z (Some (hand p [])) first was.0 was.2 due.unlinked)
+
+  settled_still : (b : NodeId) → settled_in new.round (at new.rows (change b)) ≡ settled_in mid.round (at mid.rows (change b))
+  settled_still b = change_settled arena mid new (rows_keep arena mid new rows) round (change b)
+
+  -- the reader is needed still, and wasn't put back
+  module _ (still : Needed new.graph p) (same : at new.rows p ≡ at mid.rows p) where
+    held_still : hand_now mid new held ≡ held
+    held_still = ap (λ (b : Bool). cond b held (Some (hand p []))) (still_same mid new p same ∙ (decides_needed new.graph in_step p).1 still)
+
+    pub due_again : IsDue F z then arena new counts p q rest
+    due_again = record {
+      holds = then_inv;
+      stands = subst (λ (h : Option Hand). Stands arena new counts h then) held_still was.4;
+      depends = still_depends F s then p q keeps due.depends;
+      confirmed = still_confirmed s then p q keeps due.confirmed;
+      gate = λ r b row scope among more. settled_still b
+          ∙ gate_ran r b row scope among (subst (λ (x : Option Progress). HasMore (stage_in x)) same more);
+      unlinked = unlinked;
+    }
+
+    pub linked_again : (last : Work) → Links arena new last p q
+        → (t : State) × Wired F z s t × Stands arena last counts (Some (hand p rest)) t × AreUnlinked (Some (hand p [])) t
+    linked_again last links = let a = links F z then counts rest due_again in (a.0, wired_on a.0 a.1, a.2, a.3)
+
+    pub refused_again : (last : Work) (e : Refused) → IsLevelled new last → RefusedBy last p q e
+        → (t : State) × Wired F z s t × Stands arena last counts held t × TellsWhy F t last held e
+    refused_again last e k why = (
+      _,
+      wired_on _ (low_wiring F z then arena new last counts held due_again.stands k),
+      low_stands F z then arena new last counts held due_again.stands k,
+      by_link ((due_again.stands.needed p).1 still) due_again.depends (low_confirmed then _ p q due_again.confirmed) why,
+    )
+
+  -- it isn't needed any more, or waits for its gate, and leaves the worklist
+  module _ (gone : is_still mid new p ≡ false) where
+    at_hand : Stands arena new counts (Some (hand p [])) then
+    at_hand = subst (λ (b : Bool). Stands arena new counts (cond b held (Some (hand p []))) then) gone was.4
+
+    owes_nothing : then.owed p ≡ []
+    owes_nothing = at_hand.owed p ∙ at_same p [] nothing
+
+    left : Finish then p → (t : State) × Wired F z s t × Stands arena new counts None t × AreUnlinked None t
+    left leaves = (
+      finished then p,
+      wired_on (finished then p) (step (finish leaves refl, tt) here),
+      record {
+        graph = at_hand.graph;
+        out = at_hand.out;
+        last = at_hand.last;
+        never = at_hand.never;
+        stale = at_hand.stale;
+        links = at_hand.links;
+        root = at_hand.root;
+        needed = at_hand.needed;
+        height = at_hand.height;
+        heap = at_hand.heap;
+        settled = at_hand.settled;
+        stage = at_hand.stage;
+        owed = λ a. at_hand.owed a ∙ nothing_at p a;
+        todo = λ a t. elim (same_or_other p a) [
+          | inl e ↦ absurd (
+              let f = at_same p false then.todo in
+              let t' : at_point p false then.todo p ≡ true = subst (λ (x : Point). at_point p false then.todo x ≡ true) (sym e) t in
+              cc)
+          | inr ne ↦ elim (at_hand.todo a (sym (at_other p false then.todo a ne) ∙ t)) [ inl k ↦ inl k | inr k ↦ absurd (ne (sym k)) ]
+        ];
+        strict = at_hand.strict;
+        died = at_hand.died;
+        ran = at_hand.ran;
+        counts = at_hand.counts;
+        given = at_hand.given;
+      },
+      finished_unlinked then p unlinked,
+    )
+
+  pub lost_need : (Needed new.graph p → ⊥) → (t : State) × Wired F z s t × Stands arena new counts None t × AreUnlinked None t
+  lost_need lost = left gone (record {
+    owed = owes_nothing gone;
+    bare = λ n e. lost (need_now n);
+    gated = λ r row n e. absurd (lost (need_now n));
+    static = λ r row n e. absurd (lost (need_now n));
+  })
+    where
+      gone : is_still mid new p ≡ false
+      gone = elim (bool_cases (is_still mid new p)) [
+        | inl t ↦ absurd (lost ((decides_needed new.graph in_step p).0 (still_needed mid new p t)))
+        | inr f ↦ f
+      ]
+
+      need_now : then.needed p ≡ true → Needed new.graph p
+      need_now n = (was.4.needed p).0 n
+
+  pub put_back : (back : IsPutBack arena mid new p) → (t : State) × Wired F z s t × Stands arena new counts None t × AreUnlinked None t
+  put_back back = left gone (record {
+    owed = owes_nothing gone;
+    bare = λ n e. let g = stage_is in cc;
+    gated = λ r row n e. (back.bind, scope r row, unsettled, in_heap r row n);
+    static = λ r row n e. absurd (let g = stage_is in cc);
+  })
+    where
+      gone : is_still mid new p ≡ false
+      gone = still_not mid new p (ap (λ (x : Option Progress). is_gated (stage_in x)) back.back.now ∙ gated_now (at mid.rows p) back.back.more)
+          (more_isnt_gated (stage_in (at mid.rows p)) back.back.more)
+
+      by_row : (x : Option Progress) → at mid.rows p ≡ x → HasMore (stage_in x) → then.stage p ≡ machine.Gated
+      by_row None e (inl h) = absurd (none-some code.Static h)
+      by_row None e (inr h) = absurd (none-some code.Full h)
+      by_row (Some k) e h = was.4.stage p (with_stage code.Gated k) (back.back.now ∙ ap (λ (x : Option Progress). option_map (with_stage code.Gated) x) e)
+
+      stage_is : then.stage p ≡ machine.Gated
+      stage_is = by_row (at mid.rows p) refl back.back.more
+
+      same_row : (r : Row) → then.graph.row p.node ≡ Some r → back.back.row ≡ r
+      same_row r row = one (sym back.back.is_row ∙ (sym (ap (λ (G : Graph). G.row p.node) was.4.graph) ∙ row))
+        where
+          one : ◌≡◌ {A = Option Row} (Some back.back.row) (Some r) → back.back.row ≡ r
+          one h = cc
+
+      scope : (r : Row) → then.graph.row p.node ≡ Some r → r.scope ≡ Some back.bind
+      scope r row = subst (λ (x : Row). x.scope ≡ Some back.bind) (same_row r row) back.back.is_scope
+
+      unsettled : then.settled (change back.bind) ≡ false
+      unsettled = was.4.settled (change back.bind) ∙ (settled_still back.bind ∙ back.unsettled)
+
+      reads : (r : Row) → then.graph.row p.node ≡ Some r → then.needed p ≡ true → Reads new.graph.links p (change back.bind)
+      reads r row n =
+          let all = then_inv.rows.links p (change back.bind) n in
+          let none : count (change back.bind) (then.owed p) ≡ 0 = ap (count (change back.bind)) (owes_nothing gone) in
+          let plan : count (change back.bind) (planned then p) ≡ count (change back.bind) (gate_of r.scope) =
+          ap (λ (x : Option Row). count (change back.bind) (plan_at then.graph then.out then.died p x (then.stage p))) row
+          ∙ ap (λ (x : machine.Stage). count (change back.bind) (live_plan then.graph then.out p r x)) stage_is in
+          let once = gate_once back.bind r.scope (scope r row) in
+          let links = was.4.links p (change back.bind) in
+          omega (arith, all, none, plan, once, links)
+
+      in_heap : (r : Row) → then.graph.row p.node ≡ Some r → then.needed p ≡ true → then.heap (change back.bind) ≡ true
+      in_heap r row n = was.4.heap (change back.bind) ∙ back.back.waits ((was.4.needed p).0 n) (reads r row n)
+
+  -- one way or the other
+  pub left_hand : (IsStill mid new p → ⊥) → (t : State) × Wired F z s t × Stands arena new counts None t × AreUnlinked None t
+  left_hand lost = elim (rows p spared) [
+    | inl e ↦ lost_need (λ n. lost (n, λ g. ap stage_in (sym e) ∙ g))
+    | inr b ↦ put_back b
+  ]
+
+few_of : (f : Point → Bool) (points : List Point) → number_of f points ≤ length points
+few_of f [] = omega arith
+few_of f (p ∷ ps) = by (f p) refl (few_of f ps)
+  where
+    by : (b : Bool) → f p ≡ b → number_of f ps ≤ length ps → number_of f (p ∷ ps) ≤ length (p ∷ ps)
+    by true e r = rw e (omega (arith, r))
+    by false e r = rw e (omega (arith, r))
+
+unneeded_few : (g : NecessaryPart) (points : List Point) → unneeded g points ≤ length points
+unfolding unneeded
+unneeded_few g points = few_of (λ (p : Point). not (is_needed g p)) points
+
+-- what is left to wire where refusals become final
+pub turned_grows : (old mid new : Work) → mid.strict ≡ old.strict → mid.todo.items ≡ old.todo.items → old.strict ≡ false → new.strict ≡ true
+    → new.todo.items ≡ mid.todo.items → Grows old new
+turned_grows old mid new same todo weak strict listed points covers =
+    let few = unneeded_few new.graph points in
+    let a = ap length (listed ∙ todo) in
+    rw (strict, weak) (omega (arith, few, a))
+
+-- other heights spare the same points, and leave who is needed
+pub levelled_spared : (arena : Arena) (old new : Work) → IsLevelled old new → (p : Point) → IsSpared arena old p → IsSpared arena new p
+levelled_spared arena old new l p spared e full r row sub =
+    ap (λ (q : ℕ). settled_in q (at new.rows (change p.node))) l.round.round ∙ (ap (settled_in old.round) (l.rows (change p.node))
+    ∙ spared e (ap stage_in (sym (l.rows p)) ∙ full) r row sub)
+
+pub levelled_need : (old new : Work) → IsLevelled old new → (p : Point) → Needed old.graph p → Needed new.graph p
+levelled_need old new l p n = needed_more old.graph new.graph (λ a r. let e = l.roots a in omega (arith, e, r)) (λ a b x. let e = l.links a b in omega (arith, e, x)) p n
+
+-- a link was refused that may be tried again, and what wasn't confirmed is off
+pub record IsOffNow (arena : Arena) (old mid new : Work) (p : Point) : Type 0 where
+  pub levelled : IsLevelled old mid
+  pub weak : old.strict ≡ false
+  pub need : Needed mid.graph p
+  pub spared : IsSpared arena mid p
+  pub off : TakesOff arena mid new
+  pub step : IsInStep new.graph
+  pub rows : RowsSpared arena mid new
+  pub round : new.round ≡ mid.round
+  pub places : KeepsPlaces old new
+  pub grows : Grows old new
+
+pub is_off_now : (arena : Arena) (old mid new : Work) (p : Point) → IsLevelled old mid → mid.strict ≡ old.strict → mid.strict ≡ false
+    → Needed old.graph p → IsSpared arena old p → KeepsPlaces old mid → TakesOff arena mid new → IsInStep new.graph → RowsSpared arena mid new
+    → KeepsPlaces mid new → new.strict ≡ true → new ≡ record mid { graph = new.graph; rows = new.rows; strict = new.strict } → IsOffNow arena old mid new p
+is_off_now arena old mid new p l same weak need spared first off in_step rows places strict rest = record {
+  levelled = l;
+  weak = sym same ∙ weak;
+  need = levelled_need old mid l p need;
+  spared = levelled_spared arena old mid l p spared;
+  off = off;
+  step = in_step;
+  rows = rows;
+  round = places.round;
+  places = places_then old mid new first places;
+  grows = turned_grows old mid new same l.todo (sym same ∙ weak) strict (ap (λ (w : Work). w.todo.items) rest);
+}

@@ -1,0 +1,339 @@
+-- What is seen of points by their rows is what the state shows.
+use Rattle.std.proofs.Common.{◌≡◌, inl, inr, ℕ, Bool, true, false, List, [], ◌∷◌, map, Option, None, Some, refl, sym, ap, subst, ◌∙◌}
+use Rattle.std.specs.Prelude.{is_some, IsSome, slice_index_or, ◌==◌, ◌&&◌, if◌then◌else◌}
+use Rattle.std.proofs.lemmas.Option.{none-some}
+use Rattle.inc_value.specs.declared.node.NodeId.{NodeId}
+use Rattle.inc_value.specs.declared.node.Part.TheVariants.{Main, Change}
+use Rattle.inc_value.specs.declared.node.Point.{Point}
+use Rattle.inc_value.specs.declared.outcome.Outcome.{Outcome}
+use Rattle.inc_value.specs.declared.outcome.Outcome.TheVariants.{Val, Invalid}
+use Rattle.inc_value.specs.declared.value.Value.{Value}
+use Rattle.inc_value.specs.Choice.{Among, and_then}
+use Rattle.inc_terms.specs.declared.def.Def as declared
+use Rattle.inc_terms.specs.declared.def.Def.TheVariants as form
+use Rattle.inc_terms.specs.Code.{def_of}
+use Rattle.inc_terms.specs.Depend.{Depends, fixed, right, main, change, subject_of, fixed_reads, right_of, at_most_one}
+use Rattle.inc_terms.specs.Evaluate.{Gathered, Unknown, SomeInvalid, Values, joined, gathered, with_value, NodeGives}
+use Rattle.inc_terms.specs.Evaluate.{Stands as StandsIn}
+use Rattle.inc_terms.specs.Graph.{Graph, Row, Def, kids}
+use Rattle.inc_terms.specs.Local.{shown, shown_of, by_sight, see_right, own_right, own, Exact, HasRun}
+use Rattle.inc_terms.specs.Term.{Functions, refs}
+use Rattle.point_map.specs.Rows.{Rows, at}
+use Rattle.node_arena.specs.declared.arena.Entry.{Entry}
+use Rattle.node_arena.specs.Arena.{Arena, row_at, row_of}
+use Rattle.wiring.specs.Graph.{graph_at}
+use Rattle.inc_terms.specs.Work.{taken_by}
+use Rattle.stabilize_round.specs.Invariant.{Invariant}
+use Rattle.stabilize_round.specs.Laws as law
+use Rattle.stabilize_round.specs.Moves.{Quiet, IsLeast, Calls}
+use Rattle.stabilize_round.specs.State.{State, Start, Call}
+use Rattle.stabilize_round.proofs.Ready.{ready, own_among}
+use Rattle.stabilize_round.specs.Calling as why
+use Rattle.stabilize_round.specs.Calling.{Reason, other, made_stale}
+use Rattle.node_outcomes.specs.Computing.{IsForced, IsForcedBy, CallsSeen, KeepsAnswers, LooksAtSeen, seen, seen_of, seen_together, has_part}
+use Rattle.wiring.specs.Kept.{IsKept}
+use Rattle.node_outcomes.specs.Row.{is_never, never_in, settled_in, passes_in, outcome_in}
+use Rattle.wiring.specs.Stands.{Stands, Counts}
+use Rattle.node_outcomes.specs.declared.row.Progress.{Progress}
+use Rattle.wiring.specs.declared.work.Work.{Work}
+
+-- two tests are passed, or one of two
+and_apart : (a b : Bool) → (a && b) ≡ true → (a ≡ true) × (b ≡ true)
+and_apart true b h = (refl, h)
+and_apart false b h = absurd (cc)
+
+and_both : (a b : Bool) → a ≡ true → b ≡ true → (a && b) ≡ true
+and_both true b a_is b_is = b_is
+and_both false b a_is b_is = absurd (cc)
+
+-- one of the nodes that force, and what one forces
+one_of_forced : (round : ℕ) (rows : Rows Progress) (ns : List NodeId) → IsForcedBy round rows ns
+    → (m : NodeId) × Among m ns × (passes_in round (at rows (main m)) ≡ true)
+one_of_forced round rows [] h = absurd (cc)
+one_of_forced round rows (n ∷ ns) h = by_test (passes_in round (at rows (main n))) refl (λ later. one_of_forced round rows ns later)
+  where
+    by_test : (b : Bool) → passes_in round (at rows (main n)) ≡ b
+        → (IsForcedBy round rows ns → (m : NodeId) × Among m ns × (passes_in round (at rows (main m)) ≡ true))
+        → (m : NodeId) × Among m (n ∷ ns) × (passes_in round (at rows (main m)) ≡ true)
+    by_test true is later = (n, inl refl, is)
+    by_test false is later = let k = later (rw is at h) in (k.0, inr k.1, k.2)
+
+one_forces : (round : ℕ) (rows : Rows Progress) (ns : List NodeId) (m : NodeId) → Among m ns → passes_in round (at rows (main m)) ≡ true
+    → IsForcedBy round rows ns
+one_forces round rows [] m a h = absurd a
+one_forces round rows (n ∷ ns) m (inl e) h =
+    let here : passes_in round (at rows (main n)) ≡ true = subst (λ (x : NodeId). passes_in round (at rows (main x)) ≡ true) e h in rw here refl
+one_forces round rows (n ∷ ns) m (inr a) h = by_test (passes_in round (at rows (main n))) refl (one_forces round rows ns m a h)
+  where
+    by_test : (b : Bool) → passes_in round (at rows (main n)) ≡ b → IsForcedBy round rows ns → IsForcedBy round rows (n ∷ ns)
+    by_test true is later = rw is refl
+    by_test false is later = rw is later
+
+some_def : (e : Entry) (b : Bool) (r : Row) → ◌≡◌ {A = Option Row} (if b then Some (row_of e.row) else None) (Some r)
+    → (d : declared.Def) × (r.def ≡ def_of d)
+some_def e true r h = let same : row_of e.row ≡ r = cc in (e.row.def, sym (ap (λ (x : Row). x.def) same))
+some_def e false r h = absurd (cc)
+
+entry_def : (x : Option Entry) (gen : ℕ) (r : Row) → and_then x (λ (e : Entry). if e.gen_ == gen then Some (row_of e.row) else None) ≡ Some r
+    → (d : declared.Def) × (r.def ≡ def_of d)
+entry_def None gen r h = absurd (cc)
+entry_def (Some e) gen r h = some_def e (e.gen_ == gen) r h
+
+-- a live node is of one of today's forms
+pub code_def : (arena : Arena) (n : NodeId) (r : Row) → row_at arena n ≡ Some r → (d : declared.Def) × (r.def ≡ def_of d)
+code_def arena n r h = entry_def (slice_index_or arena.slots n.slot None) n.gen_ r h
+
+joined_known : (x : Option Outcome) (g : Gathered) (o : Outcome) → x ≡ Some o → (g ≡ Unknown → ⊥) → joined x g ≡ Unknown → ⊥
+joined_known None g o e h u = cc
+joined_known (Some Invalid) Unknown o e h u = h refl
+joined_known (Some Invalid) SomeInvalid o e h u = cc
+joined_known (Some Invalid) (Values vs) o e h u = cc
+joined_known (Some (Val v)) Unknown o e h u = h refl
+joined_known (Some (Val v)) SomeInvalid o e h u = cc
+joined_known (Some (Val v)) (Values vs) o e h u = cc
+
+-- where something is seen of each node, it is known what they show together
+gathered_known : (see : Point → Option Outcome) (ns : List NodeId) → ((n : NodeId) → Among (main n) (map main ns) → (o : Outcome) × (see (main n) ≡ Some o))
+    → gathered (by_sight see) (refs ns) ≡ Unknown → ⊥
+gathered_known see [] h u = cc
+gathered_known see (n ∷ ns) h u = let e = h n (inl refl) in
+    joined_known (see (main n)) (gathered (by_sight see) (refs ns)) e.0 e.1 (gathered_known see ns (λ m a. h m (inr a))) u
+
+-- ---- right sides
+
+-- the same is seen of a right side
+same_right : (see see' : Point → Option Outcome) → ((m : NodeId) → see (main m) ≡ see' (main m)) → (x : Option NodeId) → see_right see x ≡ see_right see' x
+same_right see see' mains None = refl
+same_right see see' mains (Some m) = mains m
+
+chosen_same : (G : Graph) (see see' : Point → Option Outcome) (n : NodeId) (def : Def) → ((m : NodeId) → see (main m) ≡ see' (main m)) → (x : Option Outcome)
+    → with_value x (λ (v : Value). see_right see (right_of G n def (Val v))) ≡ with_value x (λ (v : Value). see_right see' (right_of G n def (Val v)))
+chosen_same G see see' n def mains None = refl
+chosen_same G see see' n def mains (Some Invalid) = refl
+chosen_same G see see' n def mains (Some (Val v)) = same_right see see' mains (right_of G n def (Val v))
+
+own_right_same : (G : Graph) (see see' : Point → Option Outcome) (n : NodeId) (def : Def) → ((m : NodeId) → see (main m) ≡ see' (main m))
+    → see (change n) ≡ see' (change n) → own_right G see n def ≡ own_right G see' n def
+own_right_same G see see' n def mains own_change =
+    ap (λ (x : Option Outcome). with_value x (λ (v : Value). see_right see (right_of G n def (Val v)))) own_change
+    ∙ chosen_same G see see' n def mains (see' (change n))
+
+-- each live node has a main
+main_there : (x : Option Row) → has_part x Main ≡ is_some x
+main_there None = refl
+main_there (Some r) = refl
+
+known : (x : Option Outcome) (o : Outcome) → x ≡ Some o → IsSome x
+known None o e = absurd (none-some o e)
+known (Some x) o e = refl
+
+some_row : (a b : Row) → ◌≡◌ {A = Option Row} (Some a) (Some b) → a ≡ b
+some_row a b e = cc
+
+some_outcome : (a b : Outcome) → ◌≡◌ {A = Option Outcome} (Some a) (Some b) → a ≡ b
+some_outcome a b e = cc
+
+module _ (s : State) (arena : Arena) (work : Work) (counts : Counts) (kept : IsKept arena work) (st : Stands arena work counts None s) where
+  pub row_is : (n : NodeId) → s.graph.row n ≡ row_at arena n
+  row_is n = ap (λ (G : Graph). G.row n) st.graph
+
+  by_row : (p : Point) (x : Option Progress) (y : Option Row) → at work.rows p ≡ x → is_some x ≡ is_some y → shown_of y (s.out p) ≡ seen_of x
+  by_row p None None is e = refl
+  by_row p (Some k) (Some r) is e = st.out p k is
+  by_row p None (Some r) is e = absurd (cc)
+  by_row p (Some k) None is e = absurd (cc)
+
+  pub sees : (n : NodeId) → shown s.graph s.out (main n) ≡ seen work.rows (main n)
+  sees n = ap (λ (x : Option Row). shown_of x (s.out (main n))) (row_is n)
+      ∙ by_row (main n) (at work.rows (main n)) (row_at arena n) refl (kept.rows (main n) ∙ main_there (row_at arena n))
+
+  seen_known : (n : NodeId) → (o : Outcome) × (shown s.graph s.out (main n) ≡ Some o) → IsSome (seen work.rows (main n))
+  seen_known n k = known (seen work.rows (main n)) k.0 (sym (sees n) ∙ k.1)
+
+  -- a node of two points has a row of its change
+  change_row : (n : NodeId) (r : Row) → row_at arena n ≡ Some r → IsSome (subject_of r.def) → is_some (at work.rows (change n)) ≡ true
+  change_row n r live two = kept.rows (change n) ∙ (ap (λ (x : Option Row). has_part x Change) live ∙ two)
+
+  sees_change : (n : NodeId) (r : Row) → row_at arena n ≡ Some r → IsSome (subject_of r.def) → shown s.graph s.out (change n) ≡ seen work.rows (change n)
+  sees_change n r live two = ap (λ (x : Option Row). shown_of x (s.out (change n))) (row_is n)
+      ∙ by_row (change n) (at work.rows (change n)) (row_at arena n) refl (change_row n r live two ∙ sym (ap is_some live))
+
+  out_of_row : (p : Point) (x : Option Progress) → at work.rows p ≡ x → is_some x ≡ true → s.out p ≡ outcome_in x
+  out_of_row p None is e = absurd (cc)
+  out_of_row p (Some k) is e = st.out p k is
+
+  -- what a node's change last ran with
+  pub change_is : (n : NodeId) (r : Row) → row_at arena n ≡ Some r → IsSome (subject_of r.def) → s.out (change n) ≡ outcome_in (at work.rows (change n))
+  change_is n r live two = out_of_row (change n) (at work.rows (change n)) refl (change_row n r live two)
+
+  pub sees_together : (ns : List NodeId) → gathered (by_sight (shown s.graph s.out)) (refs ns) ≡ seen_together work.rows ns
+  sees_together [] = refl
+  sees_together (n ∷ ns) = let e = sees n in let rest = sees_together ns in rw (e, rest) refl
+
+  by_form : (F : Functions) (n : NodeId) (d : declared.Def)
+      → (IsSome (subject_of (def_of d)) → shown s.graph s.out (change n) ≡ seen work.rows (change n))
+      → own F (graph_at arena work) (shown s.graph s.out) n (def_of d) ≡ own F (graph_at arena work) (seen work.rows) n (def_of d)
+  by_form F n (form.Const v) own_change = refl
+  by_form F n (form.Var v) own_change = refl
+  by_form F n (form.Map f ns) own_change = let e = sees_together ns in rw e refl
+  by_form F n (form.Fold f v ns) own_change = let e = sees_together ns in rw e refl
+  by_form F n (form.If t a b) own_change =
+      own_right_same (graph_at arena work) (shown s.graph s.out) (seen work.rows) n (def_of (form.If t a b)) sees (own_change refl)
+  by_form F n (form.Join k) own_change =
+      own_right_same (graph_at arena work) (shown s.graph s.out) (seen work.rows) n (def_of (form.Join k)) sees (own_change refl)
+  by_form F n (form.Bind l f caps) own_change =
+      own_right_same (graph_at arena work) (shown s.graph s.out) (seen work.rows) n (def_of (form.Bind l f caps)) sees (own_change refl)
+
+  -- a live node's own function sees the same in the state
+  pub own_sees : (F : Functions) (n : NodeId) (r : Row) → row_at arena n ≡ Some r
+      → own F s.graph (shown s.graph s.out) n r.def ≡ own F (graph_at arena work) (seen work.rows) n r.def
+  own_sees F n r live =
+      let d = code_def arena n r live in
+      ap (λ (G : Graph). own F G (shown s.graph s.out) n r.def) st.graph
+      ∙ subst (λ (x : Def). (IsSome (subject_of x) → shown s.graph s.out (change n) ≡ seen work.rows (change n))
+      → own F (graph_at arena work) (shown s.graph s.out) n x ≡ own F (graph_at arena work) (seen work.rows) n x) (sym d.1) (by_form F n d.0) (sees_change n r live)
+
+  -- what a call gave is kept
+  pub keeps_answers : (F : Functions) (z : Start) → Invariant F z s → KeepsAnswers F (graph_at arena work) work.rows
+  keeps_answers F z inv n r ns k c live def row last = inv.accounts.answers n r ns c (row_is n ∙ live)
+      (subst (λ (G : Graph). taken_by G n r.def ≡ Some ns) (sym st.graph) def) (st.last n k row ∙ last)
+
+  by_exact : (F : Functions) (m : NodeId) → Exact F s.graph s.out (main m) → (x : Option Row) → s.graph.row m ≡ x
+      → (o : Outcome) × (shown s.graph s.out (main m) ≡ Some o)
+  by_exact F m exact None e = (Invalid, ap (λ (x : Option Row). shown_of x (s.out (main m))) e)
+  by_exact F m exact (Some r) e = let k = (exact r e).1 in (k.0, k.1)
+
+  module _ (F : Functions) (z : Start) (inv : Invariant F z s) (quiet : Quiet s) (p : Point) (taken : IsLeast s p) (r : Row)
+      (live : row_at arena p.node ≡ Some r) where
+    abbrev made : law.IsReady F s p
+    made = ready F z s inv quiet p taken
+
+    is_row : s.graph.row p.node ≡ Some r
+    is_row = row_is p.node ∙ live
+
+    stands_now : StandsIn F s.graph r.scope
+    stands_now = subst (λ (x : Row). StandsIn F s.graph x.scope) (some_row made.row r (sym made.is_row ∙ is_row)) made.stands
+
+    -- what a least point reads is exact
+    pub below : (q : Point) → Depends F s.graph s.died p q → Exact F s.graph s.out q
+    below q d = made.exact q ((made.links q).1 d)
+
+    pub reads_exact : (q : Point) → Among q (fixed_reads s.graph p.node r.def p.part) → Exact F s.graph s.out q
+    reads_exact q among = below q (fixed {r = r} is_row stands_now among)
+
+    -- so something is seen of a main that it reads
+    pub reads_known : (m : NodeId) → Among (main m) (fixed_reads s.graph p.node r.def p.part) → (o : Outcome) × (shown s.graph s.out (main m) ≡ Some o)
+    reads_known m among = by_exact F m (reads_exact (main m) among) (s.graph.row m) refl
+
+    -- and of the right side that was chosen
+    pub right_known : p.part ≡ Main → (k m : NodeId) (o : Outcome) → subject_of r.def ≡ Some k → NodeGives F s.graph k o
+        → right_of s.graph p.node r.def o ≡ Some m → (x : Outcome) × (shown s.graph s.out (main m) ≡ Some x)
+    right_known part k m o sub gives chosen = by_exact F m (below (main m) (right {r = r} {s = k} {o = o} {m = m} is_row stands_now part sub gives
+        (subst (λ (x : Option NodeId). Among m (at_most_one x)) (sym chosen) (inl refl)) refl)) (s.graph.row m) refl
+
+  -- something is seen of all that a least main looks at
+  module _ (F : Functions) (z : Start) (inv : Invariant F z s) (quiet : Quiet s) (n : NodeId) (taken : IsLeast s (main n)) (r : Row)
+      (live : row_at arena n ≡ Some r) where
+    of_kids : (d : declared.Def) → ((m : NodeId) → Among (main m) (fixed_reads s.graph n (def_of d) Main) → (o : Outcome) × (shown s.graph s.out (main m) ≡ Some o))
+        → gathered (by_sight (shown s.graph s.out)) (refs (kids (def_of d))) ≡ Unknown → ⊥
+    of_kids (form.Const v) h u = cc
+    of_kids (form.Var v) h u = cc
+    of_kids (form.Map f ns) h u = gathered_known (shown s.graph s.out) ns h u
+    of_kids (form.Fold f v ns) h u = gathered_known (shown s.graph s.out) ns h u
+    of_kids (form.If t a b) h u = cc
+    of_kids (form.Join k) h u = cc
+    of_kids (form.Bind l f caps) h u = cc
+
+    kids_known : seen_together work.rows (kids r.def) ≡ Unknown → ⊥
+    kids_known u =
+        let d = code_def arena n r live in
+        subst (λ (x : Def). ((m : NodeId) → Among (main m) (fixed_reads s.graph n x Main) → (o : Outcome) × (shown s.graph s.out (main m) ≡ Some o))
+        → gathered (by_sight (shown s.graph s.out)) (refs (kids x)) ≡ Unknown → ⊥) (sym d.1) (of_kids d.0)
+        (reads_known F z inv quiet (main n) taken r live) (sees_together (kids r.def) ∙ u)
+
+    ran : (k : NodeId) → subject_of r.def ≡ Some k → HasRun F s.graph s.out n r.def k
+    ran k sub = (reads_exact F z inv quiet (main n) taken r live (change n) (own_among s.graph n r.def Main k refl sub) r (row_is n ∙ live)).1 k sub
+
+    subject_is : (x : Option NodeId) → subject_of r.def ≡ x → IsSome x → (k : NodeId) × (subject_of r.def ≡ Some k)
+    subject_is None e two = absurd (cc)
+    subject_is (Some k) e two = (k, e)
+
+    choice : IsSome (subject_of r.def) → IsSome (outcome_in (at work.rows (change n)))
+    choice two =
+        let k = subject_is (subject_of r.def) refl two in
+        let h = ran k.0 k.1 in
+        known (outcome_in (at work.rows (change n))) h.0 (sym (change_is n r live two) ∙ h.1)
+
+    right_seen : (m : NodeId) (o : Outcome) → outcome_in (at work.rows (change n)) ≡ Some o → right_of (graph_at arena work) n r.def o ≡ Some m
+        → IsSome (seen work.rows (main m))
+    right_seen m o is chosen =
+        let d = code_def arena n r live in
+        let two = has_subject d.0 (subst (λ (x : Def). right_of (graph_at arena work) n x o ≡ Some m) d.1 chosen) in
+        let two' : IsSome (subject_of r.def) = subst (λ (x : Def). IsSome (subject_of x)) (sym d.1) two in
+        let k = subject_is (subject_of r.def) refl two' in
+        let h = ran k.0 k.1 in
+        let gives = subst (λ (x : Outcome). NodeGives F s.graph k.0 x)
+        (some_outcome h.0 o (sym h.1 ∙ (change_is n r live two' ∙ is))) h.2 in
+        seen_known m (right_known F z inv quiet (main n) taken r live refl k.0 m o k.1 gives
+        (subst (λ (G : Graph). right_of G n r.def o ≡ Some m) (sym st.graph) chosen))
+      where
+        has_subject : (d : declared.Def) → right_of (graph_at arena work) n (def_of d) o ≡ Some m → IsSome (subject_of (def_of d))
+        has_subject (form.Const v) e = absurd (none-some m e)
+        has_subject (form.Var v) e = absurd (none-some m e)
+        has_subject (form.Map f ns) e = absurd (none-some m e)
+        has_subject (form.Fold f v ns) e = absurd (none-some m e)
+        has_subject (form.If t a b) e = refl
+        has_subject (form.Join k) e = refl
+        has_subject (form.Bind l f caps) e = refl
+
+    pub looks : LooksAtSeen work.rows (graph_at arena work) n r.def
+    looks = record { kids = kids_known; choice = choice; right = right_seen }
+
+  -- who is forced by rows is forced in the state
+  settled_never : (m : NodeId) (x : Option Progress) → at work.rows (main m) ≡ x → never_in x ≡ true → s.never m ≡ true
+  settled_never m None e h = absurd (cc)
+  settled_never m (Some k) e h = st.never m k e ∙ h
+
+  never_settled : (m : NodeId) (x : Option Progress) → at work.rows (main m) ≡ x → s.never m ≡ true → settled_in work.round x ≡ true
+      → passes_in work.round x ≡ true
+  never_settled m None e never settled = settled
+  never_settled m (Some k) e never settled = and_both (is_never k.cutoff) (k.settled == work.round) (sym (st.never m k e) ∙ never) settled
+
+  forced : (ns : List NodeId) → IsForcedBy work.round work.rows ns → IsForced s.never s.settled ns
+  forced ns f =
+      let a = one_of_forced work.round work.rows ns f in
+      let b = and_apart (never_in (at work.rows (main a.0))) (settled_in work.round (at work.rows (main a.0))) a.2 in
+      (a.0, a.1, settled_never a.0 (at work.rows (main a.0)) refl b.0, st.settled (main a.0) ∙ b.1)
+
+  forced_seen : (ns : List NodeId) → IsForced s.never s.settled ns → IsForcedBy work.round work.rows ns
+  forced_seen ns f = one_forces work.round work.rows ns f.0 f.1
+      (never_settled f.0 (at work.rows (main f.0)) refl f.2 (sym (st.settled (main f.0)) ∙ f.3))
+
+  -- a function was called on these values, isn't forced, and its node isn't marked: there is no reason to call it
+  no_reason : (n : NodeId) (ns : List NodeId) (values : List Value) → Reason s.last s.never s.settled s.stale n ns values → (c : Call) → s.last n ≡ Some c
+      → c.arguments ≡ values → (IsForced s.never s.settled ns → ⊥) → ⊥
+  no_reason n ns values (other differs) c is same free = differs c is same
+  no_reason n ns values (why.forced {kid} a never settled) c is same free = free (kid, a, never, settled)
+  no_reason n ns values (made_stale marked) c is same free = let x = st.stale n in absurd (cc)
+
+  -- a call that was seen is a call
+  pub calls_are : (F : Functions) (n : NodeId) (def : Def) (k : Progress) (last' : Option Call) (called : Bool)
+      → at work.rows (main n) ≡ Some k → CallsSeen F s.graph n work.round work.rows def k.last last' called → Calls F s n def last' called
+  calls_are F n def k last' false row c = (
+    c.0 ∙ sym (st.last n k row),
+    λ ns values e g.
+        let x = c.1 ns values e (sym (sees_together ns) ∙ g) in (x.0, st.last n k row ∙ x.1, x.2, λ f. no_reason n ns values f (x.0) (st.last n k row ∙ x.1) x.2 (λ a. x.3 (forced_seen ns a))),
+  )
+  calls_are F n def k last' true row (ns, values, result, takes, show, reason, is_last, answers) = (
+    ns,
+    values,
+    result,
+    takes,
+    sees_together ns ∙ show,
+    elim reason [
+      | inl differs ↦ other (λ c l a. differs c (sym (st.last n k row) ∙ l) a)
+      | inr f ↦ let a = forced ns f in why.forced {kid = a.0} a.1 a.2 a.3
+    ],
+    is_last,
+    answers,
+  )

@@ -1,0 +1,381 @@
+-- All that wasn't confirmed is taken off, and refusals become final.
+use Rattle.std.proofs.Common.{◌≡◌, ◌⊎◌, inl, inr, ℕ, zero, suc, ◌+◌, ◌<◌, true, false, List, [], ◌∷◌, length, Option, None, Some, refl, sym, ap, subst, ◌∙◌, arith}
+use Rattle.std.specs.Prelude.{is_some, option_map}
+use Rattle.std.specs.List.{slice_get}
+use Rattle.std.proofs.lemmas.Option.{none-some}
+use Rattle.inc_value.specs.declared.node.NodeId.{NodeId}
+use Rattle.inc_value.specs.declared.node.Part.TheVariants.{Main, Change}
+use Rattle.inc_value.specs.declared.node.Point.{Point}
+use Rattle.inc_value.specs.declared.outcome.Outcome.{Outcome}
+use Rattle.inc_value.specs.Choice.{Among}
+use Rattle.inc_terms.specs.Depend.{main, change, subject_of}
+use Rattle.inc_terms.specs.Graph.{Graph, Row, Def}
+use Rattle.inc_terms.specs.Plan.{targets}
+use Rattle.point_map.specs.Rows.{at, Holds}
+use Rattle.necessary_graph.specs.Part.{NecessaryPart, Needed, IsInStep}
+use Rattle.necessary_graph.proofs.Reaching.{read_needed}
+use Rattle.node_arena.specs.Arena.{Arena, row_at}
+use Rattle.wiring.specs.Graph.{graph_at}
+use Rattle.stabilize_round.specs.Invariant.{Strict}
+use Rattle.stabilize_round.specs.Machine as move
+use Rattle.stabilize_round.specs.State as machine
+use Rattle.stabilize_round.specs.State.{State}
+use Rattle.stabilize_round.specs.Steps.{TakingOff}
+use Rattle.stabilize_round.specs.Wire.{made_strict}
+use Rattle.stabilize_round.proofs.Machine.{moves_keep}
+use Rattle.stabilize_round.proofs.Steps.{off_moves, joined}
+use Rattle.node_outcomes.specs.Computing.{has_part}
+use Rattle.node_outcomes.specs.Row.{with_stage, stage_in, stage_of, outcome_in}
+use Rattle.node_outcomes.specs.declared.row.Progress.{Progress}
+use Rattle.node_outcomes.specs.declared.row.Stage.{Stage}
+use Rattle.node_outcomes.specs.declared.row.Stage.TheVariants as code
+use Rattle.wiring.specs.Kept.{IsKept}
+use Rattle.wiring.specs.Stands.{Stands, Hand, Counts}
+use Rattle.wiring.specs.Wiring.{OnlyLoses, GoesBack, IsPutBack, IsSpared, IsBehindGate, HasMore, TakesOne, TakesOff, IsConfirmedAt, KeepsPlaces, hand_now}
+use Rattle.wiring.specs.declared.work.Work.{Work}
+use Rattle.wiring.proofs.Flat.{no_targets}
+use Rattle.wiring.proofs.InHand.{KeepsSpared, gated_none, still_spared, hand_spared, same_hand, change_settled}
+use Rattle.wiring.proofs.TakingOne.{nothing_taken}
+
+-- ---- one after the other
+
+pub takes_then : (arena : Arena) (old mid new : Work) → KeepsSpared arena old mid → mid.round ≡ old.round → KeepsSpared arena mid new
+    → IsInStep mid.graph → IsInStep new.graph → ((p : Point) → Needed new.graph p → Needed mid.graph p)
+    → TakesOne arena old mid → TakesOne arena mid new → TakesOne arena old new
+takes_then arena old mid new keeps round then mid_step new_step less first next F z s counts held inv spared st =
+    let a = first F z s counts held inv spared st in
+    let b = next F z a.0 counts (hand_now old mid held) (moves_keep F z s a.0 (off_moves F z s a.0 a.1) inv)
+    (hand_spared arena old mid keeps round mid_step held spared) a.2 in (
+      b.0,
+      joined (TakingOff F z) s a.0 b.0 a.1 b.1,
+      subst (λ (h : Option Hand). Stands arena new counts h b.0) (same_hand arena old mid keeps round new then mid_step new_step less held spared) b.2,
+    )
+
+pub loses_none : (g : NecessaryPart) → OnlyLoses g g
+loses_none g = record { less = λ p n. n; links = λ p q. omega arith; heap = λ p h n. h }
+
+pub loses_then : (f g h : NecessaryPart) → OnlyLoses f g → OnlyLoses g h → OnlyLoses f h
+loses_then f g h a b = record {
+  less = λ p n. a.less p (b.less p n);
+  links = λ p q. let x = a.links p q in let y = b.links p q in omega (arith, x, y);
+  heap = λ p held n. b.heap p (a.heap p held (b.less p n)) n;
+}
+
+pub places_then : (old mid new : Work) → KeepsPlaces old mid → KeepsPlaces mid new → KeepsPlaces old new
+places_then old mid new a b = record { rows = λ p. b.rows p ∙ a.rows p; roots = λ p. b.roots p ∙ a.roots p; deaths = b.deaths ∙ a.deaths; round = b.round ∙ a.round }
+
+-- what was put back waits still, while links come off
+pub back_then : (arena : Arena) (old mid new : Work) (p : Point) (bind : NodeId) → GoesBack arena old mid p bind → at new.rows p ≡ at mid.rows p
+    → OnlyLoses mid.graph new.graph → GoesBack arena old new p bind
+back_then arena old mid new p bind g same loses = record {
+  row = g.row;
+  is_row = g.is_row;
+  is_scope = g.is_scope;
+  more = g.more;
+  now = same ∙ g.now;
+  waits = λ n reads. loses.heap (change bind) (g.waits (loses.less p n) (let f = loses.links p (change bind) in omega (arith, reads, f)))
+      (read_needed new.graph p (change bind) n reads);
+}
+
+-- what is put back after others
+pub then_back : (arena : Arena) (old mid new : Work) (p : Point) (bind : NodeId) → at mid.rows p ≡ at old.rows p → GoesBack arena mid new p bind
+    → GoesBack arena old new p bind
+then_back arena old mid new p bind same g = record {
+  row = g.row;
+  is_row = g.is_row;
+  is_scope = g.is_scope;
+  more = subst (λ (x : Option Progress). HasMore (stage_in x)) same g.more;
+  now = g.now ∙ ap (λ (x : Option Progress). option_map (with_stage code.Gated) x) same;
+  waits = g.waits;
+}
+
+-- it isn't put back twice
+pub not_back_twice : (arena : Arena) (old mid new : Work) (p : Point) (bind other : NodeId) → GoesBack arena old mid p bind
+    → GoesBack arena mid new p other → ⊥
+not_back_twice arena old mid new p bind other g h = gated_none (at old.rows p) (subst (λ (x : Option Progress). HasMore (stage_in x)) g.now h.more)
+
+-- ---- what holds while links are taken off
+
+-- so it is once the first nodes in scopes, and the first of two points, were looked at
+pub record AreTaken (arena : Arena) (old now : Work) (gates changes : ℕ) : Type 0 where
+  pub kept : IsKept arena now
+  pub places : KeepsPlaces old now
+  pub taken : TakesOne arena old now
+  pub loses : OnlyLoses old.graph now.graph
+  pub rows : (p : Point) → IsSpared arena old p → (at now.rows p ≡ at old.rows p) ⊎ IsPutBack arena old now p
+  pub behind : (i : ℕ) (n : NodeId) → i < gates → slice_get old.scoped.nodes i ≡ Some n → (p : Point) → p.node ≡ n → IsBehindGate arena now p
+  pub confirmed : (i : ℕ) (n : NodeId) → i < changes → slice_get old.pairs.nodes i ≡ Some n → IsConfirmedAt arena now n
+  pub rest : now ≡ record old { graph = now.graph; rows = now.rows }
+
+pub none_taken : (arena : Arena) (work : Work) → IsKept arena work → AreTaken arena work work 0 0
+none_taken arena work kept = record {
+  kept = kept;
+  places = record { rows = λ p. refl; roots = λ p. refl; deaths = refl; round = refl };
+  taken = nothing_taken arena work kept.step;
+  loses = loses_none work.graph;
+  rows = λ p s. inl refl;
+  behind = λ i n l. absurd (omega (arith, l));
+  confirmed = λ i n l. absurd (omega (arith, l));
+  rest = refl;
+}
+
+-- rows of what is spared are as they were, or it was put back
+abbrev pub RowsSpared : Arena → Work → Work → Type 0
+RowsSpared arena old new = (p : Point) → IsSpared arena old p → (at new.rows p ≡ at old.rows p) ⊎ IsPutBack arena old new p
+
+pub rows_keep : (arena : Arena) (old new : Work) → RowsSpared arena old new → KeepsSpared arena old new
+rows_keep arena old new rows p s = elim (rows p s) [ inl e ↦ inl e | inr b ↦ inr b.back.now ]
+
+last_or : (j i : ℕ) → j < i + 1 → (j < i) ⊎ (j ≡ i)
+last_or zero zero l = inr refl
+last_or zero (suc i) l = inl (omega arith)
+last_or (suc j) zero l = absurd (omega (arith, l))
+last_or (suc j) (suc i) l = elim (last_or j i (omega (arith, l))) [ inl x ↦ inl (omega (arith, x)) | inr x ↦ inr (ap suc x) ]
+
+-- the node at the place is this one
+one_there : (ns : List NodeId) (i j : ℕ) (n m : NodeId) → j ≡ i → slice_get ns i ≡ Some n → slice_get ns j ≡ Some m → n ≡ m
+one_there ns i j n m e at_i at_j = same (sym at_i ∙ (ap (slice_get ns) (sym e) ∙ at_j))
+  where
+    same : ◌≡◌ {A = Option NodeId} (Some n) (Some m) → n ≡ m
+    same h = cc
+
+-- one more was looked at
+module _ (arena : Arena) (old mid new : Work) (gates changes : ℕ) (so : AreTaken arena old mid gates changes) (kept : IsKept arena new)
+    (places : KeepsPlaces mid new) (taken : TakesOne arena mid new) (loses : OnlyLoses mid.graph new.graph) (rows : RowsSpared arena mid new)
+    (rest : new ≡ record mid { graph = new.graph; rows = new.rows }) where
+  keeps : KeepsSpared arena old mid
+  keeps = rows_keep arena old mid so.rows
+
+  taken_both : TakesOne arena old new
+  taken_both = takes_then arena old mid new keeps so.places.round (rows_keep arena mid new rows) so.kept.step kept.step loses.less so.taken taken
+
+  rows_both : RowsSpared arena old new
+  rows_both p s = elim (so.rows p s) [
+    | inl e ↦ elim (rows p (still_spared arena old mid keeps so.places.round p s)) [
+      | inl f ↦ inl (f ∙ e)
+      | inr b ↦ inr (record {
+        bind = b.bind;
+        back = then_back arena old mid new p b.bind e b.back;
+        unsettled = sym (change_settled arena old mid keeps so.places.round (change b.bind)) ∙ b.unsettled;
+      })
+    ]
+    | inr a ↦ elim (rows p (still_spared arena old mid keeps so.places.round p s)) [
+      | inl f ↦ inr (record { bind = a.bind; back = back_then arena old mid new p a.bind a.back f loses; unsettled = a.unsettled })
+      | inr b ↦ absurd (not_back_twice arena old mid new p a.bind b.bind a.back b.back)
+    ]
+  ]
+
+  rest_both : new ≡ record old { graph = new.graph; rows = new.rows }
+  rest_both = rest ∙ ap (λ (w : Work). record w { graph = new.graph; rows = new.rows }) so.rest
+
+  -- a node in a scope
+  pub more_behind : (n : NodeId) → slice_get old.scoped.nodes gates ≡ Some n → ((p : Point) → p.node ≡ n → IsBehindGate arena new p)
+      → ((p : Point) → IsBehindGate arena mid p → IsBehindGate arena new p) → changes ≡ 0 → AreTaken arena old new (gates + 1) changes
+  more_behind n there behind fewer none = record {
+    kept = kept;
+    places = places_then old mid new so.places places;
+    taken = taken_both;
+    loses = loses_then old.graph mid.graph new.graph so.loses loses;
+    rows = rows_both;
+    behind = λ i m l is p e. elim (last_or i gates l) [
+      | inl less ↦ fewer p (so.behind i m less is p e)
+      | inr same ↦ behind p (e ∙ sym (one_there old.scoped.nodes gates i n m same there is))
+    ];
+    confirmed = λ i m l. absurd (omega (arith, l, none));
+    rest = rest_both;
+  }
+
+  -- a node of two points
+  pub more_confirmed : (n : NodeId) → slice_get old.pairs.nodes changes ≡ Some n → IsConfirmedAt arena new n
+      → ((m : NodeId) → IsConfirmedAt arena mid m → IsConfirmedAt arena new m)
+      → ((p : Point) → IsBehindGate arena mid p → IsBehindGate arena new p) → AreTaken arena old new gates (changes + 1)
+  more_confirmed n there confirmed fewer behind = record {
+    kept = kept;
+    places = places_then old mid new so.places places;
+    taken = taken_both;
+    loses = loses_then old.graph mid.graph new.graph so.loses loses;
+    rows = rows_both;
+    behind = λ i m l is p e. behind p (so.behind i m l is p e);
+    confirmed = λ i m l is. elim (last_or i changes l) [
+      | inl less ↦ fewer m (so.confirmed i m less is)
+      | inr same ↦ subst (λ (x : NodeId). IsConfirmedAt arena new x) (one_there old.pairs.nodes changes i n m same there is) confirmed
+    ];
+    rest = rest_both;
+  }
+
+-- ---- refusals become final
+
+no_subject_no_right : (G : Graph) (n : NodeId) (def : Def) (x : Option Outcome) (p : Point) → Among p (targets G n def x) → subject_of def ≡ None → ⊥
+no_subject_no_right G n def x p among one = nothing (subst (λ (xs : List Point). Among p xs) (no_targets G n def x one) among)
+  where
+    nothing : Among p [] → ⊥
+    nothing h = h
+
+some_subject : (x : Option NodeId) → (x ≡ None → ⊥) → is_some x ≡ true
+some_subject None h = absurd (h refl)
+some_subject (Some m) h = refl
+
+among_place : (n : NodeId) (ns : List NodeId) → Among n ns → (i : ℕ) × (i < length ns) × (slice_get ns i ≡ Some n)
+among_place n [] a = absurd a
+among_place n (m ∷ ms) (inl e) = (0, omega arith, ap (λ (x : NodeId). Some x) (sym e))
+among_place n (m ∷ ms) (inr a) = let r = among_place n ms a in (suc r.0, omega (arith, r.1), r.2)
+
+stage_static : (x : Stage) → stage_of x ≡ machine.Static → x ≡ code.Static
+stage_static code.Bare e = absurd (cc)
+stage_static code.Gated e = absurd (cc)
+stage_static code.Static e = refl
+stage_static code.Full e = absurd (cc)
+
+stage_full : (x : Stage) → stage_of x ≡ machine.Full → x ≡ code.Full
+stage_full code.Bare e = absurd (cc)
+stage_full code.Gated e = absurd (cc)
+stage_full code.Static e = absurd (cc)
+stage_full code.Full e = refl
+
+module _ (arena : Arena) (old last new : Work) (gates changes : ℕ) (so : AreTaken arena old last gates changes) (all_gates : gates ≡ length old.scoped.nodes)
+    (all_changes : changes ≡ length old.pairs.nodes) (kept : IsKept arena old) (only : new ≡ record last { strict = true }) where
+  abbrev turned : Work
+  turned = record last { strict = true }
+
+  module _ (counts : Counts) (held : Option Hand) (t : State) (k : Stands arena last counts held t) where
+    turn : Stands arena turned counts held (made_strict t)
+    turn = record {
+      graph = k.graph;
+      out = k.out;
+      last = k.last;
+      never = k.never;
+      stale = k.stale;
+      links = k.links;
+      root = k.root;
+      needed = k.needed;
+      height = k.height;
+      heap = k.heap;
+      settled = k.settled;
+      stage = k.stage;
+      owed = k.owed;
+      todo = k.todo;
+      strict = refl;
+      died = k.died;
+      ran = k.ran;
+      counts = k.counts;
+      given = k.given;
+    }
+
+    node_row : (n : NodeId) (r : Row) → t.graph.row n ≡ Some r → row_at arena n ≡ Some r
+    node_row n r e = sym (ap (λ (G : Graph). G.row n) k.graph) ∙ e
+
+    -- a needed point of a live node has a row
+    live_there : (p : Point) (r : Row) → row_at arena p.node ≡ Some r → Needed last.graph p → Holds last.rows p
+    live_there p r row need = elim (so.kept.leaves p (so.kept.step.there p need)) [
+      | inl there ↦ there
+      | inr leaf ↦ absurd (none-some r (sym leaf.0 ∙ row))
+    ]
+
+    more_stage : (p : Point) (x : Option Progress) → at last.rows p ≡ x → is_some x ≡ true → (t.stage p ≡ machine.Static) ⊎ (t.stage p ≡ machine.Full)
+        → HasMore (stage_in x)
+    more_stage p None e i h = absurd (cc)
+    more_stage p (Some y) e i (inl h) = inl (ap (λ (x : Stage). Some x) (stage_static y.stage (sym (k.stage p y e) ∙ h)))
+    more_stage p (Some y) e i (inr h) = inr (ap (λ (x : Stage). Some x) (stage_full y.stage (sym (k.stage p y e) ∙ h)))
+
+    gated : (p : Point) (r : Row) (b : NodeId) → row_at arena p.node ≡ Some r → r.scope ≡ Some b → Needed last.graph p
+        → (t.stage p ≡ machine.Static) ⊎ (t.stage p ≡ machine.Full) → t.settled (change b) ≡ true
+    gated p r b row scope need stage =
+        let place = among_place p.node old.scoped.nodes (kept.scoped p.node r row (ap is_some scope)) in
+        let below : place.0 < gates = let l = place.1 in omega (arith, l, all_gates) in
+        k.settled (change b) ∙ so.behind place.0 p.node below place.2 p refl r b row scope need
+        (more_stage p (at last.rows p) refl (live_there p r row need) stage)
+
+    full_stage : (n : NodeId) → t.stage (main n) ≡ machine.Full → (x : Option Progress) → at last.rows (main n) ≡ x → is_some x ≡ true
+        → stage_in x ≡ Some code.Full
+    full_stage n full None e i = absurd (cc)
+    full_stage n full (Some y) e i = ap (λ (x : Stage). Some x) (stage_full y.stage (sym (k.stage (main n) y e) ∙ full))
+
+    out_is : (n : NodeId) (x : Option Progress) → at last.rows (change n) ≡ x → is_some x ≡ true → t.out (change n) ≡ outcome_in x
+    out_is n None e i = absurd (cc)
+    out_is n (Some y) e i = k.out (change n) y e
+
+    confirmed : (n : NodeId) (r : Row) (p : Point) → row_at arena n ≡ Some r → t.needed (main n) ≡ true → t.stage (main n) ≡ machine.Full
+        → Among p (targets t.graph n r.def (t.out (change n))) → t.settled (change n) ≡ true
+    confirmed n r p row need full among =
+        let sub : is_some (subject_of r.def) ≡ true =
+        some_subject (subject_of r.def) (no_subject_no_right t.graph n r.def (t.out (change n)) p among) in
+        let place = among_place n old.pairs.nodes (kept.pairs n r row sub) in
+        let below : place.0 < changes = let l = place.1 in omega (arith, l, all_changes) in
+        let own : is_some (at last.rows (change n)) ≡ true =
+        so.kept.rows (change n) ∙ (ap (λ (x : Option Row). has_part x Change) row ∙ sub) in
+        let mine : is_some (at last.rows (main n)) ≡ true = so.kept.rows (main n) ∙ ap (λ (x : Option Row). has_part x Main) row in
+        k.settled (change n) ∙ so.confirmed place.0 n below place.2 r p row ((k.needed (main n)).0 need)
+        (full_stage n full (at last.rows (main n)) refl mine)
+        (subst (λ (x : Option Outcome). Among p (targets (graph_at arena last) n r.def x)) (out_is n (at last.rows (change n)) refl own)
+        (subst (λ (G : Graph). Among p (targets G n r.def (t.out (change n)))) k.graph among))
+
+    is_strict : Strict (made_strict t)
+    is_strict = record {
+      gates = λ e p r b row need scope stage. gated p r b (node_row p.node r row) scope ((k.needed p).0 need) stage;
+      rights = λ e n r p row need full among. confirmed n r p (node_row n r row) need full among;
+    }
+
+  pub all_taken : TakesOff arena old new
+  all_taken F z s counts held inv not_yet spared st =
+      let a = so.taken F z s counts held inv spared st in
+      let weak : a.0.strict ≡ false = a.2.strict ∙ (ap (λ (w : Work). w.strict) so.rest ∙ (sym st.strict ∙ not_yet)) in (
+        a.0,
+        made_strict a.0,
+        a.1,
+        (move.turn_strict weak (is_strict counts (hand_now old last held) a.0 a.2) refl, tt),
+        subst (λ (w : Work). Stands arena w counts (hand_now old w held) (made_strict a.0)) (sym only) (turn counts (hand_now old last held) a.0 a.2),
+      )
+
+-- what the second loop begins with is what the first leaves
+pub taken_rest : (old last new : Work) → last ≡ record old { graph = last.graph; rows = last.rows } → new ≡ record last { strict = true }
+    → new ≡ record old { graph = new.graph; rows = new.rows; strict = new.strict }
+taken_rest old last new first only =
+    subst (λ (w : Work). w ≡ record old { graph = w.graph; rows = w.rows; strict = w.strict }) (sym only)
+    (ap (λ (w : Work). record w { strict = true }) first)
+
+-- what becomes final leaves the rest kept
+pub strict_kept : (arena : Arena) (last new : Work) → new ≡ record last { strict = true } → IsKept arena last → IsKept arena new
+strict_kept arena last new only k = subst (λ (w : Work). IsKept arena w) (sym only) (record {
+  step = k.step;
+  rows = k.rows;
+  leaves = k.leaves;
+  there = k.there;
+  given = k.given;
+  links = λ p q r. elim (k.links p q r) [ inl row ↦ inl row | inr g ↦ inr (record { scope = g.scope; died = g.died; gate = g.gate }) ];
+  heap = k.heap;
+  dead = k.dead;
+  sound = k.sound;
+  scopes = k.scopes;
+  older = k.older;
+  outcomes = k.outcomes;
+  rights = k.rights;
+  roots = k.roots;
+  binds = k.binds;
+  calls = k.calls;
+  rounds = k.rounds;
+  pairs = k.pairs;
+  scoped = k.scoped;
+})
+
+-- and where rows and roots are
+pub strict_places : (old last new : Work) → new ≡ record last { strict = true } → KeepsPlaces old last → KeepsPlaces old new
+strict_places old last new only k = subst (λ (w : Work). KeepsPlaces old w) (sym only)
+    (record { rows = k.rows; roots = k.roots; deaths = k.deaths; round = k.round })
+
+-- and what was put back
+pub strict_rows : (arena : Arena) (old last new : Work) → new ≡ record last { strict = true } → RowsSpared arena old last → RowsSpared arena old new
+strict_rows arena old last new only rows p s = subst (λ (w : Work). (at w.rows p ≡ at old.rows p) ⊎ IsPutBack arena old w p) (sym only) (elim (rows p s) [
+  | inl e ↦ inl e
+  | inr b ↦ inr (record {
+    bind = b.bind;
+    back = record {
+      row = b.back.row;
+      is_row = b.back.is_row;
+      is_scope = b.back.is_scope;
+      more = b.back.more;
+      now = b.back.now;
+      waits = b.back.waits;
+    };
+    unsettled = b.unsettled;
+  })
+])

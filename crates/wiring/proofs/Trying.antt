@@ -1,0 +1,447 @@
+-- A link is tried: what stays where it is refused, and how the state follows where it is made.
+use Rattle.std.proofs.Common.{◌≡◌, ◌≢◌, ◌⊎◌, inl, inr, ℕ, ◌≤◌, ◌+◌, Bool, true, false, cond, [], ◌∷◌, Option, None, Some, refl, sym, ap, subst, ◌∙◌, arith, length-append}
+use Rattle.std.specs.Prelude.{length, is_some, option_map, ◌↔◌, IsTrue, IsFalse}
+use Rattle.inc_value.specs.declared.node.Part.{Part}
+use Rattle.inc_value.specs.declared.node.Point.{Point}
+use Rattle.inc_value.specs.Choice.{Reaches}
+use Rattle.inc_terms.specs.Depend.{main, change, right_of}
+use Rattle.inc_terms.specs.Graph.{Graph, Row}
+use Rattle.inc_terms.specs.Within.{Given}
+use Rattle.point_map.specs.Rows.{Rows, at, Holds, KeepsRows, Changes}
+use Rattle.link_table.specs.Links.{Links, times, Reads, KeepsLinks, OneLinkMore}
+use Rattle.necessity.specs.Need.{Roots, root_times, KeepsRoots}
+use Rattle.height_order.specs.Levels.{KeepsPoints}
+use Rattle.necessary_graph.specs.Part.{NecessaryPart, Needed, IsInStep, AlsoNeeded}
+use Rattle.necessary_graph.proofs.Linking.{read_with}
+use Rattle.necessary_graph.proofs.Reaching.{needed_more}
+use Rattle.node_arena.specs.Arena.{Arena, row_at}
+use Rattle.stabilize_round.specs.State.{State}
+use Rattle.stabilize_round.specs.Steps.{Wiring}
+use Rattle.stabilize_round.proofs.Parts.{bool_cases}
+use Rattle.stabilize_round.proofs.Points.{same_or_other}
+use Rattle.wiring.specs.Growing.{Grows, unneeded}
+use Rattle.node_outcomes.specs.Computing.{has_part}
+use Rattle.wiring.specs.Kept.{IsKept}
+use Rattle.node_outcomes.specs.Row.{IsRewritten, with_stage, outcome_in}
+use Rattle.wiring.specs.Stands.{Stands, hand}
+use Rattle.wiring.specs.Wiring.{IsWoken, IsReached, Looks, Links as PutsOn, IsLevelled, IsTarget, KeepsLists, KeepsPlaces, AreUnlinked, MayRead}
+use Rattle.node_outcomes.specs.declared.row.Progress.{Progress}
+use Rattle.node_outcomes.specs.declared.row.Stage.TheVariants as code
+use Rattle.wiring.specs.declared.work.Work.{Work}
+use Rattle.wiring.proofs.Growing.{no_more_unneeded, fewer_unneeded}
+use Rattle.wiring.proofs.Linking.{IsBefore, row_before, linked_stands, linked_new_stands, some_or_none}
+use Rattle.wiring.proofs.Wiring.{looks_stands}
+use Rattle.wiring.proofs.Holding.{held_rows, held_same, died_same, has_links_same, links_same, root_same, pairs_same, scoped_same}
+use Rattle.wiring.specs.Graph.{held_at, died_at, HasLinks}
+use Rattle.node_arena.specs.Graph.{Holdings, graph_of}
+use Rattle.inc_terms.specs.Depend.{right_of}
+
+-- the same roots and links tell that the same points are needed
+pub same_need : (g h : NecessaryPart) → KeepsRoots g.roots h.roots → KeepsLinks g.links h.links → (p : Point) → Needed h p ↔ Needed g p
+same_need g h roots links p = (
+  λ n. needed_more h g (λ a r. let e = roots a in omega (arith, e, r)) (λ a b r. let e = links a b in omega (arith, e, r)) p n,
+  λ n. needed_more g h (λ a r. let e = roots a in omega (arith, e, r)) (λ a b r. let e = links a b in omega (arith, e, r)) p n,
+)
+
+-- a point that has a row is one of a live node
+part_of : (x : Option Row) (part : Part) → has_part x part ≡ true → is_some x ≡ true
+part_of None part h = absurd (cc)
+part_of (Some r) part h = refl
+
+-- what a link may lead to has a row just where its node is live
+pub target_row : (arena : Arena) (old : Work) (q : Point) → IsKept arena old → IsTarget arena old q → is_some (at old.rows q) ≡ is_some (row_at arena q.node)
+target_row arena old q k target = elim target.there [
+  | inl row ↦ row ∙ sym (part_of (row_at arena q.node) q.part (sym (k.rows q) ∙ row))
+  | inr dead ↦ k.rows q ∙ (ap (λ (x : Option Row). has_part x q.part) dead ∙ sym (ap is_some dead))
+]
+
+-- ---- a link was refused
+
+module _ (old new : Work) (l : IsLevelled old new) where
+  pub levelled_places : KeepsPlaces old new
+  levelled_places = record { rows = λ p. ap is_some (l.rows p); roots = l.roots; deaths = l.round.deaths; round = l.round.round }
+
+  levelled_needs : (p : Point) → Needed old.graph p → Needed new.graph p
+  levelled_needs p n = needed_more old.graph new.graph (λ a r. let e = l.roots a in omega (arith, e, r)) (λ a b x. let e = l.links a b in omega (arith, e, x)) p n
+
+  pub levelled_kept : (arena : Arena) → IsKept arena old → IsKept arena new
+  levelled_kept arena k = record {
+    step = l.step;
+    rows = λ p. ap is_some (l.rows p) ∙ k.rows p;
+    leaves = λ p h. elim (k.leaves p (sym (l.heights p) ∙ h)) [
+      | inl row ↦ inl (ap is_some (l.rows p) ∙ row)
+      | inr d ↦ inr (d.0, levelled_needs p d.1)
+    ];
+    there = λ p h. l.heights p ∙ k.there p (sym (ap is_some (l.rows p)) ∙ h);
+    given = λ p h. k.given p (sym (l.heights p) ∙ h);
+    links = λ p q r. links_same old new (λ a. ap is_some (l.rows a)) l.round.deaths p q (k.links p q (let e = l.links p q in omega (arith, e, r)));
+    heap = λ p h. ap is_some (l.rows p) ∙ k.heap p (sym (l.heap p) ∙ h);
+    dead = λ n b e. k.dead n b (sym (died_same old new l.round.deaths n) ∙ e);
+    sound = k.sound;
+    scopes = k.scopes;
+    older = k.older;
+    outcomes = λ n r w v row e. k.outcomes n r w v row (sym (l.rows (main n)) ∙ e);
+    rights = λ n m r w o row e out right. k.rights n m r w o row (sym (l.rows (change n)) ∙ e) out
+        (subst (λ (h : Holdings). right_of (graph_of arena h) n r.def o ≡ Some m) (held_rows arena old new l.rows l.round.roots) right);
+    roots = λ n h. let v = k.roots n (root_same old new l.round.roots (change n) h) in (v.0, ap outcome_in (l.rows (change n)) ∙ v.1);
+    binds = λ n r row h. k.binds n r row (root_same old new l.round.roots (change n) h);
+    calls = λ n r w c row e. k.calls n r w c row (sym (l.rows (main n)) ∙ e);
+    rounds = λ p w e. subst (λ (n : ℕ). w.settled ≤ n) (sym l.round.round) (k.rounds p w (sym (l.rows p) ∙ e));
+    pairs = λ n r row some. pairs_same old new l.lists n (k.pairs n r row some);
+    scoped = λ n r row some. scoped_same old new l.lists n (k.scoped n r row some);
+  }
+
+-- there was no room
+pub levelled_room : (old new : Work) → Looks old new → KeepsRows old.graph.heights new.graph.heights → IsInStep new.graph → IsLevelled old new
+levelled_room old new looks heights step_is = record {
+  rows = looks.rows;
+  links = looks.links;
+  roots = looks.roots;
+  heights = λ a. ap is_some (heights a);
+  heap = looks.heap;
+  step = step_is;
+  todo = looks.todo;
+  lists = looks.lists;
+  round = looks.round;
+}
+
+-- a point that wasn't there was added, and is dropped again
+module _ (old mid closed : Work) (g : NecessaryPart) (q : Point) (opened : Bool) (looks : Looks old mid)
+    (there : Holds mid.graph.heights q) (opened_is : IsTrue opened ↔ (at old.graph.heights q ≡ None))
+    (others : (a : Point) → a ≢ q → at mid.graph.heights a ≡ at old.graph.heights a)
+    (links : KeepsLinks mid.graph.links g.links) (roots : KeepsRoots mid.graph.roots g.roots)
+    (points : KeepsPoints mid.graph.heights g.heights) (heap : KeepsPoints mid.graph.heap g.heap)
+    (gone : IsTrue opened → Changes g.heights closed.graph.heights q None) (kept : IsFalse opened → closed ≡ record mid { graph = g })
+    (same_links : closed.graph.links ≡ g.links) (same_roots : closed.graph.roots ≡ g.roots) (same_heap : closed.graph.heap ≡ g.heap)
+    (rest : closed ≡ record mid { graph = closed.graph }) where
+  was_there : IsFalse opened → is_some (at mid.graph.heights q) ≡ is_some (at old.graph.heights q)
+  was_there f = elim (some_or_none (at old.graph.heights q)) [
+    | inl k ↦ there ∙ sym (ap is_some k.1)
+    | inr none ↦ absurd (let t = opened_is.1 none in let e = f in cc)
+  ]
+
+  other_heights : (a : Point) → a ≢ q → is_some (at g.heights a) ≡ is_some (at old.graph.heights a)
+  other_heights a ne = points a ∙ ap is_some (others a ne)
+
+  pub closed_heights : KeepsPoints old.graph.heights closed.graph.heights
+  closed_heights a = elim (bool_cases opened) [
+    | inl t ↦ elim (same_or_other q a) [
+      | inl e ↦ subst (λ (x : Point). is_some (at closed.graph.heights x) ≡ is_some (at old.graph.heights x)) e
+          (ap is_some (gone t).changed ∙ sym (ap is_some (opened_is.0 t)))
+      | inr ne ↦ ap is_some ((gone t).others a (λ e. ne (sym e))) ∙ other_heights a (λ e. ne (sym e))
+    ]
+    | inr f ↦ ap (λ (x : Work). is_some (at x.graph.heights a)) (kept f) ∙ elim (same_or_other q a) [
+      | inl e ↦ subst (λ (x : Point). is_some (at g.heights x) ≡ is_some (at old.graph.heights x)) e (points q ∙ was_there f)
+      | inr ne ↦ other_heights a (λ e. ne (sym e))
+    ]
+  ]
+
+  pub closed_links : KeepsLinks mid.graph.links closed.graph.links
+  closed_links a b = ap (λ (l : Links). times l a b) same_links ∙ links a b
+
+  pub levelled_link : IsInStep closed.graph → IsLevelled old closed
+  levelled_link step_is = record {
+    rows = λ a. ap (λ (x : Work). at x.rows a) rest ∙ looks.rows a;
+    links = λ a b. closed_links a b ∙ looks.links a b;
+    roots = λ a. ap (λ (r : Roots). root_times r a) same_roots ∙ (roots a ∙ looks.roots a);
+    heights = closed_heights;
+    heap = λ a. ap (λ (h : Rows ℕ). is_some (at h a)) same_heap ∙ (heap a ∙ looks.heap a);
+    step = step_is;
+    todo = ap (λ (x : Work). x.todo.items) rest ∙ looks.todo;
+    lists = record { pairs = ap (λ (x : Work). x.pairs) rest ∙ looks.lists.pairs; scoped = ap (λ (x : Work). x.scoped) rest ∙ looks.lists.scoped };
+    round = record {
+      roots = ap (λ (x : Work). x.roots) rest ∙ looks.round.roots;
+      deaths = ap (λ (x : Work). x.deaths) rest ∙ looks.round.deaths;
+      ran = ap (λ (x : Work). x.ran.items) rest ∙ looks.round.ran;
+      strict = ap (λ (x : Work). x.strict) rest ∙ looks.round.strict;
+      round = ap (λ (x : Work). x.round) rest ∙ looks.round.round;
+    };
+  }
+
+-- ---- a link or a root was put on
+
+is_some_mapped : (f : Progress → Progress) (x : Option Progress) → is_some (option_map f x) ≡ is_some x
+is_some_mapped f None = refl
+is_some_mapped f (Some k) = refl
+
+-- rows stay where they are
+pub rewritten_there : (old new : Rows Progress) (q : Point) (f : Progress → Progress) → IsRewritten old new q f
+    → (a : Point) → is_some (at new a) ≡ is_some (at old a)
+rewritten_there old new q f w a = elim (same_or_other q a) [
+  | inl e ↦ subst (λ (x : Point). is_some (at new x) ≡ is_some (at old x)) e (ap is_some w.changed ∙ is_some_mapped f (at old q))
+  | inr ne ↦ ap is_some (w.others a (λ h. ne (sym h)))
+]
+
+-- one point more is needed, if it wasn't, and may have a place among heights; links and what is in the heap may be more where there are rows
+pub record IsGrown (old new : Work) (q : Point) : Type 0 where
+  pub step : IsInStep new.graph
+  pub rows : (a : Point) (k : Progress) → at new.rows a ≡ Some k → IsBefore old.rows a k
+  pub held : (a : Point) → is_some (at new.rows a) ≡ is_some (at old.rows a)
+  pub needed : (a : Point) → Needed old.graph a → Needed new.graph a
+  pub also : Needed new.graph q
+  pub heights : (a : Point) → a ≢ q → is_some (at new.graph.heights a) ≡ is_some (at old.graph.heights a)
+  pub links : (a b : Point) → Reads new.graph.links a b → Reads old.graph.links a b ⊎ MayRead old a b
+  pub heap : (a : Point) → Holds new.graph.heap a → Holds old.graph.heap a ⊎ Holds old.rows a
+  pub round : new.round ≡ old.round
+  pub roots : new.roots ≡ old.roots
+  pub deaths : new.deaths ≡ old.deaths
+  pub lists : KeepsLists old new
+
+module _ (old new : Work) (q : Point) (grown : IsGrown old new q) (arena : Arena) (target : IsTarget arena old q) (k : IsKept arena old) where
+  -- a point that is there was there, or is the new one
+  by_heights : (P : Point → Type 0) → P q → ((a : Point) → Holds old.graph.heights a → P a) → (a : Point) → Holds new.graph.heights a → P a
+  by_heights P new_one before a h = elim (same_or_other q a) [
+    | inl e ↦ subst P e new_one
+    | inr ne ↦ before a (sym (grown.heights a (λ e. ne (sym e))) ∙ h)
+  ]
+
+  held_before : (a : Point) → Holds new.rows a → Holds old.rows a
+  held_before a h = sym (grown.held a) ∙ h
+
+  -- each row keeps its outcome
+  outcome_stays : (p : Point) → outcome_in (at new.rows p) ≡ outcome_in (at old.rows p)
+  outcome_stays p = outcome_before (at new.rows p) (at old.rows p) (grown.held p)
+      (λ w e. let b = grown.rows p w e in ap outcome_in b.was ∙ sym b.outcome)
+    where
+      outcome_before : (x y : Option Progress) → is_some x ≡ is_some y → ((w : Progress) → x ≡ Some w → outcome_in y ≡ w.outcome)
+          → outcome_in x ≡ outcome_in y
+      outcome_before None None e h = refl
+      outcome_before None (Some k) e h = absurd (cc)
+      outcome_before (Some w) y e h = sym (h w refl)
+
+  grown_held : held_at arena new ≡ held_at arena old
+  grown_held = held_same arena old new (λ n. outcome_stays (change n)) grown.roots
+
+  pub grown_kept : IsKept arena new
+  grown_kept = record {
+    step = grown.step;
+    rows = λ p. grown.held p ∙ k.rows p;
+    leaves = λ p h. elim (same_or_other q p) [
+      | inl e ↦ subst (λ (x : Point). Holds new.rows x ⊎ ((row_at arena x.node ≡ None) × Needed new.graph x)) e (elim target.there [
+        | inl row ↦ inl (grown.held q ∙ row)
+        | inr dead ↦ inr (dead, grown.also)
+      ])
+      | inr ne ↦ elim (k.leaves p (sym (grown.heights p (λ e. ne (sym e))) ∙ h)) [
+        | inl row ↦ inl (grown.held p ∙ row)
+        | inr d ↦ inr (d.0, grown.needed p d.1)
+      ]
+    ];
+    there = λ p h. elim (same_or_other q p) [
+      | inl e ↦ subst (λ (x : Point). Holds new.graph.heights x) e (grown.step.there q grown.also)
+      | inr ne ↦ grown.heights p (λ e. ne (sym e)) ∙ k.there p (held_before p h)
+    ];
+    given = by_heights (λ (a : Point). Given arena.given a.node) target.given k.given;
+    links = λ p p' r. links_same old new grown.held grown.deaths p p' (elim (grown.links p p' r) [ inl before ↦ k.links p p' before | inr may ↦ may ]);
+    heap = λ p h. grown.held p ∙ elim (grown.heap p h) [ inl before ↦ k.heap p before | inr row ↦ row ];
+    dead = λ n b e. k.dead n b (sym (died_same old new grown.deaths n) ∙ e);
+    sound = k.sound;
+    scopes = k.scopes;
+    older = k.older;
+    outcomes = λ n r w v row e o. let b = grown.rows (main n) w e in k.outcomes n r b.row v row b.was (sym b.outcome ∙ o);
+    rights = λ n m r w o row e out right. let b = grown.rows (change n) w e in k.rights n m r b.row o row b.was (sym b.outcome ∙ out)
+        (subst (λ (h : Holdings). right_of (graph_of arena h) n r.def o ≡ Some m) grown_held right);
+    roots = λ n h. let v = k.roots n (root_same old new grown.roots (change n) h) in (v.0, outcome_stays (change n) ∙ v.1);
+    binds = λ n r row h. k.binds n r row (root_same old new grown.roots (change n) h);
+    calls = λ n r w c row e o. let b = grown.rows (main n) w e in k.calls n r b.row c row b.was (sym b.last ∙ o);
+    rounds = λ p w e. let b = grown.rows p w e in let old_round = k.rounds p b.row b.was in let s = b.settled in let r = grown.round in
+        omega (arith, old_round, s, r);
+    pairs = λ n r row some. pairs_same old new grown.lists n (k.pairs n r row some);
+    scoped = λ n r row some. scoped_same old new grown.lists n (k.scoped n r row some);
+  }
+
+module _ (old mid new : Work) (g : NecessaryPart) (q : Point) (newly : Bool) (looks : Looks old mid)
+    (others : (a : Point) → a ≢ q → at mid.graph.heights a ≡ at old.graph.heights a) (points : KeepsPoints mid.graph.heights g.heights)
+    (also : AlsoNeeded mid.graph g q) (heap : KeepsPoints mid.graph.heap g.heap)
+    (links : (a b : Point) → Reads g.links a b → Reads old.graph.links a b ⊎ MayRead old a b)
+    (woken : IsTrue newly → IsWoken (record mid { graph = g }) new q) (same : IsFalse newly → new ≡ record mid { graph = g })
+    (step_is : IsInStep new.graph) where
+  -- the graph has grown
+  abbrev part : Work
+  part = record mid { graph = g }
+
+  as_before : (a : Point) (k : Progress) → at mid.rows a ≡ Some k → IsBefore old.rows a k
+  as_before a k e = record { row = k; was = sym (looks.rows a) ∙ e; outcome = refl; last = refl; cutoff = refl; settled = refl }
+
+  needed_then : (a : Point) → Needed old.graph a → Needed g a
+  needed_then a n = (also a).1 (inl ((looks.needed a).1 n))
+
+  heap_before : (a : Point) → Holds g.heap a → Holds old.graph.heap a
+  heap_before a h = sym (looks.heap a) ∙ (sym (heap a) ∙ h)
+
+  grown_part : IsInStep g → IsGrown old part q
+  grown_part step_of = record {
+    step = step_of;
+    rows = as_before;
+    held = λ a. ap is_some (looks.rows a);
+    needed = needed_then;
+    also = (also q).1 (inr refl);
+    heights = λ a ne. points a ∙ ap is_some (others a ne);
+    links = links;
+    heap = λ a h. inl (heap_before a h);
+    round = looks.round.round;
+    roots = looks.round.roots;
+    deaths = looks.round.deaths;
+    lists = record { pairs = looks.lists.pairs; scoped = looks.lists.scoped };
+  }
+
+  module _ (w : IsWoken part new q) where
+    pub woken_need : (a : Point) → Needed new.graph a ↔ Needed g a
+    woken_need = same_need g new.graph (λ a. ap (λ (r : Roots). root_times r a) w.graph.roots) (λ a b. ap (λ (l : Links). times l a b) w.graph.links)
+
+    heap_woken : (a : Point) → Holds new.graph.heap a → Holds old.graph.heap a ⊎ Holds old.rows a
+    heap_woken a h = elim (same_or_other q a) [
+      | inl e ↦ subst (λ (x : Point). Holds old.graph.heap x ⊎ Holds old.rows x) e
+          (elim (w.only (subst (λ (x : Point). Holds new.graph.heap x) (sym e) h)) [
+            | inl before ↦ inl (heap_before q before)
+            | inr row ↦ inr (sym (ap is_some (looks.rows q)) ∙ row.0)
+          ])
+      | inr ne ↦ inl (heap_before a (sym (ap is_some (w.others a (λ e. ne (sym e)))) ∙ h))
+    ]
+
+    rows_woken : (a : Point) (k : Progress) → at new.rows a ≡ Some k → IsBefore old.rows a k
+    rows_woken a k e =
+        let b = row_before mid.rows new.rows q code.Bare w.rows a k e in
+        record { row = b.row; was = sym (looks.rows a) ∙ b.was; outcome = b.outcome; last = b.last; cutoff = b.cutoff; settled = b.settled }
+
+    grown_woken : IsGrown old new q
+    grown_woken = record {
+      step = step_is;
+      rows = rows_woken;
+      held = λ a. rewritten_there mid.rows new.rows q (with_stage code.Bare) w.rows a ∙ ap is_some (looks.rows a);
+      needed = λ a n. (woken_need a).1 (needed_then a n);
+      also = (woken_need q).1 ((also q).1 (inr refl));
+      heights = λ a ne. ap (λ (h : Rows ℕ). is_some (at h a)) w.graph.heights ∙ (points a ∙ ap is_some (others a ne));
+      links = λ a b r. links a b (subst (λ (l : Links). Reads l a b) w.graph.links r);
+      heap = heap_woken;
+      round = w.round.round ∙ looks.round.round;
+      roots = w.round.roots ∙ looks.round.roots;
+      deaths = w.round.deaths ∙ looks.round.deaths;
+      lists = record { pairs = w.lists.pairs ∙ looks.lists.pairs; scoped = w.lists.scoped ∙ looks.lists.scoped };
+    }
+
+  pub grown : IsGrown old new q
+  grown = elim (bool_cases newly) [
+    | inl t ↦ grown_woken (woken t)
+    | inr f ↦ subst (λ (x : Work). IsGrown old x q) (sym (same f)) (grown_part (subst (λ (x : Work). IsInStep x.graph) (same f) step_is))
+  ]
+
+-- ---- a link was put on
+
+module _ (old mid new : Work) (g : NecessaryPart) (p q : Point) (newly : Bool) (looks : Looks old mid)
+    (reached : IsReached mid.graph g q) (more : OneLinkMore mid.graph.links g.links p q) (roots : KeepsRoots mid.graph.roots g.roots)
+    (newly_is : IsFalse newly ↔ Needed mid.graph q)
+    (woken : IsTrue newly → IsWoken (record mid { graph = g }) new q) (same : IsFalse newly → new ≡ record mid { graph = g }) where
+  fresh : IsTrue newly → Needed mid.graph q → ⊥
+  fresh t n = let f = newly_is.1 n in let e = t in cc
+
+  pub put_on : (arena : Arena) → IsKept arena old → IsTarget arena old q → Needed mid.graph p → PutsOn arena old new p q
+  put_on arena kept target need F z s counts rest due =
+      let st = due.stands in
+      let at_mid = looks_stands s arena old mid counts (Some (hand p (q ∷ rest))) looks st in
+      let row : is_some (at mid.rows q) ≡ is_some (s.graph.row q.node) =
+      ap is_some (looks.rows q) ∙ (target_row arena old q kept target ∙ sym (ap (λ (G : Graph). is_some (G.row q.node)) st.graph)) in
+      elim (bool_cases newly) [
+        | inl t ↦ linked_new_stands F z s arena mid new g counts p q rest at_mid reached more roots need due.depends due.confirmed (fresh t) (woken t)
+            (same_need g new.graph (λ a. ap (λ (r : Roots). root_times r a) (woken t).graph.roots)
+            (λ a b. ap (λ (l : Links). times l a b) (woken t).graph.links)) row due.unlinked
+        | inr f ↦ subst (λ (x : Work). (t : State) × Reaches (Wiring F z) s t × Stands arena x counts (Some (hand p rest)) t × AreUnlinked (Some (hand p [])) t) (sym (same f))
+            (linked_stands F z s arena mid g counts p q rest at_mid reached more roots need due.depends due.confirmed (newly_is.0 f) due.unlinked)
+      ]
+
+  -- roots stay
+  pub connected_roots : KeepsRoots old.graph.roots new.graph.roots
+  connected_roots a = elim (bool_cases newly) [
+    | inl t ↦ ap (λ (r : Roots). root_times r a) (woken t).graph.roots ∙ (roots a ∙ looks.roots a)
+    | inr f ↦ ap (λ (x : Work). root_times x.graph.roots a) (same f) ∙ (roots a ∙ looks.roots a)
+  ]
+
+  need_part : (a : Point) → Needed old.graph a → Needed g a
+  need_part a n = (reached.needed a).1 (inl ((looks.needed a).1 n))
+
+  pub now_needed : (a : Point) → Needed old.graph a → Needed new.graph a
+  now_needed a n = elim (bool_cases newly) [
+    | inl t ↦ (same_need g new.graph (λ b. ap (λ (r : Roots). root_times r b) (woken t).graph.roots)
+        (λ b d. ap (λ (l : Links). times l b d) (woken t).graph.links) a).1 (need_part a n)
+    | inr f ↦ subst (λ (x : Work). Needed x.graph a) (sym (same f)) (need_part a n)
+  ]
+
+  pub kid_needed : Needed new.graph q
+  kid_needed = elim (bool_cases newly) [
+    | inl t ↦ (same_need g new.graph (λ b. ap (λ (r : Roots). root_times r b) (woken t).graph.roots)
+        (λ b d. ap (λ (l : Links). times l b d) (woken t).graph.links) q).1 ((reached.needed q).1 (inr refl))
+    | inr f ↦ subst (λ (x : Work). Needed x.graph q) (sym (same f)) ((reached.needed q).1 (inr refl))
+  ]
+
+  pub put_on_places : KeepsPlaces old new
+  put_on_places = record {
+    rows = λ a. elim (bool_cases newly) [
+      | inl t ↦ rewritten_there mid.rows new.rows q (with_stage code.Bare) (woken t).rows a ∙ ap is_some (looks.rows a)
+      | inr f ↦ ap (λ (x : Work). is_some (at x.rows a)) (same f) ∙ ap is_some (looks.rows a)
+    ];
+    roots = connected_roots;
+    deaths = elim (bool_cases newly) [
+      | inl t ↦ (woken t).round.deaths ∙ looks.round.deaths
+      | inr f ↦ ap (λ (x : Work). x.deaths) (same f) ∙ looks.round.deaths
+    ];
+    round = elim (bool_cases newly) [
+      | inl t ↦ (woken t).round.round ∙ looks.round.round
+      | inr f ↦ ap (λ (x : Work). x.round) (same f) ∙ looks.round.round
+    ];
+  }
+
+  pub put_on_strict : new.strict ≡ old.strict
+  put_on_strict = elim (bool_cases newly) [
+    | inl t ↦ (woken t).round.strict ∙ looks.round.strict
+    | inr f ↦ ap (λ (x : Work). x.strict) (same f) ∙ looks.round.strict
+  ]
+
+  -- rows of what was needed stay
+  pub connected_others : (a : Point) → Needed old.graph a → at new.rows a ≡ at old.rows a
+  connected_others a n = elim (bool_cases newly) [
+    | inl t ↦ (woken t).rows.others a (λ e. fresh t (subst (Needed mid.graph) e ((looks.needed a).1 n))) ∙ looks.rows a
+    | inr f ↦ ap (λ (x : Work). at x.rows a) (same f) ∙ looks.rows a
+  ]
+
+  -- a point that comes into the worklist is newly needed
+  pub put_on_grows : IsInStep old.graph → IsInStep new.graph → Grows old new
+  put_on_grows before after points covers =
+      let fewer = no_more_unneeded old.graph new.graph before after now_needed points in
+      let strict = put_on_strict in
+      rw strict (by newly refl fewer)
+    where
+      pushed : newly ≡ true → unneeded new.graph points ≤ unneeded old.graph points → HasLinks mid q
+          → cond old.strict 0 (length points + 2) + (length new.todo.items + unneeded new.graph points)
+          ≤ cond old.strict 0 (length points + 2) + (length old.todo.items + unneeded old.graph points)
+      pushed t fewer has =
+          let less = fewer_unneeded old.graph new.graph before after now_needed points q
+          (covers q (has_links_same mid old (λ a. sym (ap is_some (looks.rows a))) (sym looks.round.deaths) q has))
+          (λ n. fresh t ((looks.needed q).1 n)) kid_needed in
+          let e = ap length looks.todo in
+          let m = ap length ((woken t).pushed has) ∙ length-append mid.todo.items (q ∷ []) in
+          omega (arith, m, e, less)
+
+      by : (b : Bool) → newly ≡ b → unneeded new.graph points ≤ unneeded old.graph points
+          → cond old.strict 0 (length points + 2) + (length new.todo.items + unneeded new.graph points)
+          ≤ cond old.strict 0 (length points + 2) + (length old.todo.items + unneeded old.graph points)
+      by false f fewer = let e = ap (λ (x : Work). length x.todo.items) (same f) ∙ ap length looks.todo in omega (arith, e, fewer)
+      by true t fewer = elim (some_or_none (at mid.rows q)) [
+        | inl k ↦ pushed t fewer (inl (ap is_some k.1))
+        | inr dead ↦ elim (some_or_none (died_at mid q.node)) [
+          | inl b ↦ pushed t fewer (inr (ap is_some b.1))
+          | inr leaf ↦ let e = ap length looks.todo in let m = ap length ((woken t).leaf dead leaf) in omega (arith, m, e, fewer)
+        ]
+      ]
+
+  -- the new link is on
+  pub reads_on : Reads new.graph.links p q
+  reads_on = elim (bool_cases newly) [
+    | inl t ↦ subst (λ (l : Links). Reads l p q) (sym (woken t).graph.links) (let r = more.raised in omega (arith, r))
+    | inr f ↦ subst (λ (x : Work). Reads x.graph.links p q) (sym (same f)) (let r = more.raised in omega (arith, r))
+  ]
+
+  -- what is linked was linked, or is the new link
+  pub connected_links : MayRead old p q → (a b : Point) → Reads g.links a b → Reads old.graph.links a b ⊎ MayRead old a b
+  connected_links may a b r = elim (read_with mid.graph.links g.links p q more a b r) [
+    | inl before ↦ inl (omega (arith, looks.links a b, before))
+    | inr link ↦ inr (subst (λ (x : Point). MayRead old x b) (sym link.0) (subst (λ (y : Point). MayRead old p y) (sym link.1) may))
+  ]

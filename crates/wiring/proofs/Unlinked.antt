@@ -1,0 +1,138 @@
+-- What is in the worklist has no links yet, while a point in hand gets its own.
+use Rattle.std.proofs.Common.{◌≡◌, ◌⊎◌, inl, inr, Bool, true, false, List, [], Option, None, Some, refl, sym, subst, ◌∙◌}
+use Rattle.inc_value.specs.declared.node.Point.{Point}
+use Rattle.inc_value.specs.Choice.{here, step, Among, Reaches}
+use Rattle.inc_terms.specs.Term.{Functions}
+use Rattle.node_arena.specs.Arena.{Arena}
+use Rattle.stabilize_round.specs.Machine.{Move}
+use Rattle.stabilize_round.specs.Machine as move
+use Rattle.stabilize_round.specs.State as machine
+use Rattle.stabilize_round.specs.State.{State, Start, at_point}
+use Rattle.stabilize_round.specs.Steps.{TakesOff as OffMove, TakingOff, Turns}
+use Rattle.stabilize_round.specs.Wire.{newly, raised, finished}
+use Rattle.stabilize_round.proofs.Points.{same_or_other, at_same, at_other}
+use Rattle.wiring.specs.Stands.{Stands, Hand, hand, IsInHand}
+use Rattle.wiring.specs.Wiring.{AreUnlinked}
+use Rattle.wiring.specs.declared.work.Work.{Work}
+
+-- so it is where the worklist is empty
+pub empty_unlinked : (arena : Arena) (work : Work) (counts : _) (s : State) → work.todo.items ≡ [] → Stands arena work counts None s → AreUnlinked None s
+empty_unlinked arena work counts s empty on a todo need = elim (on.todo a todo) [
+  | inl k ↦ absurd (nowhere (subst (λ (xs : List Point). Among a xs) empty k))
+  | inr k ↦ absurd k
+]
+  where
+    nowhere : Among a [] → ⊥
+    nowhere h = h
+
+-- a point is taken in hand
+pub held_unlinked : (s : State) (p : Point) → AreUnlinked None s → AreUnlinked (Some (hand p [])) s
+held_unlinked s p un a todo need = elim (un a todo need) [
+  | inl b ↦ inl b
+  | inr k ↦ elim k [ inl g ↦ inr (inl g) | inr none ↦ absurd none ]
+]
+
+-- a point is newly needed
+pub newly_unlinked : (s : State) (q : Point) (heap' : Point → Bool) (held : Option Hand) → AreUnlinked held s → AreUnlinked held (newly s q heap')
+newly_unlinked s q heap' held un a todo need = elim (same_or_other q a) [
+  | inl e ↦ inl (subst (λ (x : Point). at_point q machine.Bare s.stage x ≡ machine.Bare) e (at_same q machine.Bare s.stage))
+  | inr ne ↦ subst (λ (x : machine.Stage). (x ≡ machine.Bare) ⊎ (x ≡ machine.Gated) ⊎ IsInHand held a) (sym (at_other q machine.Bare s.stage a ne))
+      (un a (sym (at_other q true s.todo a ne) ∙ todo) (sym (at_other q true s.needed a ne) ∙ need))
+]
+
+-- the point in hand is raised
+pub raised_unlinked : (s : State) (p : Point) (st : machine.Stage) (extra : List Point) → AreUnlinked (Some (hand p [])) s
+    → AreUnlinked (Some (hand p [])) (raised s p st extra)
+raised_unlinked s p st extra un a todo need = elim (same_or_other p a) [
+  | inl e ↦ inr (inr (sym e))
+  | inr ne ↦ subst (λ (x : machine.Stage). (x ≡ machine.Bare) ⊎ (x ≡ machine.Gated) ⊎ (a ≡ p)) (sym (at_other p st s.stage a ne)) (un a todo need)
+]
+
+-- the point in hand leaves the worklist
+pub finished_unlinked : (s : State) (p : Point) → AreUnlinked (Some (hand p [])) s → AreUnlinked None (finished s p)
+finished_unlinked s p un a todo need = elim (same_or_other p a) [
+  | inl e ↦ absurd (
+      let f = at_same p false s.todo in
+      let t : at_point p false s.todo p ≡ true = subst (λ (x : Point). at_point p false s.todo x ≡ true) (sym e) todo in
+      cc)
+  | inr ne ↦ elim (un a (sym (at_other p false s.todo a ne) ∙ todo) need) [
+    | inl b ↦ inl b
+    | inr k ↦ elim k [ inl g ↦ inr (inl g) | inr e ↦ absurd (ne (sym e)) ]
+  ]
+]
+
+-- a point that is newly needed leaves it at once
+pub rested_unlinked : (s : State) (q : Point) (heap' : Point → Bool) (held : Option Hand) → AreUnlinked held s
+    → AreUnlinked held (finished (raised (newly s q heap') q machine.Full []) q)
+rested_unlinked s q heap' held un a todo need = elim (same_or_other q a) [
+  | inl e ↦ absurd (
+      let f = at_same q false (newly s q heap').todo in
+      let t : at_point q false (newly s q heap').todo q ≡ true = subst (λ (x : Point). at_point q false (newly s q heap').todo x ≡ true) (sym e) todo in
+      cc)
+  | inr ne ↦ subst (λ (x : machine.Stage). (x ≡ machine.Bare) ⊎ (x ≡ machine.Gated) ⊎ IsInHand held a)
+      (sym (at_other q machine.Full (newly s q heap').stage a ne))
+      (newly_unlinked s q heap' held un a (sym (at_other q false (newly s q heap').todo a ne) ∙ todo) need)
+]
+
+-- ---- links are taken off
+
+-- a point that goes back to a lower stage had links beyond its gate's
+module _ (x : machine.Stage) where
+  gated : (st : machine.Stage) → (st ≡ machine.Bare → ⊥) → (st ≡ machine.Full → ⊥) → (st ≡ machine.Static → (x ≡ machine.Static) ⊎ (x ≡ machine.Full))
+      → (x ≡ machine.Bare) ⊎ (x ≡ machine.Gated) → st ≡ machine.Gated
+  gated machine.Bare bare full lower low = absurd (bare refl)
+  gated machine.Gated bare full lower low = refl
+  gated machine.Full bare full lower low = absurd (full refl)
+  gated machine.Static bare full lower low = absurd (elim (lower refl) [
+    | inl s ↦ elim low [ inl b ↦ cc | inr g ↦ cc ]
+    | inr f ↦ elim low [ inl b ↦ cc | inr g ↦ cc ]
+  ])
+
+module _ (F : Functions) (z : Start) (held : Option Hand) where
+  off_one : (s t : State) (m : Move F z s t) → OffMove m → AreUnlinked held s → AreUnlinked held t
+  off_one s t (move.schedule x e) h un = subst (λ (u : State). AreUnlinked held u) (sym e) un
+  off_one s t (move.cut {p = p} {st = st} d w e) h un = subst (λ (u : State). AreUnlinked held u) (sym e) (λ a todo need.
+      let was = un a todo (w.was a need) in
+      elim (same_or_other p a) [
+        | inl is ↦ elim was [
+          | inl b ↦ inr (inl (at_p a is (inl b)))
+          | inr k ↦ elim k [ inl g ↦ inr (inl (at_p a is (inr g))) | inr in_hand ↦ inr (inr in_hand) ]
+        ]
+        | inr ne ↦ subst (λ (x : machine.Stage). (x ≡ machine.Bare) ⊎ (x ≡ machine.Gated) ⊎ IsInHand held a) (sym (at_other p st s.stage a ne)) was
+      ])
+    where
+      at_p : (a : Point) → p ≡ a → (s.stage a ≡ machine.Bare) ⊎ (s.stage a ≡ machine.Gated) → at_point p st s.stage a ≡ machine.Gated
+      at_p a is low = subst (λ (x : Point). at_point p st s.stage x ≡ machine.Gated) is
+          (at_same p st s.stage ∙ gated (s.stage p) st d.bare d.full d.lower
+          (subst (λ (x : Point). (s.stage x ≡ machine.Bare) ⊎ (s.stage x ≡ machine.Gated)) (sym is) low))
+  off_one s t (move.step_main q x e) h un = absurd h
+  off_one s t (move.step_change q x e) h un = absurd h
+  off_one s t (move.link x n e) h un = absurd h
+  off_one s t (move.link_new x n k e) h un = absurd h
+  off_one s t (move.root n e) h un = absurd h
+  off_one s t (move.root_new g n k e) h un = absurd h
+  off_one s t (move.raise x e) h un = absurd h
+  off_one s t (move.finish x e) h un = absurd h
+  off_one s t (move.rebuild r b c e) h un = absurd h
+  off_one s t (move.level x e) h un = absurd h
+  off_one s t (move.turn_strict u k e) h un = absurd h
+
+  pub off_unlinked : (s t : State) → Reaches (TakingOff F z) s t → AreUnlinked held s → AreUnlinked held t
+  off_unlinked s t here un = un
+  off_unlinked s t (step {b = u} m rest) un = off_unlinked u t rest (off_one s u m.0 m.1 un)
+
+  -- and refusals become final
+  pub turn_unlinked : (s t : State) (m : Move F z s t) → Turns m → AreUnlinked held s → AreUnlinked held t
+  turn_unlinked s t (move.turn_strict u k e) h un = subst (λ (v : State). AreUnlinked held v) (sym e) un
+  turn_unlinked s t (move.schedule x e) h un = absurd h
+  turn_unlinked s t (move.cut d w e) h un = absurd h
+  turn_unlinked s t (move.step_main q x e) h un = absurd h
+  turn_unlinked s t (move.step_change q x e) h un = absurd h
+  turn_unlinked s t (move.link x n e) h un = absurd h
+  turn_unlinked s t (move.link_new x n k e) h un = absurd h
+  turn_unlinked s t (move.root n e) h un = absurd h
+  turn_unlinked s t (move.root_new g n k e) h un = absurd h
+  turn_unlinked s t (move.raise x e) h un = absurd h
+  turn_unlinked s t (move.finish x e) h un = absurd h
+  turn_unlinked s t (move.rebuild r b c e) h un = absurd h
+  turn_unlinked s t (move.level x e) h un = absurd h

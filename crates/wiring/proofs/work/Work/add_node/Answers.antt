@@ -1,0 +1,35 @@
+use Rattle.std.proofs.Common.{Some, sym, subst, ◌∙◌}
+use Rattle.std.proofs.lemmas.Result.{on_ok_weaker}
+use Rattle.inc_value.specs.Choice.{Among}
+use Rattle.inc_value.specs.declared.node.Point.{Point}
+use Rattle.inc_terms.specs.Code.{def_of}
+use Rattle.point_map.specs.Rows.{Changes}
+use Rattle.node_lists.specs.Listed.{Listed}
+use Rattle.wiring.proofs.Placing.{one_point, two_points, listed_pair, listed_alone}
+use Rattle.wiring.proofs.work.Work.add_node.Goals as goal
+
+pub returns-in-None-clause-added : goal.returns-in-None-clause-added
+returns-in-None-clause-added c = on_ok_weaker c.add.result (λ added. (
+  λ part. c.height_over-height-in-None.result,
+  one_point c.args.self.now.graph.heights c.add.new.self.graph.heights c.args.node (def_of c.args.def.now) c.height_over-height-in-None.result
+      (sym c.subject.ensures ∙ c.in-None.is)
+      (subst (λ (p : Point). Changes c.args.self.now.graph.heights c.add.new.self.graph.heights p (Some c.height_over-height-in-None.result)) c.main_point.ensures added)
+      c.requires.no_change.0,
+)) c.add.ensures.added
+
+pub returns-in-Some-clause-added : goal.returns-in-Some-clause-added
+returns-in-Some-clause-added c = on_ok_weaker c.add_pair.result (λ added. (
+  added.0,
+  two_points c.args.self.now.graph.heights c.add_pair.new.self.graph.heights c.args.node c.in-Some.subject (def_of c.args.def.now) added.0
+      (sym c.subject.ensures ∙ c.in-Some.is) added.1,
+)) c.add_pair.ensures.added
+
+pub returns-in-None-clause-pairs : goal.returns-in-None-clause-pairs
+returns-in-None-clause-pairs c = on_ok_weaker c.add.result (λ added n who among.
+    subst (λ (l : Listed). Among n l.nodes) (sym c.add.ensures.pairs)
+    (listed_alone _ c.args.self.now.pairs.nodes c.args.node n (sym c.subject.ensures ∙ c.in-None.is) among)) c.add.ensures.added
+
+pub returns-in-Some-clause-pairs : goal.returns-in-Some-clause-pairs
+returns-in-Some-clause-pairs c = on_ok_weaker c.add_pair.result (λ pairs n who among.
+    listed_pair _ c.in-Some.subject c.args.self.now.pairs.nodes c.add_pair.new.self.pairs.nodes c.args.arena.now c.args.node
+    (sym c.subject.ensures ∙ c.in-Some.is) pairs n who among) c.add_pair.ensures.pairs

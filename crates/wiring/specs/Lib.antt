@@ -1,0 +1,11 @@
+pub mod Graph
+pub mod Stands
+pub mod Began
+pub mod Kept
+pub mod Places
+pub mod Deciding
+pub mod Refusing
+pub mod Wiring
+pub mod Turning
+pub mod Growing
+pub mod Scoped
