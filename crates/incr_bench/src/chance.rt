@@ -260,8 +260,9 @@ impl Pool {
                 _ => known.numbers.push(place + 1)?,
             }
         }
+        // (a captured node may stand in a scope round that of the right side: grabbed, it would be taken for one within)
         let root = match generator.below(8) {
-            0 => self.part(generator, &known),
+            0 => Part::Outside(self.number(generator)),
             _ => Part::Line(known.numbers.last().copied().unwrap_or(0)),
         };
         Ok((Side { lines, root }, depth))
