@@ -25,7 +25,7 @@ use Rattle.wiring.specs.declared.work.Work.{Work}
 use Rattle.graph.specs.Effects.{SetsCutoff}
 use Rattle.graph.specs.Inside.{FitsInside}
 use Rattle.graph.specs.Standing.{Standing}
-use Rattle.graph.proofs.Seeing.{seen_as}
+use Rattle.graph.proofs.Seeing.{seen_as, built_still}
 use Rattle.graph.specs.declared.observer.Observer.{Observer}
 use Rattle.graph.proofs.Sound.{ready_built}
 
@@ -115,5 +115,7 @@ module _ (old new : Parts) (id : NodeId) (c : Cutoff) (set : IsRewritten old.wor
       roots = λ p. ap (λ (x : Parts). root_times x.work.graph.roots p) rest;
       shown = λ n. seen_same (main n);
       chosen = λ n. same_in outcome_in outcome_still (change n);
+      built = λ n. built_still old new n (ap (λ (a : Arena). row_at a n) arena_as) (same_in outcome_in outcome_still (change n))
+          (ap (λ (p : Parts). at p.work.roots (change n)) rest);
       last = λ n. same_in last_of last_still (main n);
     }

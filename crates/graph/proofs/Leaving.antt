@@ -1,15 +1,13 @@
 -- What a round leaves that changes nothing.
-use Rattle.std.proofs.Common.{inl, ℕ, List, [], None, refl, sym, ap, ◌∙◌, arith}
+use Rattle.std.proofs.Common.{inl, ℕ, List, [], refl, sym, ap, ◌∙◌, arith}
 use Rattle.std.specs.Prelude.{is_some}
-use Rattle.std.proofs.lemmas.Option.{none-some}
 use Rattle.inc_value.specs.declared.node.NodeId.{NodeId}
 use Rattle.inc_terms.specs.Term.{Functions}
 use Rattle.wiring.specs.Kept.{IsKept}
 use Rattle.wiring.specs.Stands.{Counts}
-use Rattle.wiring.specs.declared.refused.Refused.TheVariants.{Memory}
 use Rattle.stabilize_round.specs.Invariant.{Rooted}
 use Rattle.stabilizer.specs.Kept.{graph_in}
-use Rattle.stabilizer.specs.Round.{HasCalledMet, IsLeftBy, BuildsAllBut}
+use Rattle.stabilizer.specs.Round.{HasCalledMet, IsLeftBy}
 use Rattle.stabilizer.specs.declared.parts.Parts.{Parts}
 
 -- no call is made
@@ -43,16 +41,3 @@ left_same F parts counts kept rooted = record {
   builds = ([], tt, λ b among. absurd among, record { kept = omega arith; within = omega arith });
   adds = (0, omega arith, record { kept = omega arith; most = omega arith; exact = λ below. omega arith });
 }
-
--- no bind was due, or none could be built yet
-pub built_same : (F : Functions) (parts : Parts) (observed : List NodeId) → IsKept parts.arena parts.work → BuildsAllBut F parts parts observed Memory
-built_same F parts observed kept = (
-  None,
-  record {
-    stays = λ b r given row. inl refl;
-    made = λ b r late row. let given = kept.sound.given b (ap is_some row) in absurd (omega (arith, given, late));
-    refused = λ b e. absurd (none-some b e);
-    was = λ b e. absurd (none-some b e);
-  },
-  λ b e. absurd (none-some b e),
-)

@@ -4,6 +4,8 @@ use Rattle.std.proofs.lemmas.Bool.{eqb-true, eq-eqb, lt-ltb}
 use Rattle.inc_value.specs.declared.node.NodeId.{NodeId}
 use Rattle.inc_value.specs.declared.node.Point.{Point}
 use Rattle.inc_terms.specs.Depend.{main, change}
+use Rattle.inc_terms.specs.Graph.{Row}
+use Rattle.inc_value.specs.declared.outcome.Outcome.{Outcome}
 use Rattle.map_nodes.specs.declared.cutoff.Cutoff.{Cutoff}
 use Rattle.map_nodes.specs.declared.cutoff.Cutoff.TheVariants.{Equal, Never}
 use Rattle.link_table.specs.Links.{Links, times}
@@ -13,6 +15,9 @@ use Rattle.node_outcomes.specs.Computing.{seen_of}
 use Rattle.node_outcomes.specs.Row.{is_never, never_in, settled_in, outcome_in, cutoff_in}
 use Rattle.node_outcomes.specs.declared.row.Progress.{Progress}
 use Rattle.point_map.specs.Rows.{at}
+use Rattle.node_arena.specs.Arena.{row_at}
+use Rattle.node_outcomes.specs.Choosing.{built_in}
+use Rattle.stabilizer.specs.Kept.{graph_in}
 use Rattle.stabilizer.specs.Round.{last_of, cutoff_at}
 use Rattle.stabilizer.specs.declared.parts.Parts.{Parts}
 use Rattle.wiring.specs.declared.refused.Refused.{Refused}
@@ -77,6 +82,17 @@ module _ {F : Type 0} (functions : F) (parts : Parts) (observers : List Observer
   -- and back
   pub needed_out : (p : Point) → part.Needed parts.work.graph p → IsNeeded (seen_as functions parts observers rooted refused) p
   needed_out p need = record { root = need.root; is_root = need.is_root; leads = need.leads }
+
+-- ---- what nodes are built for
+
+-- a node is built as it was, by its row, by the outcome that its change keeps, and by its root
+pub built_still : (old new : Parts) (n : NodeId) → row_at new.arena n ≡ row_at old.arena n
+    → outcome_in (at new.work.rows (change n)) ≡ outcome_in (at old.work.rows (change n))
+    → at new.work.roots (change n) ≡ at old.work.roots (change n) → (graph_in new).built n ≡ (graph_in old).built n
+built_still old new n row outcome root =
+    ap (λ (r : Option Row). built_in r (outcome_in (at new.work.rows (change n))) (at new.work.roots (change n))) row
+    ∙ (ap (λ (o : Option Outcome). built_in (row_at old.arena n) o (at new.work.roots (change n))) outcome
+    ∙ ap (built_in (row_at old.arena n) (outcome_in (at old.work.rows (change n)))) root)
 
 -- ---- what stays beside nodes
 

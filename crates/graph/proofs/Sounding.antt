@@ -1,5 +1,5 @@
 -- What every graph keeps, where a node is added.
-use Rattle.std.proofs.Common.{◌≡◌, ◌⊎◌, inl, inr, ℕ, zero, suc, ◌+◌, ◌<◌, ◌≤◌, Bool, List, Option, None, Some, Ok, Err, sym, ap, subst, ◌∙◌, arith}
+use Rattle.std.proofs.Common.{◌≡◌, ◌⊎◌, inl, inr, ℕ, zero, suc, ◌+◌, ◌<◌, ◌≤◌, Bool, List, Option, None, Some, Ok, Err, refl, sym, ap, subst, ◌∙◌, arith}
 use Rattle.std.specs.Prelude.{Result, IfOk, OnOk, OnErr, IsErrOf}
 use Rattle.inc_value.specs.declared.function.FnRef.{FnRef}
 use Rattle.inc_value.specs.declared.node.NodeId.{NodeId}
@@ -16,14 +16,17 @@ use Rattle.node_arena.specs.declared.arena.AddFault.TheVariants as add
 use Rattle.node_arena.specs.Arena.{Arena, row_at, Changes, NamesGiven}
 use Rattle.node_arena.specs.Graph.{CallsFit}
 use Rattle.node_arena.specs.RightSide.{RightSide, SidesHold}
-use Rattle.node_arena.specs.RightSideLaws.{meaning, ids_of, AllFit}
+use Rattle.node_arena.specs.RightSideLaws.{meaning, ids_of}
 use Rattle.node_outcomes.specs.Meaning.{Meaning}
 use Rattle.map_nodes.specs.declared.cutoff.Cutoff.TheVariants.{Equal}
 use Rattle.inc_value.specs.declared.node.Part.TheVariants.{Main}
 use Rattle.node_outcomes.specs.Computing.{seen_of}
 use Rattle.node_outcomes.specs.declared.row.Progress.{Progress}
 use Rattle.wiring.specs.Places.{ChangesNode, for_parts}
+use Rattle.wiring.specs.Kept.{IsKept}
+use Rattle.wiring.specs.declared.work.Work.{Work}
 use Rattle.stabilizer.specs.Round.{IsReady, last_of}
+use Rattle.stabilizer.specs.Weights.{SidesFit}
 use Rattle.stabilizer.specs.declared.parts.Parts.{Parts}
 use Rattle.wiring.specs.declared.refused.Refused.{Refused}
 use Rattle.node_outcomes.specs.Row.{cutoff_in}
@@ -87,12 +90,12 @@ answer_ready known value right sides old new def ty (Err e) a calls sound ready 
 -- and functions of all nodes fit
 pub answer_fit : (known : FnRef → Bool) (right : FnRef → RightSide) → SidesHold known right → (old new : Arena)
     (def : Def) (ty : Ty) (result : Result NodeId AddFault) → AddAnswers old new def ty result → CallsKnown known right old def → IsSound new
-    → ((n : NodeId) → Given old.given n → row_at new n ≡ row_at old n) → AllFit known right old → AllFit known right new
-answer_fit known right sides old new def ty (Ok id) a calls sound keeps fit =
+    → ((n : NodeId) → Given old.given n → row_at new n ≡ row_at old n) → (work : Work) → IsKept old work → SidesFit known right old → SidesFit known right new
+answer_fit known right sides old new def ty (Ok id) a calls sound keeps work kept fit =
     let g = a.given in
-    fit_added known right old new (omega (arith, g)) keeps id (record { def = def; ty = ty; scope = None }) a.added
+    fit_added known right old new (omega (arith, g)) work kept id (record { def = def; ty = ty; scope = None }) a.added a.fresh refl keeps
     (known_fits known right sides old new ty def calls (sound.types id (record { def = def; ty = ty; scope = None }) a.added.changed)) fit
-answer_fit known right sides old new def ty (Err e) a calls sound keeps fit = subst (AllFit known right) (sym a.err) fit
+answer_fit known right sides old new def ty (Err e) a calls sound keeps work kept fit = subst (SidesFit known right) (sym a.err) fit
 
 -- ---- all that a call between stabilizes leaves
 

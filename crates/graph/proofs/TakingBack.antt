@@ -11,11 +11,11 @@ use Rattle.point_map.specs.Rows.{at}
 use Rattle.inc_terms.specs.Graph.{Row}
 use Rattle.node_arena.specs.Arena.{Arena, row_at}
 use Rattle.node_arena.specs.RightSide.{RightSide}
-use Rattle.node_arena.specs.RightSideLaws.{AllFit}
 use Rattle.stabilize_round.specs.State.{count}
 use Rattle.stabilize_round.proofs.Points.{among_count, node_or_other}
 use Rattle.stabilizer.specs.Round.{IsReady, AreRooted}
 use Rattle.node_outcomes.specs.Meaning.{Meaning}
+use Rattle.stabilizer.specs.Weights.{SidesFit}
 use Rattle.stabilizer.specs.declared.parts.Parts.{Parts}
 use Rattle.wiring.specs.declared.refused.Refused.{Refused}
 use Rattle.wiring.specs.declared.work.Work.{Work}
@@ -78,15 +78,9 @@ scoped_before arena work count kept none n b r row scope = elim (at_or_past n.ge
 -- functions of those that are left fit
 module _ (known : FnRef → Bool) (right : FnRef → RightSide) (old new : Arena) (count : ℕ)
     (older : (n : NodeId) → n.gen_ < count → row_at new n ≡ row_at old n) (dropped : (n : NodeId) → count ≤ n.gen_ → row_at new n ≡ None) where
-  was_there : (n : NodeId) (r : Row) → row_at new n ≡ Some r → row_at old n ≡ Some r
-  was_there n r is = elim (at_or_past n.gen_ count) [
-    | inl h ↦ sym (older n h) ∙ is
-    | inr late ↦ absurd (let e = sym (dropped n late) ∙ is in cc)
-  ]
-
-  pub fit_back : new.given ≡ old.given → AllFit known right old → AllFit known right new
-  fit_back given fit = fit_left known right old new (omega (arith, given)) was_there
-      (λ n is_given. elim (at_or_past n.gen_ count) [ inl h ↦ inl (older n h) | inr late ↦ inr (dropped n late) ]) fit
+  pub fit_back : new.given ≡ old.given → SidesFit known right old → SidesFit known right new
+  fit_back given fit = fit_left known right old new (omega (arith, given))
+      (λ n. elim (at_or_past n.gen_ count) [ inl h ↦ inl (older n h) | inr late ↦ inr (dropped n late) ]) fit
 
 -- ---- who is needed, over calls that keep all beside the nodes
 

@@ -13,7 +13,7 @@ use Rattle.map_nodes.specs.declared.cutoff.Cutoff.TheVariants.{Equal}
 use Rattle.node_arena.specs.Arena.{Arena, row_at, Changes, IsLive, IsFull, IsSet, NamesGiven}
 use Rattle.node_arena.specs.RightSide.{RightSide, AreFit}
 use Rattle.node_arena.specs.Typing.{Makes}
-use Rattle.graph.specs.Standing.{Standing, node_at, shown_of, chosen_by, called_last, cutoff_of, times_linked, times_rooted}
+use Rattle.graph.specs.Standing.{Standing, graph, node_at, shown_of, chosen_by, called_last, cutoff_of, times_linked, times_rooted}
 use Rattle.graph.specs.declared.fault.Kept.{Kept}
 use Rattle.graph.specs.declared.fault.GraphFault.{GraphFault}
 use Rattle.graph.specs.declared.fault.GraphFault.TheVariants as fault
@@ -68,10 +68,11 @@ module _ {F : Type 0} where
   abbrev pub HasNoRoom : Standing F → Def → Ty → Type 0
   HasNoRoom s def ty = NamesGiven s.nodes.given def × Makes s.nodes def ty × IsFull s.nodes
 
-  -- no node changed and no id was given, and all stays beside
+  -- no node changed and no id was given, all stays beside, and each node is built for what it was, with its root
   pub record KeepsAll (old new : Standing F) : Type 0 where
     pub beside : KeepsBesideGiven old new
     pub nodes : new.nodes ≡ old.nodes
+    pub built : (n : NodeId) → (graph new).built n ≡ (graph old).built n
 
   -- a node was added under an id that was never given. It shows nothing yet, its function was never called, and its cutoff is Equal
   pub record Adds (old new : Standing F) (id : NodeId) (row : Row) : Type 0 where
@@ -106,6 +107,7 @@ module _ {F : Type 0} where
     pub roots : (p : Point) → times_rooted new p ≡ times_rooted old p
     pub shown : (n : NodeId) → shown_of new n ≡ shown_of old n
     pub chosen : (n : NodeId) → chosen_by new n ≡ chosen_by old n
+    pub built : (n : NodeId) → (graph new).built n ≡ (graph old).built n
     pub last : (n : NodeId) → called_last new n ≡ called_last old n
 
   -- the nodes of ids from a count on were dropped, and their ids stay used up

@@ -4,3 +4,4 @@ pub mod Inside
 pub mod Sound
 pub mod Effects
 pub mod Stabilizes
+pub mod Few

@@ -5,6 +5,7 @@ ghost use Rattle.node_arena.specs.Arena.{row_at, live, IsLive};
 ghost use Rattle.inc_value.specs.declared.node.Point.{Point};
 ghost use Rattle.map_nodes.specs.declared.cutoff.Cutoff.TheVariants.{Equal};
 ghost use Rattle.node_outcomes.specs.Meaning.{meaning_of};
+ghost use Rattle.graph.specs.Few.{AreFew};
 ghost use Rattle.graph.specs.Sound.{IsSound};
 ghost use Rattle.graph.specs.Standing.{IsUnbroken, IsBroken, IsOwner, graph};
 ghost use Rattle.graph.specs.Standing.{called_last, cutoff_of, times_linked, times_rooted};
@@ -63,13 +64,13 @@ impl<F: Functions> Model for Graph<F> {
     ghost use Rattle.std.specs.Prelude.{◌≡◌};
     ghost use Rattle.inc_value.specs.declared.outcome.Outcome.TheVariants.{Invalid};
     ghost use Rattle.graph.specs.Inside.{FitsInside};
-    ghost use Rattle.node_arena.specs.RightSideLaws.{AllFit};
+    ghost use Rattle.stabilizer.specs.Weights.{SidesFit};
     ghost use Rattle.node_outcomes.specs.Meaning.{meaning_of};
 
     ghost invariant = { λ g. (g.invalid ≡ Invalid)
         × FitsInside (meaning_of F.Functions g.functions) g.parts g.observers.items g.rooted g.refused
         × F.is_sound g.functions
-        × AllFit (F.known g.functions) (F.right g.functions) g.parts.arena };
+        × SidesFit (F.known g.functions) (F.right g.functions) g.parts.arena };
 }
 
 impl<F: Functions> Graph<F> {
@@ -148,10 +149,12 @@ impl<F: Functions> Graph<F> {
         Some(top)
     }
 
-    /// What is kept fits together, and a node that is not live has cutoff Equal: facts for a caller's proof. Nothing runs.
+    /// What is kept fits together, no more nodes live than those outside all scopes count as, and a node that is not live has
+    /// cutoff Equal: facts for a caller's proof. Nothing runs.
     pub fn keeps_sound(&self)
         ensures sound { IsSound (meaning_of F.Functions self.entry.now.functions) self.entry.now }
         ensures functions { F.is_sound self.entry.now.functions }
+        ensures few { AreFew (F.right self.entry.now.functions) self.entry.now.nodes }
         ensures dead { (n : NodeId) → row_at self.entry.now.nodes n ≡ None → cutoff_of self.entry.now n ≡ Equal }
     {
         let _ = &self.parts;

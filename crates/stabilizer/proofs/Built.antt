@@ -1,4 +1,5 @@
 -- A bind's right side is built, or all that was added for it is dropped again.
+use Rattle.std.proofs.Math.Path.{fun_ext}
 use Rattle.std.proofs.Common.{◌≡◌, ◌⊎◌, inl, inr, ℕ, ◌<◌, ◌≤◌, ◌+◌, ◌-◌, Bool, None, Some, refl, sym, ap, subst, ◌∙◌, arith}
 use Rattle.std.specs.Prelude.{is_some, IsTrue, ◌↔◌}
 use Rattle.std.proofs.lemmas.Bool.{cases_lt}
@@ -31,29 +32,38 @@ use Rattle.wiring.specs.declared.work.Work.{Work}
 use Rattle.wiring.proofs.Deciding.{need_same}
 use Rattle.stabilizer.specs.Building.{HasGrown, IsUnbuilt, LeavesNoRoom, StopsBuilding, IsNewBefore, HasAdopted, HaveEntered}
 use Rattle.stabilizer.specs.Building.{AdoptsBefore, NoneSince, MayAdopt, MayDisown, HasDisowned}
-use Rattle.stabilizer.specs.Dying.{IsBindNode}
+use Rattle.stabilizer.specs.Dying.{IsBindNode, IsBindOf}
 use Rattle.stabilizer.specs.Kept.{PartsKept, KeepsScopes}
+use Rattle.stabilizer.specs.Weights.{ScopesFit, SidesFit}
 use Rattle.stabilizer.specs.declared.parts.Parts.{Parts}
 use Rattle.stabilizer.proofs.Adopting.{rounds_kept, adopts_none}
+use Rattle.stabilizer.proofs.Weighing.{sides_last, scopes_built}
 use Rattle.stabilizer.proofs.Growing.{holds_none, none_holds, grown_kept, grown_scopes}
 
 -- functions of nodes fit on where some nodes are dropped
 pub fit_fewer : (known : FnRef → Bool) (right : FnRef → RightSide) (a fewer : Arena) → fewer.given ≡ a.given
-    → ((n : NodeId) → (row_at fewer n ≡ row_at a n) ⊎ (row_at fewer n ≡ None)) → AllFit known right a → AllFit known right fewer
-fit_fewer known right a fewer given rows all n r e = elim (rows n) [
-  | inl same ↦ calls_more (IsFitIn known right a) (IsFitIn known right fewer)
-      (fit_lasts known known right right a fewer (record { keeps = λ f h. h; same = λ f h. refl }) (omega (arith, given)) (λ m g. rows m)) r.def
-      (all n r (sym same ∙ e))
-  | inr none ↦ absurd (none-some r (sym none ∙ e))
-]
+    → ((n : NodeId) → (row_at fewer n ≡ row_at a n) ⊎ (row_at fewer n ≡ None)) → SidesFit known right a → SidesFit known right fewer
+fit_fewer known right a fewer given rows fit = sides_last known known right right a fewer (λ f h. refl) rows all_fewer fit
+  where
+    all_fewer : AllFit known right fewer
+    all_fewer n r e = elim (rows n) [
+      | inl same ↦ calls_more (IsFitIn known right a) (IsFitIn known right fewer)
+          (fit_lasts known known right right a fewer (record { keeps = λ f h. h; same = λ f h. refl }) (omega (arith, given)) (λ m g. rows m)) r.def
+          (fit.all n r (sym same ∙ e))
+      | inr none ↦ absurd (none-some r (sym none ∙ e))
+    ]
 
 -- functions of nodes fit on where one of them builds
 pub fit_built : (known later : FnRef → Bool) (right made : FnRef → RightSide) (b : NodeId) (a built : Arena) (f : FnRef)
     → SidesHold known right → KnownAs known Rhs f → SameKnown known later → SameSides right made → AreFit a (right f).ids
-    → Grows (right f).uses (building_in b a) (building_in b built) (right f).size → AllFit known right a → AllFit later made built
-fit_built known later right made b a built f hold is names sides ids grows all =
-    building_fits known later right made (building_in b a) (building_in b built) f (right f).size
-    (record { keeps = λ h t. subst IsTrue (sym (names h)) t; same = λ h t. sides h }) hold is ids grows all
+    → (work : Work) → IsKept a work → IsLive a b → IsEmpty a b → IsBindOf a b f
+    → Grows (right f).uses (building_in b a) (building_in b built) (right f).size → SidesFit known right a → SidesFit later made built
+fit_built known later right made b a built f hold is names sides ids work kept live empty own grows fit = record {
+  all = building_fits known later right made (building_in b a) (building_in b built) f (right f).size
+      (record { keeps = λ h t. subst IsTrue (sym (names h)) t; same = λ h t. sides h }) hold is ids grows fit.all;
+  scopes = subst (λ (s : FnRef → RightSide). ScopesFit s built) (sym (fun_ext sides))
+      (scopes_built known right hold f is b a built kept.sound live empty (λ n c r row scope. ap is_some (kept.scopes n r c row scope).4) own grows fit.scopes);
+}
 
 -- a fault of the builder's stops the build as it says
 pub stops_by : (before : ℕ) (arena : Arena) (f : BuildFault) (e : Refused) → ((e ≡ Full) ↔ (f ≡ fault.Full)) → ((e ≡ Memory) ↔ (f ≡ fault.Memory))
@@ -283,7 +293,7 @@ module _ (old mid : Parts) (b : NodeId) (side : RightSide) (kept : PartsKept old
           let same = given_same in
           elim full [ inl many ↦ inl (omega (arith, many, room, same)) | inr every ↦ inr (same ∙ every) ]
 
-      pub unbuilt_fit : (known : FnRef → Bool) (right : FnRef → RightSide) → AllFit known right mid.arena → AllFit known right last.arena
+      pub unbuilt_fit : (known : FnRef → Bool) (right : FnRef → RightSide) → SidesFit known right mid.arena → SidesFit known right last.arena
       unbuilt_fit known right all = fit_fewer known right mid.arena last.arena given_same
           (λ n. elim (cases_lt n.gen_ old.arena.given) [ inl g ↦ inl (nodes_last n g) | inr s ↦ inr (dis.arena.gone n s) ]) all
 
@@ -327,5 +337,5 @@ module _ (old mid : Parts) (b : NodeId) (side : RightSide) (kept : PartsKept old
         pub none_room : IsFull mid.arena → LeavesNoRoom old.arena.given last.arena
         none_room = no_room new some.0 so last dis
 
-        pub none_fit : (known : FnRef → Bool) (right : FnRef → RightSide) → AllFit known right mid.arena → AllFit known right last.arena
+        pub none_fit : (known : FnRef → Bool) (right : FnRef → RightSide) → SidesFit known right mid.arena → SidesFit known right last.arena
         none_fit = unbuilt_fit new some.0 so last dis

@@ -63,3 +63,5 @@ pub mod RebuildAsks
 pub mod Rebuilds
 pub mod RebuildCounts
 pub mod RebuildEnds
+pub mod Sums
+pub mod Weighing

@@ -1,5 +1,5 @@
 -- What is asked before what is inside a bind dies, and before a right side is built, holds.
-use Rattle.std.proofs.Common.{◌≡◌, ◌⊎◌, inl, inr, ℕ, ◌<◌, Bool, true, List, [], ◌∷◌, Option, None, Some, refl, sym, ap, subst, ◌∙◌, arith}
+use Rattle.std.proofs.Common.{◌≡◌, ◌⊎◌, inl, inr, ℕ, ◌<◌, Bool, true, List, [], ◌∷◌, Option, None, Some, refl, sym, ap, subst, ◌∙◌}
 use Rattle.std.proofs.Math.Path.{fun_ext}
 use Rattle.std.specs.Prelude.{is_some, option_map, IfSome}
 use Rattle.std.specs.List.{AllZip}
@@ -27,18 +27,19 @@ use Rattle.node_arena.specs.Building.{building_in}
 use Rattle.node_arena.specs.Graph.{AllCallFit}
 use Rattle.node_arena.specs.Meanings.{SameKnown}
 use Rattle.node_arena.specs.RightSide.{RightSide, MayBuild, IsRoot, IsEmpty, AreTaken, SameSides}
-use Rattle.node_arena.specs.RightSideLaws.{meaning, AllFit, IsFitIn, ids_of}
+use Rattle.node_arena.specs.RightSideLaws.{meaning, IsFitIn, ids_of}
 use Rattle.node_arena.specs.Typing.{Fits, ReferenceFits, BindTakes, BindMakes, Makes}
-use Rattle.node_arena.proofs.Graph.{calls_more}
-use Rattle.node_arena.proofs.RightSides.{fit_lasts, fit_lists_given, same_rows_unfold}
+use Rattle.node_arena.proofs.RightSides.{fit_lists_given, same_rows_unfold}
 use Rattle.node_outcomes.specs.Computing.{has_part, seen_of, IsOfType}
 use Rattle.node_outcomes.specs.Row.{without_outcome}
 use Rattle.node_outcomes.specs.declared.row.Progress.{Progress}
 use Rattle.wiring.specs.Kept.{IsKept}
-use Rattle.stabilizer.specs.Dying.{HasDied, LeavesStanding, StandsBut, IsBindNode}
+use Rattle.stabilizer.specs.Dying.{HasDied, LeavesStanding, StandsBut, IsBindNode, IsBindOf}
 use Rattle.stabilizer.specs.Kept.{graph_in, KeepsScopes}
 use Rattle.stabilizer.specs.Rebuilding.{IsToBuild}
+use Rattle.stabilizer.specs.Weights.{SidesFit}
 use Rattle.stabilizer.specs.declared.parts.Parts.{Parts}
+use Rattle.stabilizer.proofs.Built.{fit_fewer}
 use Rattle.stabilizer.proofs.BuiltAnew.{HasRoot}
 
 -- ---- who is inside
@@ -131,18 +132,19 @@ module _ (old cut dead : Parts) (b : NodeId) (same : cut.arena ≡ old.arena) (d
   all_still (n ∷ ns) (t ∷ ts) h = (fits_still n t h.0, all_still ns ts h.1)
 
   -- functions of live nodes fit on
-  pub dead_fit : (known : FnRef → Bool) (right : FnRef → RightSide) → AllFit known right old.arena → AllFit known right dead.arena
-  dead_fit known right all n r row = elim (rows_last n) [
-    | inl e ↦ absurd (none-some r (sym e ∙ row))
-    | inr e ↦ calls_more (IsFitIn known right old.arena) (IsFitIn known right dead.arena)
-        (λ k f h. fit_lasts known known right right old.arena dead.arena (record { keeps = λ g x. x; same = λ g x. refl })
-        (let same = dead_given in omega (arith, same)) (λ m g. elim (rows_last m) [ inl e ↦ inr e | inr e ↦ inl e ]) k f h)
-        r.def (all n r (sym e ∙ row))
-  ]
+  pub dead_fit : (known : FnRef → Bool) (right : FnRef → RightSide) → SidesFit known right old.arena → SidesFit known right dead.arena
+  dead_fit known right fit = fit_fewer known right old.arena dead.arena dead_given (λ m. elim (rows_last m) [ inl e ↦ inr e | inr e ↦ inl e ]) fit
 
   -- ---- a right side can be built
 
   module _ (kept : IsKept old.arena old.work) (f : FnRef) (captures : List NodeId) (given : Outcome) (to : IsToBuild old b f captures given) where
+    -- the bind has the function by which it is built
+    pub is_bind_of : IsBindOf dead.arena b f
+    is_bind_of r l g captures' row bind =
+        let same : r ≡ to.row = same_Some r to.row (sym row ∙ (bind_stays ∙ to.is_row)) in
+        let defs : graph.Bind l g captures' ≡ graph.Bind to.left f captures = sym bind ∙ (ap (λ (x : Row). x.def) same ∙ to.is_bind) in
+        cc
+
     -- the bind lives
     pub is_bind_node : IsBindNode dead.arena b
     is_bind_node = (to.row, to.left, f, captures, bind_stays ∙ to.is_row, to.is_bind)
@@ -154,12 +156,12 @@ module _ (old cut dead : Parts) (b : NodeId) (same : cut.arena ≡ old.arena) (d
     pub gives_type : f.sig.gives ≡ to.row.ty
     gives_type = makes.gives
 
-    fits : (known : FnRef → Bool) (right : FnRef → RightSide) → AllFit known right old.arena → IsFitIn known right old.arena Rhs f
-    fits known right all =
-        (subst (λ (d : graph.Def). DefWithin (λ n. Unit {0}) (IsFitIn known right old.arena) d) to.is_bind (all b to.row to.is_row)).0
+    fits : (known : FnRef → Bool) (right : FnRef → RightSide) → SidesFit known right old.arena → IsFitIn known right old.arena Rhs f
+    fits known right fit =
+        (subst (λ (d : graph.Def). DefWithin (λ n. Unit {0}) (IsFitIn known right old.arena) d) to.is_bind (fit.all b to.row to.is_row)).0
 
     -- its function is known
-    pub is_known : (known : FnRef → Bool) (right : FnRef → RightSide) → AllFit known right old.arena → KnownAs known Rhs f
+    pub is_known : (known : FnRef → Bool) (right : FnRef → RightSide) → SidesFit known right old.arena → KnownAs known Rhs f
     is_known known right all = (fits known right all).0
 
     named : Every (Given old.arena.given) captures
@@ -200,7 +202,7 @@ module _ (old cut dead : Parts) (b : NodeId) (same : cut.arena ≡ old.arena) (d
           )
 
       -- what a right side is built on can be built on
-      pub may_build : (known : FnRef → Bool) (right : FnRef → RightSide) → AllFit known right old.arena
+      pub may_build : (known : FnRef → Bool) (right : FnRef → RightSide) → SidesFit known right old.arena
           → MayBuild (building_in b dead.arena) f.sig (right f) left captures
       may_build known right all = record {
         empty = nobody;
@@ -245,7 +247,7 @@ no_root_built F arena b f captures = record {
 
 -- the nodes that they list were given, by what they listed when the round began
 pub fit_then : (known known' : FnRef → Bool) (right right' : FnRef → RightSide) (arena : Arena) → SameKnown known known' → SameSides right right'
-    → AllFit known' right' arena → AllCallFit known (ids_of right) arena
-fit_then known known' right right' arena same_known same_sides all =
+    → SidesFit known' right' arena → AllCallFit known (ids_of right) arena
+fit_then known known' right right' arena same_known same_sides fit =
     subst (λ (k : FnRef → Bool). AllCallFit k (ids_of right) arena) (fun_ext same_known)
-    (subst (λ (r : FnRef → RightSide). AllCallFit known' (ids_of r) arena) (fun_ext same_sides) (fit_lists_given known' right' arena all))
+    (subst (λ (r : FnRef → RightSide). AllCallFit known' (ids_of r) arena) (fun_ext same_sides) (fit_lists_given known' right' arena fit.all))

@@ -19,7 +19,7 @@ use Rattle.node_arena.specs.Arena.{Arena, row_at}
 use Rattle.node_arena.specs.Building.{building_in}
 use Rattle.node_arena.specs.Graph.{AllCallFit}
 use Rattle.node_arena.specs.RightSide.{RightSide, MayBuild, IsRoot, one_built}
-use Rattle.node_arena.specs.RightSideLaws.{AllFit, ids_of}
+use Rattle.node_arena.specs.RightSideLaws.{ids_of}
 use Rattle.node_arena.specs.Typing.{Fits}
 use Rattle.node_arena.specs.declared.functions.Functions.{Ghosts}
 use Rattle.node_lists.specs.Deaths.{Deaths}
@@ -39,12 +39,13 @@ use Rattle.wiring.specs.Wiring.{KeepsGraph}
 use Rattle.wiring.specs.declared.refused.Refused.TheVariants.{Memory}
 use Rattle.wiring.specs.declared.work.Work.{Work}
 use Rattle.stabilizer.specs.Building.{HasGrown}
-use Rattle.stabilizer.specs.Dying.{IsCutOff, HasDied, StandsBefore}
+use Rattle.stabilizer.specs.Dying.{IsBindOf, IsCutOff, HasDied, StandsBefore}
 use Rattle.stabilizer.specs.Kept.{PartsKept, KeepsMeaning, counts_by}
 use Rattle.stabilizer.specs.Rebuilding.{IsToBuild, BuildsAnew, BuildRefused, as_it_was, IsSettledOn, IsToSettle, RebuildStays}
+use Rattle.stabilizer.specs.Weights.{SidesFit}
 use Rattle.stabilizer.specs.declared.parts.Parts.{Parts}
 use Rattle.stabilizer.proofs.BuiltAnew.{IsRebuilt, HasRoot, run_settled}
-use Rattle.stabilizer.proofs.RebuildAsks.{dead_fit, dead_given, bind_stays, is_known, may_build, gives_type, fit_then, built_root, no_root_built}
+use Rattle.stabilizer.proofs.RebuildAsks.{dead_fit, dead_given, bind_stays, is_bind_of, is_known, may_build, gives_type, fit_then, built_root, no_root_built}
 use Rattle.stabilizer.proofs.RebuildCounts.{tally_adds, tally_builds}
 use Rattle.stabilizer.proofs.Rebuilds.{builds_anew, stops_unbuilt}
 use Rattle.stabilizer.proofs.RebuiltKept.{rebuilt_kept, roomy, roomy_kept, roomy_to, roomy_before, died_roomy, roots_roomy, none_grown, no_adds}
@@ -134,7 +135,7 @@ module _ {K More : Type 0} (keeper : Ghosts K More) (fs : K) where
     pub kept : PartsKept old
     pub to : IsToBuild old b f captures given
     pub own : Holds old.work.rows (change b)
-    pub fit : AllFit (keeper.known fs) (keeper.right fs) old.arena
+    pub fit : SidesFit (keeper.known fs) (keeper.right fs) old.arena
     pub cuts : IsCutOff old cut b
     pub died : HasDied cut dead b
     pub lasts : PartsKept dead
@@ -150,7 +151,7 @@ module _ {K More : Type 0} (keeper : Ghosts K More) (fs : K) where
   pub are_cut : (old : Parts) (deaths : Deaths) (same : KeepsRows old.work.deaths.scopes deaths.scopes) (dying : Vec NodeId Global)
       (items : dying.items ≡ old.dying.items) {cut dead : Parts} {b : NodeId} {f : FnRef} {captures : List NodeId} {given : Outcome}
       → PartsKept old → IsToBuild old b f captures given → Holds old.work.rows (change b) → old.work.todo.items ≡ [] → keeper.is_sound fs
-      → AllFit known right old.arena
+      → SidesFit known right old.arena
       → IsCutOff (roomy old deaths old.work.roots same (λ p. refl) dying items) cut b → HasDied cut dead b → PartsKept dead
       → AreCut old (roomy old deaths old.work.roots same (λ p. refl) dying items) cut dead b f captures given
   are_cut old deaths same dying items {b = b} {f = f} {captures = captures} {given = given} kept to own quiet sound fit cuts died lasts = record {
@@ -176,7 +177,7 @@ module _ {K More : Type 0} (keeper : Ghosts K More) (fs : K) where
   -- where there was no room for the deaths all stays
   pub roomy_stays : (old : Parts) (deaths : Deaths) (same : KeepsRows old.work.deaths.scopes deaths.scopes) (dying : Vec NodeId Global)
       (items : dying.items ≡ old.dying.items) (b : NodeId) → Holds old.work.rows (change b) → old.work.todo.items ≡ [] → keeper.is_sound fs
-      → AllFit known right old.arena → RebuildStays keeper fs fs old (roomy old deaths old.work.roots same (λ p. refl) dying items) b
+      → SidesFit known right old.arena → RebuildStays keeper fs fs old (roomy old deaths old.work.roots same (λ p. refl) dying items) b
   roomy_stays old deaths same dying items b own quiet sound fit = record {
     calls = refl;
     own = λ r e. e;
@@ -194,7 +195,7 @@ module _ {K More : Type 0} (keeper : Ghosts K More) (fs : K) where
     pub grew : HasGrown ready grown b
     pub kept : PartsKept grown
     pub meaning : KeepsMeaning keeper fs fs'
-    pub fit : AllFit (keeper.known fs') (keeper.right fs') grown.arena
+    pub fit : SidesFit (keeper.known fs') (keeper.right fs') grown.arena
     pub calls : keeper.calls fs' ≡ keeper.calls fs
     pub tally : keeper.tally fs' ≡ one_built (grown.arena.given - ready.arena.given) (keeper.tally fs)
 
@@ -204,7 +205,7 @@ module _ {K More : Type 0} (keeper : Ghosts K More) (fs : K) where
     own_cut = ap is_some h.cuts.own ∙ h.own
 
     -- functions fit after the deaths
-    pub fits_dead : AllFit known right dead.arena
+    pub fits_dead : SidesFit known right dead.arena
     fits_dead = dead_fit old cut dead b h.cuts.arena h.died own_cut known right h.fit
 
     as_given : dead.arena.given ≡ old.arena.given
@@ -226,6 +227,9 @@ module _ {K More : Type 0} (keeper : Ghosts K More) (fs : K) where
     -- the bind's function is known, and a right side can be built for a value
     pub asks_known : KnownAs known Rhs f
     asks_known = is_known old cut dead b h.cuts.arena h.died own_cut h.kept.work f captures given h.to known right h.fit
+
+    pub asks_own : IsBindOf dead.arena b f
+    asks_own = is_bind_of old cut dead b h.cuts.arena h.died own_cut h.kept.work f captures given h.to
 
     pub asks_ready : (left : Value) → given ≡ Val left → MayBuild (building_in b dead.arena) f.sig (right f) left captures
     asks_ready left is = may_build old cut dead b h.cuts.arena h.died own_cut h.kept.work f captures given h.to left is known right h.fit

@@ -42,7 +42,6 @@ use Rattle.wiring.specs.Wiring.{KeepsGraph, KeepsRound, IsTurnedIn}
 use Rattle.wiring.specs.declared.work.Work.{Work}
 use Rattle.wiring.proofs.Deciding.{need_same}
 use Rattle.wiring.proofs.Holding.{died_same}
-use Rattle.stabilizer.proofs.Waiting.{last}
 
 -- of the parts just a change's row and its place in the heap are others: it was settled on this outcome, and left the heap
 pub record IsRun (old new : Work) (n : NodeId) (given : Outcome) : Type 0 where

@@ -8,10 +8,16 @@ use Rattle.node_arena.specs.Meanings.{SameKnown}
 use Rattle.node_arena.specs.RightSide.{RightSide, SameSides}
 use Rattle.node_arena.specs.RightSideLaws.{AllFit, IsFitIn, SidesLast}
 use Rattle.node_arena.proofs.RightSides.{fit_lasts}
+use Rattle.stabilizer.specs.Weights.{SidesFit}
+use Rattle.stabilizer.proofs.Weighing.{sides_last}
 
 pub same_fit : (known known' : FnRef → Bool) (right right' : FnRef → RightSide) (a : Arena) → SameKnown known known' → SameSides right right'
-    → AllFit known right a → AllFit known' right' a
-same_fit known known' right right' a same sides all n r row =
-    let last : SidesLast known known' right right' = record { keeps = λ f h. subst (λ (b : Bool). IsTrue b) (sym (same f)) h; same = λ f h. sides f } in
-    calls_more (IsFitIn known right a) (IsFitIn known' right' a)
-    (λ k f h. fit_lasts known known' right right' a a last (omega arith) (λ m given. inl refl) k f h) r.def (all n r row)
+    → SidesFit known right a → SidesFit known' right' a
+same_fit known known' right right' a same sides fit = sides_last known known' right right' a a (λ f h. sides f) (λ n. inl refl) all_same fit
+  where
+    last : SidesLast known known' right right'
+    last = record { keeps = λ f h. subst (λ (b : Bool). IsTrue b) (sym (same f)) h; same = λ f h. sides f }
+
+    all_same : AllFit known' right' a
+    all_same n r row = calls_more (IsFitIn known right a) (IsFitIn known' right' a)
+        (λ k f h. fit_lasts known known' right right' a a last (omega arith) (λ m given. inl refl) k f h) r.def (fit.all n r row)

@@ -7,7 +7,7 @@ use Rattle.inc_value.specs.declared.outcome.Outcome.{Outcome}
 use Rattle.inc_value.specs.Choice.{here, step}
 use Rattle.inc_terms.specs.Depend.{change}
 use Rattle.inc_terms.specs.Evaluate.{NodeGives}
-use Rattle.inc_terms.specs.Graph.{Graph, Row, Built}
+use Rattle.inc_terms.specs.Graph.{Graph, Row}
 use Rattle.inc_terms.specs.Rebuild.{Inside, direct, nested}
 use Rattle.inc_terms.specs.Rebuilding.{outcome_of}
 use Rattle.inc_terms.specs.Term.{Functions}

@@ -185,6 +185,10 @@ scope_at arena n = option_and_then (λ (r : Row). r.scope) (row_at arena n)
 abbrev pub IsBindNode : Arena → NodeId → Type 0
 IsBindNode arena n = (r : Row) × (l : NodeId) × (f : FnRef) × (captures : List NodeId) × (row_at arena n ≡ Some r) × (r.def ≡ Bind l f captures)
 
+-- a node that is a bind has this function
+abbrev pub IsBindOf : Arena → NodeId → FnRef → Type 0
+IsBindOf arena n f = (r : Row) (l : NodeId) (g : FnRef) (captures : List NodeId) → row_at arena n ≡ Some r → r.def ≡ Bind l g captures → g ≡ f
+
 -- ---- dying
 
 -- of the nodes just those inside the bind's scope died, and the bind is built for nothing. What lives on and read one of them is in the heap, unless it was settled;

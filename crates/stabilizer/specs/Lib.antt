@@ -6,3 +6,4 @@ pub mod Settling
 pub mod Stepping
 pub mod Round
 pub mod Between
+pub mod Weights

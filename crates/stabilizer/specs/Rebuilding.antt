@@ -11,7 +11,6 @@ use Rattle.point_map.specs.Rows.{at, Holds, Changes}
 use Rattle.necessity.specs.Need.{KeepsRoots}
 use Rattle.necessary_graph.specs.Part.{IsInStep}
 use Rattle.node_arena.specs.Arena.{row_at}
-use Rattle.node_arena.specs.RightSideLaws.{AllFit}
 use Rattle.node_arena.specs.declared.functions.Functions.{Ghosts}
 use Rattle.stabilize_round.specs.Machine.{Move, Stops}
 use Rattle.stabilize_round.specs.Moves.{Quiet}
@@ -30,6 +29,7 @@ use Rattle.wiring.specs.declared.work.Work.{Work}
 use Rattle.stabilizer.specs.Building.{StopsBuilding}
 use Rattle.stabilizer.specs.Dying.{StandsBefore}
 use Rattle.stabilizer.specs.Kept.{PartsKept, KeepsMeaning, counts_by}
+use Rattle.stabilizer.specs.Weights.{SidesFit}
 use Rattle.stabilizer.specs.declared.parts.Parts.{Parts}
 
 -- what is seen of a node, or Invalid where nothing was yet
@@ -89,5 +89,5 @@ module _ {K More : Type 0} (keeper : Ghosts K More) (fs fs' : K) where
     pub roots : KeepsRoots old.work.graph.roots new.work.graph.roots
     pub round : new.work.round ≡ old.work.round
     pub quiet : new.work.todo.items ≡ []
-    pub fit : AllFit (keeper.known fs') (keeper.right fs') new.arena
+    pub fit : SidesFit (keeper.known fs') (keeper.right fs') new.arena
     pub meaning : KeepsMeaning keeper fs fs'

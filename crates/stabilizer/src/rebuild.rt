@@ -13,7 +13,6 @@ ghost use Rattle.necessary_graph.specs.Part.{Needed, IsInStep};
 ghost use Rattle.node_arena.specs.Arena.{row_at, live, IsLive};
 ghost use Rattle.node_arena.specs.Building.{building_in, Grows};
 ghost use Rattle.node_arena.specs.RightSide.{MayBuild, IsRoot, one_built, AreFit};
-ghost use Rattle.node_arena.specs.RightSideLaws.{AllFit};
 ghost use Rattle.node_outcomes.specs.Meaning.{meaning_of};
 ghost use Rattle.node_outcomes.specs.Row.{settled_in};
 ghost use Rattle.node_arena.specs.Sound.{IsSound};
@@ -23,11 +22,12 @@ ghost use Rattle.wiring.specs.Graph.{died_at};
 ghost use Rattle.wiring.specs.Kept.{IsKept};
 ghost use Rattle.wiring.specs.Wiring.{IsAtGate, KeepsPlaces, OnlyLoses, KeepsRound};
 ghost use Rattle.stabilizer.specs.Kept.{PartsKept, KeepsScopes, KeepsMeaning, counts_by, graph_in};
-ghost use Rattle.stabilizer.specs.Dying.{Dooms, AreDying, IsCutOff, HasDied, HaveGatesAlone, LeavesStanding, StandsBut, IsBindNode, scope_at, AreListed, MayBury, AreBuried, LosesRight, IsDoomed, IsPutToGate, KeepsGate};
+ghost use Rattle.stabilizer.specs.Dying.{Dooms, AreDying, IsCutOff, HasDied, HaveGatesAlone, LeavesStanding, StandsBut, IsBindNode, IsBindOf, scope_at, AreListed, MayBury, AreBuried, LosesRight, IsDoomed, IsPutToGate, KeepsGate};
 ghost use Rattle.stabilizer.specs.Building.{HasGrown, IsUnbuilt, StopsBuilding};
 ghost use Rattle.stabilizer.specs.Building.{AdoptsBefore, NoneSince, MayAdopt, GetsPoints, KeepsRest};
 ghost use Rattle.stabilizer.specs.Building.{MayDisown, MayLeave, HaveLeft, HasDisowned, DropsSince};
 ghost use Rattle.stabilizer.specs.Rebuilding.{IsToBuild, BuildsAnew, BuildRefused, IsToSettle, RebuildStays};
+ghost use Rattle.stabilizer.specs.Weights.{SidesFit};
 
 use crate::parts::Parts;
 use inc_terms::Nodes;
@@ -76,7 +76,7 @@ impl Parts {
         requires taken { at self.old.work.graph.heap (change node) ≡ None }
         requires quiet { self.old.work.todo.items ≡ [] }
         requires sound { F.is_sound functions.old }
-        requires fit { AllFit (F.known functions.old) (F.right functions.old) self.old.arena }
+        requires fit { SidesFit (F.known functions.old) (F.right functions.old) self.old.arena }
         ensures built { OnOk result (BuildsAnew (meaning_of F.Functions functions.old) self.old self.new node
             (counts_by F.Functions functions.old) (counts_by F.Functions functions.new)) }
         ensures refused { IfErr result (BuildRefused (meaning_of F.Functions functions.old) self.old self.new node
@@ -90,7 +90,7 @@ impl Parts {
         ensures round { self.new.work.round ≡ self.old.work.round }
         ensures quiet { self.new.work.todo.items ≡ [] }
         ensures kept { PartsKept self.new }
-        ensures fit { AllFit (F.known functions.new) (F.right functions.new) self.new.arena }
+        ensures fit { SidesFit (F.known functions.new) (F.right functions.new) self.new.arena }
         ensures functions { KeepsMeaning F.Functions functions.old functions.new }
     {
         match self.renew(functions, node, recipe, &given) {
@@ -120,7 +120,7 @@ impl Parts {
         requires taken { at self.old.work.graph.heap (change node) ≡ None }
         requires quiet { self.old.work.todo.items ≡ [] }
         requires sound { F.is_sound functions.old }
-        requires fit { AllFit (F.known functions.old) (F.right functions.old) self.old.arena }
+        requires fit { SidesFit (F.known functions.old) (F.right functions.old) self.old.arena }
         ensures ready { OnOk result (IsToSettle F.Functions functions.old functions.new self.old self.new node given.now) }
         ensures refused { IfErr result (BuildRefused (meaning_of F.Functions functions.old) self.old self.new node
             (counts_by F.Functions functions.old) (counts_by F.Functions functions.new)) }
@@ -278,11 +278,12 @@ impl Parts {
         requires kept { PartsKept self.old }
         requires live { IsLive self.old.arena bind }
         requires bind { IsBindNode self.old.arena bind }
+        requires own { IsBindOf self.old.arena bind recipe.now.function }
         requires sound { F.is_sound functions.old }
         requires known { KnownAs (F.known functions.old) Rhs recipe.now.function }
         requires ready { MayBuild (building_in bind self.old.arena) recipe.now.function.sig
             (F.right functions.old recipe.now.function) left.now recipe.now.captures }
-        requires fit { AllFit (F.known functions.old) (F.right functions.old) self.old.arena }
+        requires fit { SidesFit (F.known functions.old) (F.right functions.old) self.old.arena }
         ensures grown { OnOk result (HasGrown self.old self.new bind) }
         ensures unbuilt { OnErr result (IsUnbuilt self.old self.new bind) }
         ensures root { IfOk result (λ n. IsRoot (building_in bind self.new.arena) recipe.now.captures n
@@ -291,7 +292,7 @@ impl Parts {
         ensures kept { PartsKept self.new }
         ensures tally { F.tally functions.new ≡ one_built (self.new.arena.given - self.old.arena.given) (F.tally functions.old) }
         ensures calls { F.calls functions.new ≡ F.calls functions.old }
-        ensures fit { AllFit (F.known functions.new) (F.right functions.new) self.new.arena }
+        ensures fit { SidesFit (F.known functions.new) (F.right functions.new) self.new.arena }
         ensures functions { KeepsMeaning F.Functions functions.old functions.new }
     {
         let count = self.arena.given();

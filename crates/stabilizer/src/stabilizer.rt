@@ -13,7 +13,6 @@ ghost use Rattle.necessity.specs.Need.{KeepsRoots};
 ghost use Rattle.recompute_heap.specs.Agree.{IsEmpty};
 ghost use Rattle.necessary_graph.specs.Part.{Needed, IsInStep};
 ghost use Rattle.node_arena.specs.Arena.{row_at};
-ghost use Rattle.node_arena.specs.RightSideLaws.{AllFit};
 ghost use Rattle.node_outcomes.specs.Meaning.{functions_of, meaning_of};
 ghost use Rattle.node_outcomes.specs.Row.{settled_in, outcome_in};
 ghost use Rattle.wiring.specs.Kept.{IsKept};
@@ -25,6 +24,7 @@ ghost use Rattle.stabilizer.specs.Round.{cutoff_at, left_by, IsLeftBy, BuildsAll
 ghost use Rattle.stabilizer.specs.Round.{IsInRound, RootsMore, OnlyRoots, Settles, SettleRefused};
 ghost use Rattle.stabilizer.specs.Stepping.{MainIsSettled, MainIsLeft, IsUnbuiltBind, IsBuiltFor, IsTurnedAwake, IsAsleep, IsTurned, ChangeIsSettled, ChangeIsLeft, SettlesLeast};
 ghost use Rattle.stabilizer.specs.Stepping.{Steps, StepRefused, StepFalls};
+ghost use Rattle.stabilizer.specs.Weights.{SidesFit};
 
 use crate::parts::Parts;
 use crate::rebuild::Recipe;
@@ -46,7 +46,7 @@ impl Stabilizer {
         requires kept { PartsKept parts.old }
         requires quiet { parts.old.work.todo.items ≡ [] }
         requires sound { F.is_sound functions.old }
-        requires fit { AllFit (F.known functions.old) (F.right functions.old) parts.old.arena }
+        requires fit { SidesFit (F.known functions.old) (F.right functions.old) parts.old.arena }
         ensures stepped { IfOk result (λ more. IsTrue more → Steps (meaning_of F.Functions functions.old)
             parts.old parts.new (counts_by F.Functions functions.old) (counts_by F.Functions functions.new)) }
         ensures settled { IfOk result (λ more. IsTrue more → SettlesLeast (meaning_of F.Functions functions.old) parts.old parts.new
@@ -61,7 +61,7 @@ impl Stabilizer {
         ensures quiet { OnOk result (parts.new.work.todo.items ≡ []) }
         ensures falls { IfOk result (λ more. IsTrue more → StepFalls (meaning_of F.Functions functions.old)
             parts.old parts.new (counts_by F.Functions functions.old)) }
-        ensures fit { AllFit (F.known functions.new) (F.right functions.new) parts.new.arena }
+        ensures fit { SidesFit (F.known functions.new) (F.right functions.new) parts.new.arena }
         ensures roots { KeepsRoots parts.old.work.graph.roots parts.new.work.graph.roots }
         ensures round { parts.new.work.round ≡ parts.old.work.round }
         ensures ran { parts.new.ran ≡ parts.old.ran }
@@ -94,14 +94,14 @@ impl Stabilizer {
     ) -> Result<(), Refused>
         requires ready { IsReady (meaning_of F.Functions functions.old) parts.old }
         requires sound { F.is_sound functions.old }
-        requires fit { AllFit (F.known functions.old) (F.right functions.old) parts.old.arena }
+        requires fit { SidesFit (F.known functions.old) (F.right functions.old) parts.old.arena }
         requires given { All (Given parts.old.arena.given) roots.now }
         ensures right { OnOk result ((observed : List NodeId) → AreRooted parts.old.work observed
             → IsUpToDate (functions_of F.Functions functions.old) parts.old parts.new (roots.now ++ observed)) }
         ensures calls { OnOk result (RoseBy (F.calls functions.old)
             (costs_of (left_by parts.old parts.new) parts.new.ran.items) (F.calls functions.new)) }
         ensures ready { OnOk result (IsReady (meaning_of F.Functions functions.new) parts.new) }
-        ensures fit { AllFit (F.known functions.new) (F.right functions.new) parts.new.arena }
+        ensures fit { SidesFit (F.known functions.new) (F.right functions.new) parts.new.arena }
         ensures round { OnOk result (parts.new.work.round ≡ parts.old.work.round + 1) }
         ensures lawful { IfErr result (λ e. (observed : List NodeId) → AreRooted parts.old.work observed
             → IsLawful (functions_of F.Functions functions.old) parts.old parts.new (roots.now ++ observed) e) }
@@ -159,14 +159,14 @@ fn settle_all<F: Functions>(parts: &mut Parts, functions: &mut F) -> Result<(), 
     requires kept { PartsKept parts.old }
     requires quiet { parts.old.work.todo.items ≡ [] }
     requires sound { F.is_sound functions.old }
-    requires fit { AllFit (F.known functions.old) (F.right functions.old) parts.old.arena }
+    requires fit { SidesFit (F.known functions.old) (F.right functions.old) parts.old.arena }
     requires in_round { IsInRound (meaning_of F.Functions functions.old) parts.old (counts_by F.Functions functions.old) }
     ensures settled { OnOk result (Settles (meaning_of F.Functions functions.old) parts.old parts.new
         (counts_by F.Functions functions.old) (counts_by F.Functions functions.new)) }
     ensures empty { OnOk result (IsEmpty parts.new.work.graph.heap) }
     ensures refused { IfErr result (SettleRefused (meaning_of F.Functions functions.old) parts.old parts.new
         (counts_by F.Functions functions.old) (counts_by F.Functions functions.new)) }
-    ensures fit { AllFit (F.known functions.new) (F.right functions.new) parts.new.arena }
+    ensures fit { SidesFit (F.known functions.new) (F.right functions.new) parts.new.arena }
     ensures kept { PartsKept parts.new }
     ensures quiet { OnOk result (parts.new.work.todo.items ≡ []) }
     ensures roots { KeepsRoots parts.old.work.graph.roots parts.new.work.graph.roots }
@@ -189,7 +189,7 @@ fn step_main<F: Functions>(
     requires row { Holds parts.old.work.rows (main node) }
     requires taken { at parts.old.work.graph.heap (main node) ≡ None }
     requires sound { F.is_sound functions.old }
-    requires fit { AllFit (F.known functions.old) (F.right functions.old) parts.old.arena }
+    requires fit { SidesFit (F.known functions.old) (F.right functions.old) parts.old.arena }
     ensures settled { OnOk result (MainIsSettled (functions_of F.Functions functions.old) parts.old.arena parts.old.work parts.new.work
         node (counts_by F.Functions functions.old) (counts_by F.Functions functions.new)) }
     ensures refused { OnErr result (MainIsLeft parts.old.arena parts.old.work parts.new.work node
@@ -233,7 +233,7 @@ fn step_change<F: Functions>(
     requires taken { at parts.old.work.graph.heap (change node) ≡ None }
     requires quiet { parts.old.work.todo.items ≡ [] }
     requires sound { F.is_sound functions.old }
-    requires fit { AllFit (F.known functions.old) (F.right functions.old) parts.old.arena }
+    requires fit { SidesFit (F.known functions.old) (F.right functions.old) parts.old.arena }
     ensures settled { OnOk result (ChangeIsSettled (meaning_of F.Functions functions.old) parts.old parts.new node
         (counts_by F.Functions functions.old) (counts_by F.Functions functions.new)) }
     ensures refused { IfErr result (ChangeIsLeft (meaning_of F.Functions functions.old) parts.old parts.new node
@@ -243,7 +243,7 @@ fn step_change<F: Functions>(
     ensures round { parts.new.work.round ≡ parts.old.work.round }
     ensures kept { PartsKept parts.new }
     ensures quiet { OnOk result (parts.new.work.todo.items ≡ []) }
-    ensures fit { AllFit (F.known functions.new) (F.right functions.new) parts.new.arena }
+    ensures fit { SidesFit (F.known functions.new) (F.right functions.new) parts.new.arena }
     ensures functions { KeepsMeaning F.Functions functions.old functions.new }
     ensures flat { StaysFlat parts.old.arena parts.new.arena }
 {
@@ -272,7 +272,7 @@ fn turn_change<F: Functions>(
     requires taken { at parts.old.work.graph.heap (change node) ≡ None }
     requires quiet { parts.old.work.todo.items ≡ [] }
     requires sound { F.is_sound functions.old }
-    requires fit { AllFit (F.known functions.old) (F.right functions.old) parts.old.arena }
+    requires fit { SidesFit (F.known functions.old) (F.right functions.old) parts.old.arena }
     ensures turned { OnOk result (IsTurned (meaning_of F.Functions functions.old) parts.old parts.new node
         (counts_by F.Functions functions.old) (counts_by F.Functions functions.new)) }
     ensures refused { IfErr result (BuildRefused (meaning_of F.Functions functions.old) parts.old parts.new node
@@ -285,7 +285,7 @@ fn turn_change<F: Functions>(
     ensures round { parts.new.work.round ≡ parts.old.work.round }
     ensures kept { PartsKept parts.new }
     ensures quiet { OnErr result (parts.new.work.todo.items ≡ []) }
-    ensures fit { AllFit (F.known functions.new) (F.right functions.new) parts.new.arena }
+    ensures fit { SidesFit (F.known functions.new) (F.right functions.new) parts.new.arena }
     ensures functions { KeepsMeaning F.Functions functions.old functions.new }
     ensures flat { StaysFlat parts.old.arena parts.new.arena }
 {

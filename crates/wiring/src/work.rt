@@ -51,7 +51,7 @@ pub struct Work {
     pub pairs: Listed,
     /// The nodes in scopes of binds, all live ones among them.
     pub scoped: Listed,
-    /// The nodes that died in this round. There is room for each node in a scope.
+    /// The nodes that died in this round. A rebuild makes room for those that it lets die.
     pub deaths: Deaths,
     /// Points that are newly needed and have no links yet, or waited for a change that ran.
     pub todo: Vec<Point>,

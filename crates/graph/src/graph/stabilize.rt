@@ -5,7 +5,7 @@ ghost use Rattle.node_arena.specs.Meanings.{SameNames, SameKnown, SameValues};
 ghost use Rattle.node_arena.specs.RightSide.{SameSides};
 ghost use Rattle.stabilize_round.specs.Calling.{costs_of};
 ghost use Rattle.stabilize_round.specs.Counts.{RoseBy};
-ghost use Rattle.node_arena.specs.RightSideLaws.{AllFit};
+ghost use Rattle.stabilizer.specs.Weights.{SidesFit};
 ghost use Rattle.node_outcomes.specs.Meaning.{functions_of, meaning_of};
 ghost use Rattle.stabilizer.specs.Kept.{KeepsMeaning, counts_by};
 ghost use Rattle.stabilizer.specs.Kept.{HasNoBinds};
@@ -98,7 +98,7 @@ fn run<F: Functions>(
     requires within { rooted ≤ length observers.now }
     requires sound { F.is_sound functions.old }
     requires can { CanStabilize (meaning_of F.Functions functions.old) parts.old observers.now rooted }
-    requires fit { AllFit (F.known functions.old) (F.right functions.old) parts.old.arena }
+    requires fit { SidesFit (F.known functions.old) (F.right functions.old) parts.old.arena }
     ensures right { OnOk result (BringsUpToDate (functions_of F.Functions functions.old) parts.old parts.new (in_use observers.now)) }
     ensures calls { OnOk result (RoseBy (F.calls functions.old) (calls_in parts.old parts.new) (F.calls functions.new)) }
     ensures can { OnOk result (CanStabilize (meaning_of F.Functions functions.new) parts.new observers.now
@@ -117,7 +117,7 @@ fn run<F: Functions>(
     ensures left { LeavesParts (functions_of F.Functions functions.old) parts.old parts.new
         (counts_by F.Functions functions.old) (counts_by F.Functions functions.new) }
     ensures flat { HasNoBinds parts.old.arena → KeepsNodes parts.old parts.new }
-    ensures fit { AllFit (F.known functions.new) (F.right functions.new) parts.new.arena }
+    ensures fit { SidesFit (F.known functions.new) (F.right functions.new) parts.new.arena }
     ensures functions { KeepsMeaning F.Functions functions.old functions.new }
 {
     let roots = nodes_in_use(alloc, observers, rooted)?;

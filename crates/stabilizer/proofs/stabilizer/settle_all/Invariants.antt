@@ -1,4 +1,4 @@
-use Rattle.node_arena.specs.RightSideLaws.{AllFit}
+use Rattle.stabilizer.specs.Weights.{SidesFit}
 use Rattle.node_outcomes.specs.Meaning.{meaning_of}
 use Rattle.stabilizer.specs.Kept.{KeepsMeaning, StaysFlat, counts_by}
 use Rattle.stabilizer.specs.Stepping.{left_to_settle}
@@ -10,7 +10,7 @@ abbrev pub invariant-loop : goal.invariant-loop
 invariant-loop g l = record {
   so : AreSettled (meaning_of g.F.Functions l.fn.functions) l.fn.parts l.parts (counts_by g.F.Functions l.fn.functions)
       (counts_by g.F.Functions l.functions);
-  fit : AllFit (g.F.Functions.known l.functions) (g.F.Functions.right l.functions) l.parts.arena;
+  fit : SidesFit (g.F.Functions.known l.functions) (g.F.Functions.right l.functions) l.parts.arena;
   functions : KeepsMeaning g.F.Functions l.fn.functions l.functions;
   flat : StaysFlat l.fn.parts.arena l.parts.arena;
 }

@@ -12,7 +12,7 @@ pub compute-computed-requires-clause-live : goal.compute-computed-requires-claus
 compute-computed-requires-clause-live g c = main_lives c.args.parts.now.arena c.args.parts.now.work c.args.node c.requires.kept.work c.requires.row
 
 pub compute-computed-requires-clause-fit : goal.compute-computed-requires-clause-fit
-compute-computed-requires-clause-fit g c = fit_lists_given (g.F.Functions.known c.args.functions.now) (g.F.Functions.right c.args.functions.now) c.args.parts.now.arena c.requires.fit
+compute-computed-requires-clause-fit g c = fit_lists_given (g.F.Functions.known c.args.functions.now) (g.F.Functions.right c.args.functions.now) c.args.parts.now.arena c.requires.fit.all
 
 pub returns-in-Err-clause-kept : goal.returns-in-Err-clause-kept
 returns-in-Err-clause-kept g c =

@@ -31,7 +31,8 @@ invariant_of-self g c = (
       let f = c.self.inside.functions in
       let known = rw (← c.self.view_is) at c.requires.known in
       answer_fit (g.F.Functions.known f) (g.F.Functions.right f) (g.met.F.Functions.sides f c.self.invariant.2) c.self.inside.parts.arena
-      c.add-added.new.self.arena (def_of c.args.def) c.args.ty c.add-added.result answers known a.kept.work.sound a.keeps c.self.invariant.3),
+      c.add-added.new.self.arena (def_of c.args.def) c.args.ty c.add-added.result answers known a.kept.work.sound a.keeps c.self.inside.parts.work
+      c.self.invariant.1.kept.work c.self.invariant.3),
 )
 
 pub returns-clause-wrong_type : goal.returns-clause-wrong_type

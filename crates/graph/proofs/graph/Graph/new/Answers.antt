@@ -26,5 +26,8 @@ invariant_of-result g c =
         };
       }),
       c.requires.sound,
-      (λ n r is. absurd (let e = sym (c.new.ensures.empty n) ∙ is in cc)),
+      record {
+        all = λ n r is. absurd (let e = sym (c.new.ensures.empty n) ∙ is in cc);
+        scopes = λ b r left f captures is. absurd (let e = sym (c.new.ensures.empty b) ∙ is in cc);
+      },
     )

@@ -1,5 +1,5 @@
 use Rattle.std.proofs.Common.{sym, ap, subst}
-use Rattle.node_arena.specs.RightSideLaws.{AllFit}
+use Rattle.stabilizer.specs.Weights.{SidesFit}
 use Rattle.stabilizer.specs.declared.parts.Parts.{Parts}
 use Rattle.graph.proofs.Cutting.{sound_cut, sets_cutoff}
 use Rattle.graph.proofs.graph.Graph.set_cutoff.Goals as goal
@@ -12,7 +12,7 @@ invariant_of-self g c = (
       c.self.inside.rooted c.self.inside.refused c.self.invariant.1 (rw (← c.self.view_is) at c.in_ok-check.ensures.unbroken) (a.ready _)),
   c.self.invariant.2,
   (let a = c.set_cutoff.ensures in
-      subst (AllFit (g.F.Functions.known c.self.inside.functions) (g.F.Functions.right c.self.inside.functions))
+      subst (SidesFit (g.F.Functions.known c.self.inside.functions) (g.F.Functions.right c.self.inside.functions))
       (sym (ap (λ (p : Parts). p.arena) a.rest)) c.self.invariant.3),
 )
 

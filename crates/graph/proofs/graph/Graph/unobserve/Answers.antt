@@ -1,7 +1,7 @@
 use Rattle.std.proofs.Common.{List, refl, sym, ap, subst, ◌∙◌}
 use Rattle.inc_terms.specs.Depend.{main, change}
 use Rattle.point_map.specs.Rows.{Rows, at}
-use Rattle.node_arena.specs.RightSideLaws.{AllFit}
+use Rattle.stabilizer.specs.Weights.{SidesFit}
 use Rattle.node_outcomes.specs.Computing.{seen_of}
 use Rattle.stabilizer.specs.Round.{last_of}
 use Rattle.node_outcomes.specs.Row.{outcome_in, cutoff_in}
@@ -30,7 +30,7 @@ invariant_of-self g c = (
       (sound_ended _ c.self.inside.parts c.unroot.new.self c.self.inside.observers.items c.self.inside.rooted c.args.observer.0
       c.self.inside.refused c.self.invariant.1 c.in-Some.node is (rw (← c.self.view_is) at c.in_ok-check.ensures.unbroken) c.if-place-self.true (u.ready _) u.rooted u.arena u.rows)),
   c.self.invariant.2,
-  subst (AllFit (g.F.Functions.known c.self.inside.functions) (g.F.Functions.right c.self.inside.functions)) (sym c.unroot.ensures.arena)
+  subst (SidesFit (g.F.Functions.known c.self.inside.functions) (g.F.Functions.right c.self.inside.functions)) (sym c.unroot.ensures.arena)
       c.self.invariant.3,
 )
 

@@ -9,7 +9,7 @@ use Rattle.graph.proofs.Observing.{all_of}
 use Rattle.graph.proofs.Sound.{ready_built}
 use Rattle.graph.proofs.Stabilizing.{on_ok, on_err, err_as, on_both, if_err, rest_given, all_right, all_lawful, all_few, all_built, all_built_but, can_again}
 use Rattle.graph.proofs.graph.stabilize.run.Goals as goal
-use Rattle.graph.proofs.Leaving.{none_met, left_same, built_same}
+use Rattle.graph.proofs.Leaving.{none_met, left_same}
 
 pub run-requires-clause-given : goal.run-requires-clause-given
 run-requires-clause-given g c =

@@ -1,6 +1,6 @@
 use Rattle.std.proofs.Common.{refl, sym, ap, subst, Err}
 use Rattle.node_arena.specs.Arena.{Arena}
-use Rattle.node_arena.specs.RightSideLaws.{AllFit}
+use Rattle.stabilizer.specs.Weights.{SidesFit}
 use Rattle.node_arena.specs.declared.stored.BuildFault.{BuildFault}
 use Rattle.stabilizer.specs.declared.parts.Parts.{Parts}
 use Rattle.stabilizer.proofs.Built.{fit_built, ready_to_adopt, some_none, ready_to_disown, all_grown, all_kept}
@@ -55,12 +55,13 @@ returns-in-Ok-adopt_since-clause-kept g c =
 
 pub returns-in-Ok-adopt_since-clause-fit : goal.returns-in-Ok-adopt_since-clause-fit
 returns-in-Ok-adopt_since-clause-fit g c =
-    subst (λ (x : Arena). AllFit (g.F.Functions.known c.build-built.new.functions) (g.F.Functions.right c.build-built.new.functions) x)
+    subst (λ (x : Arena). SidesFit (g.F.Functions.known c.build-built.new.functions) (g.F.Functions.right c.build-built.new.functions) x)
     (sym c.in-Ok-adopt_since.ensures.all.1.arena)
     (fit_built (g.F.Functions.known c.args.functions.now) (g.F.Functions.known c.build-built.new.functions)
     (g.F.Functions.right c.args.functions.now) (g.F.Functions.right c.build-built.new.functions) c.args.bind c.args.self.now.arena
     c.build-built.new.self c.args.recipe.now.function (g.met.F.Functions.sides c.args.functions.now c.requires.sound) c.requires.known
-    c.build-built.ensures.same_known c.build-built.ensures.same_sides c.requires.ready.fit c.build-built.ensures.grows c.requires.fit)
+    c.build-built.ensures.same_known c.build-built.ensures.same_sides c.requires.ready.fit c.args.self.now.work c.requires.kept.work
+    c.requires.live c.requires.ready.empty c.requires.own c.build-built.ensures.grows c.requires.fit)
 
 pub returns-in-Err-adopt_since-clause-kept : goal.returns-in-Err-adopt_since-clause-kept
 returns-in-Err-adopt_since-clause-kept g c =
@@ -81,7 +82,8 @@ returns-in-Err-adopt_since-clause-fit g c =
     (fit_built (g.F.Functions.known c.args.functions.now) (g.F.Functions.known c.build-built.new.functions)
     (g.F.Functions.right c.args.functions.now) (g.F.Functions.right c.build-built.new.functions) c.args.bind c.args.self.now.arena
     c.build-built.new.self c.args.recipe.now.function (g.met.F.Functions.sides c.args.functions.now c.requires.sound) c.requires.known
-    c.build-built.ensures.same_known c.build-built.ensures.same_sides c.requires.ready.fit c.build-built.ensures.grows c.requires.fit)
+    c.build-built.ensures.same_known c.build-built.ensures.same_sides c.requires.ready.fit c.args.self.now.work c.requires.kept.work
+    c.requires.live c.requires.ready.empty c.requires.own c.build-built.ensures.grows c.requires.fit)
 
 pub returns-in-Err-clause-kept : goal.returns-in-Err-clause-kept
 returns-in-Err-clause-kept g c =
@@ -108,7 +110,8 @@ returns-in-Err-clause-fit g c =
     (fit_built (g.F.Functions.known c.args.functions.now) (g.F.Functions.known c.build-built.new.functions)
     (g.F.Functions.right c.args.functions.now) (g.F.Functions.right c.build-built.new.functions) c.args.bind c.args.self.now.arena
     c.build-built.new.self c.args.recipe.now.function (g.met.F.Functions.sides c.args.functions.now c.requires.sound) c.requires.known
-    c.build-built.ensures.same_known c.build-built.ensures.same_sides c.requires.ready.fit c.build-built.ensures.grows c.requires.fit)
+    c.build-built.ensures.same_known c.build-built.ensures.same_sides c.requires.ready.fit c.args.self.now.work c.requires.kept.work
+    c.requires.live c.requires.ready.empty c.requires.own c.build-built.ensures.grows c.requires.fit)
 
 pub returns-in-Err-adopt_since-clause-unbuilt : goal.returns-in-Err-adopt_since-clause-unbuilt
 returns-in-Err-adopt_since-clause-unbuilt g c =

@@ -8,7 +8,7 @@ use Rattle.stabilizer.specs.Rebuilding.{BuildRefused, unbuilt}
 use Rattle.stabilizer.proofs.RebuildAsks.{stands_but}
 use Rattle.stabilizer.proofs.RebuildEnds.{on_err, left_roomy, roomy_stays, are_cut, WasBuilt, fits_dead, given_first}
 use Rattle.stabilizer.proofs.RebuildEnds.{dead_stays, ready_stays, grown_stays, root_stays}
-use Rattle.stabilizer.proofs.RebuildEnds.{asks_known, asks_ready, ready, stops_roomless, stops_building, settles_root, settles_none}
+use Rattle.stabilizer.proofs.RebuildEnds.{asks_known, asks_own, asks_ready, ready, stops_roomless, stops_building, settles_root, settles_none}
 use Rattle.stabilizer.proofs.RebuiltKept.{roomy_kept, roots_roomy}
 use Rattle.stabilizer.proofs.parts.Parts.renew.Goals as goal
 
@@ -124,6 +124,15 @@ build-requires-clause-ready g c =
     c.requires.kept c.requires.to_build c.requires.row c.requires.quiet c.requires.sound c.requires.fit c.cut_off.ensures.cut
     c.let_die.ensures.died c.let_die.ensures.kept in
     asks_ready K fs h c.in-Val.left c.in-Val.is
+
+pub build-requires-clause-own : goal.build-requires-clause-own
+build-requires-clause-own g c =
+    let K = g.F.Functions in
+    let fs = c.args.functions.now in
+    let h = are_cut K fs c.args.self.now c.reserve-2.new.self c.reserve-2.ensures.scopes c.reserve.new.self c.reserve.ensures.items
+    c.requires.kept c.requires.to_build c.requires.row c.requires.quiet c.requires.sound c.requires.fit c.cut_off.ensures.cut
+    c.let_die.ensures.died c.let_die.ensures.kept in
+    asks_own K fs h
 
 pub build-requires-clause-fit : goal.build-requires-clause-fit
 build-requires-clause-fit g c =

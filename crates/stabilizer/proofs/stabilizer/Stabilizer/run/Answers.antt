@@ -386,7 +386,7 @@ returns-clause-ready g c =
     let same = means_still g.F.Functions _ _ c.settle_all.ensures.functions in
     let fit : AllCallFit M.known M.ids settled.arena = subst (λ (L : Meaning). AllCallFit L.known L.ids settled.arena) same
     (fit_lists_given (g.F.Functions.known c.settle_all.new.functions) (g.F.Functions.right c.settle_all.new.functions) settled.arena
-    c.settle_all.ensures.fit) in
+    c.settle_all.ensures.fit.all) in
     subst (λ (L : Meaning). IsReady L end) (sym same) (round_readies M old c.put_roots.new.work before c.requires.ready
     c.in_ok-put_roots.ensures.wired settled after c.in_ok-settle_all.ensures.settled
     c.settle_all.ensures.kept c.in_ok-settle_all.ensures.quiet c.in_ok-settle_all.ensures.empty end released c.end_round.ensures.step

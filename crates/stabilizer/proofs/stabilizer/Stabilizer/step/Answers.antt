@@ -1,7 +1,7 @@
 use Rattle.std.proofs.Common.{refl, sym, ap, subst, ◌∙◌}
 use Rattle.necessary_graph.specs.Part.{NecessaryPart, Needed}
 use Rattle.node_arena.specs.Arena.{Arena}
-use Rattle.node_arena.specs.RightSideLaws.{AllFit}
+use Rattle.stabilizer.specs.Weights.{SidesFit}
 use Rattle.node_outcomes.specs.Meaning.{meaning_of}
 use Rattle.stabilizer.specs.Kept.{counts_by}
 use Rattle.stabilizer.specs.Stepping.{of_main, of_change, StepRefused}
@@ -134,7 +134,7 @@ pub returns-in-Ok-clause-fit : goal.returns-in-Ok-clause-fit
 returns-in-Ok-clause-fit g c =
     let keeper = g.F.Functions in
     let k = c.step_main.ensures.functions in
-    subst (λ (a : Arena). AllFit (keeper.known c.step_main.new.functions) (keeper.right c.step_main.new.functions) a)
+    subst (λ (a : Arena). SidesFit (keeper.known c.step_main.new.functions) (keeper.right c.step_main.new.functions) a)
     (sym (arena_kept c.args.parts.now c.step_main.new.parts c.step_main.ensures.rest))
     (same_fit (keeper.known c.args.functions.now) (keeper.known c.step_main.new.functions) (keeper.right c.args.functions.now)
     (keeper.right c.step_main.new.functions) c.args.parts.now.arena k.known k.sides c.requires.fit)
@@ -143,7 +143,7 @@ pub returns-in-Err-clause-fit : goal.returns-in-Err-clause-fit
 returns-in-Err-clause-fit g c =
     let keeper = g.F.Functions in
     let k = c.step_main.ensures.functions in
-    subst (λ (a : Arena). AllFit (keeper.known c.step_main.new.functions) (keeper.right c.step_main.new.functions) a)
+    subst (λ (a : Arena). SidesFit (keeper.known c.step_main.new.functions) (keeper.right c.step_main.new.functions) a)
     (sym (arena_kept c.args.parts.now c.step_main.new.parts c.step_main.ensures.rest))
     (same_fit (keeper.known c.args.functions.now) (keeper.known c.step_main.new.functions) (keeper.right c.args.functions.now)
     (keeper.right c.step_main.new.functions) c.args.parts.now.arena k.known k.sides c.requires.fit)
