@@ -8,8 +8,7 @@ use Rattle.graph.specs.Standing.{node_at, IsUnbroken}
 use Rattle.node_arena.specs.Arena.{Arena, row_at, live, IsVariable}
 use Rattle.script_model.specs.Check.{Declared, Variable, Grab}
 use Rattle.script_graph.specs.Kept.{Kept, arena_of, node_in}
-use Rattle.script_graph.specs.Today.{NoGrabs}
-use Rattle.stabilizer.specs.Kept.{HasNoBinds}
+use Rattle.script_graph.specs.Today.{NoGrabs, IsFlat}
 
 -- what a declaration stands for: its target is one of the declarations, stands for itself, and has the same type and node
 pub record HasTarget (declared : List Declared) (nodes : List NodeId) (n : ℕ) (d : Declared) : Type 0 where
@@ -35,12 +34,12 @@ pub record HasNode (a : Arena) (declared : List Declared) (nodes : List NodeId) 
 abbrev pub HaveNodes : Arena → List Declared → List NodeId → Type 0
 HaveNodes a declared nodes = (n : ℕ) (d : Declared) → slice_get declared n ≡ Some d → HasNode a declared nodes n d
 
--- what is kept fits together; no live node is a bind
+-- what is kept fits together
 pub record IsSound (k : Kept) : Type 0 where
   pub one_node_each : length k.nodes ≡ length k.names.declared
   pub has_nodes : HaveNodes (arena_of k) k.names.declared k.nodes
   pub today : NoGrabs k.names.declared
-  pub flat : HasNoBinds (arena_of k)
+  pub flat : IsFlat k
   pub few : live (arena_of k) + k.room ≤ 1048575
   pub one_observer_each : length k.observers ≡ length k.names.observers
   pub looking : (o : ObsId) → Among o k.observers → IsSome (node_at k.graph.observers o)

@@ -20,6 +20,7 @@ use Rattle.script_model.specs.Need.{Item, Named, Place, formula_at}
 use Rattle.script_model.specs.Settle.{Notice}
 use Rattle.script_model.specs.Values.{Outcome, Val, Invalid}
 use Rattle.script_graph.specs.Kept.{Kept, arena_of, node_in}
+use Rattle.stabilizer.specs.Kept.{HasNoBinds}
 use Rattle.transfer.specs.Shows.{IsOwn}
 use Rattle.wiring.specs.Kept.{IsBind}
 
@@ -94,6 +95,10 @@ CallsKnown known def = Unit {0}
 pub record IsTodaysRow (r : Row) : Type 0 where
   pub outside : r.scope ≡ None
   pub no_bind : IsBind r.def → ⊥
+
+-- no node that a script has kept is a bind
+abbrev pub IsFlat : Kept → Type 0
+IsFlat k = HasNoBinds (arena_of k)
 
 -- no live node stands in a scope
 abbrev pub NoScopes : Arena → Type 0
