@@ -217,7 +217,8 @@ module _ (old new : Parts) (id : NodeId) (kept : PartsKept old) (unneeded : (p :
 module _ (old mid new : Parts) (count : ℕ) (id : NodeId) (so_far : HasDropped old mid count) (since : count ≤ id.gen_)
     (dropped : nodes.Changes mid.arena new.arena id None) (given : new.arena.given ≡ mid.arena.given)
     (rows : ChangesNode mid.work.rows new.work.rows id (λ part. None)) (links : new.work.graph.links ≡ mid.work.graph.links)
-    (roots : new.work.graph.roots ≡ mid.work.graph.roots) (heap : new.work.graph.heap ≡ mid.work.graph.heap) (kept : PartsKept new)
+    (roots : new.work.graph.roots ≡ mid.work.graph.roots) (heap : new.work.graph.heap ≡ mid.work.graph.heap)
+    (rights : ChangesNode mid.work.roots new.work.roots id (λ part. None)) (kept : PartsKept new)
     (ready : (M : Meaning) → IsReady M mid → IsReady M new) where
   younger : (n : NodeId) → n.gen_ < count → n ≢ id
   younger n h is = let e = ap (λ (x : NodeId). x.gen_) is in absurd (omega (arith, e, h, since))
@@ -242,6 +243,7 @@ module _ (old mid new : Parts) (count : ℕ) (id : NodeId) (so_far : HasDropped 
     links = links ∙ so_far.links;
     roots = roots ∙ so_far.roots;
     heap = heap ∙ so_far.heap;
+    right_sides = λ n h. rights.others (change n) (younger n h) ∙ so_far.right_sides n h;
     unscoped = λ n b r e scope. so_far.unscoped n b r (left n r e) scope;
     kept = kept;
     ready = λ M r. ready M (so_far.ready M r);

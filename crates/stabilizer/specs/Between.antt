@@ -105,6 +105,7 @@ pub record HasDropped (old new : Parts) (count : ℕ) : Type 0 where
   pub links : new.work.graph.links ≡ old.work.graph.links
   pub roots : new.work.graph.roots ≡ old.work.graph.roots
   pub heap : new.work.graph.heap ≡ old.work.graph.heap
+  pub right_sides : (n : NodeId) → n.gen_ < count → at new.work.roots (change n) ≡ at old.work.roots (change n)
   pub unscoped : (n b : NodeId) (r : Row) → row_at new.arena n ≡ Some r → r.scope ≡ Some b → (n.gen_ < count) × (b.gen_ < count)
   pub kept : PartsKept new
   pub ready : (M : Meaning) → IsReady M old → IsReady M new

@@ -111,6 +111,7 @@ impl Parts {
         ensures links { self.new.work.graph.links ≡ self.old.work.graph.links }
         ensures roots { self.new.work.graph.roots ≡ self.old.work.graph.roots }
         ensures heap { KeepsRows self.old.work.graph.heap self.new.work.graph.heap }
+        ensures right_sides { self.new.work.roots ≡ self.old.work.roots }
         ensures ran { self.new.ran ≡ self.old.ran }
         ensures kept { PartsKept self.new }
         ensures ready { OnOk result ((M : Meaning) → CallsFit self.old.arena.given M.known M.ids (def_of def)
@@ -166,6 +167,7 @@ impl Parts {
         ensures heights { self.new.work.graph.heights ≡ self.old.work.graph.heights }
         ensures links { self.new.work.graph.links ≡ self.old.work.graph.links }
         ensures roots { self.new.work.graph.roots ≡ self.old.work.graph.roots }
+        ensures right_sides { self.new.work.roots ≡ self.old.work.roots }
         ensures ran { self.new.ran ≡ self.old.ran }
         ensures kept { PartsKept self.new }
         ensures ready { (M : Meaning) → IsReady M self.old → IsReady M self.new }
@@ -202,6 +204,7 @@ impl Parts {
             → AreRooted self.new.work (before ++ after) }
         ensures arena { self.new.arena ≡ self.old.arena }
         ensures rows { self.new.work.rows ≡ self.old.work.rows }
+        ensures right_sides { self.new.work.roots ≡ self.old.work.roots }
         ensures ran { self.new.ran ≡ self.old.ran }
         ensures kept { PartsKept self.new }
         ensures ready { (M : Meaning) → IsReady M self.old → IsReady M self.new }
@@ -226,6 +229,8 @@ impl Parts {
         ensures links { self.new.work.graph.links ≡ self.old.work.graph.links }
         ensures roots { self.new.work.graph.roots ≡ self.old.work.graph.roots }
         ensures heap { self.new.work.graph.heap ≡ self.old.work.graph.heap }
+        ensures right_sides { (n : NodeId) → n.gen_ < count
+            → at self.new.work.roots (change n) ≡ at self.old.work.roots (change n) }
         ensures ran { self.new.ran ≡ self.old.ran }
         ensures kept { PartsKept self.new }
         ensures ready { (M : Meaning) → IsReady M self.old → IsReady M self.new }

@@ -13,7 +13,7 @@ pub loop-id-preserved : goal.loop-id-preserved
 loop-id-preserved c =
     let d = c.drop_node.ensures in record {
       so_far = dropped_more c.args.self.now c.loop-id.self c.drop_node.new.self c.args.count c.in-Some.id c.loop-id.invariant.so_far
-          c.in-Some.ensures.some.since d.dropped d.given d.rows d.links d.roots d.heap d.kept d.ready;
+          c.in-Some.ensures.some.since d.dropped d.given d.rows d.links d.roots d.heap d.right_sides d.kept d.ready;
       ran = d.ran ∙ c.loop-id.invariant.ran;
     }
 
