@@ -7,13 +7,15 @@ use Rattle.inc_value.specs.Choice.{Among, NoRepeats}
 use Rattle.inc_value.specs.declared.function.FnRef.{FnRef}
 use Rattle.inc_value.specs.declared.node.NodeId.{NodeId}
 use Rattle.inc_terms.specs.Graph.{Row, Def, Bind}
-use Rattle.node_arena.specs.Arena.{Arena, row_at}
+use Rattle.node_arena.specs.Arena.{Arena, row_at, live}
 use Rattle.node_arena.specs.RightSide.{RightSide}
 use Rattle.stabilize_round.proofs.Points.{node_or_other}
 use Rattle.stabilizer.specs.Weights.{weight_of, weight_in, weight_at, IsInScope, ScopesFit}
-use Rattle.graph.specs.Few.{AreFew}
-use Rattle.stabilizer.proofs.Sums.{those, those_were, those_once, those_sum, share, sum_most, sum_both, sum_one, sum_more, stood_for}
-use Rattle.graph.proofs.Alive.{alive, alive_count, alive_once, alive_row, among_alive}
+use Rattle.stabilizer.specs.Giving.{GivesFew}
+use Rattle.graph.specs.Few.{ListsTops, AreFew, IdsAreFew}
+use Rattle.stabilizer.proofs.Sums.{those, those_were, those_once, those_sum, share, sum_most, sum_most_but, sum_both, sum_one, sum_more, stood_for}
+use Rattle.stabilizer.proofs.Giving.{gives_few}
+use Rattle.stabilizer.proofs.Alive.{alive, alive_count, alive_once, alive_row, among_alive}
 
 -- ---- by group
 
@@ -91,18 +93,43 @@ module _ (up : NodeId → Option NodeId) (w : NodeId → ℕ) where
         let sum = those_sum d w nodes in
         omega (arith, most, sum)
 
-    -- there are no more than those that stand in no scope count as
-    few_by_tops : (tops : List NodeId) → ((n : NodeId) → Among n nodes → up n ≡ None → Among n tops) → length nodes ≤ sum_by w tops
-    few_by_tops tops lists =
+    -- with what the scopes leave free there are no more than those that stand in no scope count as
+    tops_hold : (free : ℕ) → groups nodes nodes + free ≤ sum_by below nodes → (tops : List NodeId)
+        → ((n : NodeId) → Among n nodes → up n ≡ None → Among n tops) → length nodes + free ≤ sum_by w tops
+    tops_hold free each tops lists =
         let d : (n : NodeId) → (up n ≡ None) ⊎ (up n ≡ None → ⊥) = λ n. outside_or_not (up n) in
         let split = sum_both outside inside w nodes in_or_out in
         let all = inside_groups nodes nodes covers in
-        let each = sum_most (λ b. sum_by (part b) nodes) below nodes group_fits in
         let more = sum_more below w nodes weights in
         let sum = those_sum d w nodes in
         let stood = stood_for (λ (n : NodeId). n) w w (those d nodes) tops (those_once d nodes once)
         (λ n a. (let is = those_were d n nodes a in record { other = n; among = lists n is.0 is.1; same = refl; most = omega arith })) in
         omega (arith, split, all, each, more, sum, stood)
+
+    few_by_tops : (tops : List NodeId) → ((n : NodeId) → Among n nodes → up n ≡ None → Among n tops) → length nodes ≤ sum_by w tops
+    few_by_tops tops lists =
+        let each = sum_most (λ b. sum_by (part b) nodes) below nodes group_fits in
+        let hold = tops_hold 0 (omega (arith, each)) tops lists in
+        omega (arith, hold)
+
+    none_in : (b : NodeId) → (some : List NodeId) → ((n : NodeId) → Among n some → up n ≡ Some b → ⊥) → sum_by (part b) some ≡ 0
+    none_in b [] none = refl
+    none_in b (n ∷ ns) none = by (stands_or_not (up n) b) refl (none_in b ns (λ m h. none m (inr h)))
+      where
+        by : (d : (up n ≡ Some b) ⊎ (up n ≡ Some b → ⊥)) → stands_or_not (up n) b ≡ d → sum_by (part b) ns ≡ 0 → sum_by (part b) (n ∷ ns) ≡ 0
+        by (inl h) e rest = absurd (none n (inl refl) h)
+        by (inr h) e rest =
+            let cons = sum_by-cons (part b) n ns in
+            let zero : part b n ≡ 0 = ap (λ x. share x (w n)) e in
+            omega (arith, rest, cons, zero)
+
+    -- so it is with what the scope of one could hold, if nobody stands there
+    few_beside : (b : NodeId) → Among b nodes → ((n : NodeId) → Among n nodes → up n ≡ Some b → ⊥) → (free : ℕ) → free ≤ below b
+        → (tops : List NodeId) → ((n : NodeId) → Among n nodes → up n ≡ None → Among n tops) → length nodes + free ≤ sum_by w tops
+    few_beside b among none free most tops lists =
+        let zero = none_in b nodes none in
+        let each = sum_most_but (λ c. sum_by (part c) nodes) below b free nodes among (omega (arith, zero, most)) group_fits in
+        tops_hold free each tops lists
 
 -- ---- live nodes
 
@@ -140,13 +167,47 @@ module _ (right : FnRef → RightSide) (a : Arena) (fit : ScopesFit right a)
       let is : w b ≡ (right bind.2).size + 1 = ap (weight_in right) bind.4 ∙ ap (weight_of right) bind.5 in
       omega (arith, most, is)
 
+  weights_are : (n : NodeId) → Among n (alive a) → w n ≡ (w n - 1) + 1
+  weights_are n h =
+      let r = alive_row a n h in
+      let is : w n ≡ weight_of right r.0.def = ap (weight_in right) r.1 in
+      let more = one_more r.0.def in
+      omega (arith, is, more)
+
+  binds_live : (n b : NodeId) → Among n (alive a) → up n ≡ Some b → Among b (alive a)
+  binds_live n b h e =
+      let s = row_of_scope n b e in
+      let bind = scoped n s.row b s.is_row s.scope in
+      among_alive a b bind.0 bind.4
+
+  are_listed : (tops : List NodeId) → ListsTops a tops → (n : NodeId) → Among n (alive a) → up n ≡ None → Among n tops
+  are_listed tops lists n h e = let r = alive_row a n h in lists n r.0 r.1 (sym (ap scope_in r.1) ∙ e)
+
   pub few_live : AreFew right a
   few_live tops lists =
-      let few = few_by_tops up w (λ n. w n - 1) (alive a) (alive_once a)
-      (λ n h. (let r = alive_row a n h in let is : w n ≡ weight_of right r.0.def = ap (weight_in right) r.1 in let more = one_more r.0.def in
-      omega (arith, is, more)))
-      (λ n b h e. (let s = row_of_scope n b e in let bind = scoped n s.row b s.is_row s.scope in among_alive a b bind.0 bind.4))
-      scope_fits tops
-      (λ n h e. (let r = alive_row a n h in lists n r.0 r.1 (sym (ap scope_in r.1) ∙ e))) in
+      let few = few_by_tops up w (λ n. w n - 1) (alive a) (alive_once a) weights_are binds_live scope_fits tops (are_listed tops lists) in
       let count = alive_count a in
       omega (arith, few, count)
+
+  -- with what the function of a bind takes, in whose scope nobody stands, there are no more either
+  pub few_beside_live : (b : NodeId) (r : Row) (left : NodeId) (f : FnRef) (captures : List NodeId) → row_at a b ≡ Some r
+      → r.def ≡ Bind left f captures → ((n : NodeId) → IsInScope a b n → ⊥) → (free : ℕ) → free ≤ (right f).size → (tops : List NodeId)
+      → ListsTops a tops → live a + free ≤ sum_by (weight_at right a) tops
+  few_beside_live b r left f captures row def none free most tops lists =
+      let is : w b ≡ (right f).size + 1 = ap (weight_in right) row ∙ ap (weight_of right) def in
+      let few = few_beside up w (λ n. w n - 1) (alive a) (alive_once a) weights_are binds_live scope_fits b (among_alive a b r row)
+      (λ n h e. none n (row_of_scope n b e)) free (omega (arith, is, most)) tops (are_listed tops lists) in
+      let count = alive_count a in
+      omega (arith, few, count)
+
+  -- so no more ids were given, if they are of live nodes but for those of one build that was refused
+  pub ids_few : (count : ℕ) → GivesFew right count a → IdsAreFew right count a
+  ids_few count few tops lists =
+      let given = gives_few count few.spent a few.gives in
+      elim few.room [
+        | inl none ↦ let live = few_live tops lists in omega (arith, given, none, live)
+        | inr room ↦
+            let live = few_beside_live room.bind room.row room.left room.function room.captures room.is_row room.is_bind room.empty few.spent
+            room.most tops lists in
+            omega (arith, given, live)
+      ]

@@ -16,5 +16,4 @@ pub mod Fitting
 pub mod Leaving
 pub mod Knowing
 pub mod Flat
-pub mod Alive
 pub mod Grouping

@@ -2,6 +2,7 @@
 use Rattle.std.proofs.Common.{◌≡◌, ◌⊎◌, inl, inr, ℕ, true, List, [], Option, None, Some, refl, sym, ap, subst, ◌∙◌, Vec, Global}
 use Rattle.std.specs.Prelude.{Result, Ok, Err, OnOk, IfErr, IfSome, is_some, IsSome}
 use Rattle.std.proofs.lemmas.Option.{none-some}
+use Rattle.inc_value.specs.declared.function.FnRef.{FnRef}
 use Rattle.inc_value.specs.declared.node.NodeId.{NodeId}
 use Rattle.inc_value.specs.declared.node.Point.{Point}
 use Rattle.inc_value.specs.Choice.{Among}
@@ -14,6 +15,7 @@ use Rattle.height_order.specs.Levels.{level}
 use Rattle.necessity.specs.Need.{Roots, root_times, KeepsRoots}
 use Rattle.necessary_graph.specs.Part.{NecessaryPart, Needed, IsInStep}
 use Rattle.node_arena.specs.Arena.{Arena, row_at}
+use Rattle.node_arena.specs.RightSide.{RightSide}
 use Rattle.node_arena.specs.declared.functions.Functions.{Ghosts}
 use Rattle.node_outcomes.specs.Computing.{has_part}
 use Rattle.node_outcomes.specs.Meaning.{Meaning}
@@ -126,13 +128,13 @@ module _ (M : Meaning) (old mid : Parts) (n : NodeId) (before after : Counts) (w
         | inr ne ↦ ap is_some (marked.others p ne)
       ]
 
-  pub left_again : (e : Refused) → BuildRefused M old mid n before after e → ChangeIsLeft M old now n before after e
-  left_again e (rebuilding.as_it_was stands arena counts memory) =
+  pub left_again : (right : FnRef → RightSide) (e : Refused) → BuildRefused M right old mid n before after e → ChangeIsLeft M right old now n before after e
+  left_again right e (rebuilding.as_it_was stands arena counts memory) =
       stepping.as_it_was (λ s b. again_stands s b (stands s b)) arena counts memory
-  left_again e (rebuilding.unbuilt {count} stops calls later told) = stepping.unbuilt {count = count}
+  left_again right e (rebuilding.unbuilt {count} stops calls later told few) = stepping.unbuilt {count = count}
       (λ z s begun quiet b.
       let k = stops z s begun quiet b in
-      (k.0, k.1, k.2, k.3, in_heap_stands k.1 k.5 k.4)) calls later told
+      (k.0, k.1, k.2, k.3, in_heap_stands k.1 k.5 k.4)) calls later told few
 
   pub again_kept : Holds mid.work.rows (change n) → IsInStep work.graph → PartsKept now
   again_kept row step = record {
@@ -181,15 +183,17 @@ module _ (old : Parts) (todo : Vec Point Global) (idle : old.work.todo.items ≡
     };
   }
 
-  pub todo_refused : (M : Meaning) (n : NodeId) (counts : Counts) (e : Refused) → e ≡ Memory → BuildRefused M old with_todo n counts counts e
-  todo_refused M n counts e memory = rebuilding.as_it_was (λ s b. before_still n counts s b) refl refl memory
+  pub todo_refused : (M : Meaning) (right : FnRef → RightSide) (n : NodeId) (counts : Counts) (e : Refused) → e ≡ Memory
+      → BuildRefused M right old with_todo n counts counts e
+  todo_refused M right n counts e memory = rebuilding.as_it_was (λ s b. before_still n counts s b) refl refl memory
 
 -- the worklist was looked at alone
 module _ (old : Parts) (work : Work) (rest : work ≡ record old.work { todo = work.todo }) where
-  pub woken_refused : old.work.todo.items ≡ [] → work.todo.items ≡ [] → (M : Meaning) (n : NodeId) (counts : Counts) (e : Refused) → e ≡ Memory
-      → BuildRefused M old (record old { work = work }) n counts counts e
-  woken_refused idle none M n counts e memory = subst (λ (w : Work). BuildRefused M old (record old { work = w }) n counts counts e) (sym rest)
-      (todo_refused old work.todo idle none M n counts e memory)
+  pub woken_refused : old.work.todo.items ≡ [] → work.todo.items ≡ [] → (M : Meaning) (right : FnRef → RightSide) (n : NodeId) (counts : Counts)
+      (e : Refused) → e ≡ Memory → BuildRefused M right old (record old { work = work }) n counts counts e
+  woken_refused idle none M right n counts e memory =
+      subst (λ (w : Work). BuildRefused M right old (record old { work = w }) n counts counts e) (sym rest)
+      (todo_refused old work.todo idle none M right n counts e memory)
 
   pub woken_own : (p : Point) → Holds old.work.rows p → Holds work.rows p
   woken_own p row = subst (λ (w : Work). Holds w.rows p) (sym rest) row

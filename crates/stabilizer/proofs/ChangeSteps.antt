@@ -17,6 +17,7 @@ use Rattle.recompute_heap.specs.Agree.{IsLeast as IsLowest}
 use Rattle.height_order.specs.Levels.{level}
 use Rattle.necessary_graph.specs.Part.{NecessaryPart}
 use Rattle.node_arena.specs.Arena.{Arena}
+use Rattle.node_arena.specs.RightSide.{RightSide}
 use Rattle.stabilize_round.specs.Invariant.{Invariant}
 use Rattle.stabilize_round.specs.Machine.{Move, Moves}
 use Rattle.stabilize_round.specs.Moves.{Quiet, IsLeast}
@@ -130,7 +131,7 @@ due_unsettled F z s parts work counts n f captures given inv kept st same due se
 -- calls are counted as before
 calls_stay : (M : Meaning) (old turned : Parts) (n : NodeId) (before after : Counts) → IsTurned M old turned n before after → after.calls ≡ before.calls
 calls_stay M old turned n before after (stepping.turned m only same) = ap (λ (c : Counts). c.calls) same
-calls_stay M old turned n before after (stepping.built due anew calls) = calls
+calls_stay M old turned n before after (stepping.built due anew calls gives) = calls
 
 -- ---- stages
 
@@ -199,7 +200,7 @@ module _ (M : Meaning) (old : Parts) (g : NecessaryPart) (p : Point) (n : NodeId
           again = x.6;
           rowed = λ settled. turned_rowed old.arena taken turned.work n popped_kept.work m;
         }
-    turns (stepping.built {f} {captures} {given} due anew calls) =
+    turns (stepping.built {f} {captures} {given} due anew calls gives) =
         let x = anew z s begun quiet (stands_before s st) in record {
           ready = x.0;
           next = x.1;
@@ -300,16 +301,17 @@ module _ (M : Meaning) (old : Parts) (g : NecessaryPart) (p : Point) (n : NodeId
       (subst (λ (y : Arena). Stands y new.work after a.1 a.0) (sym (ap (λ (y : Parts). y.arena) only)) a.3)
       (calls_stay M popped turned n before after k) a.4
 
-  pub change_stops : (new : Parts) (after : Counts) (e : Refused) → ChangeIsLeft M popped new n before after e → StepRefused M old new before after e
-  change_stops new after e (as_it_was stands nodes counts memory) z s begun quiet st =
+  pub change_stops : (right : FnRef → RightSide) (new : Parts) (after : Counts) (e : Refused) → ChangeIsLeft M right popped new n before after e
+      → StepRefused M old new before after e
+  change_stops right new after e (as_it_was stands nodes counts memory) z s begun quiet st =
       as_it_was (subst (λ (k : Counts). Stands new.arena new.work k None s) counts (stands s (stands_before s st))) (inl counts) memory
-  change_stops new after e (unbuilt {count} stops calls later told) z s begun quiet st =
+  change_stops right new after e (unbuilt {count} stops calls later told few) z s begun quiet st =
       let x = stops z s begun quiet (stands_before s st) in
       unbuilt {r = x.0} {t = x.1} {count = count} (preparing_moves F z (change n) s x.0 x.2) x.3 x.4 calls
       (let g = st.given in omega (arith, g, later)) told
-  change_stops new after e (unattached {turned} k refused only) z s begun quiet st =
+  change_stops right new after e (unattached {turned} k refused only) z s begun quiet st =
       wiring_stops turned new after e z s begun quiet st k only (λ x in_turn. refused F z x after in_turn)
-  change_stops new after e (unwired {turned} {attached} k attaches refused only) z s begun quiet st =
+  change_stops right new after e (unwired {turned} {attached} k attaches refused only) z s begun quiet st =
       wiring_stops turned new after e z s begun quiet st k only (λ x in_turn.
       let u = attaches F z x after in_turn in
       let a = refused F z u.0 after (moves_keep F z x u.0 (wired_moves F z x u.0 u.1) in_turn.holds) u.2 u.3 in

@@ -65,3 +65,6 @@ pub mod RebuildCounts
 pub mod RebuildEnds
 pub mod Sums
 pub mod Weighing
+pub mod Alive
+pub mod Giving
+pub mod GivingSteps

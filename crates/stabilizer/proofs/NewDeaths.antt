@@ -169,6 +169,39 @@ new_stop F z t u (unbuilt {b} {now} {m} move none count e) n k dead = by_new k
 new_stop F z t u (unkept quiet taken at takes count e) n k dead =
     ap (λ (x : State). x.died n) e ∙ undied F t n k (sym (ap (λ (x : State). x.graph.row n) e) ∙ dead)
 
+-- ---- nodes that are new
+
+pub lasts_run : (F : Functions) (z : Start) (s t : State) → Moves F z s t → (n : NodeId) → Lasts F s.graph s.given n → Lasts F t.graph t.given n
+lasts_run F z s t here n k = k
+lasts_run F z s t (step {b = u} m rest) n k = lasts_run F z u t rest n (lasts_move F z s u m n k)
+
+-- a node of which there was none before lasts
+born_then : (F : Functions) (z : Start) (s u t : State) → Move F z s u → Moves F z u t → (n : NodeId) → s.graph.row n ≡ None
+    → (u.graph.row n ≡ None → Lasts F t.graph t.given n) → Lasts F t.graph t.given n
+born_then F z s u t m rest n none again = by_kind (kind_of F z s u m)
+  where
+    by_kind : Kind F z s u (built_by m) → Lasts F t.graph t.given n
+    by_kind (inl h) = again (ap (λ (G : Graph). G.row n) h.0.graph ∙ none)
+    by_kind (inr h) = by_row (h.0.made.graph.row n) refl
+      where
+        by_row : (x : Option Row) → h.0.made.graph.row n ≡ x → Lasts F t.graph t.given n
+        by_row None e = again (ap (λ (x : State). x.graph.row n) h.0.is ∙ e)
+        by_row (Some r) e = lasts_run F z u t rest n (born F z s u h.0 n r none e)
+
+pub born_run : (F : Functions) (z : Start) (s t : State) → Moves F z s t → (n : NodeId) (r : Row) → s.graph.row n ≡ None → t.graph.row n ≡ Some r
+    → Lasts F t.graph t.given n
+born_run F z s t here n r none row = absurd (cc)
+born_run F z s t (step {b = u} m rest) n r none row = born_then F z s u t m rest n none (λ e. born_run F z u t rest n r e row)
+
+-- and is there where the round stops
+pub there_still : (F : Functions) (z : Start) (t u : State) → Stops F z t u → (n : NodeId) → (k : Lasts F t.graph t.given n) → u.graph.row n ≡ Some k.row
+there_still F z t u (as_it_is e) n k = ap (λ (x : State). x.graph.row n) e ∙ k.is_row
+there_still F z t u (unbuilt {b} {now} {m} move none count e) n k =
+    ap (λ (x : State). x.graph.row n) e ∙ row_lasts F z t b now m move n k
+there_still F z t u (unkept quiet taken at takes count e) n k = ap (λ (x : State). x.graph.row n) e ∙ k.is_row
+
+-- ---- those who died
+
 -- who is dead where a round stops is known by the graphs before and then
 pub deaths_told : (F : Functions) (z : Start) (s t u : State) → Entry F z s → AllGiven F z s → Moves F z s t → Stops F z t u
     → (n : NodeId) → u.graph.row n ≡ None → u.died n ≡ died_in s.graph u.graph n

@@ -1,6 +1,7 @@
 -- How building a bind anew ends: what the calls left, put together.
-use Rattle.std.proofs.Common.{◌≡◌, ℕ, ◌-◌, ◌<◌, ◌≤◌, Bool, true, List, [], Option, None, Some, refl, sym, ap, subst, ◌∙◌, arith, Vec, Global}
+use Rattle.std.proofs.Common.{◌≡◌, inl, inr, ℕ, ◌+◌, ◌-◌, ◌<◌, ◌≤◌, Bool, true, List, [], Option, None, Some, refl, sym, ap, subst, ◌∙◌, arith, Vec, Global}
 use Rattle.std.specs.Prelude.{is_some, option_map, Result, Ok, Err, OnErr}
+use Rattle.std.proofs.lemmas.Bool.{cases_lt}
 use Rattle.std.proofs.lemmas.Option.{none-some, same_Some}
 use Rattle.inc_value.specs.Choice.{Reaches}
 use Rattle.inc_value.specs.declared.function.FnKind.TheVariants.{Rhs}
@@ -40,11 +41,13 @@ use Rattle.wiring.specs.declared.refused.Refused.TheVariants.{Memory}
 use Rattle.wiring.specs.declared.work.Work.{Work}
 use Rattle.stabilizer.specs.Building.{HasGrown}
 use Rattle.stabilizer.specs.Dying.{IsBindOf, IsCutOff, HasDied, StandsBefore}
+use Rattle.stabilizer.specs.Giving.{GivesLive, GivesFew}
 use Rattle.stabilizer.specs.Kept.{PartsKept, KeepsMeaning, counts_by}
 use Rattle.stabilizer.specs.Rebuilding.{IsToBuild, BuildsAnew, BuildRefused, as_it_was, IsSettledOn, IsToSettle, RebuildStays}
-use Rattle.stabilizer.specs.Weights.{SidesFit}
+use Rattle.stabilizer.specs.Weights.{IsInScope, SidesFit}
 use Rattle.stabilizer.specs.declared.parts.Parts.{Parts}
 use Rattle.stabilizer.proofs.BuiltAnew.{IsRebuilt, HasRoot, run_settled}
+use Rattle.stabilizer.proofs.Giving.{none_gives, none_few}
 use Rattle.stabilizer.proofs.RebuildAsks.{dead_fit, dead_given, bind_stays, is_bind_of, is_known, may_build, gives_type, fit_then, built_root, no_root_built}
 use Rattle.stabilizer.proofs.RebuildCounts.{tally_adds, tally_builds}
 use Rattle.stabilizer.proofs.Rebuilds.{builds_anew, stops_unbuilt}
@@ -97,11 +100,11 @@ on_err (Ok x) h = tt
 on_err (Err e) h = h
 
 -- parts in which the deaths have room were built as they were
-pub left_roomy : (M : Meaning) (old : Parts) (deaths : Deaths) (roots : Rows NodeId) (same_deaths : KeepsRows old.work.deaths.scopes deaths.scopes)
+pub left_roomy : (M : Meaning) (right : FnRef → RightSide) (old : Parts) (deaths : Deaths) (roots : Rows NodeId) (same_deaths : KeepsRows old.work.deaths.scopes deaths.scopes)
     (same_roots : KeepsRows old.work.roots roots) (dying : Vec NodeId Global) (same_dying : dying.items ≡ old.dying.items) (b : NodeId)
     (counts : Counts)
-    → BuildRefused M old (roomy old deaths roots same_deaths same_roots dying same_dying) b counts counts Memory
-left_roomy M old deaths roots same_deaths same_roots dying same_dying b counts =
+    → BuildRefused M right old (roomy old deaths roots same_deaths same_roots dying same_dying) b counts counts Memory
+left_roomy M right old deaths roots same_deaths same_roots dying same_dying b counts =
     as_it_was (λ s before. roomy_before old deaths roots same_deaths same_roots dying same_dying counts s b before) refl refl refl
 
 -- what moves lead to where a bind couldn't be built
@@ -215,6 +218,14 @@ module _ {K More : Type 0} (keeper : Ghosts K More) (fs : K) where
     pub given_first : first.arena.given ≤ dead.arena.given
     given_first = let e = as_given in let first_as = ap (λ (a : Arena). a.given) h.arena in omega (arith, e, first_as)
 
+    -- and no more
+    given_same : dead.arena.given ≡ first.arena.given
+    given_same = as_given ∙ ap (λ (a : Arena). a.given) h.arena
+
+    -- so none was spent
+    pub dead_few : (sides : FnRef → RightSide) → GivesFew sides first.arena.given dead.arena
+    dead_few sides = let same = given_same in none_few sides first.arena.given dead.arena (omega (arith, same))
+
     same_row : row_at dead.arena b ≡ row_at old.arena b
     same_row = bind_stays old cut dead b h.cuts.arena h.died own_cut
 
@@ -316,6 +327,32 @@ module _ {K More : Type 0} (keeper : Ghosts K More) (fs : K) where
         row_grown : (r : Row) → row_at old.arena b ≡ Some r → row_at grown.arena b ≡ Some r
         row_grown r e = w.grew.nodes b was_given ∙ (same_row ∙ e)
 
+        -- the ids that were spent are no more than its function takes
+        pub spends_few : ((n : NodeId) → ready.arena.given ≤ n.gen_ → row_at grown.arena n ≡ None)
+            → grown.arena.given ≤ ready.arena.given + (right f).size → GivesFew (keeper.right fs') first.arena.given grown.arena
+        spends_few none most =
+            let same = given_same in record {
+              spent = (right f).size;
+              gives = record { born = []; once = tt; live = λ n i. absurd i; since = λ n i. absurd i; given = omega (arith, most, same) };
+              room = inr (record {
+                bind = b;
+                row = h.to.row;
+                left = h.to.left;
+                function = f;
+                captures = captures;
+                is_row = row_grown h.to.row h.to.is_row;
+                is_bind = h.to.is_bind;
+                empty = nobody;
+                most = let size : (keeper.right fs' f).size ≡ (right f).size = ap (λ (s : RightSide). s.size) (w.meaning.sides f) in omega (arith, size);
+              });
+            }
+          where
+            nobody : (n : NodeId) → IsInScope grown.arena b n → ⊥
+            nobody n s = elim (cases_lt n.gen_ ready.arena.given) [
+              | inl lt ↦ (asks_ready left is).empty n s.row (sym (w.grew.nodes n lt) ∙ s.is_row) s.scope
+              | inr le ↦ none-some s.row (sym (none n le) ∙ s.is_row)
+            ]
+
         -- the bind keeps its row
         pub own_row : (r : Row) → row_at first.arena b ≡ Some r → row_at grown.arena b ≡ Some r
         own_row r e = row_grown r (ap (λ (a : Arena). row_at a b) h.arena ∙ e)
@@ -369,8 +406,13 @@ module _ {K More : Type 0} (keeper : Ghosts K More) (fs : K) where
             dying = w.kept.dying;
           }
 
-          pub settles_root : IsToSettle keeper fs fs' first rooted b given
-          settles_root = record { builds = builds_of_root; kept = kept_of_root; step = w.kept.work.step }
+          pub settles_root : GivesLive ready.arena.given 0 grown.arena → IsToSettle keeper fs fs' first rooted b given
+          settles_root gives = record {
+            builds = builds_of_root;
+            kept = kept_of_root;
+            step = w.kept.work.step;
+            gives = subst (λ (k : ℕ). GivesLive k 0 grown.arena) given_same gives;
+          }
 
           pub root_stays : RebuildStays keeper fs fs' first rooted b
           root_stays = record {
@@ -414,4 +456,9 @@ module _ {K More : Type 0} (keeper : Ghosts K More) (fs : K) where
       }
 
       pub settles_none : IsToSettle keeper fs fs first dead b given
-      settles_none = record { builds = builds_none; kept = kept_none; step = h.lasts.work.step }
+      settles_none = record {
+        builds = builds_none;
+        kept = kept_none;
+        step = h.lasts.work.step;
+        gives = let same = given_same in none_gives first.arena.given dead.arena (omega (arith, same));
+      }

@@ -67,6 +67,24 @@ module _ {A : Type 0} (u v : A → ℕ) where
       let other = sum_by-cons v x xs in
       omega (arith, first, rest, one, other)
 
+  -- where one term leaves so much free
+  pub sum_most_but : (b : A) (free : ℕ) (xs : List A) → Among b xs → u b + free ≤ v b → ((x : A) → Among x xs → u x ≤ v x)
+      → sum_by u xs + free ≤ sum_by v xs
+  sum_most_but b free [] among room h = absurd among
+  sum_most_but b free (x ∷ xs) (inl e) room h =
+      let rest = sum_most xs (λ y a. h y (inr a)) in
+      let one = sum_by-cons u x xs in
+      let other = sum_by-cons v x xs in
+      let first : u b ≡ u x = ap u e in
+      let then : v b ≡ v x = ap v e in
+      omega (arith, room, rest, one, other, first, then)
+  sum_most_but b free (x ∷ xs) (inr among) room h =
+      let first = h x (inl refl) in
+      let rest = sum_most_but b free xs among room (λ y a. h y (inr a)) in
+      let one = sum_by-cons u x xs in
+      let other = sum_by-cons v x xs in
+      omega (arith, first, rest, one, other)
+
   pub sum_both : (t : A → ℕ) (xs : List A) → ((x : A) → t x ≡ u x + v x) → sum_by t xs ≡ sum_by u xs + sum_by v xs
   sum_both t [] h = refl
   sum_both t (x ∷ xs) h =

@@ -7,3 +7,4 @@ pub mod Stepping
 pub mod Round
 pub mod Between
 pub mod Weights
+pub mod Giving

@@ -11,6 +11,7 @@ use Rattle.point_map.specs.Rows.{at, Holds, Changes}
 use Rattle.necessity.specs.Need.{KeepsRoots}
 use Rattle.necessary_graph.specs.Part.{IsInStep}
 use Rattle.node_arena.specs.Arena.{row_at}
+use Rattle.node_arena.specs.RightSide.{RightSide}
 use Rattle.node_arena.specs.declared.functions.Functions.{Ghosts}
 use Rattle.stabilize_round.specs.Machine.{Move, Stops}
 use Rattle.stabilize_round.specs.Moves.{Quiet}
@@ -28,6 +29,7 @@ use Rattle.wiring.specs.declared.refused.Refused.TheVariants.{Memory}
 use Rattle.wiring.specs.declared.work.Work.{Work}
 use Rattle.stabilizer.specs.Building.{StopsBuilding}
 use Rattle.stabilizer.specs.Dying.{StandsBefore}
+use Rattle.stabilizer.specs.Giving.{GivesLive, GivesFew}
 use Rattle.stabilizer.specs.Kept.{PartsKept, KeepsMeaning, counts_by}
 use Rattle.stabilizer.specs.Weights.{SidesFit}
 use Rattle.stabilizer.specs.declared.parts.Parts.{Parts}
@@ -52,15 +54,16 @@ BuildsAnew M old new n before after =
     → (ready turned : State) × Reaches (Preparing M.functions z (change n)) s ready × (m : Move M.functions z ready turned) × steps.Settles (change n) m
     × IsTurnedIn M.functions z turned new.arena new.work after n
 
--- or the build stops: before anything died, or with the bind built for nothing, no node in its scope, and its change in the heap
-pub data BuildRefused (M : Meaning) (old new : Parts) (n : NodeId) (before after : Counts) (e : Refused) : Type 0 where
+-- or the build stops: before anything died, or with the bind built for nothing, no node in its scope, and its change in the heap; the ids that it spent
+-- are no more than its function takes
+pub data BuildRefused (M : Meaning) (right : FnRef → RightSide) (old new : Parts) (n : NodeId) (before after : Counts) (e : Refused) : Type 0 where
   as_it_was : ((s : State) → StandsBefore old before s n → StandsBefore new after s n) → new.arena ≡ old.arena → after ≡ before → e ≡ Memory
-      → BuildRefused M old new n before after e
+      → BuildRefused M right old new n before after e
   unbuilt : {count : ℕ} → ((z : Start) (s : State) → IsRoundOf M z s → Quiet s → StandsBefore old before s n
       → (ready stopped : State) × Reaches (Preparing M.functions z (change n)) s ready × Stops M.functions z ready stopped
       × Stands new.arena new.work after None stopped × (stopped.heap (change n) ≡ true))
-      → after.calls ≡ before.calls → old.arena.given ≤ count → StopsBuilding count new.arena e
-      → BuildRefused M old new n before after e
+      → after.calls ≡ before.calls → old.arena.given ≤ count → StopsBuilding count new.arena e → GivesFew right old.arena.given new.arena
+      → BuildRefused M right old new n before after e
 
 -- ---- before the change is settled
 
@@ -73,12 +76,13 @@ pub record IsSettledOn (old new : Work) (n : NodeId) (given : Outcome) : Type 0 
   pub rest : new ≡ record old { graph = new.graph; rows = new.rows }
 
 module _ {K More : Type 0} (keeper : Ghosts K More) (fs fs' : K) where
-  -- once the change is settled the bind is built anew
+  -- once the change is settled the bind is built anew; all ids that were given are of live nodes
   pub record IsToSettle (old new : Parts) (n : NodeId) (given : Outcome) : Type 0 where
     pub builds : (work : Work) → IsSettledOn new.work work n given
         → BuildsAnew (meaning_of keeper fs) old (record new { work = work }) n (counts_by keeper fs) (counts_by keeper fs')
     pub kept : (work : Work) → IsSettledOn new.work work n given → PartsKept (record new { work = work })
     pub step : IsInStep new.work.graph
+    pub gives : GivesLive old.arena.given 0 new.arena
 
   -- what stays where a bind is built anew, or couldn't be
   pub record RebuildStays (old new : Parts) (n : NodeId) : Type 0 where

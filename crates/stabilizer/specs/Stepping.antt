@@ -10,6 +10,7 @@ use Rattle.inc_terms.specs.Graph.{Row, Def, Bind}
 use Rattle.inc_terms.specs.Term.{Functions}
 use Rattle.point_map.specs.Rows.{at, Holds, KeepsRows}
 use Rattle.node_arena.specs.Arena.{Arena, row_at}
+use Rattle.node_arena.specs.RightSide.{RightSide}
 use Rattle.stabilize_round.specs.Calling.{cost_at}
 use Rattle.stabilize_round.specs.Counts.{RoseBy, number_of}
 use Rattle.stabilize_round.specs.Moves.{Quiet, IsLeast, calls_of}
@@ -32,6 +33,7 @@ use Rattle.node_outcomes.specs.declared.row.Stage.TheVariants.{Full}
 use Rattle.wiring.specs.Stands.{Stands, Counts, Hand}
 use Rattle.stabilizer.specs.Building.{StopsBuilding}
 use Rattle.stabilizer.specs.Dying.{TakesLeast, StandsBefore}
+use Rattle.stabilizer.specs.Giving.{GivesLive, GivesFew}
 use Rattle.stabilizer.specs.Kept.{graph_in}
 use Rattle.stabilizer.specs.Rebuilding.{IsToBuild, BuildsAnew}
 use Rattle.stabilizer.specs.declared.parts.Parts.{Parts}
@@ -105,11 +107,11 @@ pub record ChangeIsTurned (arena : Arena) (old new : Work) (n : NodeId) : Type 0
   pub wakes : AreWoken old woken n
   pub turned : HasTurned woken new n (right_in old.rows old.roots n row.def) given
 
--- a change that was taken was turned, or its bind was built anew and that was settled
+-- a change that was taken was turned, or its bind was built anew and that was settled; then the ids that were given are of live nodes
 pub data IsTurned (M : Meaning) (old new : Parts) (n : NodeId) (before after : Counts) : Type 0 where
   turned : ChangeIsTurned old.arena old.work new.work n → new ≡ record old { work = new.work } → after ≡ before → IsTurned M old new n before after
   built : {f : FnRef} {captures : List NodeId} {given : Outcome} → IsToBuild old n f captures given → BuildsAnew M old new n before after
-      → after.calls ≡ before.calls → IsTurned M old new n before after
+      → after.calls ≡ before.calls → GivesLive old.arena.given 0 new.arena → IsTurned M old new n before after
 
 -- then its main got its right side, if it waits, and what is newly needed its links
 pub record ChangeIsSettled (M : Meaning) (old new : Parts) (n : NodeId) (before after : Counts) : Type 0 where
@@ -122,18 +124,18 @@ pub record ChangeIsSettled (M : Meaning) (old new : Parts) (n : NodeId) (before 
   pub rest : new ≡ record turned { work = new.work }
 
 -- or that was refused: the change is in the heap again and all else as it was; the bind couldn't be built; or a link was refused, or found no memory
-pub data ChangeIsLeft (M : Meaning) (old new : Parts) (n : NodeId) (before after : Counts) (e : Refused) : Type 0 where
+pub data ChangeIsLeft (M : Meaning) (right : FnRef → RightSide) (old new : Parts) (n : NodeId) (before after : Counts) (e : Refused) : Type 0 where
   as_it_was : ((s : State) → StandsBefore old before s n → Stands new.arena new.work after None s) → new.arena ≡ old.arena → after ≡ before → e ≡ Memory
-      → ChangeIsLeft M old new n before after e
+      → ChangeIsLeft M right old new n before after e
   unbuilt : {count : ℕ} → ((z : Start) (s : State) → IsRoundOf M z s → Quiet s → StandsBefore old before s n
       → (ready stopped : State) × Reaches (Preparing M.functions z (change n)) s ready × Stops M.functions z ready stopped
       × Stands new.arena new.work after None stopped)
-      → after.calls ≡ before.calls → old.arena.given ≤ count → StopsBuilding count new.arena e
-      → ChangeIsLeft M old new n before after e
+      → after.calls ≡ before.calls → old.arena.given ≤ count → StopsBuilding count new.arena e → GivesFew right old.arena.given new.arena
+      → ChangeIsLeft M right old new n before after e
   unattached : {turned : Parts} → IsTurned M old turned n before after → AttachRefused turned.arena turned.work new.work n e
-      → new ≡ record turned { work = new.work } → ChangeIsLeft M old new n before after e
+      → new ≡ record turned { work = new.work } → ChangeIsLeft M right old new n before after e
   unwired : {turned : Parts} {attached : Work} → IsTurned M old turned n before after → Attaches turned.arena turned.work attached n
-      → WireRefused turned.arena attached new.work None e → new ≡ record turned { work = new.work } → ChangeIsLeft M old new n before after e
+      → WireRefused turned.arena attached new.work None e → new ≡ record turned { work = new.work } → ChangeIsLeft M right old new n before after e
 
 -- a least point left the heap and was settled: a main was computed, or a change turned or its bind built anew
 pub data SettlesLeast (M : Meaning) (old new : Parts) (before after : Counts) : Type 0 where

@@ -27,6 +27,7 @@ ghost use Rattle.stabilizer.specs.Building.{HasGrown, IsUnbuilt, StopsBuilding};
 ghost use Rattle.stabilizer.specs.Building.{AdoptsBefore, NoneSince, MayAdopt, GetsPoints, KeepsRest};
 ghost use Rattle.stabilizer.specs.Building.{MayDisown, MayLeave, HaveLeft, HasDisowned, DropsSince};
 ghost use Rattle.stabilizer.specs.Rebuilding.{IsToBuild, BuildsAnew, BuildRefused, IsToSettle, RebuildStays};
+ghost use Rattle.stabilizer.specs.Giving.{GivesLive};
 ghost use Rattle.stabilizer.specs.Weights.{SidesFit};
 
 use crate::parts::Parts;
@@ -79,8 +80,9 @@ impl Parts {
         requires fit { SidesFit (F.known functions.old) (F.right functions.old) self.old.arena }
         ensures built { OnOk result (BuildsAnew (meaning_of F.Functions functions.old) self.old self.new node
             (counts_by F.Functions functions.old) (counts_by F.Functions functions.new)) }
-        ensures refused { IfErr result (BuildRefused (meaning_of F.Functions functions.old) self.old self.new node
+        ensures refused { IfErr result (BuildRefused (meaning_of F.Functions functions.old) (F.right functions.new) self.old self.new node
             (counts_by F.Functions functions.old) (counts_by F.Functions functions.new)) }
+        ensures gives { OnOk result (GivesLive self.old.arena.given 0 self.new.arena) }
         ensures calls { F.calls functions.new ≡ F.calls functions.old }
         ensures settled { OnOk result (settled_in self.new.work.round (at self.new.work.rows (change node)) ≡ true) }
         ensures own { (r : ARow) → row_at self.old.arena node ≡ Some r → row_at self.new.arena node ≡ Some r }
@@ -122,7 +124,7 @@ impl Parts {
         requires sound { F.is_sound functions.old }
         requires fit { SidesFit (F.known functions.old) (F.right functions.old) self.old.arena }
         ensures ready { OnOk result (IsToSettle F.Functions functions.old functions.new self.old self.new node given.now) }
-        ensures refused { IfErr result (BuildRefused (meaning_of F.Functions functions.old) self.old self.new node
+        ensures refused { IfErr result (BuildRefused (meaning_of F.Functions functions.old) (F.right functions.new) self.old self.new node
             (counts_by F.Functions functions.old) (counts_by F.Functions functions.new)) }
         ensures kept { OnErr result (PartsKept self.new) }
         ensures stays { RebuildStays F.Functions functions.old functions.new self.old self.new node }
@@ -290,6 +292,9 @@ impl Parts {
             ((F.right functions.old recipe.now.function).term left.now) recipe.now.function.sig.gives) }
         ensures stops { IfErr result (StopsBuilding self.old.arena.given self.new.arena) }
         ensures kept { PartsKept self.new }
+        ensures gives { OnOk result (GivesLive self.old.arena.given 0 self.new.arena) }
+        ensures spends { self.new.arena.given
+            ≤ self.old.arena.given + (F.right functions.old recipe.now.function).size }
         ensures tally { F.tally functions.new ≡ one_built (self.new.arena.given - self.old.arena.given) (F.tally functions.old) }
         ensures calls { F.calls functions.new ≡ F.calls functions.old }
         ensures fit { SidesFit (F.known functions.new) (F.right functions.new) self.new.arena }

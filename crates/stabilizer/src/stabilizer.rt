@@ -24,6 +24,7 @@ ghost use Rattle.stabilizer.specs.Round.{cutoff_at, left_by, IsLeftBy, BuildsAll
 ghost use Rattle.stabilizer.specs.Round.{IsInRound, RootsMore, OnlyRoots, Settles, SettleRefused};
 ghost use Rattle.stabilizer.specs.Stepping.{MainIsSettled, MainIsLeft, IsUnbuiltBind, IsBuiltFor, IsTurnedAwake, IsAsleep, IsTurned, ChangeIsSettled, ChangeIsLeft, SettlesLeast};
 ghost use Rattle.stabilizer.specs.Stepping.{Steps, StepRefused, StepFalls};
+ghost use Rattle.stabilizer.specs.Giving.{GivesLive, GivesFew};
 ghost use Rattle.stabilizer.specs.Weights.{SidesFit};
 
 use crate::parts::Parts;
@@ -57,6 +58,7 @@ impl Stabilizer {
         ensures uncalled { IfOk result (λ more. IsFalse more → counts_by F.Functions functions.new ≡ counts_by F.Functions functions.old) }
         ensures refused { IfErr result (StepRefused (meaning_of F.Functions functions.old) parts.old parts.new
             (counts_by F.Functions functions.old) (counts_by F.Functions functions.new)) }
+        ensures spends { OnErr result (GivesFew (F.right functions.new) parts.old.arena.given parts.new.arena) }
         ensures kept { PartsKept parts.new }
         ensures quiet { OnOk result (parts.new.work.todo.items ≡ []) }
         ensures falls { IfOk result (λ more. IsTrue more → StepFalls (meaning_of F.Functions functions.old)
@@ -101,6 +103,8 @@ impl Stabilizer {
         ensures calls { OnOk result (RoseBy (F.calls functions.old)
             (costs_of (left_by parts.old parts.new) parts.new.ran.items) (F.calls functions.new)) }
         ensures ready { OnOk result (IsReady (meaning_of F.Functions functions.new) parts.new) }
+        ensures gives { OnOk result (GivesLive parts.old.arena.given 0 parts.new.arena) }
+        ensures spends { OnErr result (GivesFew (F.right functions.new) parts.old.arena.given parts.new.arena) }
         ensures fit { SidesFit (F.known functions.new) (F.right functions.new) parts.new.arena }
         ensures round { OnOk result (parts.new.work.round ≡ parts.old.work.round + 1) }
         ensures lawful { IfErr result (λ e. (observed : List NodeId) → AreRooted parts.old.work observed
@@ -166,6 +170,8 @@ fn settle_all<F: Functions>(parts: &mut Parts, functions: &mut F) -> Result<(), 
     ensures empty { OnOk result (IsEmpty parts.new.work.graph.heap) }
     ensures refused { IfErr result (SettleRefused (meaning_of F.Functions functions.old) parts.old parts.new
         (counts_by F.Functions functions.old) (counts_by F.Functions functions.new)) }
+    ensures gives { OnOk result (GivesLive parts.old.arena.given 0 parts.new.arena) }
+    ensures spends { OnErr result (GivesFew (F.right functions.new) parts.old.arena.given parts.new.arena) }
     ensures fit { SidesFit (F.known functions.new) (F.right functions.new) parts.new.arena }
     ensures kept { PartsKept parts.new }
     ensures quiet { OnOk result (parts.new.work.todo.items ≡ []) }
@@ -236,7 +242,7 @@ fn step_change<F: Functions>(
     requires fit { SidesFit (F.known functions.old) (F.right functions.old) parts.old.arena }
     ensures settled { OnOk result (ChangeIsSettled (meaning_of F.Functions functions.old) parts.old parts.new node
         (counts_by F.Functions functions.old) (counts_by F.Functions functions.new)) }
-    ensures refused { IfErr result (ChangeIsLeft (meaning_of F.Functions functions.old) parts.old parts.new node
+    ensures refused { IfErr result (ChangeIsLeft (meaning_of F.Functions functions.old) (F.right functions.new) parts.old parts.new node
         (counts_by F.Functions functions.old) (counts_by F.Functions functions.new)) }
     ensures ran { parts.new.ran ≡ parts.old.ran }
     ensures roots { KeepsRoots parts.old.work.graph.roots parts.new.work.graph.roots }
@@ -275,7 +281,7 @@ fn turn_change<F: Functions>(
     requires fit { SidesFit (F.known functions.old) (F.right functions.old) parts.old.arena }
     ensures turned { OnOk result (IsTurned (meaning_of F.Functions functions.old) parts.old parts.new node
         (counts_by F.Functions functions.old) (counts_by F.Functions functions.new)) }
-    ensures refused { IfErr result (BuildRefused (meaning_of F.Functions functions.old) parts.old parts.new node
+    ensures refused { IfErr result (BuildRefused (meaning_of F.Functions functions.old) (F.right functions.new) parts.old parts.new node
         (counts_by F.Functions functions.old) (counts_by F.Functions functions.new)) }
     ensures settled { OnOk result (settled_in parts.new.work.round (at parts.new.work.rows (change node)) ≡ true) }
     ensures row { (r : ARow) → row_at parts.old.arena node ≡ Some r → row_at parts.new.arena node ≡ Some r }

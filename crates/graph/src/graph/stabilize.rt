@@ -1,14 +1,17 @@
 //! One call that brings what is observed up to date.
-ghost use Rattle.std.specs.Prelude.{◌≡◌, ◌↔◌, Some, OnOk, OnErr, IfErr, IsErrOf, length, ◌≤◌};
+ghost use Rattle.std.specs.Prelude.{◌≡◌, ◌↔◌, Some, OnOk, OnErr, IfErr, IsErrOf, length, ◌≤◌, ◌+◌};
 ghost use Rattle.inc_value.specs.declared.node.NodeId.{NodeId};
+ghost use Rattle.node_arena.specs.Arena.{live};
 ghost use Rattle.node_arena.specs.Meanings.{SameNames, SameKnown, SameValues};
 ghost use Rattle.node_arena.specs.RightSide.{SameSides};
 ghost use Rattle.stabilize_round.specs.Calling.{costs_of};
 ghost use Rattle.stabilize_round.specs.Counts.{RoseBy};
+ghost use Rattle.stabilizer.specs.Giving.{GivesLive, GivesFew};
 ghost use Rattle.stabilizer.specs.Weights.{SidesFit};
 ghost use Rattle.node_outcomes.specs.Meaning.{functions_of, meaning_of};
 ghost use Rattle.stabilizer.specs.Kept.{KeepsMeaning, counts_by};
 ghost use Rattle.stabilizer.specs.Kept.{HasNoBinds};
+ghost use Rattle.graph.specs.Few.{IdsAreFew};
 ghost use Rattle.graph.specs.Inside.{CanStabilize, BringsUpToDate, calls_in, IsNextRound, IsRefusedLawfully, WasTried};
 ghost use Rattle.graph.specs.Inside.{CalledMet, FitTogether, AllShowStill, KeepsCutoffs, KeepsCalled};
 ghost use Rattle.graph.specs.Inside.{LeavesParts, KeepsNodes, BuildsEach, BuildsEachBut};
@@ -47,6 +50,8 @@ impl<F: Functions> Graph<F> {
             (F.calls self.old.functions) (F.calls self.new.functions) }
         ensures left { IsUnbroken self.old → LeavesNodes (functions_of F.Functions self.old.functions) self.old self.new
             (counts_by F.Functions self.old.functions) (counts_by F.Functions self.new.functions) }
+        ensures ids { IdsAreFew (F.right self.new.functions) self.old.nodes.given self.new.nodes }
+        ensures lives { OnOk result (self.new.nodes.given ≤ self.old.nodes.given + live self.new.nodes) }
         ensures flat { HasNoBinds self.old.nodes → self.new.nodes ≡ self.old.nodes }
         ensures calls_grow { F.calls self.old.functions ≤ F.calls self.new.functions }
         ensures unchanged { (cause : ACause) → IsErrOf result (StabilizeFault.Broken cause) → self.new ≡ self.old }
@@ -116,6 +121,8 @@ fn run<F: Functions>(
     ensures ran { OnErr result (KeepsCalled parts.old parts.new) }
     ensures left { LeavesParts (functions_of F.Functions functions.old) parts.old parts.new
         (counts_by F.Functions functions.old) (counts_by F.Functions functions.new) }
+    ensures gives { OnOk result (GivesLive parts.old.arena.given 0 parts.new.arena) }
+    ensures spends { OnErr result (GivesFew (F.right functions.new) parts.old.arena.given parts.new.arena) }
     ensures flat { HasNoBinds parts.old.arena → KeepsNodes parts.old parts.new }
     ensures fit { SidesFit (F.known functions.new) (F.right functions.new) parts.new.arena }
     ensures functions { KeepsMeaning F.Functions functions.old functions.new }

@@ -1,9 +1,11 @@
-use Rattle.std.proofs.Common.{◌∙◌, refl}
+use Rattle.std.proofs.Common.{◌∙◌, refl, arith}
 use Rattle.node_outcomes.specs.Meaning.{meaning_of}
 use Rattle.stabilizer.specs.Kept.{counts_by}
 use Rattle.stabilizer.specs.Round.{SettleRefused}
+use Rattle.stabilizer.proofs.Giving.{none_gives}
+use Rattle.stabilizer.proofs.GivingSteps.{gives_next, few_next}
 use Rattle.stabilizer.proofs.MeaningKept.{meaning_on, nothing_meant, means_still, stays_flat}
-use Rattle.stabilizer.proofs.Rounding.{exit_is, no_step, next_step, less_left, step_stops}
+use Rattle.stabilizer.proofs.Rounding.{exit_is, on_err, no_step, next_step, less_left, step_stops}
 use Rattle.stabilizer.proofs.stabilizer.settle_all.Goals as goal
 
 pub loop-init : goal.loop-init
@@ -11,6 +13,7 @@ loop-init g c = record {
   so = no_step (meaning_of g.F.Functions c.args.functions.now) c.args.parts.now (counts_by g.F.Functions c.args.functions.now) c.requires.kept
       c.requires.quiet;
   fit = c.requires.fit;
+  gives = none_gives c.args.parts.now.arena.given c.args.parts.now.arena (omega arith);
   functions = nothing_meant g.F.Functions c.args.functions.now c.requires.sound;
   flat = λ none. refl;
 }
@@ -23,6 +26,11 @@ loop-preserved g c = record {
       c.loop.invariant.so c.step.ensures.kept c.in_ok-step.ensures.quiet
       (c.in_ok-step.ensures.stepped c.if-branch.true) c.step.ensures.roots c.step.ensures.round c.step.ensures.ran;
   fit = c.step.ensures.fit;
+  gives = gives_next (meaning_of g.F.Functions c.args.functions.now) (meaning_of g.F.Functions c.loop.functions)
+      (means_still g.F.Functions _ _ c.loop.invariant.functions) c.args.parts.now c.loop.parts c.step.new.parts
+      (counts_by g.F.Functions c.args.functions.now) (counts_by g.F.Functions c.loop.functions) (counts_by g.F.Functions c.step.new.functions)
+      c.loop.invariant.so c.requires.in_round c.loop.invariant.gives
+      (c.in_ok-step.ensures.stepped c.if-branch.true) (c.in_ok-step.ensures.settled c.if-branch.true);
   flat = stays_flat c.args.parts.now.arena c.loop.parts.arena c.step.new.parts.arena c.loop.invariant.flat c.step.ensures.flat;
   functions = meaning_on g.F.Functions _ _ _ c.loop.invariant.functions c.step.ensures.functions;
 }
@@ -44,6 +52,15 @@ returns-in_err-step-clause-refused g c =
     (means_still g.F.Functions _ _ c.loop.invariant.functions) c.args.parts.now c.loop.parts c.step.new.parts
     (counts_by g.F.Functions c.args.functions.now) (counts_by g.F.Functions c.loop.functions) (counts_by g.F.Functions c.step.new.functions)
     c.loop.invariant.so e c.in_err-step.ensures.refused)
+
+pub returns-in_err-step-clause-spends : goal.returns-in_err-step-clause-spends
+returns-in_err-step-clause-spends g c =
+    on_err c.from_residual.result
+    (few_next (meaning_of g.F.Functions c.args.functions.now) (meaning_of g.F.Functions c.loop.functions)
+    (means_still g.F.Functions _ _ c.loop.invariant.functions) c.args.parts.now c.loop.parts c.step.new.parts
+    (counts_by g.F.Functions c.args.functions.now) (counts_by g.F.Functions c.loop.functions) (counts_by g.F.Functions c.step.new.functions)
+    c.loop.invariant.so c.requires.in_round c.loop.invariant.gives
+    (g.F.Functions.right c.step.new.functions) c.in_err-step.field-0.0 c.in_err-step.ensures.refused c.in_err-step.ensures.spends)
 
 -- ---- what a last step leaves
 
@@ -77,6 +94,11 @@ pub returns-clause-empty : goal.returns-clause-empty
 returns-clause-empty g c =
     let same = c.in_ok-step.ensures.unchanged c.if-branch.false in
     rw same (c.in_ok-step.ensures.empty c.if-branch.false)
+
+pub returns-clause-gives : goal.returns-clause-gives
+returns-clause-gives g c =
+    let same = c.in_ok-step.ensures.unchanged c.if-branch.false in
+    rw same c.loop.invariant.gives
 
 pub returns-clause-fit : goal.returns-clause-fit
 returns-clause-fit g c = c.step.ensures.fit

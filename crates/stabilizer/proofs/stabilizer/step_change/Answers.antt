@@ -18,7 +18,7 @@ returns-in-Err-clause-refused g c =
     let marked = subst (λ (x : Point). IsMarked mid.work.graph c.schedule.new.self.graph x) c.change_point.ensures c.schedule.ensures.scheduled in
     left_again (meaning_of g.F.Functions c.args.functions.now) old mid n (counts_by g.F.Functions c.args.functions.now)
     (counts_by g.F.Functions c.turn_change.new.functions) c.schedule.new.self c.turn_change.ensures.kept c.requires.needed marked c.schedule.ensures.rest
-    c.in-Err.refused c.in-Err.ensures.refused
+    (g.F.Functions.right c.turn_change.new.functions) c.in-Err.refused c.in-Err.ensures.refused
 
 pub returns-in-Err-clause-kept : goal.returns-in-Err-clause-kept
 returns-in-Err-clause-kept g c =
@@ -45,7 +45,9 @@ returns-in_err-attach_right-clause-refused g c =
     let new = record mid { work = c.attach_right.new.self } in
     let M = meaning_of g.F.Functions c.args.functions.now in
     let e = c.in_err-attach_right.field-0.0 in
-    if_refusal (ChangeIsLeft M old new c.args.node (counts_by g.F.Functions c.args.functions.now) (counts_by g.F.Functions c.turn_change.new.functions)) e
+    let right = g.F.Functions.right c.turn_change.new.functions in
+    if_refusal (ChangeIsLeft M right old new c.args.node (counts_by g.F.Functions c.args.functions.now)
+    (counts_by g.F.Functions c.turn_change.new.functions)) e
     c.from_residual.result c.from_residual.ensures.1 (unattached {turned = mid} c.in-Ok.ensures.turned c.in_err-attach_right.ensures.refused refl)
 
 pub returns-in_err-attach_right-clause-kept : goal.returns-in_err-attach_right-clause-kept

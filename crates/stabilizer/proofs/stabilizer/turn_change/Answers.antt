@@ -11,7 +11,7 @@ use Rattle.stabilizer.specs.Kept.{counts_by}
 use Rattle.stabilizer.specs.Rebuilding.{BuildsAnew, IsToBuild}
 use Rattle.stabilizer.specs.Stepping.{IsUnbuiltBind, IsBuiltFor, built, turned}
 use Rattle.stabilizer.proofs.Again.{woken_refused, woken_own, woken_roots, woken_round, woken_kept, parts_with, by_result, some_of}
-use Rattle.stabilizer.proofs.Changing.{on_ok, if_err}
+use Rattle.stabilizer.proofs.Changing.{on_ok, both_ok, if_err}
 use Rattle.stabilizer.proofs.Running.{some_same}
 use Rattle.stabilizer.proofs.Turned.{turned_own, turned_settled, turned_roots, turned_round, turned_kept, is_turned}
 use Rattle.stabilizer.proofs.stabilizer.turn_change.Goals as goal
@@ -27,7 +27,7 @@ returns-in-Ok-None-clause-turned g c =
 
 pub returns-in-Ok-None-clause-refused : goal.returns-in-Ok-None-clause-refused
 returns-in-Ok-None-clause-refused g c = if_err c.turn_as_built.result (λ e asleep. woken_refused c.args.parts.now c.turn_as_built.new.work asleep.rest
-    c.requires.quiet asleep.quiet (meaning_of g.F.Functions c.args.functions.now) c.args.node (counts_by g.F.Functions c.args.functions.now) e asleep.memory)
+    c.requires.quiet asleep.quiet (meaning_of g.F.Functions c.args.functions.now) (g.F.Functions.right c.args.functions.now) c.args.node (counts_by g.F.Functions c.args.functions.now) e asleep.memory)
     c.turn_as_built.ensures.refused
 
 pub returns-in-Ok-None-clause-settled : goal.returns-in-Ok-None-clause-settled
@@ -96,9 +96,9 @@ returns-in-Ok-Some-clause-turned g c =
       sees = c.in_ok-given.ensures;
       differs = due.2;
     } in
-    on_ok {P = BuildsAnew (meaning_of g.F.Functions c.args.functions.now) c.args.parts.now c.rebuild-built.new.self c.args.node
+    both_ok {P = BuildsAnew (meaning_of g.F.Functions c.args.functions.now) c.args.parts.now c.rebuild-built.new.self c.args.node
     (counts_by g.F.Functions c.args.functions.now) (counts_by g.F.Functions c.rebuild-built.new.functions)} c.rebuild-built.result
-    (λ anew. built to_build anew c.rebuild-built.ensures.calls) c.rebuild-built.ensures.built
+    (λ anew gives. built to_build anew c.rebuild-built.ensures.calls gives) c.rebuild-built.ensures.built c.rebuild-built.ensures.gives
 
 pub returns-in-Ok-Some-clause-flat : goal.returns-in-Ok-Some-clause-flat
 returns-in-Ok-Some-clause-flat g c none =

@@ -4,8 +4,10 @@ use Rattle.stabilize_round.specs.Invariant.{Rooted}
 use Rattle.graph.specs.Inside.{CanStabilize}
 use Rattle.stabilizer.specs.Kept.{graph_in, counts_by}
 use Rattle.stabilizer.specs.Round.{left_by, died_by}
+use Rattle.stabilizer.proofs.Giving.{live_few, gives_few}
 use Rattle.stabilizer.proofs.MeaningKept.{means_still}
 use Rattle.graph.proofs.Sound.{ready_built}
+use Rattle.graph.proofs.Grouping.{ids_few}
 use Rattle.graph.proofs.Rounding.{accepted, refused_in, few_in, leaves_nodes}
 use Rattle.graph.proofs.graph.Graph.stabilize.Goals as goal
 
@@ -51,6 +53,25 @@ returns-in-Err-clause-left g c unbroken = rw (← c.self.view_is)
 
 pub returns-in-Err-clause-flat : goal.returns-in-Err-clause-flat
 returns-in-Err-clause-flat g c no_binds = rw (← c.self.view_is) (c.run.ensures.flat (rw (← c.self.view_is) at no_binds))
+
+pub returns-in-Ok-clause-ids : goal.returns-in-Ok-clause-ids
+returns-in-Ok-clause-ids g c =
+    let right = g.F.Functions.right c.run.new.functions in
+    let nodes = c.run.new.parts.arena in
+    let can : CanStabilize (meaning_of g.F.Functions c.run.new.functions) c.run.new.parts c.self.inside.observers.items
+    (length c.self.inside.observers.items) = rw c.deref.ensures.value at c.in-Ok.ensures.can in
+    rw (← c.self.view_is) (ids_few right nodes c.run.ensures.fit.scopes can.ready.kept.work.scopes c.self.inside.parts.arena.given
+    (live_few right c.self.inside.parts.arena.given nodes c.in-Ok.ensures.gives))
+
+pub returns-in-Err-clause-ids : goal.returns-in-Err-clause-ids
+returns-in-Err-clause-ids g c =
+    rw (← c.self.view_is) (ids_few (g.F.Functions.right c.run.new.functions) c.run.new.parts.arena c.run.ensures.fit.scopes
+    c.in-Err.ensures.kept.work.scopes c.self.inside.parts.arena.given c.in-Err.ensures.spends)
+
+pub returns-in-Ok-clause-lives : goal.returns-in-Ok-clause-lives
+returns-in-Ok-clause-lives g c =
+    let few = gives_few c.self.inside.parts.arena.given 0 c.run.new.parts.arena c.in-Ok.ensures.gives in
+    rw (← c.self.view_is) (omega (arith, few))
 
 pub invariant_of-self : goal.invariant_of-self
 invariant_of-self g c =

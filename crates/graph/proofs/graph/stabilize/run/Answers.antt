@@ -1,10 +1,11 @@
-use Rattle.std.proofs.Common.{List, subst, ◌∙◌}
+use Rattle.std.proofs.Common.{List, subst, ◌∙◌, arith}
 use Rattle.inc_value.specs.declared.node.NodeId.{NodeId}
 use Rattle.inc_value.specs.Choice.{Among}
 use Rattle.inc_terms.specs.Within.{Given}
 use Rattle.node_outcomes.specs.Meaning.{functions_of, meaning_of}
 use Rattle.stabilizer.specs.Kept.{counts_by}
 use Rattle.graph.specs.Standing.{in_use}
+use Rattle.stabilizer.proofs.Giving.{none_few}
 use Rattle.graph.proofs.Observing.{all_of}
 use Rattle.graph.proofs.Sound.{ready_built}
 use Rattle.graph.proofs.Stabilizing.{on_ok, on_err, err_as, on_both, if_err, rest_given, all_right, all_lawful, all_few, all_built, all_built_but, can_again}
@@ -72,3 +73,8 @@ pub returns-in_err-roots-clause-left : goal.returns-in_err-roots-clause-left
 returns-in_err-roots-clause-left g c =
     left_same (functions_of g.F.Functions c.args.functions.now) c.args.parts.now (counts_by g.F.Functions c.args.functions.now) c.requires.can.ready.kept.work
     (ready_built (meaning_of g.F.Functions c.args.functions.now) c.args.parts.now c.requires.can.ready)
+
+pub returns-in_err-roots-clause-spends : goal.returns-in_err-roots-clause-spends
+returns-in_err-roots-clause-spends g c =
+    on_err c.from_residual.result
+    (none_few (g.F.Functions.right c.args.functions.now) c.args.parts.now.arena.given c.args.parts.now.arena (omega arith))

@@ -1,10 +1,12 @@
-use Rattle.std.proofs.Common.{refl, sym, ap, subst, Err}
+use Rattle.std.proofs.Common.{refl, sym, ap, subst, Err, arith}
 use Rattle.node_arena.specs.Arena.{Arena}
+use Rattle.stabilizer.specs.Giving.{GivesLive}
 use Rattle.stabilizer.specs.Weights.{SidesFit}
+use Rattle.stabilizer.proofs.Giving.{built_gives}
 use Rattle.node_arena.specs.declared.stored.BuildFault.{BuildFault}
 use Rattle.stabilizer.specs.declared.parts.Parts.{Parts}
 use Rattle.stabilizer.proofs.Built.{fit_built, ready_to_adopt, some_none, ready_to_disown, all_grown, all_kept}
-use Rattle.stabilizer.proofs.Built.{none_kept, none_fit, none_built, none_room, stops_by}
+use Rattle.stabilizer.proofs.Built.{none_kept, none_given, none_fit, none_built, none_room, stops_by}
 use Rattle.stabilizer.proofs.parts.Parts.build.Goals as goal
 
 pub adopt_since-requires : goal.adopt_since-requires
@@ -145,3 +147,35 @@ returns-in-Err-clause-stops g c =
     c.build-built.ensures.grows refl refl refl refl c.given-count.result c.given-count.ensures
     mid some c.disown_since-in-Err.new.self c.disown_since-in-Err.ensures.disowned
     (c.in-Err.ensures.full (ap (λ (x : BuildFault). Err x) is)))
+
+pub returns-in-Ok-adopt_since-clause-gives : goal.returns-in-Ok-adopt_since-clause-gives
+returns-in-Ok-adopt_since-clause-gives g c =
+    subst (λ (x : Arena). GivesLive c.args.self.now.arena.given 0 x) (sym c.in-Ok-adopt_since.ensures.all.1.arena)
+    (built_gives c.args.self.now.arena c.build-built.new.self c.requires.kept.work.sound c.build-built.ensures.grows.keeps
+    c.build-built.ensures.grows.live)
+
+pub returns-in-Ok-adopt_since-clause-spends : goal.returns-in-Ok-adopt_since-clause-spends
+returns-in-Ok-adopt_since-clause-spends g c =
+    let few = c.build-built.ensures.grows.few in
+    let same = ap (λ (x : Arena). x.given) c.in-Ok-adopt_since.ensures.all.1.arena in omega (arith, few, same)
+
+pub returns-in-Err-adopt_since-clause-spends : goal.returns-in-Err-adopt_since-clause-spends
+returns-in-Err-adopt_since-clause-spends g c =
+    let mid : Parts = record c.args.self.now { arena = c.build-built.new.self } in
+    let few = c.build-built.ensures.grows.few in
+    let same = none_given c.args.self.now mid c.args.bind (g.F.Functions.right c.args.functions.now c.args.recipe.now.function)
+    c.requires.kept c.requires.bind c.requires.ready.empty c.build-built.ensures.arena
+    c.build-built.ensures.grows refl refl refl refl c.given-count.result c.given-count.ensures
+    c.adopt_since.new.self c.in-Err-adopt_since.ensures.some c.disown_since.new.self c.disown_since.ensures.disowned in omega (arith, few, same)
+
+pub returns-in-Err-clause-spends : goal.returns-in-Err-clause-spends
+returns-in-Err-clause-spends g c =
+    let mid : Parts = record c.args.self.now { arena = c.build-built.new.self } in
+    let some = some_none c.args.self.now mid c.args.bind (g.F.Functions.right c.args.functions.now c.args.recipe.now.function)
+    c.requires.kept c.requires.bind c.requires.ready.empty c.build-built.ensures.arena
+    c.build-built.ensures.grows refl refl refl refl c.given-count.result c.given-count.ensures in
+    let few = c.build-built.ensures.grows.few in
+    let same = none_given c.args.self.now mid c.args.bind (g.F.Functions.right c.args.functions.now c.args.recipe.now.function)
+    c.requires.kept c.requires.bind c.requires.ready.empty c.build-built.ensures.arena
+    c.build-built.ensures.grows refl refl refl refl c.given-count.result c.given-count.ensures
+    mid some c.disown_since-in-Err.new.self c.disown_since-in-Err.ensures.disowned in omega (arith, few, same)

@@ -34,3 +34,6 @@ returns-in-Ok-clause-kept g c =
       rest = c.settle_built.ensures.rest;
     } in
     c.in-Ok.ensures.ready.kept c.settle_built.new.self on
+
+pub returns-in-Ok-clause-gives : goal.returns-in-Ok-clause-gives
+returns-in-Ok-clause-gives g c = c.in-Ok.ensures.ready.gives

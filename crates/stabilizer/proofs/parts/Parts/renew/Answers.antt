@@ -6,7 +6,7 @@ use Rattle.wiring.proofs.Raising.{if_refusal}
 use Rattle.stabilizer.specs.Kept.{counts_by}
 use Rattle.stabilizer.specs.Rebuilding.{BuildRefused, unbuilt}
 use Rattle.stabilizer.proofs.RebuildAsks.{stands_but}
-use Rattle.stabilizer.proofs.RebuildEnds.{on_err, left_roomy, roomy_stays, are_cut, WasBuilt, fits_dead, given_first}
+use Rattle.stabilizer.proofs.RebuildEnds.{on_err, left_roomy, roomy_stays, are_cut, WasBuilt, fits_dead, given_first, dead_few, spends_few}
 use Rattle.stabilizer.proofs.RebuildEnds.{dead_stays, ready_stays, grown_stays, root_stays}
 use Rattle.stabilizer.proofs.RebuildEnds.{asks_known, asks_own, asks_ready, ready, stops_roomless, stops_building, settles_root, settles_none}
 use Rattle.stabilizer.proofs.RebuiltKept.{roomy_kept, roots_roomy}
@@ -17,17 +17,19 @@ returns-in_err-reserve-clause-refused g c =
     let old = c.args.self.now in
     let counts = counts_by g.F.Functions c.args.functions.now in
     let M = meaning_of g.F.Functions c.args.functions.now in
-    if_refusal (BuildRefused M old _ c.args.node counts counts) Memory c.from_residual.result c.from_residual.ensures.1
-    (left_roomy M old old.work.deaths old.work.roots (λ p. refl) (λ p. refl) c.reserve.new.self c.reserve.ensures.items c.args.node counts)
+    let right = g.F.Functions.right c.args.functions.now in
+    if_refusal (BuildRefused M right old _ c.args.node counts counts) Memory c.from_residual.result c.from_residual.ensures.1
+    (left_roomy M right old old.work.deaths old.work.roots (λ p. refl) (λ p. refl) c.reserve.new.self c.reserve.ensures.items c.args.node counts)
 
 pub returns-in_err-reserve-2-clause-refused : goal.returns-in_err-reserve-2-clause-refused
 returns-in_err-reserve-2-clause-refused g c =
     let old = c.args.self.now in
     let counts = counts_by g.F.Functions c.args.functions.now in
     let M = meaning_of g.F.Functions c.args.functions.now in
-    if_refusal (BuildRefused M old _ c.args.node counts counts) Memory c.from_residual-in_err-reserve-2.result
+    let right = g.F.Functions.right c.args.functions.now in
+    if_refusal (BuildRefused M right old _ c.args.node counts counts) Memory c.from_residual-in_err-reserve-2.result
     c.from_residual-in_err-reserve-2.ensures.1
-    (left_roomy M old c.reserve-2.new.self old.work.roots c.reserve-2.ensures.scopes (λ p. refl) c.reserve.new.self c.reserve.ensures.items
+    (left_roomy M right old c.reserve-2.new.self old.work.roots c.reserve-2.ensures.scopes (λ p. refl) c.reserve.new.self c.reserve.ensures.items
     c.args.node counts)
 
 pub returns-in_err-reserve-2-clause-kept : goal.returns-in_err-reserve-2-clause-kept
@@ -83,11 +85,11 @@ returns-in_err-reserve-3-clause-refused g c =
     c.requires.kept c.requires.to_build c.requires.row c.requires.quiet c.requires.sound c.requires.fit c.cut_off.ensures.cut
     c.let_die.ensures.died c.let_die.ensures.kept in
     let counts = counts_by K fs in
-    if_refusal (BuildRefused (meaning_of K fs) c.args.self.now (ready K fs h c.reserve-3.new.self c.reserve-3.ensures.rows) c.args.node counts
-    counts) Memory
+    if_refusal (BuildRefused (meaning_of K fs) (K.right fs) c.args.self.now (ready K fs h c.reserve-3.new.self c.reserve-3.ensures.rows) c.args.node
+    counts counts) Memory
     c.from_residual-in_err-reserve-3.result c.from_residual-in_err-reserve-3.ensures.1
     (unbuilt {count = c.let_die.new.self.arena.given} (stops_roomless K fs h c.reserve-3.new.self c.reserve-3.ensures.rows) refl
-    (given_first K fs h) tt)
+    (given_first K fs h) tt (dead_few K fs h (K.right fs)))
 
 pub returns-in_err-reserve-3-clause-kept : goal.returns-in_err-reserve-3-clause-kept
 returns-in_err-reserve-3-clause-kept g c =
@@ -159,11 +161,14 @@ returns-in_err-root-clause-refused g c =
       tally = c.build.ensures.tally;
     } in
     let e = c.in_err-root.field-0.0 in
-    if_refusal (BuildRefused (meaning_of K fs) c.args.self.now c.build.new.self c.args.node (counts_by K fs) (counts_by K c.build.new.functions)) e
+    if_refusal (BuildRefused (meaning_of K fs) (K.right c.build.new.functions) c.args.self.now c.build.new.self c.args.node (counts_by K fs)
+    (counts_by K c.build.new.functions)) e
     c.from_residual-in_err-root.result c.from_residual-in_err-root.ensures.1
     (unbuilt {count = c.let_die.new.self.arena.given} (stops_building K fs h c.reserve-3.new.self c.reserve-3.ensures.rows c.in-Val.left
     c.in-Val.is w)
-    c.build.ensures.calls (given_first K fs h) c.in_err-root.ensures.stops)
+    c.build.ensures.calls (given_first K fs h) c.in_err-root.ensures.stops
+    (spends_few K fs h c.reserve-3.new.self c.reserve-3.ensures.rows c.in-Val.left c.in-Val.is w c.in_err-root.ensures.unbuilt.none
+    c.build.ensures.spends))
 
 pub returns-in_err-root-clause-stays : goal.returns-in_err-root-clause-stays
 returns-in_err-root-clause-stays g c =
@@ -200,7 +205,7 @@ returns-clause-ready g c =
     settles_root K fs h c.reserve-3.new.self c.reserve-3.ensures.rows c.in-Val.left c.in-Val.is w c.in_ok-root.root c.in_ok-root.ensures.root
     c.insert.new.self
     (subst (λ (p : _). Changes c.build.new.self.work.roots c.insert.new.self p (Some c.in_ok-root.root)) c.change_point.ensures
-    c.insert.ensures.changes)
+    c.insert.ensures.changes) c.in_ok-root.ensures.gives
 
 pub returns-clause-stays : goal.returns-clause-stays
 returns-clause-stays g c =

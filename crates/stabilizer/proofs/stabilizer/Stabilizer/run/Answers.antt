@@ -1,4 +1,4 @@
-use Rattle.std.proofs.Common.{inl, refl, ◌≡◌, ◌+◌, ◌++◌, ℕ, List, Option, Some, sym, ap, subst, ◌∙◌}
+use Rattle.std.proofs.Common.{inl, refl, arith, ◌≡◌, ◌+◌, ◌++◌, ℕ, List, Option, Some, sym, ap, subst, ◌∙◌}
 use Rattle.std.specs.Option.{SomeIff}
 use Rattle.std.specs.Result.{IsErrAnd}
 use Rattle.inc_value.specs.declared.node.NodeId.{NodeId}
@@ -10,6 +10,7 @@ use Rattle.stabilizer.specs.Kept.{counts_by}
 use Rattle.stabilizer.specs.Round.{IsReady, AreRooted, IsLawful, LeavesTried, BuildsAllBut}
 use Rattle.stabilizer.specs.declared.parts.Parts.{Parts}
 use Rattle.stabilizer.proofs.BuiltFor.{paused_built}
+use Rattle.stabilizer.proofs.Giving.{none_few}
 use Rattle.stabilizer.proofs.Lawful.{paused_lawful}
 use Rattle.stabilizer.proofs.Leftover.{none_called, only_still, paused_cutoffs, paused_shows, paused_called, paused_left}
 use Rattle.stabilizer.proofs.MeaningKept.{nothing_meant, means_still}
@@ -79,6 +80,10 @@ returns-in_default-clause-fit g c = c.requires.fit
 
 pub returns-in_default-clause-kept : goal.returns-in_default-clause-kept
 returns-in_default-clause-kept g c = c.requires.ready.kept
+
+pub returns-in_default-clause-spends : goal.returns-in_default-clause-spends
+returns-in_default-clause-spends g c =
+    none_few (g.F.Functions.right c.args.functions.now) c.args.parts.now.arena.given c.args.parts.now.arena (omega arith)
 
 -- ---- a root was refused
 
@@ -169,6 +174,11 @@ returns-in_err-put_roots-clause-fit g c = c.requires.fit
 
 pub returns-in_err-put_roots-clause-ran : goal.returns-in_err-put_roots-clause-ran
 returns-in_err-put_roots-clause-ran g c = on_err c.from_residual.result refl
+
+pub returns-in_err-put_roots-clause-spends : goal.returns-in_err-put_roots-clause-spends
+returns-in_err-put_roots-clause-spends g c =
+    on_err c.from_residual.result
+    (none_few (g.F.Functions.right c.args.functions.now) c.args.parts.now.arena.given c.args.parts.now.arena (omega arith))
 
 -- ---- a step was refused
 
@@ -277,7 +287,13 @@ returns-in_err-settle_all-clause-ran g c = on_err c.from_residual-in_err-settle_
 pub returns-in_err-settle_all-clause-functions : goal.returns-in_err-settle_all-clause-functions
 returns-in_err-settle_all-clause-functions g c = c.settle_all.ensures.functions
 
+pub returns-in_err-settle_all-clause-spends : goal.returns-in_err-settle_all-clause-spends
+returns-in_err-settle_all-clause-spends g c = on_err c.from_residual-in_err-settle_all.result c.in_err-settle_all.ensures.spends
+
 -- ---- the round ended
+
+pub returns-clause-gives : goal.returns-clause-gives
+returns-clause-gives g c = c.in_ok-settle_all.ensures.gives
 
 pub returns-clause-fit : goal.returns-clause-fit
 returns-clause-fit g c = c.settle_all.ensures.fit

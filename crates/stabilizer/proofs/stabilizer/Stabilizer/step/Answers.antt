@@ -8,7 +8,9 @@ use Rattle.stabilizer.specs.Stepping.{of_main, of_change, StepRefused}
 use Rattle.stabilizer.proofs.Carrying.{taken_kept}
 use Rattle.stabilizer.proofs.ChangeSteps.{change_steps, change_stops}
 use Rattle.stabilizer.proofs.Falling.{is_change, steps_leave_less}
+use Rattle.stabilizer.proofs.GivingSteps.{left_few, main_few}
 use Rattle.stabilizer.proofs.Mains.{is_main}
+use Rattle.stabilizer.proofs.Rounding.{on_err}
 use Rattle.wiring.proofs.Raising.{if_refusal}
 use Rattle.stabilizer.specs.declared.parts.Parts.{Parts}
 use Rattle.stabilizer.proofs.StillFit.{same_fit}
@@ -55,7 +57,15 @@ returns-in_err-step_change-in-Change-clause-refused g c =
     if_refusal (StepRefused M old new before after) e c.from_residual.result c.from_residual.ensures.1
     (change_stops M old c.pop_least.new.self p p.node (is_change p c.in-Change.is) before c.requires.kept c.requires.quiet
     c.in-Some.ensures.was c.in-Some.ensures.least c.pop_least.ensures.rest c.in-Some.ensures.removed
-    new after e c.in_err-step_change-in-Change.ensures.refused)
+    (g.F.Functions.right c.step_change.new.functions) new after e c.in_err-step_change-in-Change.ensures.refused)
+
+pub returns-in_err-step_change-in-Change-clause-spends : goal.returns-in_err-step_change-in-Change-clause-spends
+returns-in_err-step_change-in-Change-clause-spends g c =
+    let old : Parts = record c.args.parts.now { work = record c.args.parts.now.work { graph = c.pop_least.new.self } } in
+    on_err c.from_residual.result
+    (left_few (meaning_of g.F.Functions c.args.functions.now) (g.F.Functions.right c.step_change.new.functions) old c.step_change.new.parts
+    c.in-Some.p.node (counts_by g.F.Functions c.args.functions.now) (counts_by g.F.Functions c.step_change.new.functions)
+    c.in_err-step_change-in-Change.field-0.0 c.in_err-step_change-in-Change.ensures.refused)
 
 pub returns-in_ok-step_change-in-Change-clause-stepped : goal.returns-in_ok-step_change-in-Change-clause-stepped
 returns-in_ok-step_change-in-Change-clause-stepped g c = λ more.
@@ -209,3 +219,8 @@ returns-in-Err-clause-kept g c =
       scopes = k.scopes;
       dying = k.dying;
     }
+
+pub returns-in-Err-clause-spends : goal.returns-in-Err-clause-spends
+returns-in-Err-clause-spends g c =
+    main_few (g.F.Functions.right c.step_main.new.functions) c.args.parts.now.arena c.step_main.new.parts.arena
+    (arena_kept c.args.parts.now c.step_main.new.parts c.step_main.ensures.rest)
