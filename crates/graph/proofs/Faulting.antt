@@ -1,6 +1,6 @@
 -- Faults of the crates below, told apart.
 use Rattle.std.proofs.Common.{◌≡◌, Ok, Err, refl, sym, ap, subst, ◌∙◌}
-use Rattle.std.specs.Prelude.{Result, IfOk, OnOk, ◌↔◌}
+use Rattle.std.specs.Prelude.{Result, IfOk, OnOk, IsErrOf, ◌↔◌}
 use Rattle.inc_value.specs.declared.node.NodeId.{NodeId}
 use Rattle.graph.specs.Fault.{of_add, of_set}
 use Rattle.graph.specs.declared.fault.GraphFault.{GraphFault}
@@ -46,6 +46,16 @@ passed (Err e) q s f m only is both unbroken = (
   (λ h. (unbroken, both.0 (ap Err (only e (same_err (sym m ∙ h)))))),
   (λ k. m ∙ ap Err (ap of_set (same_err (both.1 k.1)) ∙ is)),
 )
+
+-- where it is set, and asked in that order, it can't be told not to be a variable
+pub set_variable : {T A B V : Type 0} (S : Type 0) (r : Result T SetFault) → IsErrOf r set.Unknown ↔ ¬ (A × B) → IsErrOf r set.NotVar ↔ (A × B × ¬ V)
+    → OnOk r S → OnOk r (S × ((V → ⊥) → ⊥))
+set_variable S (Ok u) unknown not_var s = (
+  s,
+  (λ isnt.
+      absurd (let e = unknown.1 (λ given. absurd (let x = not_var.1 (given.0, given.1, isnt) in cc)) in cc)),
+)
+set_variable S (Err e) unknown not_var s = tt
 
 abbrev pub AddPasses : {T : Type 0} → Result T AddFault → Result T GraphFault → Type 0
 AddPasses (Ok u) q = q ≡ Ok u

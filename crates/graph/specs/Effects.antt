@@ -35,7 +35,8 @@ NoneScopedSince a count = (n : NodeId) (r : Row) → row_at a n ≡ Some r → c
 
 module _ {F : Type 0} where
   -- beside the nodes all stays: functions, observers, what broke the graph and who was called last; links and roots; and of these nodes what is
-  -- shown, what they chose by, what their functions were last called on, and their cutoffs. No further node has a cutoff other than Equal
+  -- shown, what they chose by, what they are built for, and its root, what their functions were last called on, and their cutoffs. No further node has
+  -- a cutoff other than Equal
   pub record KeepsBeside (Of : NodeId → Type 0) (old new : Standing F) : Type 0 where
     pub functions : new.functions ≡ old.functions
     pub observers : new.observers ≡ old.observers
@@ -46,6 +47,7 @@ module _ {F : Type 0} where
     pub roots : (p : Point) → times_rooted new p ≡ times_rooted old p
     pub shown : (n : NodeId) → Of n → shown_of new n ≡ shown_of old n
     pub chosen : (n : NodeId) → Of n → chosen_by new n ≡ chosen_by old n
+    pub built : (n : NodeId) → Of n → (graph new).built n ≡ (graph old).built n
     pub last : (n : NodeId) → Of n → called_last new n ≡ called_last old n
     pub cutoff : (n : NodeId) → Of n → cutoff_of new n ≡ cutoff_of old n
     pub no_more_cutoffs : (n : NodeId) → cutoff_of old n ≡ Equal → cutoff_of new n ≡ Equal
@@ -68,11 +70,10 @@ module _ {F : Type 0} where
   abbrev pub HasNoRoom : Standing F → Def → Ty → Type 0
   HasNoRoom s def ty = NamesGiven s.nodes.given def × Makes s.nodes def ty × IsFull s.nodes
 
-  -- no node changed and no id was given, all stays beside, and each node is built for what it was, with its root
+  -- no node changed and no id was given, and all stays beside
   pub record KeepsAll (old new : Standing F) : Type 0 where
     pub beside : KeepsBesideGiven old new
     pub nodes : new.nodes ≡ old.nodes
-    pub built : (n : NodeId) → (graph new).built n ≡ (graph old).built n
 
   -- a node was added under an id that was never given. It shows nothing yet, its function was never called, and its cutoff is Equal
   pub record Adds (old new : Standing F) (id : NodeId) (row : Row) : Type 0 where
@@ -136,6 +137,7 @@ module _ {F : Type 0} where
     pub ran : new.ran ≡ old.ran
     pub shown : (n : NodeId) → shown_of new n ≡ shown_of old n
     pub chosen : (n : NodeId) → chosen_by new n ≡ chosen_by old n
+    pub built : (n : NodeId) → (graph new).built n ≡ (graph old).built n
     pub last : (n : NodeId) → called_last new n ≡ called_last old n
     pub cutoff : (n : NodeId) → cutoff_of new n ≡ cutoff_of old n
     pub fewer_links : (p q : Point) → times_linked new p q ≤ times_linked old p q

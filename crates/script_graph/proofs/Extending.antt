@@ -48,6 +48,7 @@ module _ {F : Type 0} where
       roots = λ p. refl;
       shown = λ n h. refl;
       chosen = λ n h. refl;
+      built = λ n h. refl;
       last = λ n h. refl;
       cutoff = λ n h. refl;
       no_more_cutoffs = λ n equal. equal;
@@ -69,6 +70,7 @@ module _ {F : Type 0} where
       roots = λ p. h.beside.roots p ∙ g.beside.roots p;
       shown = λ n low. h.beside.shown n (omega (arith, low, g.given)) ∙ g.beside.shown n low;
       chosen = λ n low. h.beside.chosen n (omega (arith, low, g.given)) ∙ g.beside.chosen n low;
+      built = λ n low. h.beside.built n (omega (arith, low, g.given)) ∙ g.beside.built n low;
       last = λ n low. h.beside.last n (omega (arith, low, g.given)) ∙ g.beside.last n low;
       cutoff = λ n low. h.beside.cutoff n (omega (arith, low, g.given)) ∙ g.beside.cutoff n low;
       no_more_cutoffs = λ n equal. h.beside.no_more_cutoffs n (g.beside.no_more_cutoffs n equal);
@@ -111,6 +113,7 @@ module _ {F : Type 0} where
       roots = λ p. h.beside.roots p ∙ g.beside.roots p;
       shown = λ n low. h.beside.shown n (omega (arith, low, later)) ∙ g.beside.shown n low;
       chosen = λ n low. h.beside.chosen n (omega (arith, low, later)) ∙ g.beside.chosen n low;
+      built = λ n low. h.beside.built n (omega (arith, low, later)) ∙ g.beside.built n low;
       last = λ n low. h.beside.last n (omega (arith, low, later)) ∙ g.beside.last n low;
       cutoff = λ n low. h.beside.cutoff n (omega (arith, low, later)) ∙ g.beside.cutoff n low;
       no_more_cutoffs = λ n equal. h.beside.no_more_cutoffs n (g.beside.no_more_cutoffs n equal);
@@ -138,6 +141,7 @@ module _ {F : Type 0} where
     roots = h.roots;
     shown = h.shown;
     chosen = h.chosen;
+    built = h.built;
     last = h.last;
     cutoff = h.cutoff;
     no_more_cutoffs = h.no_more_cutoffs;

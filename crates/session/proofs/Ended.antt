@@ -69,6 +69,7 @@ ends_so old new o h = record {
   ran = h.ran;
   shown = h.shown;
   chosen = h.chosen;
+  built = h.built;
   last = h.last;
   cutoff = h.cutoff;
   fewer_links = h.fewer_links;

@@ -3,10 +3,13 @@ use Rattle.node_arena.specs.declared.arena.AddFault.TheVariants as add
 use Rattle.graph.specs.declared.fault.GraphFault.TheVariants as fault
 use Rattle.graph.proofs.Faulting.{AddPasses, add_passed, add_wrong_type, id_passes}
 use Rattle.inc_terms.specs.Code.{def_of}
-use Rattle.inc_terms.specs.Depend.{main}
+use Rattle.inc_terms.specs.Depend.{main, change}
 use Rattle.necessity.specs.Need.{Roots, root_times}
+use Rattle.inc_value.specs.declared.node.NodeId.{NodeId}
+use Rattle.point_map.specs.Rows.{Rows, at}
 use Rattle.inc_terms.specs.Within.{Given}
-use Rattle.graph.proofs.Seeing.{beside_as}
+use Rattle.node_outcomes.specs.Row.{outcome_in}
+use Rattle.graph.proofs.Seeing.{beside_as, built_still}
 use Rattle.graph.proofs.Sounding.{AddAnswers, adds_of, sound_still, answer_ready, answer_given, answer_fit}
 use Rattle.graph.proofs.graph.Graph.add.Goals as goal
 use Rattle.graph.proofs.graph.Graph.add.Goals.{in-Ok-added, in-Err-added}
@@ -52,6 +55,9 @@ returns-clause-added g c =
     let answers : AddAnswers c.self.inside.parts.arena c.add-added.new.self.arena (def_of c.args.def) c.args.ty c.add-added.result
     = record { added = a.added; given = a.given; err = a.err; fresh = a.id; unknown = a.unknown.1 } in
     let beside = beside_as c.self.inside.functions c.self.inside.parts c.add-added.new.self c.self.inside.observers.items c.self.inside.rooted
-    c.self.inside.refused (Given c.self.inside.parts.arena.given) a.ran a.links a.roots a.rows (λ n. inl (a.cutoffs n)) in
+    c.self.inside.refused (Given c.self.inside.parts.arena.given) a.ran a.links a.roots a.rows
+    (λ n given. built_still c.self.inside.parts c.add-added.new.self n (a.keeps n given) (ap outcome_in (a.rows (change n) given))
+    (ap (λ (m : Rows NodeId). at m (change n)) a.right_sides))
+    (λ n. inl (a.cutoffs n)) in
     rw (← c.self.view_is) (id_passes _ c.add-added.result c.match-added.result passes
     (adds_of _ _ (def_of c.args.def) c.args.ty c.add-added.result _ refl refl refl answers a.row beside))

@@ -1,6 +1,7 @@
-use Rattle.std.proofs.Common.{◌<◌, arith}
-use Rattle.inc_terms.specs.Depend.{main}
-use Rattle.graph.proofs.Seeing.{needed_out, beside_as}
+use Rattle.std.proofs.Common.{◌<◌, ap, arith}
+use Rattle.inc_terms.specs.Depend.{main, change}
+use Rattle.node_outcomes.specs.Row.{outcome_in}
+use Rattle.graph.proofs.Seeing.{needed_out, beside_as, built_still}
 use Rattle.graph.proofs.TakingBack.{sound_back, scoped_before, fit_back}
 use Rattle.graph.proofs.graph.Graph.back_to.Goals as goal
 
@@ -37,7 +38,9 @@ returns-clause-taken g c =
     let b = c.back_to.ensures in
     rw (← c.self.view_is) (record {
       beside = beside_as c.self.inside.functions c.self.inside.parts c.back_to.new.self c.self.inside.observers.items c.self.inside.rooted
-          c.self.inside.refused (λ n. n.gen_ < c.args.mark.given) b.ran b.links b.roots b.rows b.other_cutoffs;
+          c.self.inside.refused (λ n. n.gen_ < c.args.mark.given) b.ran b.links b.roots b.rows
+          (λ n low. built_still c.self.inside.parts c.back_to.new.self n (b.older n low) (ap outcome_in (b.rows (change n) low))
+          (b.right_sides n low)) b.other_cutoffs;
       older = b.older;
       dropped = b.dropped;
       given = b.given;

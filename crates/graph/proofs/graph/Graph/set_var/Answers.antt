@@ -1,15 +1,17 @@
 use Rattle.std.proofs.Common.{inl, Err, refl, sym, ap, subst, ◌∙◌, arith}
 use Rattle.necessity.specs.Need.{Roots, root_times}
 use Rattle.node_arena.specs.declared.arena.variable.SetFault.TheVariants as set
+use Rattle.node_arena.specs.Arena.{IsSet, IsVariable}
+use Rattle.inc_value.specs.declared.node.NodeId.{NodeId}
 use Rattle.point_map.specs.Rows.{Rows, at}
-use Rattle.inc_terms.specs.Depend.{main}
+use Rattle.inc_terms.specs.Depend.{main, change}
 use Rattle.node_outcomes.specs.declared.row.Progress.{Progress}
 use Rattle.graph.specs.declared.fault.GraphFault.TheVariants as fault
 use Rattle.graph.proofs.Stabilizing.{on_ok}
-use Rattle.graph.proofs.Faulting.{Passes, passed, ok_passes, set_unknown, set_not_var, set_wrong_type}
+use Rattle.graph.proofs.Faulting.{Passes, passed, ok_passes, set_variable, set_unknown, set_not_var, set_wrong_type}
 use Rattle.inc_terms.specs.Within.{Given}
 use Rattle.node_outcomes.specs.Row.{cutoff_in}
-use Rattle.graph.proofs.Seeing.{beside_as}
+use Rattle.graph.proofs.Seeing.{beside_as, built_set}
 use Rattle.graph.proofs.Fitting.{set_answer_fit}
 use Rattle.graph.proofs.Sounding.{sound_still}
 use Rattle.graph.proofs.graph.Graph.set_var.Goals as goal
@@ -52,12 +54,17 @@ invariant_of-self g c = (
 pub returns-clause-set : goal.returns-clause-set
 returns-clause-set g c =
     let a = c.set_var.ensures in
-    let beside = beside_as c.self.inside.functions c.self.inside.parts c.set_var.new.self c.self.inside.observers.items c.self.inside.rooted
-    c.self.inside.refused (Given c.self.inside.parts.arena.given) a.ran a.links a.roots (λ p given. ap (λ (m : Rows Progress). at m p) a.rows)
+    let beside = λ (set : IsSet c.self.inside.parts.arena c.set_var.new.self.arena c.args.node c.args.value)
+    (variable : (IsVariable c.self.inside.parts.arena c.args.node → ⊥) → ⊥). beside_as c.self.inside.functions
+    c.self.inside.parts c.set_var.new.self c.self.inside.observers.items c.self.inside.rooted c.self.inside.refused (Given c.self.inside.parts.arena.given)
+    a.ran a.links a.roots (λ p given. ap (λ (m : Rows Progress). at m p) a.rows)
+    (λ n given. built_set c.self.inside.parts c.set_var.new.self c.args.node c.args.value set variable a.rows
+    (λ m. ap (λ (roots : Rows NodeId). at roots (change m)) a.right_sides) n)
     (λ n. inl (ap (λ (m : Rows Progress). cutoff_in (at m (main n))) a.rows)) in
     let passes : Passes c.set_var.result c.match-set_var.result = elim c.match-set_var.branch [
       | in-Ok-set_var w ↦ subst (λ r. Passes r c.match-set_var.result) (sym w.in-Ok-set_var.is) w.result-is
       | in-Err-set_var w ↦ subst (λ r. Passes r c.match-set_var.result) (sym w.in-Err-set_var.is) (w.result-is ∙ ap Err w.set_fault.ensures)
     ] in
     rw (← c.self.view_is) (ok_passes _ c.set_var.result c.match-set_var.result passes
-    (on_ok c.set_var.result (λ set. record { beside = beside; given = a.given; set = set }) a.set))
+    (on_ok c.set_var.result (λ set. record { beside = beside set.0 set.1; given = a.given; set = set.0 })
+    (set_variable _ c.set_var.result a.unknown a.not_var a.set)))

@@ -1,5 +1,6 @@
 use Rattle.std.proofs.Common.{List, refl, sym, ap, subst, ◌∙◌}
 use Rattle.inc_terms.specs.Depend.{main, change}
+use Rattle.inc_value.specs.declared.node.NodeId.{NodeId}
 use Rattle.point_map.specs.Rows.{Rows, at}
 use Rattle.stabilizer.specs.Weights.{SidesFit}
 use Rattle.node_outcomes.specs.Computing.{seen_of}
@@ -9,7 +10,9 @@ use Rattle.node_outcomes.specs.declared.row.Progress.{Progress}
 use Rattle.node_outcomes.specs.Meaning.{meaning_of}
 use Rattle.graph.specs.Inside.{FitsInside}
 use Rattle.graph.specs.declared.observer.Observer.{Observer}
+use Rattle.node_arena.specs.Arena.{Arena, row_at}
 use Rattle.graph.proofs.Observing.{front_among}
+use Rattle.graph.proofs.Seeing.{built_still}
 use Rattle.graph.proofs.Unobserving.{sound_unmade, sound_ended, is_root, roots_fewer}
 use Rattle.graph.proofs.graph.Graph.unobserve.Goals as goal
 
@@ -61,6 +64,8 @@ returns-then-place-self-clause-ended g c =
       ran = ap (λ v. v.items) u.ran;
       shown = λ n. ap (λ (m : Rows Progress). seen_of (at m (main n))) u.rows;
       chosen = λ n. ap (λ (m : Rows Progress). outcome_in (at m (change n))) u.rows;
+      built = λ n. built_still c.self.inside.parts c.unroot.new.self n (ap (λ (a : Arena). row_at a n) u.arena)
+          (ap (λ (m : Rows Progress). outcome_in (at m (change n))) u.rows) (ap (λ (m : Rows NodeId). at m (change n)) u.right_sides);
       last = λ n. ap (λ (m : Rows Progress). last_of (at m (main n))) u.rows;
       cutoff = λ n. ap (λ (m : Rows Progress). cutoff_in (at m (main n))) u.rows;
       fewer_links = u.unrooted.sweep.fewer;
