@@ -17,6 +17,7 @@ import signal
 import subprocess
 import sys
 import tempfile
+import threading
 import time
 
 ROOT = os.path.dirname(os.path.dirname(os.path.abspath(__file__)))
@@ -64,14 +65,22 @@ def stamp_of(library):
         return None
 
 
+def link_or_copy(one, other):
+    """Gives a file a second name, or copies it where it can have none. (Nothing writes into a file of a library: `rt` removes it and makes another.)"""
+    try:
+        os.link(one, other)
+    except OSError:
+        shutil.copyfile(one, other)
+
+
 def copy_library(name, source, target):
-    """Copies a crate's library, if there is one, from one tree to another, in one step."""
+    """Puts a crate's library, if there is one, from one tree to another, in one step."""
     made, to = f"{source}/crates/{name}/out/rlib", f"{target}/crates/{name}/out/rlib"
     if stamp_of(made) in (None, stamp_of(to)):
         return
     os.makedirs(os.path.dirname(to), exist_ok=True)
     part = tempfile.mkdtemp(prefix="rlib-", dir=os.path.dirname(to))
-    shutil.copytree(made, part, symlinks=True, dirs_exist_ok=True)
+    shutil.copytree(made, part, symlinks=True, dirs_exist_ok=True, copy_function=link_or_copy)
     shutil.rmtree(to, ignore_errors=True)
     os.replace(part, to)
 
@@ -164,6 +173,9 @@ class Build:
             shutil.copyfile(made, f"{self.room}/{name}")
         else:
             copy_library(name, place, ROOT)
+        # (what the proof kept for a further one is many files, and at the end whoever waits for the program would wait for them too)
+        kept = f"{place}/crates/{name}/out/incremental"
+        threading.Thread(target=shutil.rmtree, args=(kept,), kwargs={"ignore_errors": True}, daemon=True).start()
         self.done.add(name)
         self.progress.running = [*self.running]
         return True
@@ -216,7 +228,7 @@ def main():
         began = time.time()
         build = Build(name, room)
         progress = build.progress
-        print(f"incr: proving the {len(build.crates)} crates that the program stands on, which takes some 80 minutes of a processor, once", file=sys.stderr)
+        print(f"incr: proving the {len(build.crates)} crates that the program stands on, which takes some 70 minutes of a processor, once", file=sys.stderr)
         try:
             failed = build.run()
         except (KeyboardInterrupt, SystemExit):
