@@ -228,7 +228,7 @@ def main():
         began = time.time()
         build = Build(name, room)
         progress = build.progress
-        print(f"incr: proving the {len(build.crates)} crates that the program stands on, which takes some 70 minutes of a processor, once", file=sys.stderr)
+        print(f"incr: proving the {len(build.crates)} crates that the program stands on, which takes some 60 minutes of a processor, once", file=sys.stderr)
         try:
             failed = build.run()
         except (KeyboardInterrupt, SystemExit):
