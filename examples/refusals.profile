@@ -21,7 +21,12 @@ refused 3
 refused 3
 refused 3
 refused 3
+refused 3
+refused 3
 refused 12
+refused 4
+refused 4
+refused 4
 refused 4
 refused 4
 refused 4
@@ -39,9 +44,11 @@ refused 5
 refused 5
 refused 5
 refused 5
+refused 5
 refused 7
 refused 7
 refused 7
+refused 6
 refused 6
 refused 6
 refused 6

@@ -46,6 +46,7 @@ TYPES = (*BASES, *REFERENCES.values())
 LEVELS = ((b"neg(", b")"), (b"add(1, ", b")"), (b"add(", b", d0)"), (b"pick(true, ", b", 2)"), (b"clamp(-9, ", b", 9)"),
           (b"rem(", b", 5)"), (b"sum9(1, 2, 3, 4, ", b", 6, 7, 8, d0)"), (b"fold sub from 1 [2, ", b", d0]"), (b"fold max from -9 [", b"]"),
           (b"if true then ", b" else d0"), (b"if lt(d0, d0) then 4 else ", b""))
+BODIES = (b"join(&%s)", b"join(if true then &%s else &d0)", b"bind v = d0 in %s", b"bind v = %s in 4", b"bind v = d0 in bind w = v in %s")
 
 
 class Disagreement(Exception):
@@ -55,10 +56,13 @@ class Disagreement(Exception):
 class Generator:
     """Writes scripts over a few names, so that the lines meet."""
 
-    def __init__(self, chance):
+    def __init__(self, chance, chains=CHAINS):
         self.chance = chance
+        self.chains = chains
         self.names = chance.sample(NAMES, chance.randint(3, len(NAMES))) + [chance.choice(RESERVED)]
         self.nodes = {}                             # name to type and whether it is a variable
+        self.binds = []                             # the names of binds
+        self.bound = []                             # the variables of the binds round a formula, with their types
         self.observers, self.ended = [], []
 
     def name(self, known):
@@ -84,11 +88,14 @@ class Generator:
     def formula(self, ty, room):
         """The words of a formula, mostly of the type."""
         known = [name for name, (of, _) in self.nodes.items() if of == ty]
+        known += [name for name, of in self.bound if of == ty] * 3
         functions = [name for name, (gives, _) in FUNCTIONS.items() if gives == ty]
         folds = [name for name, (gives, _) in FOLDS.items() if gives == ty]
         draw = self.chance.random()
         if room > 0 and self.chance.random() < 0.12:
             return self.choice(ty, room)
+        if room > 0 and self.chance.random() < 0.12:
+            return self.bind(ty, room)
         if room > 0 and ty in REFERENCES and self.chance.random() < 0.12:
             child = self.formula(REFERENCES[ty if self.chance.random() < 0.97 else self.chance.choice(BASES)], room - 1)
             return [b"join", b"("] + child + [b")"]
@@ -107,6 +114,15 @@ class Generator:
                 words += ([b","] if number else []) + part
             return words + [b")"]
         return [self.name(known) if draw < 0.85 and known or draw < 0.62 else self.literal(ty)]
+
+    def bind(self, ty, room):
+        """The words of a `bind`, mostly of the type. Its variable may hide a name."""
+        of = self.chance.choices(TYPES, (15, 6, 3, 2, 1, 1))[0]
+        left, variable = self.formula(of, room - 1), self.name(self.names)
+        self.bound.append((variable, of))
+        body = self.formula(ty, room - 1)
+        self.bound.pop()
+        return [b"bind", variable, b"=", *left, b"in", *body]
 
     def choice(self, ty, room):
         """The words of an `if`, mostly of the type."""
@@ -132,19 +148,19 @@ class Generator:
     def deep(self):
         """An application as deep as a line may nest, or a little more or less."""
         levels = self.chance.choice((1, 63, 64, 64, 65, 66, 200))
-        start, end = self.chance.choice(((b"neg(", b")"), (b"neg(", b")"), (b"fold add from 1 [", b"]")))
+        start, end = self.chance.choice(((b"neg(", b")"), (b"neg(", b")"), (b"fold add from 1 [", b"]"), (b"bind v = 1 in ", b"")))
         return [start] * levels + [self.literal(b"int")] + [end] * self.chance.choice((levels, levels, levels - 1))
 
     def chain(self):
         """Lines that declare a chain of points and mostly ask for its end; `d5` has five points below it."""
         chance, lines, last = self.chance, [b"var d0 int 3"], b"d0"
-        count, longest = chance.choice(CHAINS), chance.choice((1, 2, 64))
+        count, longest = chance.choice(self.chains), chance.choice((1, 2, 64))
         points = 1
         while points < count:
             levels = chance.randint(1, min(longest, count - points))
             formula = last
             if levels == 1 and chance.random() < 0.2:
-                levels, formula = 0, chance.choice((b"join(&%s)", b"join(if true then &%s else &d0)")) % last
+                levels, formula = 0, chance.choice(BODIES) % last
                 points += 1
             for _ in range(levels):
                 start, end = chance.choice(LEVELS)
@@ -170,9 +186,9 @@ class Generator:
         return b"observe " + name + b" " + node
 
     def words(self):
-        """The words and signs of a line of one of the seven forms."""
-        forms = ("var", "set", "let", "observe", "unobserve", "stabilize", "show")
-        form = self.chance.choices(forms, (3, 4, 5, 3, 1, 4, 5))[0]
+        """The words and signs of a line of one of the eight forms."""
+        forms = ("var", "set", "let", "grab", "observe", "unobserve", "stabilize", "show")
+        form = self.chance.choices(forms, (3, 4, 5, 1, 3, 1, 4, 5))[0]
         if form == "var":
             ty, name = self.chance.choice(TYPES), self.new_name(self.nodes)
             self.nodes.setdefault(name, (ty, True))
@@ -184,8 +200,16 @@ class Generator:
         if form == "let":
             ty, name = self.chance.choices(TYPES, (15, 6, 3, 2, 1, 1))[0], self.new_name(self.nodes)
             words = self.deep() if self.chance.random() < 0.02 else self.formula(ty, self.chance.randint(0, 4))
+            if self.chance.random() < 0.2:
+                words = self.bind(ty, 3)
+            if words[0] == b"bind" and name not in self.nodes:
+                self.binds.append(name)
             self.nodes.setdefault(name, (ty, False))
             return [b"let", name] + words
+        if form == "grab":
+            bind, name = self.name(self.binds), self.new_name(self.nodes)
+            self.nodes.setdefault(name, (self.nodes.get(bind, (INT,))[0], False))
+            return [b"grab", name, bind]
         if form == "observe":
             return self.observe(self.name(self.nodes)).split(b" ")
         if form == "unobserve":
@@ -235,9 +259,9 @@ def mangled(chance, data):
     return data[:at] + bytes([chance.choice(BYTES)])[: chance.randint(0, 1)] + data[at + chance.randint(0, 2) :]
 
 
-def spoiled(chance):
+def spoiled(chance, chains):
     """A script with some bytes changed, and cut at any two places."""
-    script = Generator(chance).script()
+    script = Generator(chance, chains).script()
     for _ in range(chance.choice((0, 1, 5, 30))):
         script = mangled(chance, script)
     start, end = sorted([chance.randint(0, len(script)) for _ in range(2)])
@@ -252,9 +276,9 @@ def noise(chance):
     return chance.choice((chance.randbytes(size), known, b" ".join(chance.choices(words, k=size // 5))))
 
 
-def long_script(chance):
+def long_script(chance, chains):
     """Sums of sums, of which each is about the double of the one before it."""
-    count, back = chance.choice((20, 100, *CHAINS)), chance.randint(1, 4)
+    count, back = chance.choice((20, 100, *chains)), chance.randint(1, 4)
     lets = [b"let d%d add(d%d, d%d)" % (i, i - 1, max(0, i - chance.randint(1, back))) for i in range(1, count)]
     return b"\n".join([b"var d0 int 3", *lets, b"observe o d%d" % (count - 1), b"stabilize", b"show o",
                        b"set d0 3", b"stabilize", b"set d0 4", b"stabilize", b"show o"])
@@ -271,20 +295,27 @@ def long_texts(chance):
                        b'set d0 "v"', b"stabilize", b"show o", b"show p", b"show q"])
 
 
+def unprofiled(profile):
+    """The lines of a profile but for those of counts, and the calls of each stabilize."""
+    lines, calls, before = [], [], b""
+    for line in profile.splitlines(keepends=True):
+        told = re.fullmatch(rb"calls ([0-9]+)\n", line)
+        built = re.fullmatch(rb"builds [1-9][0-9]*\n", line)
+        if re.fullmatch(rb"stable [0-9]+\n", before) and not told:
+            raise Disagreement("no calls are told after a stabilize: %r" % profile)
+        if told and re.fullmatch(rb"stable [0-9]+\n", before):
+            calls.append(int(told[1]))
+        elif not (built and before.startswith(b"calls ")):
+            lines.append(line)
+        before = line
+    return b"".join(lines), calls
+
+
 def profiled(profile, script, transcript):
     """The calls of each stabilize, by the profiling program, whose other lines must be the transcript."""
     run = subprocess.run([profile, "run"], input=script, stdout=subprocess.PIPE, timeout=PATIENCE)
-    lines, calls, awaited = [], [], False
-    for line in run.stdout.splitlines(keepends=True):
-        told = re.fullmatch(rb"calls ([0-9]+)\n", line) if awaited else None
-        if awaited and not told:
-            raise Disagreement("no calls are told after a stabilize: %r" % run.stdout)
-        if told:
-            calls.append(int(told[1]))
-        else:
-            lines.append(line)
-        awaited = not told and re.fullmatch(rb"stable [0-9]+\n", line) is not None
-    if b"".join(lines) != transcript or awaited:
+    lines, calls = unprofiled(run.stdout)
+    if lines != transcript:
         raise Disagreement("the profile has other lines: %r" % run.stdout)
     return calls
 
@@ -337,21 +368,23 @@ def main():
     parser.add_argument("--program", default=REPOSITORY / "crates/incr/out/incr", help="default: incr of this repository")
     parser.add_argument("--profile", default=REPOSITORY / "crates/incr_profile/out/incr_profile",
                         help="default: incr_profile of this repository; an empty word for none")
-    parser.add_argument("--through", type=int, default=4, help="the model's stage of the language (default 4)")
+    parser.add_argument("--through", type=int, default=5, help="the model's stage of the language (default 5)")
     parser.add_argument("--written", type=int, help="the stage that the model's own scripts are written for (default: that of --through): "
                         "lines of forms that come behind --through are to be refused with 1")
+    parser.add_argument("--chain", type=int, help="how many points each chain has (default: 120 to 135, of which 129 may be needed)")
     parser.add_argument("--seed", type=int, default=1)
     parser.add_argument("--first", type=int, default=0, help="the number of the first script (default 0)")
     parser.add_argument("--count", type=int, default=600, help="how many scripts (default 600)")
     options = parser.parse_args()
     sys.path.insert(0, str(options.model))
     from incr_oracle import fuzz, judge
+    chains = (options.chain,) if options.chain else CHAINS
     failed = 0
     for number in range(options.first, options.first + options.count):
         chance = random.Random("%d/%d" % (options.seed, number))
-        script = (Generator(chance).script, lambda: spoiled(chance),
+        script = (Generator(chance, chains).script, lambda: spoiled(chance, chains),
                   lambda: fuzz.script(options.seed, number, 60, options.written or options.through),
-                  lambda: {3: long_script, 7: long_texts}.get(number % 20, noise)(chance))[number % 4]()
+                  lambda: {3: lambda it: long_script(it, chains), 7: long_texts}.get(number % 20, noise)(chance))[number % 4]()
         try:
             compare((options.program, options.profile), judge.judge, chance, script, options.through)
         except (Disagreement, subprocess.TimeoutExpired) as fault:

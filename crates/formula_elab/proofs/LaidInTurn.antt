@@ -1,98 +1,95 @@
 -- Formulas laid out one after the other.
-use Rattle.std.proofs.Common.{◌≡◌, ℕ, ◌+◌, ◌<◌, List, [], ◌∷◌, ◌++◌, length, map, drop, arith, ap, ◌∙◌}
+use Rattle.std.proofs.Common.{◌≡◌, ℕ, ◌+◌, ◌<◌, ◌≤◌, ◌^◌, List, [], ◌∷◌, ◌++◌, length, map, drop, arith, ap, subst, ◌∙◌}
 use Rattle.std.proofs.lemmas.List.{length-append, append_assoc}
 use Rattle.formula_lang.specs.CommandView.{formula_view, formulas_of}
 use Rattle.formula_lang.specs.declared.command.Formula.{Formula}
 use Rattle.inc_value.specs.declared.node.NodeId.{NodeId}
 use Rattle.inc_value.specs.declared.ty.Ty.{Ty}
-use Rattle.script_model.specs.Check.{Names}
 use Rattle.script_model.specs.Formula as model
-use Rattle.formula_elab.specs.Laying.{Laid, LaidEach, each_laid_next, formula_ty, laid, laid_next, type_at}
+use Rattle.script_model.specs.Formula.{binds_in_all, places_in_all}
+use Rattle.formula_elab.specs.Laying.{Laid, LaidEach, laid, laid_each, IsLaid}
 use Rattle.formula_elab.specs.Names.{EveryNameOfAll}
-use Rattle.formula_elab.specs.Opened.{node_at}
-use Rattle.formula_elab.specs.declared.opened.Open.{Open}
+use Rattle.formula_elab.specs.Types.{formula_ty}
 use Rattle.formula_elab.specs.declared.opened.Open.TheVariants.{If}
 use Rattle.formula_elab.specs.declared.opened.Part.{Part}
 use Rattle.formula_elab.specs.declared.opened.Part.TheVariants.{Made}
+use Rattle.formula_elab.specs.declared.plan.Planned.{Planned}
+use Rattle.formula_elab.specs.declared.plan.Planned.TheVariants.{Node}
 
 -- the formulas of a slice
 abbrev pub in_view : List Formula → model.Formulas
 in_view fs = formulas_of (map formula_view fs)
 
 -- what is laid behind makes and nodes that are there
-abbrev pub behind : List Open → List Part → LaidEach → LaidEach
+abbrev pub behind : List Planned → List Part → LaidEach → LaidEach
 behind makes roots rest = record { makes = makes ++ rest.makes; roots = roots ++ rest.roots }
 
--- the formulas before the i-th are laid out behind the old makes
-pub record AreLaid (ids : List NodeId) (names : Names) (old : List Open) (fs : List Formula) (i : ℕ) (makes : List Open)
+-- the formulas before the i-th are laid out behind the old makes, and the others can be
+pub record AreBeingLaid (nodes : ℕ → NodeId) (tys : ℕ → Ty) (count : ℕ) (old : List Planned) (fs : List Formula) (i : ℕ) (makes : List Planned)
     (roots : List Part) : Type 0 where
-  pub more : List Open
+  pub more : List Planned
   pub added : makes ≡ old ++ more
-  pub whole : each_laid_next ids names old (in_view fs)
-      ≡ behind more roots (each_laid_next ids names makes (in_view (drop i fs)))
-  pub named : EveryNameOfAll (λ n. n < length ids) (in_view (drop i fs))
+  pub whole : laid_each nodes tys (length old) (in_view fs) ≡ behind more roots (laid_each nodes tys (length makes) (in_view (drop i fs)))
+  pub named : EveryNameOfAll (λ n. n < count) 0 (in_view (drop i fs))
+  pub few : places_in_all (in_view (drop i fs)) < 2 ^ 64
+  pub few_binds : binds_in_all (in_view (drop i fs)) ≤ 64
 
--- an if behind its test and its branches, each behind the one before
-module _ (ids : List NodeId) (names : Names) (test a b : model.Formula) (old first_made second_made third_made : List Open)
-    (test_made : first_made ≡ old ++ (laid_next ids names old test).makes)
-    (a_made : second_made ≡ first_made ++ (laid_next ids names first_made a).makes)
-    (b_made : third_made ≡ second_made ++ (laid_next ids names second_made b).makes) where
-  abbrev first : Laid
-  first = laid_next ids names old test
+module _ (nodes : ℕ → NodeId) (tys : ℕ → Ty) where
+  -- what was laid out behind so many
+  laid_at : (f : model.Formula) (old new : List Planned) (part : Part) (start : ℕ) → IsLaid nodes tys f old new part → length old ≡ start
+      → (new ≡ old ++ (laid nodes tys start f).makes) × (part ≡ (laid nodes tys start f).root)
+  laid_at f old new part start h e =
+      subst (λ k. (new ≡ old ++ (laid nodes tys k f).makes) × (part ≡ (laid nodes tys k f).root)) e (h.makes, h.root)
 
-  abbrev second : Laid
-  second = laid (node_at ids) (type_at names) (length old + length first.makes) a
+  -- an if behind its test and its branches, each behind the one before
+  module _ (test a b : model.Formula) (m0 m1 m2 m3 : List Planned) (r1 r2 r3 : Part) (first_laid : IsLaid nodes tys test m0 m1 r1)
+      (second_laid : IsLaid nodes tys a m1 m2 r2) (third_laid : IsLaid nodes tys b m2 m3 r3) where
+    abbrev first : Laid
+    first = laid nodes tys (length m0) test
 
-  abbrev third : Laid
-  third = laid (node_at ids) (type_at names) (length old + (length first.makes + length second.makes)) b
+    abbrev second : Laid
+    second = laid nodes tys (length m0 + length first.makes) a
 
-  size_first : length first_made ≡ length old + length first.makes
-  size_first = ap length test_made ∙ length-append old first.makes
+    abbrev third : Laid
+    third = laid nodes tys (length m0 + (length first.makes + length second.makes)) b
 
-  second_is : laid_next ids names first_made a ≡ second
-  second_is = ap (λ k. laid (node_at ids) (type_at names) k a) size_first
+    size_first : length m1 ≡ length m0 + length first.makes
+    size_first = ap length first_laid.makes ∙ length-append m0 first.makes
 
-  second_there : second_made ≡ first_made ++ second.makes
-  second_there = a_made ∙ ap (λ (l : Laid). first_made ++ l.makes) second_is
+    second_is : (m2 ≡ m1 ++ second.makes) × (r2 ≡ second.root)
+    second_is = laid_at a m1 m2 r2 (length m0 + length first.makes) second_laid size_first
 
-  size_second : length second_made ≡ length old + (length first.makes + length second.makes)
-  size_second =
-      let size = ap length second_there ∙ length-append first_made second.makes in
-      omega (arith, size, size_first)
+    size_second : length m2 ≡ length m0 + (length first.makes + length second.makes)
+    size_second = let size = ap length second_is.0 ∙ length-append m1 second.makes in omega (arith, size, size_first)
 
-  third_is : laid_next ids names second_made b ≡ third
-  third_is = ap (λ k. laid (node_at ids) (type_at names) k b) size_second
+    third_is : (m3 ≡ m2 ++ third.makes) × (r3 ≡ third.root)
+    third_is = laid_at b m2 m3 r3 (length m0 + (length first.makes + length second.makes)) third_laid size_second
 
-  third_there : third_made ≡ second_made ++ third.makes
-  third_there = b_made ∙ ap (λ (l : Laid). second_made ++ l.makes) third_is
+    size_third : length m3 ≡ length m0 + (length first.makes + (length second.makes + length third.makes))
+    size_third = let size = ap length third_is.0 ∙ length-append m2 third.makes in omega (arith, size, size_second)
 
-  pub if_root : Made (length third_made) ≡ (laid_next ids names old (model.If test a b)).root
-  if_root = ap Made size_third
-    where
-      size_third : length third_made ≡ length old + (length first.makes + (length second.makes + length third.makes))
-      size_third =
-          let size = ap length third_there ∙ length-append second_made third.makes in
-          omega (arith, size, size_second)
+    abbrev if_ty : Ty
+    if_ty = formula_ty tys [] a
 
-  pub if_makes : (last : List Open)
-      → last ≡ third_made ++ If (formula_ty (type_at names) a) first.root (laid_next ids names first_made a).root
-      (laid_next ids names second_made b).root ∷ []
-      → last ≡ old ++ (laid_next ids names old (model.If test a b)).makes
-  if_makes last e =
-      e ∙ (ap (λ (p : Part). third_made ++ If ty first.root p (laid_next ids names second_made b).root ∷ []) (ap (λ (l : Laid). l.root) second_is)
-      ∙ (ap (λ (p : Part). third_made ++ If ty first.root second.root p ∷ []) (ap (λ (l : Laid). l.root) third_is)
-      ∙ (ap (λ (xs : List Open). xs ++ whole ∷ []) (third_there ∙ (ap (λ (xs : List Open). xs ++ third.makes) second_there
-      ∙ ap (λ (xs : List Open). (xs ++ second.makes) ++ third.makes) test_made))
-      ∙ turned)))
-    where
-      ty : Ty
-      ty = formula_ty (type_at names) a
+    if_is : Node (If if_ty r1 r2 r3) ≡ Node (If if_ty first.root second.root third.root)
+    if_is = ap (λ (p : Part). Node (If if_ty p r2 r3)) first_laid.root
+        ∙ (ap (λ (p : Part). Node (If if_ty first.root p r3)) second_is.1 ∙ ap (λ (p : Part). Node (If if_ty first.root second.root p)) third_is.1)
 
-      whole : Open
-      whole = If ty first.root second.root third.root
+    before_if : m3 ≡ ((m0 ++ first.makes) ++ second.makes) ++ third.makes
+    before_if = third_is.0
+        ∙ ap (λ (m : List Planned). m ++ third.makes) (second_is.0 ∙ ap (λ (m : List Planned). m ++ second.makes) first_laid.makes)
 
-      turned : (((old ++ first.makes) ++ second.makes) ++ third.makes) ++ whole ∷ []
-          ≡ old ++ (first.makes ++ (second.makes ++ (third.makes ++ whole ∷ [])))
-      turned = append_assoc ((old ++ first.makes) ++ second.makes) third.makes (whole ∷ [])
-          ∙ (append_assoc (old ++ first.makes) second.makes (third.makes ++ whole ∷ [])
-          ∙ append_assoc old first.makes (second.makes ++ (third.makes ++ whole ∷ [])))
+    abbrev if_last : List Planned
+    if_last = Node (If if_ty first.root second.root third.root) ∷ []
+
+    if_turned : (((m0 ++ first.makes) ++ second.makes) ++ third.makes) ++ if_last
+        ≡ m0 ++ (first.makes ++ (second.makes ++ (third.makes ++ if_last)))
+    if_turned = append_assoc ((m0 ++ first.makes) ++ second.makes) third.makes if_last
+        ∙ (append_assoc (m0 ++ first.makes) second.makes (third.makes ++ if_last)
+        ∙ append_assoc m0 first.makes (second.makes ++ (third.makes ++ if_last)))
+
+    pub if_laid : (m4 : List Planned) → m4 ≡ m3 ++ Node (If if_ty r1 r2 r3) ∷ [] → IsLaid nodes tys (model.If test a b) m0 m4 (Made (length m3))
+    if_laid m4 e = record {
+      makes = e ∙ (ap (λ (x : Planned). m3 ++ x ∷ []) if_is ∙ (ap (λ (m : List Planned). m ++ if_last) before_if ∙ if_turned));
+      root = ap Made size_third;
+    }

@@ -1,5 +1,5 @@
--- One node is made for each place.
-use Rattle.std.proofs.Common.{◌≡◌, ℕ, ◌+◌, ◌≤◌, [], ◌∷◌, ◌++◌, length, arith, refl}
+-- No more is made than there are places.
+use Rattle.std.proofs.Common.{ℕ, ◌+◌, ◌≤◌, List, [], ◌∷◌, ◌++◌, length, arith}
 use Rattle.std.proofs.lemmas.List.{length-append}
 use Rattle.inc_value.specs.declared.node.NodeId.{NodeId}
 use Rattle.inc_value.specs.declared.ty.Ty.{Ty}
@@ -7,59 +7,111 @@ use Rattle.script_model.specs.Formula as script
 use Rattle.script_model.specs.Formula.{Formula, Formulas, Body, Literal, Name, Apply, End, More, Variable, Computed}
 use Rattle.script_model.specs.Formula.{places_in, places_in_all, places_of_body}
 use Rattle.transfer.specs.Both.{graph_value}
-use Rattle.formula_elab.specs.Laying.{formula_ty, joined_ty, laid, laid_each, laid_body}
-use Rattle.formula_elab.specs.Made.{OneMakeEach}
+use Rattle.formula_elab.specs.Bodies.{Page, empty_page}
+use Rattle.formula_elab.specs.Laying.{laid, laid_each, laid_body}
+use Rattle.formula_elab.specs.Made.{FewMakes}
 use Rattle.formula_elab.specs.Today.{IsLaidOut, AreLaidOut, IsLaidOutBody}
-use Rattle.formula_elab.specs.declared.opened.Open.TheVariants.{Map, Fold, If, Join}
+use Rattle.formula_elab.specs.Types.{formula_ty, joined_ty}
+use Rattle.formula_elab.specs.Writing.{body_of, with_named, written, written_body, written_each}
+use Rattle.formula_elab.specs.declared.opened.Open.TheVariants.{Map, Fold, If, Join, Bind}
+use Rattle.formula_elab.specs.declared.plan.Planned.TheVariants.{Body as Function, Node}
 
 module _ (nodes : ℕ → NodeId) (tys : ℕ → Ty) where
+  -- a body has a function for each bind in it
   mutual
-    one_each : (start : ℕ) (f : Formula) → IsLaidOut f → length (laid nodes tys start f).makes ≡ places_in f
-    one_each start (Literal v) is_laid = refl
-    one_each start (Name n) is_laid = refl
-    one_each start (Apply function arguments) is_laid =
+    few_written : (bounds : List Ty) (start : ℕ) (p : Page) (f : Formula) → length (written nodes tys bounds start p f).makes ≤ places_in f
+    few_written bounds start p (Apply f arguments) = let h = all_few_written bounds start p arguments in omega (arith, h)
+    few_written bounds start p (script.Fold f first elements) =
+        let h = all_few_written bounds start (with_named nodes p first) elements in omega (arith, h)
+    few_written bounds start p (script.If test a b) =
+        let t = written nodes tys bounds start p test in
+        let x = written nodes tys bounds (start + length t.makes) t.page a in
+        let y = written nodes tys bounds (start + (length t.makes + length x.makes)) x.page b in
+        let size = length-append t.makes (x.makes ++ y.makes) in
+        let rest = length-append x.makes y.makes in
+        let first = few_written bounds start p test in
+        let second = few_written bounds (start + length t.makes) t.page a in
+        let third = few_written bounds (start + (length t.makes + length x.makes)) x.page b in
+        omega (arith, size, rest, first, second, third)
+    few_written bounds start p (script.Join child) = let h = few_written bounds start p child in omega (arith, h)
+    few_written bounds start p (script.Bind left body) =
+        let u = formula_ty tys bounds left in
+        let l = written nodes tys bounds start p left in
+        let i = written nodes tys (u ∷ bounds) (start + length l.makes) empty_page body in
+        let last = Function (body_of (u ∷ bounds) (formula_ty tys (u ∷ bounds) body) i) in
+        let size = length-append l.makes (i.makes ++ last ∷ []) in
+        let rest = length-append i.makes (last ∷ []) in
+        let first = few_written bounds start p left in
+        let inner = few_written (u ∷ bounds) (start + length l.makes) empty_page body in
+        omega (arith, size, rest, first, inner)
+    few_written bounds start p f = omega arith
+
+    all_few_written : (bounds : List Ty) (start : ℕ) (p : Page) (fs : Formulas)
+        → length (written_each nodes tys bounds start p fs).makes ≤ places_in_all fs
+    all_few_written bounds start p End = omega arith
+    all_few_written bounds start p (More f rest) =
+        let w = written nodes tys bounds start p f in
+        let ws = written_each nodes tys bounds (start + length w.makes) w.page rest in
+        let size = length-append w.makes ws.makes in
+        let first = few_written bounds start p f in
+        let others = all_few_written bounds (start + length w.makes) w.page rest in
+        omega (arith, size, first, others)
+
+  mutual
+    few : (start : ℕ) (f : Formula) → IsLaidOut 0 f → length (laid nodes tys start f).makes ≤ places_in f
+    few start (Literal v) is_laid = omega arith
+    few start (Name n) is_laid = omega arith
+    few start (Apply function arguments) is_laid =
         let each = laid_each nodes tys start arguments in
-        let size = length-append each.makes (Map function each.roots ∷ []) in
-        omega (arith, size, one_each_of_all start arguments is_laid)
-    one_each start (script.Fold function first elements) is_laid =
+        let size = length-append each.makes (Node (Map function each.roots) ∷ []) in
+        omega (arith, size, all_few start arguments is_laid)
+    few start (script.Fold function first elements) is_laid =
         let each = laid_each nodes tys start elements in
-        let size = length-append each.makes (Fold function (graph_value nodes first) each.roots ∷ []) in
-        omega (arith, size, one_each_of_all start elements is_laid)
-    one_each start (script.If test a b) is_laid =
+        let size = length-append each.makes (Node (Fold function (graph_value nodes first) each.roots) ∷ []) in
+        omega (arith, size, all_few start elements is_laid)
+    few start (script.If test a b) is_laid =
         let first = laid nodes tys start test in
         let second = laid nodes tys (start + length first.makes) a in
         let third = laid nodes tys (start + (length first.makes + length second.makes)) b in
-        let last = third.makes ++ If (formula_ty tys a) first.root second.root third.root ∷ [] in
-        let size = length-append first.makes (second.makes ++ last) in
-        let size_then = length-append second.makes last in
-        let size_else = length-append third.makes (If (formula_ty tys a) first.root second.root third.root ∷ []) in
-        let here = one_each start test is_laid.0 in
-        let there = one_each (start + length first.makes) a is_laid.1 in
-        let behind = one_each (start + (length first.makes + length second.makes)) b is_laid.2 in
+        let whole = Node (If (formula_ty tys [] a) first.root second.root third.root) in
+        let size = length-append first.makes (second.makes ++ (third.makes ++ whole ∷ [])) in
+        let size_then = length-append second.makes (third.makes ++ whole ∷ []) in
+        let size_else = length-append third.makes (whole ∷ []) in
+        let here = few start test is_laid.0 in
+        let there = few (start + length first.makes) a is_laid.1 in
+        let behind = few (start + (length first.makes + length second.makes)) b is_laid.2 in
         omega (arith, size, size_then, size_else, here, there, behind)
-    one_each start (script.Join child) is_laid =
+    few start (script.Join child) is_laid =
         let under = laid nodes tys start child in
-        let size = length-append under.makes (Join (joined_ty (formula_ty tys child)) under.root ∷ []) in
-        omega (arith, size, one_each start child is_laid)
-    one_each start f is_laid = absurd is_laid
+        let size = length-append under.makes (Node (Join (joined_ty (formula_ty tys [] child)) under.root) ∷ []) in
+        omega (arith, size, few start child is_laid)
+    few start (script.Bind left body) is_laid =
+        let u = formula_ty tys [] left in
+        let ty = formula_ty tys (u ∷ []) body in
+        let l = laid nodes tys start left in
+        let w = written_body nodes tys (u ∷ []) (start + length l.makes) body in
+        let number = start + (length l.makes + length w.makes) in
+        let last = Function (body_of (u ∷ []) ty w) ∷ Node (Bind ty l.root number) ∷ [] in
+        let size = length-append l.makes (w.makes ++ last) in
+        let rest = length-append w.makes last in
+        let here = few start left is_laid.0 in
+        let inner = few_written (u ∷ []) (start + length l.makes) empty_page body in
+        omega (arith, size, rest, here, inner)
+    few start (script.Bound k) is_laid = absurd (omega (arith, is_laid))
+    few start f is_laid = absurd is_laid
 
-    one_each_of_all : (start : ℕ) (fs : Formulas) → AreLaidOut fs
-        → length (laid_each nodes tys start fs).makes ≡ places_in_all fs
-    one_each_of_all start End is_laid = refl
-    one_each_of_all start (More f rest) is_laid =
+    all_few : (start : ℕ) (fs : Formulas) → AreLaidOut 0 fs → length (laid_each nodes tys start fs).makes ≤ places_in_all fs
+    all_few start End is_laid = omega arith
+    all_few start (More f rest) is_laid =
         let first = laid nodes tys start f in
         let next = start + length first.makes in
         let size = length-append first.makes (laid_each nodes tys next rest).makes in
-        omega (arith, size, one_each start f is_laid.0, one_each_of_all next rest is_laid.1)
-
-  one_each_of_body : (body : Body) → IsLaidOutBody body
-      → length (laid_body nodes tys 0 body).makes ≡ places_of_body body
-  one_each_of_body (Variable v) is_laid = refl
-  one_each_of_body (Computed f kept) is_laid = one_each 0 f is_laid
-  one_each_of_body body is_laid = absurd is_laid
+        omega (arith, size, few start f is_laid.0, all_few next rest is_laid.1)
 
   pub few_of_body : (body : Body) → IsLaidOutBody body → length (laid_body nodes tys 0 body).makes ≤ places_of_body body
-  few_of_body body is_laid = omega (arith, one_each_of_body body is_laid)
+  few_of_body (Variable v) is_laid = omega arith
+  few_of_body (Computed f kept) is_laid = few 0 f is_laid
+  few_of_body body is_laid = absurd is_laid
 
-pub one_make_each : OneMakeEach
-one_make_each nodes tys body is_laid = one_each_of_body nodes tys body is_laid
+pub few_makes : FewMakes
+few_makes nodes tys body is_laid = few_of_body nodes tys body is_laid

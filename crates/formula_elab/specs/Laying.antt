@@ -1,58 +1,38 @@
--- The nodes to be made for a formula: those of its parts before its own, and none for a bare name.
-use Rattle.std.specs.Prelude.{◌+◌, ℕ, List, [], ◌∷◌, ◌++◌, length, None, Some, slice_get}
+-- The nodes and functions to be made for a formula: those of its parts before its own, and none for a bare name; the function of a bind before
+-- its node, and those of the binds in its body before that.
+use Rattle.std.specs.Prelude.{◌≡◌, ◌+◌, ℕ, List, [], ◌∷◌, ◌++◌, length}
 use Rattle.inc_value.specs.declared.function.FnRef.{FnRef}
-use Rattle.inc_value.specs.Ty.{type_of_base}
 use Rattle.inc_value.specs.declared.node.NodeId.{NodeId}
 use Rattle.inc_value.specs.declared.ty.Ty.{Ty}
-use Rattle.inc_value.specs.declared.ty.Ty.TheVariants as types
 use Rattle.inc_value.specs.declared.value.Value.{Value}
-use Rattle.script_model.specs.Check.{Names}
 use Rattle.script_model.specs.Formula as script
 use Rattle.script_model.specs.Formula.{Formula, Formulas, Body, Literal, Name, Apply, End, More, Variable, Computed}
-use Rattle.script_model.specs.Values.{type_of}
 use Rattle.transfer.specs.Both.{graph_value}
-use Rattle.formula_elab.specs.Opened.{no_node, node_at}
+use Rattle.formula_elab.specs.Make.{no_node}
+use Rattle.formula_elab.specs.Opened.{Planned}
+use Rattle.formula_elab.specs.Types.{formula_ty, joined_ty}
+use Rattle.formula_elab.specs.Writing.{Written, body_of, written_body}
 use Rattle.formula_elab.specs.declared.opened.Open.{Open}
-use Rattle.formula_elab.specs.declared.opened.Open.TheVariants.{Const, Var, Map, Fold, If, Join}
+use Rattle.formula_elab.specs.declared.opened.Open.TheVariants.{Const, Var, Map, Fold, If, Join, Bind}
 use Rattle.formula_elab.specs.declared.opened.Part.{Part}
 use Rattle.formula_elab.specs.declared.opened.Part.TheVariants.{Given, Made}
-
--- ---- types
-
--- the type of the declaration at a position
-abbrev pub type_at : Names → ℕ → Ty
-type_at names n = elim (slice_get names.declared n) [ None ↦ types.Int | Some d ↦ d.ty ]
-
--- what references of the type lead to
-abbrev pub joined_ty : Ty → Ty
-joined_ty (types.Node base) = type_of_base base
-joined_ty ty = ty
-
--- the type of a formula, over those of names
-abbrev pub formula_ty : (ℕ → Ty) → Formula → Ty
-formula_ty tys (Literal v) = type_of v
-formula_ty tys (Name n) = tys n
-formula_ty tys (Apply function arguments) = function.sig.gives
-formula_ty tys (script.Fold function first elements) = function.sig.gives
-formula_ty tys (script.If test a b) = formula_ty tys a
-formula_ty tys (script.Join child) = joined_ty (formula_ty tys child)
-formula_ty tys f = types.Int
+use Rattle.formula_elab.specs.declared.plan.Planned.TheVariants.{Body as Function, Node}
 
 -- ---- what is made
 
 -- what is to be made, and the node of what it is made for
 pub record Laid : Type 0 where
-  pub makes : List Open
+  pub makes : List Planned
   pub root : Part
 
 -- what is to be made, and for each of the formulas that it is made for its node
 pub record LaidEach : Type 0 where
-  pub makes : List Open
+  pub makes : List Planned
   pub roots : List Part
 
 -- one node as the start-th
 abbrev pub laid_one : ℕ → Open → Laid
-laid_one start x = record { makes = x ∷ []; root = Made start }
+laid_one start x = record { makes = Node x ∷ []; root = Made start }
 
 -- a node that was given, and nothing to make
 abbrev pub laid_given : NodeId → Laid
@@ -61,30 +41,38 @@ laid_given n = record { makes = []; root = Given n }
 -- a function behind its arguments
 abbrev pub laid_behind : ℕ → FnRef → LaidEach → Laid
 laid_behind start function arguments = record {
-  makes = arguments.makes ++ Map function arguments.roots ∷ [];
+  makes = arguments.makes ++ Node (Map function arguments.roots) ∷ [];
   root = Made (start + length arguments.makes);
 }
 
 -- a fold from a value behind its elements
 abbrev pub laid_fold : ℕ → FnRef → Value → LaidEach → Laid
 laid_fold start function first elements = record {
-  makes = elements.makes ++ Fold function first elements.roots ∷ [];
+  makes = elements.makes ++ Node (Fold function first elements.roots) ∷ [];
   root = Made (start + length elements.makes);
 }
 
 -- an if of a type behind its test and its branches
 abbrev pub laid_if : ℕ → Ty → Laid → Laid → Laid → Laid
 laid_if start ty test a b = record {
-  makes = test.makes ++ (a.makes ++ (b.makes ++ If ty test.root a.root b.root ∷ []));
+  makes = test.makes ++ (a.makes ++ (b.makes ++ Node (If ty test.root a.root b.root) ∷ []));
   root = Made (start + (length test.makes + (length a.makes + length b.makes)));
 }
 
 -- a join of a type behind its child
 abbrev pub laid_join : ℕ → Ty → Laid → Laid
 laid_join start ty child = record {
-  makes = child.makes ++ Join ty child.root ∷ [];
+  makes = child.makes ++ Node (Join ty child.root) ∷ [];
   root = Made (start + length child.makes);
 }
+
+-- a bind of a type behind its left, whose body was written for a variable of a type: its function, and then its node
+abbrev pub laid_bind : ℕ → Ty → Ty → Laid → Written → Laid
+laid_bind start variable_ty ty left body =
+    let number = start + (length left.makes + length body.makes) in record {
+      makes = left.makes ++ (body.makes ++ Function (body_of (variable_ty ∷ []) ty body) ∷ Node (Bind ty left.root number) ∷ []);
+      root = Made (number + 1);
+    }
 
 -- what is to be made for one formula before that for others
 abbrev pub laid_before : Laid → LaidEach → LaidEach
@@ -102,10 +90,14 @@ abbrev mutual
   laid nodes tys start (script.If test a b) =
       let first = laid nodes tys start test in
       let second = laid nodes tys (start + length first.makes) a in
-      laid_if start (formula_ty tys a) first second
+      laid_if start (formula_ty tys [] a) first second
       (laid nodes tys (start + (length first.makes + length second.makes)) b)
   laid nodes tys start (script.Join child) =
-      laid_join start (joined_ty (formula_ty tys child)) (laid nodes tys start child)
+      laid_join start (joined_ty (formula_ty tys [] child)) (laid nodes tys start child)
+  laid nodes tys start (script.Bind left body) =
+      let u = formula_ty tys [] left in
+      let l = laid nodes tys start left in
+      laid_bind start u (formula_ty tys (u ∷ []) body) l (written_body nodes tys (u ∷ []) (start + length l.makes) body)
   laid nodes tys start f = laid_given no_node
 
   -- what is to be made for formulas, one after the other
@@ -121,14 +113,19 @@ laid_body nodes tys start (Variable v) = laid_one start (Var (graph_value nodes 
 laid_body nodes tys start (Computed f kept) = laid nodes tys start f
 laid_body nodes tys start body = laid_given no_node
 
--- what is to be made for a formula behind others, where the nodes of names stand in a list
-abbrev pub laid_next : List NodeId → Names → List Open → Formula → Laid
-laid_next ids names makes f = laid (node_at ids) (type_at names) (length makes) f
+-- ---- what was laid out
 
--- so for formulas
-abbrev pub each_laid_next : List NodeId → Names → List Open → Formulas → LaidEach
-each_laid_next ids names makes fs = laid_each (node_at ids) (type_at names) (length makes) fs
+-- behind what was to be made, the formula was laid out: this is to be made now, and the part is its node
+pub record IsLaid (nodes : ℕ → NodeId) (tys : ℕ → Ty) (f : Formula) (old new : List Planned) (part : Part) : Type 0 where
+  pub makes : new ≡ old ++ (laid nodes tys (length old) f).makes
+  pub root : part ≡ (laid nodes tys (length old) f).root
 
--- so for what is declared
-abbrev pub body_laid_next : List NodeId → Names → List Open → Body → Laid
-body_laid_next ids names makes body = laid_body (node_at ids) (type_at names) (length makes) body
+-- so were the formulas
+pub record AreLaid (nodes : ℕ → NodeId) (tys : ℕ → Ty) (fs : Formulas) (old new : List Planned) (parts : List Part) : Type 0 where
+  pub makes : new ≡ old ++ (laid_each nodes tys (length old) fs).makes
+  pub roots : parts ≡ (laid_each nodes tys (length old) fs).roots
+
+-- so was what is declared
+pub record IsLaidBody (nodes : ℕ → NodeId) (tys : ℕ → Ty) (body : Body) (old new : List Planned) (part : Part) : Type 0 where
+  pub makes : new ≡ old ++ (laid_body nodes tys (length old) body).makes
+  pub root : part ≡ (laid_body nodes tys (length old) body).root

@@ -1,3 +1,4 @@
+pub mod Bodies
 pub mod Laying
 pub mod Made
 pub mod Make
@@ -5,3 +6,6 @@ pub mod Names
 pub mod Opened
 pub mod Plan
 pub mod Today
+pub mod Types
+pub mod Writing
+pub mod Functions

@@ -1,23 +1,28 @@
 //! Laying formulas out as nodes to be made.
-ghost use Rattle.std.specs.Prelude.{◌≡◌, ◌<◌, ◌≤◌, ◌++◌, [], false, length, map, IfOk, OnOk};
+ghost use Rattle.std.specs.Prelude.{◌≡◌, ◌<◌, ◌≤◌, ◌^◌, ◌++◌, [], Bool, false, length, map, IfOk};
+ghost use Rattle.inc_value.specs.declared.function.FnRef.{FnRef};
+ghost use Rattle.inc_value.specs.declared.ty.Ty.{Ty};
+ghost use Rattle.formula_lang.specs.Fits.{BodyFits};
 ghost use Rattle.formula_lang.specs.CommandView.{body_view, constant_view, formula_view, formulas_of};
-ghost use Rattle.script_model.specs.Formula.{Apply, Fold, Join, places_of_body};
-ghost use Rattle.formula_elab.specs.Laying.{laid_body, laid_next, each_laid_next, body_laid_next, type_at};
+ghost use Rattle.script_model.specs.Formula.{Apply, Bind, Fold, Join, binds_in, binds_in_all, binds_of_body, places_in, places_in_all, places_of_body};
+ghost use Rattle.formula_elab.specs.Laying.{laid_body, AreLaid, IsLaid, IsLaidBody};
 ghost use Rattle.formula_elab.specs.Made.{ShowsOnceMade};
 ghost use Rattle.formula_elab.specs.Names.{EveryName, EveryNameOfAll, EveryNameOf};
 ghost use Rattle.script_model.specs.Leaves.{EveryReference};
-ghost use Rattle.formula_elab.specs.Opened.{node_at, AreInOrder};
+ghost use Rattle.formula_elab.specs.Opened.{node_at, weight, AreInOrder};
+ghost use Rattle.formula_elab.specs.Types.{type_at, AreTypedAsTargets};
 
 use crate::opened::{Open, Part, Parts};
-use crate::plan::Plan;
+use crate::plan::{Plan, Planned};
 use crate::types::{formula_type, joined_type};
 use crate::value::value_of;
+use crate::write::write_body;
 use formula_lang::{Constant, Declaration, Formula, Names};
 use inc_value::{FnRef, NodeId};
 use std::alloc::{AllocError, Global};
 
-/// What is to be made in a graph for what is declared, where the nodes of the declarations stand by position: at most a
-/// node for each place of its formula, inner ones first.
+/// What is to be made in a graph for what is declared, where the nodes of the declarations stand by position: a node for each
+/// place outside of the bodies of binds, and a function for each bind, inner ones first.
 pub fn elaborate(
     alloc: Global,
     body: &Declaration,
@@ -26,8 +31,13 @@ pub fn elaborate(
 ) -> Result<Plan, AllocError>
     requires one_each { length ids.now ≡ length names.now.declared }
     requires names { EveryNameOf (λ n. n < length ids.now) (body_view body.now) }
-    ensures order { IfOk result (λ plan. AreInOrder 0 plan.makes) }
+    requires fits { (known : FnRef → Bool) × (ty : Ty) × BodyFits known names.now (body_view body.now) ty }
+    requires targets { AreTypedAsTargets names.now }
+    requires few { places_of_body (body_view body.now) ≤ 1048575 }
+    requires few_binds { binds_of_body (body_view body.now) ≤ 64 }
+    ensures order { IfOk result (λ plan. AreInOrder [] plan.makes) }
     ensures places { IfOk result (λ plan. length plan.makes ≤ places_of_body (body_view body.now)) }
+    ensures weight { IfOk result (λ plan. weight plan.makes ≡ places_of_body (body_view body.now)) }
     ensures declares { IfOk result (λ plan. ShowsOnceMade (node_at ids.now) (body_view body.now) plan.makes plan.root) }
     ensures made { IfOk result (λ plan. plan.made ≡ []) }
     ensures waits { IfOk result (λ plan. plan.is_waiting ≡ false) }
@@ -45,18 +55,19 @@ fn lay_body(
     body: &Declaration,
     names: &Names,
     ids: &[NodeId],
-    makes: &mut Vec<Open>,
+    makes: &mut Vec<Planned>,
 ) -> Result<Part, AllocError>
     requires one_each { length ids.now ≡ length names.now.declared }
     requires names { EveryNameOf (λ n. n < length ids.now) (body_view body.now) }
-    ensures root { IfOk result (λ root. root ≡ (body_laid_next ids.now names.entry.now makes.old.items (body_view body.now)).root) }
-    ensures makes { OnOk result (makes.new.items
-        ≡ makes.old.items ++ (body_laid_next ids.now names.entry.now makes.old.items (body_view body.now)).makes) }
+    requires few { places_of_body (body_view body.now) < 2 ^ 64 }
+    requires few_binds { binds_of_body (body_view body.now) ≤ 64 }
+    ensures { IfOk result (λ root. IsLaidBody (node_at ids.now) (type_at names.entry.now)
+        (body_view body.now) makes.old.items makes.new.items root) }
 {
     match body {
         Declaration::Variable(value) => {
             let root = Part::Made(makes.len());
-            makes.push(Open::Var(value_of(alloc, value, ids)?))?;
+            makes.push(Planned::Node(Open::Var(value_of(alloc, value, ids)?)))?;
             Ok(root)
         }
         Declaration::Computed(formula) => lay(alloc, formula, names, ids, makes),
@@ -70,21 +81,24 @@ fn lay(
     formula: &Formula,
     names: &Names,
     ids: &[NodeId],
-    makes: &mut Vec<Open>,
+    makes: &mut Vec<Planned>,
 ) -> Result<Part, AllocError>
     requires one_each { length ids.now ≡ length names.now.declared }
-    requires names { EveryName (λ n. n < length ids.now) (formula_view formula.now) }
-    ensures root { IfOk result (λ root. root ≡ (laid_next ids.now names.entry.now makes.old.items (formula_view formula.now)).root) }
-    ensures makes { OnOk result (makes.new.items
-        ≡ makes.old.items ++ (laid_next ids.now names.entry.now makes.old.items (formula_view formula.now)).makes) }
+    requires names { EveryName (λ n. n < length ids.now) 0 (formula_view formula.now) }
+    requires few { places_in (formula_view formula.now) < 2 ^ 64 }
+    requires few_binds { binds_in (formula_view formula.now) ≤ 64 }
+    ensures { IfOk result (λ root. IsLaid (node_at ids.now) (type_at names.entry.now)
+        (formula_view formula.now) makes.old.items makes.new.items root) }
 {
     match formula {
         Formula::Literal(value) => {
             let root = Part::Made(makes.len());
-            makes.push(Open::Const(value_of(alloc, value, ids)?))?;
+            makes.push(Planned::Node(Open::Const(value_of(alloc, value, ids)?)))?;
             Ok(root)
         }
         Formula::Name(position) => Ok(Part::Given(ids[*position])),
+        // No bind stands round the formula.
+        Formula::Bound(_) => unreachable!(),
         Formula::Apply {
             function,
             arguments,
@@ -95,15 +109,16 @@ fn lay(
             elements,
         } => lay_fold(alloc, *function, first, elements, names, ids, makes),
         Formula::If { test, yes, no } => {
-            let ty = formula_type(names, yes);
+            let ty = formula_type(alloc, names, &[], yes)?;
             let test = lay(alloc, test, names, ids, makes)?;
             let yes = lay(alloc, yes, names, ids, makes)?;
             let no = lay(alloc, no, names, ids, makes)?;
             let root = Part::Made(makes.len());
-            makes.push(Open::If { ty, test, yes, no })?;
+            makes.push(Planned::Node(Open::If { ty, test, yes, no }))?;
             Ok(root)
         }
         Formula::Join(child) => lay_join(alloc, child, names, ids, makes),
+        Formula::Bind { left, body } => lay_bind(alloc, left, body, names, ids, makes),
     }
 }
 
@@ -115,18 +130,18 @@ fn lay_map(
     arguments: &[Formula],
     names: &Names,
     ids: &[NodeId],
-    makes: &mut Vec<Open>,
+    makes: &mut Vec<Planned>,
 ) -> Result<Part, AllocError>
     requires one_each { length ids.now ≡ length names.now.declared }
-    requires names { EveryNameOfAll (λ n. n < length ids.now) (formulas_of (map formula_view arguments.now)) }
-    ensures root { IfOk result (λ root. root ≡ (laid_next ids.now names.entry.now makes.old.items
-        (Apply function (formulas_of (map formula_view arguments.now)))).root) }
-    ensures makes { OnOk result (makes.new.items ≡ makes.old.items ++ (laid_next ids.now names.entry.now makes.old.items
-        (Apply function (formulas_of (map formula_view arguments.now)))).makes) }
+    requires names { EveryNameOfAll (λ n. n < length ids.now) 0 (formulas_of (map formula_view arguments.now)) }
+    requires few { places_in_all (formulas_of (map formula_view arguments.now)) < 2 ^ 64 }
+    requires few_binds { binds_in_all (formulas_of (map formula_view arguments.now)) ≤ 64 }
+    ensures { IfOk result (λ root. IsLaid (node_at ids.now) (type_at names.entry.now)
+        (Apply function (formulas_of (map formula_view arguments.now))) makes.old.items makes.new.items root) }
 {
     let arguments = Parts::new(lay_each(alloc, arguments, names, ids, makes)?);
     let root = Part::Made(makes.len());
-    makes.push(Open::Map(function, arguments))?;
+    makes.push(Planned::Node(Open::Map(function, arguments)))?;
     Ok(root)
 }
 
@@ -139,20 +154,20 @@ fn lay_fold(
     elements: &[Formula],
     names: &Names,
     ids: &[NodeId],
-    makes: &mut Vec<Open>,
+    makes: &mut Vec<Planned>,
 ) -> Result<Part, AllocError>
     requires one_each { length ids.now ≡ length names.now.declared }
     requires first { EveryReference (λ n. n < length ids.now) (constant_view first.now) }
-    requires names { EveryNameOfAll (λ n. n < length ids.now) (formulas_of (map formula_view elements.now)) }
-    ensures root { IfOk result (λ root. root ≡ (laid_next ids.now names.entry.now makes.old.items
-        (Fold function (constant_view first.now) (formulas_of (map formula_view elements.now)))).root) }
-    ensures makes { OnOk result (makes.new.items ≡ makes.old.items ++ (laid_next ids.now names.entry.now makes.old.items
-        (Fold function (constant_view first.now) (formulas_of (map formula_view elements.now)))).makes) }
+    requires names { EveryNameOfAll (λ n. n < length ids.now) 0 (formulas_of (map formula_view elements.now)) }
+    requires few { places_in_all (formulas_of (map formula_view elements.now)) < 2 ^ 64 }
+    requires few_binds { binds_in_all (formulas_of (map formula_view elements.now)) ≤ 64 }
+    ensures { IfOk result (λ root. IsLaid (node_at ids.now) (type_at names.entry.now)
+        (Fold function (constant_view first.now) (formulas_of (map formula_view elements.now))) makes.old.items makes.new.items root) }
 {
     let first = value_of(alloc, first, ids)?;
     let elements = Parts::new(lay_each(alloc, elements, names, ids, makes)?);
     let root = Part::Made(makes.len());
-    makes.push(Open::Fold(function, first, elements))?;
+    makes.push(Planned::Node(Open::Fold(function, first, elements)))?;
     Ok(root)
 }
 
@@ -163,19 +178,52 @@ fn lay_join(
     child: &Formula,
     names: &Names,
     ids: &[NodeId],
-    makes: &mut Vec<Open>,
+    makes: &mut Vec<Planned>,
 ) -> Result<Part, AllocError>
     requires one_each { length ids.now ≡ length names.now.declared }
-    requires names { EveryName (λ n. n < length ids.now) (formula_view child.now) }
-    ensures root { IfOk result (λ root. root
-        ≡ (laid_next ids.now names.entry.now makes.old.items (Join (formula_view child.now))).root) }
-    ensures makes { OnOk result (makes.new.items
-        ≡ makes.old.items ++ (laid_next ids.now names.entry.now makes.old.items (Join (formula_view child.now))).makes) }
+    requires names { EveryName (λ n. n < length ids.now) 0 (formula_view child.now) }
+    requires few { places_in (formula_view child.now) < 2 ^ 64 }
+    requires few_binds { binds_in (formula_view child.now) ≤ 64 }
+    ensures { IfOk result (λ root. IsLaid (node_at ids.now) (type_at names.entry.now)
+        (Join (formula_view child.now)) makes.old.items makes.new.items root) }
 {
-    let ty = joined_type(formula_type(names, child));
+    let ty = joined_type(formula_type(alloc, names, &[], child)?);
     let child = lay(alloc, child, names, ids, makes)?;
     let root = Part::Made(makes.len());
-    makes.push(Open::Join { ty, child })?;
+    makes.push(Planned::Node(Open::Join { ty, child }))?;
+    Ok(root)
+}
+
+/// Lays a bind of these formulas out behind what is to be made already: its left, its function, and its node. The answer is
+/// its node.
+#[cycle(lay)]
+fn lay_bind(
+    alloc: Global,
+    left: &Formula,
+    body: &Formula,
+    names: &Names,
+    ids: &[NodeId],
+    makes: &mut Vec<Planned>,
+) -> Result<Part, AllocError>
+    requires one_each { length ids.now ≡ length names.now.declared }
+    requires names { EveryName (λ n. n < length ids.now) 0 (Bind (formula_view left.now) (formula_view body.now)) }
+    requires few { places_in (Bind (formula_view left.now) (formula_view body.now)) < 2 ^ 64 }
+    requires few_binds { binds_in (Bind (formula_view left.now) (formula_view body.now)) ≤ 64 }
+    ensures { IfOk result (λ root. IsLaid (node_at ids.now) (type_at names.entry.now)
+        (Bind (formula_view left.now) (formula_view body.now)) makes.old.items makes.new.items root) }
+{
+    let variable = formula_type(alloc, names, &[], left)?;
+    let left = lay(alloc, left, names, ids, makes)?;
+    let body = write_body(alloc, body, names, ids, &[variable], makes)?;
+    let ty = body.sig().gives();
+    let number = makes.len();
+    makes.push(Planned::Body(body))?;
+    let root = Part::Made(makes.len());
+    makes.push(Planned::Node(Open::Bind {
+        ty,
+        left,
+        body: number,
+    }))?;
     Ok(root)
 }
 
@@ -186,14 +234,14 @@ fn lay_each(
     formulas: &[Formula],
     names: &Names,
     ids: &[NodeId],
-    makes: &mut Vec<Open>,
+    makes: &mut Vec<Planned>,
 ) -> Result<Vec<Part>, AllocError>
     requires one_each { length ids.now ≡ length names.now.declared }
-    requires names { EveryNameOfAll (λ n. n < length ids.now) (formulas_of (map formula_view formulas.now)) }
-    ensures roots { IfOk result (λ roots. roots.items
-        ≡ (each_laid_next ids.now names.entry.now makes.old.items (formulas_of (map formula_view formulas.now))).roots) }
-    ensures makes { OnOk result (makes.new.items ≡ makes.old.items
-        ++ (each_laid_next ids.now names.entry.now makes.old.items (formulas_of (map formula_view formulas.now))).makes) }
+    requires names { EveryNameOfAll (λ n. n < length ids.now) 0 (formulas_of (map formula_view formulas.now)) }
+    requires few { places_in_all (formulas_of (map formula_view formulas.now)) < 2 ^ 64 }
+    requires few_binds { binds_in_all (formulas_of (map formula_view formulas.now)) ≤ 64 }
+    ensures { IfOk result (λ roots. AreLaid (node_at ids.now) (type_at names.entry.now)
+        (formulas_of (map formula_view formulas.now)) makes.old.items makes.new.items roots.items) }
 {
     let mut nodes = Vec::new(alloc);
     for formula in formulas {

@@ -1,7 +1,8 @@
-//! Nodes to be made, some of whose nodes aren't made yet.
-ghost use Rattle.std.specs.Prelude.{◌≡◌, ◌<◌, All, length, map, IfOk};
+//! Nodes to be made, over nodes and functions that may not be made yet.
+ghost use Rattle.std.specs.Prelude.{◌≡◌, List, All, length, map, IfOk};
 ghost use Rattle.inc_terms.specs.Code.{def_of};
-ghost use Rattle.formula_elab.specs.Opened.{node_of, filled, open_ty, IsEarlier, NeedsEarlier};
+ghost use Rattle.formula_elab.specs.Make.{function_made, made_at};
+ghost use Rattle.formula_elab.specs.Opened.{node_of, filled, open_ty, AreMadeAs, IsEarlier, IsEarlierBody, NodeNeedsEarlier, Planned};
 
 use crate::make::Made;
 use inc_terms::{Def, Nodes};
@@ -21,7 +22,7 @@ pub(crate) enum Part {
 impl Part {
     /// The node, where this was made.
     pub(crate) fn node(self, made: &[Made]) -> NodeId
-        requires earlier { IsEarlier (length made.now) self }
+        requires earlier { (earlier : List Planned) × IsEarlier earlier self × AreMadeAs earlier made.now × (length earlier ≡ length made.now) }
         ensures { result ≡ node_of made.now self }
     {
         match self {
@@ -81,12 +82,18 @@ pub(crate) enum Open {
         ty: Ty,
         child: Part,
     },
+    /// The right side of the type that a function builds of the left's value: the one that is made as the `body`-th.
+    Bind {
+        ty: Ty,
+        left: Part,
+        body: usize,
+    },
 }
 
 impl Open {
     /// The definition, with what was made.
     pub(crate) fn filled(&self, alloc: Global, made: &[Made]) -> Result<Def, AllocError>
-        requires earlier { NeedsEarlier (length made.now) self.now }
+        requires earlier { (earlier : List Planned) × NodeNeedsEarlier earlier self.now × AreMadeAs earlier made.now × (length earlier ≡ length made.now) }
         ensures { IfOk result (λ def. def_of def ≡ filled made.now self.now) }
     {
         Ok(match self {
@@ -110,6 +117,11 @@ impl Open {
                 no: no.node(made),
             },
             Open::Join { child, .. } => Def::Join(child.node(made)),
+            Open::Bind { left, body, .. } => Def::Bind {
+                left: left.node(made),
+                function: function_of(made, *body),
+                captures: Nodes::from_slice(alloc, &[])?,
+            },
         })
     }
 
@@ -120,14 +132,22 @@ impl Open {
         match self {
             Open::Const(value) | Open::Var(value) => value.ty(),
             Open::Map(function, _) | Open::Fold(function, _, _) => function.sig.gives(),
-            Open::If { ty, .. } | Open::Join { ty, .. } => *ty,
+            Open::If { ty, .. } | Open::Join { ty, .. } | Open::Bind { ty, .. } => *ty,
         }
     }
 }
 
+/// The function that was made as the i-th.
+fn function_of(made: &[Made], number: usize) -> FnRef
+    requires earlier { (earlier : List Planned) × IsEarlierBody earlier number × AreMadeAs earlier made.now × (length earlier ≡ length made.now) }
+    ensures { result ≡ function_made (made_at made.now number) }
+{
+    made[number].function()
+}
+
 /// The nodes in order, where this was made.
 fn nodes_of(alloc: Global, parts: &[Part], made: &[Made]) -> Result<Vec<NodeId>, AllocError>
-    requires earlier { All (IsEarlier (length made.now)) parts.now }
+    requires earlier { (earlier : List Planned) × All (IsEarlier earlier) parts.now × AreMadeAs earlier made.now × (length earlier ≡ length made.now) }
     ensures { IfOk result (λ nodes. nodes.items ≡ map (node_of made.now) parts.now) }
 {
     let mut nodes = Vec::new(alloc);

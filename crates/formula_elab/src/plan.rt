@@ -1,21 +1,46 @@
 //! Plans.
-ghost use Rattle.std.specs.Prelude.{◌≡◌, ◌↔◌, ◌≤◌, [], false, length, option_map, is_some};
-ghost use Rattle.std.specs.Prelude.{IfOk, IsNone, IsSome, IsTrue, OnOk, OnErr};
+ghost use Rattle.std.specs.Prelude.{◌≡◌, ◌↔◌, ◌≤◌, List, [], false, length, option_map, is_some};
+ghost use Rattle.std.specs.Prelude.{IfOk, IfSome, IsNone, IsSome, IsTrue, OnOk, OnErr};
 ghost use Rattle.formula_elab.specs.Make.{make_view};
-ghost use Rattle.formula_elab.specs.Opened.{IsEarlier, AreInOrder};
-ghost use Rattle.formula_elab.specs.Plan.{with_made, next_make, root_node, IsMade};
+ghost use Rattle.formula_elab.specs.Opened.{AreInOrder, AreMadeAs, AreTyped, IsEarlier, IsTypedIn, Makes, NeedsEarlier};
+ghost use Rattle.formula_elab.specs.Opened.{Planned as APlanned};
+ghost use Rattle.formula_elab.specs.Plan.{with_made, root_node, IsAnswer, IsMade, IsNext};
 
+use crate::body::OpenBody;
 use crate::make::{Made, Make};
 use crate::opened::{Open, Part};
 use inc_value::NodeId;
 use std::alloc::{AllocError, Global};
 use std::marker::Model;
 
+/// What is to be made, over nodes and functions that may not be made yet.
+#[derive(Drop)]
+pub(crate) enum Planned {
+    /// The function of a bind's right sides.
+    Body(OpenBody),
+    /// A node.
+    Node(Open),
+}
+
+impl Planned {
+    /// What is to be made of it, with what was made.
+    fn filled(&self, alloc: Global, made: &[Made]) -> Result<Make, AllocError>
+        requires earlier { (earlier : List APlanned) × NeedsEarlier earlier self.now × IsTypedIn earlier self.now
+            × AreMadeAs earlier made.now × (length earlier ≡ length made.now) }
+        ensures { IfOk result (λ make. Makes made.now self.now (make_view make)) }
+    {
+        Ok(match self {
+            Planned::Body(body) => Make::Body(body.filled(alloc, made)?),
+            Planned::Node(node) => Make::Node(node.filled(alloc, made)?, node.ty()),
+        })
+    }
+}
+
 /// What is to be made in a graph for a declaration, one after the other.
 #[derive(Drop)]
 pub struct Plan {
     alloc: Global,
-    makes: Vec<Open>,
+    makes: Vec<Planned>,
     made: Vec<Made>,
     /// Whether the last one asked for isn't known to be made.
     is_waiting: bool,
@@ -39,9 +64,10 @@ impl Model for Plan {
 
 impl Plan {
     /// The plan with nothing made yet.
-    pub(crate) fn new(alloc: Global, makes: Vec<Open>, root: Part) -> Plan
-        requires order { AreInOrder 0 makes.items }
-        requires root_within { IsEarlier (length makes.items) root }
+    pub(crate) fn new(alloc: Global, makes: Vec<Planned>, root: Part) -> Plan
+        requires order { AreInOrder [] makes.items }
+        requires typed { AreTyped makes.items }
+        requires root_within { IsEarlier makes.items root }
         ensures { result ≡ record { makes = makes.items; made = []; is_waiting = false; root = root } }
     {
         Plan {
@@ -57,7 +83,8 @@ impl Plan {
     /// as it was, and can be asked the same again.
     pub fn next(&mut self, made: Option<Made>) -> Result<Option<Make>, AllocError>
         requires answered { IsSome made ↔ IsTrue self.old.is_waiting }
-        ensures make { IfOk result (λ make. option_map make_view make ≡ next_make self.new.makes self.new.made) }
+        requires kind { IfSome made (IsAnswer self.old) }
+        ensures make { IfOk result (λ make. IsNext self.new.makes self.new.made (option_map make_view make)) }
         ensures made { OnOk result (self.new.made ≡ with_made self.old.made made) }
         ensures waits { IfOk result (λ make. self.new.is_waiting ≡ is_some make) }
         ensures last { IfOk result (λ make. IsNone make ↔ IsMade self.new) }
@@ -67,9 +94,7 @@ impl Plan {
         ensures err { OnErr result (self.new ≡ self.old) }
     {
         let count = self.made.len();
-        if let Some(made) = made {
-            self.made.push(made)?;
-        }
+        note(&mut self.made, made)?;
         match make_behind(self.alloc, &self.makes, &self.made) {
             Ok(make) => {
                 self.is_waiting = make.is_some();
@@ -91,13 +116,26 @@ impl Plan {
     }
 }
 
+/// Notes what was made of the last, if something was.
+fn note(made: &mut Vec<Made>, last: Option<Made>) -> Result<(), AllocError>
+    ensures noted { OnOk result (made.new.items ≡ with_made made.old.items last) }
+    ensures err { OnErr result (made.new.items ≡ made.old.items) }
+{
+    if let Some(last) = last {
+        made.push(last)?;
+    }
+    Ok(())
+}
+
 /// What is to be made next, where this was made.
-fn make_behind(alloc: Global, makes: &[Open], made: &[Made]) -> Result<Option<Make>, AllocError>
-    requires order { AreInOrder 0 makes.now }
-    ensures { IfOk result (λ make. option_map make_view make ≡ next_make makes.now made.now) }
+fn make_behind(alloc: Global, makes: &[Planned], made: &[Made]) -> Result<Option<Make>, AllocError>
+    requires order { AreInOrder [] makes.now }
+    requires typed { AreTyped makes.now }
+    requires kinds { AreMadeAs makes.now made.now }
+    ensures { IfOk result (λ make. IsNext makes.now made.now (option_map make_view make)) }
 {
     match makes.get(made.len()) {
-        Some(open) => Ok(Some(Make::Node(open.filled(alloc, made)?, open.ty()))),
+        Some(planned) => Ok(Some(planned.filled(alloc, made)?)),
         None => Ok(None),
     }
 }

@@ -1,5 +1,5 @@
 -- What is allowed fits together.
-use Rattle.std.proofs.Common.{◌≡◌, ℕ, zero, suc, ◌≤◌, Bool, true, false, not, ◌||◌, cond, List, [], ◌∷◌, length, Option, None, Some, is_some, inl, inr, refl, sym, subst, arith}
+use Rattle.std.proofs.Common.{◌≡◌, ℕ, zero, suc, ◌+◌, ◌≤◌, Bool, true, false, not, ◌||◌, cond, List, [], ◌∷◌, length, map, Option, None, Some, is_some, inl, inr, refl, sym, subst, arith, add-zero}
 use Rattle.std.proofs.lemmas.Option.{slice_get_within}
 use Rattle.std.specs.List.{list_any, slice_get}
 use Rattle.std.specs.Str.{bytes_eq}
@@ -10,12 +10,12 @@ use Rattle.inc_value.specs.declared.ty.Base.TheVariants as bases
 use Rattle.inc_value.specs.declared.ty.Base.{Base}
 use Rattle.inc_value.specs.declared.ty.Ty.TheVariants as types
 use Rattle.inc_value.specs.declared.ty.Ty.{Ty}
-use Rattle.script_model.specs.Check.{Command, Declare, Assign, Observe, Unobserve, Stabilize, Show, Declared, Names, Reason, NameTaken, ObserverTaken, NotVariable, ObserverUnknown, TypedFormula, TypedFormulas, TypedValue, first_named, find_declared, is_among, is_variable, kind_of, typed, typed_each, typed_as, typed_literal, literal_of_type, where_same, applied, are_all, before, branched, element_of, folded, join_of, command_of, body_as, target_of_body, first_that, is_against, line_order}
+use Rattle.script_model.specs.Check.{Bound, Command, Declare, Assign, Take, Observe, Unobserve, Stabilize, Show, Declared, Names, Reason, NameTaken, ObserverTaken, NotVariable, NotBind, ObserverUnknown, TypedFormula, TypedFormulas, TypedValue, first_named, find_declared, is_among, is_bind, is_variable, kind_of, typed, typed_each, typed_name, typed_as, typed_literal, literal_of_type, where_same, applied, are_all, before, branched, element_of, folded, join_of, command_of, body_as, target_of_body, first_that, is_against, line_order}
 use Rattle.inc_value.specs.Choice.{and_then}
 use Rattle.script_model.specs.Formula as model
 use Rattle.script_model.specs.Formula.{Formula, Meanings, nothing_kept}
 use Rattle.script_model.specs.Grammar as grammar
-use Rattle.script_model.specs.Grammar.{Line, Tree, Trees, Call, If, Join, Fold, End, More}
+use Rattle.script_model.specs.Grammar.{Line, Tree, Trees, Call, If, Bind, Join, Fold, End, More}
 use Rattle.script_model.specs.Here.{is_here, is_plain, are_plain}
 use Rattle.script_model.specs.Literals as literals
 use Rattle.script_model.specs.Literals.{Literal, Integer, Referred}
@@ -124,143 +124,192 @@ module _ (names : Names) (earlier : AreEarlier names.declared) where
 
 module _ (F : Meanings) (known : FnRef → Bool) (names : Names) (earlier : AreEarlier names.declared)
     (maps : (name : List ℕ) (f : FnRef) → F.named name ≡ Some f → FunctionFits known f) where
-  abbrev Fits : TypedFormula → Type 0
-  Fits t = FormulaFits known names t.formula t.ty
+  -- within binds whose variables have these types
+  module _ (bounds : List Ty) where
+    abbrev Fits : TypedFormula → Type 0
+    Fits t = FormulaFits known names bounds t.formula t.ty
 
-  abbrev AllFit : TypedFormulas → Type 0
-  AllFit ts = ArgumentsFit known names ts.formulas ts.tys
+    abbrev AllFit : TypedFormulas → Type 0
+    AllFit ts = ArgumentsFit known names bounds ts.formulas ts.tys
 
-  applied_fits : (f : FnRef) (ts : TypedFormulas) (t : TypedFormula) → FunctionFits known f → AllFit ts → applied f ts ≡ Some t → Fits t
-  applied_fits f ts t function all is = go (same_types f.sig.takes ts.tys) refl is
+    applied_fits : (f : FnRef) (ts : TypedFormulas) (t : TypedFormula) → FunctionFits known f → AllFit ts → applied f ts ≡ Some t → Fits t
+    applied_fits f ts t function all is = go (same_types f.sig.takes ts.tys) refl is
+      where
+        go : (b : Bool) → same_types f.sig.takes ts.tys ≡ b → cond b (typed_as (model.Apply f ts.formulas) f.sig.gives) None ≡ Some t → Fits t
+        go true same e =
+            let takes : ts.tys ≡ f.sig.takes = sym (types_true f.sig.takes ts.tys same) in
+            let whole = some_is _ t e in
+            subst Fits whole (function, subst (λ tys. ArgumentsFit known names bounds ts.formulas tys) takes all, refl)
+        go false same e = absurd (cc)
+
+    written_fits : (literal : Literal) (o : Option TypedValue) (t : TypedFormula)
+        → ((x : TypedValue) → o ≡ Some x → ValueFits names x.value x.ty)
+        → and_then o (λ v. typed_as (model.Literal v.value) v.ty) ≡ Some t → Fits t
+    written_fits literal None t fits e = absurd (cc)
+    written_fits literal (Some x) t fits e = subst Fits (some_is _ t e) (fits x refl)
+
+    mentioned_fits : (name : List ℕ) (found : Option Declared) (t : TypedFormula) → find_declared names name ≡ found
+        → and_then found (λ d. typed_as (model.Name d.target) d.ty) ≡ Some t → Fits t
+    mentioned_fits name None t is e = absurd (cc)
+    mentioned_fits name (Some d) t is e = subst Fits (some_is _ t e) (name_fits names earlier name d is)
+
+    call_fits : (name : List ℕ) (found : Option FnRef) (each : Option TypedFormulas) (t : TypedFormula) → F.named name ≡ found
+        → ((ts : TypedFormulas) → each ≡ Some ts → AllFit ts) → and_then found (λ f. and_then each (λ ts. applied f ts)) ≡ Some t → Fits t
+    call_fits name None each t is all e = absurd (cc)
+    call_fits name (Some f) None t is all e = absurd (cc)
+    call_fits name (Some f) (Some ts) t is all e = applied_fits f ts t (maps name f is) (all ts refl) e
+
+    -- where all types are one, each argument fits as an element
+    all_elements : (t : Ty) (fs : model.Formulas) (tys : List Ty) → are_all t tys ≡ true → ArgumentsFit known names bounds fs tys
+        → ElementsFit known names bounds fs t
+    all_elements t model.End tys same all = tt
+    all_elements t (model.More f fs) [] same all = absurd all
+    all_elements t (model.More f fs) (u ∷ tys) same all = go (same_ty t u) refl same (λ rest. all_elements t fs tys rest all.1)
+      where
+        go : (b : Bool) → same_ty t u ≡ b → not (not b || list_any (λ u. not (same_ty t u)) tys) ≡ true
+            → (are_all t tys ≡ true → ElementsFit known names bounds fs t) → ElementsFit known names bounds (model.More f fs) t
+        go true is same others = (subst (λ v. FormulaFits known names bounds f v) (sym (ty_true t u is)) all.0, others same)
+        go false is same others = absurd (cc)
+
+    folded_fits : (f : FnRef) (first : Literal) (ts : TypedFormulas) (t : TypedFormula) → FunctionFits known f → AllFit ts
+        → folded names f first ts ≡ Some t → Fits t
+    folded_fits f first ts t function all is = over (element_of f f.sig.takes) refl is
+      where
+        over : (element : Option Ty) → element_of f f.sig.takes ≡ element
+            → and_then element (λ u. and_then (literal_of_type names f.sig.gives first) (λ v.
+            cond (are_all u ts.tys) (typed_as (model.Fold f v ts.formulas) f.sig.gives) None)) ≡ Some t → Fits t
+        over None at e = absurd (cc)
+        over (Some u) at e = from (literal_of_type names f.sig.gives first) (λ v is. (literal_fits names earlier f.sig.gives first v is).0) e
+          where
+            from : (o : Option Value) → ((v : Value) → o ≡ Some v → type_of v ≡ f.sig.gives)
+                → and_then o (λ v. cond (are_all u ts.tys) (typed_as (model.Fold f v ts.formulas) f.sig.gives) None) ≡ Some t → Fits t
+            from None fits e = absurd (cc)
+            from (Some v) fits e = each (are_all u ts.tys) refl e
+              where
+                each : (b : Bool) → are_all u ts.tys ≡ b → cond b (typed_as (model.Fold f v ts.formulas) f.sig.gives) None ≡ Some t → Fits t
+                each true same e =
+                    let elements = all_elements u ts.formulas ts.tys same all in
+                    subst Fits (some_is _ t e) (u, function, (takes_pair f f.sig.takes u at, refl), fits v refl, function.signature.2, elements)
+                each false same e = absurd (cc)
+
+    fold_fits : (name : List ℕ) (first : Literal) (found : Option FnRef) (each : Option TypedFormulas) (t : TypedFormula)
+        → F.named name ≡ found → ((ts : TypedFormulas) → each ≡ Some ts → AllFit ts)
+        → and_then found (λ f. and_then each (λ ts. folded names f first ts)) ≡ Some t → Fits t
+    fold_fits name first None each t is all e = absurd (cc)
+    fold_fits name first (Some f) None t is all e = absurd (cc)
+    fold_fits name first (Some f) (Some ts) t is all e = folded_fits f first ts t (maps name f is) (all ts refl) e
+
+    branched_fits : (x a b : TypedFormula) (t : TypedFormula) → Fits x → Fits a → Fits b → branched x a b ≡ Some t → Fits t
+    branched_fits x a b t fits first second is = go (same_ty x.ty types.Bool) (same_ty a.ty b.ty) refl refl is
+      where
+        whole : Option TypedFormula
+        whole = typed_as (model.If x.formula a.formula b.formula) a.ty
+
+        go : (p q : Bool) → same_ty x.ty types.Bool ≡ p → same_ty a.ty b.ty ≡ q → cond p (cond q whole None) None ≡ Some t → Fits t
+        go true true test same e =
+            let truth : FormulaFits known names bounds x.formula types.Bool = subst (λ u. FormulaFits known names bounds x.formula u) (ty_true x.ty types.Bool test) fits in
+            let other : FormulaFits known names bounds b.formula a.ty = subst (λ u. FormulaFits known names bounds b.formula u) (sym (ty_true a.ty b.ty same)) second in
+            subst Fits (some_is _ t e) (truth, first, other)
+        go true false test same e = absurd (cc)
+        go false q test same e = absurd (cc)
+
+    if_fits : (x a b : Option TypedFormula) (t : TypedFormula) → ((u : TypedFormula) → x ≡ Some u → Fits u)
+        → ((u : TypedFormula) → a ≡ Some u → Fits u) → ((u : TypedFormula) → b ≡ Some u → Fits u)
+        → and_then x (λ x. and_then a (λ a. and_then b (λ b. branched x a b))) ≡ Some t → Fits t
+    if_fits None a b t test first second e = absurd (cc)
+    if_fits (Some x) None b t test first second e = absurd (cc)
+    if_fits (Some x) (Some a) None t test first second e = absurd (cc)
+    if_fits (Some x) (Some a) (Some b) t test first second e = branched_fits x a b t (test x refl) (first a refl) (second b refl) e
+
+    joined_fits : (f : Formula) (u : Ty) (t : TypedFormula) → FormulaFits known names bounds f u → join_of (record { formula = f; ty = u }) u ≡ Some t → Fits t
+    joined_fits f (types.Node b) t fits e = subst Fits (some_is _ t e) (b, fits, refl)
+    joined_fits f u t fits e = absurd (cc)
+
+    join_fits : (o : Option TypedFormula) (t : TypedFormula) → ((u : TypedFormula) → o ≡ Some u → Fits u)
+        → and_then o (λ c. join_of c c.ty) ≡ Some t → Fits t
+    join_fits None t fits e = absurd (cc)
+    join_fits (Some c) t fits e = joined_fits c.formula c.ty t (fits c refl) e
+
+    -- a bind, where the body fits for whatever type the left has
+    bind_fits : (left : Option TypedFormula) (body : TypedFormula → Option TypedFormula) (t : TypedFormula)
+        → ((l : TypedFormula) → left ≡ Some l → Fits l)
+        → ((l b : TypedFormula) → body l ≡ Some b → FormulaFits known names (l.ty ∷ bounds) b.formula b.ty)
+        → and_then left (λ l. and_then (body l) (λ b. typed_as (model.Bind l.formula b.formula) b.ty)) ≡ Some t → Fits t
+    bind_fits None body t first second e = absurd (cc)
+    bind_fits (Some l) body t first second e = go (body l) (λ b is. second l b is) e
+      where
+        go : (o : Option TypedFormula) → ((b : TypedFormula) → o ≡ Some b → FormulaFits known names (l.ty ∷ bounds) b.formula b.ty)
+            → and_then o (λ b. typed_as (model.Bind l.formula b.formula) b.ty) ≡ Some t → Fits t
+        go None within e = absurd (cc)
+        go (Some b) within e = subst Fits (some_is _ t e) (l.ty, first l refl, within b refl)
+
+    more_fit : (first : Option TypedFormula) (rest : Option TypedFormulas) (ts : TypedFormulas) → ((t : TypedFormula) → first ≡ Some t → Fits t)
+        → ((us : TypedFormulas) → rest ≡ Some us → AllFit us) → and_then first (λ t. and_then rest (λ us. Some (before t us))) ≡ Some ts → AllFit ts
+    more_fit None rest ts one others e = absurd (cc)
+    more_fit (Some t) None ts one others e = absurd (cc)
+    more_fit (Some t) (Some us) ts one others e = subst AllFit (some_is (before t us) ts e) (one t refl, others us refl)
+
+  -- the types of variables
+  abbrev tys_of : List Bound → List Ty
+  tys_of bounds = map (λ (b : Bound). b.ty) bounds
+
+  -- a name, where the rest are the variables from the k-th on
+  named_fits : (bounds : List Bound) (name : List ℕ) (k : ℕ) (rest : List Bound) (t : TypedFormula)
+      → ((i : ℕ) → slice_get (tys_of bounds) (k + i) ≡ slice_get (tys_of rest) i)
+      → typed_name names name k rest ≡ Some t → Fits (tys_of bounds) t
+  named_fits bounds name k [] t same e = mentioned_fits (tys_of bounds) name (find_declared names name) t refl e
+  named_fits bounds name k (b ∷ rest) t same e = go (bytes_eq name b.name) (named_fits bounds name (k + 1) rest t further) e
     where
-      go : (b : Bool) → same_types f.sig.takes ts.tys ≡ b → cond b (typed_as (model.Apply f ts.formulas) f.sig.gives) None ≡ Some t → Fits t
-      go true same e =
-          let takes : ts.tys ≡ f.sig.takes = sym (types_true f.sig.takes ts.tys same) in
-          let whole = some_is _ t e in
-          subst Fits whole (function, subst (λ tys. ArgumentsFit known names ts.formulas tys) takes all, refl)
-      go false same e = absurd (cc)
+      here : slice_get (tys_of bounds) k ≡ Some b.ty
+      here = rw add-zero at (same 0)
 
-  written_fits : (literal : Literal) (o : Option TypedValue) (t : TypedFormula)
-      → ((x : TypedValue) → o ≡ Some x → ValueFits names x.value x.ty)
-      → and_then o (λ v. typed_as (model.Literal v.value) v.ty) ≡ Some t → Fits t
-  written_fits literal None t fits e = absurd (cc)
-  written_fits literal (Some x) t fits e = subst Fits (some_is _ t e) (fits x refl)
+      further : (i : ℕ) → slice_get (tys_of bounds) (k + 1 + i) ≡ slice_get (tys_of rest) i
+      further i = let e : k + 1 + i ≡ k + suc i = omega arith in rw e (same (suc i))
 
-  mentioned_fits : (name : List ℕ) (found : Option Declared) (t : TypedFormula) → find_declared names name ≡ found
-      → and_then found (λ d. typed_as (model.Name d.target) d.ty) ≡ Some t → Fits t
-  mentioned_fits name None t is e = absurd (cc)
-  mentioned_fits name (Some d) t is e = subst Fits (some_is _ t e) (name_fits names earlier name d is)
+      go : (x : Bool) → (typed_name names name (k + 1) rest ≡ Some t → Fits (tys_of bounds) t)
+          → cond x (typed_as (model.Bound k) b.ty) (typed_name names name (k + 1) rest) ≡ Some t → Fits (tys_of bounds) t
+      go true later is = subst (Fits (tys_of bounds)) (some_is _ t is) here
+      go false later is = later is
 
-  call_fits : (name : List ℕ) (found : Option FnRef) (each : Option TypedFormulas) (t : TypedFormula) → F.named name ≡ found
-      → ((ts : TypedFormulas) → each ≡ Some ts → AllFit ts) → and_then found (λ f. and_then each (λ ts. applied f ts)) ≡ Some t → Fits t
-  call_fits name None each t is all e = absurd (cc)
-  call_fits name (Some f) None t is all e = absurd (cc)
-  call_fits name (Some f) (Some ts) t is all e = applied_fits f ts t (maps name f is) (all ts refl) e
-
-  -- where all types are one, each argument fits as an element
-  all_elements : (t : Ty) (fs : model.Formulas) (tys : List Ty) → are_all t tys ≡ true → ArgumentsFit known names fs tys
-      → ElementsFit known names fs t
-  all_elements t model.End tys same all = tt
-  all_elements t (model.More f fs) [] same all = absurd all
-  all_elements t (model.More f fs) (u ∷ tys) same all = go (same_ty t u) refl same (λ rest. all_elements t fs tys rest all.1)
-    where
-      go : (b : Bool) → same_ty t u ≡ b → not (not b || list_any (λ u. not (same_ty t u)) tys) ≡ true
-          → (are_all t tys ≡ true → ElementsFit known names fs t) → ElementsFit known names (model.More f fs) t
-      go true is same others = (subst (λ v. FormulaFits known names f v) (sym (ty_true t u is)) all.0, others same)
-      go false is same others = absurd (cc)
-
-  folded_fits : (f : FnRef) (first : Literal) (ts : TypedFormulas) (t : TypedFormula) → FunctionFits known f → AllFit ts
-      → folded names f first ts ≡ Some t → Fits t
-  folded_fits f first ts t function all is = over (element_of f f.sig.takes) refl is
-    where
-      over : (element : Option Ty) → element_of f f.sig.takes ≡ element
-          → and_then element (λ u. and_then (literal_of_type names f.sig.gives first) (λ v.
-          cond (are_all u ts.tys) (typed_as (model.Fold f v ts.formulas) f.sig.gives) None)) ≡ Some t → Fits t
-      over None at e = absurd (cc)
-      over (Some u) at e = from (literal_of_type names f.sig.gives first) (λ v is. (literal_fits names earlier f.sig.gives first v is).0) e
-        where
-          from : (o : Option Value) → ((v : Value) → o ≡ Some v → type_of v ≡ f.sig.gives)
-              → and_then o (λ v. cond (are_all u ts.tys) (typed_as (model.Fold f v ts.formulas) f.sig.gives) None) ≡ Some t → Fits t
-          from None fits e = absurd (cc)
-          from (Some v) fits e = each (are_all u ts.tys) refl e
-            where
-              each : (b : Bool) → are_all u ts.tys ≡ b → cond b (typed_as (model.Fold f v ts.formulas) f.sig.gives) None ≡ Some t → Fits t
-              each true same e =
-                  let elements = all_elements u ts.formulas ts.tys same all in
-                  subst Fits (some_is _ t e) (u, function, (takes_pair f f.sig.takes u at, refl), fits v refl, function.signature.2, elements)
-              each false same e = absurd (cc)
-
-  fold_fits : (name : List ℕ) (first : Literal) (found : Option FnRef) (each : Option TypedFormulas) (t : TypedFormula)
-      → F.named name ≡ found → ((ts : TypedFormulas) → each ≡ Some ts → AllFit ts)
-      → and_then found (λ f. and_then each (λ ts. folded names f first ts)) ≡ Some t → Fits t
-  fold_fits name first None each t is all e = absurd (cc)
-  fold_fits name first (Some f) None t is all e = absurd (cc)
-  fold_fits name first (Some f) (Some ts) t is all e = folded_fits f first ts t (maps name f is) (all ts refl) e
-
-  branched_fits : (x a b : TypedFormula) (t : TypedFormula) → Fits x → Fits a → Fits b → branched x a b ≡ Some t → Fits t
-  branched_fits x a b t fits first second is = go (same_ty x.ty types.Bool) (same_ty a.ty b.ty) refl refl is
-    where
-      whole : Option TypedFormula
-      whole = typed_as (model.If x.formula a.formula b.formula) a.ty
-
-      go : (p q : Bool) → same_ty x.ty types.Bool ≡ p → same_ty a.ty b.ty ≡ q → cond p (cond q whole None) None ≡ Some t → Fits t
-      go true true test same e =
-          let truth : FormulaFits known names x.formula types.Bool = subst (λ u. FormulaFits known names x.formula u) (ty_true x.ty types.Bool test) fits in
-          let other : FormulaFits known names b.formula a.ty = subst (λ u. FormulaFits known names b.formula u) (sym (ty_true a.ty b.ty same)) second in
-          subst Fits (some_is _ t e) (truth, first, other)
-      go true false test same e = absurd (cc)
-      go false q test same e = absurd (cc)
-
-  if_fits : (x a b : Option TypedFormula) (t : TypedFormula) → ((u : TypedFormula) → x ≡ Some u → Fits u)
-      → ((u : TypedFormula) → a ≡ Some u → Fits u) → ((u : TypedFormula) → b ≡ Some u → Fits u)
-      → and_then x (λ x. and_then a (λ a. and_then b (λ b. branched x a b))) ≡ Some t → Fits t
-  if_fits None a b t test first second e = absurd (cc)
-  if_fits (Some x) None b t test first second e = absurd (cc)
-  if_fits (Some x) (Some a) None t test first second e = absurd (cc)
-  if_fits (Some x) (Some a) (Some b) t test first second e = branched_fits x a b t (test x refl) (first a refl) (second b refl) e
-
-  joined_fits : (f : Formula) (u : Ty) (t : TypedFormula) → FormulaFits known names f u → join_of (record { formula = f; ty = u }) u ≡ Some t → Fits t
-  joined_fits f (types.Node b) t fits e = subst Fits (some_is _ t e) (b, fits, refl)
-  joined_fits f u t fits e = absurd (cc)
-
-  join_fits : (o : Option TypedFormula) (t : TypedFormula) → ((u : TypedFormula) → o ≡ Some u → Fits u)
-      → and_then o (λ c. join_of c c.ty) ≡ Some t → Fits t
-  join_fits None t fits e = absurd (cc)
-  join_fits (Some c) t fits e = joined_fits c.formula c.ty t (fits c refl) e
-
-  more_fit : (first : Option TypedFormula) (rest : Option TypedFormulas) (ts : TypedFormulas) → ((t : TypedFormula) → first ≡ Some t → Fits t)
-      → ((us : TypedFormulas) → rest ≡ Some us → AllFit us) → and_then first (λ t. and_then rest (λ us. Some (before t us))) ≡ Some ts → AllFit ts
-  more_fit None rest ts one others e = absurd (cc)
-  more_fit (Some t) None ts one others e = absurd (cc)
-  more_fit (Some t) (Some us) ts one others e = subst AllFit (some_is (before t us) ts e) (one t refl, others us refl)
+  from_zero : (tys : List Ty) (i : ℕ) → slice_get tys (0 + i) ≡ slice_get tys i
+  from_zero tys i = let e : 0 + i ≡ i = omega arith in rw e refl
 
   mutual
-    typed_fits : (tree : Tree) → is_plain tree ≡ true → (t : TypedFormula) → typed F names [] tree ≡ Some t → Fits t
-    typed_fits (grammar.Literal literal) plain t e = written_fits literal (typed_literal names literal) t
-        (λ x is. typed_value_fits names earlier literal x is) e
-    typed_fits (grammar.Name name) plain t e = mentioned_fits name (find_declared names name) t refl e
-    typed_fits (Call function arguments) plain t e =
-        call_fits function (F.named function) (typed_each F names [] arguments) t refl (typed_each_fit arguments plain) e
-    typed_fits (If test a b) plain t e =
+    typed_fits : (bounds : List Bound) (tree : Tree) → is_plain tree ≡ true → (t : TypedFormula) → typed F names bounds tree ≡ Some t
+        → Fits (tys_of bounds) t
+    typed_fits bounds (grammar.Literal literal) plain t e =
+        written_fits (tys_of bounds) literal (typed_literal names literal) t (λ x is. typed_value_fits names earlier literal x is) e
+    typed_fits bounds (grammar.Name name) plain t e = named_fits bounds name 0 bounds t (λ i. from_zero (tys_of bounds) i) e
+    typed_fits bounds (Call function arguments) plain t e =
+        call_fits (tys_of bounds) function (F.named function) (typed_each F names bounds arguments) t refl (typed_each_fit bounds arguments plain) e
+    typed_fits bounds (If test a b) plain t e =
         let all = three_true (is_plain test) (is_plain a) (is_plain b) plain in
-        if_fits (typed F names [] test) (typed F names [] a) (typed F names [] b) t (typed_fits test all.0) (typed_fits a all.1) (typed_fits b all.2) e
-    typed_fits (Join child) plain t e = join_fits (typed F names [] child) t (typed_fits child plain) e
-    typed_fits (Fold function first elements) plain t e =
-        fold_fits function first (F.named function) (typed_each F names [] elements) t refl (typed_each_fit elements plain) e
-    typed_fits _ plain t e = absurd (cc)
+        if_fits (tys_of bounds) (typed F names bounds test) (typed F names bounds a) (typed F names bounds b) t
+        (typed_fits bounds test all.0) (typed_fits bounds a all.1) (typed_fits bounds b all.2) e
+    typed_fits bounds (Bind variable left body) plain t e =
+        let both = both_true (is_plain left) (is_plain body) plain in
+        bind_fits (tys_of bounds) (typed F names bounds left) (λ l. typed F names (record { name = variable; ty = l.ty } ∷ bounds) body) t
+        (typed_fits bounds left both.0) (λ l b is. typed_fits (record { name = variable; ty = l.ty } ∷ bounds) body both.1 b is) e
+    typed_fits bounds (Join child) plain t e = join_fits (tys_of bounds) (typed F names bounds child) t (typed_fits bounds child plain) e
+    typed_fits bounds (Fold function first elements) plain t e =
+        fold_fits (tys_of bounds) function first (F.named function) (typed_each F names bounds elements) t refl
+        (typed_each_fit bounds elements plain) e
+    typed_fits bounds _ plain t e = absurd (cc)
 
-    typed_each_fit : (trees : Trees) → are_plain trees ≡ true → (ts : TypedFormulas) → typed_each F names [] trees ≡ Some ts → AllFit ts
-    typed_each_fit End plain ts e = subst AllFit (some_is _ ts e) tt
-    typed_each_fit (More first rest) plain ts e =
+    typed_each_fit : (bounds : List Bound) (trees : Trees) → are_plain trees ≡ true → (ts : TypedFormulas)
+        → typed_each F names bounds trees ≡ Some ts → AllFit (tys_of bounds) ts
+    typed_each_fit bounds End plain ts e = subst (AllFit (tys_of bounds)) (some_is _ ts e) tt
+    typed_each_fit bounds (More first rest) plain ts e =
         let both = both_true (is_plain first) (are_plain rest) plain in
-        more_fit (typed F names [] first) (typed_each F names [] rest) ts (typed_fits first both.0) (typed_each_fit rest both.1) e
+        more_fit (tys_of bounds) (typed F names bounds first) (typed_each F names bounds rest) ts (typed_fits bounds first both.0)
+        (typed_each_fit bounds rest both.1) e
 
   -- ---- commands
 
   abbrev Stands : Line → Reason → Bool
   Stands l = is_against F names l
 
-  target_fits : (formula : Formula) (t : Ty) → FormulaFits known names formula t
+  target_fits : (formula : Formula) (t : Ty) → FormulaFits known names [] formula t
       → target_of_body (length names.declared) (model.Computed formula nothing_kept) ≤ length names.declared
   target_fits (model.Literal v) t h = omega arith
   target_fits (model.Name n) t h = omega (arith, h.earlier)
@@ -268,6 +317,8 @@ module _ (F : Meanings) (known : FnRef → Bool) (names : Names) (earlier : AreE
   target_fits (model.Fold f first elements) t h = omega arith
   target_fits (model.If test a b) t h = omega arith
   target_fits (model.Join child) t h = omega arith
+  target_fits (model.Bound k) t h = omega arith
+  target_fits (model.Bind left body) t h = omega arith
   target_fits _ t h = absurd h
 
   fresh : (name : List ℕ) → (is_some (find_declared names name) || false) ≡ false → first_named name names.declared ≡ None
@@ -300,13 +351,22 @@ module _ (F : Meanings) (known : FnRef → Bool) (names : Names) (earlier : AreE
           })
 
   let_fits : (name : List ℕ) (tree : Tree) (result : Option TypedFormula) (c : Command) → first_named name names.declared ≡ None
-      → ((t : TypedFormula) → result ≡ Some t → Fits t)
+      → ((t : TypedFormula) → result ≡ Some t → Fits [] t)
       → and_then (and_then result (λ t. body_as (model.Computed t.formula nothing_kept) t.ty)) (λ t. Some (Declare name t.ty t.body)) ≡ Some c
       → FitsNames known names c
   let_fits name tree None c none all e = absurd (cc)
   let_fits name tree (Some t) c none all e =
       subst (FitsNames known names) (some_is (Declare name t.ty (model.Computed t.formula nothing_kept)) c e)
       (record { fresh = none; body_fits = (all t refl, refl); earlier = target_fits t.formula t.ty (all t refl) })
+
+  grab_fits : (name bind : List ℕ) (found : Option Declared) (c : Command) → first_named name names.declared ≡ None
+      → find_declared names bind ≡ found
+      → is_bind (and_then found (λ d. and_then (slice_get names.declared d.target) (λ t. Some t.kind))) ≡ true
+      → and_then found (λ b. Some (Take name b.ty b.target)) ≡ Some c → FitsNames known names c
+  grab_fits name bind None c none is kind e = absurd (cc)
+  grab_fits name bind (Some d) c none is kind e =
+      subst (FitsNames known names) (some_is (Take name d.ty d.target) c e)
+      (record { fresh = none; bind_fits = name_fits names earlier bind d is; is_bind = kind })
 
   observe_fits : (observer name : List ℕ) (found : Option Declared) (c : Command) → find_declared names name ≡ found
       → is_among names.observers observer ≡ false
@@ -332,7 +392,13 @@ module _ (F : Meanings) (known : FnRef → Bool) (names : Names) (earlier : AreE
       let top = plain_top F names tree plain in
       let allowed : and_then (and_then (typed F names [] tree) (λ t. body_as (model.Computed t.formula nothing_kept) t.ty))
       (λ t. Some (Declare name t.ty t.body)) ≡ Some c = rw (← top) e in
-      let_fits name tree (typed F names [] tree) c (fresh name taken) (typed_fits tree plain) allowed
+      let_fits name tree (typed F names [] tree) c (fresh name taken) (typed_fits [] tree plain) allowed
+  check_fits (grammar.Grab name bind) c plain none e =
+      let taken = none_holds (Stands (grammar.Grab name bind)) line_order NameTaken none (inl refl) in
+      let other = none_holds (Stands (grammar.Grab name bind)) line_order NotBind none (inr (inr (inr (inr (inr (inr (inr (inl refl)))))))) in
+      let kind : is_bind (kind_of names bind) ≡ true =
+      not_false (is_bind (kind_of names bind)) (or_false (not (is_bind (kind_of names bind))) other) in
+      grab_fits name bind (find_declared names bind) c (fresh name taken) refl kind e
   check_fits (grammar.Observe observer name) c plain none e =
       let taken = none_holds (Stands (grammar.Observe observer name)) line_order ObserverTaken none (inr (inl refl)) in
       observe_fits observer name (find_declared names name) c refl (or_false (is_among names.observers observer) taken) e

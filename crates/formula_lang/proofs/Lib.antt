@@ -3,3 +3,4 @@ mod Listing
 mod Plainness
 mod Table
 mod TypedArguments
+mod Variables

@@ -1,13 +1,14 @@
--- Lines of today's forms, and the rows of the table of refusals that never hold for them.
-use Rattle.std.proofs.Common.{◌≡◌, ℕ, None, Bool, true, false, ◌&&◌, ◌||◌, List, [], ◌∷◌, ◌++◌, drop, refl, ap, sym, ◌∙◌, flat_map}
+-- Lines of forms that are here, and the rows of the table of refusals that never hold for them.
+use Rattle.std.proofs.Common.{◌≡◌, ℕ, Option, None, Some, Bool, true, false, ◌&&◌, ◌||◌, List, [], ◌∷◌, ◌++◌, drop, refl, ap, sym, ◌∙◌, cond, flat_map}
 use Rattle.std.proofs.lemmas.Grind.{flat_map-append}
 use Rattle.std.proofs.lemmas.List.Folds.{list_any-append}
 use Rattle.std.specs.List.{list_any}
-use Rattle.script_model.specs.Check.{Names, NotWhole, NotBind, NotExpert, TimeTooLarge, TimesNotRising, SpanIsZero, BackInTime, has_falling_times, is_against, is_empty_interval, is_top_form, own_literals, own_times, read_names, mentioned, mentioned_in_all, own_functions, referred_names, spans_of, trees_in, trees_in_all, typed, typed_each, typed_top, body_as}
+use Rattle.script_model.specs.Check.{Names, Bound, TypedFormula, NotWhole, NotExpert, TimeTooLarge, TimesNotRising, SpanIsZero, BackInTime, has_falling_times, is_against, is_among, is_empty_interval, is_top_form, own_literals, own_times, read_names, mentioned, mentioned_in_all, own_functions, referred_names, spans_of, trees_in, trees_in_all, typed, typed_as, typed_each, typed_top, body_as}
 use Rattle.inc_value.specs.Choice.{Every, and_then}
+use Rattle.script_model.specs.Formula as model
 use Rattle.script_model.specs.Formula.{Computed, Meanings, nothing_kept}
 use Rattle.script_model.specs.Grammar as grammar
-use Rattle.script_model.specs.Grammar.{Line, Tree, Trees, Call, If, Join, Fold, End, More, Var, Set, Let, Observe, Unobserve, Show, Stabilize}
+use Rattle.script_model.specs.Grammar.{Line, Tree, Trees, Call, If, Bind, Join, Fold, End, More, Var, Set, Let, Grab, Observe, Unobserve, Show, Stabilize}
 use Rattle.script_model.specs.Here.{is_here, is_plain, are_plain}
 use Rattle.formula_lang.specs.Here.{functions_here, functions_here_in_all, names_here, names_here_in_all, typed_each_here, typed_here}
 use Rattle.line_parser.specs.TreeView.{frozen}
@@ -27,17 +28,18 @@ none_frozen : {A : Type 0} (what : Tree → A) (none : A) → ((child : Tree) (n
 none_frozen what none h child name [] = h child name
 none_frozen what none h child name (next ∷ names) = none_frozen what none h (grammar.Freeze child name) next names
 
-pub no_names_frozen : (child : Tree) (name : List ℕ) (names : List (List ℕ)) → names_here (frozen child (name ∷ names)) ≡ []
-no_names_frozen = none_frozen names_here [] (λ child name. refl)
+pub no_names_frozen : (variables : List (List ℕ)) (child : Tree) (name : List ℕ) (names : List (List ℕ))
+    → names_here variables (frozen child (name ∷ names)) ≡ []
+no_names_frozen variables = none_frozen (names_here variables) [] (λ child name. refl)
 
 pub no_functions_frozen : (child : Tree) (name : List ℕ) (names : List (List ℕ)) → functions_here (frozen child (name ∷ names)) ≡ []
 no_functions_frozen = none_frozen functions_here [] (λ child name. refl)
 
-pub not_typed_frozen : (F : Meanings) (declared : Names) (child : Tree) (name : List ℕ) (names : List (List ℕ))
-    → typed_here F declared (frozen child (name ∷ names)) ≡ None
-not_typed_frozen F declared = none_frozen (typed_here F declared) None (λ child name. refl)
+pub not_typed_frozen : (F : Meanings) (declared : Names) (bounds : List Bound) (child : Tree) (name : List ℕ) (names : List (List ℕ))
+    → typed_here F declared bounds (frozen child (name ∷ names)) ≡ None
+not_typed_frozen F declared bounds = none_frozen (typed_here F declared bounds) None (λ child name. refl)
 
--- ---- what the code tells of a formula of today's forms
+-- ---- what the code tells of a formula of forms that are here
 
 -- a test with two sides
 pub three_true : (a b c : Bool) → (a && b && c) ≡ true → (a ≡ true) × (b ≡ true) × (c ≡ true)
@@ -53,6 +55,9 @@ mutual
       flat_map-append own_functions (trees_in test ++ trees_in a) (trees_in b)
       ∙ ap (λ fs. fs ++ flat_map own_functions (trees_in b)) (flat_map-append own_functions (trees_in test) (trees_in a))
       ∙ rw (calls_here test all.0, calls_here a all.1, calls_here b all.2) refl
+  calls_here (Bind variable left body) h =
+      let both = both_true (is_plain left) (is_plain body) h in
+      flat_map-append own_functions (trees_in left) (trees_in body) ∙ rw (calls_here left both.0, calls_here body both.1) refl
   calls_here (Join child) h = calls_here child h
   calls_here (Fold function first elements) h = ap (λ fs. function ∷ fs) (call_here elements h)
   calls_here _ h = absurd (cc)
@@ -63,31 +68,49 @@ mutual
       let both = both_true (is_plain first) (are_plain rest) h in
       flat_map-append own_functions (trees_in first) (trees_in_all rest) ∙ rw (calls_here first both.0, call_here rest both.1) refl
 
+-- what follows is the same
+then_same : {A B : Type 0} (o : Option A) (f g : A → Option B) → ((x : A) → f x ≡ g x) → and_then o f ≡ and_then o g
+then_same None f g same = refl
+then_same (Some x) f g same = same x
+
+-- the variables within a bind of this left
+abbrev within : List ℕ → List Bound → TypedFormula → List Bound
+within variable bounds l = record { name = variable; ty = l.ty } ∷ bounds
+
 module _ (F : Meanings) (names : Names) where
   mutual
-    pub types_here : (t : Tree) → is_plain t ≡ true → typed F names [] t ≡ typed_here F names t
-    types_here (grammar.Literal l) h = refl
-    types_here (grammar.Name name) h = refl
-    types_here (Call function arguments) h = rw (type_here arguments h) refl
-    types_here (If test a b) h =
-        let all = three_true (is_plain test) (is_plain a) (is_plain b) h in rw (types_here test all.0, types_here a all.1, types_here b all.2) refl
-    types_here (Join child) h = rw (types_here child h) refl
-    types_here (Fold function first elements) h = rw (type_here elements h) refl
-    types_here _ h = absurd (cc)
+    pub types_here : (bounds : List Bound) (t : Tree) → is_plain t ≡ true → typed F names bounds t ≡ typed_here F names bounds t
+    types_here bounds (grammar.Literal l) h = refl
+    types_here bounds (grammar.Name name) h = refl
+    types_here bounds (Call function arguments) h = rw (type_here bounds arguments h) refl
+    types_here bounds (If test a b) h =
+        let all = three_true (is_plain test) (is_plain a) (is_plain b) h in
+        rw (types_here bounds test all.0, types_here bounds a all.1, types_here bounds b all.2) refl
+    types_here bounds (Bind variable left body) h =
+        let both = both_true (is_plain left) (is_plain body) h in
+        rw (types_here bounds left both.0) (then_same (typed_here F names bounds left)
+        (λ l. and_then (typed F names (within variable bounds l) body) (λ b. typed_as (model.Bind l.formula b.formula) b.ty))
+        (λ l. and_then (typed_here F names (within variable bounds l) body) (λ b. typed_as (model.Bind l.formula b.formula) b.ty))
+        (λ l. rw (types_here (within variable bounds l) body both.1) refl))
+    types_here bounds (Join child) h = rw (types_here bounds child h) refl
+    types_here bounds (Fold function first elements) h = rw (type_here bounds elements h) refl
+    types_here bounds _ h = absurd (cc)
 
-    type_here : (ts : Trees) → are_plain ts ≡ true → typed_each F names [] ts ≡ typed_each_here F names ts
-    type_here End h = refl
-    type_here (More first rest) h =
-        let both = both_true (is_plain first) (are_plain rest) h in rw (types_here first both.0, type_here rest both.1) refl
+    type_here : (bounds : List Bound) (ts : Trees) → are_plain ts ≡ true → typed_each F names bounds ts ≡ typed_each_here F names bounds ts
+    type_here bounds End h = refl
+    type_here bounds (More first rest) h =
+        let both = both_true (is_plain first) (are_plain rest) h in
+        rw (types_here bounds first both.0, type_here bounds rest both.1) refl
 
 -- ---- the formulas in one
 
--- a literal, a name, a function, a test with two sides, a join, a fold
+-- a literal, a name, a function, a test with two sides, a bind, a join, a fold
 abbrev is_plain_head : Tree → Bool
 is_plain_head (grammar.Literal l) = true
 is_plain_head (grammar.Name name) = true
 is_plain_head (Call function arguments) = true
 is_plain_head (If test a b) = true
+is_plain_head (Bind variable left body) = true
 is_plain_head (Join child) = true
 is_plain_head (Fold function first elements) = true
 is_plain_head tree = false
@@ -110,6 +133,9 @@ mutual
         plain_append (trees_in test ++ trees_in a) (trees_in b) (plain_append (trees_in test) (trees_in a) (heads test all.0) (heads a all.1))
             (heads b all.2),
       )
+  heads (Bind variable left body) h =
+      let both = both_true (is_plain left) (is_plain body) h in
+      (refl, plain_append (trees_in left) (trees_in body) (heads left both.0) (heads body both.1))
   heads (Join child) h = (refl, heads child h)
   heads (Fold function first elements) h = (refl, heads_all elements h)
   heads _ h = absurd (cc)
@@ -140,6 +166,7 @@ no_top (grammar.Literal l) h = refl
 no_top (grammar.Name name) h = refl
 no_top (Call function arguments) h = refl
 no_top (If test a b) h = refl
+no_top (Bind variable left body) h = refl
 no_top (Join child) h = refl
 no_top (Fold function first elements) h = refl
 no_top _ h = absurd (cc)
@@ -149,6 +176,7 @@ no_times (grammar.Literal l) h = refl
 no_times (grammar.Name name) h = refl
 no_times (Call function arguments) h = refl
 no_times (If test a b) h = refl
+no_times (Bind variable left body) h = refl
 no_times (Join child) h = refl
 no_times (Fold function first elements) h = refl
 no_times _ h = absurd (cc)
@@ -158,6 +186,7 @@ no_falling (grammar.Literal l) h = refl
 no_falling (grammar.Name name) h = refl
 no_falling (Call function arguments) h = refl
 no_falling (If test a b) h = refl
+no_falling (Bind variable left body) h = refl
 no_falling (Join child) h = refl
 no_falling (Fold function first elements) h = refl
 no_falling _ h = absurd (cc)
@@ -167,6 +196,7 @@ no_interval (grammar.Literal l) h = refl
 no_interval (grammar.Name name) h = refl
 no_interval (Call function arguments) h = refl
 no_interval (If test a b) h = refl
+no_interval (Bind variable left body) h = refl
 no_interval (Join child) h = refl
 no_interval (Fold function first elements) h = refl
 no_interval _ h = absurd (cc)
@@ -176,6 +206,7 @@ no_span name (grammar.Literal l) h = refl
 no_span name (grammar.Name n) h = refl
 no_span name (Call function arguments) h = refl
 no_span name (If test a b) h = refl
+no_span name (Bind variable left body) h = refl
 no_span name (Join child) h = refl
 no_span name (Fold function first elements) h = refl
 no_span name _ h = absurd (cc)
@@ -223,33 +254,41 @@ module _ (test : List ℕ → Bool) where
       (four (passes m) (passes (referred_in xs)) (passes n) (passes (referred_in ys)))
 
   mutual
-    reads_any : (t : Tree) → is_plain t ≡ true → passes (names_here t) ≡ (passes (mentioned [] t) || passes (referred_in (trees_in t)))
-    reads_any (grammar.Literal l) h = ap passes (sym (nothing_behind (referred_names l)))
-    reads_any (grammar.Name name) h = sym (or_nothing (test name || false))
-    reads_any (Call function arguments) h = read_any arguments h
-    reads_any (If t a b) h =
+    reads_any : (variables : List (List ℕ)) (t : Tree) → is_plain t ≡ true
+        → passes (names_here variables t) ≡ (passes (mentioned variables t) || passes (referred_in (trees_in t)))
+    reads_any variables (grammar.Literal l) h = ap passes (sym (nothing_behind (referred_names l)))
+    reads_any variables (grammar.Name name) h = sym (or_nothing (passes (cond (is_among variables name) [] (name ∷ []))))
+    reads_any variables (Call function arguments) h = read_any variables arguments h
+    reads_any variables (If t a b) h =
         let all = three_true (is_plain t) (is_plain a) (is_plain b) h in
-        two_parts (names_here t ++ names_here a) (mentioned [] t ++ mentioned [] a) (names_here b) (mentioned [] b) (trees_in t ++ trees_in a)
-        (trees_in b)
-        (two_parts (names_here t) (mentioned [] t) (names_here a) (mentioned [] a) (trees_in t) (trees_in a) (reads_any t all.0) (reads_any a all.1))
-        (reads_any b all.2)
-    reads_any (Join child) h = reads_any child h
-    reads_any (Fold function first elements) h =
-        list_any-append test (referred_names first) (names_here_in_all elements)
-        ∙ rw (read_any elements h, list_any-append test (referred_names first) (referred_in (trees_in_all elements)))
-        (three (passes (referred_names first)) (passes (mentioned_in_all [] elements)) (passes (referred_in (trees_in_all elements))))
-    reads_any _ h = absurd (cc)
+        two_parts (names_here variables t ++ names_here variables a) (mentioned variables t ++ mentioned variables a) (names_here variables b)
+        (mentioned variables b) (trees_in t ++ trees_in a) (trees_in b)
+        (two_parts (names_here variables t) (mentioned variables t) (names_here variables a) (mentioned variables a) (trees_in t) (trees_in a)
+        (reads_any variables t all.0) (reads_any variables a all.1))
+        (reads_any variables b all.2)
+    reads_any variables (Bind variable left body) h =
+        let both = both_true (is_plain left) (is_plain body) h in
+        two_parts (names_here variables left) (mentioned variables left) (names_here (variable ∷ variables) body)
+        (mentioned (variable ∷ variables) body) (trees_in left) (trees_in body)
+        (reads_any variables left both.0) (reads_any (variable ∷ variables) body both.1)
+    reads_any variables (Join child) h = reads_any variables child h
+    reads_any variables (Fold function first elements) h =
+        list_any-append test (referred_names first) (names_here_in_all variables elements)
+        ∙ rw (read_any variables elements h, list_any-append test (referred_names first) (referred_in (trees_in_all elements)))
+        (three (passes (referred_names first)) (passes (mentioned_in_all variables elements)) (passes (referred_in (trees_in_all elements))))
+    reads_any variables _ h = absurd (cc)
 
-    read_any : (ts : Trees) → are_plain ts ≡ true
-        → passes (names_here_in_all ts) ≡ (passes (mentioned_in_all [] ts) || passes (referred_in (trees_in_all ts)))
-    read_any End h = refl
-    read_any (More first rest) h =
+    read_any : (variables : List (List ℕ)) (ts : Trees) → are_plain ts ≡ true
+        → passes (names_here_in_all variables ts) ≡ (passes (mentioned_in_all variables ts) || passes (referred_in (trees_in_all ts)))
+    read_any variables End h = refl
+    read_any variables (More first rest) h =
         let both = both_true (is_plain first) (are_plain rest) h in
-        two_parts (names_here first) (mentioned [] first) (names_here_in_all rest) (mentioned_in_all [] rest) (trees_in first) (trees_in_all rest)
-        (reads_any first both.0) (read_any rest both.1)
+        two_parts (names_here variables first) (mentioned variables first) (names_here_in_all variables rest) (mentioned_in_all variables rest)
+        (trees_in first) (trees_in_all rest)
+        (reads_any variables first both.0) (read_any variables rest both.1)
 
-  pub reads_here : (name : List ℕ) (t : Tree) → is_plain t ≡ true → passes (read_names (Let name t)) ≡ passes (names_here t)
-  reads_here name t h = list_any-append test (mentioned [] t) (referred_in (trees_in t)) ∙ sym (reads_any t h)
+  pub reads_here : (name : List ℕ) (t : Tree) → is_plain t ≡ true → passes (read_names (Let name t)) ≡ passes (names_here [] t)
+  reads_here name t h = list_any-append test (mentioned [] t) (referred_in (trees_in t)) ∙ sym (reads_any [] t h)
 
 -- at the top of a `let` such a formula is one like others
 pub plain_top : (F : Meanings) (names : Names) (t : Tree) → is_plain t ≡ true
@@ -258,13 +297,14 @@ plain_top F names (grammar.Literal l) h = refl
 plain_top F names (grammar.Name name) h = refl
 plain_top F names (Call function arguments) h = refl
 plain_top F names (If test a b) h = refl
+plain_top F names (Bind variable left body) h = refl
 plain_top F names (Join child) h = refl
 plain_top F names (Fold function first elements) h = refl
 plain_top F names _ h = absurd (cc)
 
 pub top_here : (F : Meanings) (names : Names) (t : Tree) → is_plain t ≡ true
-    → typed_top F names t ≡ and_then (typed_here F names t) (λ x. body_as (Computed x.formula nothing_kept) x.ty)
-top_here F names t h = plain_top F names t h ∙ rw (types_here F names t h) refl
+    → typed_top F names t ≡ and_then (typed_here F names [] t) (λ x. body_as (Computed x.formula nothing_kept) x.ty)
+top_here F names t h = plain_top F names t h ∙ rw (types_here F names [] t h) refl
 
 -- ---- the rows that never hold
 
@@ -273,20 +313,11 @@ module _ (F : Meanings) (names : Names) where
   not_whole (Let name t) h = never_inner is_top_form no_top (trees_in t) (heads t h)
   not_whole _ h = refl
 
-  pub not_bind : (l : Line) → is_here l ≡ true → is_against F names l NotBind ≡ false
-  not_bind (Var name t first) h = refl
-  not_bind (Set name value) h = refl
-  not_bind (Let name t) h = refl
-  not_bind (Observe observer name) h = refl
-  not_bind (Unobserve observer) h = refl
-  not_bind (Show observer) h = refl
-  not_bind Stabilize h = refl
-  not_bind _ h = absurd (cc)
-
   pub not_expert : (l : Line) → is_here l ≡ true → is_against F names l NotExpert ≡ false
   not_expert (Var name t first) h = refl
   not_expert (Set name value) h = refl
   not_expert (Let name t) h = refl
+  not_expert (Grab name bind) h = refl
   not_expert (Observe observer name) h = refl
   not_expert (Unobserve observer) h = refl
   not_expert (Show observer) h = refl
@@ -297,6 +328,7 @@ module _ (F : Meanings) (names : Names) where
   no_large_time (Let name t) h = rw (nothing own_times no_times (trees_in t) (heads t h), no_span name t h) refl
   no_large_time (Var name t first) h = refl
   no_large_time (Set name value) h = refl
+  no_large_time (Grab name bind) h = refl
   no_large_time (Observe observer name) h = refl
   no_large_time (Unobserve observer) h = refl
   no_large_time (Show observer) h = refl
@@ -315,6 +347,7 @@ module _ (F : Meanings) (names : Names) where
   not_back (Var name t first) h = refl
   not_back (Set name value) h = refl
   not_back (Let name t) h = refl
+  not_back (Grab name bind) h = refl
   not_back (Observe observer name) h = refl
   not_back (Unobserve observer) h = refl
   not_back (Show observer) h = refl

@@ -35,6 +35,8 @@ formula_level (level.Apply function arguments) = formula.Apply function (formula
 formula_level (level.Fold function first elements) = formula.Fold function (constant_view first) (formulas_of elements.items)
 formula_level (level.If test a b) = formula.If test.value a.value b.value
 formula_level (level.Join child) = formula.Join child.value
+formula_level (level.Bound binds_between) = formula.Bound binds_between
+formula_level (level.Bind left body) = formula.Bind left.value body.value
 
 -- a formula with its positions
 abbrev pub formula_view : Formula → formula.Formula
@@ -48,6 +50,7 @@ body_view (declaration.Computed f) = formula.Computed (formula_view f) nothing_k
 -- a command with its positions
 abbrev pub command_view : Command → model.Command
 command_view (command.Declare name ty body) = model.Declare name ty (body_view body)
+command_view (command.Grab name ty bind) = model.Take name ty bind
 command_view (command.Assign target value) = model.Assign target (constant_view value)
 command_view (command.Observe observer target) = model.Observe observer target
 command_view (command.Unobserve observer) = model.Unobserve observer

@@ -8,9 +8,9 @@ use Rattle.inc_value.specs.declared.function.FnRef.{FnRef}
 use Rattle.inc_value.specs.declared.ty.Base.{Base}
 use Rattle.inc_value.specs.declared.ty.Ty.{Ty}
 use Rattle.inc_value.specs.declared.ty.Ty.TheVariants as types
-use Rattle.script_model.specs.Check.{Command, Declare, Assign, Observe, Unobserve, Stabilize, Show, Declared, Names, first_named, is_among, is_variable, target_of_body}
+use Rattle.script_model.specs.Check.{Command, Declare, Assign, Take, Observe, Unobserve, Stabilize, Show, Declared, Names, first_named, is_among, is_bind, is_variable, target_of_body}
 use Rattle.inc_value.specs.Choice.{and_then}
-use Rattle.script_model.specs.Formula.{Formula, Formulas, Body, Literal, Name, Apply, Fold, If, Join, End, More, Variable, Computed, nothing_kept}
+use Rattle.script_model.specs.Formula.{Formula, Formulas, Body, Literal, Name, Bound, Apply, Fold, If, Join, Bind, End, More, Variable, Computed, nothing_kept}
 use Rattle.script_model.specs.Valid.{FoldsOver}
 use Rattle.script_model.specs.Values.{Value, Reference, type_of}
 
@@ -39,34 +39,43 @@ abbrev pub ValueFits : Names → Value → Ty → Type 0
 ValueFits names v ty = (type_of v ≡ ty) × ReferenceFits names v
 
 abbrev mutual
-  -- the formula is of forms that are here and has the type, and each of its functions, names and references fits
-  pub FormulaFits : (FnRef → Bool) → Names → Formula → Ty → Type 0
-  FormulaFits known names (Literal v) ty = ValueFits names v ty
-  FormulaFits known names (Name position) ty = NameFits names position ty
-  FormulaFits known names (Apply f arguments) ty = FunctionFits known f × ArgumentsFit known names arguments f.sig.takes × (f.sig.gives ≡ ty)
-  FormulaFits known names (Fold f first elements) ty =
+  -- within binds whose variables have these types, the innermost first, the formula is of forms that are here and has the
+  -- type, and each of its functions, names and references fits
+  pub FormulaFits : (FnRef → Bool) → Names → List Ty → Formula → Ty → Type 0
+  FormulaFits known names bounds (Literal v) ty = ValueFits names v ty
+  FormulaFits known names bounds (Name position) ty = NameFits names position ty
+  FormulaFits known names bounds (Bound k) ty = slice_get bounds k ≡ Some ty
+  FormulaFits known names bounds (Apply f arguments) ty =
+      FunctionFits known f × ArgumentsFit known names bounds arguments f.sig.takes × (f.sig.gives ≡ ty)
+  FormulaFits known names bounds (Fold f first elements) ty =
       (element : Ty) × FunctionFits known f × FoldsOver f ty element × (type_of first ≡ ty) × IsBase ty
-      × ElementsFit known names elements element
-  FormulaFits known names (If test a b) ty = FormulaFits known names test types.Bool × FormulaFits known names a ty × FormulaFits known names b ty
-  FormulaFits known names (Join child) ty = (base : Base) × FormulaFits known names child (types.Node base) × (type_of_base base ≡ ty)
-  FormulaFits known names f ty = OtherFits
+      × ElementsFit known names bounds elements element
+  FormulaFits known names bounds (If test a b) ty =
+      FormulaFits known names bounds test types.Bool × FormulaFits known names bounds a ty × FormulaFits known names bounds b ty
+  FormulaFits known names bounds (Join child) ty =
+      (base : Base) × FormulaFits known names bounds child (types.Node base) × (type_of_base base ≡ ty)
+  FormulaFits known names bounds (Bind left body) ty =
+      (u : Ty) × FormulaFits known names bounds left u × FormulaFits known names (u ∷ bounds) body ty
+  FormulaFits known names bounds f ty = OtherFits
 
   -- each argument has the type that is listed for it, and there are as many
-  pub ArgumentsFit : (FnRef → Bool) → Names → Formulas → List Ty → Type 0
-  ArgumentsFit known names End [] = Unit {0}
-  ArgumentsFit known names End (ty ∷ tys) = ⊥
-  ArgumentsFit known names (More f rest) [] = ⊥
-  ArgumentsFit known names (More f rest) (ty ∷ tys) = FormulaFits known names f ty × ArgumentsFit known names rest tys
+  pub ArgumentsFit : (FnRef → Bool) → Names → List Ty → Formulas → List Ty → Type 0
+  ArgumentsFit known names bounds End [] = Unit {0}
+  ArgumentsFit known names bounds End (ty ∷ tys) = ⊥
+  ArgumentsFit known names bounds (More f rest) [] = ⊥
+  ArgumentsFit known names bounds (More f rest) (ty ∷ tys) =
+      FormulaFits known names bounds f ty × ArgumentsFit known names bounds rest tys
 
   -- each element has the type
-  pub ElementsFit : (FnRef → Bool) → Names → Formulas → Ty → Type 0
-  ElementsFit known names End ty = Unit {0}
-  ElementsFit known names (More f rest) ty = FormulaFits known names f ty × ElementsFit known names rest ty
+  pub ElementsFit : (FnRef → Bool) → Names → List Ty → Formulas → Ty → Type 0
+  ElementsFit known names bounds End ty = Unit {0}
+  ElementsFit known names bounds (More f rest) ty =
+      FormulaFits known names bounds f ty × ElementsFit known names bounds rest ty
 
 -- what is declared is of forms that are here and has the type, and nothing is kept of it
 abbrev pub BodyFits : (FnRef → Bool) → Names → Body → Ty → Type 0
 BodyFits known names (Variable v) ty = ValueFits names v ty
-BodyFits known names (Computed f kept) ty = FormulaFits known names f ty × (kept ≡ nothing_kept)
+BodyFits known names (Computed f kept) ty = FormulaFits known names [] f ty × (kept ≡ nothing_kept)
 BodyFits known names body ty = OtherFits
 
 -- a new name that may be declared; the name that it stands for comes no later
@@ -74,6 +83,12 @@ pub record DeclarationFits (known : FnRef → Bool) (names : Names) (name : List
   pub fresh : first_named name names.declared ≡ None
   pub body_fits : BodyFits known names body ty
   pub earlier : target_of_body (length names.declared) body ≤ length names.declared
+
+-- a new name for the right side of a bind that is declared with the type
+pub record GrabFits (names : Names) (name : List ℕ) (ty : Ty) (bind : ℕ) : Type 0 where
+  pub fresh : first_named name names.declared ≡ None
+  pub bind_fits : NameFits names bind ty
+  pub is_bind : IsTrue (is_bind (and_then (slice_get names.declared bind) (λ d. Some d.kind)))
 
 -- a variable that may have the value
 pub record AssignmentFits (names : Names) (target : ℕ) (value : Value) : Type 0 where
@@ -89,6 +104,7 @@ pub record ObserverFits (names : Names) (observer : List ℕ) (target : ℕ) : T
 -- the names, functions and types of a command fit together, and it is of forms that are here
 abbrev pub FitsNames : (FnRef → Bool) → Names → Command → Type 0
 FitsNames known names (Declare name ty body) = DeclarationFits known names name ty body
+FitsNames known names (Take name ty bind) = GrabFits names name ty bind
 FitsNames known names (Assign target value) = AssignmentFits names target value
 FitsNames known names (Observe observer target) = ObserverFits names observer target
 FitsNames known names (Unobserve observer) = IsTrue (is_among names.observers observer)

@@ -10,4 +10,5 @@ reason_view reason.NameUnknown = model.NameUnknown
 reason_view reason.ObserverUnknown = model.ObserverUnknown
 reason_view reason.FunctionUnknown = model.FunctionUnknown
 reason_view reason.NotVariable = model.NotVariable
+reason_view reason.NotBind = model.NotBind
 reason_view reason.IllTyped = model.IllTyped

@@ -2,7 +2,7 @@
 ghost use Rattle.std.specs.Prelude.{◌≡◌, ℕ, true, IfOk, IsErrOf, None, Some, option_map};
 ghost use Rattle.script_model.specs.Check.{Names as AllNames, Reason as AReason, command_of, first_that, is_against, line_order, reason_number};
 ghost use Rattle.script_model.specs.Formula.{Meanings, meanings_of};
-ghost use Rattle.script_model.specs.Grammar.{Var, Set, Let, Observe, Show, Unobserve};
+ghost use Rattle.script_model.specs.Grammar.{Var, Set, Let, Grab, Observe, Show, Unobserve};
 ghost use Rattle.script_model.specs.Here.{is_here, is_plain};
 ghost use Rattle.formula_lang.specs.CommandView.{command_view};
 ghost use Rattle.formula_lang.specs.Fits.{FitsNames};
@@ -10,6 +10,7 @@ ghost use Rattle.line_parser.specs.TreeView.{line_view, tree_view};
 ghost use Rattle.line_parser.specs.View.{literal_view};
 
 use crate::command::{Command, Declaration};
+use crate::mentioning::mentions_unknown;
 use crate::names::Names;
 use crate::refusal::first_reason;
 use crate::typing::{declared_as, literal_of_type, typed};
@@ -24,7 +25,8 @@ use thiserror::Error;
 pub enum CheckFault {
     /// It is refused, with the number that is printed: 3 for a name that is taken, 4 for one that
     /// is unknown, 5 for an unknown function, 6 for types that don't fit, 7 for a `set` of what is
-    /// no variable, 11 for an unknown observer, and 12 for one that is in use.
+    /// no variable, 8 for a `grab` of what is no bind, 11 for an unknown observer, and 12 for one
+    /// that is in use.
     #[error("refused {0}")]
     Refusal(u8),
     /// There is no memory for the checked command.
@@ -64,8 +66,9 @@ pub fn check<L: Library>(
     ensures fits { IfOk result (λ c. FitsNames (L.known library.now) names.entry.now (command_view c)) }
 {
     names.keeps_order();
+    let is_unknown = mentions_unknown(alloc, line, names)?;
     let command = command_of(alloc, line, names, library)?;
-    if let Some(reason) = first_reason(line, names, library, command.is_none()) {
+    if let Some(reason) = first_reason(line, names, library, is_unknown, command.is_none()) {
         drop(command);
         return Err(CheckFault::Refusal(reason.number()));
     }
@@ -90,6 +93,7 @@ fn command_of<L: Library>(
         Line::Var { name, ty, first } => variable(alloc, names, name, *ty, first),
         Line::Set { name, value } => assignment(alloc, names, name, value),
         Line::Let { name, formula } => definition(alloc, names, library, name, formula),
+        Line::Grab { name, bind } => grab(alloc, names, name, bind),
         Line::Observe { observer, name } => observation(alloc, names, observer, name),
         Line::Unobserve { observer } => ending(alloc, observer),
         Line::Stabilize => Ok(Some(Command::Stabilize)),
@@ -152,13 +156,32 @@ fn definition<L: Library>(
     ensures { IfOk result (λ c. option_map command_view c
         ≡ command_of (meanings_of (L.named library.now) (L.value library.now)) names.entry.now (Let name.now (tree_view formula.now))) }
 {
-    let Some(typed) = typed(alloc, names, library, formula)? else {
+    let Some(typed) = typed(alloc, names, library, &[], formula)? else {
         return Ok(None);
     };
     Ok(Some(Command::Declare {
         name: Name::new(alloc, name.bytes())?,
         ty: typed.ty,
         body: Declaration::Computed(typed.formula),
+    }))
+}
+
+/// The declaration of a name for a bind's right side.
+fn grab(
+    alloc: Global,
+    names: &Names,
+    name: &Name,
+    bind: &Name,
+) -> Result<Option<Command>, AllocError>
+    ensures { (F : Meanings) → IfOk result (λ c. option_map command_view c ≡ command_of F names.entry.now (Grab name.now bind.now)) }
+{
+    let Some(declared) = declared_as(names, bind) else {
+        return Ok(None);
+    };
+    Ok(Some(Command::Grab {
+        name: Name::new(alloc, name.bytes())?,
+        ty: declared.ty,
+        bind: declared.target,
     }))
 }
 

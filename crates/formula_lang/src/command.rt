@@ -22,6 +22,8 @@ pub enum Formula {
     Literal(Constant),
     /// The declaration at this position.
     Name(usize),
+    /// The variable of a bind round the formula, by how many binds stand between.
+    Bound(usize),
     Apply {
         function: FnRef,
         arguments: Vec<Formula>,
@@ -40,6 +42,11 @@ pub enum Formula {
     },
     /// What the declaration is worth to which the formula refers.
     Join(Box<Formula>),
+    /// The body, in which the bind's variable stands for the value of the left.
+    Bind {
+        left: Box<Formula>,
+        body: Box<Formula>,
+    },
 }
 
 /// What is declared.
@@ -61,10 +68,12 @@ impl Declaration {
             Declaration::Computed(Formula::Name(target)) => *target,
             Declaration::Computed(
                 Formula::Literal(_)
+                | Formula::Bound(_)
                 | Formula::Apply { .. }
                 | Formula::Fold { .. }
                 | Formula::If { .. }
-                | Formula::Join(_),
+                | Formula::Join(_)
+                | Formula::Bind { .. },
             )
             | Declaration::Variable(_) => own,
         }
@@ -79,6 +88,12 @@ pub enum Command {
         name: Name,
         ty: Ty,
         body: Declaration,
+    },
+    /// Declares a name for the present right side of the bind at a position.
+    Grab {
+        name: Name,
+        ty: Ty,
+        bind: usize,
     },
     /// Gives a variable a value.
     Assign {

@@ -3,8 +3,10 @@
 
 mod checking;
 mod command;
+mod mentioning;
 mod names;
 mod refusal;
+mod scope;
 mod typing;
 
 pub use checking::{CheckFault, check};

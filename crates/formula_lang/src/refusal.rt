@@ -1,17 +1,15 @@
 //! Why commands are refused: the rows that are looked at, in order.
 ghost use Rattle.std.specs.Prelude.{◌≡◌, true, is_none, map, option_map};
 ghost use Rattle.std.specs.List.{list_any};
-ghost use Rattle.script_model.specs.Check.{command_of, first_that, functions_in, is_against, is_among, is_declared, is_variable, kind_of, line_order, new_names, new_observers, observers_of, read_names, reason_number, variables_of};
+ghost use Rattle.script_model.specs.Check.{binds_of, command_of, first_that, functions_in, is_against, is_among, is_bind, is_declared, is_variable, kind_of, line_order, new_names, new_observers, observers_of, read_names, reason_number, variables_of};
 ghost use Rattle.script_model.specs.Formula.{meanings_of};
 ghost use Rattle.script_model.specs.Here.{is_here};
 ghost use Rattle.line_parser.specs.TreeView.{line_view};
 ghost use Rattle.formula_lang.specs.Verdict.{reason_view};
-ghost use Rattle.formula_lang.specs.Rows.{is_no_observer, is_no_variable, is_unknown, lacks};
+ghost use Rattle.formula_lang.specs.Rows.{is_no_bind, is_no_observer, is_no_variable, is_unknown as is_unknown_in, lacks};
 
 use crate::names::{Kind, Names};
-use crate::typing::{
-    declared_as, has_unknown_function, has_unknown_name, has_unknown_reference, is_declared,
-};
+use crate::typing::{declared_as, has_unknown_function, is_declared};
 use line_parser::{Line, Name};
 use node_arena::Library;
 
@@ -24,17 +22,19 @@ pub(crate) enum Reason {
     ObserverUnknown,
     FunctionUnknown,
     NotVariable,
+    NotBind,
     IllTyped,
 }
 
 /// The order in which they are looked at.
-const ORDER: [Reason; 7] = [
+const ORDER: [Reason; 8] = [
     Reason::NameTaken,
     Reason::ObserverTaken,
     Reason::NameUnknown,
     Reason::ObserverUnknown,
     Reason::FunctionUnknown,
     Reason::NotVariable,
+    Reason::NotBind,
     Reason::IllTyped,
 ];
 
@@ -49,6 +49,7 @@ impl Reason {
             Reason::FunctionUnknown => 5,
             Reason::IllTyped => 6,
             Reason::NotVariable => 7,
+            Reason::NotBind => 8,
             Reason::ObserverUnknown => 11,
             Reason::ObserverTaken => 12,
         }
@@ -60,15 +61,17 @@ pub(crate) fn first_reason<L: Library>(
     line: &Line,
     names: &Names,
     library: &L,
+    is_unknown: bool,
     is_ill_typed: bool,
 ) -> Option<Reason>
     requires here { is_here (line_view line.now) ≡ true }
+    requires read { is_unknown ≡ list_any (is_unknown_in names.now) (read_names (line_view line.now)) }
     requires typed { is_ill_typed ≡ is_none (command_of (meanings_of (L.named library.now) (L.value library.now)) names.now (line_view line.now)) }
     ensures { option_map reason_view result
         ≡ first_that (is_against (meanings_of (L.named library.now) (L.value library.now)) names.entry.now (line_view line.now)) line_order }
 {
     for reason in ORDER {
-        if is_against(line, names, library, is_ill_typed, reason) {
+        if is_against(line, names, library, is_unknown, is_ill_typed, reason) {
             return Some(reason);
         }
     }
@@ -80,10 +83,12 @@ fn is_against<L: Library>(
     line: &Line,
     names: &Names,
     library: &L,
+    is_unknown: bool,
     is_ill_typed: bool,
     reason: Reason,
 ) -> bool
     requires here { is_here (line_view line.now) ≡ true }
+    requires read { is_unknown ≡ list_any (is_unknown_in names.now) (read_names (line_view line.now)) }
     requires typed { is_ill_typed ≡ is_none (command_of (meanings_of (L.named library.now) (L.value library.now)) names.now (line_view line.now)) }
     ensures { result
         ≡ is_against (meanings_of (L.named library.now) (L.value library.now)) names.entry.now (line_view line.now) (reason_view reason) }
@@ -91,10 +96,11 @@ fn is_against<L: Library>(
     match reason {
         Reason::NameTaken => is_name_taken(line, names),
         Reason::ObserverTaken => is_observer_taken(line, names),
-        Reason::NameUnknown => is_name_unknown(line, names),
+        Reason::NameUnknown => is_unknown,
         Reason::ObserverUnknown => is_observer_unknown(line, names),
         Reason::FunctionUnknown => is_function_unknown(line, library),
         Reason::NotVariable => is_no_variable(line, names),
+        Reason::NotBind => is_no_bind(line, names),
         Reason::IllTyped => is_ill_typed,
     }
 }
@@ -118,26 +124,6 @@ fn is_observer_taken(line: &Line, names: &Names) -> bool
 {
     match line {
         Line::Observe { observer, .. } => names.is_in_use(observer.bytes()),
-        _ => false,
-    }
-}
-
-/// Whether a name that is read isn't declared.
-fn is_name_unknown(line: &Line, names: &Names) -> bool
-    requires { is_here (line_view line.now) ≡ true }
-    ensures { result ≡ list_any (is_unknown names.entry.now) (read_names (line_view line.now)) }
-{
-    match line {
-        Line::Var { first, .. } | Line::Expert { first, .. } => has_unknown_reference(names, first),
-        Line::Set { name, value } => {
-            !is_declared(names, name) || has_unknown_reference(names, value)
-        }
-        Line::Let { formula, .. } => has_unknown_name(names, formula),
-        Line::Link { expert, name } | Line::Unlink { expert, name } => {
-            !is_declared(names, expert) || !is_declared(names, name)
-        }
-        Line::Stale { expert: name } | Line::Grab { bind: name, .. } | Line::Observe { name, .. } =>
-            !is_declared(names, name),
         _ => false,
     }
 }
@@ -176,12 +162,32 @@ fn is_no_variable(line: &Line, names: &Names) -> bool
     }
 }
 
+/// Whether what is grabbed is no bind.
+fn is_no_bind(line: &Line, names: &Names) -> bool
+    ensures { result ≡ list_any (is_no_bind names.entry.now) (binds_of (line_view line.now)) }
+{
+    match line {
+        Line::Grab { bind, .. } => !is_bind(names, bind),
+        _ => false,
+    }
+}
+
 /// Whether the name stands for a variable.
 fn is_variable(names: &Names, name: &Name) -> bool
     ensures { result ≡ is_variable (kind_of names.entry.now name.now) }
 {
     match declared_as(names, name) {
         Some(declared) => matches!(names.get(declared.target).kind, Kind::Var),
+        None => false,
+    }
+}
+
+/// Whether the name stands for a bind.
+fn is_bind(names: &Names, name: &Name) -> bool
+    ensures { result ≡ is_bind (kind_of names.entry.now name.now) }
+{
+    match declared_as(names, name) {
+        Some(declared) => matches!(names.get(declared.target).kind, Kind::Bind),
         None => false,
     }
 }

@@ -1,22 +1,23 @@
 //! Names, functions and types of formulas.
-ghost use Rattle.std.specs.Prelude.{◌≡◌, ◌<◌, length, map, option_map, IfOk, IfSome};
+ghost use Rattle.std.specs.Prelude.{◌≡◌, ◌<◌, ◌∷◌, length, map, option_map, Some, IfOk, IfSome};
 ghost use Rattle.std.specs.List.{list_any};
-ghost use Rattle.script_model.specs.Check.{applied as applied_to, are_all, branched, element_of, find_declared, folded, is_declared, join_of, literal_of_type, referred_names, typed_as, typed_literal};
-ghost use Rattle.formula_lang.specs.Here.{functions_here, functions_here_in_all, names_here, names_here_in_all, typed_each_here, typed_here};
+ghost use Rattle.script_model.specs.Check.{applied as applied_to, are_all, branched, element_of, find_declared, folded, is_declared, join_of, literal_of_type, typed_as, typed_literal, typed_name};
+ghost use Rattle.formula_lang.specs.Here.{functions_here, functions_here_in_all, typed_each_here, typed_here};
 ghost use Rattle.script_model.specs.Literals.{Referred};
 ghost use Rattle.script_model.specs.Parsing.{trees_of};
-ghost use Rattle.script_model.specs.Formula.{Literal as Held, meanings_of};
+ghost use Rattle.script_model.specs.Formula.{Bind, Literal as Held, meanings_of};
 ghost use Rattle.inc_value.specs.Choice.{and_then};
 ghost use Rattle.inc_value.specs.Ty.{same_ty, same_types};
 ghost use Rattle.formula_lang.specs.CommandView.{constant_view};
 ghost use Rattle.formula_lang.specs.NamesView.{declared_view};
-ghost use Rattle.formula_lang.specs.Rows.{is_unknown, lacks};
+ghost use Rattle.formula_lang.specs.Rows.{lacks};
 ghost use Rattle.line_parser.specs.TreeView.{tree_view};
 ghost use Rattle.line_parser.specs.View.{literal_view};
-ghost use Rattle.formula_lang.specs.Typing.{named_formula, part_view, typed_view, typed_each_view};
+ghost use Rattle.formula_lang.specs.Typing.{bound_view, named_formula, part_view, typed_view, typed_each_view};
 
 use crate::command::{Constant, Formula};
 use crate::names::{Declared, Names};
+use crate::scope::{Variable, variable_named, within};
 use inc_value::{FnRef, Ty};
 use line_parser::{Literal, Name, Tree};
 use node_arena::Library;
@@ -59,54 +60,7 @@ pub(crate) fn is_declared(names: &Names, name: &Name) -> bool
     declared_as(names, name).is_some()
 }
 
-/// Whether a name that the formula reads isn't declared. Like the next ones it is of forms that are here.
-#[cycle(names_of)]
-pub(crate) fn has_unknown_name(names: &Names, tree: &Tree) -> bool
-    ensures { result ≡ list_any (is_unknown names.entry.now) (names_here (tree_view tree.now)) }
-{
-    match tree {
-        Tree::Literal(literal) => has_unknown_reference(names, literal),
-        Tree::Name(name) => !is_declared(names, name),
-        Tree::Call { arguments, .. } => have_unknown_name(names, arguments),
-        Tree::Fold {
-            first,
-            elements,
-            ..
-        } => has_unknown_reference(names, first) || have_unknown_name(names, elements),
-        Tree::If {
-            test,
-            then_side,
-            else_side,
-        } => {
-            has_unknown_name(names, test)
-                || has_unknown_name(names, then_side)
-                || has_unknown_name(names, else_side)
-        }
-        Tree::Join { child } => has_unknown_name(names, child),
-        Tree::Bind { .. }
-        | Tree::At(_)
-        | Tree::Now
-        | Tree::Steps { .. }
-        | Tree::After(_)
-        | Tree::Every(_) => false,
-        Tree::Freeze { .. } => false,
-    }
-}
-
-/// Whether a name that one of the formulas reads isn't declared.
-#[cycle(names_of)]
-fn have_unknown_name(names: &Names, trees: &[Tree]) -> bool
-    ensures { result ≡ list_any (is_unknown names.entry.now) (names_here_in_all (trees_of (map tree_view trees.now))) }
-{
-    for tree in trees {
-        if has_unknown_name(names, tree) {
-            return true;
-        }
-    }
-    false
-}
-
-/// Whether the library lacks a function of the formula.
+/// Whether the library lacks a function of the formula. Like the next ones it is of forms that are here.
 #[cycle(functions_in)]
 pub(crate) fn has_unknown_function<L: Library>(library: &L, tree: &Tree) -> bool
     ensures { result ≡ list_any (lacks (L.named library.now)) (functions_here (tree_view tree.now)) }
@@ -132,12 +86,10 @@ pub(crate) fn has_unknown_function<L: Library>(library: &L, tree: &Tree) -> bool
                 || has_unknown_function(library, else_side)
         }
         Tree::Join { child } => has_unknown_function(library, child),
-        Tree::Bind { .. }
-        | Tree::At(_)
-        | Tree::Now
-        | Tree::Steps { .. }
-        | Tree::After(_)
-        | Tree::Every(_) => false,
+        Tree::Bind { left, body, .. } => {
+            has_unknown_function(library, left) || has_unknown_function(library, body)
+        }
+        Tree::At(_) | Tree::Now | Tree::Steps { .. } | Tree::After(_) | Tree::Every(_) => false,
         Tree::Freeze { .. } => false,
     }
 }
@@ -155,20 +107,22 @@ fn have_unknown_function<L: Library>(library: &L, trees: &[Tree]) -> bool
     false
 }
 
-/// The formula with its type, unless a name or a function is unknown or a type does not fit.
+/// A formula within binds of these variables, with its type, unless a name or a function is unknown or a type does not fit.
 #[cycle(formula)]
 pub(crate) fn typed<L: Library>(
     alloc: Global,
     names: &Names,
     library: &L,
+    variables: &[Variable],
     tree: &Tree,
 ) -> Result<Option<TypedFormula>, AllocError>
     ensures { IfOk result (λ t. option_map typed_view t
-        ≡ typed_here (meanings_of (L.named library.now) (L.value library.now)) names.entry.now (tree_view tree.now)) }
+        ≡ typed_here (meanings_of (L.named library.now) (L.value library.now)) names.entry.now (map bound_view variables.now)
+        (tree_view tree.now)) }
 {
     match tree {
         Tree::Literal(literal) => typed_literal(alloc, names, literal),
-        Tree::Name(name) => Ok(typed_name(names, name)),
+        Tree::Name(name) => Ok(typed_name(names, variables, name)),
         Tree::Call {
             function,
             arguments,
@@ -176,7 +130,7 @@ pub(crate) fn typed<L: Library>(
             let Some(function) = library.find(function.bytes()) else {
                 return Ok(None);
             };
-            let Some(arguments) = typed_each(alloc, names, library, arguments)? else {
+            let Some(arguments) = typed_each(alloc, names, library, variables, arguments)? else {
                 return Ok(None);
             };
             Ok(applied(function, arguments))
@@ -189,7 +143,7 @@ pub(crate) fn typed<L: Library>(
             let Some(function) = library.find(function.bytes()) else {
                 return Ok(None);
             };
-            let Some(elements) = typed_each(alloc, names, library, elements)? else {
+            let Some(elements) = typed_each(alloc, names, library, variables, elements)? else {
                 return Ok(None);
             };
             folded(alloc, names, function, first, elements)
@@ -199,30 +153,66 @@ pub(crate) fn typed<L: Library>(
             then_side,
             else_side,
         } => {
-            let Some(test) = boxed(alloc, typed(alloc, names, library, test)?)? else {
+            let Some(test) = boxed(alloc, typed(alloc, names, library, variables, test)?)? else {
                 return Ok(None);
             };
-            let Some(then_side) = boxed(alloc, typed(alloc, names, library, then_side)?)? else {
+            let Some(then_side) = boxed(alloc, typed(alloc, names, library, variables, then_side)?)?
+            else {
                 return Ok(None);
             };
-            let Some(else_side) = boxed(alloc, typed(alloc, names, library, else_side)?)? else {
+            let Some(else_side) = boxed(alloc, typed(alloc, names, library, variables, else_side)?)?
+            else {
                 return Ok(None);
             };
             Ok(branched(test, then_side, else_side))
         }
         Tree::Join { child } => {
-            let Some(child) = boxed(alloc, typed(alloc, names, library, child)?)? else {
+            let Some(child) = boxed(alloc, typed(alloc, names, library, variables, child)?)? else {
                 return Ok(None);
             };
             Ok(joined(child))
         }
-        Tree::Bind { .. }
-        | Tree::At(_)
-        | Tree::Now
-        | Tree::Steps { .. }
-        | Tree::After(_)
-        | Tree::Every(_) => Ok(None),
+        Tree::Bind {
+            variable,
+            left,
+            body,
+        } => {
+            let Some(left) = boxed(alloc, typed(alloc, names, library, variables, left)?)? else {
+                return Ok(None);
+            };
+            let body = typed_within(alloc, names, library, variables, variable, left.ty, body)?;
+            let Some(body) = boxed(alloc, body)? else {
+                return Ok(None);
+            };
+            Ok(Some(bound(left, body)))
+        }
+        Tree::At(_) | Tree::Now | Tree::Steps { .. } | Tree::After(_) | Tree::Every(_) => Ok(None),
         Tree::Freeze { .. } => Ok(None),
+    }
+}
+
+/// The body of a bind within the others, with its type, unless it has none.
+#[cycle(formula)]
+fn typed_within<L: Library>(
+    alloc: Global,
+    names: &Names,
+    library: &L,
+    variables: &[Variable],
+    variable: &Name,
+    ty: Ty,
+    body: &Tree,
+) -> Result<Option<TypedFormula>, AllocError>
+    ensures { IfOk result (λ t. option_map typed_view t
+        ≡ typed_here (meanings_of (L.named library.now) (L.value library.now)) names.entry.now
+        (record { name = variable.now; ty = ty } ∷ map bound_view variables.now) (tree_view body.now)) }
+{
+    match within(alloc, variable, ty, variables) {
+        Ok(variables) => {
+            let body = typed(alloc, names, library, &variables, body);
+            drop(variables);
+            body
+        }
+        Err(fault) => Err(fault),
     }
 }
 
@@ -232,15 +222,17 @@ fn typed_each<L: Library>(
     alloc: Global,
     names: &Names,
     library: &L,
+    variables: &[Variable],
     trees: &[Tree],
 ) -> Result<Option<TypedFormulas>, AllocError>
     ensures { IfOk result (λ t. option_map typed_each_view t
-        ≡ typed_each_here (meanings_of (L.named library.now) (L.value library.now)) names.entry.now (trees_of (map tree_view trees.now))) }
+        ≡ typed_each_here (meanings_of (L.named library.now) (L.value library.now)) names.entry.now (map bound_view variables.now)
+        (trees_of (map tree_view trees.now))) }
 {
     let mut formulas = Vec::new(alloc);
     let mut tys = Vec::new(alloc);
     for tree in trees {
-        let Some(argument) = typed(alloc, names, library, tree)? else {
+        let Some(argument) = typed(alloc, names, library, variables, tree)? else {
             return Ok(None);
         };
         formulas.push(argument.formula)?;
@@ -283,8 +275,21 @@ fn typed_literal(
     }
 }
 
-/// A name as a formula, if it is declared.
-fn typed_name(names: &Names, name: &Name) -> Option<TypedFormula>
+/// A name as a formula: the innermost variable of the name, or what is declared.
+fn typed_name(names: &Names, variables: &[Variable], name: &Name) -> Option<TypedFormula>
+    ensures { option_map typed_view result ≡ typed_name names.entry.now name.now 0 (map bound_view variables.now) }
+{
+    match variable_named(variables, name) {
+        Some((binds_between, ty)) => Some(TypedFormula {
+            formula: Formula::Bound(binds_between),
+            ty,
+        }),
+        None => typed_declared(names, name),
+    }
+}
+
+/// A declared name as a formula.
+fn typed_declared(names: &Names, name: &Name) -> Option<TypedFormula>
     ensures { option_map typed_view result ≡ named_formula (find_declared names.entry.now name.now) }
 {
     let declared = declared_as(names, name)?;
@@ -369,6 +374,19 @@ fn joined(child: TypedPart) -> Option<TypedFormula>
             ty: base.ty(),
         }),
         Ty::Int | Ty::Bool | Ty::Text => None,
+    }
+}
+
+/// The body with the left for its variable.
+fn bound(left: TypedPart, body: TypedPart) -> TypedFormula
+    ensures { Some (typed_view result) ≡ typed_as (Bind (part_view left).formula (part_view body).formula) body.ty }
+{
+    TypedFormula {
+        formula: Formula::Bind {
+            left: left.formula,
+            body: body.formula,
+        },
+        ty: body.ty,
     }
 }
 
@@ -459,15 +477,5 @@ pub(crate) fn literal_of_type(
     match type_of_literal(names, literal) {
         Some(found) if is_same_type(found, ty) => constant_of_literal(alloc, names, literal),
         _ => Ok(None),
-    }
-}
-
-/// Whether a name that a literal refers to isn't declared.
-pub(crate) fn has_unknown_reference(names: &Names, literal: &Literal) -> bool
-    ensures { result ≡ list_any (is_unknown names.entry.now) (referred_names (literal_view literal.now)) }
-{
-    match literal {
-        Literal::Reference(name) => !is_declared(names, name),
-        Literal::Integer(_) | Literal::Bool(_) | Literal::Text(_) => false,
     }
 }

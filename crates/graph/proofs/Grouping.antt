@@ -1,5 +1,5 @@
 -- The live nodes are counted by the scopes in which they stand.
-use Rattle.std.proofs.Common.{◌≡◌, ◌⊎◌, inl, inr, ℕ, ◌≤◌, ◌+◌, ◌-◌, List, [], ◌∷◌, length, Option, None, Some, refl, sym, ap, ◌∙◌, arith}
+use Rattle.std.proofs.Common.{◌≡◌, ◌⊎◌, inl, inr, ℕ, ◌≤◌, ◌+◌, ◌-◌, ◌^◌, List, [], ◌∷◌, length, Option, None, Some, refl, sym, ap, ◌∙◌, arith}
 use Rattle.std.specs.Prelude.{sum_by}
 use Rattle.std.proofs.lemmas.List.Sums.{sum_by-cons}
 use Rattle.std.proofs.lemmas.Option.{none-some, same_Some}
@@ -11,15 +11,20 @@ use Rattle.node_arena.specs.Arena.{Arena, row_at, live}
 use Rattle.node_arena.specs.RightSide.{RightSide}
 use Rattle.stabilize_round.proofs.Points.{node_or_other}
 use Rattle.stabilizer.specs.Weights.{weight_of, weight_in, weight_at, IsInScope, ScopesFit}
-use Rattle.stabilizer.specs.Giving.{GivesFew}
-use Rattle.graph.specs.Few.{ListsTops, AreFew, IdsAreFew}
+use Rattle.stabilizer.specs.Giving.{GivesFew, HasBuilt, LacksRoom, StopsFull}
+use Rattle.wiring.specs.Stands.{Counts}
+use Rattle.wiring.specs.declared.refused.Refused.{Refused}
+use Rattle.wiring.specs.declared.refused.Refused.TheVariants as refused
+use Rattle.graph.specs.declared.fault.Kept.TheVariants as kept
+use Rattle.graph.specs.Fault.{kept_of}
+use Rattle.graph.specs.Few.{ListsTops, AreFew, IdsAreFew, IsFilled}
 use Rattle.stabilizer.proofs.Sums.{those, those_were, those_once, those_sum, share, sum_most, sum_most_but, sum_both, sum_one, sum_more, stood_for}
 use Rattle.stabilizer.proofs.Giving.{gives_few}
 use Rattle.stabilizer.proofs.Alive.{alive, alive_count, alive_once, alive_row, among_alive}
 
 -- ---- by group
 
-stands_or_not : (o : Option NodeId) (b : NodeId) → (o ≡ Some b) ⊎ (o ≡ Some b → ⊥)
+pub stands_or_not : (o : Option NodeId) (b : NodeId) → (o ≡ Some b) ⊎ (o ≡ Some b → ⊥)
 stands_or_not None b = inr (λ e. none-some b e)
 stands_or_not (Some c) b = elim (node_or_other c b) [ inl e ↦ inl (ap (λ (x : NodeId). Some x) e) | inr ne ↦ inr (λ e. ne (same_Some c b e)) ]
 
@@ -106,7 +111,7 @@ module _ (up : NodeId → Option NodeId) (w : NodeId → ℕ) where
         (λ n a. (let is = those_were d n nodes a in record { other = n; among = lists n is.0 is.1; same = refl; most = omega arith })) in
         omega (arith, split, all, each, more, sum, stood)
 
-    few_by_tops : (tops : List NodeId) → ((n : NodeId) → Among n nodes → up n ≡ None → Among n tops) → length nodes ≤ sum_by w tops
+    pub few_by_tops : (tops : List NodeId) → ((n : NodeId) → Among n nodes → up n ≡ None → Among n tops) → length nodes ≤ sum_by w tops
     few_by_tops tops lists =
         let each = sum_most (λ b. sum_by (part b) nodes) below nodes group_fits in
         let hold = tops_hold 0 (omega (arith, each)) tops lists in
@@ -131,22 +136,32 @@ module _ (up : NodeId → Option NodeId) (w : NodeId → ℕ) where
         let each = sum_most_but (λ c. sum_by (part c) nodes) below b free nodes among (omega (arith, zero, most)) group_fits in
         tops_hold free each tops lists
 
+-- ---- refused as full
+
+-- what is so where a build lacks room is so of what was refused as full
+pub full_by : (right : FnRef → RightSide) (a : Arena) (before after : Counts) (met : Refused) → StopsFull right a before after met
+    → kept_of met ≡ kept.Full → HasBuilt before after × (LacksRoom right a ⊎ (a.given ≡ 2 ^ 64 - 1))
+full_by right a before after refused.Full stops is = stops
+full_by right a before after refused.Memory stops is = absurd (cc)
+full_by right a before after (refused.Height points) stops is = absurd (cc)
+full_by right a before after (refused.Cycle points) stops is = absurd (cc)
+
 -- ---- live nodes
 
-abbrev scope_in : Option Row → Option NodeId
+abbrev pub scope_in : Option Row → Option NodeId
 scope_in None = None
 scope_in (Some r) = r.scope
 
 module _ (right : FnRef → RightSide) (a : Arena) (fit : ScopesFit right a)
     (scoped : (n : NodeId) (r : Row) (b : NodeId) → row_at a n ≡ Some r → r.scope ≡ Some b
     → (s : Row) × (l : NodeId) × (f : FnRef) × (captures : List NodeId) × (row_at a b ≡ Some s) × (s.def ≡ Bind l f captures)) where
-  abbrev up : NodeId → Option NodeId
+  abbrev pub up : NodeId → Option NodeId
   up n = scope_in (row_at a n)
 
-  abbrev w : NodeId → ℕ
+  abbrev pub w : NodeId → ℕ
   w = weight_at right a
 
-  row_of_scope : (n b : NodeId) → up n ≡ Some b → IsInScope a b n
+  pub row_of_scope : (n b : NodeId) → up n ≡ Some b → IsInScope a b n
   row_of_scope n b e = by (row_at a n) refl e
     where
       by : (o : Option Row) → row_at a n ≡ o → scope_in o ≡ Some b → IsInScope a b n
@@ -157,7 +172,7 @@ module _ (right : FnRef → RightSide) (a : Arena) (fit : ScopesFit right a)
   one_more (Bind l f captures) = omega arith
   one_more _ = refl
 
-  scope_fits : (b : NodeId) → Among b (alive a) → (some : List NodeId) → NoRepeats some
+  pub scope_fits : (b : NodeId) → Among b (alive a) → (some : List NodeId) → NoRepeats some
       → ((n : NodeId) → Among n some → Among n (alive a) × (up n ≡ Some b)) → sum_by w some ≤ w b - 1
   scope_fits b among [] once stand = omega arith
   scope_fits b among (n ∷ ns) once stand =
@@ -167,7 +182,7 @@ module _ (right : FnRef → RightSide) (a : Arena) (fit : ScopesFit right a)
       let is : w b ≡ (right bind.2).size + 1 = ap (weight_in right) bind.4 ∙ ap (weight_of right) bind.5 in
       omega (arith, most, is)
 
-  weights_are : (n : NodeId) → Among n (alive a) → w n ≡ (w n - 1) + 1
+  pub weights_are : (n : NodeId) → Among n (alive a) → w n ≡ (w n - 1) + 1
   weights_are n h =
       let r = alive_row a n h in
       let is : w n ≡ weight_of right r.0.def = ap (weight_in right) r.1 in
@@ -211,3 +226,17 @@ module _ (right : FnRef → RightSide) (a : Arena) (fit : ScopesFit right a)
             room.most tops lists in
             omega (arith, given, live)
       ]
+
+  -- where a build lacked room they count as as many as there may be
+  filled : LacksRoom right a ⊎ (a.given ≡ 2 ^ 64 - 1) → IsFilled right a
+  filled (inr given) tops lists = inr given
+  filled (inl lacks) tops lists =
+      let room = lacks.room in
+      let full = lacks.full in
+      let live = few_beside_live room.bind room.row room.left room.function room.captures room.is_row room.is_bind room.empty lacks.spent room.most
+      tops lists in
+      inl (omega (arith, full, live))
+
+  -- so it is of what was refused as full
+  pub filled_by : (before after : Counts) (met : Refused) → StopsFull right a before after met → kept_of met ≡ kept.Full → IsFilled right a
+  filled_by before after met stops is = filled (full_by right a before after met stops is).1

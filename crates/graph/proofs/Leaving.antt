@@ -34,6 +34,7 @@ left_same F parts counts kept rooted = record {
     rows = λ n given. inl refl;
   };
   dead = λ n r row gone. absurd (let e = sym row ∙ gone in cc);
+  fallen = λ n r row gone. absurd (let e = sym row ∙ gone in cc);
   killed = λ n b inside other. absurd (other refl);
   rooted = rooted;
   roots = λ b r given row same. refl;

@@ -1,4 +1,5 @@
 pub mod Needing
+pub mod Nesting
 pub mod Observing
 pub mod Seeing
 pub mod Sound

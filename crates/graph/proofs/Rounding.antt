@@ -105,6 +105,7 @@ module _ {F : Type 0} (M : Functions) (G : Graph) (died : NodeId → Option Node
     made = λ b r late row. elim (h.made b r late row) [ inl none ↦ inl none | inr right ↦ inr (built_in b right) ];
     refused = λ b is. unbuilt_in b (h.refused b is);
     was = h.was;
+    scoped = h.scoped;
   }
 
 -- ---- an accepted round
@@ -250,6 +251,7 @@ module _ {F : Type 0} (M : Functions) (functions functions' : F) (old new : Part
       → LeavesNodes M (seen_as functions old observers rooted refused) (seen_as functions' new observers rooted' refused') before after
   leaves_nodes l = record {
     dead = l.dead;
+    fallen = l.fallen;
     killed = l.killed;
     roots = l.roots;
     born = λ n r late row. let b = l.born n r late row in (stands_anew n b.0, b.1);

@@ -4,7 +4,7 @@ use Rattle.std.proofs.lemmas.Bool.{eqb-true, eq-eqb, lt-ltb}
 use Rattle.inc_value.specs.declared.node.NodeId.{NodeId}
 use Rattle.inc_value.specs.declared.node.Point.{Point}
 use Rattle.inc_terms.specs.Depend.{main, change}
-use Rattle.inc_terms.specs.Graph.{Row, Def, Var, Bind}
+use Rattle.inc_terms.specs.Graph.{Row, Def, Bind}
 use Rattle.inc_value.specs.declared.outcome.Outcome.{Outcome}
 use Rattle.inc_value.specs.declared.value.Value.{Value}
 use Rattle.map_nodes.specs.declared.cutoff.Cutoff.{Cutoff}

@@ -1,12 +1,13 @@
 -- What every graph keeps, where a node is added.
-use Rattle.std.proofs.Common.{◌≡◌, ◌⊎◌, inl, inr, ℕ, zero, suc, ◌+◌, ◌<◌, ◌≤◌, Bool, List, Option, None, Some, Ok, Err, refl, sym, ap, subst, ◌∙◌, arith}
+use Rattle.std.proofs.Common.{◌≡◌, ◌⊎◌, inl, inr, ℕ, zero, suc, ◌+◌, ◌<◌, ◌≤◌, Bool, List, Option, None, Some, option_map, Ok, Err, refl, sym, ap, subst, ◌∙◌, arith}
 use Rattle.std.specs.Prelude.{Result, IfOk, OnOk, OnErr, IsErrOf}
 use Rattle.inc_value.specs.declared.function.FnRef.{FnRef}
 use Rattle.inc_value.specs.declared.node.NodeId.{NodeId}
 use Rattle.inc_value.specs.declared.node.Point.{Point}
 use Rattle.inc_value.specs.declared.value.Value.{Value}
-use Rattle.inc_terms.specs.Depend.{main}
-use Rattle.inc_terms.specs.Graph.{Def}
+use Rattle.inc_terms.specs.Depend.{main, change, subject_of}
+use Rattle.inc_terms.specs.Graph.{Def, Row, Bind}
+use Rattle.inc_value.specs.declared.outcome.Outcome.{Outcome}
 use Rattle.inc_terms.specs.Within.{Given}
 use Rattle.inc_value.specs.declared.ty.Ty.{Ty}
 use Rattle.point_map.specs.Rows.{at}
@@ -19,7 +20,8 @@ use Rattle.node_arena.specs.RightSide.{RightSide, SidesHold}
 use Rattle.node_arena.specs.RightSideLaws.{meaning, ids_of}
 use Rattle.node_outcomes.specs.Meaning.{Meaning}
 use Rattle.map_nodes.specs.declared.cutoff.Cutoff.TheVariants.{Equal}
-use Rattle.inc_value.specs.declared.node.Part.TheVariants.{Main}
+use Rattle.inc_value.specs.declared.node.Part.TheVariants.{Main, Change}
+use Rattle.node_outcomes.specs.Choosing.{built_by, built_in}
 use Rattle.node_outcomes.specs.Computing.{seen_of}
 use Rattle.node_outcomes.specs.declared.row.Progress.{Progress}
 use Rattle.wiring.specs.Places.{ChangesNode, for_parts}
@@ -29,7 +31,7 @@ use Rattle.stabilizer.specs.Round.{IsReady, last_of}
 use Rattle.stabilizer.specs.Weights.{SidesFit}
 use Rattle.stabilizer.specs.declared.parts.Parts.{Parts}
 use Rattle.wiring.specs.declared.refused.Refused.{Refused}
-use Rattle.node_outcomes.specs.Row.{cutoff_in}
+use Rattle.node_outcomes.specs.Row.{cutoff_in, outcome_in}
 use Rattle.graph.specs.Effects.{Adds, KeepsBesideGiven, CallsKnown}
 use Rattle.graph.proofs.Fitting.{known_fits, calls_fit, fit_added}
 use Rattle.graph.specs.Inside.{FitsInside}
@@ -49,6 +51,19 @@ pub record AddAnswers (old new : Arena) (def : Def) (ty : Ty) (result : Result N
   pub fresh : IfOk result (λ (id : NodeId). id.gen_ ≡ old.given)
   pub unknown : (¬ NamesGiven old.given def) → IsErrOf result add.Unknown
 
+no_outcome : (m : Option NodeId) (k : Progress) → k.outcome ≡ None → outcome_in (option_map (λ (m : NodeId). k) m) ≡ None
+no_outcome None k none = refl
+no_outcome (Some m) k none = none
+
+-- without an outcome of its change no node is built
+none_built : (row : Option Row) (root : Option NodeId) → built_in row None root ≡ None
+none_built None root = refl
+none_built (Some r) root = by_kind r.def
+  where
+    by_kind : (def : Def) → built_by def None root ≡ None
+    by_kind (Bind left function captures) = refl
+    by_kind def = refl
+
 -- the new node's points have this row: no outcome, no last call, cutoff Equal
 pub adds_of : {F : Type 0} (s t : Standing F) (def : Def) (ty : Ty) (result : Result NodeId AddFault) (k : Progress) → k.outcome ≡ None → k.last ≡ None
     → k.cutoff ≡ Equal → AddAnswers s.nodes t.nodes def ty result
@@ -60,6 +75,9 @@ adds_of s t def ty (Ok id) k unshown uncalled equal a row beside = record {
   given = a.given;
   changes = a.added;
   unshown = ap seen_of (row.now Main) ∙ unshown;
+  unbuilt = ap (λ (o : Option Outcome). built_in (row_at t.nodes id) o (at t.work.roots (change id)))
+      (ap outcome_in (row.now Change) ∙ no_outcome (subject_of def) k unshown)
+      ∙ none_built (row_at t.nodes id) (at t.work.roots (change id));
   uncalled = ap last_of (row.now Main) ∙ uncalled;
   equal = ap cutoff_in (row.now Main) ∙ equal;
 }

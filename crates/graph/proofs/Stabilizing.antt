@@ -99,6 +99,7 @@ module _ (F : Functions) (G : Graph) (died : NodeId → Option NodeId) (old : Wo
     refused = λ b is. let u = h.refused b is in
         record { none = u.none; differs = u.differs; met = met_as F G died xs ys to (λ (p : Point). part.Needed old.graph p) (change b) u.met };
     was = h.was;
+    scoped = h.scoped;
   }
 
   listed_as : (points : List Point) → IsListedIn F G died old xs points → IsListedIn F G died old ys points

@@ -75,13 +75,14 @@ module _ {F : Type 0} where
     pub beside : KeepsBesideGiven old new
     pub nodes : new.nodes ≡ old.nodes
 
-  -- a node was added under an id that was never given. It shows nothing yet, its function was never called, and its cutoff is Equal
+  -- a node was added under an id that was never given. It shows nothing yet, is built for nothing, its function was never called, and its cutoff is Equal
   pub record Adds (old new : Standing F) (id : NodeId) (row : Row) : Type 0 where
     pub beside : KeepsBesideGiven old new
     pub fresh : id.gen_ ≡ old.nodes.given
     pub given : new.nodes.given ≡ old.nodes.given + 1
     pub changes : Changes old.nodes new.nodes id (Some row)
     pub unshown : shown_of new id ≡ None
+    pub unbuilt : (graph new).built id ≡ None
     pub uncalled : called_last new id ≡ None
     pub equal : cutoff_of new id ≡ Equal
 

@@ -1,14 +1,24 @@
 -- What every graph keeps.
-use Rattle.std.specs.Prelude.{◌≤◌, ◌-◌, ◌^◌, length, IsSome}
+use Rattle.std.specs.Prelude.{◌≡◌, ◌≤◌, ◌-◌, ◌^◌, List, Some, length, IsSome}
+use Rattle.inc_value.specs.declared.function.FnRef.{FnRef}
 use Rattle.inc_value.specs.declared.node.NodeId.{NodeId}
 use Rattle.inc_value.specs.Choice.{Among}
+use Rattle.inc_terms.specs.Graph.{Graph, Row, Bind, Built}
 use Rattle.inc_terms.specs.Local.{Scoped}
 use Rattle.inc_terms.specs.Within.{Given}
+use Rattle.node_arena.specs.Arena.{Arena, row_at}
 use Rattle.node_arena.specs.Graph.{AllCallFit}
 use Rattle.node_arena.specs.Sound as arena
+use Rattle.node_arena.specs.Typing.{Fits}
 use Rattle.node_outcomes.specs.Meaning.{Meaning}
 use Rattle.stabilize_round.specs.Invariant.{Rooted}
 use Rattle.graph.specs.Standing.{Standing, graph, shown_of, in_use, rooted_nodes, AreRooted, IsUnbroken}
+
+-- the root of a bind was given, and is of the type that the bind's function gives, or dead
+abbrev pub RootsFit : Arena → Graph → Type 0
+RootsFit a G =
+    (b : NodeId) (r : Row) (left : NodeId) (f : FnRef) (captures : List NodeId) (w : Built) (root : NodeId) → row_at a b ≡ Some r
+    → r.def ≡ Bind left f captures → G.built b ≡ Some w → w.root ≡ Some root → Given a.given root × Fits a root f.sig.gives
 
 module _ {F : Type 0} where
   -- an unbroken graph: need begins at the observers that were there at the last stabilize, and their nodes show an outcome; all functions of its nodes are
@@ -20,11 +30,12 @@ module _ {F : Type 0} where
     pub shown : (n : NodeId) → Among n (rooted_nodes s) → IsSome (shown_of s n)
 
   -- what every graph keeps, also one that is broken: each scope is that of a live bind, and each bind that is built for a value has a root that reads
-  -- back as its function's term at it, one that is built for Invalid none
+  -- back as its function's term at it and is of the type that this gives, or dead; one that is built for Invalid has none
   pub record IsSound (M : Meaning) (s : Standing F) : Type 0 where
     pub few : length s.observers ≤ 2 ^ 32 - 1
     pub earlier : s.rooted ≤ length s.observers
     pub nodes : arena.IsSound s.nodes
     pub scopes : Scoped (graph s)
     pub built : Rooted M.functions (graph s)
+    pub typed : RootsFit s.nodes (graph s)
     pub whole : IsUnbroken s → IsWhole M s

@@ -91,13 +91,16 @@ module _ {F : Type 0} where
 
     -- what a stabilize leaves of what live binds are built for, of which one couldn't be built, or none. That of a bind that was given before stays, or is
     -- what its left gives, and then its change is met; a bind that was made in the stabilize is built for nothing, or for what its left gives, and then
-    -- its change is met. The one that couldn't be built is built for nothing; where it was given before, its left gave another outcome than it was built for
+    -- its change is met. The one that couldn't be built is built for nothing; where it was given before, its left gave another outcome than it was built for.
+    -- A new node stands in the scope of a bind that is built, or of the one that couldn't be
     pub record BuildsRightIn (old : Standing F) (unbuilt : Option NodeId) : Type 0 where
       pub stays : (b : NodeId) (r : Row) → Given old.nodes.given b → G.row b ≡ Some r
           → (G.built b ≡ (graph old).built b) ⊎ IsBuiltMetIn old b ⊎ (unbuilt ≡ Some b)
       pub made : (b : NodeId) (r : Row) → old.nodes.given ≤ b.gen_ → G.row b ≡ Some r → (G.built b ≡ None) ⊎ IsBuiltMetIn old b
       pub refused : (b : NodeId) → unbuilt ≡ Some b → IsUnbuiltIn old b
       pub was : (b : NodeId) → unbuilt ≡ Some b → Given old.nodes.given b → LeftDiffers M (graph old) b
+      pub scoped : (n : NodeId) (r : Row) (b : NodeId) → old.nodes.given ≤ n.gen_ → G.row n ≡ Some r → r.scope ≡ Some b → G.built b ≡ None
+          → unbuilt ≡ Some b
 
     -- ---- accepted
 
@@ -231,13 +234,15 @@ module _ {F : Type 0} where
   abbrev pub IsBuiltOther : Standing F → Standing F → NodeId → Type 0
   IsBuiltOther old new b = outcome_of ((graph new).built b) ≡ outcome_of ((graph old).built b) → ⊥
 
-  -- who died stood inside a bind whose left gives another outcome than it was built for. Who stood inside a bind that is built for another outcome than
-  -- before, or for nothing now, is dead. A bind that is built for the same outcome has the same root; a new node stands inside a bind that is built for
+  -- who died stood inside a bind whose left gives another outcome than it was built for, and inside one that is built for another outcome than before, or for
+  -- nothing now. Who stood inside a bind that is built for another outcome than before, or for nothing now, is dead. A bind that is built for the same outcome has the same root; a new node stands inside a bind that is built for
   -- another outcome than before, or for nothing. The count of builds rose by at most one for each of some binds, and of those that were given before each
   -- had a left that gives another outcome than it was built for; and as many nodes were added as ids were given
   pub record LeavesNodes (M : Functions) (old new : Standing F) (before after : Counts) : Type 0 where
     pub dead : (n : NodeId) (r : Row) → row_at old.nodes n ≡ Some r → row_at new.nodes n ≡ None
         → (b : NodeId) × Inside (graph old) b n × LeftDiffers M (graph old) b
+    pub fallen : (n : NodeId) (r : Row) → row_at old.nodes n ≡ Some r → row_at new.nodes n ≡ None
+        → (b : NodeId) × Inside (graph old) b n × (((graph new).built b ≡ None) ⊎ IsBuiltOther old new b)
     pub killed : (n b : NodeId) → Inside (graph old) b n → IsBuiltOther old new b → row_at new.nodes n ≡ None
     pub roots : (b : NodeId) (r : Row) → Given old.nodes.given b → row_at new.nodes b ≡ Some r
         → outcome_of ((graph new).built b) ≡ outcome_of ((graph old).built b) → (graph new).built b ≡ (graph old).built b

@@ -5,7 +5,7 @@ ghost use Rattle.node_arena.specs.Arena.{row_at, live, IsLive};
 ghost use Rattle.inc_value.specs.declared.node.Point.{Point};
 ghost use Rattle.map_nodes.specs.declared.cutoff.Cutoff.TheVariants.{Equal};
 ghost use Rattle.node_outcomes.specs.Meaning.{meaning_of};
-ghost use Rattle.graph.specs.Few.{AreFew};
+ghost use Rattle.graph.specs.Few.{AreFew, ScopesAreFew};
 ghost use Rattle.graph.specs.Sound.{IsSound};
 ghost use Rattle.graph.specs.Standing.{IsUnbroken, IsBroken, IsOwner, graph};
 ghost use Rattle.graph.specs.Standing.{called_last, cutoff_of, times_linked, times_rooted};
@@ -149,12 +149,14 @@ impl<F: Functions> Graph<F> {
         Some(top)
     }
 
-    /// What is kept fits together, no more nodes live than those outside all scopes count as, and a node that is not live has
-    /// cutoff Equal: facts for a caller's proof. Nothing runs.
+    /// What is kept fits together. No more nodes live than those outside all scopes count as, and in a bind's scope, with the
+    /// scopes within it, no more than its function takes. A node that is not live has cutoff Equal. These are facts for a
+    /// caller's proof: nothing runs.
     pub fn keeps_sound(&self)
         ensures sound { IsSound (meaning_of F.Functions self.entry.now.functions) self.entry.now }
         ensures functions { F.is_sound self.entry.now.functions }
         ensures few { AreFew (F.right self.entry.now.functions) self.entry.now.nodes }
+        ensures scopes { ScopesAreFew (F.right self.entry.now.functions) (graph self.entry.now) }
         ensures dead { (n : NodeId) → row_at self.entry.now.nodes n ≡ None → cutoff_of self.entry.now n ≡ Equal }
     {
         let _ = &self.parts;

@@ -1,5 +1,5 @@
 -- What bodies of the tests may call and list.
-use Rattle.std.specs.Prelude.{◌≡◌, ◌≤◌, IsTrue, Bool, ℕ, List, [], Option, Some}
+use Rattle.std.specs.Prelude.{◌≡◌, ◌≤◌, IsTrue, Bool, [], Option, Some}
 use Rattle.inc_value.specs.declared.function.FnRef.{FnRef}
 use Rattle.inc_terms.specs.Within.{Given}
 use Rattle.node_arena.specs.Arena.{Arena}
@@ -7,7 +7,7 @@ use Rattle.node_arena.specs.Listing.{Listed}
 use Rattle.node_arena.specs.RightSide.{RightSide}
 use Rattle.node_arena.specs.Typing.{Fits}
 use Rattle.script_functions.specs.declared.line.Line as lines
-use Rattle.script_functions.specs.declared.line.Line.TheVariants.{Const, Map, Fold, If, Join, Bind}
+use Rattle.script_functions.specs.declared.line.Line.TheVariants.{Map, Fold, Bind}
 use Rattle.std_library.specs.Functions as library
 
 -- a listed node was given, and is of its type or dead

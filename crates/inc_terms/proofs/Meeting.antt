@@ -13,7 +13,7 @@ use Rattle.inc_value.specs.declared.value.Value.TheVariants as value
 use Rattle.inc_value.specs.Choice.{Among, Reaches, here, step}
 use Rattle.inc_terms.specs.Term.{Functions, refs}
 use Rattle.inc_terms.specs.Graph as graph
-use Rattle.inc_terms.specs.Graph.{Graph, Row, Built, Def, present, present_def, frozen_or}
+use Rattle.inc_terms.specs.Graph.{Graph, Row, Def, present_def, frozen_or}
 use Rattle.inc_terms.specs.Within.{TermWithin, TermsWithin, FunctionsWithin, OutcomeWithin}
 use Rattle.inc_terms.specs.Evaluate.{NodeGives}
 use Rattle.inc_terms.specs.Agree.{Agree}

@@ -9,7 +9,7 @@ use Rattle.inc_value.specs.declared.value.Value.TheVariants as value
 use Rattle.inc_terms.specs.Same.{same_outcome}
 use Rattle.inc_terms.specs.Term.{Ref, Functions}
 use Rattle.inc_terms.specs.Graph as graph
-use Rattle.inc_terms.specs.Graph.{Graph, Row, Built, Def, present, present_def}
+use Rattle.inc_terms.specs.Graph.{Graph, Row, Built, Def, present_def}
 use Rattle.inc_terms.specs.Within.{FunctionsWithin}
 use Rattle.inc_terms.specs.Evaluate.{Of, Around, as_built, answer, Gives, NodeGives}
 use Rattle.inc_terms.specs.Agree.{Agree}

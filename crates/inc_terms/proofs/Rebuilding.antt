@@ -6,7 +6,7 @@ use Rattle.inc_value.specs.declared.outcome.Outcome.{Outcome}
 use Rattle.inc_value.specs.Choice.{Reaches, here, step}
 use Rattle.inc_terms.specs.Term.{Functions}
 use Rattle.inc_terms.specs.Graph as graph
-use Rattle.inc_terms.specs.Graph.{Graph, Row, Built, Def}
+use Rattle.inc_terms.specs.Graph.{Graph, Row, Built}
 use Rattle.inc_terms.specs.Within.{FunctionsWithin, Given, Fit}
 use Rattle.inc_terms.specs.Evaluate.{NodeGives}
 use Rattle.inc_terms.specs.Rebuild.{Inside, direct, nested, IsDue, Rebuilds}

@@ -12,7 +12,7 @@ use Rattle.inc_terms.specs.Same.{same_outcome}
 use Rattle.inc_terms.specs.Term.{Term, Terms, Step, Const, Ref, Cap, Map, Fold, If, Join, Bind, At, Steps, Now, End}
 use Rattle.inc_terms.specs.Term.{More, Functions, refs, capture, put, put_all}
 use Rattle.inc_terms.specs.Graph as graph
-use Rattle.inc_terms.specs.Graph.{Graph, Row, Built, Def, present, present_def}
+use Rattle.inc_terms.specs.Graph.{Graph, Row, Built, present}
 use Rattle.inc_terms.specs.Within.{ValueWithin, TermWithin, TermsWithin, FunctionsWithin}
 use Rattle.inc_terms.specs.Evaluate.{Query, Of, Around, with_value, level, answer, Gives, NodeGives, Stands}
 use Rattle.inc_terms.specs.Unfold.{Unfolds, UnfoldsAll}

@@ -9,7 +9,7 @@ use Rattle.inc_value.specs.declared.outcome.Outcome.{Outcome}
 use Rattle.inc_value.specs.declared.outcome.Outcome.TheVariants.{Val, Invalid}
 use Rattle.inc_value.specs.declared.value.Value.{Value}
 use Rattle.inc_terms.specs.Term as term
-use Rattle.inc_terms.specs.Term.{Term, Functions}
+use Rattle.inc_terms.specs.Term.{Functions}
 use Rattle.inc_terms.specs.Graph.{Graph, Row, Built, Def, If, Join, Bind, Freeze, present_def}
 use Rattle.inc_terms.specs.Evaluate.{Query, Of, with_value, level, NodeGives, Stands}
 use Rattle.inc_terms.specs.Unfold.{Unfolds}

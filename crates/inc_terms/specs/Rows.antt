@@ -8,7 +8,7 @@ use Rattle.inc_value.specs.declared.ty.Ty.TheVariants as ty
 use Rattle.inc_value.specs.declared.value.Value.{Value}
 use Rattle.inc_value.specs.declared.value.Value.TheVariants.{Int}
 use Rattle.inc_terms.specs.Term as term
-use Rattle.inc_terms.specs.Term.{Term, Terms, End, More, Functions}
+use Rattle.inc_terms.specs.Term.{Term, End, More, Functions}
 use Rattle.inc_terms.specs.Graph.{Graph, Row, Built, Def, Const, Var, Map, Bind}
 use Rattle.inc_terms.specs.Evaluate.{NodeGives}
 

@@ -1,6 +1,6 @@
 -- Equal outcomes, as a test.
 use Rattle.std.specs.Prelude as std
-use Rattle.std.specs.Prelude.{ℕ, ℤ, List, [], ◌∷◌, true, false, ◌==◌, ◌&&◌}
+use Rattle.std.specs.Prelude.{ℕ, List, [], ◌∷◌, true, false, ◌==◌, ◌&&◌}
 use Rattle.std.specs.Ordering.{int_eq}
 use Rattle.inc_value.specs.Ty.{same_base}
 use Rattle.inc_value.specs.declared.node.NodeId.{NodeId}

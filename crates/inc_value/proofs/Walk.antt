@@ -1,5 +1,5 @@
 -- Walks, where heights rise.
-use Rattle.std.proofs.Common.{◌≡◌, ◌⊎◌, inl, inr, ℕ, ◌≤◌, ◌<◌, List, [], ◌∷◌, length, refl, arith}
+use Rattle.std.proofs.Common.{inl, inr, ℕ, ◌≤◌, ◌<◌, List, [], ◌∷◌, length, arith}
 use Rattle.inc_value.specs.Choice.{Among, NoRepeats, Reaches, here, step}
 use Rattle.inc_value.specs.Walk.{IsWalk, IsDeep, Rises}
 

@@ -1,9 +1,8 @@
 //! What scripts cost: `incr_profile run` reads a script from standard input and writes its transcript to
-//! standard output, with how many functions were called behind each accepted stabilize.
+//! standard output, with how many functions were called, and how many right sides of binds were built,
+//! behind each accepted stabilize.
 #![tactic(auto)]
 
-mod calls;
-mod counted;
 mod top;
 
 use std::alloc::AllocError;

@@ -252,7 +252,7 @@ fn types_of(alloc: Global, values: &[Value]) -> Result<Vec<Ty>, AllocError>
 }
 
 /// Whether the types are the same, one for one.
-fn are_same(left: &[Ty], right: &[Ty]) -> bool
+pub(super) fn are_same(left: &[Ty], right: &[Ty]) -> bool
     ensures { IsTrue result ↔ (left.now ≡ right.now) }
 {
     left == right

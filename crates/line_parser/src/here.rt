@@ -13,6 +13,7 @@ pub fn is_here(line: &Line) -> bool
     match line {
         Line::Var { .. }
         | Line::Set { .. }
+        | Line::Grab { .. }
         | Line::Observe { .. }
         | Line::Unobserve { .. }
         | Line::Show { .. }
@@ -22,7 +23,6 @@ pub fn is_here(line: &Line) -> bool
         | Line::Link { .. }
         | Line::Unlink { .. }
         | Line::Stale { .. }
-        | Line::Grab { .. }
         | Line::Watch { .. }
         | Line::Advance { .. }
         | Line::AdvanceTo { .. } => false,
@@ -44,12 +44,8 @@ fn is_plain(tree: &Tree) -> bool
         } => is_plain(test) && is_plain(then_side) && is_plain(else_side),
         Tree::Join { child } => is_plain(child),
         Tree::Fold { elements, .. } => are_plain(elements),
-        Tree::Bind { .. }
-        | Tree::At(_)
-        | Tree::Now
-        | Tree::Steps { .. }
-        | Tree::After(_)
-        | Tree::Every(_) => false,
+        Tree::Bind { left, body, .. } => is_plain(left) && is_plain(body),
+        Tree::At(_) | Tree::Now | Tree::Steps { .. } | Tree::After(_) | Tree::Every(_) => false,
         Tree::Freeze { .. } => false,
     }
 }

@@ -1,5 +1,5 @@
 -- The type that a definition makes of its children and values.
-use Rattle.std.specs.Prelude.{◌≡◌, ◌<◌, ◌-◌, ◌^◌, List, [], ◌∷◌, Option, None, Some, IfSome}
+use Rattle.std.specs.Prelude.{◌≡◌, ◌<◌, ◌-◌, ◌^◌, List, [], ◌∷◌, Some, IfSome}
 use Rattle.std.specs.List.{AllZip}
 use Rattle.inc_value.specs.Choice.{Every}
 use Rattle.inc_value.specs.Ty.{base_of, type_of_base}
@@ -8,7 +8,6 @@ use Rattle.inc_value.specs.declared.function.FnKind.TheVariants as kind
 use Rattle.inc_value.specs.declared.function.FnRef.{FnRef}
 use Rattle.inc_value.specs.declared.node.NodeId.{NodeId}
 use Rattle.inc_value.specs.declared.ty.Base.{Base}
-use Rattle.inc_value.specs.declared.ty.Base.TheVariants as base
 use Rattle.inc_value.specs.declared.ty.Ty.{Ty}
 use Rattle.inc_value.specs.declared.ty.Ty.TheVariants as ty
 use Rattle.inc_value.specs.declared.value.Value.{Value}

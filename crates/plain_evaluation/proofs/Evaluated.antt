@@ -1,5 +1,5 @@
 -- What it means that nodes are evaluated.
-use Rattle.std.proofs.Common.{◌≡◌, ◌+◌, ℕ, zero, suc, sym, ap, subst, ◌∙◌, add-zero, add-suc, arith}
+use Rattle.std.proofs.Common.{◌≡◌, ◌+◌, ℕ, suc, sym, ap, subst, ◌∙◌, add-zero, add-suc, arith}
 use Rattle.std.specs.Prelude.{slice_get}
 use Rattle.plain_evaluation.specs.Found.{at}
 use Rattle.plain_evaluation.specs.Order.{FoundUnder}

@@ -12,7 +12,7 @@ use Rattle.plain_evaluation.specs.declared.definition.Definition.{Definition}
 use Rattle.plain_evaluation.specs.declared.definition.Definition.TheVariants.{Var, Truth, Refer, Neg, Sum, Less, Pick, If, Join, Bind, Grab}
 use Rattle.plain_evaluation.specs.declared.definition.Part.TheVariants.{Outside}
 use Rattle.plain_evaluation.specs.declared.definition.Line.{Line}
-use Rattle.plain_evaluation.specs.declared.definition.Line.TheVariants.{Number, Neg as Line-Neg, Sum as Line-Sum, Less as Line-Less, If as Line-If, Join as Line-Join, Bind as Line-Bind}
+use Rattle.plain_evaluation.specs.declared.definition.Line.TheVariants.{Neg as Line-Neg, Sum as Line-Sum, Less as Line-Less, If as Line-If, Join as Line-Join, Bind as Line-Bind}
 use Rattle.plain_evaluation.specs.declared.definition.Side.{Side}
 
 -- a line outside of all scopes

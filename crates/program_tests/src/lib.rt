@@ -3,6 +3,8 @@
 #![tactic(auto)]
 
 #[cfg(test)]
+mod binds;
+#[cfg(test)]
 mod choices;
 #[cfg(test)]
 mod runs;

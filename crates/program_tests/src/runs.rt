@@ -1,7 +1,7 @@
 //! Runs of scripts from memory to memory.
 
 use script_io::{MemSink, MemSource};
-use script_run::{Plain, drive};
+use script_run::{Counts, Plain, Report, drive};
 use std::alloc::Global;
 use std_library::StdLib;
 
@@ -30,30 +30,32 @@ pub(super) struct Wanted<'a> {
 }
 
 /// Whether a run is as wanted.
-fn is_run(
+fn is_run<R: Report<StdLib>>(
     alloc: Global,
     source: &mut MemSource,
     sink: &mut MemSink,
+    report: &mut R,
     limit: u64,
     wanted: &Wanted<'_>,
 ) -> bool {
     let limit = limit.min(4_000_000);
-    let (status, library) = drive(alloc, source, sink, StdLib::new(), &mut Plain, limit);
+    let (status, library) = drive(alloc, source, sink, StdLib::new(), report, limit);
     status == wanted.status
         && library.calls() == wanted.calls
         && sink.written() == wanted.output.as_bytes()
 }
 
 /// The same into a sink of its own.
-fn is_written(
+fn is_written<R: Report<StdLib>>(
     alloc: Global,
     source: &mut MemSource,
     outside: &Outside,
+    report: &mut R,
     wanted: &Wanted<'_>,
 ) -> bool {
     match MemSink::new(alloc, outside.room, Vec::new(alloc)) {
         Ok(mut sink) => {
-            let well = is_run(alloc, source, &mut sink, outside.limit, wanted);
+            let well = is_run(alloc, source, &mut sink, report, outside.limit, wanted);
             drop(sink);
             well
         }
@@ -73,6 +75,24 @@ fn source_of(alloc: Global, script: &str, outside: &Outside) -> Option<MemSource
     }
 }
 
+/// Whether the script is answered as wanted, where this is written of each line behind what it prints.
+fn is_reported<R: Report<StdLib>>(
+    alloc: Global,
+    script: &str,
+    outside: &Outside,
+    report: &mut R,
+    wanted: &Wanted<'_>,
+) -> bool {
+    match source_of(alloc, script, outside) {
+        Some(mut source) => {
+            let well = is_written(alloc, &mut source, outside, report, wanted);
+            drop(source);
+            well
+        }
+        None => false,
+    }
+}
+
 /// Whether the script is answered as wanted.
 pub(super) fn is_answered(
     alloc: Global,
@@ -80,12 +100,15 @@ pub(super) fn is_answered(
     outside: &Outside,
     wanted: &Wanted<'_>,
 ) -> bool {
-    match source_of(alloc, script, outside) {
-        Some(mut source) => {
-            let well = is_written(alloc, &mut source, outside, wanted);
-            drop(source);
-            well
-        }
-        None => false,
-    }
+    is_reported(alloc, script, outside, &mut Plain, wanted)
+}
+
+/// The same, with what each stabilize calls and builds in what is written.
+pub(super) fn is_profiled(
+    alloc: Global,
+    script: &str,
+    outside: &Outside,
+    wanted: &Wanted<'_>,
+) -> bool {
+    is_reported(alloc, script, outside, &mut Counts::new(), wanted)
 }

@@ -1,5 +1,6 @@
 //! Scripts with their transcripts, and what their runs are like.
 
+use crate::binds::are_binds_answered;
 use crate::choices::CHOICE_SCRIPTS;
 use crate::runs::{Outside, Wanted, is_answered};
 use crate::scripts::{Rows, are_answered};
@@ -333,7 +334,8 @@ const MANY_ROUNDS: &[Rows] = &[
     ),
 ];
 
-/// Folds of literals that fill all places, and one place more.
+/// Folds of literals that fill all places, and one place more. Before the last of them comes a bind, which counts as two
+/// places and so takes one more than are left.
 const FULL_PLACES: &[Rows] = &[
     Rows::Numbered(
         (0, 1_023),
@@ -342,6 +344,13 @@ const FULL_PLACES: &[Rows] = &[
         1_022,
         "]\n",
         "ok\n",
+    ),
+    Rows::Long(
+        "let b bind v = a0 in fold add from 0 [1",
+        ",1",
+        1_020,
+        "]\n",
+        "refused 19\n",
     ),
     Rows::Long("let a1023 fold add from 0 [1", ",1", 1_021, "]\n", "ok\n"),
     Rows::Each(&[("let z 1", "refused 19\n")]),
@@ -438,6 +447,11 @@ fn scripts_are_answered(rt: HostRuntime) {
     assert!(rt; are_scripts_answered(rt.alloc()));
     assert!(rt; are_rows_answered(rt.alloc(), LONG_SCRIPTS));
     assert!(rt; are_rows_answered(rt.alloc(), CHOICE_SCRIPTS));
+}
+
+#[test]
+fn binds_are_answered(rt: HostRuntime) {
+    assert!(rt; are_binds_answered(rt.alloc()));
 }
 
 #[test]

@@ -6,7 +6,7 @@ use Rattle.inc_value.specs.Choice.{Every}
 use Rattle.inc_value.specs.declared.ty.Ty.{Ty}
 use Rattle.node_arena.specs.Listing.{Listed}
 use Rattle.script_functions.specs.Bodies as spec
-use Rattle.script_functions.specs.Bodies.{captured, type_at, IsTyped, NextHas, with_line, size_of}
+use Rattle.script_functions.specs.Bodies.{captured, IsTyped, NextHas, with_line, size_of}
 use Rattle.script_functions.specs.Lines.{AreTyped, LineHas, PartsHave, FoldTakes, BindTakes, line_size, parts_of, type_in}
 use Rattle.script_functions.specs.declared.line.Line as lines
 use Rattle.script_functions.specs.declared.line.Line.TheVariants.{Const, Map, Fold, If, Join, Bind}

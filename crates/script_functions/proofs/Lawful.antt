@@ -21,7 +21,7 @@ use Rattle.node_arena.specs.Listing.{Listed, nodes_of, IsNamed}
 use Rattle.node_arena.specs.RightSide.{AreOfType, IsLawful, ReferenceHas, SideHas, TermHas, TermsHave, TermsAre, ValueHas}
 use Rattle.node_arena.proofs.Growing.{left_has, left_named}
 use Rattle.script_functions.specs.Bodies as spec
-use Rattle.script_functions.specs.Bodies.{all_terms, captured, line_types, side_of, term_at, IsWhole}
+use Rattle.script_functions.specs.Bodies.{all_terms, captured, side_of, IsWhole}
 use Rattle.script_functions.specs.Lines.{FoldHas, FoldTakes, BindHas, BindTakes}
 use Rattle.script_functions.specs.Lines.{term_of, terms_of, line_term, terms_after, line_uses, uses_of}
 use Rattle.script_functions.specs.Lines.{type_in, AreTyped, IsListedAs, LineHas, PartsHave}

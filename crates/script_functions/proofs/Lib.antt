@@ -1,4 +1,4 @@
-mod Adding
+pub mod Adding
 mod Calling
 mod Lawful
 mod Lists

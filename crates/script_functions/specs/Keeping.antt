@@ -1,5 +1,5 @@
 -- Functions of right sides by number, as a table of what they make, beside maps that are known.
-use Rattle.std.specs.Prelude.{◌≡◌, ℕ, pos, Bool, false, ◌&&◌, List, Option, Some, None, map, slice_get}
+use Rattle.std.specs.Prelude.{◌≡◌, ◌≤◌, ◌++◌, ℕ, pos, Bool, false, ◌&&◌, List, length, Option, Some, None, map, slice_get}
 use Rattle.inc_value.specs.Sig.{Signature}
 use Rattle.inc_value.specs.Ty.{same_ty, same_types}
 use Rattle.inc_value.specs.declared.function.FnKind.{FnKind}
@@ -57,3 +57,9 @@ pub record AreSound (maps : FnRef → Bool) (sides : List Maker) : Type 0 where
 -- one that is to be kept
 abbrev pub brought : Maker → NewFunction
 brought m = record { kind = kind.Rhs; sig = m.sig; value = λ args. Int (pos 0); side = m.side }
+
+-- bodies were kept beside the others, no more than so many
+pub record KeepsBodies (old new : List Body) (most : ℕ) : Type 0 where
+  pub more : List Body
+  pub behind : new ≡ old ++ more
+  pub few : length more ≤ most

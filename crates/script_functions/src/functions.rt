@@ -4,6 +4,7 @@ ghost use Rattle.script_functions.specs.Keeping.{maker_of, side_made};
 
 use crate::Body;
 use crate::keeping::{build_at, has_body};
+use function_keepers::Keeper;
 use inc_value::{FnId, FnKind, FnRef, NodeId, Value};
 use node_arena::{BuildFault, Builder, Functions, Library, MoreFault, RhsFn};
 use std::alloc::{AllocError, Global};
@@ -111,23 +112,7 @@ impl<L: Library> Functions for ScriptFns<L> {
     ghost brings = { λ b. brought (maker_of b) };
 
     fn more(&mut self, alloc: Global, m: Body) -> Result<FnRef, (MoreFault, Body)> {
-        let _ = alloc;
-        if self.bodies.len() >= MOST {
-            return Err((MoreFault::TooMany, m));
-        }
-        if self.bodies.reserve(1).is_err() {
-            return Err((MoreFault::Memory, m));
-        }
-        let sig = m.sig();
-        let number = self.bodies.len() as u64;
-        self.bodies.push_reserved(m);
-        Ok(FnRef {
-            id: FnId {
-                kind: FnKind::Rhs,
-                number,
-            },
-            sig,
-        })
+        self.keep(alloc, m)
     }
 
     fn knows(&self, f: FnRef) -> bool {
@@ -172,4 +157,31 @@ impl<L: Library> Functions for ScriptFns<L> {
     ghost no_reference = { λ s sound. maps_base _ _ _ (none_seen (L.known s.library) (L.value s.library)) };
 
     ghost sides = { λ s sound. sides_hold _ _ sound };
+}
+
+impl<L: Library> Keeper for ScriptFns<L> {
+    ghost use Rattle.std.specs.Prelude.{◌≡◌};
+    ghost use Rattle.script_functions.specs.Keeping.{KeepsBodies};
+
+    ghost keeps = { λ old new. (new.library ≡ old.library) × (new.builds ≡ old.builds) × KeepsBodies old.bodies.items new.bodies.items 1 };
+
+    fn keep(&mut self, alloc: Global, m: Body) -> Result<FnRef, (MoreFault, Body)> {
+        let _ = alloc;
+        if self.bodies.len() >= MOST {
+            return Err((MoreFault::TooMany, m));
+        }
+        if self.bodies.reserve(1).is_err() {
+            return Err((MoreFault::Memory, m));
+        }
+        let sig = m.sig();
+        let number = self.bodies.len() as u64;
+        self.bodies.push_reserved(m);
+        Ok(FnRef {
+            id: FnId {
+                kind: FnKind::Rhs,
+                number,
+            },
+            sig,
+        })
+    }
 }

@@ -76,6 +76,42 @@ pub enum Line {
     },
 }
 
+impl Line {
+    /// The same line again.
+    pub fn copy(&self, alloc: Global) -> Result<Line, AllocError>
+        ensures { IfOk result (λ line. line ≡ self.now) }
+    {
+        Ok(match self {
+            Line::Const(value) => Line::Const(value.copy(alloc)?),
+            Line::Map(function, parts) => {
+                Line::Map(*function, Parts::from_slice(alloc, parts.as_slice())?)
+            }
+            Line::Fold(function, first, parts) => Line::Fold(
+                *function,
+                first.copy(alloc)?,
+                Parts::from_slice(alloc, parts.as_slice())?,
+            ),
+            Line::If { test, yes, no } => Line::If {
+                test: *test,
+                yes: *yes,
+                no: *no,
+            },
+            Line::Join(part) => Line::Join(*part),
+            Line::Bind {
+                left,
+                function,
+                most,
+                captures,
+            } => Line::Bind {
+                left: *left,
+                function: *function,
+                most: *most,
+                captures: Parts::from_slice(alloc, captures.as_slice())?,
+            },
+        })
+    }
+}
+
 /// A line, and the type of its node's values.
 #[derive(Drop)]
 pub struct TypedLine {

@@ -1,104 +1,76 @@
 -- A stabilize that was accepted is one of the script.
-use Rattle.std.proofs.Common.{◌≡◌, inl, ℕ, ◌+◌, suc, List, [], ◌∷◌, map, Option, None, Some, refl, ap, sym, subst, ◌∙◌, arith, slice_get}
+use Rattle.std.proofs.Common.{◌≡◌, inl, inr, ℕ, ◌+◌, true, false, ◌&&◌, Bool, List, [], map, Option, None, Some, option_map, is_some, refl, ap, sym, subst, ◌∙◌, slice_get}
 use Rattle.inc_value.specs.Choice.{and_then}
 use Rattle.inc_value.specs.declared.function.FnRef.{FnRef}
 use Rattle.inc_value.specs.declared.node.NodeId.{NodeId}
 use Rattle.inc_value.specs.declared.node.ObsId.{ObsId}
-use Rattle.inc_value.specs.declared.node.Point.{Point}
+use Rattle.inc_value.specs.declared.outcome.Outcome.{Outcome as GraphOutcome}
+use Rattle.inc_value.specs.declared.ty.Ty.{Ty}
 use Rattle.inc_value.specs.declared.value.Value.{Value as GraphValue}
-use Rattle.inc_terms.specs.Depend.{Depends, none_died}
-use Rattle.inc_terms.specs.Graph.{Row}
-use Rattle.inc_terms.specs.Local.{Exact}
+use Rattle.inc_terms.specs.Depend.{none_died}
+use Rattle.inc_terms.specs.Graph.{Graph, Row, Built as BuiltFor}
+use Rattle.inc_terms.specs.Rebuilding.{outcome_of}
+use Rattle.inc_terms.specs.Term as term
 use Rattle.inc_terms.specs.Term.{Functions}
-use Rattle.inc_terms.specs.Within.{Given}
-use Rattle.node_outcomes.specs.Meaning.{Meaning}
-use Rattle.graph.specs.Sound.{IsSound, IsWhole}
-use Rattle.graph.proofs.Flat.{nodes_alone, Stabilizes as GraphStabilizes, IsObserved}
-use Rattle.graph.specs.Standing.{Standing, in_use, node_at, cutoff_of, AreRooted}
+use Rattle.graph.specs.Sound.{IsWhole}
+use Rattle.graph.specs.Stabilizes.{Stabilizes as GraphStabilizes, left_by}
+use Rattle.graph.specs.Standing.{Standing, graph, in_use, node_at as looked_at, cutoff_of, AreRooted}
 use Rattle.graph.specs.declared.observer.Observer.{Observer as Looking}
-use Rattle.node_arena.specs.Arena.{Arena, row_at}
+use Rattle.node_arena.specs.Arena.{row_at}
 use Rattle.map_nodes.specs.declared.cutoff.Cutoff.TheVariants.{Equal}
-use Rattle.stabilizer.specs.Kept.{HasNoBinds}
 use Rattle.stabilize_round.specs.Calling.{costs_of}
 use Rattle.stabilize_round.specs.Counts.{RoseBy}
-use Rattle.formula_elab.specs.Today.{IsLaidOut, IsLaidOutBody}
-use Rattle.script_graph.specs.Today.{NoScopes, todays_graph, maps_alone, IsDeclaredTarget, RefersTo, AllPlain}
-use Rattle.script_model.specs.Blocked.{InTheWay, on_cycle, too_deep}
-use Rattle.script_model.specs.Check.{is_among}
+use Rattle.script_model.specs.Check.{is_among, target_of_body}
 use Rattle.script_model.specs.Evaluate.{NameGives}
-use Rattle.script_model.specs.Formula.{State, Entry, Body, Formula, Observer, Meanings, meanings_of, body_at, Literal, Name, Apply, Fold, If, Join, Variable, Computed}
-use Rattle.script_model.specs.Need.{Item, Visit, IsVisit, Needed, WithinWork}
-use Rattle.script_model.specs.Settle.{Becomes, BecomeAll, Builds, ShowAll}
-use Rattle.script_model.specs.Step.{Moment, NothingNeededIsBlocked, settles}
-use Rattle.script_model.specs.Values.{Outcome, seen_value}
+use Rattle.script_model.specs.Formula as script
+use Rattle.script_model.specs.Formula.{State, Entry, Body, Formula, Observer, Meanings, meanings_of, body_at, built_at, built_of_body, entry_at, Name, Bind, Variable, Computed, Grab}
+use Rattle.script_model.specs.Need.{Visit, IsVisit, Needed}
+use Rattle.script_model.specs.Settle.{BuildsFor, Settles, ShowAll}
+use Rattle.script_model.specs.Step.{Moment, settles}
+use Rattle.script_model.specs.Valid.{Valid, OutcomeHasType}
+use Rattle.script_model.specs.Values.{Value, Outcome, Val, same_kept}
+use Rattle.script_model.proofs.Leaves.{leaves_more_of, reference_more}
+use Rattle.script_model.proofs.Settling.{settles_valid}
 use Rattle.script_model.proofs.TypedValues.{declarations_have_types}
-use Rattle.script_graph.specs.Kept.{Kept, arena_of, node_in, without_functions}
+use Rattle.script_graph.specs.Growing.{functions_over}
+use Rattle.script_graph.specs.Kept.{Kept, node_in, without_functions}
 use Rattle.script_graph.specs.Represents.{graph_functions, besides, beside, there_in, AreNames, Represents, Watches}
-use Rattle.script_graph.specs.Settled.{side_of, observed_by, WasRun, Settled}
+use Rattle.script_graph.specs.Settled.{WasRun, Settled}
 use Rattle.script_graph.specs.Stabilizing.{IsAccepted}
 use Rattle.script_graph.specs.State.{MatchesMoment, Stands}
-use Rattle.script_graph.proofs.Beside.{represented_fits, grabs_bind, none_scoped}
-use Rattle.script_graph.proofs.Functions.{functions_are}
+use Rattle.script_graph.specs.Today.{IsDeclaredTarget, IsEarlierTarget, IsPlainBody, IsWithin, IsPartWithin, OwnNodesOf, RefersTo, AllPlain}
+use Rattle.script_graph.proofs.Becoming as become
+use Rattle.script_graph.proofs.Becoming.{BuiltThen, AllBuilt, body_then, same_target}
+use Rattle.script_graph.proofs.Beside.{represented_fits}
+use Rattle.script_graph.proofs.Building.{same_kepts, kept_itself, both_true, at, all, free, due, told_apart, left_typed, given_typed, kept_typed}
+use Rattle.script_graph.proofs.CuttingShort.{kept_whole}
 use Rattle.script_graph.proofs.Held.{held_needed}
-use Rattle.script_graph.proofs.Looking.{observed_of_root}
-use Rattle.script_graph.proofs.Owner.{no_bind_needed}
-use Rattle.script_graph.proofs.Recalling.{shown_at, needed_is_right, visit_is_recalled}
+use Rattle.script_graph.proofs.Leaving.{scopes_built}
+use Rattle.script_graph.proofs.Middle.{IsStabilize, middle, given, fits_then, tops, rooted_then}
+use Rattle.script_graph.proofs.Recalling.{visit_is_recalled}
 use Rattle.script_graph.proofs.Referring.{typed_outcome_refers}
-use Rattle.script_graph.proofs.Remembering.{observed_root, stood, observed_among, due_is_covered}
-use Rattle.script_graph.proofs.Same.{observed_so, represents_so}
+use Rattle.script_graph.proofs.Refusing.{IsSessions, grabs, kept_so, functions_so, moment_unbroken, stabilize_of}
+use Rattle.script_graph.proofs.Remembering.{observed_root}
 use Rattle.script_graph.proofs.Showing.{ShowsThen, AllShow, all_show, made_then, shows_then, names_then, watches_then}
-use Rattle.script_graph.proofs.Watching.{observed_are, watched_roots_are, watched_roots_have}
-use Rattle.script_graph.proofs.Without.{sound_without, stabilizes_without}
-use Rattle.transfer.specs.Both.{Both}
-use Rattle.transfer.specs.Items.{node_of, GrabsBind, RootsHave}
-use Rattle.transfer.specs.Shows.{Fits}
-use Rattle.transfer.proofs.Deep.{needed_is_shallow, needed_is_on_no_cycle}
+use Rattle.script_graph.proofs.Staying.{shows_on, own_nodes_then}
+use Rattle.script_graph.proofs.Watching.{roots_have_in}
+use Rattle.script_graph.proofs.Without.{stabilizes_without}
+use Rattle.transfer.specs.Both.{Both, graph_outcome}
+use Rattle.transfer.specs.Items.{RootsHave}
+use Rattle.transfer.specs.Shows.{Declares, Fits, IsOwn}
 use Rattle.transfer.proofs.Meanings.{names_agree}
-use Rattle.transfer.proofs.Typed.{body_entry}
-
--- ---- declarations
-
--- what is kept of a formula that is laid out stays
-plain_builds : (F : Meanings) (before s : State) (n : ℕ) (f : Formula) → IsLaidOut f → (was : Option Outcome)
-    → Builds F before s n f was was
-plain_builds F before s n (Literal v) fine was = refl
-plain_builds F before s n (Name m) fine was = refl
-plain_builds F before s n (Apply g arguments) fine was = refl
-plain_builds F before s n (Fold g first elements) fine was = refl
-plain_builds F before s n (If test a b) fine was = refl
-plain_builds F before s n (Join child) fine was = refl
-plain_builds F before s n f fine was = absurd fine
-
-plain_becomes : (F : Meanings) (before s after : State) (n : ℕ) (b : Body) → IsLaidOutBody b → Becomes F before s after n b b
-plain_becomes F before s after n (Variable v) fine = refl
-plain_becomes F before s after n (Computed f kept) fine = (kept, refl, record { built = plain_builds F before s n f fine kept.built })
-plain_becomes F before s after n b fine = absurd fine
-
-all_become : (F : Meanings) (before s after : State) (n : ℕ) (es : List Entry)
-    → ((j : ℕ) (e : Entry) → slice_get es j ≡ Some e → (m : ℕ) → Becomes F before s after m e.body e.body) → BecomeAll F before s after n es es
-all_become F before s after n [] each = tt
-all_become F before s after n (e ∷ es) each =
-    ((e.body, refl, each 0 e refl n), all_become F before s after (suc n) es (λ j x at. each (suc j) x at))
-
--- the declarations of a plain state stay
-entries_become : (F : Meanings) (before s after : State) → AllPlain s → BecomeAll F before s after 0 s.entries s.entries
-entries_become F before s after plain = all_become F before s after 0 s.entries
-    (λ j e at m. plain_becomes F before s after m e.body
-    (plain j e.body (ap (λ (x : Option Entry). and_then x (λ (y : Entry). Some y.body)) at)).0.0)
+use Rattle.transfer.proofs.Typed.{bind_body, body_entry, body_typed, valid_grabs}
 
 -- ---- the stabilize
 
-module _ (named : List ℕ → Option FnRef) (value : FnRef → List GraphValue → GraphValue) (W : Meaning) (m : Moment) (k : Kept)
-    (g : Standing (Unit {0})) (called calls : ℕ) (stands : Stands (meanings_of named value) k m) (unbroken : m.broken ≡ None)
-    (sound : IsSound W k.graph) (flat : HasNoBinds (arena_of k)) (nodes : g.nodes ≡ arena_of k)
-    (dead : (n : NodeId) → row_at g.nodes n ≡ None → cutoff_of g n ≡ Equal)
-    (done : GraphStabilizes (graph_functions (meanings_of named value)) k.graph g)
-    (rose : RoseBy called (costs_of (nodes_alone k.graph) g.ran) calls) where
+module _ (named : List ℕ → Option FnRef) (value : FnRef → List GraphValue → GraphValue) (m : Moment) (k : Kept) (g : Standing (Unit {0}))
+    (stands : Stands (meanings_of named value) k m) (unbroken : m.broken ≡ None) (c : IsStabilize (meanings_of named value) m.present k g)
+    (whole : IsWhole c.meaning k.graph) (done : GraphStabilizes (graph_functions (meanings_of named value) k.bodies) k.graph g) where
   abbrev F : Meanings
   F = meanings_of named value
 
   abbrev M : Functions
-  M = graph_functions F
+  M = graph_functions F k.bodies
 
   abbrev s : State
   s = m.present
@@ -106,58 +78,26 @@ module _ (named : List ℕ → Option FnRef) (value : FnRef → List GraphValue 
   abbrev before : State
   before = m.settled
 
-  abbrev nodes_now : Arena
-  nodes_now = arena_of k
+  abbrev N : ℕ → NodeId
+  N = node_in k.nodes
 
-  abbrev observed : List NodeId
-  observed = in_use k.graph.observers
+  abbrev y : Both
+  y = middle F s k g
 
-  abbrev ran : List NodeId
-  ran = g.ran
+  abbrev G' : Graph
+  G' = graph g
 
-  abbrev x : Both
-  x = beside F s k
+  fits : Fits y
+  fits = fits_then named value s k g c
 
-  abbrev new : Kept
-  new = record k { accepted = k.accepted + 1; graph = g }
+  abbrev built_at_end : ℕ → Option GraphOutcome
+  built_at_end = at named value m k g stands unbroken c whole done
 
-  whole : IsWhole W k.graph
-  whole = sound.whole done.was
+  abbrev built : AllBuilt F before s N built_at_end 0 s.entries
+  built = all named value m k g stands unbroken c whole done
 
-  no_scopes : NoScopes nodes_now
-  no_scopes = none_scoped nodes_now k.graph.work flat sound.scopes
-
-  fits : Fits x
-  fits = represented_fits named value s k stands.matches.represents
-
-  grabs : GrabsBind s
-  grabs = grabs_bind s stands.matches.represents.today.plain
-
-  have : RootsHave x observed
-  have = watched_roots_have F s k stands.matches.represents.today.plain stands.matches.watches
-
-  -- ---- what is needed
-
-  exact : (p : Point) → IsObserved M k.graph p → Exact M (todays_graph nodes_now) (shown_at g) p
-  exact = needed_is_right M k.graph g no_scopes
-      (λ n l r f caps need row def. no_bind_needed x fits stands.matches.represents.today.plain grabs observed
-      (watched_roots_are F s k stands.matches.represents.today.plain stands.matches.watches) n l r f caps need row def) done
-
-  -- nothing that is needed is on a cycle or too deep
-  free : NothingNeededIsBlocked F m
-  free i need blocked = by_cause i need blocked
-    where
-      by_cause : (j : Item) → Needed F s j → InTheWay F s j → ⊥
-      by_cause j n (on_cycle {n = t} cycle) = needed_is_on_no_cycle x fits grabs observed have (shown_at g) exact t n cycle
-      by_cause j n (too_deep deep) =
-          needed_is_shallow x fits stands.valid.1 observed have (shown_at g) exact (λ p is long. done.shallow p is long) j n deep
-
-  -- ---- calls
-
-  due : WithinWork F before s (costs_of (todays_graph nodes_now) ran)
-  due = due_is_covered named value W m k stands unbroken sound whole (costs_of (todays_graph nodes_now) ran)
-      (done.work (side_of k.graph) (observed_by k.graph) (stood named value W m k stands unbroken sound whole)
-      (observed_among named value W m k stands unbroken sound whole) (costs_of (todays_graph nodes_now) ran) (omega arith))
+  abbrev now : ℕ → Option Outcome
+  now = become.now_at F before s N built_at_end built [] 0
 
   -- ---- observers
 
@@ -165,53 +105,282 @@ module _ (named : List ℕ → Option FnRef) (value : FnRef → List GraphValue 
   given_refers : (t : ℕ) (p : Outcome) → (b : Body) × (body_at s t ≡ Some b) → NameGives F s t p → RefersTo (IsDeclaredTarget s) p
   given_refers t p is gives =
       let e = body_entry s t is.0 is.1 in
-      typed_outcome_refers s stands.matches.represents.today.plain stands.matches.represents.targets p e.0.ty
-      (declarations_have_types F s stands.keep stands.valid.1 t e.0 p e.1 gives)
+      typed_outcome_refers s c.held.today.plain c.held.targets p e.0.ty
+      (declarations_have_types F s c.keep c.valid t e.0 p e.1 gives)
 
-  shows_one : (o : ObsId) (y : Observer) → slice_get stands.matches.watches.made o.0 ≡ Some (Some y) → (p : Outcome) × ShowsThen F s k g y p
-  shows_one o y at =
-      let w = stands.matches.watches.observing o y at in
-      let looks : node_at g.observers o ≡ Some (node_in k.nodes y.target) =
-      subst (λ (os : List Looking). node_at os o ≡ Some (node_in k.nodes y.target)) (sym done.observers) w.looks in
-      let q = done.shows o (node_in k.nodes y.target) looks in
-      let p = names_agree x (represented_fits named value s k stands.matches.represents) y.target q.0 q.2 in (
+  shows_one : (o : ObsId) (z : Observer) → slice_get stands.matches.watches.made o.0 ≡ Some (Some z) → (p : Outcome) × ShowsThen F s k g z p
+  shows_one o z at_o =
+      let w = stands.matches.watches.observing o z at_o in
+      let looks : looked_at g.observers o ≡ Some (N z.target) =
+      subst (λ (os : List Looking). looked_at os o ≡ Some (N z.target)) (sym done.observers) w.looks in
+      let q = done.shows o (N z.target) looks in
+      let p = names_agree y fits z.target q.0 q.2 in (
         p.0,
         record {
           gives = p.2;
-          refers = given_refers y.target p.0 (stands.matches.watches.observing o y at).target p.2;
+          refers = given_refers z.target p.0 w.target p.2;
           shown = q.1 ∙ ap (λ o. Some o) p.1;
           unwatched = w.today.unwatched;
         },
       )
 
-  shown : AllShow F s k g stands.matches.watches.made
-  shown = all_show F s k g stands.matches.watches.made (λ j y at. shows_one (record { 0 = j }) y at)
+  pub shown : AllShow F s k g stands.matches.watches.made
+  shown = all_show F s k g stands.matches.watches.made (λ j z at_j. shows_one (record { 0 = j }) z at_j)
+
+  abbrev made : List (Option Observer)
+  made = made_then F s k g stands.matches.watches.made shown
+
+  -- ---- the state that it leaves
 
   abbrev then : State
-  then = observed_so s (there_in (made_then F s k g stands.matches.watches.made shown)) (s.accepted + 1)
+  then = become.then F before s N built_at_end built (there_in made) (s.accepted + 1)
 
-  represented : Represents F then new
-  represented = represents_so F s (there_in (made_then F s k g stands.matches.watches.made shown)) (s.accepted + 1) k new refl refl nodes stands.matches.represents
+  abbrev new : Kept
+  new = record k { accepted = k.accepted + 1; graph = g }
+
+  settled_so : Settles F before s then []
+  settled_so = record {
+    observers = subst (λ (xs : List Observer). ShowAll F s xs then.observers []) (sym stands.matches.watches.in_order)
+        (shows_then F s k g stands.matches.watches.made shown);
+    entries = become.become_all F before s N built_at_end built (there_in made) (s.accepted + 1) (IsEarlierTarget s) (IsDeclaredTarget s)
+        (λ n b is. c.held.today.plain n b is);
+    now = refl;
+    accepted = refl;
+  }
+
+  valid_then : Valid F then
+  valid_then = settles_valid F before s then [] c.keep c.valid settled_so
+
+  body_of : (n : ℕ) (b : Body) → body_at s n ≡ Some b → (body_at then n ≡ Some (body_then s now b (now n))) × BuiltThen F before s N built_at_end n b (now n)
+  body_of n b is = become.body_of_then F before s N built_at_end built (there_in made) (s.accepted + 1) n b is
+
+  none_of : (n : ℕ) → body_at s n ≡ None → body_at then n ≡ None
+  none_of n is = (become.body_none F before s N built_at_end built (there_in made) (s.accepted + 1) n is).0
+
+  body_was : (n : ℕ) (b : Body) → body_at then n ≡ Some b → (d : Body) × (body_at s n ≡ Some d) × (b ≡ body_then s now d (now n))
+  body_was n b is = become.body_was F before s N built_at_end built (there_in made) (s.accepted + 1) n b is
+
+  built_now : (n : ℕ) → built_at then n ≡ now n
+  built_now n = become.built_then F before s N built_at_end built (there_in made) (s.accepted + 1) n
+
+  own_then : (n : ℕ) (b : Body) → IsOwn (Some b) → IsOwn (Some (body_then s now b (now n)))
+  own_then n (Computed (Name t) kept) own = own
+  own_then n (Computed f kept) own = tt
+  own_then n (Grab bind v is_live) own = tt
+  own_then n b own = own
+
+  own_at : (n : ℕ) → IsOwn (body_at s n) → IsOwn (body_at then n)
+  own_at n own = go (body_at s n) refl own
+    where
+      go : (b : Option Body) → body_at s n ≡ b → IsOwn b → IsOwn (body_at then n)
+      go None is own = subst IsOwn (sym (none_of n is)) tt
+      go (Some b) is own = subst IsOwn (sym (body_of n b is).0) (own_then n b own)
+
+  declared_then : (t : ℕ) → IsDeclaredTarget s t → IsDeclaredTarget then t
+  declared_then t (b, is, own) = (body_then s now b (now t), (body_of t b is).0, own_then t b own)
 
   watched : Watches then new
-  watched = watches_then F s k g stands.matches.watches shown (s.accepted + 1) (k.accepted + 1) done.observers done.rooted
+  watched = watches_then F s k g stands.matches.watches shown then (k.accepted + 1) refl (λ n b is. (body_then s now b (now n), (body_of n b is).0))
+      declared_then done.observers done.rooted
+
+  -- ---- binds and grabs
+
+  bind_was : (n : ℕ) (f : Formula) (kept : script.Kept) → body_at then n ≡ Some (Computed f kept) → (old : script.Kept) × (body_at s n ≡ Some (Computed f old))
+  bind_was n f kept is = let d = body_was n (Computed f kept) is in go d.0 d.1 d.2
+    where
+      go : (d : Body) → body_at s n ≡ Some d → Computed f kept ≡ body_then s now d (now n) → (old : script.Kept) × (body_at s n ≡ Some (Computed f old))
+      go (Computed h old) was same = let one : h ≡ f = cc in (old, was ∙ ap (λ (z : Formula). Some (Computed z old)) one)
+      go (Grab bind v is_live) was same = absurd (cc)
+      go d was same = absurd (cc)
+
+  grab_was : (n b : ℕ) (v : Value) → body_at then n ≡ Some (Grab b v true)
+      → (body_at s n ≡ Some (Grab b v true)) × (same_kept (built_at s b) (now b) ≡ true)
+  grab_was n b v is = let d = body_was n (Grab b v true) is in go d.0 d.1 d.2
+    where
+      go : (d : Body) → body_at s n ≡ Some d → Grab b v true ≡ body_then s now d (now n)
+          → (body_at s n ≡ Some (Grab b v true)) × (same_kept (built_at s b) (now b) ≡ true)
+      go (Grab b' v' is_live) was same =
+          let binds : b' ≡ b = cc in
+          let values : v' ≡ v = cc in
+          let lives : is_live && same_kept (built_at s b') (now b') ≡ true = cc in
+          let both = both_true is_live (same_kept (built_at s b') (now b')) lives in (
+            was ∙ (ap (λ z. Some (Grab z v' is_live)) binds ∙ (ap (λ z. Some (Grab b z is_live)) values ∙ ap (λ z. Some (Grab b v z)) both.0)),
+            subst (λ z. same_kept (built_at s z) (now z) ≡ true) binds both.1,
+          )
+      go (Computed h old) was same = absurd (cc)
+      go d was same = absurd (cc)
+
+  alike : (n : ℕ) (left body : Formula) (kept : script.Kept) → body_at s n ≡ Some (Computed (Bind left body) kept)
+      → built_at_end n ≡ option_map (graph_outcome N) (now n)
+  alike n left body kept is = (body_of n (Computed (Bind left body) kept) is).1.1
+
+  -- what a bind with a live grab was built for, in the script
+  grab_built : (n b : ℕ) (v : Value) → body_at s n ≡ Some (Grab b v true) → built_at s b ≡ Some (Val v)
+  grab_built n b v is = ((body_typed F s c.valid n (Grab b v true) is).1).built refl
+
+  -- where a bind with a live grab is built for its value there, so it is in the script
+  built_for : (n b : ℕ) (v : Value) → body_at s n ≡ Some (Grab b v true) → built_at_end b ≡ Some (graph_outcome N (Val v)) → now b ≡ Some (Val v)
+  built_for n b v is out =
+      let bind = valid_grabs F s c.valid n b v is in
+      by_bind bind.0 bind.1 bind.2 bind.3
+    where
+      by_bind : (left body : Formula) (kept : script.Kept) → body_at s b ≡ Some (Computed (Bind left body) kept) → now b ≡ Some (Val v)
+      by_bind left body kept at_b =
+          by_built (now b) (body_of b (Computed (Bind left body) kept) at_b).1.0 (sym out ∙ alike b left body kept at_b)
+        where
+          was : kept.built ≡ Some (Val v)
+          was = ap (λ (o : Option Body). and_then o built_of_body) (sym at_b) ∙ grab_built n b v is
+
+          typed : (t : Ty) × OutcomeHasType s (Val v) t
+          typed = kept_typed named value m k g stands unbroken c whole done b left body kept at_b (Val v) was
+
+          by_built : (x : Option Outcome) → BuildsFor F before s b kept.built x → Some (graph_outcome N (Val v)) ≡ option_map (graph_outcome N) x
+              → x ≡ Some (Val v)
+          by_built None h same = absurd (cc)
+          by_built (Some p) h same = elim h.either [
+            | inl kept_so ↦ kept_so ∙ was
+            | inr gives ↦
+                let is_p : p ≡ gives.0 = (let e : Some p ≡ Some gives.0 = gives.3 in cc) in
+                let one : graph_outcome N p ≡ graph_outcome N (Val v) = cc in
+                let has = given_typed named value m k g stands unbroken c whole done b left body kept at_b gives.0 gives.2 in
+                ap (λ z. Some z) (told_apart named value m k g stands unbroken c whole done p (Val v)
+                (left_typed named value m k g stands unbroken c whole done b left body kept at_b).0 typed.0
+                (subst (λ z. OutcomeHasType s z (left_typed named value m k g stands unbroken c whole done b left body kept at_b).0) (sym is_p) has)
+                typed.1 one)
+          ]
+
+  -- ---- the graph holds the declarations
+
+  abbrev z : Both
+  z = beside F then new
+
+  grab_then : (n b : ℕ) (v : Value) → body_at s n ≡ Some (Grab b v true) → Declares y (N n) (Some (Grab b v true))
+      → Declares z (N n) (Some (Grab b v (true && same_kept (built_at s b) (now b))))
+  grab_then n b v is (inl live) =
+      let out : built_at_end b ≡ Some (graph_outcome N (Val v)) = ap outcome_of live.1 ∙ ap (λ o. Some o) live.2 in
+      let same = kept_itself v (built_at s b) (now b) (grab_built n b v is) (built_for n b v is out) in
+      subst (λ (t : Bool). Declares z (N n) (Some (Grab b v t))) (sym same) (inl live)
+  grab_then n b v is (inr lost) = go (same_kept (built_at s b) (now b)) refl
+    where
+      go : (t : Bool) → same_kept (built_at s b) (now b) ≡ t → Declares z (N n) (Some (Grab b v (true && t)))
+      go false e = (lost.1, refl)
+      go true e =
+          let is_now : now b ≡ Some (Val v) = sym (same_kepts (built_at s b) (now b) e) ∙ grab_built n b v is in
+          let bind = valid_grabs F s c.valid n b v is in
+          let out : built_at_end b ≡ Some (graph_outcome N (Val v)) = alike b bind.0 bind.1 bind.2 bind.3 ∙ ap (option_map (graph_outcome N)) is_now in
+          absurd (by_built (G'.built (N b)) refl out)
+        where
+          by_built : (w : Option BuiltFor) → G'.built (N b) ≡ w → outcome_of w ≡ Some (graph_outcome N (Val v)) → ⊥
+          by_built None built out = cc
+          by_built (Some w) built out = lost.5 w built (cc)
+
+  declares_some : (n : ℕ) (b : Body) → body_at s n ≡ Some b → Declares y (N n) (Some b) → Declares z (N n) (Some (body_then s now b (now n)))
+  declares_some n (Variable v) is h = h
+  declares_some n (Computed f kept) is h =
+      shows_on F M N s then G' G' y.died none_died (λ n r row outside. row) (term.Ref (N n)) f h
+  declares_some n (Grab b v true) is h = grab_then n b v is h
+  declares_some n (Grab b v false) is h = (h.0, refl)
+  declares_some n b is h = absurd (c.held.today.plain n b is).0
+
+  declares_then : (n : ℕ) (b : Option Body) → body_at s n ≡ b → Declares z (N n) (body_at then n)
+  declares_then n None is =
+      subst (Declares z (N n)) (sym (none_of n is)) (let h = rw is at (fits.declared n) in (h.0, refl))
+  declares_then n (Some b) is = subst (Declares z (N n)) (sym (body_of n b is).0) (declares_some n b is (rw is at (fits.declared n)))
+
+  plain_of : (n : ℕ) (b : Body) → IsPlainBody (IsEarlierTarget s n) (IsDeclaredTarget s) b
+      → IsPlainBody (IsEarlierTarget then n) (IsDeclaredTarget then) (body_then s now b (now n))
+  plain_of n (Variable v) fine = (fine.0, reference_more (IsDeclaredTarget s) (IsDeclaredTarget then) declared_then v fine.1)
+  plain_of n (Computed f kept) fine = (
+    fine.0,
+    leaves_more_of (IsEarlierTarget s n) (IsEarlierTarget then n) (IsDeclaredTarget s) (IsDeclaredTarget then)
+        (λ t early. (early.0, own_at t early.1)) declared_then (Computed f kept) fine.1,
+  )
+  plain_of n (Grab bind v is_live) fine =
+      ((fine.0.0, own_at bind fine.0.1), reference_more (IsDeclaredTarget s) (IsDeclaredTarget then) declared_then v fine.1)
+  plain_of n b fine = absurd fine.0
+
+  plain_then : AllPlain then
+  plain_then n b is =
+      let d = body_was n b is in
+      subst (IsPlainBody (IsEarlierTarget then n) (IsDeclaredTarget then)) (sym d.2) (plain_of n d.0 (c.held.today.plain n d.0 d.1))
+
+  aged_of : (n : ℕ) (b : Body) → OwnNodesOf G' (IsWithin k.nodes n) (IsPartWithin k.nodes n) (N n) b
+      → OwnNodesOf G' (IsWithin k.nodes n) (IsPartWithin k.nodes n) (N n) (body_then s now b (now n))
+  aged_of n (Variable v) own = own
+  aged_of n (Computed f kept) own = own
+  aged_of n (Grab bind v is_live) own = own
+  aged_of n b own = absurd own
+
+  aged_then : (n : ℕ) (b : Body) → body_at then n ≡ Some b → OwnNodesOf G' (IsWithin k.nodes n) (IsPartWithin k.nodes n) (N n) b
+  aged_then n b is =
+      let d = body_was n b is in
+      subst (OwnNodesOf G' (IsWithin k.nodes n) (IsPartWithin k.nodes n) (N n)) (sym d.2)
+      (aged_of n d.0 (own_nodes_then F M N s s (graph k.graph) G' none_died y.died (tops named value s k g c)
+      (IsWithin k.nodes n) (IsPartWithin k.nodes n) (N n) d.0
+      (λ f kept e. rw (d.1, e) at (c.held.declares n)) (c.held.today.aged n d.0 d.1)))
+
+  targets_then : (n : ℕ) (e : Entry) → entry_at then n ≡ Some e → e.target ≡ target_of_body n e.body
+  targets_then n e is =
+      let d = become.entry_was F before s N built_at_end built (there_in made) (s.accepted + 1) n e is in
+      let bodies : e.body ≡ body_then s now d.0.body (now n) = ap (λ (x : Entry). x.body) d.2 in
+      ap (λ (x : Entry). x.target) d.2
+      ∙ (c.held.targets n d.0 d.1 ∙ (sym (same_target s now n d.0.body (now n)) ∙ ap (target_of_body n) (sym bodies)))
+
+  refers_then : (n : ℕ) (o : Outcome) → built_at then n ≡ Some o → RefersTo (IsDeclaredTarget then) o
+  refers_then n o is = go (body_at then n) refl is
+    where
+      by_formula : (f : Formula) (kept : script.Kept) → body_at then n ≡ Some (Computed f kept) → kept.built ≡ Some o → RefersTo (IsDeclaredTarget then) o
+      by_formula (Bind left body) kept at_n out =
+          let h = (body_typed F then valid_then n (Computed (Bind left body) kept) at_n).1 in
+          let fit = h.1 o out in
+          typed_outcome_refers then plain_then targets_then o fit.0 fit.2
+      by_formula f kept at_n out =
+          let h = (body_typed F then valid_then n (Computed f kept) at_n).1 in absurd (let none = h.1 in cc)
+
+      go : (b : Option Body) → body_at then n ≡ b → and_then b built_of_body ≡ Some o → RefersTo (IsDeclaredTarget then) o
+      go None at_n out = absurd (cc)
+      go (Some (Computed f kept)) at_n out = by_formula f kept at_n out
+      go (Some b) at_n out = absurd (cc)
+
+  pub represented : Represents F then new
+  represented = record {
+    room = ap (λ (n : ℕ). k.room + n) (become.places_then F before s N built_at_end built (there_in made) (s.accepted + 1)) ∙ c.held.room;
+    clock = c.held.clock;
+    one_node_each = c.held.one_node_each ∙ sym (become.length_then F before s N built_at_end built (there_in made) (s.accepted + 1));
+    declares = λ n. declares_then n (body_at s n) refl;
+    targets = targets_then;
+    apart = λ i j d e is_i is_j own_i own_j same.
+        let p = become.entry_was F before s N built_at_end built (there_in made) (s.accepted + 1) i d is_i in
+        let q = become.entry_was F before s N built_at_end built (there_in made) (s.accepted + 1) j e is_j in
+        c.held.apart i j p.0 q.0 p.1 q.1 (sym (ap (λ (x : Entry). x.target) p.2) ∙ own_i) (sym (ap (λ (x : Entry). x.target) q.2) ∙ own_j) same;
+    built = λ n left body is.
+        let b = bind_body then n left body is in
+        let d = bind_was n (Bind left body) b.0 b.1 in
+        alike n left body d.0 d.1 ∙ ap (option_map (graph_outcome N)) (sym (built_now n));
+    refers = refers_then;
+    grabs = λ n b v left t kept is is_bind.
+        let was = grab_was n b v is in
+        let bind = bind_was b (Bind left (Name t)) kept is_bind in
+        c.held.grabs n b v left t bind.0 was.0 bind.1;
+    today = record { plain = plain_then; aged = aged_then };
+  }
+
+  fits_new : Fits z
+  fits_new = represented_fits named value then new c.keep valid_then (rooted_then named value s k g c) represented
 
   -- ---- the pair that it leaves
 
-  -- the graph as it was, for the state afterwards
-  abbrev still : Kept
-  still = record k { accepted = k.accepted + 1 }
+  have_new : RootsHave z (in_use k.graph.observers)
+  have_new = subst (λ (os : List Looking). RootsHave z (in_use os)) done.observers (roots_have_in F then new M g.nodes g.work none_died plain_then watched)
 
-  recalled : (v : Visit) → IsVisit F then v → Needed F then v.item → WasRun (besides F then k.nodes (arena_of new)) new v
+  recalled : (v : Visit) → IsVisit F then v → Needed F then v.item → WasRun (besides F then k.nodes k.bodies G') new v
   recalled v is need =
-      let in_old = represents_so F s (there_in (made_then F s k g stands.matches.watches.made shown)) (s.accepted + 1) k still refl refl refl stands.matches.represents in
-      let are = sym (ap in_use done.observers) ∙ observed_are then new watched in
-      let r = visit_is_recalled F then k.nodes k.graph g (represented_fits named value then still in_old) (grabs_bind then represented.today.plain)
-      (λ t among. inl (observed_of_root then represented.today.plain (node_in k.nodes) observed are t among)) exact done v is need in
+      let r = visit_is_recalled M k.graph g c.sound'.scopes (rooted_then named value s k g c) done F then k.nodes fits_new
+      (valid_grabs F then valid_then) have_new v is need in
       record {
         node = r.node;
-        is_node = subst (λ (a : Arena). node_of (besides F then k.nodes a) v.item ≡ Some r.node) (sym nodes) r.is_node;
-        given = subst (λ (a : Arena). Given a.given r.node) (sym nodes) (sound.nodes.given r.node (rw r.is_row refl));
+        is_node = r.is_node;
+        given = c.sound'.nodes.given r.node (ap is_some r.is_row);
         call = r.call;
         is_last = r.is_last;
         values_are = r.values_are;
@@ -220,92 +389,88 @@ module _ (named : List ℕ → Option FnRef) (value : FnRef → List GraphValue 
   rooted : AreRooted g (in_use g.observers)
   rooted = subst (λ (os : List Looking). AreRooted g (in_use os)) (sym done.observers) done.roots
 
-  -- each cutoff is Equal still
-  still_equal : (n : NodeId) → cutoff_of g n ≡ Equal
-  still_equal n = by_row (row_at g.nodes n) refl
-    where
-      by_row : (x : Option Row) → row_at g.nodes n ≡ x → cutoff_of g n ≡ Equal
-      by_row None is = dead n is
-      by_row (Some r) is =
-          done.cutoff n r (ap (λ (a : Arena). row_at a n) (sym nodes) ∙ is) ∙ (stands.matches.settled unbroken).today.equal n
+  module _ (dead : (n : NodeId) → row_at g.nodes n ≡ None → cutoff_of g n ≡ Equal) where
+    -- each cutoff is Equal still
+    still_equal : (n : NodeId) → cutoff_of g n ≡ Equal
+    still_equal n = by_row (row_at g.nodes n) refl
+      where
+        by_row : (x : Option Row) → row_at g.nodes n ≡ x → cutoff_of g n ≡ Equal
+        by_row None is = dead n is
+        by_row (Some r) is = done.cutoff n r is ∙ (stands.matches.settled unbroken).today.equal n
 
-  settled : Settled F then then new
-  settled = record {
-    nodes = k.nodes;
-    arena = arena_of new;
-    one_node_each = represented.one_node_each;
-    fits = represented_fits named value then new represented;
-    scopes = λ n r b row scope.
-        absurd (let none = no_scopes n r (subst (λ (a : Arena). row_at a n ≡ Some r) nodes row) in cc);
-    still = record {
-      formulas = λ owner path f e. e;
-      targets = λ n e is. (e, is, refl);
-      names = λ n e is. refl;
-      rows = λ n r u is def. is;
-    };
-    links = λ p q held link.
-        subst (λ (a : Arena). Depends M (todays_graph a) none_died p q) (sym nodes) ((done.links p q (held_needed g rooted p held)).0 link);
-    ran = recalled;
-    watched = λ z among is. observed_root then z among;
-    today = record { plain = represented.today.plain; equal = still_equal };
-  }
+    settled : Settled F then then new
+    settled = record {
+      nodes = k.nodes;
+      bodies = k.bodies;
+      left = G';
+      one_node_each = represented.one_node_each;
+      fits = fits_new;
+      scopes = c.sound'.scopes;
+      still = record {
+        formulas = λ owner path f e. e;
+        targets = λ n e is. (e, is, refl);
+        names = λ n e is. refl;
+        rows = λ n r u is def. is;
+        lives = λ n r is. (r, is);
+        built = λ b r is. refl;
+      };
+      built = scopes_built M k.graph g c.before c.after (given named value s k g c) c.sound.scopes c.built c.stays c.left done.builds c.sound'.scopes;
+      grabs = λ n b v is. is;
+      links = λ p q held link. (done.links p q (held_needed g rooted p held)).0 link;
+      ran = recalled;
+      watched = λ x among is. observed_root then x among;
+      today = record { plain = plain_then; equal = still_equal };
+    }
 
-  -- ---- the moment after it
+    -- ---- the moment after it
 
-  abbrev after : Moment
-  after = record { settled = then; present = then; broken = None }
+    abbrev after : Moment
+    after = record { settled = then; present = then; broken = None }
 
-  names : AreNames new.names then
-  names = record {
-    declared = stands.matches.names.declared;
-    now = stands.matches.names.now;
-    in_use = λ name. stands.matches.names.in_use name ∙ ap (λ (ns : List (List ℕ)). is_among ns name)
-        (ap (map (λ (o : Observer). o.name)) stands.matches.watches.in_order ∙ sym (names_then F s k g stands.matches.watches.made shown));
-  }
+    names : AreNames new.names then
+    names = record {
+      declared = stands.matches.names.declared ∙ sym (become.declared_then F before s N built_at_end built (there_in made) (s.accepted + 1));
+      now = stands.matches.names.now;
+      in_use = λ name. stands.matches.names.in_use name ∙ ap (λ (ns : List (List ℕ)). is_among ns name)
+          (ap (map (λ (o : Observer). o.name)) stands.matches.watches.in_order ∙ sym (names_then F s k g stands.matches.watches.made shown));
+    }
 
-  matches_then : MatchesMoment F new after
-  matches_then = record {
-    names = names;
-    accepted = ap (λ (n : ℕ). n + 1) stands.matches.accepted;
-    broken = sym unbroken ∙ stands.matches.broken;
-    represents = represented;
-    watches = watched;
-    settled = λ whole. settled;
-  }
+    matches_then : MatchesMoment F new after
+    matches_then = record {
+      names = names;
+      accepted = ap (λ (n : ℕ). n + 1) stands.matches.accepted;
+      broken = sym unbroken ∙ stands.matches.broken;
+      represents = λ whole. represented;
+      watches = watched;
+      settled = λ whole. settled;
+    }
 
-  -- what is kept matches the moment after it
-  pub accepted_stands : IsAccepted F m new called calls
-  accepted_stands = record {
-    after = after;
-    notices = [];
-    stabilizes = settles [] free (record {
-      observers = subst (λ (xs : List Observer). ShowAll F s xs then.observers []) (sym stands.matches.watches.in_order) (shows_then F s k g stands.matches.watches.made shown);
-      entries = entries_become F before s then stands.matches.represents.today.plain;
-      now = refl;
-      accepted = refl;
-    }) refl refl refl;
-    today = refl;
-    work = costs_of (todays_graph nodes_now) ran;
-    due = due;
-    within = rose.most;
-    matches = matches_then;
-  }
+    -- what is kept matches the moment after it
+    pub accepted_stands : (called calls : ℕ) → RoseBy called (costs_of (left_by k.graph g) g.ran) calls → IsAccepted F m new called calls
+    accepted_stands called calls rose = record {
+      after = after;
+      notices = [];
+      stabilizes = settles [] (free named value m k g stands unbroken c whole done) settled_so refl refl refl;
+      today = refl;
+      work = costs_of (left_by k.graph g) g.ran;
+      due = due named value m k g stands unbroken c whole done;
+      within = rose.most;
+      matches = matches_then;
+    }
 
 -- ---- over a graph with its functions
 
-module _ {A : Type 0} where
-  -- a stabilize of a session's graph that was accepted is one of its script
-  pub session_accepted : (named : List ℕ → Option FnRef) (value : FnRef → List GraphValue → GraphValue) (W : Meaning) (k : Kept)
-      (old new : Standing A) (called calls : ℕ) → k.graph ≡ without_functions old → k.broken ≡ None
-      → IsSound W old → HasNoBinds (arena_of k) → new.nodes ≡ old.nodes → ((n : NodeId) → row_at new.nodes n ≡ None → cutoff_of new n ≡ Equal)
-      → GraphStabilizes (maps_alone (seen_value value)) old new
-      → RoseBy called (costs_of (nodes_alone old) new.ran) calls → (m : Moment) → Stands (meanings_of named value) k m
-      → IsAccepted (meanings_of named value) m (record k { accepted = k.accepted + 1; graph = without_functions new }) called calls
-  session_accepted named value W k old new called calls same unbroken sound flat nodes dead done rose m stands =
-      accepted_stands named value W m k (without_functions new) called calls stands (stands.matches.broken ∙ unbroken)
-      (subst (λ (h : Standing (Unit {0})). IsSound W h) (sym same) (sound_without W old sound)) flat
-      (nodes ∙ sym (ap (λ (h : Standing (Unit {0})). h.nodes) same)) dead
-      (subst (λ (h : Standing (Unit {0})). GraphStabilizes (graph_functions (meanings_of named value)) h (without_functions new)) (sym same)
-      (subst (λ (M : Functions). GraphStabilizes M (without_functions old) (without_functions new)) (sym (functions_are named value))
-      (stabilizes_without (maps_alone (seen_value value)) old new done)))
-      (subst (λ (h : Standing (Unit {0})). RoseBy called (costs_of (nodes_alone h) new.ran) calls) (sym same) rose)
+-- a stabilize of a session's graph that was accepted is one of its script
+pub session_accepted : {A : Type 0} (named : List ℕ → Option FnRef) (value : FnRef → List GraphValue → GraphValue) (k : Kept) (old new : Standing A)
+    (c : IsSessions value k old new) → GraphStabilizes (functions_over value k.bodies) old new
+    → ((n : NodeId) → row_at new.nodes n ≡ None → cutoff_of new n ≡ Equal) → (called calls : ℕ) → RoseBy called (costs_of (left_by old new) new.ran) calls
+    → (m : Moment) → Stands (meanings_of named value) k m
+    → IsAccepted (meanings_of named value) m (record k { accepted = k.accepted + 1; graph = without_functions new }) called calls
+session_accepted named value k old new c done dead called calls rose m stands =
+    accepted_stands named value m k (without_functions new) stands (moment_unbroken named value k old new c m stands)
+    (stabilize_of named value k old new c m stands) (kept_whole named value k old new c m stands done.was)
+    (kept_so named value k old new c m stands
+    (λ (h : Standing (Unit {0})). GraphStabilizes (graph_functions (meanings_of named value) k.bodies) h (without_functions new))
+    (stabilizes_without (graph_functions (meanings_of named value) k.bodies) old new
+    (functions_so named value k old new c m stands (λ (M : Functions). GraphStabilizes M old new) done))) dead called calls
+    (kept_so named value k old new c m stands (λ (h : Standing (Unit {0})). RoseBy called (costs_of (left_by h (without_functions new)) new.ran) calls) rose)

@@ -10,17 +10,20 @@ use Rattle.inc_value.specs.declared.node.NodeId.{NodeId}
 use Rattle.inc_value.specs.declared.ty.Ty.{Ty}
 use Rattle.inc_terms.specs.Graph.{Def}
 use Rattle.node_arena.specs.Arena.{Arena, live, IsFull}
+use Rattle.node_arena.specs.RightSide.{RightSide}
 use Rattle.script_graph.specs.Growing.{IsWelcome}
 
 -- a welcome definition is so with each type that is the same
-pub welcome_as : (known : FnRef → Bool) (a : Arena) (d : Def) (own ty : Ty) → IsWelcome known a d ty → own ≡ ty → IsWelcome known a d own
-welcome_as known a d own ty welcome same = subst (IsWelcome known a d) (sym same) welcome
+pub welcome_as : (known : FnRef → Bool) (right : FnRef → RightSide) (a : Arena) (d : Def) (own ty : Ty) → IsWelcome known right a d ty → own ≡ ty
+    → IsWelcome known right a d own
+welcome_as known right a d own ty welcome same = subst (IsWelcome known right a d) (sym same) welcome
 
 -- what was added with its own type was added with each that is the same
 pub added_as : {F : Type 0} (old new : Standing F) (n : NodeId) (d : Def) (own ty : Ty) → own ≡ ty → Adds old new n (top d own) → Adds old new n (top d ty)
 added_as old new n d own ty same added = subst (λ (t : Ty). Adds old new n (top d t)) same added
 
-module _ {F : Type 0} (s : Standing F) (known : FnRef → Bool) (d : Def) (ty : Ty) (whole : IsUnbroken s) (welcome : IsWelcome known s.nodes d ty)
+module _ {F : Type 0} (s : Standing F) (known : FnRef → Bool) (right : FnRef → RightSide) (d : Def) (ty : Ty)
+    (whole : IsUnbroken s) (welcome : IsWelcome known right s.nodes d ty)
     (room : live s.nodes < 1048576) (ids : s.nodes.given < 2 ^ 64 - 1) where
   not_broken : (cause : Kept) → IsBroken s cause → ⊥
   not_broken cause (r, is, of) = let clash : None ≡ Some r = sym whole ∙ is in cc

@@ -1,23 +1,24 @@
 -- What is kept before the first line.
 use Rattle.std.proofs.Common.{◌≡◌, ℕ, List, [], length, Option, None, Some, refl, ap, sym, ◌∙◌, arith}
 use Rattle.std.proofs.lemmas.Option.{none-some}
-use Rattle.graph.specs.Standing.{Standing, IsUnbroken, cutoff_of}
+use Rattle.graph.specs.Standing.{Standing, IsUnbroken, cutoff_of, graph}
 use Rattle.inc_value.specs.declared.function.FnRef.{FnRef}
 use Rattle.inc_value.specs.declared.node.NodeId.{NodeId}
 use Rattle.inc_value.specs.declared.value.Value.{Value as GraphValue}
 use Rattle.inc_terms.specs.Need.{Holder, Observing, Freezing}
 use Rattle.map_nodes.specs.declared.cutoff.Cutoff.TheVariants.{Equal}
-use Rattle.node_arena.specs.Arena.{row_at, live}
+use Rattle.node_arena.specs.Arena.{row_at}
 use Rattle.script_model.specs.Formula.{Meanings, meanings_of, start}
 use Rattle.script_model.specs.Step.{first_moment}
 use Rattle.script_model.specs.Valid.{KeepToTypes}
 use Rattle.script_model.proofs.Validity.{start_is_valid}
 use Rattle.script_graph.specs.Kept.{Kept}
-use Rattle.script_graph.specs.Represents.{Represents}
+use Rattle.script_graph.specs.Represents.{beside, Represents}
 use Rattle.script_graph.specs.Settled.{root_of, Settled}
 use Rattle.script_graph.specs.Sound.{IsSound}
 use Rattle.script_graph.specs.State.{Stands}
-use Rattle.script_graph.proofs.Beside.{represented_fits}
+use Rattle.script_graph.proofs.Functions.{functions_fit}
+use Rattle.transfer.specs.Shows.{Fits}
 use Rattle.script_graph.proofs.Held.{looked_within, rooted_looks}
 
 -- what is kept over a graph without nodes and observers
@@ -29,17 +30,16 @@ first_kept g = record {
   room = 1048575;
   accepted = 0;
   broken = None;
+  bodies = [];
   graph = g;
 }
 
 module _ (g : Standing (Unit {0})) (nodes : (n : NodeId) → row_at g.nodes n ≡ None) (observers : g.observers ≡ []) where
-  pub first_sound : live g.nodes ≡ 0 → IsUnbroken g → IsSound (first_kept g)
-  first_sound none unbroken = record {
+  pub first_sound : IsUnbroken g → IsSound (first_kept g)
+  first_sound unbroken = record {
     one_node_each = refl;
     has_nodes = λ n d is. absurd (cc);
-    today = λ n d is grab. cc;
-    flat = λ n r is. absurd (none-some r (sym (nodes n) ∙ is));
-    few = omega (arith, none);
+    few = record { tops = []; given = λ n among. absurd among; all = λ n r is scope. absurd (none-some r (sym (nodes n) ∙ is)); weight = omega arith };
     one_observer_each = refl;
     looking = λ o among. absurd among;
     apart = tt;
@@ -58,7 +58,9 @@ module _ (g : Standing (Unit {0})) (nodes : (n : NodeId) → row_at g.nodes n �
       declares = λ n. (nodes _, refl);
       targets = λ n e is. absurd (cc);
       apart = λ i j d e at_i at_j own_i own_j same. absurd (cc);
-      of_items = λ n r is. absurd (none-some r (sym (nodes n) ∙ is));
+      built = λ n left body is. absurd (cc);
+      refers = λ n o is. absurd (cc);
+      grabs = λ n b v left t kept is. absurd (cc);
       today = record {
         plain = λ n body is. absurd (cc);
         aged = λ n b is. absurd (cc);
@@ -71,19 +73,34 @@ module _ (g : Standing (Unit {0})) (nodes : (n : NodeId) → row_at g.nodes n �
         let none = ap length observers in omega (arith, low, none)
     no_root (Freezing f) n root = cc
 
+    first_fits : Fits (beside F start (first_kept g))
+    first_fits = record {
+      clock = refl;
+      functions = functions_fit named value [];
+      declared = first_represents.declares;
+      resolved = λ n t kept is. absurd (cc);
+      rooted = λ b r l f caps w row def built. absurd (none-some r (sym (nodes b) ∙ row));
+      grabbed = λ n b v is. absurd (cc);
+    }
+
     first_settled : ((n : NodeId) → cutoff_of g n ≡ Equal) → Settled F start start (first_kept g)
     first_settled cutoff = record {
       nodes = [];
-      arena = g.nodes;
+      bodies = [];
+      left = graph g;
       one_node_each = refl;
-      fits = represented_fits named value start (first_kept g) first_represents;
+      fits = first_fits;
       scopes = λ n r b is scope. absurd (none-some r (sym (nodes n) ∙ is));
       still = record {
         formulas = λ owner path f is. is;
         targets = λ n e is. (e, is, refl);
         names = λ n e is. refl;
         rows = λ n r u is def. is;
+        lives = λ n r is. (r, is);
+        built = λ b r is. refl;
       };
+      built = λ n r b is scope. absurd (none-some r (sym (nodes n) ∙ is));
+      grabs = λ n b v is. absurd (cc);
       links = λ p q held link. absurd (no_root held.holder held.node held.is_root);
       ran = λ v visit need. absurd need.1;
       watched = λ x among is. absurd among;
@@ -98,7 +115,7 @@ module _ (g : Standing (Unit {0})) (nodes : (n : NodeId) → row_at g.nodes n �
         names = record { declared = refl; now = refl; in_use = λ name. refl };
         accepted = refl;
         broken = refl;
-        represents = first_represents;
+        represents = λ whole. first_represents;
         watches = record {
           made = [];
           one_each = sym (rw observers refl);

@@ -4,20 +4,21 @@ use Rattle.inc_value.specs.Choice.{Among}
 use Rattle.inc_value.specs.declared.node.NodeId.{NodeId}
 use Rattle.inc_value.specs.declared.node.ObsId.{ObsId}
 use Rattle.inc_value.specs.declared.node.Point.{Point}
+use Rattle.inc_terms.specs.Graph.{Graph}
 use Rattle.inc_terms.specs.Within.{Given}
 use Rattle.graph.specs.Effects.{KeepsBesideGiven}
 use Rattle.graph.specs.Standing as standing
-use Rattle.graph.specs.Standing.{shown_of, called_last, cutoff_of, times_linked}
+use Rattle.graph.specs.Standing.{graph, shown_of, called_last, cutoff_of, times_linked}
 use Rattle.graph.specs.declared.observer.Observer.{Observer as Looking}
 use Rattle.map_nodes.specs.declared.cutoff.Cutoff.TheVariants.{Equal}
-use Rattle.node_arena.specs.Arena.{Arena}
 use Rattle.script_model.specs.Formula.{State, Body, Meanings, Observer, body_at}
 use Rattle.script_model.specs.Need.{Visit}
 use Rattle.script_model.specs.Values.{Outcome}
 use Rattle.script_graph.specs.Kept.{Kept, arena_of, node_in}
 use Rattle.script_graph.specs.Represents.{besides, rooted_at, IsShown, IsObserver, Watches}
 use Rattle.script_graph.specs.Today.{IsDeclaredTarget, RefersTo}
-use Rattle.script_graph.specs.Settled.{StillDeclares, WasRun, Settled}
+use Rattle.script_graph.specs.Settled.{ScopesBuilt, StillDeclares, WasRun, Settled}
+use Rattle.transfer.specs.Items.{GrabsStay}
 use Rattle.script_graph.proofs.Held.{rooted_still, was_still, link_less, held_less}
 use Rattle.script_graph.proofs.Referring.{outcome_agrees, outcome_refers_more}
 
@@ -71,15 +72,17 @@ module _ (s s' : State) (k k' : Kept) (beside : KeepsBesideGiven k.graph k'.grap
 -- ---- the last accepted stabilize
 
 -- what was declared is so still, over one call after another
-pub still_then : (before s s' : State) (nodes : List NodeId) (arena : Arena) (k k' : Kept) → StillDeclares before nodes arena s k
-    → StillDeclares s k.nodes (arena_of k) s' k' → StillDeclares before nodes arena s' k'
-still_then before s s' nodes arena k k' first next = record {
+pub still_then : (before s s' : State) (nodes : List NodeId) (left : Graph) (k k' : Kept) → StillDeclares before nodes left s k
+    → StillDeclares s k.nodes (graph k.graph) s' k' → StillDeclares before nodes left s' k'
+still_then before s s' nodes left k k' first next = record {
   formulas = λ owner path f is. next.formulas owner path f (first.formulas owner path f is);
   targets = λ n e is.
       let d = first.targets n e is in
       let c = next.targets n d.0 d.1 in (c.0, c.1, c.2 ∙ d.2);
   names = λ n e is. let d = first.targets n e is in next.names n d.0 d.1 ∙ first.names n e is;
   rows = λ n r u is def. next.rows n r u (first.rows n r u is def) def;
+  lives = λ n r is. let q = first.lives n r is in next.lives n q.0 q.1;
+  built = λ b r is. let q = first.lives b r is in next.built b q.0 q.1 ∙ first.built b r is;
 }
 
 -- what a call leaves beside the graph: no observer comes to those that were there at the last accepted stabilize, links are fewer, last calls are as
@@ -102,15 +105,19 @@ leaves_beside k k' keeps given = record {
 }
 
 -- what is kept of the last accepted stabilize is so still
-pub settled_on : (F : Meanings) (before s s' : State) (k k' : Kept) → LeavesBeside k k' → StillDeclares s k.nodes (arena_of k) s' k'
+pub settled_on : (F : Meanings) (before s s' : State) (k k' : Kept) → LeavesBeside k k' → StillDeclares s k.nodes (graph k.graph) s' k'
+    → GrabsStay s s' → (ScopesBuilt (graph k.graph) → ScopesBuilt (graph k'.graph))
     → ((x : Observer) → Among x s'.observers → IsSome x.shown → Among x s.observers) → Settled F before s k → Settled F before s' k'
-settled_on F before s s' k k' leaves still shown st = record {
+settled_on F before s s' k k' leaves still live built shown st = record {
   nodes = st.nodes;
-  arena = st.arena;
+  bodies = st.bodies;
+  left = st.left;
   one_node_each = st.one_node_each;
   fits = st.fits;
   scopes = st.scopes;
-  still = still_then before s s' st.nodes st.arena k k' st.still still;
+  still = still_then before s s' st.nodes st.left k k' st.still still;
+  built = built st.built;
+  grabs = λ n b v was. live n b v (st.grabs n b v was);
   links = λ p q held link. st.links p q (held_less k.graph k'.graph leaves.rooted leaves.fewer p held)
       (link_less k.graph k'.graph leaves.rooted leaves.fewer p q link);
   ran = λ v is need. ran_on v (st.ran v is need);
@@ -118,7 +125,7 @@ settled_on F before s s' k k' leaves still shown st = record {
   today = record { plain = st.today.plain; equal = λ n. leaves.no_more_cutoffs n (st.today.equal n) };
 }
   where
-    ran_on : (v : Visit) → WasRun (besides F before st.nodes st.arena) k v → WasRun (besides F before st.nodes st.arena) k' v
+    ran_on : (v : Visit) → WasRun (besides F before st.nodes st.bodies st.left) k v → WasRun (besides F before st.nodes st.bodies st.left) k' v
     ran_on v w = record {
       node = w.node;
       is_node = w.is_node;

@@ -1,49 +1,35 @@
--- A stabilize that was cut short, and a refusal that never comes.
-use Rattle.std.proofs.Common.{◌≡◌, inl, inr, ℕ, ◌+◌, ◌-◌, ◌^◌, ◌<◌, ◌≤◌, List, length, Option, Some, refl, ap, sym, subst, ◌∙◌, arith}
+-- A stabilize that was cut short.
+use Rattle.std.proofs.Common.{◌≡◌, ℕ, ◌+◌, ◌≤◌, List, length, Option, Some, None, refl, ap, sym, ◌∙◌}
 use Rattle.inc_value.specs.declared.function.FnRef.{FnRef}
-use Rattle.inc_value.specs.declared.node.NodeId.{NodeId}
 use Rattle.inc_value.specs.declared.node.ObsId.{ObsId}
 use Rattle.inc_value.specs.declared.value.Value.{Value as GraphValue}
-use Rattle.inc_terms.specs.Graph.{Graph}
 use Rattle.inc_terms.specs.Term.{Functions}
+use Rattle.graph.specs.Sound.{IsWhole}
 use Rattle.graph.specs.Standing.{Standing, node_at}
-use Rattle.graph.specs.Stabilizes.{IsRefusedIn}
-use Rattle.graph.proofs.Flat.{IsRefusedFor, HasCalledMet}
-use Rattle.graph.specs.Fault.{kept_of}
+use Rattle.graph.specs.Stabilizes.{IsRefusedFor, HasCalledMet}
 use Rattle.graph.specs.declared.fault.Kept.{Kept as Cause}
-use Rattle.graph.specs.declared.fault.Kept.TheVariants as fault
 use Rattle.graph.specs.declared.observer.Observer.{Observer as Looking}
-use Rattle.node_arena.specs.Arena.{Arena, live}
-use Rattle.script_model.specs.Formula.{State, Observer, Meanings}
+use Rattle.script_model.specs.Formula.{State, Observer, Meanings, meanings_of}
+use Rattle.script_model.specs.Run.{most_calls}
 use Rattle.script_model.specs.Step.{Moment}
+use Rattle.script_graph.specs.Growing.{functions_over}
 use Rattle.script_graph.specs.Kept.{Kept, without_functions}
-use Rattle.script_graph.specs.Represents.{IsShown, Watches}
+use Rattle.script_graph.specs.Represents.{graph_functions, IsShown, Watches}
 use Rattle.script_graph.specs.Stabilizing.{IsCutShort}
-use Rattle.script_graph.specs.State.{MatchesMoment}
-use Rattle.script_graph.specs.Today.{maps_alone}
-use Rattle.script_graph.proofs.Calling.{few_calls}
+use Rattle.script_graph.specs.State.{MatchesMoment, Stands}
 use Rattle.script_graph.proofs.Held.{was_still}
-use Rattle.script_graph.proofs.Same.{represents_so}
+use Rattle.script_graph.proofs.Refusing.{IsSessions, kept_so, functions_so, moment_unbroken, stabilize_of, few_calls}
 use Rattle.script_graph.proofs.Without.{few_without}
-use Rattle.stabilizer.specs.Building.{LeavesNoRoom}
-use Rattle.wiring.specs.declared.refused.Refused.{Refused}
-use Rattle.wiring.specs.declared.refused.Refused.TheVariants as refused
 
 -- ---- broken
 
--- nodes and observers stay
-pub record KeepsNodes {A B : Type 0} (old : Standing A) (new : Standing B) : Type 0 where
-  pub nodes : new.nodes ≡ old.nodes
+-- observers stay
+pub record KeepsObservers {A B : Type 0} (old : Standing A) (new : Standing B) : Type 0 where
   pub observers : new.observers ≡ old.observers
   pub rooted : new.rooted ≡ old.rooted
 
--- so they do in a stabilize that was refused
-pub refused_keeps : {A : Type 0} {M : Functions} {G : Graph} {died : NodeId → Option NodeId} {old new : Standing A} {cause : Cause}
-    → new.nodes ≡ old.nodes → IsRefusedIn M G died old new cause → KeepsNodes old new
-refused_keeps nodes done = record { nodes = nodes; observers = done.observers; rooted = done.rooted }
-
 -- the observers of a session that broke are there still
-watches_broken : (s : State) (k : Kept) (g : Standing (Unit {0})) (number : ℕ) → KeepsNodes k.graph g → Watches s k
+watches_broken : (s : State) (k : Kept) (g : Standing (Unit {0})) (number : ℕ) → KeepsObservers k.graph g → Watches s k
     → Watches s (record k { broken = Some number; graph = g })
 watches_broken s k g number keeps w = record {
   made = w.made;
@@ -65,63 +51,53 @@ watches_broken s k g number keeps w = record {
       later = λ never. h.later (λ was. never (was_still k.graph g o keeps.rooted (looks o) was));
     }
 
--- what is kept of a script that broke matches the broken moment, where nodes and observers stayed
-pub broken_matches : (F : Meanings) (m : Moment) (k : Kept) (g : Standing (Unit {0})) (number : ℕ) → KeepsNodes k.graph g → MatchesMoment F k m
+-- what is kept of a script that broke matches the broken moment, where observers stayed
+pub broken_matches : (F : Meanings) (m : Moment) (k : Kept) (g : Standing (Unit {0})) (number : ℕ) → KeepsObservers k.graph g → MatchesMoment F k m
     → MatchesMoment F (record k { broken = Some number; graph = g }) (record m { broken = Some number })
 broken_matches F m k g number keeps matches = record {
   names = matches.names;
   accepted = matches.accepted;
   broken = refl;
-  represents = represents_so F m.present m.present.observers m.present.accepted k (record k { broken = Some number; graph = g }) refl refl keeps.nodes
-      matches.represents;
+  represents = λ whole. absurd (cc);
   watches = watches_broken m.present k g number keeps matches.watches;
   settled = λ whole. absurd (cc);
 }
 
--- a stabilize that was cut short leaves the broken moment, and called few functions
-pub cut_short_matches : {M : Functions} (F : Meanings) (m : Moment) (k : Kept) (g : Standing (Unit {0})) (called calls : ℕ) → KeepsNodes k.graph g
-    → MatchesMoment F k m → HasCalledMet M k.graph called calls → IsCutShort F m (record k { broken = Some 0; graph = g }) called calls
-cut_short_matches {M} F m k g called calls keeps matches few = record {
-  matches = broken_matches F m k g 0 keeps matches;
-  within = few_calls M F m.present k matches.represents called calls few;
-}
-
--- ---- what never comes
-
--- what is met where it is for what is full
-met_full : (met : Refused) → kept_of met ≡ fault.Full → met ≡ refused.Full
-met_full (refused.Cycle points) e = absurd (cc)
-met_full (refused.Height points) e = absurd (cc)
-met_full refused.Full e = refl
-met_full refused.Memory e = absurd (cc)
-
--- nodes that stay, and have room for one more, have room where a build began when no fewer ids were given
-leaves_room : (a b : Arena) (count : ℕ) → b ≡ a → a.given ≤ count → live a < 1048576 → a.given < 2 ^ 64 - 1 → LeavesNoRoom count b → ⊥
-leaves_room a b count same more few ids (inl full) =
-    let given = ap (λ (x : Arena). x.given) same in
-    let lives = ap (λ (x : Arena). live x) same in
-    omega (arith, full, given, lives, more, few)
-leaves_room a b count same more few ids (inr full) = let given = ap (λ (x : Arena). x.given) same in omega (arith, full, given, ids)
-
 -- ---- over a graph with its functions
 
-module _ {A : Type 0} where
-  -- so they do but for the functions
-  pub keeps_without : (k : Kept) (old new : Standing A) → k.graph ≡ without_functions old → KeepsNodes old new → KeepsNodes k.graph (without_functions new)
-  keeps_without k old new same keeps =
-      subst (λ (h : Standing (Unit {0})). KeepsNodes h (without_functions new)) (sym same)
-      (record { nodes = keeps.nodes; observers = keeps.observers; rooted = keeps.rooted })
+-- what is whole stays so without functions
+pub kept_whole : {A : Type 0} (named : List ℕ → Option FnRef) (value : FnRef → List GraphValue → GraphValue) (k : Kept) (old new : Standing A)
+    (c : IsSessions value k old new) (m : Moment) (stands : Stands (meanings_of named value) k m) → old.refused ≡ None
+    → IsWhole (stabilize_of named value k old new c m stands).meaning k.graph
+kept_whole named value k old new c m stands was =
+    (stabilize_of named value k old new c m stands).sound.whole (ap (λ (h : Standing (Unit {0})). h.refused) c.same ∙ was)
+
+module _ {A : Type 0} (named : List ℕ → Option FnRef) (value : FnRef → List GraphValue → GraphValue) (k : Kept) (old new : Standing A)
+    (c : IsSessions value k old new) (m : Moment) (stands : Stands (meanings_of named value) k m) where
+  abbrev F : Meanings
+  F = meanings_of named value
+
+  -- so the script allows as many calls as a refused stabilize of a session's graph made
+  pub session_calls : (called calls : ℕ) → old.refused ≡ None → HasCalledMet (functions_over value k.bodies) old new called calls
+      → calls ≤ called + most_calls m.present
+  session_calls called calls was few =
+      few_calls named value m k (without_functions new) stands (moment_unbroken named value k old new c m stands)
+      (stabilize_of named value k old new c m stands) (kept_whole named value k old new c m stands was) called calls
+      (kept_so named value k old new c m stands (λ (h : Standing (Unit {0})). HasCalledMet (graph_functions F k.bodies) h (without_functions new) called calls)
+      (few_without (graph_functions F k.bodies) old new called calls
+      (functions_so named value k old new c m stands (λ (M : Functions). HasCalledMet M old new called calls) few)))
+
+  -- and it leaves the broken moment
+  pub session_broken : (number : ℕ) (cause : Cause) → IsRefusedFor (functions_over value k.bodies) old new cause
+      → MatchesMoment F (record k { broken = Some number; graph = without_functions new }) (record m { broken = Some number })
+  session_broken number cause done =
+      broken_matches F m k (without_functions new) number
+      (kept_so named value k old new c m stands (λ (h : Standing (Unit {0})). KeepsObservers h (without_functions new))
+      (record { observers = done.observers; rooted = done.rooted })) stands.matches
 
   -- a stabilize of a session's graph that was cut short is one of its script
-  pub session_cut_short : {M : Functions} (F : Meanings) (k : Kept) (old new : Standing A) (called calls : ℕ) → k.graph ≡ without_functions old
-      → KeepsNodes old new → HasCalledMet M old called calls → (m : Moment) → MatchesMoment F k m
+  pub session_cut_short : (cause : Cause) (called calls : ℕ) → IsRefusedFor (functions_over value k.bodies) old new cause
+      → HasCalledMet (functions_over value k.bodies) old new called calls
       → IsCutShort F m (record k { broken = Some 0; graph = without_functions new }) called calls
-  session_cut_short {M} F k old new called calls same keeps few m matches =
-      cut_short_matches F m k (without_functions new) called calls (keeps_without k old new same keeps) matches
-      (subst (λ (h : Standing (Unit {0})). HasCalledMet M h called calls) (sym same) (few_without M old called calls few))
-
-  -- no graph of a session is refused so
-  pub never_for_full : (value : FnRef → List GraphValue → GraphValue) (old new : Standing A) → new.nodes ≡ old.nodes → live old.nodes < 1048576
-      → old.nodes.given < 2 ^ 64 - 1 → IsRefusedFor (maps_alone value) old new fault.Full → ⊥
-  never_for_full value old new same few ids done =
-      let full = done.full (met_full done.met done.is_cause) in leaves_room old.nodes new.nodes full.0 same full.1 few ids full.2
+  session_cut_short cause called calls done few =
+      record { matches = session_broken 0 cause done; within = session_calls called calls done.was few }

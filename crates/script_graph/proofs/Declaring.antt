@@ -1,49 +1,53 @@
 -- What is kept of a script after a declaration.
-use Rattle.std.proofs.Common.{◌≡◌, ◌⊎◌, inl, inr, ℕ, zero, suc, ◌+◌, ◌<◌, ◌≤◌, Bool, List, [], ◌∷◌, ◌++◌, map, length, Option, None, Some, option_map, refl, ap, sym, subst, ◌∙◌, arith, slice_get}
+use Rattle.std.proofs.Common.{◌≡◌, ◌⊎◌, inl, inr, ℕ, zero, suc, ◌+◌, ◌<◌, ◌≤◌, Bool, true, List, [], ◌∷◌, ◌++◌, map, length, Option, None, Some, option_map, refl, ap, sym, subst, ◌∙◌, arith, slice_get}
 use Rattle.std.proofs.lemmas.Option.{slice_get_within, slice_get-map}
 use Rattle.std.proofs.lemmas.List.{length-append, map-append, get_or_append_left, get_or_at}
 use Rattle.std.proofs.lemmas.List.Sums.{sum_by_push}
-use Rattle.formula_lang.specs.Fits.{DeclarationFits, NameFits, ReferenceFits}
+use Rattle.formula_lang.specs.Fits.{BodyFits, DeclarationFits, NameFits, ReferenceFits}
 use Rattle.script_model.proofs.Leaves.{leaves_more_of}
 use Rattle.script_model.specs.Leaves.{EveryReference}
 use Rattle.script_graph.proofs.Laying.{body_plain}
 use Rattle.inc_value.specs.Choice.{and_then}
+use Rattle.inc_value.specs.declared.function.FnKind.{FnKind}
 use Rattle.inc_value.specs.declared.function.FnRef.{FnRef}
 use Rattle.inc_value.specs.declared.node.NodeId.{NodeId}
 use Rattle.inc_value.specs.declared.ty.Ty.{Ty}
 use Rattle.inc_value.specs.declared.value.Value.{Value as GraphValue}
-use Rattle.graph.specs.Standing.{Standing}
+use Rattle.graph.specs.Standing.{Standing, graph}
 use Rattle.link_table.proofs.Lists.{get_append_last, get_append_other}
-use Rattle.inc_terms.specs.Graph.{Row}
+use Rattle.inc_terms.specs.Graph.{Graph}
+use Rattle.inc_terms.specs.Rebuilding.{outcome_of}
+use Rattle.inc_terms.specs.Within.{Given}
 use Rattle.node_arena.specs.Arena.{row_at}
 use Rattle.node_arena.specs.Sound as arena
 use Rattle.script_model.specs.Check.{Declare, Declared, Names, declared_of, kind_of_body, names_of, target_of_body}
-use Rattle.script_model.specs.Formula.{State, Body, Entry, Meanings, meanings_of, body_at, entry_at, formula_of_body, places_of_body, Name, Variable, Computed}
+use Rattle.script_functions.specs.Bodies as Bodies
+use Rattle.script_model.specs.Formula.{State, Body, Entry, Kept as KeptOf, Formula, Meanings, meanings_of, bind_of, body_at, built_at, built_of_body, entry_at, formula_of_body, places_of_body, Name, Bind, Variable, Computed, Grab}
 use Rattle.script_model.specs.Need.{part_of}
 use Rattle.script_model.specs.Step.{Moment, declared_in, moved}
 use Rattle.script_model.specs.Values.{Value, Int, Bool as Truth, Text, Reference}
 use Rattle.script_graph.specs.Growing.{Extends}
 use Rattle.script_graph.specs.Kept.{Kept, arena_of, node_in, no_node}
-use Rattle.script_graph.specs.Represents.{AreNames, beside, IsOfItem, Represents}
-use Rattle.script_graph.specs.Today.{todays_graph, IsPlainBody, IsEarlierTarget, IsDeclaredTarget, AllPlain, IsWithin, IsPartWithin, OwnNodesOf}
+use Rattle.script_graph.specs.Represents.{AreNames, beside, BuiltAlike, BuiltRefers, Represents}
+use Rattle.script_graph.specs.Today.{RefersTo, IsPlainBody, IsEarlierTarget, IsDeclaredTarget, AllPlain, IsWithin, IsPartWithin, OwnNodesOf}
 use Rattle.script_graph.specs.State.{MatchesMoment}
 use Rattle.script_graph.proofs.Carrying.{watches_on, leaves_beside, settled_on}
-use Rattle.script_graph.proofs.Extending.{live_stays, declares_still, body_within, body_there, node_given, never_given, body_past, node_past}
-use Rattle.script_graph.proofs.Placed.{item_still}
-use Rattle.script_graph.proofs.Placing.{AddsItems}
-use Rattle.script_graph.proofs.Owning.{own_body, own_node, own_nodes_of_on}
-use Rattle.script_graph.proofs.Referring.{value_refers_more}
-use Rattle.transfer.specs.Items.{FormulasStay}
-use Rattle.transfer.specs.Keeping.{NodesApart, RowsStay}
+use Rattle.script_graph.proofs.Extending.{BodiesServe, KeepsGraph, NodesGiven, body_past, body_there, body_within, built_still, declares_still, entry_body, extends_beside, extends_built, extends_keeps, extends_lives, extends_scopes, live_stays, never_given, node_past}
+use Rattle.script_graph.proofs.Owning.{HasOwnNode, own_body, own_node, own_nodes_of_on}
+use Rattle.script_graph.proofs.Referring.{outcome_refers_more, value_refers_more}
+use Rattle.transfer.specs.Both.{graph_outcome}
+use Rattle.transfer.specs.Items.{FormulasStay, GrabsStay}
+use Rattle.transfer.specs.Keeping.{GrabsForms, NodesApart}
 use Rattle.transfer.specs.Shows.{Declares, IsOwn}
 use Rattle.transfer.proofs.Places.{then_some}
-use Rattle.transfer.proofs.Typed.{body_entry}
+use Rattle.transfer.proofs.Typed.{bind_body, body_entry}
 
 -- ---- plain formulas
 
 -- what is plain stays so where more has the properties
 pub plain_body_more : (P Q R S : ℕ → Type 0) → ((n : ℕ) → P n → Q n) → ((n : ℕ) → R n → S n) → (b : Body) → IsPlainBody P R b → IsPlainBody Q S b
-plain_body_more P Q R S more refers b fine = ((fine.0.0, leaves_more_of P Q R S more refers b fine.0.1), fine.1)
+plain_body_more P Q R S more refers (Grab bind v is_live) fine = (more bind fine.0, value_refers_more R S refers v fine.1)
+plain_body_more P Q R S more refers b fine = (fine.0, leaves_more_of P Q R S more refers b fine.1)
 
 -- ---- names stand for declarations that are no other names
 
@@ -51,7 +55,7 @@ own_or_name : (s : State) (n : ℕ) (e : Entry) → entry_at s n ≡ Some e → 
     → IsOwn (body_at s e.target)
 own_or_name s n e is plain (Computed (Name t) kept) body target =
     let here : body_at s n ≡ Some (Computed (Name t) kept) = ap (λ (o : Option Entry). and_then o (λ (d : Entry). Some d.body)) is ∙ ap (λ b. Some b) body in
-    subst (λ (j : ℕ). IsOwn (body_at s j)) (sym target) (plain n (Computed (Name t) kept) here).0.1.1
+    subst (λ (j : ℕ). IsOwn (body_at s j)) (sym target) (plain n (Computed (Name t) kept) here).1.1
 own_or_name s n e is plain (Computed f kept) body target = itself s n e is (Computed f kept) body target tt
   where
     itself : (s : State) (n : ℕ) (e : Entry) → entry_at s n ≡ Some e → (b : Body) → e.body ≡ b → e.target ≡ n → IsOwn (Some b) → IsOwn (body_at s e.target)
@@ -61,9 +65,12 @@ own_or_name s n e is plain (Computed f kept) body target = itself s n e is (Comp
 own_or_name s n e is plain (Variable v) body target =
     let here : body_at s n ≡ Some (Variable v) = ap (λ (o : Option Entry). and_then o (λ (d : Entry). Some d.body)) is ∙ ap (λ b. Some b) body in
     subst (λ (j : ℕ). IsOwn (body_at s j)) (sym target) (subst IsOwn (sym here) tt)
+own_or_name s n e is plain (Grab bind v is_live) body target =
+    let here : body_at s n ≡ Some (Grab bind v is_live) = ap (λ (o : Option Entry). and_then o (λ (d : Entry). Some d.body)) is ∙ ap (λ b. Some b) body in
+    subst (λ (j : ℕ). IsOwn (body_at s j)) (sym target) (subst IsOwn (sym here) tt)
 own_or_name s n e is plain b body target =
     let here : body_at s n ≡ Some b = ap (λ (o : Option Entry). and_then o (λ (d : Entry). Some d.body)) is ∙ ap (λ b. Some b) body in
-    absurd (plain n b here).0.0
+    absurd (plain n b here).0
 
 -- an entry of a declared name
 pub named_entry : (names : Names) (s : State) → names.declared ≡ (names_of s).declared → (place : ℕ) (d : Declared) → slice_get names.declared place ≡ Some d
@@ -158,30 +165,64 @@ module _ (s : State) (name : List ℕ) (ty : Ty) (body : Body) where
       let e = body_entry s owner b.0 b.1 in
       ap (λ (o : Option Body). and_then o (λ c. and_then (formula_of_body c) (λ g. part_of g path))) (body_old owner (slice_get_within s.entries owner e.0 e.1)) ∙ is
 
+-- ---- what is declared
+
+-- what fits is no grab: it has a node of its own, if it is no other name
+pub own_declared : (known : FnRef → Bool) (names : Names) (body : Body) (ty : Ty) → BodyFits known names body ty → IsOwn (Some body) → HasOwnNode body
+own_declared known names (Variable v) ty fits own = tt
+own_declared known names (Computed (Name t) kept) ty fits own = absurd own
+own_declared known names (Computed f kept) ty fits own = tt
+own_declared known names body ty fits own = absurd fits
+
+-- nothing is kept of it
+unbuilt_yet : (known : FnRef → Bool) (names : Names) (body : Body) (ty : Ty) → BodyFits known names body ty → built_of_body body ≡ None
+unbuilt_yet known names (Variable v) ty fits = refl
+unbuilt_yet known names (Computed f kept) ty fits = ap (λ (r : KeptOf). r.built) fits.1
+unbuilt_yet known names body ty fits = absurd fits
+
+pub no_live_grab : (known : FnRef → Bool) (names : Names) (body : Body) (ty : Ty) → BodyFits known names body ty → (b : ℕ) (v : Value)
+    → body ≡ Grab b v true → ⊥
+no_live_grab known names (Variable v) ty fits b w e = cc
+no_live_grab known names (Computed f kept) ty fits b w e = cc
+no_live_grab known names body ty fits b w e = absurd fits
+
 -- ---- what is kept
 
 -- what is kept with one declaration more
-abbrev pub with_declared : Kept → List ℕ → Ty → Body → NodeId → ℕ → Standing (Unit {0}) → Kept
-with_declared k name ty body root room g = record k {
+abbrev pub with_declared : Kept → List ℕ → Ty → Body → NodeId → ℕ → List Bodies.Body → Standing (Unit {0}) → Kept
+with_declared k name ty body root room bodies g = record k {
   names = record k.names {
     declared = k.names.declared
         ++ record { name = name; ty = ty; kind = kind_of_body body; target = target_of_body (length k.names.declared) body } ∷ [];
   };
   nodes = k.nodes ++ root ∷ [];
   room = room;
+  bodies = bodies;
   graph = g;
 }
 
-module _ (named : List ℕ → Option FnRef) (value : FnRef → List GraphValue → GraphValue) (known : FnRef → Bool) (k : Kept) (g : Standing (Unit {0}))
-    (sound : arena.IsSound (arena_of k)) (sound' : arena.IsSound g.nodes) (more : Extends k.graph g) (m : Moment)
-    (name : List ℕ) (ty : Ty) (body : Body) (root : NodeId) (room : ℕ) (fits : DeclarationFits known k.names name ty body)
-    (room_is : room + places_of_body body ≡ k.room)
-    (adds : AddsItems (arena_of k) g.nodes root body)
-    (owned : OwnNodesOf (todays_graph g.nodes) (λ (n : NodeId). ((arena_of k).given ≤ n.gen_) × (n.gen_ ≤ root.gen_))
-    (λ (n : NodeId). ((arena_of k).given ≤ n.gen_) × (n.gen_ < root.gen_)) root body) where
-  abbrev F : Meanings
-  F = meanings_of named value
+-- the node was given since the count, and no later than the root
+abbrev pub IsSince : ℕ → NodeId → NodeId → Type 0
+IsSince count root n = (count ≤ n.gen_) × (n.gen_ ≤ root.gen_)
 
+-- or before the root
+abbrev pub IsPartSince : ℕ → NodeId → NodeId → Type 0
+IsPartSince count root n = (count ≤ n.gen_) × (n.gen_ < root.gen_)
+
+-- what is declared anew fits behind what is there: it is plain; its node is that of no other name, if it is its own target; it isn't built; if it is a live
+-- grab its bind's body is no name; and its nodes were given since
+pub record IsNew (s : State) (name : List ℕ) (ty : Ty) (body : Body) (nodes : List NodeId) (count : ℕ) (root : NodeId) (G : Graph) : Type 0 where
+  pub plain : IsPlainBody (IsEarlierTarget (declared_in s name ty body) (length s.entries)) (IsDeclaredTarget (declared_in s name ty body)) body
+  pub apart : IsOwn (Some body) → (i : ℕ) (e : Entry) → entry_at s i ≡ Some e → e.target ≡ i → node_in nodes i ≡ root → ⊥
+  pub unkept : built_of_body body ≡ None
+  pub unbuilt : (left below : Formula) (kept : KeptOf) → body ≡ Computed (Bind left below) kept → G.built root ≡ None
+  pub grab : (b : ℕ) (v : Value) (left : Formula) (t : ℕ) (kept : KeptOf) → body ≡ Grab b v true → body_at s b ≡ Some (Computed (Bind left (Name t)) kept) → ⊥
+  pub owned : OwnNodesOf G (IsSince count root) (IsPartSince count root) root body
+
+module _ (F : Meanings) (k : Kept) (g : Standing (Unit {0})) (bodies : List Bodies.Body) (Q : FnKind → FnRef → Type 0) (serve : BodiesServe F k bodies Q)
+    (sound : arena.IsSound (arena_of k)) (sound' : arena.IsSound g.nodes) (more : Extends k.graph g) (m : Moment) (given : NodesGiven m.present k)
+    (name : List ℕ) (ty : Ty) (body : Body) (root : NodeId) (room : ℕ) (room_is : room + places_of_body body ≡ k.room)
+    (is_new : AreNames k.names m.present → Represents F m.present k → IsNew m.present name ty body k.nodes (arena_of k).given root (graph g)) where
   abbrev s : State
   s = m.present
 
@@ -189,10 +230,13 @@ module _ (named : List ℕ → Option FnRef) (value : FnRef → List GraphValue 
   s' = declared_in s name ty body
 
   abbrev new : Kept
-  new = with_declared k name ty body root room g
+  new = with_declared k name ty body root room bodies g
 
-  stays : RowsStay (todays_graph (arena_of k)) (todays_graph g.nodes)
-  stays n r u is def = live_stays k.graph g sound more n r is
+  abbrev Of : NodeId → Type 0
+  Of n = Given (arena_of k).given n
+
+  keeps : KeepsGraph Of k g
+  keeps = extends_keeps k g sound more
 
   names_on : AreNames k.names s → AreNames new.names s'
   names_on h = record {
@@ -212,8 +256,14 @@ module _ (named : List ℕ → Option FnRef) (value : FnRef → List GraphValue 
 
   module _ (names : AreNames k.names s) (held : Represents F s k)
       (shows : Declares (beside F s' new) root (Some body)) where
+    new_is : IsNew s name ty body k.nodes (arena_of k).given root (graph g)
+    new_is = is_new names held
+
     node_old : (n : ℕ) → n < length s.entries → node_in new.nodes n ≡ node_in k.nodes n
     node_old n low = get_or_append_left k.nodes (root ∷ []) no_node n (omega (arith, low, held.one_node_each))
+
+    new_unbuilt : built_at s' (length s.entries) ≡ None
+    new_unbuilt = ap (λ (o : Option Body). and_then o built_of_body) (body_new s name ty body) ∙ new_is.unkept
 
     node_new : node_in new.nodes (length s.entries) ≡ root
     node_new = get_or_at k.nodes root [] no_node (length s.entries) held.one_node_each
@@ -221,41 +271,17 @@ module _ (named : List ℕ → Option FnRef) (value : FnRef → List GraphValue 
     own_old : (n t : ℕ) → n < length s.entries → IsEarlierTarget s n t → IsEarlierTarget s' n t
     own_old n t low early = (early.0, subst IsOwn (sym (body_old s name ty body t (omega (arith, early.0, low)))) early.1)
 
-    fitting : (position : ℕ) (t : Ty) → NameFits k.names position t → IsEarlierTarget s' (length s.entries) position
-    fitting position t fine =
-        let own = fitting_target k.names s names.declared held.today.plain held.targets position t fine in
-        let size = ap (λ (ds : List Declared). length ds) names.declared in
-        let low : position < length s.entries = within position (fine.earlier) in
-        (low, subst IsOwn (sym (body_old s name ty body position low)) own)
-      where
-        mapped : (es : List Entry) → length (map declared_of es) ≡ length es
-        mapped [] = refl
-        mapped (e ∷ es) = ap (λ n. suc n) (mapped es)
-
-        within : (position : ℕ) → position < length k.names.declared → position < length s.entries
-        within position low = let size = ap (λ (ds : List Declared). length ds) names.declared ∙ mapped s.entries in omega (arith, low, size)
-
     target_on : (t : ℕ) → IsDeclaredTarget s t → IsDeclaredTarget s' t
-    target_on t d = (d.0, body_old s name ty body t (body_within F s k held t d.0 d.1) ∙ d.1, d.2)
-
-    fitting_value : (v : Value) → ReferenceFits k.names v → EveryReference (IsDeclaredTarget s') v
-    fitting_value v fine = value_refers_more (IsDeclaredTarget s) (IsDeclaredTarget s') target_on v
-        (fitting_refers k.names s names.declared held.today.plain held.targets v fine)
+    target_on t d = (d.0, body_old s name ty body t (body_within s t d.0 d.1) ∙ d.1, d.2)
 
     plain_each : AllPlain s'
-    plain_each n b is = elim (body_of s name ty body n b is) [
+    plain_each n b at = elim (body_of s name ty body n b at) [
       | inl h ↦ plain_body_more (IsEarlierTarget s n) (IsEarlierTarget s' n) (IsDeclaredTarget s) (IsDeclaredTarget s') (λ t early. own_old n t h.0 early)
           target_on b (held.today.plain n b h.1)
       | inr h ↦ subst (λ (j : ℕ). IsPlainBody (IsEarlierTarget s' j) (IsDeclaredTarget s') b) (sym h.0)
           (subst (λ (c : Body). IsPlainBody (IsEarlierTarget s' (length s.entries)) (IsDeclaredTarget s') c) (sym h.1)
-          (body_plain known k.names (IsEarlierTarget s' (length s.entries)) (IsDeclaredTarget s') fitting fitting_value body ty fits.body_fits))
+          new_is.plain)
     ]
-
-    same_early : (n : ℕ) → n < length s.entries → (t : ℕ) → IsEarlierTarget s n t → node_in new.nodes t ≡ node_in k.nodes t
-    same_early n low t early = node_old t (omega (arith, early.0, low))
-
-    same_target : (t : ℕ) → IsDeclaredTarget s t → node_in new.nodes t ≡ node_in k.nodes t
-    same_target t d = node_old t (body_within F s k held t d.0 d.1)
 
     declares_each : (n : ℕ) (b : Option Body) → body_at s' n ≡ b → Declares (beside F s' new) (node_in new.nodes n) b
     declares_each n None is = (ap (row_at g.nodes) past ∙ never_given g.nodes sound', refl)
@@ -266,9 +292,8 @@ module _ (named : List ℕ → Option FnRef) (value : FnRef → List GraphValue 
             let states = length-append s.entries (entry s name ty body ∷ []) in
             node_past new.nodes n (omega (arith, body_past s' n is, held.one_node_each, size, states))
     declares_each n (Some b) is = elim (body_of s name ty body n b is) [
-      | inl h ↦ declares_still (beside F s k) (beside F s' new) (IsEarlierTarget s n) (IsDeclaredTarget s) (same_early n h.0) same_target stays
-          (node_in k.nodes n) (node_in new.nodes n) b (node_old n h.0) (held.today.plain n b h.1) (λ v e r row. live_stays k.graph g sound more (node_in k.nodes n) r row)
-          (rw h.1 at (held.declares n))
+      | inl h ↦ declares_still Of F s k held given s' new.nodes bodies Q serve g keeps node_old n b h.1
+          (λ v e r row. live_stays k.graph g sound more (node_in k.nodes n) r row)
       | inr h ↦ subst (λ (c : Body). Declares (beside F s' new) (node_in new.nodes n) (Some c)) (sym h.1)
           (subst (λ (q : NodeId). Declares (beside F s' new) q (Some body)) (sym (ap (node_in new.nodes) h.0 ∙ node_new)) shows)
     ]
@@ -279,11 +304,11 @@ module _ (named : List ℕ → Option FnRef) (value : FnRef → List GraphValue 
       later = λ j less. subst (λ (r : NodeId). r.gen_ < q.gen_) (sym (node_old j (omega (arith, less, low)))) (h.later j less);
     }
 
-    within_new : (q : NodeId) → ((arena_of k).given ≤ q.gen_) × (q.gen_ ≤ root.gen_) → IsWithin new.nodes (length s.entries) q
+    within_new : (q : NodeId) → IsSince (arena_of k).given root q → IsWithin new.nodes (length s.entries) q
     within_new q h = record {
       not_later = subst (λ (r : NodeId). q.gen_ ≤ r.gen_) (sym node_new) h.1;
       later = λ j less. subst (λ (r : NodeId). r.gen_ < q.gen_) (sym (node_old j less))
-          (let b = body_there F s k held j less in let low = node_given F s k held sound j b.0 b.1 in omega (arith, low, h.0));
+          (let b = body_there s j less in let low = given j b.0 b.1 in omega (arith, low, h.0));
     }
 
     part_old : (n : ℕ) → n < length s.entries → (q : NodeId) → IsPartWithin k.nodes n q → IsPartWithin new.nodes n q
@@ -292,7 +317,7 @@ module _ (named : List ℕ → Option FnRef) (value : FnRef → List GraphValue 
       earlier = subst (λ (r : NodeId). q.gen_ < r.gen_) (sym (node_old n low)) h.earlier;
     }
 
-    part_new : (q : NodeId) → ((arena_of k).given ≤ q.gen_) × (q.gen_ < root.gen_) → IsPartWithin new.nodes (length s.entries) q
+    part_new : (q : NodeId) → IsPartSince (arena_of k).given root q → IsPartWithin new.nodes (length s.entries) q
     part_new q h = record {
       within = within_new q (h.0, let low = h.1 in omega (arith, low));
       earlier = subst (λ (r : NodeId). q.gen_ < r.gen_) (sym node_new) h.1;
@@ -300,19 +325,18 @@ module _ (named : List ℕ → Option FnRef) (value : FnRef → List GraphValue 
 
     -- what is so of the nodes of a declaration
     abbrev AgedAt : ℕ → NodeId → Body → Type 0
-    AgedAt n q b = OwnNodesOf (todays_graph g.nodes) (IsWithin new.nodes n) (IsPartWithin new.nodes n) q b
+    AgedAt n q b = OwnNodesOf (graph g) (IsWithin new.nodes n) (IsPartWithin new.nodes n) q b
 
     aged_each : (n : ℕ) (b : Body) → body_at s' n ≡ Some b → AgedAt n (node_in new.nodes n) b
-    aged_each n b is = elim (body_of s name ty body n b is) [
+    aged_each n b at = elim (body_of s name ty body n b at) [
       | inl h ↦ subst (λ (q : NodeId). AgedAt n q b) (sym (node_old n h.0))
-          (own_nodes_of_on (todays_graph (arena_of k)) (todays_graph g.nodes) (IsWithin k.nodes n) (IsWithin new.nodes n) (IsPartWithin k.nodes n)
-          (IsPartWithin new.nodes n) (within_old n h.0) (part_old n h.0) stays (node_in k.nodes n) b (held.today.aged n b h.1))
+          (own_nodes_of_on (graph k.graph) (graph g) (IsWithin k.nodes n) (IsWithin new.nodes n) (IsPartWithin k.nodes n)
+          (IsPartWithin new.nodes n) (within_old n h.0) (part_old n h.0) keeps.rows (node_in k.nodes n) b (held.today.aged n b h.1))
       | inr h ↦ subst (λ (j : ℕ). AgedAt j (node_in new.nodes j) b) (sym h.0)
           (subst (λ (q : NodeId). AgedAt (length s.entries) q b) (sym node_new)
           (subst (λ (c : Body). AgedAt (length s.entries) root c) (sym h.1)
-          (own_nodes_of_on (todays_graph g.nodes) (todays_graph g.nodes) (λ (q : NodeId). ((arena_of k).given ≤ q.gen_) × (q.gen_ ≤ root.gen_))
-          (IsWithin new.nodes (length s.entries)) (λ (q : NodeId). ((arena_of k).given ≤ q.gen_) × (q.gen_ < root.gen_))
-          (IsPartWithin new.nodes (length s.entries)) within_new part_new (λ q r u row def. row) root body owned)))
+          (own_nodes_of_on (graph g) (graph g) (IsSince (arena_of k).given root) (IsWithin new.nodes (length s.entries)) (IsPartSince (arena_of k).given root)
+          (IsPartWithin new.nodes (length s.entries)) within_new part_new (λ q r u row def. row) root body new_is.owned)))
     ]
 
     targets_each : (n : ℕ) (e : Entry) → entry_at s' n ≡ Some e → e.target ≡ target_of_body n e.body
@@ -325,37 +349,57 @@ module _ (named : List ℕ → Option FnRef) (value : FnRef → List GraphValue 
     apart_each : NodesApart s' (node_in new.nodes)
     apart_each i j d e at_i at_j own_i own_j same = by_place (entry_of s name ty body i d at_i) (entry_of s name ty body j e at_j)
       where
-        later : (i j : ℕ) (e : Entry) → i < length s.entries → j ≡ length s.entries → e ≡ entry s name ty body → e.target ≡ j
-            → node_in new.nodes i ≡ node_in new.nodes j → ⊥
-        later i j e low last is own same =
-            let target : target_of_body (length s.entries) body ≡ length s.entries = ap (λ (d : Entry). d.target) (sym is) ∙ (own ∙ last) in
-            let young = own_node (todays_graph g.nodes) (λ (q : NodeId). ((arena_of k).given ≤ q.gen_) × (q.gen_ ≤ root.gen_))
-            (λ (q : NodeId). ((arena_of k).given ≤ q.gen_) × (q.gen_ < root.gen_)) root body
-            (own_body s' plain_each (length s.entries) body (body_new s name ty body) target) owned in
-            let b = body_there F s k held i low in
-            let old = node_given F s k held sound i b.0 b.1 in
+        later : (i j : ℕ) (d e : Entry) → i < length s.entries → entry_at s i ≡ Some d → d.target ≡ i → j ≡ length s.entries → e ≡ entry s name ty body
+            → e.target ≡ j → node_in new.nodes i ≡ node_in new.nodes j → ⊥
+        later i j d e low at own_i last e_is own same =
+            let target : target_of_body (length s.entries) body ≡ length s.entries = ap (λ (d : Entry). d.target) (sym e_is) ∙ (own ∙ last) in
             let node : node_in k.nodes i ≡ root = sym (node_old i low) ∙ (same ∙ (ap (node_in new.nodes) last ∙ node_new)) in
-            let gens : (node_in k.nodes i).gen_ ≡ root.gen_ = ap (λ (q : NodeId). q.gen_) node in
-            omega (arith, old, gens, young.0)
+            new_is.apart (own_body s' plain_each (length s.entries) body (body_new s name ty body) target) i d at own_i node
 
         by_place : ((i < length s.entries) × (entry_at s i ≡ Some d)) ⊎ ((i ≡ length s.entries) × (d ≡ entry s name ty body))
             → ((j < length s.entries) × (entry_at s j ≡ Some e)) ⊎ ((j ≡ length s.entries) × (e ≡ entry s name ty body)) → i ≡ j
         by_place (inl a) (inl b) = held.apart i j d e a.1 b.1 own_i own_j (sym (node_old i a.0) ∙ (same ∙ node_old j b.0))
-        by_place (inl a) (inr b) = absurd (later i j e a.0 b.0 b.1 own_j same)
-        by_place (inr a) (inl b) = absurd (later j i d b.0 a.0 a.1 own_i (sym same))
+        by_place (inl a) (inr b) = absurd (later i j d e a.0 a.1 own_i b.0 b.1 own_j same)
+        by_place (inr a) (inl b) = absurd (later j i e d b.0 b.1 own_j a.0 a.1 own_i (sym same))
         by_place (inr a) (inr b) = a.0 ∙ sym b.0
 
-    -- each live node is that of an item: one that was there, or one of the new declaration
-    of_items_each : (n : NodeId) (r : Row) → row_at g.nodes n ≡ Some r → IsOfItem (beside F s' new) n
-    of_items_each n r is = elim (adds n r is) [
-      | inl old ↦ item_still (beside F s k) (beside F s' new) stays (λ b. refl) held.today.plain
-          (λ j f kept body_is. still j (Computed f kept) body_is)
-          (λ j v body_is. let there = still j (Variable v) body_is in (v, there.0, there.1)) n (held.of_items n r old)
-      | inr made ↦ made (beside F s' new) (length s.entries) refl node_new (body_new s name ty body)
-    ]
+    -- a bind is an earlier one, or the new one, which isn't built
+    built_each : BuiltAlike s' new
+    built_each n left below at =
+        let b = bind_body s' n left below at in
+        elim (body_of s name ty body n (Computed (Bind left below) b.0) b.1) [
+          | inl h ↦
+              built_still Of F s k held given s' new.nodes bodies Q serve g keeps node_old n left below (ap (λ (o : Option Body). and_then o bind_of) h.1) h.0
+              ∙ ap (λ (o : Option Body). option_map (graph_outcome (node_in new.nodes)) (and_then o built_of_body)) (sym (body_old s name ty body n h.0))
+          | inr h ↦
+              let node : node_in new.nodes n ≡ root = ap (node_in new.nodes) h.0 ∙ node_new in
+              let none : built_at s' n ≡ None = ap (λ (j : ℕ). built_at s' j) h.0 ∙ new_unbuilt in
+              ap (λ (q : NodeId). outcome_of ((graph g).built q)) node
+              ∙ (ap outcome_of (new_is.unbuilt left below b.0 (sym h.1)) ∙ ap (option_map (graph_outcome (node_in new.nodes))) (sym none))
+        ]
+
+    refers_each : BuiltRefers s'
+    refers_each n o built = go (body_at s' n) refl built
       where
-        still : (j : ℕ) (b : Body) → body_at s j ≡ Some b → (body_at s' j ≡ Some b) × (node_in new.nodes j ≡ node_in k.nodes j)
-        still j b is = let low = body_within F s k held j b is in (body_old s name ty body j low ∙ is, node_old j low)
+        go : (x : Option Body) → body_at s' n ≡ x → and_then x built_of_body ≡ Some o → RefersTo (IsDeclaredTarget s') o
+        go None at e = absurd (cc)
+        go (Some b) at e = elim (body_of s name ty body n b at) [
+          | inl h ↦ outcome_refers_more (IsDeclaredTarget s) (IsDeclaredTarget s') target_on o (held.refers n o (ap (λ (x : Option Body). and_then x built_of_body) h.1 ∙ e))
+          | inr h ↦ absurd (let none = ap built_of_body h.1 ∙ new_is.unkept in
+              let clash : None ≡ Some o = sym none ∙ e in cc)
+        ]
+
+    grabs_each : GrabsForms s'
+    grabs_each n b v left t kept at bind =
+        elim (body_of s name ty body n (Grab b v true) at) [
+          | inl h ↦
+              let low : b < length s.entries = (let early = (held.today.plain n (Grab b v true) h.1).0.0 in let n_low = h.0 in omega (arith, early, n_low)) in
+              held.grabs n b v left t kept h.1 (sym (body_old s name ty body b low) ∙ bind)
+          | inr h ↦
+              let fine = subst (λ (c : Body). IsPlainBody (IsEarlierTarget s' (length s.entries)) (IsDeclaredTarget s') c) (sym h.1) new_is.plain in
+              let low : b < length s.entries = fine.0.0 in
+              new_is.grab b v left t kept (sym h.1) (sym (body_old s name ty body b low) ∙ bind)
+        ]
 
     pub declared_represents : Represents F s' new
     declared_represents = record {
@@ -368,28 +412,90 @@ module _ (named : List ℕ → Option FnRef) (value : FnRef → List GraphValue 
       declares = λ n. declares_each n (body_at s' n) refl;
       targets = targets_each;
       apart = apart_each;
-      of_items = of_items_each;
+      built = built_each;
+      refers = refers_each;
+      grabs = grabs_each;
       today = record {
         plain = plain_each;
         aged = aged_each;
       };
     }
 
+  grabs_live : GrabsStay s s'
+  grabs_live n b v was = body_old s name ty body n (body_within s n (Grab b v true) was) ∙ was
+
   -- the script with the declaration is matched, where the new node shows it
-  pub declaring_stands : Declares (beside F s' new) root (Some body) → k.broken ≡ None → MatchesMoment F k m
-      → MatchesMoment F new (moved m (Declare name ty body))
-  declaring_stands shows unbroken h = record {
-    names = names_on h.names;
-    accepted = h.accepted;
-    broken = h.broken;
-    represents = declared_represents h.names h.represents shows;
-    watches = watches_on s s' k new more.beside refl refl refl refl (λ n b is. node_old h.names h.represents shows n (body_within F s k h.represents n b is))
-        (node_given F s k h.represents sound)
-        (λ n b is. (b, body_old s name ty body n (body_within F s k h.represents n b is) ∙ is)) (target_on h.names h.represents shows) h.watches;
-    settled = λ whole. settled_on F m.settled s s' k new (leaves_beside k new more.beside more.given) (record {
-      formulas = declared_formulas s name ty body;
-      targets = λ n e is. (e, entry_old s name ty body n (slice_get_within s.entries n e is) ∙ is, refl);
-      names = λ n e is. node_old h.names h.represents shows n (slice_get_within s.entries n e is);
-      rows = stays;
-    }) (λ x among is. among) (h.settled whole);
-  }
+  pub declared_matches : Declares (beside F s' new) root (Some body) → m.broken ≡ None → MatchesMoment F k m
+      → MatchesMoment F new (record m { present = s' })
+  declared_matches shows whole h =
+      let held = h.represents whole in
+      record {
+        names = names_on h.names;
+        accepted = h.accepted;
+        broken = h.broken;
+        represents = λ still. declared_represents h.names held shows;
+        watches = watches_on s s' k new (extends_beside k.graph g more) refl refl refl refl (λ n b at. node_old h.names held shows n (body_within s n b at)) given
+            (λ n b at. (b, body_old s name ty body n (body_within s n b at) ∙ at)) (target_on h.names held shows) h.watches;
+        settled = λ still. settled_on F m.settled s s' k new (leaves_beside k new (extends_beside k.graph g more) more.given) (record {
+          formulas = declared_formulas s name ty body;
+          targets = λ n e at. (e, entry_old s name ty body n (slice_get_within s.entries n e at) ∙ at, refl);
+          names = λ n e at. node_old h.names held shows n (slice_get_within s.entries n e at);
+          rows = keeps.rows;
+          lives = extends_lives k g sound more;
+          built = extends_built k g sound more;
+        }) grabs_live (extends_scopes k g sound more) (λ x among at. among) (h.settled still);
+      }
+
+-- ---- a declaration that fits
+
+module _ (named : List ℕ → Option FnRef) (value : FnRef → List GraphValue → GraphValue) (known : FnRef → Bool) (k : Kept) (g : Standing (Unit {0}))
+    (bodies : List Bodies.Body) (Q : FnKind → FnRef → Type 0) (serve : BodiesServe (meanings_of named value) k bodies Q)
+    (sound : arena.IsSound (arena_of k)) (sound' : arena.IsSound g.nodes) (more : Extends k.graph g) (m : Moment) (given : NodesGiven m.present k)
+    (name : List ℕ) (ty : Ty) (body : Body) (root : NodeId) (room : ℕ) (fits : DeclarationFits known k.names name ty body)
+    (room_is : room + places_of_body body ≡ k.room)
+    (owned : OwnNodesOf (graph g) (IsSince (arena_of k).given root) (IsPartSince (arena_of k).given root) root body)
+    (fresh : HasOwnNode body → (graph g).built root ≡ None) where
+  abbrev F : Meanings
+  F = meanings_of named value
+
+  abbrev t : State
+  t = m.present
+
+  abbrev t' : State
+  t' = declared_in t name ty body
+
+  mapped : (es : List Entry) → length (map declared_of es) ≡ length es
+  mapped [] = refl
+  mapped (e ∷ es) = ap (λ n. suc n) (mapped es)
+
+  module _ (names : AreNames k.names t) (held : Represents F t k) where
+    fitting : (position : ℕ) (u : Ty) → NameFits k.names position u → IsEarlierTarget t' (length t.entries) position
+    fitting position u fine =
+        let own = fitting_target k.names t names.declared held.today.plain held.targets position u fine in
+        let size = ap (λ (ds : List Declared). length ds) names.declared ∙ mapped t.entries in
+        let low : position < length t.entries = (let early = fine.earlier in omega (arith, early, size)) in
+        (low, subst IsOwn (sym (body_old t name ty body position low)) own)
+
+    fitting_value : (v : Value) → ReferenceFits k.names v → EveryReference (IsDeclaredTarget t') v
+    fitting_value v fine = value_refers_more (IsDeclaredTarget t) (IsDeclaredTarget t')
+        (λ n d. (d.0, body_old t name ty body n (body_within t n d.0 d.1) ∙ d.1, d.2)) v
+        (fitting_refers k.names t names.declared held.today.plain held.targets v fine)
+
+    new_one : IsNew t name ty body k.nodes (arena_of k).given root (graph g)
+    new_one = record {
+      plain = body_plain known k.names (IsEarlierTarget t' (length t.entries)) (IsDeclaredTarget t') fitting fitting_value body ty fits.body_fits;
+      apart = λ own i e at own_i node.
+          let young = own_node (graph g) (IsSince (arena_of k).given root) (IsPartSince (arena_of k).given root) root body
+          (own_declared known k.names body ty fits.body_fits own) owned in
+          let old = given i e.body (entry_body t i e at) in
+          let gens = ap (λ (q : NodeId). q.gen_) node in
+          omega (arith, old, gens, young.0);
+      unkept = unbuilt_yet known k.names body ty fits.body_fits;
+      unbuilt = λ left below kept is. fresh (subst HasOwnNode (sym is) tt);
+      grab = λ b v left u kept is bind. no_live_grab known k.names body ty fits.body_fits b v is;
+      owned = owned;
+    }
+
+  pub declaring_stands : Declares (beside F t' (with_declared k name ty body root room bodies g)) root (Some body) → m.broken ≡ None → MatchesMoment F k m
+      → MatchesMoment F (with_declared k name ty body root room bodies g) (moved m (Declare name ty body))
+  declaring_stands shows whole h = declared_matches F k g bodies Q serve sound sound' more m given name ty body root room room_is new_one shows whole h

@@ -1,21 +1,21 @@
 -- An observer that is ended.
-use Rattle.std.proofs.Common.{◌≡◌, ◌⊎◌, inl, inr, ℕ, zero, suc, ◌+◌, ◌-◌, ◌<◌, ◌≤◌, Bool, true, false, cond, not, ◌||◌, List, [], ◌∷◌, map, filter, length, take, Option, None, Some, IsSome, refl, ap, sym, subst, ◌∙◌, arith, slice_get, slice_set, slice_index_or, swap_remove}
+use Rattle.std.proofs.Common.{◌≡◌, ◌⊎◌, inl, inr, ℕ, zero, suc, ◌-◌, ◌<◌, ◌≤◌, Bool, true, false, cond, not, ◌||◌, List, [], ◌∷◌, map, filter, length, take, Option, None, Some, IsSome, refl, ap, sym, subst, ◌∙◌, arith, slice_get, slice_set, slice_index_or, swap_remove}
 use Rattle.std.proofs.lemmas.Slice.Eq.{bytes_eq-Decides}
 use Rattle.std.specs.Str.{bytes_eq}
 use Rattle.graph.specs.Effects.{Ends}
-use Rattle.graph.specs.Standing.{Standing, node_at, looked_at}
+use Rattle.graph.specs.Standing.{Standing, graph, node_at, looked_at}
 use Rattle.inc_value.specs.Choice.{Among, NoRepeats}
 use Rattle.inc_value.specs.declared.node.NodeId.{NodeId}
 use Rattle.inc_value.specs.declared.node.ObsId.{ObsId}
-use Rattle.node_arena.specs.Arena.{Arena, row_at, live}
+use Rattle.inc_terms.specs.Graph.{Built as BuiltFor}
+use Rattle.node_arena.specs.Arena.{Arena, row_at}
 use Rattle.script_model.specs.Check.{Unobserve, is_among, names_of}
 use Rattle.script_model.specs.Formula.{State, Observer, Meanings}
 use Rattle.script_model.specs.Step.{Moment, moved}
-use Rattle.script_graph.specs.Kept.{Kept, arena_of, node_in}
+use Rattle.script_graph.specs.Kept.{Kept, node_in}
 use Rattle.script_graph.specs.Represents.{rooted_at, there_in, IsShown, Watches}
-use Rattle.script_graph.specs.Settled.{StillDeclares}
-use Rattle.stabilizer.specs.Kept.{HasNoBinds}
-use Rattle.script_graph.specs.Sound.{HaveNodes, IsSound}
+use Rattle.script_graph.specs.Settled.{ScopesBuilt, StillDeclares}
+use Rattle.script_graph.specs.Sound.{AreFew, HaveNodes, IsSound}
 use Rattle.script_graph.specs.State.{MatchesMoment}
 use Rattle.script_graph.proofs.Carrying.{LeavesBeside, settled_on}
 use Rattle.script_graph.proofs.Held.{rooted_looks, rooted_still, was_still}
@@ -309,9 +309,7 @@ module _ (k : Kept) (name d : List ℕ) (i : ℕ) (o : ObsId) (g : Standing (Uni
   ending_sound = record {
     one_node_each = sound.one_node_each;
     has_nodes = subst (λ (a : Arena). HaveNodes a k.names.declared k.nodes) (sym ends.nodes) sound.has_nodes;
-    today = sound.today;
-    flat = subst HasNoBinds (sym ends.nodes) sound.flat;
-    few = subst (λ (a : Arena). live a + k.room ≤ 1048575) (sym ends.nodes) sound.few;
+    few = subst (λ (a : Arena). AreFew k.bodies a k.room) (sym ends.nodes) sound.few;
     one_observer_each = swap_length k.observers i o ∙ ap (λ (n : ℕ). n - 1) sound.one_observer_each ∙ sym (swap_length k.names.observers i d);
     looking = looking_left;
     apart = once_apart new.observers (λ j l p at also.
@@ -427,13 +425,19 @@ module _ (k : Kept) (name d : List ℕ) (i : ℕ) (o : ObsId) (g : Standing (Uni
         rooted_left p n at (inl e) = absurd (let none = sym (looks_ended p e) ∙ (rooted_looks g p n at).1 in cc)
         rooted_left p n at (inr ne) = rooted_still g k.graph p (sym ends.rooted) (sym (looks_old p ne)) n at
 
-    still : StillDeclares s k.nodes (arena_of k) then new
+    still : StillDeclares s k.nodes (graph k.graph) then new
     still = record {
       formulas = λ owner path f is. is;
       targets = λ n e is. (e, is, refl);
       names = λ n e is. refl;
       rows = λ n r u is def. ap (λ (a : Arena). row_at a n) ends.nodes ∙ is;
+      lives = λ n r is. (r, ap (λ (a : Arena). row_at a n) ends.nodes ∙ is);
+      built = λ b r is. ends.built b;
     }
+
+    scopes_still : ScopesBuilt (graph k.graph) → ScopesBuilt (graph g)
+    scopes_still built n r b is scope =
+        subst (λ (w : Option BuiltFor). IsSome w) (sym (ends.built b)) (built n r b (ap (λ (a : Arena). row_at a n) (sym ends.nodes) ∙ is) scope)
 
     -- and it matches the moment without the observer
     pub ending_stands : MatchesMoment F new (moved m (Unobserve name))
@@ -441,8 +445,9 @@ module _ (k : Kept) (name d : List ℕ) (i : ℕ) (o : ObsId) (g : Standing (Uni
       names = record { declared = stands.names.declared; now = stands.names.now; in_use = names_left };
       accepted = stands.accepted;
       broken = stands.broken;
-      represents = represents_so F s (filter (is_other name) s.observers) s.accepted k new refl refl ends.nodes stands.represents;
+      represents = λ whole. represents_so F s (filter (is_other name) s.observers) s.accepted k new refl refl refl ends.nodes ends.built (stands.represents whole);
       watches = watching;
       settled = λ whole.
-          settled_on F m.settled s then k new leaves still (λ x among is. among_filter x (is_other name) s.observers among) (stands.settled whole);
+          settled_on F m.settled s then k new leaves still (λ n b v was. was) scopes_still
+          (λ x among is. among_filter x (is_other name) s.observers among) (stands.settled whole);
     }

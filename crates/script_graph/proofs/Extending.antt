@@ -1,41 +1,67 @@
 -- A graph to which nodes were added, and what is kept of a script over it.
-use Rattle.std.proofs.Common.{◌≡◌, ◌⊎◌, inl, inr, ℕ, zero, suc, ◌<◌, ◌≤◌, List, [], ◌∷◌, length, Option, None, Some, refl, ap, sym, subst, ◌∙◌, arith, slice_get}
+use Rattle.std.proofs.Common.{◌≡◌, ◌⊎◌, inl, inr, ℕ, zero, suc, ◌<◌, ◌≤◌, true, false, List, [], ◌∷◌, length, Option, None, Some, IsSome, option_map, refl, ap, sym, subst, ◌∙◌, arith, slice_get}
 use Rattle.std.proofs.lemmas.Option.{slice_get_within, none-some}
-use Rattle.inc_value.specs.Choice.{and_then}
+use Rattle.inc_value.specs.Choice.{and_then, Every as Each}
+use Rattle.inc_value.specs.declared.function.FnKind.{FnKind}
 use Rattle.inc_value.specs.declared.function.FnRef.{FnRef}
 use Rattle.inc_value.specs.declared.node.NodeId.{NodeId}
+use Rattle.inc_value.specs.declared.outcome.Outcome.{Outcome as GraphOutcome}
+use Rattle.inc_value.specs.declared.outcome.Outcome.TheVariants as outcome
 use Rattle.inc_value.specs.declared.value.Value.{Value as GraphValue}
-use Rattle.inc_terms.specs.Graph as graph
-use Rattle.inc_terms.specs.Graph.{Row}
+use Rattle.inc_terms.specs.Graph as graph_def
+use Rattle.inc_terms.specs.Graph.{Row, Built as BuiltFor}
+use Rattle.inc_terms.specs.Rebuilding.{outcome_of}
 use Rattle.inc_terms.specs.Term as term
-use Rattle.inc_terms.specs.Term.{Term, Terms}
+use Rattle.inc_terms.specs.Term.{Functions}
 use Rattle.inc_terms.specs.Within.{Given}
-use Rattle.graph.specs.Effects.{KeepsBeside, KeepsAll, Adds, TakesBack, NoneScopedSince}
-use Rattle.graph.specs.Standing.{Standing}
+use Rattle.graph.specs.Effects.{KeepsBeside, KeepsBesideGiven, KeepsAll, Adds, TakesBack, NoneScopedSince}
+use Rattle.graph.specs.Standing.{Standing, graph}
 use Rattle.node_arena.specs.Arena.{Arena, row_at}
 use Rattle.node_arena.specs.Sound as arena
-use Rattle.script_model.specs.Formula.{State, Body, Entry, Formula, Formulas, Meanings, meanings_of, body_at, Literal, Name, Apply, Fold, If, Join, End, More, Variable, Computed}
+use Rattle.script_functions.specs.Bodies as Bodies
+use Rattle.script_model.specs.Formula.{State, Body, Entry, Formula, Formulas, TimedValue, Meanings, bind_at, body_at, built_at, Literal, Name, Bound, Apply, Fold, If, Join, Bind, At, Steps, Now, End, More, Variable, Computed, Grab}
+use Rattle.script_model.specs.Leaves.{EveryReference, EveryLeaf, EveryLeafOfAll}
 use Rattle.script_model.specs.Step.{Moment}
-use Rattle.script_model.specs.Values.{Value}
+use Rattle.script_model.specs.Values.{Value, Int, Bool as Truth, Text, Reference, Outcome}
 use Rattle.script_graph.specs.Growing.{Extends}
 use Rattle.script_graph.specs.Kept.{Kept, arena_of, node_in, no_node, without_functions}
-use Rattle.script_graph.specs.Represents.{beside, Represents}
-use Rattle.script_graph.specs.Today.{IsTodaysRow, todays_graph, IsPlain, ArePlain, IsPlainBody, IsEarlierTarget, IsDeclaredTarget, IsWithin, IsPartWithin}
+use Rattle.script_graph.specs.Represents.{beside, besides, graph_functions, Represents}
+use Rattle.script_graph.specs.Settled.{ScopesBuilt}
+use Rattle.script_graph.specs.Today.{IsPlainBody, IsEarlierTarget, IsDeclaredTarget, IsWithin, IsPartWithin}
 use Rattle.script_graph.specs.State.{MatchesMoment}
+use Rattle.script_graph.proofs.Bodies.{AnyFunction, terms_itself}
 use Rattle.script_graph.proofs.Carrying.{watches_on, leaves_beside, settled_on}
-use Rattle.script_graph.proofs.Placed.{item_still}
 use Rattle.script_graph.proofs.Owning.{own_nodes_of_on}
-use Rattle.script_graph.proofs.Referring.{value_agrees}
-use Rattle.transfer.specs.Both.{Both, graph_value}
-use Rattle.transfer.specs.Keeping.{RowsStay}
-use Rattle.transfer.specs.Shows.{Built, Opens, Shows, ShowsAll, IsTop, Declares, IsOwn}
+use Rattle.script_graph.proofs.Referring.{value_agrees, outcome_agrees}
+use Rattle.transfer.specs.Both.{Both, graph_value, graph_outcome}
+use Rattle.transfer.specs.Keeping.{RowsStay, TermsStay}
+use Rattle.transfer.specs.Shows.{Built, Shows, IsTop, Declares}
+use Rattle.transfer.proofs.Frame.{shows_on}
+use Rattle.transfer.proofs.Mentions.{ValueMentions, Mentions, AllMention}
 use Rattle.stabilize_round.proofs.Points.{node_or_other}
-use Rattle.stabilizer.specs.Kept.{HasNoBinds}
-use Rattle.transfer.proofs.Typed.{body_entry}
+use Rattle.transfer.proofs.Typed.{bind_body, body_entry}
 
 -- ---- extending
 
 module _ {F : Type 0} where
+  -- what stays beside nodes stays but for the functions
+  pub beside_without : (Of : NodeId → Type 0) (a b : Standing F) → KeepsBeside Of a b → KeepsBeside Of (without_functions a) (without_functions b)
+  beside_without Of a b h = record {
+    functions = refl;
+    observers = h.observers;
+    rooted = h.rooted;
+    refused = h.refused;
+    ran = h.ran;
+    links = h.links;
+    roots = h.roots;
+    shown = h.shown;
+    chosen = h.chosen;
+    built = h.built;
+    last = h.last;
+    cutoff = h.cutoff;
+    no_more_cutoffs = h.no_more_cutoffs;
+  }
+
   pub extends_itself : (s : Standing F) → Extends s s
   extends_itself s = record {
     beside = record {
@@ -55,13 +81,13 @@ module _ {F : Type 0} where
     };
     given = omega arith;
     rows = λ n h. refl;
-    today = λ n r is. inl is;
+    outside = λ n r is. inl is;
   }
 
   pub extends_on : (a b c : Standing F) → Extends a b → Extends b c → Extends a c
   extends_on a b c g h = record {
     beside = record {
-      functions = h.beside.functions ∙ g.beside.functions;
+      functions = refl;
       observers = h.beside.observers ∙ g.beside.observers;
       rooted = h.beside.rooted ∙ g.beside.rooted;
       refused = h.beside.refused ∙ g.beside.refused;
@@ -77,34 +103,35 @@ module _ {F : Type 0} where
     };
     given = omega (arith, g.given, h.given);
     rows = λ n low. h.rows n (omega (arith, low, g.given)) ∙ g.rows n low;
-    today = λ n r is. elim (h.today n r is) [ inl was ↦ g.today n r was | inr is_todays ↦ inr is_todays ];
+    outside = λ n r is. elim (h.outside n r is) [ inl was ↦ g.outside n r was | inr out ↦ inr out ];
   }
 
-  pub adds_extends : (a b : Standing F) (id : NodeId) (r : Row) → Adds a b id r → IsTodaysRow r → Extends a b
-  adds_extends a b id r h is_todays = record {
-    beside = h.beside;
+  pub adds_extends : (a b : Standing F) (id : NodeId) (r : Row) → Adds a b id r → r.scope ≡ None → Extends a b
+  adds_extends a b id r h out = record {
+    beside = beside_without (Given a.nodes.given) a b h.beside;
     given = omega (arith, h.given);
     rows = λ n low. h.changes.others n (λ same. let gen = ap (λ (m : NodeId). m.gen_) same in omega (arith, low, gen, h.fresh));
-    today = λ n q is. elim (node_or_other n id) [
+    outside = λ n q is. elim (node_or_other n id) [
       | inl same ↦
-          inr (subst IsTodaysRow (let e : Some r ≡ Some q = sym h.changes.changed ∙ (ap (row_at b.nodes) (sym same) ∙ is) in cc) is_todays)
+          inr (let e : Some r ≡ Some q = sym h.changes.changed ∙ (ap (row_at b.nodes) (sym same) ∙ is) in
+          let rows : r ≡ q = cc in ap (λ (x : Row). x.scope) (sym rows) ∙ out)
       | inr other ↦ inl (sym (h.changes.others n other) ∙ is)
     ];
   }
 
   pub keeps_extends : (a b : Standing F) → KeepsAll a b → Extends a b
   keeps_extends a b h = record {
-    beside = h.beside;
+    beside = beside_without (Given a.nodes.given) a b h.beside;
     given = let same = ap (λ (a : Arena). a.given) h.nodes in omega (arith, same);
     rows = λ n low. ap (λ (a : Arena). row_at a n) h.nodes;
-    today = λ n r is. inl (sym (ap (λ (a : Arena). row_at a n) h.nodes) ∙ is);
+    outside = λ n r is. inl (sym (ap (λ (a : Arena). row_at a n) h.nodes) ∙ is);
   }
 
   -- nodes that were added and taken back again
   pub taken_back_extends : (a b c : Standing F) (count : ℕ) → Extends a b → TakesBack b c count → a.nodes.given ≤ count → Extends a c
   taken_back_extends a b c count g h later = record {
     beside = record {
-      functions = h.beside.functions ∙ g.beside.functions;
+      functions = refl;
       observers = h.beside.observers ∙ g.beside.observers;
       rooted = h.beside.rooted ∙ g.beside.rooted;
       refused = h.beside.refused ∙ g.beside.refused;
@@ -120,8 +147,8 @@ module _ {F : Type 0} where
     };
     given = omega (arith, g.given, h.given);
     rows = λ n low. h.older n (omega (arith, low, later)) ∙ g.rows n low;
-    today = λ n r is. elim (below_or n.gen_ count) [
-      | inl low ↦ g.today n r (sym (h.older n low) ∙ is)
+    outside = λ n r is. elim (below_or n.gen_ count) [
+      | inl low ↦ g.outside n r (sym (h.older n low) ∙ is)
       | inr high ↦ absurd (none-some r (sym (h.dropped n high) ∙ is))
     ];
   }
@@ -129,157 +156,98 @@ module _ {F : Type 0} where
       below_or : (i j : ℕ) → (i < j) ⊎ (j ≤ i)
       below_or i j = grind arith
 
-  -- what stays beside nodes stays but for the functions
-  pub beside_without : (Of : NodeId → Type 0) (a b : Standing F) → KeepsBeside Of a b → KeepsBeside Of (without_functions a) (without_functions b)
-  beside_without Of a b h = record {
-    functions = refl;
-    observers = h.observers;
-    rooted = h.rooted;
-    refused = h.refused;
-    ran = h.ran;
-    links = h.links;
-    roots = h.roots;
-    shown = h.shown;
-    chosen = h.chosen;
-    built = h.built;
-    last = h.last;
-    cutoff = h.cutoff;
-    no_more_cutoffs = h.no_more_cutoffs;
-  }
-
-  -- so do nodes that were there
+  -- nodes that were there stay but for the functions
   pub extends_without : (a b : Standing F) → Extends a b → Extends (without_functions a) (without_functions b)
   extends_without a b h = record {
-    beside = beside_without (Given a.nodes.given) a b h.beside;
+    beside = h.beside;
     given = h.given;
     rows = h.rows;
-    today = h.today;
+    outside = h.outside;
   }
-
-  -- still no live node is a bind
-  pub flat_on : (a b : Standing F) → Extends a b → HasNoBinds a.nodes → HasNoBinds b.nodes
-  flat_on a b h flat n r is = elim (h.today n r is) [ inl was ↦ flat n r was | inr is_todays ↦ is_todays.no_bind ]
 
   -- still none that was given since a count stands in a scope
   pub unscoped_on : (a b : Standing F) (count : ℕ) → Extends a b → NoneScopedSince a.nodes count → NoneScopedSince b.nodes count
-  unscoped_on a b count h none n r is since = elim (h.today n r is) [ inl was ↦ none n r was since | inr is_todays ↦ is_todays.outside ]
+  unscoped_on a b count h none n r is since = elim (h.outside n r is) [ inl was ↦ none n r was since | inr out ↦ out ]
 
   -- live nodes stay
   pub live_stays : (a b : Standing F) → arena.IsSound a.nodes → Extends a b → (n : NodeId) (r : Row)
       → row_at a.nodes n ≡ Some r → row_at b.nodes n ≡ Some r
   live_stays a b sound h n r is = h.rows n (sound.given n (rw is refl)) ∙ is
 
--- ---- what nodes show
+-- functions were added
+pub rest_extends : {F : Type 0} (a b : Standing F) → without_functions b ≡ without_functions a → Extends a b
+rest_extends a b same =
+    let e = subst (λ (s : Standing (Unit {0})). Extends (without_functions a) s) (sym same) (extends_itself (without_functions a)) in
+    record { beside = e.beside; given = e.given; rows = e.rows; outside = e.outside }
 
-module _ (x y : Both) (P R : ℕ → Type 0) (same : (n : ℕ) → P n → y.nodes n ≡ x.nodes n) (refers : (n : ℕ) → R n → y.nodes n ≡ x.nodes n)
-    (kept : RowsStay x.graph y.graph) where
-  opens_still : (t u : Term) → Opens x.graph (Built None) t u → Opens y.graph (Built None) t u
-  opens_still t u (n, r, e, row, scope, def) = (n, r, e, kept n r u row def, scope, def)
+same_unit : (x y : Unit {0}) → x ≡ y
+same_unit x y = refl
+
+-- where there are no functions all stays beside
+pub extends_beside : (a b : Standing (Unit {0})) → Extends a b → KeepsBesideGiven a b
+extends_beside a b h = record {
+  functions = same_unit b.functions a.functions;
+  observers = h.beside.observers;
+  rooted = h.beside.rooted;
+  refused = h.beside.refused;
+  ran = h.beside.ran;
+  links = h.beside.links;
+  roots = h.beside.roots;
+  shown = h.beside.shown;
+  chosen = h.beside.chosen;
+  built = h.beside.built;
+  last = h.beside.last;
+  cutoff = h.beside.cutoff;
+  no_more_cutoffs = h.beside.no_more_cutoffs;
+}
+
+-- ---- what formulas mention
+
+module _ (P R Q : ℕ → Type 0) (names : (n : ℕ) → P n → Q n) (refers : (n : ℕ) → R n → Q n) where
+  value_mentions : (v : Value) → EveryReference R v → ValueMentions Q v
+  value_mentions (Int z) h = tt
+  value_mentions (Truth b) h = tt
+  value_mentions (Text bytes) h = tt
+  value_mentions (Reference target base) h = refers target h
+
+  steps_mention : (steps : List TimedValue) → Each (λ (s : TimedValue). EveryReference R s.value) steps → Each (λ (s : TimedValue). ValueMentions Q s.value) steps
+  steps_mention [] h = tt
+  steps_mention (s ∷ steps) h = (value_mentions s.value h.0, steps_mention steps h.1)
 
   mutual
-    pub shows_still : (t : Term) (f : Formula) → IsPlain P R f → Shows x (Built None) [] t f → Shows y (Built None) [] t f
-    shows_still t (Literal v) fine h =
-        subst (λ (w : GraphValue). Opens y.graph (Built None) t (term.Const w)) (value_agrees R x.nodes y.nodes refers v fine.1)
-        (opens_still t (term.Const (graph_value x.nodes v)) h)
-    shows_still t (Name k) fine h = h ∙ ap (λ (n : NodeId). term.Ref n) (sym (same k fine.1))
-    shows_still t (Apply g fs) fine h = (h.0, opens_still t (term.Map g h.0) h.1, all_show_still h.0 fs fine h.2)
-    shows_still t (Fold g v fs) fine h = (
-      h.0,
-      subst (λ (w : GraphValue). Opens y.graph (Built None) t (term.Fold g w h.0)) (value_agrees R x.nodes y.nodes refers v fine.1.0)
-          (opens_still t (term.Fold g (graph_value x.nodes v) h.0) h.1),
-      all_show_still h.0 fs (fine.0, fine.1.1) h.2,
-    )
-    shows_still t (If test a b) fine h = (
-      h.0,
-      h.1,
-      h.2,
-      opens_still t (term.If h.0 h.1 h.2) h.3,
-      shows_still h.0 test (fine.0.0, fine.1.0) h.4,
-      shows_still h.1 a (fine.0.1, fine.1.1) h.5,
-      shows_still h.2 b (fine.0.2, fine.1.2) h.6,
-    )
-    shows_still t (Join child) fine h = (h.0, opens_still t (term.Join h.0) h.1, shows_still h.0 child fine h.2)
-    shows_still t f fine h = absurd fine.0
+    -- the names and references of a formula that has the one property and the other
+    pub leaves_mention : (f : Formula) → EveryLeaf P R f → Mentions Q f
+    leaves_mention (Literal v) h = value_mentions v h
+    leaves_mention (Name k) h = names k h
+    leaves_mention (Bound k) h = tt
+    leaves_mention (Apply g fs) h = all_leaves_mention fs h
+    leaves_mention (Fold g v fs) h = (value_mentions v h.0, all_leaves_mention fs h.1)
+    leaves_mention (If test a b) h = (leaves_mention test h.0, leaves_mention a h.1, leaves_mention b h.2)
+    leaves_mention (Join child) h = leaves_mention child h
+    leaves_mention (Bind left body) h = (leaves_mention left h.0, leaves_mention body h.1)
+    leaves_mention (At time) h = tt
+    leaves_mention (Steps v steps) h = (value_mentions v h.0, steps_mention steps h.1)
+    leaves_mention Now h = tt
 
-    all_show_still : (ts : Terms) (fs : Formulas) → ArePlain P R fs → ShowsAll x (Built None) [] ts fs → ShowsAll y (Built None) [] ts fs
-    all_show_still term.End End fine h = h
-    all_show_still term.End (More f fs) fine h = h
-    all_show_still (term.More t ts) End fine h = h
-    all_show_still (term.More t ts) (More f fs) fine h = (shows_still t f (fine.0.0, fine.1.0) h.0, all_show_still ts fs (fine.0.1, fine.1.1) h.1)
+    all_leaves_mention : (fs : Formulas) → EveryLeafOfAll P R fs → AllMention Q fs
+    all_leaves_mention End h = tt
+    all_leaves_mention (More f fs) h = (leaves_mention f h.0, all_leaves_mention fs h.1)
 
-  -- the node of a plain declaration shows it still
-  pub declares_still : (n m : NodeId) (b : Body) → m ≡ n → IsPlainBody P R b → ((v : Value) → b ≡ Variable v → (r : Row) → x.graph.row n ≡ Some r
-      → y.graph.row n ≡ Some r) → Declares x n (Some b) → Declares y m (Some b)
-  declares_still n m (Variable v) node fine top (r, row, scope, def) =
-      subst (λ (q : NodeId). IsTop y.graph q (graph.Var (graph_value y.nodes v))) (sym node)
-      (r, top v refl r row, scope, def ∙ ap (λ w. graph.Var w) (value_agrees R x.nodes y.nodes refers v fine.0.1))
-  declares_still n m (Computed f kept) node fine top h =
-      subst (λ (q : NodeId). Shows y (Built None) [] (term.Ref q) f) (sym node) (shows_still (term.Ref n) f fine.0 h)
-  declares_still n m b node fine top h = absurd fine.0.0
+-- ---- declarations that are there
 
--- ---- the node of a declaration is live
+pub entry_body : (s : State) (n : ℕ) (e : Entry) → slice_get s.entries n ≡ Some e → body_at s n ≡ Some e.body
+entry_body s n e is = ap (λ (o : Option Entry). and_then o (λ (d : Entry). Some d.body)) is
 
-module _ (F : Meanings) (s : State) (k : Kept) (held : Represents F s k) where
-  pub body_within : (n : ℕ) (b : Body) → body_at s n ≡ Some b → n < length s.entries
-  body_within n b is = let e = body_entry s n b is in slice_get_within s.entries n e.0 e.1
+pub body_within : (s : State) (n : ℕ) (b : Body) → body_at s n ≡ Some b → n < length s.entries
+body_within s n b is = let e = body_entry s n b is in slice_get_within s.entries n e.0 e.1
 
-  pub body_there : (n : ℕ) → n < length s.entries → (b : Body) × (body_at s n ≡ Some b)
-  body_there n low = go (slice_get s.entries n) refl
-    where
-      go : (o : Option Entry) → slice_get s.entries n ≡ o → (b : Body) × (body_at s n ≡ Some b)
-      go (Some e) is = (e.body, ap (λ (o : Option Entry). and_then o (λ (d : Entry). Some d.body)) is)
-      go None is = absurd (past is)
-        where
-          past : slice_get s.entries n ≡ None → ⊥
-          past is = inside s.entries n low is
-            where
-              inside : (es : List Entry) (i : ℕ) → i < length es → slice_get es i ≡ None → ⊥
-              inside [] i low is = absurd (omega (arith, low))
-              inside (e ∷ es) zero low is = cc
-              inside (e ∷ es) (suc i) low is = inside es i (omega (arith, low)) is
-
-  ref_same : (n m : NodeId) → term.Ref n ≡ term.Ref m → n ≡ m
-  ref_same n m e = cc
-
-  own_live : (n : ℕ) (b : Body) → IsOwn (Some b) → body_at s n ≡ Some b → (r : Row) × (row_at (arena_of k) (node_in k.nodes n) ≡ Some r)
-  own_live n (Variable v) own is = let d = rw is at (held.declares n) in (d.0, d.1)
-  own_live n (Computed (Literal v) kept) own is =
-      let d = rw is at (held.declares n) in
-      let same : node_in k.nodes n ≡ d.0 = cc in (d.1, ap (row_at (arena_of k)) same ∙ d.3)
-  own_live n (Computed (Apply f fs) kept) own is =
-      let d = rw is at (held.declares n) in
-      let o = d.1 in
-      let same = ref_same (node_in k.nodes n) o.0 o.2 in (o.1, ap (row_at (arena_of k)) same ∙ o.3)
-  own_live n (Computed (Fold f first fs) kept) own is =
-      let d = rw is at (held.declares n) in
-      let o = d.1 in
-      let same = ref_same (node_in k.nodes n) o.0 o.2 in (o.1, ap (row_at (arena_of k)) same ∙ o.3)
-  own_live n (Computed (If test a b) kept) own is =
-      let d = rw is at (held.declares n) in
-      let o = d.3 in
-      let same = ref_same (node_in k.nodes n) o.0 o.2 in (o.1, ap (row_at (arena_of k)) same ∙ o.3)
-  own_live n (Computed (Join child) kept) own is =
-      let d = rw is at (held.declares n) in
-      let o = d.1 in
-      let same = ref_same (node_in k.nodes n) o.0 o.2 in (o.1, ap (row_at (arena_of k)) same ∙ o.3)
-  own_live n (Computed (Name t) kept) own is = absurd own
-  own_live n (Computed f kept) own is = absurd (held.today.plain n (Computed f kept) is).0.0
-  own_live n b own is = absurd (held.today.plain n b is).0.0
-
-  -- the node of a declaration is live
-  pub node_live : (n : ℕ) (b : Body) → body_at s n ≡ Some b → (r : Row) × (row_at (arena_of k) (node_in k.nodes n) ≡ Some r)
-  node_live n (Computed (Name t) kept) is =
-      let fine = (held.today.plain n (Computed (Name t) kept) is).0.1 in
-      let b = body_there t (omega (arith, fine.0, body_within n (Computed (Name t) kept) is)) in
-      let live = own_live t b.0 (subst IsOwn b.1 fine.1) b.1 in
-      let d = rw is at (held.declares n) in
-      let same : node_in k.nodes n ≡ node_in k.nodes t = cc in
-      (live.0, ap (row_at (arena_of k)) same ∙ live.1)
-  node_live n (Computed f kept) is = own_live n (Computed f kept) tt is
-  node_live n b is = own_live n b tt is
-
-  pub node_given : arena.IsSound (arena_of k) → (n : ℕ) (b : Body) → body_at s n ≡ Some b → Given (arena_of k).given (node_in k.nodes n)
-  node_given sound n b is = let r = node_live n b is in sound.given (node_in k.nodes n) (rw r.1 refl)
+pub body_there : (s : State) (n : ℕ) → n < length s.entries → (b : Body) × (body_at s n ≡ Some b)
+body_there s n low = let e = inside s.entries n low in (e.0.body, entry_body s n e.0 e.1)
+  where
+    inside : (es : List Entry) (i : ℕ) → i < length es → (e : Entry) × (slice_get es i ≡ Some e)
+    inside [] i low = absurd (omega (arith, low))
+    inside (e ∷ es) zero low = (e, refl)
+    inside (e ∷ es) (suc i) low = inside es i (omega (arith, low))
 
 -- an id that is never given is of no node
 pub never_given : (a : Arena) → arena.IsSound a → row_at a no_node ≡ None
@@ -302,23 +270,128 @@ node_past [] i high = refl
 node_past (x ∷ ns) zero high = absurd (omega (arith, high))
 node_past (x ∷ ns) (suc i) high = node_past ns i (omega (arith, high))
 
+-- ---- what nodes show, and what binds are built for
+
+-- the nodes of declarations are among these
+abbrev pub NodesAre : (NodeId → Type 0) → State → Kept → Type 0
+NodesAre Of s k = (n : ℕ) (b : Body) → body_at s n ≡ Some b → Of (node_in k.nodes n)
+
+-- their ids were given
+abbrev pub NodesGiven : State → Kept → Type 0
+NodesGiven s k = NodesAre (Given (arena_of k).given) s k
+
+-- rows that formulas may have stay in a graph; of these nodes those that are dead stay so, and binds are built as they were
+pub record KeepsGraph (Of : NodeId → Type 0) (k : Kept) (g : Standing (Unit {0})) : Type 0 where
+  pub rows : RowsStay (graph k.graph) (graph g)
+  pub dead : (n : NodeId) → Of n → row_at (arena_of k) n ≡ None → row_at g.nodes n ≡ None
+  pub built : (n : NodeId) → Of n → (graph g).built n ≡ (graph k.graph).built n
+
+-- over the functions of these bodies terms are what they were
+abbrev pub BodiesServe : Meanings → Kept → List Bodies.Body → (FnKind → FnRef → Type 0) → Type 0
+BodiesServe F k bodies Q = (x : Both) → x.functions ≡ graph_functions F k.bodies → x.graph ≡ graph k.graph → TermsStay x (graph_functions F bodies) Q
+
+-- those that are kept serve
+pub same_serve : (F : Meanings) (k : Kept) → BodiesServe F k k.bodies AnyFunction
+same_serve F k x functions is = subst (λ (H : Functions). TermsStay x H AnyFunction) functions (terms_itself x)
+
+module _ (Of : NodeId → Type 0) (F : Meanings) (s : State) (k : Kept) (held : Represents F s k) (given : NodesAre Of s k) (s' : State) (nodes : List NodeId)
+    (bodies : List Bodies.Body) (Q : FnKind → FnRef → Type 0) (serve : BodiesServe F k bodies Q) (g : Standing (Unit {0})) (keeps : KeepsGraph Of k g)
+    (same : (t : ℕ) → t < length s.entries → node_in nodes t ≡ node_in k.nodes t) where
+  abbrev x : Both
+  x = beside F s k
+
+  abbrev y : Both
+  y = besides F s' nodes bodies (graph g)
+
+  abbrev Old : ℕ → Type 0
+  Old t = t < length s.entries
+
+  early_old : (n : ℕ) (b : Body) → body_at s n ≡ Some b → (t : ℕ) → IsEarlierTarget s n t → Old t
+  early_old n b is t early = let low = body_within s n b is in omega (arith, low, early.0)
+
+  target_old : (t : ℕ) → IsDeclaredTarget s t → Old t
+  target_old t d = body_within s t d.0 d.1
+
+  value_still : (v : Value) → EveryReference (IsDeclaredTarget s) v → graph_value (node_in k.nodes) v ≡ graph_value (node_in nodes) v
+  value_still v refers = value_agrees (IsDeclaredTarget s) (node_in k.nodes) (node_in nodes) (λ t d. same t (target_old t d)) v refers
+
+  old_given : (t : ℕ) → Old t → Of (node_in k.nodes t)
+  old_given t low = let b = body_there s t low in given t b.0 b.1
+
+  -- what was declared is shown still
+  module _ (n : ℕ) (b : Body) (is : body_at s n ≡ Some b)
+      (top : (v : Value) → b ≡ Variable v → (r : Row) → row_at (arena_of k) (node_in k.nodes n) ≡ Some r → row_at g.nodes (node_in k.nodes n) ≡ Some r) where
+    node : node_in nodes n ≡ node_in k.nodes n
+    node = same n (body_within s n b is)
+
+    by_body : (c : Body) → b ≡ c → IsPlainBody (IsEarlierTarget s n) (IsDeclaredTarget s) c → Declares x (node_in k.nodes n) (Some c)
+        → Declares y (node_in nodes n) (Some c)
+    by_body (Variable v) c fine (r, row, scope, def) =
+        subst (λ (q : NodeId). IsTop y.graph q (graph_def.Var (graph_value y.nodes v))) (sym node)
+        (r, top v c r row, scope, def ∙ ap (λ w. graph_def.Var w) (value_still v fine.1))
+    by_body (Computed f kept) c fine h =
+        subst (λ (q : NodeId). Shows y (Built None) [] (term.Ref q) f) (sym node)
+        (shows_on x (graph_functions F bodies) Q (serve x refl refl) (graph g) s' (node_in nodes) Old same keeps.rows None [] tt (term.Ref (node_in k.nodes n)) f
+        (leaves_mention (IsEarlierTarget s n) (IsDeclaredTarget s) Old (early_old n b is) target_old f fine.1) h)
+    by_body (Grab bind v false) c fine h =
+        (ap (row_at g.nodes) node ∙ keeps.dead (node_in k.nodes n) (given n b is) h.0, refl)
+    by_body (Grab bind v true) c fine (inl (w, built, for, root)) =
+        let low = early_old n b is bind fine.0 in inl (
+          w,
+          ap (λ (q : NodeId). (graph g).built q) (same bind low) ∙ (keeps.built (node_in k.nodes bind) (old_given bind low) ∙ built),
+          for ∙ ap (λ (u : GraphValue). outcome.Val u) (value_still v fine.1),
+          root ∙ ap (λ (q : NodeId). Some q) (sym node),
+        )
+    by_body (Grab bind v true) c fine (inr lost) = absurd (let died = lost.2 in cc)
+    by_body c is fine h = absurd fine.0
+
+    pub declares_still : Declares y (node_in nodes n) (Some b)
+    declares_still = by_body b refl (held.today.plain n b is) (rw is at (held.declares n))
+
+  -- what its bind is built for is so still
+  pub built_still : (n : ℕ) (left body : Formula) → bind_at s n ≡ Some (left, body) → n < length s.entries
+      → outcome_of ((graph g).built (node_in nodes n)) ≡ option_map (graph_outcome (node_in nodes)) (built_at s n)
+  built_still n left body is low =
+      ap (λ (q : NodeId). outcome_of ((graph g).built q)) (same n low)
+      ∙ (ap outcome_of (keeps.built (node_in k.nodes n) (old_given n low)) ∙ (held.built n left body is ∙ agree (built_at s n) refl))
+    where
+      agree : (o : Option Outcome) → built_at s n ≡ o → option_map (graph_outcome (node_in k.nodes)) o ≡ option_map (graph_outcome (node_in nodes)) o
+      agree None e = refl
+      agree (Some o) e =
+          ap (λ (p : GraphOutcome). Some p)
+          (outcome_agrees (IsDeclaredTarget s) (node_in k.nodes) (node_in nodes) (λ t d. same t (target_old t d)) o (held.refers n o e))
+
+-- where nodes were added all stays
+module _ (k : Kept) (g : Standing (Unit {0})) (sound : arena.IsSound (arena_of k)) (more : Extends k.graph g) where
+  pub extends_keeps : KeepsGraph (Given (arena_of k).given) k g
+  extends_keeps = record {
+    rows = λ n r u is def. live_stays k.graph g sound more n r is;
+    dead = λ n given is. more.rows n given ∙ is;
+    built = more.beside.built;
+  }
+
+  pub extends_scopes : ScopesBuilt (graph k.graph) → ScopesBuilt (graph g)
+  extends_scopes built n r b is scope = elim (more.outside n r is) [
+    | inl was ↦ subst (λ (w : Option BuiltFor). IsSome w) (sym (more.beside.built b (sound.scopes n r b was scope))) (built n r b was scope)
+    | inr out ↦ absurd (let none : None ≡ Some b = sym out ∙ scope in cc)
+  ]
+
+  pub extends_lives : (n : NodeId) (r : Row) → row_at (arena_of k) n ≡ Some r → (q : Row) × (row_at g.nodes n ≡ Some q)
+  extends_lives n r is = (r, live_stays k.graph g sound more n r is)
+
+  pub extends_built : (n : NodeId) (r : Row) → row_at (arena_of k) n ≡ Some r → (graph g).built n ≡ (graph k.graph).built n
+  extends_built n r is = more.beside.built n (sound.given n (rw is refl))
+
 -- ---- what is kept
 
 -- live nodes were live before
 abbrev pub WereLive : Arena → Arena → Type 0
 WereLive old new = (n : NodeId) (r : Row) → row_at new n ≡ Some r → row_at old n ≡ Some r
 
-module _ (named : List ℕ → Option FnRef) (value : FnRef → List GraphValue → GraphValue) (k : Kept) (g : Standing (Unit {0}))
-    (sound : arena.IsSound (arena_of k)) (sound' : arena.IsSound g.nodes) (more : Extends k.graph g)
-    (were : WereLive (arena_of k) g.nodes) (m : Moment) where
-  abbrev F : Meanings
-  F = meanings_of named value
-
+module _ (F : Meanings) (k : Kept) (g : Standing (Unit {0})) (bodies : List Bodies.Body) (Q : FnKind → FnRef → Type 0) (serve : BodiesServe F k bodies Q)
+    (sound : arena.IsSound (arena_of k)) (sound' : arena.IsSound g.nodes) (more : Extends k.graph g) (m : Moment) (given : NodesGiven m.present k) where
   abbrev new : Kept
-  new = record k { graph = g }
-
-  stays : RowsStay (todays_graph (arena_of k)) (todays_graph g.nodes)
-  stays n r u is def = live_stays k.graph g sound more n r is
+  new = record k { bodies = bodies; graph = g }
 
   module _ (held : Represents F m.present k) where
     declares_each : (n : ℕ) (b : Option Body) → body_at m.present n ≡ b → Declares (beside F m.present new) (node_in k.nodes n) b
@@ -327,9 +400,8 @@ module _ (named : List ℕ → Option FnRef) (value : FnRef → List GraphValue 
         past : node_in k.nodes n ≡ no_node
         past = node_past k.nodes n (omega (arith, body_past m.present n is, held.one_node_each))
     declares_each n (Some b) is =
-        declares_still (beside F m.present k) (beside F m.present new) (IsEarlierTarget m.present n) (IsDeclaredTarget m.present)
-        (λ t early. refl) (λ t own. refl) stays (node_in k.nodes n) (node_in k.nodes n) b refl (held.today.plain n b is) (λ v e r row. live_stays k.graph g sound more (node_in k.nodes n) r row)
-        (rw is at (held.declares n))
+        declares_still (Given (arena_of k).given) F m.present k held given m.present k.nodes bodies Q serve g (extends_keeps k g sound more) (λ t low. refl) n b is
+        (λ v e r row. live_stays k.graph g sound more (node_in k.nodes n) r row)
 
     represents_on : Represents F m.present new
     represents_on = record {
@@ -339,14 +411,20 @@ module _ (named : List ℕ → Option FnRef) (value : FnRef → List GraphValue 
       declares = λ n. declares_each n (body_at m.present n) refl;
       targets = held.targets;
       apart = held.apart;
-      of_items = λ n r is. item_still (beside F m.present k) (beside F m.present new) stays (λ b. refl) held.today.plain (λ j f kept body. (body, refl))
-          (λ j v body. (v, body, refl)) n (held.of_items n r (were n r is));
+      built = λ n left body is.
+          built_still (Given (arena_of k).given) F m.present k held given m.present k.nodes bodies Q serve g (extends_keeps k g sound more) (λ t low. refl)
+          n left body is (bind_within n left body is);
+      refers = held.refers;
+      grabs = held.grabs;
       today = record {
         plain = held.today.plain;
-        aged = λ n b is. own_nodes_of_on (todays_graph (arena_of k)) (todays_graph g.nodes) (IsWithin k.nodes n) (IsWithin k.nodes n)
-            (IsPartWithin k.nodes n) (IsPartWithin k.nodes n) (λ q h. h) (λ q h. h) stays (node_in k.nodes n) b (held.today.aged n b is);
+        aged = λ n b is. own_nodes_of_on (graph k.graph) (graph g) (IsWithin k.nodes n) (IsWithin k.nodes n) (IsPartWithin k.nodes n) (IsPartWithin k.nodes n)
+            (λ q h. h) (λ q h. h) (extends_keeps k g sound more).rows (node_in k.nodes n) b (held.today.aged n b is);
       };
     }
+      where
+        bind_within : (n : ℕ) (left body : Formula) → bind_at m.present n ≡ Some (left, body) → n < length m.present.entries
+        bind_within n left body is = let b = bind_body m.present n left body is in body_within m.present n (Computed (Bind left body) b.0) b.1
 
   -- what was matched is so still
   pub stands_on : MatchesMoment F k m → MatchesMoment F new m
@@ -354,13 +432,14 @@ module _ (named : List ℕ → Option FnRef) (value : FnRef → List GraphValue 
     names = h.names;
     accepted = h.accepted;
     broken = h.broken;
-    represents = represents_on h.represents;
-    watches = watches_on m.present m.present k new more.beside refl refl refl refl (λ n b is. refl)
-        (node_given F m.present k h.represents sound) (λ n b is. (b, is)) (λ t own. own) h.watches;
-    settled = λ whole. settled_on F m.settled m.present m.present k new (leaves_beside k new more.beside more.given) (record {
+    represents = λ whole. represents_on (h.represents whole);
+    watches = watches_on m.present m.present k new (extends_beside k.graph g more) refl refl refl refl (λ n b is. refl) given (λ n b is. (b, is)) (λ t own. own) h.watches;
+    settled = λ whole. settled_on F m.settled m.present m.present k new (leaves_beside k new (extends_beside k.graph g more) more.given) (record {
       formulas = λ owner path f is. is;
       targets = λ n e is. (e, is, refl);
       names = λ n e is. refl;
-      rows = stays;
-    }) (λ x among is. among) (h.settled whole);
+      rows = (extends_keeps k g sound more).rows;
+      lives = extends_lives k g sound more;
+      built = extends_built k g sound more;
+    }) (λ n b v was. was) (extends_scopes k g sound more) (λ x among is. among) (h.settled whole);
   }

@@ -8,9 +8,13 @@ use Rattle.inc_value.specs.declared.value.Value.TheVariants as held
 use Rattle.node_arena.specs.Meanings.{SameNames, SameValues}
 use Rattle.script_model.specs.Formula.{Meanings, meanings_of}
 use Rattle.script_model.specs.Values.{Value, Int, Bool, Text, Reference, to_engine, from_engine, unnamed, unreferred, seen_value}
+use Rattle.node_arena.specs.RightSideLaws.{meaning}
+use Rattle.script_functions.specs.Bodies.{Body}
+use Rattle.script_functions.specs.Keeping.{makers, side_in}
+use Rattle.script_graph.specs.Growing.{functions_over}
 use Rattle.script_graph.specs.Represents.{graph_functions}
-use Rattle.script_graph.specs.Today.{maps_alone}
 use Rattle.transfer.specs.Both.{graph_value}
+use Rattle.transfer.specs.Shows.{FunctionsFit}
 
 -- ---- values there and back
 
@@ -56,13 +60,12 @@ module _ (named : List ℕ → Option FnRef) (value : FnRef → List GraphValue 
       ∙ ap (λ (xs : List GraphValue). unreferred (value f xs)) (hidden_all ws)
 
   -- the graph's functions give what those of the library give, for values whose nodes they don't see
-  pub functions_are : graph_functions (meanings_of named value) ≡ maps_alone (seen_value value)
-  functions_are = ap maps_alone (fun_ext (λ f. fun_ext (λ ws. value_same f ws)))
+  pub functions_are : (bodies : List Body) → graph_functions (meanings_of named value) bodies ≡ functions_over value bodies
+  functions_are bodies = ap (λ (g : FnRef → List GraphValue → GraphValue). meaning g (side_in (makers bodies))) (fun_ext (λ f. fun_ext (λ ws. value_same f ws)))
 
   -- they give what those of the script give
-  pub functions_fit : (nodes : ℕ → NodeId) (f : FnRef) (vs : List Value)
-      → (graph_functions (meanings_of named value)).value f (map (graph_value nodes) vs) ≡ graph_value nodes ((meanings_of named value).value f vs)
-  functions_fit nodes f vs = shown_back nodes (value f (map unnamed (map to_engine (map from_engine (map (graph_value nodes) vs)))))
+  pub functions_fit : (bodies : List Body) → FunctionsFit (meanings_of named value) (graph_functions (meanings_of named value) bodies)
+  functions_fit bodies nodes f vs = shown_back nodes (value f (map unnamed (map to_engine (map from_engine (map (graph_value nodes) vs)))))
       ∙ ap (λ (xs : List GraphValue). graph_value nodes (from_engine (unreferred (value f xs)))) (shown_hidden_all nodes vs)
 
 -- ---- over time

@@ -1,41 +1,43 @@
--- What is laid out for a body that fits: each of it fits, and where all of it was made the root is the node of what is declared.
-use Rattle.std.proofs.Common.{◌≡◌, ℕ, zero, suc, ◌+◌, ◌-◌, ◌<◌, ◌≤◌, Bool, List, [], ◌∷◌, ◌++◌, map, length, Some, refl, ap, sym, subst, ◌∙◌, arith, slice_get}
+-- What is laid out for a body that fits: each of it fits.
+use Rattle.std.proofs.Common.{◌≡◌, ◌⊎◌, inl, inr, ℕ, zero, suc, ◌+◌, Bool, List, [], ◌∷◌, ◌++◌, length, take, None, Some, refl, ap, sym, subst, ◌∙◌, arith, slice_get, slice_index_or}
 use Rattle.std.specs.List.{AllZip}
-use Rattle.std.proofs.lemmas.List.{length-append}
 use Rattle.std.proofs.lemmas.Option.{slice_get_within}
 use Rattle.formula_lang.specs.Fits.{ArgumentsFit, BodyFits, ElementsFit, FormulaFits, NameFits, ReferenceFits}
-use Rattle.formula_elab.specs.Laying.{formula_ty, joined_ty, laid, laid_each, laid_body}
-use Rattle.formula_elab.specs.Made.{StandsIn}
+use Rattle.formula_elab.specs.Bodies.{OpenBody, Page, empty_page, size_of}
+use Rattle.formula_elab.specs.Laying.{laid, laid_each, laid_body}
+use Rattle.formula_elab.specs.Types.{formula_ty, joined_ty}
+use Rattle.formula_elab.specs.Writing.{body_of, variables, with_named, with_nodes_of, written, written_each}
 use Rattle.formula_elab.specs.Names.{EveryNameOf}
-use Rattle.formula_elab.specs.Opened.{made_node, node_of, IsEarlier}
-use Rattle.formula_elab.specs.declared.make.Made.{Made}
-use Rattle.formula_elab.specs.declared.opened.Open.{Open}
-use Rattle.formula_elab.specs.declared.opened.Open.TheVariants.{Const, Var, Map, Fold as OpenFold, If as OpenIf, Join as OpenJoin}
+use Rattle.formula_elab.specs.Opened.{LineNeedsEarlier, NeedsEarlier}
+use Rattle.formula_elab.specs.Today.{IsLaidOut, IsLaidOutBody, AreLaidOut}
+use Rattle.formula_elab.specs.declared.body.OpenLine.{OpenLine}
+use Rattle.formula_elab.specs.declared.body.OpenLine.TheVariants as open_line
+use Rattle.formula_elab.specs.declared.opened.Open.TheVariants.{Const, Var, Map, Fold as OpenFold, If as OpenIf, Join as OpenJoin, Bind as OpenBind}
 use Rattle.formula_elab.specs.declared.opened.Part.{Part}
-use Rattle.formula_elab.proofs.InOrder.{body_in_order}
-use Rattle.formula_elab.proofs.Showing.{root_declares}
-use Rattle.graph.specs.Standing.{Standing}
-use Rattle.inc_value.specs.Choice.{Every}
+use Rattle.formula_elab.specs.declared.plan.Planned.{Planned}
+use Rattle.formula_elab.specs.declared.plan.Planned.TheVariants as planned
+use Rattle.formula_elab.proofs.InOrder.{laid_in_order}
+use Rattle.formula_elab.proofs.Order.{order_of}
+use Rattle.inc_value.specs.Choice.{Among, Every}
 use Rattle.inc_value.specs.Ty.{IsBase, type_of_base}
 use Rattle.inc_value.specs.Value as engine
 use Rattle.inc_value.specs.declared.function.FnRef.{FnRef}
 use Rattle.inc_value.specs.declared.node.NodeId.{NodeId}
 use Rattle.inc_value.specs.declared.ty.Ty.{Ty}
 use Rattle.inc_value.specs.declared.ty.Ty.TheVariants as types
-use Rattle.inc_terms.specs.Graph.{Graph, Row}
-use Rattle.node_arena.specs.Arena.{Arena, row_at, IsVariable}
-use Rattle.node_arena.specs.Sound as arena
+use Rattle.inc_terms.specs.Within.{Given}
+use Rattle.node_arena.specs.Arena.{Arena}
+use Rattle.node_arena.specs.Listing.{Listed}
+use Rattle.node_arena.specs.RightSide.{AreFit}
+use Rattle.node_arena.specs.Typing.{Fits}
+use Rattle.script_functions.specs.declared.line.Line.TheVariants as line
 use Rattle.script_model.specs.Check.{Names}
-use Rattle.script_model.specs.Formula.{Formula, Formulas, Body, Literal, Name, Apply, Fold, If, Join, End, More, Variable, Computed}
+use Rattle.script_model.specs.Formula.{Formula, Formulas, Body, Literal, Name, Bound, Apply, Fold, If, Join, Bind, End, More, Variable, Computed}
+use Rattle.script_model.specs.Leaves.{EveryReference, EveryLeaf, EveryLeafOfAll}
 use Rattle.script_model.specs.Values.{Value, Int, Bool as Truth, Text, Reference, type_of}
-use Rattle.script_graph.specs.Growing.{IsMaking, PartFits, OpenFits, AllOpenFit, RefersToLive}
-use Rattle.script_graph.specs.Today.{todays_graph, IsPlain, ArePlain, IsPlainBody}
-use Rattle.script_model.specs.Leaves.{EveryReference}
-use Rattle.script_graph.specs.Today.{OwnNodes, OwnNodesOfAll, WholeNodes, OwnNodesOf}
-use Rattle.script_graph.proofs.Making.{part_row}
-use Rattle.script_graph.proofs.Owning.{own_nodes_of_on}
-use Rattle.transfer.specs.Both.{Both, graph_value}
-use Rattle.transfer.specs.Shows.{Declares}
+use Rattle.script_graph.specs.Growing.{AllPlannedFit, LineFits, OpenFits, PartFits, PlannedFits, RefersToFit}
+use Rattle.script_graph.specs.Today.{IsPlainBody}
+use Rattle.transfer.specs.Both.{graph_value}
 
 -- ---- values
 
@@ -66,12 +68,12 @@ refers_nowhere P (Reference target b) ty is base = absurd (subst (λ (t : Ty). I
 -- ---- lists in a list
 
 -- from the start on they stand in the list
-abbrev pub SitsAt : List Open → ℕ → List Open → Type 0
+abbrev pub SitsAt : List Planned → ℕ → List Planned → Type 0
 SitsAt all start [] = Unit {0}
 SitsAt all start (x ∷ xs) = (slice_get all start ≡ Some x) × SitsAt all (suc start) xs
 
-module _ (all : List Open) where
-  sits_each : (start : ℕ) (xs : List Open) → ((j : ℕ) (x : Open) → slice_get xs j ≡ Some x → slice_get all (start + j) ≡ Some x) → SitsAt all start xs
+module _ (all : List Planned) where
+  sits_each : (start : ℕ) (xs : List Planned) → ((j : ℕ) (x : Planned) → slice_get xs j ≡ Some x → slice_get all (start + j) ≡ Some x) → SitsAt all start xs
   sits_each start [] h = tt
   sits_each start (x ∷ xs) h =
       let here : start + 0 ≡ start = omega arith in (
@@ -80,7 +82,7 @@ module _ (all : List Open) where
             let there : start + suc j ≡ suc start + j = omega arith in subst (λ i. slice_get all i ≡ Some y) there (h (suc j) y at)),
       )
 
-  pub sits_split : (start : ℕ) (xs ys : List Open) → SitsAt all start (xs ++ ys) → SitsAt all start xs × SitsAt all (start + length xs) ys
+  pub sits_split : (start : ℕ) (xs ys : List Planned) → SitsAt all start (xs ++ ys) → SitsAt all start xs × SitsAt all (start + length xs) ys
   sits_split start [] ys h = let same : start ≡ start + 0 = omega arith in (tt, subst (λ i. SitsAt all i ys) same h)
   sits_split start (x ∷ xs) ys h =
       let rest = sits_split (suc start) xs ys h.1 in
@@ -88,12 +90,12 @@ module _ (all : List Open) where
       ((h.0, rest.0), subst (λ i. SitsAt all i ys) same rest.1)
 
 -- an if behind its test and its branches
-pub if_sits : (all : List Open) (start : ℕ) (ty : Ty) (xs ys zs : List Open) (test a b : Part)
-    → SitsAt all start (xs ++ (ys ++ (zs ++ OpenIf ty test a b ∷ [])))
+pub if_sits : (all : List Planned) (start : ℕ) (ty : Ty) (xs ys zs : List Planned) (test a b : Part)
+    → SitsAt all start (xs ++ (ys ++ (zs ++ planned.Node (OpenIf ty test a b) ∷ [])))
     → SitsAt all start xs × SitsAt all (start + length xs) ys × SitsAt all (start + (length xs + length ys)) zs
-    × (slice_get all (start + (length xs + (length ys + length zs))) ≡ Some (OpenIf ty test a b))
+    × (slice_get all (start + (length xs + (length ys + length zs))) ≡ Some (planned.Node (OpenIf ty test a b)))
 if_sits all start ty xs ys zs test a b sits =
-    let whole = OpenIf ty test a b in
+    let whole = planned.Node (OpenIf ty test a b) in
     let first = sits_split all start xs (ys ++ (zs ++ whole ∷ [])) sits in
     let second = sits_split all (start + length xs) ys (zs ++ whole ∷ []) first.1 in
     let third = sits_split all (start + length xs + length ys) zs (whole ∷ []) second.1 in
@@ -105,57 +107,297 @@ if_sits all start ty xs ys zs test a b sits =
       subst (λ i. slice_get all i ≡ Some whole) last third.1.0,
     )
 
-pub sits_itself : (all : List Open) → SitsAt all 0 all
+pub sits_itself : (all : List Planned) → SitsAt all 0 all
 sits_itself all = sits_each all 0 all (λ j x at. let same : j ≡ 0 + j = omega arith in subst (λ i. slice_get all i ≡ Some x) same at)
 
-every_append : (P : Open → Type 0) (xs ys : List Open) → Every P xs → Every P ys → Every P (xs ++ ys)
+every_append : (P : Planned → Type 0) (xs ys : List Planned) → Every P xs → Every P ys → Every P (xs ++ ys)
 every_append P [] ys h g = g
 every_append P (x ∷ xs) ys h g = (h.0, every_append P xs ys h.1 g)
 
-every_at : (P : Open → Type 0) (xs : List Open) → Every P xs → (i : ℕ) (x : Open) → slice_get xs i ≡ Some x → P x
+every_at : (P : Planned → Type 0) (xs : List Planned) → Every P xs → (i : ℕ) (x : Planned) → slice_get xs i ≡ Some x → P x
 every_at P [] h i x at = absurd (cc)
 every_at P (y ∷ xs) h zero x at = let same : y ≡ x = cc in subst P same h.0
 every_at P (y ∷ xs) h (suc i) x at = every_at P xs h.1 i x at
+
+-- ---- what fits is plain
+
+-- what fits is of forms that are laid out
+module _ (known : FnRef → Bool) (names : Names) where
+  mutual
+    fitting_laid_out : (bounds : List Ty) (f : Formula) (ty : Ty) → FormulaFits known names bounds f ty → IsLaidOut (length bounds) f
+    fitting_laid_out bounds (Literal v) ty fits = tt
+    fitting_laid_out bounds (Name n) ty fits = tt
+    fitting_laid_out bounds (Bound k) ty fits = slice_get_within bounds k ty fits
+    fitting_laid_out bounds (Apply f arguments) ty fits = all_laid_out bounds arguments f.sig.takes fits.1
+    fitting_laid_out bounds (Fold f first elements) ty fits = each_laid_out bounds elements fits.0 fits.5
+    fitting_laid_out bounds (If test a b) ty fits =
+        (fitting_laid_out bounds test types.Bool fits.0, fitting_laid_out bounds a ty fits.1, fitting_laid_out bounds b ty fits.2)
+    fitting_laid_out bounds (Join child) ty fits = fitting_laid_out bounds child (types.Node fits.0) fits.1
+    fitting_laid_out bounds (Bind left body) ty fits = (fitting_laid_out bounds left fits.0 fits.1, fitting_laid_out (fits.0 ∷ bounds) body ty fits.2)
+    fitting_laid_out bounds f ty fits = absurd fits
+
+    all_laid_out : (bounds : List Ty) (fs : Formulas) (tys : List Ty) → ArgumentsFit known names bounds fs tys → AreLaidOut (length bounds) fs
+    all_laid_out bounds End [] fits = tt
+    all_laid_out bounds End (ty ∷ tys) fits = absurd fits
+    all_laid_out bounds (More f rest) [] fits = absurd fits
+    all_laid_out bounds (More f rest) (ty ∷ tys) fits = (fitting_laid_out bounds f ty fits.0, all_laid_out bounds rest tys fits.1)
+
+    each_laid_out : (bounds : List Ty) (fs : Formulas) (ty : Ty) → ElementsFit known names bounds fs ty → AreLaidOut (length bounds) fs
+    each_laid_out bounds End ty fits = tt
+    each_laid_out bounds (More f rest) ty fits = (fitting_laid_out bounds f ty fits.0, each_laid_out bounds rest ty fits.1)
+
+  pub body_laid_out : (b : Body) (ty : Ty) → BodyFits known names b ty → IsLaidOutBody b
+  body_laid_out (Variable v) ty fits = tt
+  body_laid_out (Computed f kept) ty fits = fitting_laid_out [] f ty fits.0
+  body_laid_out b ty fits = absurd fits
+
+-- its names have what names that fit have, and so has what its values refer to
+module _ (known : FnRef → Bool) (names : Names) (P R : ℕ → Type 0) (named : (position : ℕ) (ty : Ty) → NameFits names position ty → P position)
+    (refers : (v : Value) → ReferenceFits names v → EveryReference R v) where
+  mutual
+    fitting_leaves : (bounds : List Ty) (f : Formula) (ty : Ty) → FormulaFits known names bounds f ty → EveryLeaf P R f
+    fitting_leaves bounds (Literal v) ty fits = refers v fits.1
+    fitting_leaves bounds (Name n) ty fits = named n ty fits
+    fitting_leaves bounds (Bound k) ty fits = tt
+    fitting_leaves bounds (Apply f arguments) ty fits = all_leaves bounds arguments f.sig.takes fits.1
+    fitting_leaves bounds (Fold f first elements) ty fits = (refers_nowhere R first ty fits.3 fits.4, each_leaves bounds elements fits.0 fits.5)
+    fitting_leaves bounds (If test a b) ty fits =
+        (fitting_leaves bounds test types.Bool fits.0, fitting_leaves bounds a ty fits.1, fitting_leaves bounds b ty fits.2)
+    fitting_leaves bounds (Join child) ty fits = fitting_leaves bounds child (types.Node fits.0) fits.1
+    fitting_leaves bounds (Bind left body) ty fits = (fitting_leaves bounds left fits.0 fits.1, fitting_leaves (fits.0 ∷ bounds) body ty fits.2)
+    fitting_leaves bounds f ty fits = absurd fits
+
+    all_leaves : (bounds : List Ty) (fs : Formulas) (tys : List Ty) → ArgumentsFit known names bounds fs tys → EveryLeafOfAll P R fs
+    all_leaves bounds End [] fits = tt
+    all_leaves bounds End (ty ∷ tys) fits = absurd fits
+    all_leaves bounds (More f rest) [] fits = absurd fits
+    all_leaves bounds (More f rest) (ty ∷ tys) fits = (fitting_leaves bounds f ty fits.0, all_leaves bounds rest tys fits.1)
+
+    each_leaves : (bounds : List Ty) (fs : Formulas) (ty : Ty) → ElementsFit known names bounds fs ty → EveryLeafOfAll P R fs
+    each_leaves bounds End ty fits = tt
+    each_leaves bounds (More f rest) ty fits = (fitting_leaves bounds f ty fits.0, each_leaves bounds rest ty fits.1)
+
+  -- what fits the names is plain
+  pub body_plain : (b : Body) (ty : Ty) → BodyFits known names b ty → IsPlainBody P R b
+  body_plain (Variable v) ty fits = (tt, refers v fits.1)
+  body_plain (Computed f kept) ty fits = (fitting_laid_out known names [] f ty fits.0, fitting_leaves [] f ty fits.0)
+  body_plain b ty fits = absurd fits
+
+-- the names of what fits have what names that fit have
+pub every_name_of : (known : FnRef → Bool) (names : Names) (P : ℕ → Type 0) → ((position : ℕ) (t : Ty) → NameFits names position t → P position)
+    → (body : Body) (ty : Ty) → BodyFits known names body ty → EveryNameOf P body
+every_name_of known names P named (Variable v) ty fits = (tt, refers_fitting names P named v fits.1)
+every_name_of known names P named (Computed f kept) ty fits =
+    (fitting_laid_out known names [] f ty fits.0, fitting_leaves known names P P named (refers_fitting names P named) [] f ty fits.0)
+every_name_of known names P named body ty fits = absurd fits
 
 -- ---- what is laid out fits
 
 -- the type of what fits
 module _ (known : FnRef → Bool) (tys : ℕ → Ty) (names : Names)
     (typed : (position : ℕ) (t : Ty) → NameFits names position t → tys position ≡ t) where
-  formula_type : (f : Formula) (ty : Ty) → FormulaFits known names f ty → formula_ty tys f ≡ ty
-  formula_type (Literal v) ty fits = fits.0
-  formula_type (Name n) ty fits = typed n ty fits
-  formula_type (Apply f arguments) ty fits = fits.2
-  formula_type (Fold f first elements) ty fits = fits.2.1
-  formula_type (If test a b) ty fits = formula_type a ty fits.1
-  formula_type (Join child) ty fits = ap joined_ty (formula_type child (types.Node fits.0) fits.1) ∙ fits.2
-  formula_type f ty fits = absurd fits
+  bound_type : (bounds : List Ty) (k : ℕ) (ty : Ty) → slice_get bounds k ≡ Some ty → slice_index_or bounds k types.Int ≡ ty
+  bound_type [] k ty is = absurd (cc)
+  bound_type (t ∷ bounds) zero ty is = cc
+  bound_type (t ∷ bounds) (suc k) ty is = bound_type bounds k ty is
 
-module _ (known : FnRef → Bool) (a : Arena) (all : List Open) (nodes : ℕ → NodeId) (tys : ℕ → Ty) (names : Names)
-    (there : (position : ℕ) (t : Ty) → NameFits names position t → (r : Row) × (row_at a (nodes position) ≡ Some r) × (r.ty ≡ t))
+  formula_type : (bounds : List Ty) (f : Formula) (ty : Ty) → FormulaFits known names bounds f ty → formula_ty tys bounds f ≡ ty
+  formula_type bounds (Literal v) ty fits = fits.0
+  formula_type bounds (Name n) ty fits = typed n ty fits
+  formula_type bounds (Bound k) ty fits = bound_type bounds k ty fits
+  formula_type bounds (Apply f arguments) ty fits = fits.2
+  formula_type bounds (Fold f first elements) ty fits = fits.2.1
+  formula_type bounds (If test a b) ty fits = formula_type bounds a ty fits.1
+  formula_type bounds (Join child) ty fits = ap joined_ty (formula_type bounds child (types.Node fits.0) fits.1) ∙ fits.2
+  formula_type bounds (Bind left body) ty fits =
+      ap (λ (t : Ty). formula_ty tys (t ∷ bounds) body) (formula_type bounds left fits.0 fits.1) ∙ formula_type (fits.0 ∷ bounds) body ty fits.2
+  formula_type bounds f ty fits = absurd fits
+
+among_left : (x : Listed) (xs ys : List Listed) → Among x xs → Among x (xs ++ ys)
+among_left x (y ∷ xs) ys (inl is) = inl is
+among_left x (y ∷ xs) ys (inr among) = inr (among_left x xs ys among)
+among_left x [] ys among = absurd among
+
+among_right : (x : Listed) (xs ys : List Listed) → Among x ys → Among x (xs ++ ys)
+among_right x [] ys among = among
+among_right x (y ∷ xs) ys among = inr (among_right x xs ys among)
+
+among_either : (x : Listed) (xs ys : List Listed) → Among x (xs ++ ys) → Among x xs ⊎ Among x ys
+among_either x [] ys among = inr among
+among_either x (y ∷ xs) ys (inl is) = inl (inl is)
+among_either x (y ∷ xs) ys (inr among) = elim (among_either x xs ys among) [ inl first ↦ inl (inr first) | inr second ↦ inr second ]
+
+fit_both : (a : Arena) (xs ys : List Listed) → AreFit a xs → AreFit a ys → AreFit a (xs ++ ys)
+fit_both a xs ys h g x among = elim (among_either x xs ys among) [ inl first ↦ h x first | inr second ↦ g x second ]
+
+-- a value of a base type refers to nothing
+base_refers : (names : Names) (v : Value) (ty : Ty) → type_of v ≡ ty → IsBase ty → ReferenceFits names v
+base_refers names (Int z) ty is base = tt
+base_refers names (Truth b) ty is base = tt
+base_refers names (Text bytes) ty is base = tt
+base_refers names (Reference target b) ty is base = absurd (subst (λ (t : Ty). IsBase t) (sym is) base)
+
+module _ (known : FnRef → Bool) (a : Arena) (all : List Planned) (nodes : ℕ → NodeId) (tys : ℕ → Ty) (names : Names)
+    (there : (position : ℕ) (t : Ty) → NameFits names position t → Given a.given (nodes position) × Fits a (nodes position) t)
     (typed : (position : ℕ) (t : Ty) → NameFits names position t → tys position ≡ t) where
-  value_live : (v : Value) → ReferenceFits names v → RefersToLive a (graph_value nodes v)
-  value_live (Int z) fits = tt
-  value_live (Truth b) fits = tt
-  value_live (Text bytes) fits = tt
-  value_live (Reference target b) fits = there target (type_of_base b) fits
+  -- ---- pages
+
+  -- the lines of a page fit, and so do the nodes that it lists
+  record PageFits (p : Page) : Type 0 where
+    pub lines : Every (LineFits known all p.listed) p.lines
+    pub listed : AreFit a p.listed
+
+  -- what is to be made fits, if what is to be made before it is among all
+  abbrev PlannedIn : Planned → Type 0
+  PlannedIn (planned.Node x) = OpenFits known a all x
+  PlannedIn (planned.Body o) = PageFits o.page
+
+  line_wider : (xs ys : List Listed) → ((x : Listed) → Among x xs → Among x ys) → (l : OpenLine) → LineFits known all xs l → LineFits known all ys l
+  line_wider xs ys more (open_line.Ready l) fits = fits
+  line_wider xs ys more (open_line.Bind left body most captures) (o, at, is, within) = (o, at, is, λ x among. more x (within x among))
+
+  lines_wider : (xs ys : List Listed) → ((x : Listed) → Among x xs → Among x ys) → (ls : List OpenLine) → Every (LineFits known all xs) ls
+      → Every (LineFits known all ys) ls
+  lines_wider xs ys more [] fits = tt
+  lines_wider xs ys more (l ∷ ls) fits = (line_wider xs ys more l fits.0, lines_wider xs ys more ls fits.1)
+
+  lines_both : (listed : List Listed) (xs ys : List OpenLine) → Every (LineFits known all listed) xs → Every (LineFits known all listed) ys
+      → Every (LineFits known all listed) (xs ++ ys)
+  lines_both listed [] ys h g = g
+  lines_both listed (x ∷ xs) ys h g = (h.0, lines_both listed xs ys h.1 g)
+
+  -- with more nodes
+  more_listed : (p : Page) (ids : List Listed) → PageFits p → AreFit a ids → PageFits (record p { listed = p.listed ++ ids })
+  more_listed p ids h fit = record {
+    lines = lines_wider p.listed (p.listed ++ ids) (λ x among. among_left x p.listed ids among) p.lines h.lines;
+    listed = fit_both a p.listed ids h.listed fit;
+  }
+
+  one_listed : (n : NodeId) (ty : Ty) → Given a.given n × Fits a n ty → AreFit a (record { node = n; ty = ty } ∷ [])
+  one_listed n ty fits x (inl is) = subst (λ (y : Listed). Given a.given y.node × Fits a y.node y.ty) (sym is) fits
+  one_listed n ty fits x (inr none) = absurd none
+
+  named_page : (p : Page) (v : Value) → ReferenceFits names v → PageFits p → PageFits (with_named nodes p v)
+  named_page p (Int z) fits h = h
+  named_page p (Truth b) fits h = h
+  named_page p (Text bytes) fits h = h
+  named_page p (Reference target b) fits h =
+      more_listed p (record { node = nodes target; ty = type_of_base b } ∷ []) h (one_listed (nodes target) (type_of_base b) (there target (type_of_base b) fits))
+
+  -- with one line more
+  more_line : (p : Page) (l : OpenLine) → PageFits p → LineFits known all p.listed l → PageFits (record p { lines = p.lines ++ l ∷ [] })
+  more_line p l h fits = record { lines = lines_both p.listed p.lines (l ∷ []) h.lines (fits, tt); listed = h.listed }
 
   mutual
-    formula_fits : (start : ℕ) (f : Formula) (ty : Ty) → FormulaFits known names f ty → SitsAt all start (laid nodes tys start f).makes
-        → Every (OpenFits known a all) (laid nodes tys start f).makes × PartFits a all ty (laid nodes tys start f).root
+    formula_written : (bounds : List Ty) (start : ℕ) (p : Page) (f : Formula) (ty : Ty) → FormulaFits known names bounds f ty → PageFits p
+        → SitsAt all start (written nodes tys bounds start p f).makes
+        → Every PlannedIn (written nodes tys bounds start p f).makes × PageFits (written nodes tys bounds start p f).page
+    formula_written bounds start p (Literal v) ty fits h sits =
+        (tt, more_line (with_named nodes p v) (open_line.Ready (line.Const (graph_value nodes v))) (named_page p v fits.1 h) tt)
+    formula_written bounds start p (Name n) ty fits h sits =
+        let same = typed n ty fits in (
+          tt,
+          more_listed p (record { node = nodes n; ty = tys n } ∷ []) h
+              (one_listed (nodes n) (tys n) (subst (λ (t : Ty). Given a.given (nodes n) × Fits a (nodes n) t) (sym same) (there n ty fits))),
+        )
+    formula_written bounds start p (Bound k) ty fits h sits = (tt, h)
+    formula_written bounds start p (Apply f arguments) ty fits h sits =
+        let ws = arguments_written bounds start p arguments f.sig.takes fits.1 h sits in
+        let each = written_each nodes tys bounds start p arguments in
+        (ws.0, more_line each.page (open_line.Ready (line.Map f each.roots)) ws.1 ((fits.0.is_known, fits.0.kind), tt))
+    formula_written bounds start p (Fold f first elements) ty fits h sits =
+        let ws = elements_written bounds start (with_named nodes p first) elements fits.0 fits.5 (named_page p first (base_refers names first ty fits.3 fits.4) h) sits in
+        let each = written_each nodes tys bounds start (with_named nodes p first) elements in
+        (ws.0, more_line each.page (open_line.Ready (line.Fold f (graph_value nodes first) each.roots)) ws.1 ((fits.1.is_known, fits.1.kind), tt))
+    formula_written bounds start p (If test x y) ty fits h sits =
+        let one = written nodes tys bounds start p test in
+        let two = written nodes tys bounds (start + length one.makes) one.page x in
+        let three = written nodes tys bounds (start + (length one.makes + length two.makes)) two.page y in
+        let first = sits_split all start one.makes (two.makes ++ three.makes) sits in
+        let second = sits_split all (start + length one.makes) two.makes three.makes first.1 in
+        let there : start + length one.makes + length two.makes ≡ start + (length one.makes + length two.makes) = omega arith in
+        let t = formula_written bounds start p test types.Bool fits.0 h first.0 in
+        let b = formula_written bounds (start + length one.makes) one.page x ty fits.1 t.1 second.0 in
+        let c = formula_written bounds (start + (length one.makes + length two.makes)) two.page y ty fits.2 b.1
+        (subst (λ (i : ℕ). SitsAt all i three.makes) there second.1) in (
+          every_append PlannedIn one.makes (two.makes ++ three.makes) t.0 (every_append PlannedIn two.makes three.makes b.0 c.0),
+          more_line three.page (open_line.Ready (line.If one.root two.root three.root)) c.1 tt,
+        )
+    formula_written bounds start p (Join child) ty fits h sits =
+        let one = written nodes tys bounds start p child in
+        let c = formula_written bounds start p child (types.Node fits.0) fits.1 h sits in
+        (c.0, more_line one.page (open_line.Ready (line.Join one.root)) c.1 tt)
+    formula_written bounds start p (Bind left body) ty fits h sits =
+        let u = formula_ty tys bounds left in
+        let same : fits.0 ≡ u = sym (formula_type known tys names typed bounds left fits.0 fits.1) in
+        let one = written nodes tys bounds start p left in
+        let inner = written nodes tys (u ∷ bounds) (start + length one.makes) empty_page body in
+        let o = body_of (u ∷ bounds) (formula_ty tys (u ∷ bounds) body) inner in
+        let number = start + (length one.makes + length inner.makes) in
+        let first = sits_split all start one.makes (inner.makes ++ planned.Body o ∷ []) sits in
+        let second = sits_split all (start + length one.makes) inner.makes (planned.Body o ∷ []) first.1 in
+        let last : start + length one.makes + length inner.makes ≡ number = omega arith in
+        let at : slice_get all number ≡ Some (planned.Body o) = subst (λ (i : ℕ). slice_get all i ≡ Some (planned.Body o)) last second.1.0 in
+        let l = formula_written bounds start p left fits.0 fits.1 h first.0 in
+        let i = formula_written (u ∷ bounds) (start + length one.makes) empty_page body ty
+        (subst (λ (t : Ty). FormulaFits known names (t ∷ bounds) body ty) same fits.2) (record { lines = tt; listed = λ x none. absurd none }) second.0 in
+        let wide = more_listed one.page inner.page.listed l.1 i.1.listed in (
+          every_append PlannedIn one.makes (inner.makes ++ planned.Body o ∷ []) l.0 (every_append PlannedIn inner.makes (planned.Body o ∷ []) i.0 (i.1, tt)),
+          more_line (with_nodes_of one.page inner.page) (open_line.Bind one.root number (size_of inner.page) (variables (length bounds))) wide
+              (o, at, refl, λ x among. among_right x one.page.listed inner.page.listed among),
+        )
+    formula_written bounds start p f ty fits h sits = absurd fits
+
+    arguments_written : (bounds : List Ty) (start : ℕ) (p : Page) (fs : Formulas) (takes : List Ty) → ArgumentsFit known names bounds fs takes → PageFits p
+        → SitsAt all start (written_each nodes tys bounds start p fs).makes
+        → Every PlannedIn (written_each nodes tys bounds start p fs).makes × PageFits (written_each nodes tys bounds start p fs).page
+    arguments_written bounds start p End [] fits h sits = (tt, h)
+    arguments_written bounds start p End (ty ∷ takes) fits h sits = absurd fits
+    arguments_written bounds start p (More f rest) [] fits h sits = absurd fits
+    arguments_written bounds start p (More f rest) (ty ∷ takes) fits h sits =
+        let one = written nodes tys bounds start p f in
+        let others = written_each nodes tys bounds (start + length one.makes) one.page rest in
+        let parts = sits_split all start one.makes others.makes sits in
+        let here = formula_written bounds start p f ty fits.0 h parts.0 in
+        let more = arguments_written bounds (start + length one.makes) one.page rest takes fits.1 here.1 parts.1 in
+        (every_append PlannedIn one.makes others.makes here.0 more.0, more.1)
+
+    elements_written : (bounds : List Ty) (start : ℕ) (p : Page) (fs : Formulas) (ty : Ty) → ElementsFit known names bounds fs ty → PageFits p
+        → SitsAt all start (written_each nodes tys bounds start p fs).makes
+        → Every PlannedIn (written_each nodes tys bounds start p fs).makes × PageFits (written_each nodes tys bounds start p fs).page
+    elements_written bounds start p End ty fits h sits = (tt, h)
+    elements_written bounds start p (More f rest) ty fits h sits =
+        let one = written nodes tys bounds start p f in
+        let others = written_each nodes tys bounds (start + length one.makes) one.page rest in
+        let parts = sits_split all start one.makes others.makes sits in
+        let here = formula_written bounds start p f ty fits.0 h parts.0 in
+        let more = elements_written bounds (start + length one.makes) one.page rest ty fits.1 here.1 parts.1 in
+        (every_append PlannedIn one.makes others.makes here.0 more.0, more.1)
+
+  -- ---- nodes
+
+  value_fits : (v : Value) → ReferenceFits names v → RefersToFit a (graph_value nodes v)
+  value_fits (Int z) fits = tt
+  value_fits (Truth b) fits = tt
+  value_fits (Text bytes) fits = tt
+  value_fits (Reference target b) fits = there target (type_of_base b) fits
+
+  mutual
+    formula_fits : (start : ℕ) (f : Formula) (ty : Ty) → FormulaFits known names [] f ty → SitsAt all start (laid nodes tys start f).makes
+        → Every PlannedIn (laid nodes tys start f).makes × PartFits a all ty (laid nodes tys start f).root
     formula_fits start (Literal v) ty fits sits =
-        ((value_live v fits.1, tt), (Const (graph_value nodes v), sits.0, graph_type nodes v ∙ fits.0))
+        ((value_fits v fits.1, tt), (Const (graph_value nodes v), sits.0, graph_type nodes v ∙ fits.0))
     formula_fits start (Name n) ty fits sits = (tt, there n ty fits)
     formula_fits start (Apply f arguments) ty fits sits =
         let each = laid_each nodes tys start arguments in
-        let parts = sits_split all start each.makes (Map f each.roots ∷ []) sits in
+        let parts = sits_split all start each.makes (planned.Node (Map f each.roots) ∷ []) sits in
         let rest = arguments_fit start arguments f.sig.takes fits.1 parts.0 in (
-          every_append (OpenFits known a all) each.makes (Map f each.roots ∷ []) rest.0 ((fits.0.is_known, fits.0.kind, rest.1), tt),
+          every_append PlannedIn each.makes (planned.Node (Map f each.roots) ∷ []) rest.0 ((fits.0.is_known, fits.0.kind, rest.1), tt),
           (Map f each.roots, parts.1.0, fits.2),
         )
     formula_fits start (Fold f first elements) ty fits sits =
         let each = laid_each nodes tys start elements in
-        let parts = sits_split all start each.makes (OpenFold f (graph_value nodes first) each.roots ∷ []) sits in
+        let parts = sits_split all start each.makes (planned.Node (OpenFold f (graph_value nodes first) each.roots) ∷ []) sits in
         let rest = elements_fit start elements fits.0 fits.5 parts.0 in
         let made : OpenFits known a all (OpenFold f (graph_value nodes first) each.roots) = record {
           element = fits.0;
@@ -166,15 +408,15 @@ module _ (known : FnRef → Bool) (a : Arena) (all : List Open) (nodes : ℕ →
           base = graph_base nodes first ty fits.3 fits.4;
           parts_fit = rest.1;
         } in (
-          every_append (OpenFits known a all) each.makes (OpenFold f (graph_value nodes first) each.roots ∷ []) rest.0 (made, tt),
+          every_append PlannedIn each.makes (planned.Node (OpenFold f (graph_value nodes first) each.roots) ∷ []) rest.0 (made, tt),
           (OpenFold f (graph_value nodes first) each.roots, parts.1.0, fits.2.1),
         )
     formula_fits start (If test x y) ty fits sits =
         let first = laid nodes tys start test in
         let second = laid nodes tys (start + length first.makes) x in
         let third = laid nodes tys (start + (length first.makes + length second.makes)) y in
-        let of = formula_ty tys x in
-        let same = formula_type known tys names typed x ty fits.1 in
+        let of = formula_ty tys [] x in
+        let same = formula_type known tys names typed [] x ty fits.1 in
         let whole = OpenIf of first.root second.root third.root in
         let parts = if_sits all start of first.makes second.makes third.makes first.root second.root third.root sits in
         let one = formula_fits start test types.Bool fits.0 parts.0 in
@@ -185,25 +427,49 @@ module _ (known : FnRef → Bool) (a : Arena) (all : List Open) (nodes : ℕ →
           subst (λ (t : Ty). PartFits a all t second.root) (sym same) two.1,
           subst (λ (t : Ty). PartFits a all t third.root) (sym same) three.1,
         ) in (
-          every_append (OpenFits known a all) first.makes (second.makes ++ (third.makes ++ whole ∷ [])) one.0
-              (every_append (OpenFits known a all) second.makes (third.makes ++ whole ∷ []) two.0
-              (every_append (OpenFits known a all) third.makes (whole ∷ []) three.0 (made, tt))),
+          every_append PlannedIn first.makes (second.makes ++ (third.makes ++ planned.Node whole ∷ [])) one.0
+              (every_append PlannedIn second.makes (third.makes ++ planned.Node whole ∷ []) two.0
+              (every_append PlannedIn third.makes (planned.Node whole ∷ []) three.0 (made, tt))),
           (whole, parts.3, same),
         )
     formula_fits start (Join child) ty fits sits =
         let under = laid nodes tys start child in
-        let of = joined_ty (formula_ty tys child) in
+        let of = joined_ty (formula_ty tys [] child) in
         let whole = OpenJoin of under.root in
-        let parts = sits_split all start under.makes (whole ∷ []) sits in
+        let parts = sits_split all start under.makes (planned.Node whole ∷ []) sits in
         let one = formula_fits start child (types.Node fits.0) fits.1 parts.0 in
-        let leads : type_of_base fits.0 ≡ of = sym (ap joined_ty (formula_type known tys names typed child (types.Node fits.0) fits.1)) in (
-          every_append (OpenFits known a all) under.makes (whole ∷ []) one.0 ((fits.0, one.1, leads), tt),
+        let leads : type_of_base fits.0 ≡ of = sym (ap joined_ty (formula_type known tys names typed [] child (types.Node fits.0) fits.1)) in (
+          every_append PlannedIn under.makes (planned.Node whole ∷ []) one.0 ((fits.0, one.1, leads), tt),
           (whole, parts.1.0, sym leads ∙ fits.2),
         )
+    formula_fits start (Bind left body) ty fits sits =
+        let u = formula_ty tys [] left in
+        let same : fits.0 ≡ u = sym (formula_type known tys names typed [] left fits.0 fits.1) in
+        let one = laid nodes tys start left in
+        let inner = written nodes tys (u ∷ []) (start + length one.makes) empty_page body in
+        let of = formula_ty tys (u ∷ []) body in
+        let o = body_of (u ∷ []) of inner in
+        let number = start + (length one.makes + length inner.makes) in
+        let bind = planned.Node (OpenBind of one.root number) in
+        let first = sits_split all start one.makes (inner.makes ++ planned.Body o ∷ bind ∷ []) sits in
+        let second = sits_split all (start + length one.makes) inner.makes (planned.Body o ∷ bind ∷ []) first.1 in
+        let last : start + length one.makes + length inner.makes ≡ number = omega arith in
+        let after : suc (start + length one.makes + length inner.makes) ≡ number + 1 = omega arith in
+        let at : slice_get all number ≡ Some (planned.Body o) = subst (λ (i : ℕ). slice_get all i ≡ Some (planned.Body o)) last second.1.0 in
+        let at_bind : slice_get all (number + 1) ≡ Some bind = subst (λ (i : ℕ). slice_get all i ≡ Some bind) after second.1.1.0 in
+        let body_fits = subst (λ (t : Ty). FormulaFits known names (t ∷ []) body ty) same fits.2 in
+        let l = formula_fits start left fits.0 fits.1 first.0 in
+        let i = formula_written (u ∷ []) (start + length one.makes) empty_page body ty body_fits (record { lines = tt; listed = λ x none. absurd none }) second.0 in
+        let made : OpenFits known a all (OpenBind of one.root number) = (u, subst (λ (t : Ty). PartFits a all t one.root) same l.1, (o, at, refl)) in (
+          every_append PlannedIn one.makes (inner.makes ++ planned.Body o ∷ bind ∷ []) l.0
+              (every_append PlannedIn inner.makes (planned.Body o ∷ bind ∷ []) i.0 (i.1, (made, tt))),
+          (OpenBind of one.root number, at_bind, formula_type known tys names typed (u ∷ []) body ty body_fits),
+        )
+    formula_fits start (Bound k) ty fits sits = absurd (let none : None ≡ Some ty = fits in cc)
     formula_fits start f ty fits sits = absurd fits
 
-    arguments_fit : (start : ℕ) (fs : Formulas) (takes : List Ty) → ArgumentsFit known names fs takes → SitsAt all start (laid_each nodes tys start fs).makes
-        → Every (OpenFits known a all) (laid_each nodes tys start fs).makes × AllZip (λ (p : Part) (t : Ty). PartFits a all t p) (laid_each nodes tys start fs).roots takes
+    arguments_fit : (start : ℕ) (fs : Formulas) (takes : List Ty) → ArgumentsFit known names [] fs takes → SitsAt all start (laid_each nodes tys start fs).makes
+        → Every PlannedIn (laid_each nodes tys start fs).makes × AllZip (λ (p : Part) (t : Ty). PartFits a all t p) (laid_each nodes tys start fs).roots takes
     arguments_fit start End [] fits sits = (tt, tt)
     arguments_fit start End (ty ∷ takes) fits sits = absurd fits
     arguments_fit start (More f rest) [] fits sits = absurd fits
@@ -213,10 +479,10 @@ module _ (known : FnRef → Bool) (a : Arena) (all : List Open) (nodes : ℕ →
         let parts = sits_split all start here.makes (laid_each nodes tys next rest).makes sits in
         let one = formula_fits start f ty fits.0 parts.0 in
         let others = arguments_fit next rest takes fits.1 parts.1 in
-        (every_append (OpenFits known a all) here.makes (laid_each nodes tys next rest).makes one.0 others.0, (one.1, others.1))
+        (every_append PlannedIn here.makes (laid_each nodes tys next rest).makes one.0 others.0, (one.1, others.1))
 
-    elements_fit : (start : ℕ) (fs : Formulas) (ty : Ty) → ElementsFit known names fs ty → SitsAt all start (laid_each nodes tys start fs).makes
-        → Every (OpenFits known a all) (laid_each nodes tys start fs).makes × Every (PartFits a all ty) (laid_each nodes tys start fs).roots
+    elements_fit : (start : ℕ) (fs : Formulas) (ty : Ty) → ElementsFit known names [] fs ty → SitsAt all start (laid_each nodes tys start fs).makes
+        → Every PlannedIn (laid_each nodes tys start fs).makes × Every (PartFits a all ty) (laid_each nodes tys start fs).roots
     elements_fit start End ty fits sits = (tt, tt)
     elements_fit start (More f rest) ty fits sits =
         let here = laid nodes tys start f in
@@ -224,351 +490,49 @@ module _ (known : FnRef → Bool) (a : Arena) (all : List Open) (nodes : ℕ →
         let parts = sits_split all start here.makes (laid_each nodes tys next rest).makes sits in
         let one = formula_fits start f ty fits.0 parts.0 in
         let others = elements_fit next rest ty fits.1 parts.1 in
-        (every_append (OpenFits known a all) here.makes (laid_each nodes tys next rest).makes one.0 others.0, (one.1, others.1))
+        (every_append PlannedIn here.makes (laid_each nodes tys next rest).makes one.0 others.0, (one.1, others.1))
 
   body_fits : (body : Body) (ty : Ty) → BodyFits known names body ty → SitsAt all 0 (laid_body nodes tys 0 body).makes
-      → Every (OpenFits known a all) (laid_body nodes tys 0 body).makes × PartFits a all ty (laid_body nodes tys 0 body).root
-  body_fits (Variable v) ty fits sits = ((value_live v fits.1, tt), (Var (graph_value nodes v), sits.0, graph_type nodes v ∙ fits.0))
+      → Every PlannedIn (laid_body nodes tys 0 body).makes × PartFits a all ty (laid_body nodes tys 0 body).root
+  body_fits (Variable v) ty fits sits = ((value_fits v fits.1, tt), (Var (graph_value nodes v), sits.0, graph_type nodes v ∙ fits.0))
   body_fits (Computed f kept) ty fits sits = formula_fits 0 f ty fits.0 sits
   body_fits body ty fits sits = absurd fits
 
+-- with what is to be made before it, a body fits as it does with all
+earlier_line : (known : FnRef → Bool) (all : List Planned) (i : ℕ) (listed : List Listed) (l : OpenLine) → LineNeedsEarlier (take i all) l
+    → LineFits known all listed l → LineFits known (take i all) listed l
+earlier_line known all i listed (open_line.Ready l) needs fits = fits
+earlier_line known all i listed (open_line.Bind left body most captures) (p, early) (o, at, is, within) =
+    let there = front_in all i body (planned.Body p) early in
+    let same : p ≡ o = (let e : Some (planned.Body p) ≡ Some (planned.Body o) = sym there ∙ at in cc) in
+    (o, subst (λ (q : OpenBody). slice_get (take i all) body ≡ Some (planned.Body q)) same early, is, within)
+  where
+    front_in : {A : Type 0} (xs : List A) (n i : ℕ) (x : A) → slice_get (take n xs) i ≡ Some x → slice_get xs i ≡ Some x
+    front_in xs zero i x is = absurd (cc)
+    front_in [] (suc n) i x is = absurd (cc)
+    front_in (y ∷ xs) (suc n) zero x is = is
+    front_in (y ∷ xs) (suc n) (suc i) x is = front_in xs n i x is
+
+earlier_lines : (known : FnRef → Bool) (all : List Planned) (i : ℕ) (listed : List Listed) (ls : List OpenLine) → Every (LineNeedsEarlier (take i all)) ls
+    → Every (LineFits known all listed) ls → Every (LineFits known (take i all) listed) ls
+earlier_lines known all i listed [] needs fits = tt
+earlier_lines known all i listed (l ∷ ls) needs fits =
+    (earlier_line known all i listed l needs.0 fits.0, earlier_lines known all i listed ls needs.1 fits.1)
+
 -- what is laid out for a body that fits the names fits the arena, where the names have their nodes
 pub laid_fits : (known : FnRef → Bool) (a : Arena) (nodes : ℕ → NodeId) (tys : ℕ → Ty) (names : Names)
-    → ((position : ℕ) (t : Ty) → NameFits names position t → (r : Row) × (row_at a (nodes position) ≡ Some r) × (r.ty ≡ t))
+    → ((position : ℕ) (t : Ty) → NameFits names position t → Given a.given (nodes position) × Fits a (nodes position) t)
     → ((position : ℕ) (t : Ty) → NameFits names position t → tys position ≡ t)
     → (body : Body) (ty : Ty) → BodyFits known names body ty
-    → AllOpenFit known a (laid_body nodes tys 0 body).makes × PartFits a (laid_body nodes tys 0 body).makes ty (laid_body nodes tys 0 body).root
+    → AllPlannedFit known a (laid_body nodes tys 0 body).makes × PartFits a (laid_body nodes tys 0 body).makes ty (laid_body nodes tys 0 body).root
 laid_fits known a nodes tys names there typed body ty fits =
     let all = (laid_body nodes tys 0 body).makes in
     let h = body_fits known a all nodes tys names there typed body ty fits (sits_itself all) in
-    (every_at (OpenFits known a all) all h.0, h.1)
-
--- what fits is of forms that are laid out; its names have what names that fit have, and so has what its values refer to
-module _ (known : FnRef → Bool) (names : Names) (P R : ℕ → Type 0) (named : (position : ℕ) (ty : Ty) → NameFits names position ty → P position)
-    (refers : (v : Value) → ReferenceFits names v → EveryReference R v) where
-  mutual
-    fitting_plain : (f : Formula) (ty : Ty) → FormulaFits known names f ty → IsPlain P R f
-    fitting_plain (Literal v) ty fits = (tt, refers v fits.1)
-    fitting_plain (Name n) ty fits = (tt, named n ty fits)
-    fitting_plain (Apply f arguments) ty fits = fitting_all_plain arguments f.sig.takes fits.1
-    fitting_plain (Fold f first elements) ty fits =
-        let each = fitting_each_plain elements fits.0 fits.5 in (each.0, (refers_nowhere R first ty fits.3 fits.4, each.1))
-    fitting_plain (If test a b) ty fits =
-        let first = fitting_plain test types.Bool fits.0 in
-        let second = fitting_plain a ty fits.1 in
-        let third = fitting_plain b ty fits.2 in ((first.0, second.0, third.0), (first.1, second.1, third.1))
-    fitting_plain (Join child) ty fits = fitting_plain child (types.Node fits.0) fits.1
-    fitting_plain f ty fits = absurd fits
-
-    fitting_all_plain : (fs : Formulas) (tys : List Ty) → ArgumentsFit known names fs tys → ArePlain P R fs
-    fitting_all_plain End [] fits = (tt, tt)
-    fitting_all_plain End (ty ∷ tys) fits = absurd fits
-    fitting_all_plain (More f rest) [] fits = absurd fits
-    fitting_all_plain (More f rest) (ty ∷ tys) fits =
-        let here = fitting_plain f ty fits.0 in
-        let there = fitting_all_plain rest tys fits.1 in ((here.0, there.0), (here.1, there.1))
-
-    fitting_each_plain : (fs : Formulas) (ty : Ty) → ElementsFit known names fs ty → ArePlain P R fs
-    fitting_each_plain End ty fits = (tt, tt)
-    fitting_each_plain (More f rest) ty fits =
-        let here = fitting_plain f ty fits.0 in
-        let there = fitting_each_plain rest ty fits.1 in ((here.0, there.0), (here.1, there.1))
-
-  -- what fits the names is plain
-  pub body_plain : (b : Body) (ty : Ty) → BodyFits known names b ty → IsPlainBody P R b
-  body_plain (Variable v) ty fits = ((tt, refers v fits.1), tt)
-  body_plain (Computed f kept) ty fits = (fitting_plain f ty fits.0, fits.1)
-  body_plain b ty fits = absurd fits
-
--- the names of what fits have what names that fit have
-pub every_name_of : (known : FnRef → Bool) (names : Names) (P : ℕ → Type 0) → ((position : ℕ) (t : Ty) → NameFits names position t → P position)
-    → (body : Body) (ty : Ty) → BodyFits known names body ty → EveryNameOf P body
-every_name_of known names P named body ty fits = (body_plain known names P P named (refers_fitting names P named) body ty fits).0
-
--- ---- its nodes
-
--- the node was made, as one of the first so many
-abbrev IsMade : List Made → ℕ → NodeId → Type 0
-IsMade made bound n = (i : ℕ) × (i < bound) × (n ≡ made_node made i)
-
-pub if_size : (xs ys zs : List Open) (whole : Open)
-    → length (xs ++ (ys ++ (zs ++ whole ∷ []))) ≡ length xs + (length ys + length zs) + 1
-if_size xs ys zs whole =
-    let first = length-append xs (ys ++ (zs ++ whole ∷ [])) in
-    let second = length-append ys (zs ++ whole ∷ []) in
-    let third = length-append zs (whole ∷ []) in
-    omega (arith, first, second, third)
-
-module _ (known : FnRef → Bool) (G : Graph) (all : List Open) (made : List Made) (stands : StandsIn G all made) (whole : length made ≡ length all)
-    (nodes : ℕ → NodeId) (tys : ℕ → Ty) (names : Names) where
-  top_at : (i : ℕ) (x : Open) → slice_get all i ≡ Some x → i < length made
-  top_at i x at = let low = slice_get_within all i x at in omega (arith, low, whole)
-
-  -- the nodes of a formula and its parts were made before the bound that its places stand below
-  mutual
-    formula_owns : (start bound : ℕ) (f : Formula) (ty : Ty) → FormulaFits known names f ty → SitsAt all start (laid nodes tys start f).makes
-        → start + length (laid nodes tys start f).makes ≤ bound → OwnNodes G (IsMade made bound) (node_of made (laid nodes tys start f).root) f
-    formula_owns start bound (Literal v) ty fits sits low = (start, omega (arith, low), refl)
-    formula_owns start bound (Name n) ty fits sits low = tt
-    formula_owns start bound (Apply f arguments) ty fits sits low =
-        let each = laid_each nodes tys start arguments in
-        let parts = sits_split all start each.makes (Map f each.roots ∷ []) sits in
-        let last = start + length each.makes in
-        let size = length-append each.makes (Map f each.roots ∷ []) in
-        let top = stands.top last (Map f each.roots) parts.1.0 (top_at last (Map f each.roots) parts.1.0) in (
-          (last, omega (arith, low, size), refl),
-          top.0,
-          map (node_of made) each.roots,
-          top.1,
-          top.3,
-          arguments_own start bound arguments f.sig.takes fits.1 parts.0 (omega (arith, low, size)),
-        )
-    formula_owns start bound (Fold f first elements) ty fits sits low =
-        let each = laid_each nodes tys start elements in
-        let made_fold = OpenFold f (graph_value nodes first) each.roots in
-        let parts = sits_split all start each.makes (made_fold ∷ []) sits in
-        let last = start + length each.makes in
-        let size = length-append each.makes (made_fold ∷ []) in
-        let top = stands.top last made_fold parts.1.0 (top_at last made_fold parts.1.0) in (
-          (last, omega (arith, low, size), refl),
-          top.0,
-          graph_value nodes first,
-          map (node_of made) each.roots,
-          top.1,
-          top.3,
-          elements_own start bound elements fits.0 fits.5 parts.0 (omega (arith, low, size)),
-        )
-    formula_owns start bound (If test x y) ty fits sits low =
-        let first = laid nodes tys start test in
-        let second = laid nodes tys (start + length first.makes) x in
-        let third = laid nodes tys (start + (length first.makes + length second.makes)) y in
-        let whole = OpenIf (formula_ty tys x) first.root second.root third.root in
-        let parts = if_sits all start (formula_ty tys x) first.makes second.makes third.makes first.root second.root third.root sits in
-        let last = start + (length first.makes + (length second.makes + length third.makes)) in
-        let size = if_size first.makes second.makes third.makes whole in
-        let top = stands.top last whole parts.3 (top_at last whole parts.3) in (
-          (last, omega (arith, low, size), refl),
-          top.0,
-          node_of made first.root,
-          node_of made second.root,
-          node_of made third.root,
-          top.1,
-          top.3,
-          formula_owns start bound test types.Bool fits.0 parts.0 (omega (arith, low, size)),
-          formula_owns (start + length first.makes) bound x ty fits.1 parts.1 (omega (arith, low, size)),
-          formula_owns (start + (length first.makes + length second.makes)) bound y ty fits.2 parts.2 (omega (arith, low, size)),
-        )
-    formula_owns start bound (Join child) ty fits sits low =
-        let under = laid nodes tys start child in
-        let whole = OpenJoin (joined_ty (formula_ty tys child)) under.root in
-        let parts = sits_split all start under.makes (whole ∷ []) sits in
-        let last = start + length under.makes in
-        let size = length-append under.makes (whole ∷ []) in
-        let top = stands.top last whole parts.1.0 (top_at last whole parts.1.0) in (
-          (last, omega (arith, low, size), refl),
-          top.0,
-          node_of made under.root,
-          top.1,
-          top.3,
-          formula_owns start bound child (types.Node fits.0) fits.1 parts.0 (omega (arith, low, size)),
-        )
-    formula_owns start bound f ty fits sits low = absurd fits
-
-    arguments_own : (start bound : ℕ) (fs : Formulas) (takes : List Ty) → ArgumentsFit known names fs takes
-        → SitsAt all start (laid_each nodes tys start fs).makes → start + length (laid_each nodes tys start fs).makes ≤ bound
-        → OwnNodesOfAll G (IsMade made bound) (map (node_of made) (laid_each nodes tys start fs).roots) fs
-    arguments_own start bound End [] fits sits low = tt
-    arguments_own start bound End (ty ∷ takes) fits sits low = absurd fits
-    arguments_own start bound (More f rest) [] fits sits low = absurd fits
-    arguments_own start bound (More f rest) (ty ∷ takes) fits sits low =
-        let here = laid nodes tys start f in
-        let next = start + length here.makes in
-        let parts = sits_split all start here.makes (laid_each nodes tys next rest).makes sits in
-        let size = length-append here.makes (laid_each nodes tys next rest).makes in
-        (formula_owns start bound f ty fits.0 parts.0 (omega (arith, low, size)), arguments_own next bound rest takes fits.1 parts.1 (omega (arith, low, size)))
-
-    elements_own : (start bound : ℕ) (fs : Formulas) (ty : Ty) → ElementsFit known names fs ty → SitsAt all start (laid_each nodes tys start fs).makes
-        → start + length (laid_each nodes tys start fs).makes ≤ bound
-        → OwnNodesOfAll G (IsMade made bound) (map (node_of made) (laid_each nodes tys start fs).roots) fs
-    elements_own start bound End ty fits sits low = tt
-    elements_own start bound (More f rest) ty fits sits low =
-        let here = laid nodes tys start f in
-        let next = start + length here.makes in
-        let parts = sits_split all start here.makes (laid_each nodes tys next rest).makes sits in
-        let size = length-append here.makes (laid_each nodes tys next rest).makes in
-        (formula_owns start bound f ty fits.0 parts.0 (omega (arith, low, size)), elements_own next bound rest ty fits.1 parts.1 (omega (arith, low, size)))
-
-  -- the root is the last, and its parts were made before it
-  whole_owns : (f : Formula) (ty : Ty) → FormulaFits known names f ty → SitsAt all 0 (laid nodes tys 0 f).makes
-      → WholeNodes G (IsMade made (length (laid nodes tys 0 f).makes)) (IsMade made (length (laid nodes tys 0 f).makes - 1)) (node_of made (laid nodes tys 0 f).root) f
-  whole_owns (Literal v) ty fits sits = (0, omega arith, refl)
-  whole_owns (Name n) ty fits sits = tt
-  whole_owns (Apply f arguments) ty fits sits =
-      let each = laid_each nodes tys 0 arguments in
-      let parts = sits_split all 0 each.makes (Map f each.roots ∷ []) sits in
-      let last = 0 + length each.makes in
-      let size = length-append each.makes (Map f each.roots ∷ []) in
-      let top = stands.top last (Map f each.roots) parts.1.0 (top_at last (Map f each.roots) parts.1.0) in (
-        (last, omega (arith, size), refl),
-        top.0,
-        map (node_of made) each.roots,
-        top.1,
-        top.3,
-        arguments_own 0 (length (laid nodes tys 0 (Apply f arguments)).makes - 1) arguments f.sig.takes fits.1 parts.0 (omega (arith, size)),
-      )
-  whole_owns (Fold f first elements) ty fits sits =
-      let each = laid_each nodes tys 0 elements in
-      let made_fold = OpenFold f (graph_value nodes first) each.roots in
-      let parts = sits_split all 0 each.makes (made_fold ∷ []) sits in
-      let last = 0 + length each.makes in
-      let size = length-append each.makes (made_fold ∷ []) in
-      let top = stands.top last made_fold parts.1.0 (top_at last made_fold parts.1.0) in (
-        (last, omega (arith, size), refl),
-        top.0,
-        graph_value nodes first,
-        map (node_of made) each.roots,
-        top.1,
-        top.3,
-        elements_own 0 (length (laid nodes tys 0 (Fold f first elements)).makes - 1) elements fits.0 fits.5 parts.0 (omega (arith, size)),
-      )
-  whole_owns (If test x y) ty fits sits =
-      let first = laid nodes tys 0 test in
-      let second = laid nodes tys (0 + length first.makes) x in
-      let third = laid nodes tys (0 + (length first.makes + length second.makes)) y in
-      let whole = OpenIf (formula_ty tys x) first.root second.root third.root in
-      let parts = if_sits all 0 (formula_ty tys x) first.makes second.makes third.makes first.root second.root third.root sits in
-      let last = 0 + (length first.makes + (length second.makes + length third.makes)) in
-      let size = if_size first.makes second.makes third.makes whole in
-      let bound = length (laid nodes tys 0 (If test x y)).makes - 1 in
-      let top = stands.top last whole parts.3 (top_at last whole parts.3) in (
-        (last, omega (arith, size), refl),
-        top.0,
-        node_of made first.root,
-        node_of made second.root,
-        node_of made third.root,
-        top.1,
-        top.3,
-        formula_owns 0 bound test types.Bool fits.0 parts.0 (omega (arith, size)),
-        formula_owns (0 + length first.makes) bound x ty fits.1 parts.1 (omega (arith, size)),
-        formula_owns (0 + (length first.makes + length second.makes)) bound y ty fits.2 parts.2 (omega (arith, size)),
-      )
-  whole_owns (Join child) ty fits sits =
-      let under = laid nodes tys 0 child in
-      let whole = OpenJoin (joined_ty (formula_ty tys child)) under.root in
-      let parts = sits_split all 0 under.makes (whole ∷ []) sits in
-      let last = 0 + length under.makes in
-      let size = length-append under.makes (whole ∷ []) in
-      let top = stands.top last whole parts.1.0 (top_at last whole parts.1.0) in (
-        (last, omega (arith, size), refl),
-        top.0,
-        node_of made under.root,
-        top.1,
-        top.3,
-        formula_owns 0 (length (laid nodes tys 0 (Join child)).makes - 1) child (types.Node fits.0) fits.1 parts.0 (omega (arith, size)),
-      )
-  whole_owns f ty fits sits = absurd fits
-
-  body_owns : (body : Body) (ty : Ty) → BodyFits known names body ty → SitsAt all 0 (laid_body nodes tys 0 body).makes
-      → OwnNodesOf G (IsMade made (length (laid_body nodes tys 0 body).makes)) (IsMade made (length (laid_body nodes tys 0 body).makes - 1))
-      (node_of made (laid_body nodes tys 0 body).root) body
-  body_owns (Variable v) ty fits sits = (0, omega arith, refl)
-  body_owns (Computed f kept) ty fits sits = whole_owns f ty fits.0 sits
-  body_owns body ty fits sits = absurd fits
-
--- the nodes of a body were made from the first on, and none after the root
-module _ (known : FnRef → Bool) (names : Names) {F : Type 0} (first now : Standing F) (nodes : ℕ → NodeId) (tys : ℕ → Ty) (made : List Made)
-    (sound : arena.IsSound first.nodes) where
-  abbrev makes_for : Body → List Open
-  makes_for body = (laid_body nodes tys 0 body).makes
-
-  abbrev root_for : Body → NodeId
-  root_for body = node_of made (laid_body nodes tys 0 body).root
-
-  -- it was given since, and no later than the root
-  abbrev pub IsSince : NodeId → NodeId → Type 0
-  IsSince root n = (first.nodes.given ≤ n.gen_) × (n.gen_ ≤ root.gen_)
-
-  -- or before the root
-  abbrev pub IsPartSince : NodeId → NodeId → Type 0
-  IsPartSince root n = (first.nodes.given ≤ n.gen_) × (n.gen_ < root.gen_)
-
-  made_id : (body : Body) → IsMaking first now (makes_for body) made → length made ≡ length (makes_for body) → (i : ℕ) (n : NodeId)
-      → i < length (makes_for body) → n ≡ made_node made i → n.gen_ ≡ first.nodes.given + i
-  made_id body h whole i n low is = ap (λ (m : NodeId). m.gen_) is ∙ h.ids i (omega (arith, low, whole))
-
-  between : (body : Body) → IsMaking first now (makes_for body) made → length made ≡ length (makes_for body) → (r : ℕ) → r < length (makes_for body)
-      → length (makes_for body) ≤ r + 1 → root_for body ≡ made_node made r → (n : NodeId) → IsMade made (length (makes_for body)) n
-      → IsSince (root_for body) n
-  between body h whole r low high root n (i, less, is) =
-      let id = made_id body h whole i n less is in
-      let last = made_id body h whole r (root_for body) low root in
-      (omega (arith, id), omega (arith, id, last, less, high))
-
-  before_root : (body : Body) → IsMaking first now (makes_for body) made → length made ≡ length (makes_for body) → (r : ℕ) → r < length (makes_for body)
-      → length (makes_for body) ≤ r + 1 → root_for body ≡ made_node made r → (n : NodeId) → IsMade made (length (makes_for body) - 1) n
-      → IsPartSince (root_for body) n
-  before_root body h whole r low high root n (i, less, is) =
-      let id = made_id body h whole i n (omega (arith, less)) is in
-      let last = made_id body h whole r (root_for body) low root in
-      (omega (arith, id), omega (arith, id, last, less, high, low))
-
-  own_between : (body : Body) (ty : Ty) → BodyFits known names body ty → IsMaking first now (makes_for body) made → length made ≡ length (makes_for body)
-      → (r : ℕ) → r < length (makes_for body) → length (makes_for body) ≤ r + 1 → root_for body ≡ made_node made r
-      → OwnNodesOf (todays_graph now.nodes) (IsSince (root_for body)) (IsPartSince (root_for body)) (root_for body) body
-  own_between body ty fits h whole r low high root =
-      own_nodes_of_on (todays_graph now.nodes) (todays_graph now.nodes) (IsMade made (length (makes_for body))) (IsSince (root_for body))
-      (IsMade made (length (makes_for body) - 1)) (IsPartSince (root_for body)) (between body h whole r low high root)
-      (before_root body h whole r low high root) (λ n r u row def. row) (root_for body) body
-      (body_owns known (todays_graph now.nodes) (makes_for body) made h.stands whole nodes tys names body ty fits (sits_itself (makes_for body)))
-
-  pub made_owned : (body : Body) (ty : Ty) → BodyFits known names body ty → IsMaking first now (makes_for body) made → length made ≡ length (makes_for body)
-      → OwnNodesOf (todays_graph now.nodes) (IsSince (root_for body)) (IsPartSince (root_for body)) (root_for body) body
-  made_owned (Variable v) ty fits h whole = own_between (Variable v) ty fits h whole 0 (omega arith) (omega arith) refl
-  made_owned (Computed (Literal v) kept) ty fits h whole = own_between (Computed (Literal v) kept) ty fits h whole 0 (omega arith) (omega arith) refl
-  made_owned (Computed (Name n) kept) ty fits h whole = tt
-  made_owned (Computed (Apply f arguments) kept) ty fits h whole =
-      let each = laid_each nodes tys 0 arguments in
-      let size = length-append each.makes (Map f each.roots ∷ []) in
-      own_between (Computed (Apply f arguments) kept) ty fits h whole (0 + length each.makes) (omega (arith, size)) (omega (arith, size)) refl
-  made_owned (Computed (Fold f first elements) kept) ty fits h whole =
-      let each = laid_each nodes tys 0 elements in
-      let size = length-append each.makes (OpenFold f (graph_value nodes first) each.roots ∷ []) in
-      own_between (Computed (Fold f first elements) kept) ty fits h whole (0 + length each.makes) (omega (arith, size)) (omega (arith, size)) refl
-  made_owned (Computed (If test x y) kept) ty fits h whole =
-      let first = laid nodes tys 0 test in
-      let second = laid nodes tys (0 + length first.makes) x in
-      let third = laid nodes tys (0 + (length first.makes + length second.makes)) y in
-      let size = if_size first.makes second.makes third.makes (OpenIf (formula_ty tys x) first.root second.root third.root) in
-      own_between (Computed (If test x y) kept) ty fits h whole (0 + (length first.makes + (length second.makes + length third.makes)))
-      (omega (arith, size)) (omega (arith, size)) refl
-  made_owned (Computed (Join child) kept) ty fits h whole =
-      let under = laid nodes tys 0 child in
-      let size = length-append under.makes (OpenJoin (joined_ty (formula_ty tys child)) under.root ∷ []) in
-      own_between (Computed (Join child) kept) ty fits h whole (0 + length under.makes) (omega (arith, size)) (omega (arith, size)) refl
-  made_owned (Computed f kept) ty fits h whole = absurd fits.0
-  made_owned body ty fits h whole = absurd fits
-
-  -- the root is a live node of the type
-  pub made_root : (body : Body) (ty : Ty) → IsMaking first now (makes_for body) made → length made ≡ length (makes_for body)
-      → PartFits first.nodes (makes_for body) ty (laid_body nodes tys 0 body).root
-      → (r : Row) × (row_at now.nodes (root_for body) ≡ Some r) × (r.ty ≡ ty)
-  made_root body ty h whole fits =
-      let early = (body_in_order nodes tys body).1 in
-      part_row first now (makes_for body) made h sound (laid_body nodes tys 0 body).root ty fits
-      (subst (λ (n : ℕ). IsEarlier n (laid_body nodes tys 0 body).root) (sym whole) early)
-
-  -- and a variable, where one is declared
-  pub made_variable : (v : Value) → IsMaking first now (makes_for (Variable v)) made → length made ≡ length (makes_for (Variable v))
-      → IsVariable now.nodes (root_for (Variable v))
-  made_variable v h whole =
-      let top = h.stands.top 0 (Var (graph_value nodes v)) refl (omega (arith, whole)) in
-      record { row = top.0; value = graph_value nodes v; there = top.1; variable = top.3 }
-
--- and shows what is declared
-pub made_declares : (known : FnRef → Bool) (names : Names) (x : Both) (nodes : ℕ → NodeId) (tys : ℕ → Ty) (made : List Made) (body : Body) (ty : Ty)
-    → BodyFits known names body ty → ((position : ℕ) (t : Ty) → NameFits names position t → nodes position ≡ x.nodes position)
-    → StandsIn x.graph (laid_body nodes tys 0 body).makes made → length made ≡ length (laid_body nodes tys 0 body).makes
-    → Declares x (node_of made (laid_body nodes tys 0 body).root) (Some body)
-made_declares known names x nodes tys made body ty fits same stands whole =
-    root_declares nodes tys body x made
-    (every_name_of known names (λ n. nodes n ≡ x.nodes n) same body ty fits) stands (omega (arith, whole))
+    let order = laid_in_order nodes tys body (body_laid_out known names body ty fits) in
+    (λ i x at. by_planned all i x (order_of all i x order at) (every_at (PlannedIn known a all nodes tys names there typed) all h.0 i x at), h.1)
+  where
+    by_planned : (all : List Planned) (i : ℕ) (x : Planned) → NeedsEarlier (take i all) x → PlannedIn known a all nodes tys names there typed x
+        → PlannedFits known a all i x
+    by_planned all i (planned.Node x) needs h = h
+    by_planned all i (planned.Body o) needs h =
+        record { lines = earlier_lines known all i o.page.listed o.page.lines needs h.lines; listed = h.listed }

@@ -1,7 +1,11 @@
 pub mod Accepting
 pub mod Adding
+pub mod Apart
 pub mod Beginning
+pub mod Becoming
 pub mod Beside
+pub mod Bodies
+pub mod Building
 pub mod Calling
 pub mod Carrying
 mod ComingBack
@@ -12,26 +16,32 @@ pub mod Declared
 pub mod Declaring
 pub mod Ending
 pub mod Extending
+pub mod Few
 pub mod Functions
+pub mod Grabbing
 pub mod Held
+pub mod Home
 pub mod Laying
-mod Living
+pub mod Leaving
 pub mod Looking
 pub mod Making
+pub mod Middle
 pub mod Observing
 pub mod OneOwner
+pub mod Owned
 pub mod Owner
 pub mod Owning
-pub mod Placed
-pub mod Placing
 pub mod Plain
 pub mod Recalling
 pub mod Referring
+pub mod Refusing
 pub mod Remembering
+pub mod Rooting
 pub mod Same
 pub mod Setting
 pub mod Showing
 pub mod Sounding
+pub mod Staying
 pub mod Spots
 pub mod TooDeep
 pub mod Watching

@@ -5,10 +5,9 @@ use Rattle.inc_value.specs.declared.node.NodeId.{NodeId}
 use Rattle.graph.specs.Standing.{in_use, looked_at}
 use Rattle.graph.specs.declared.observer.Observer.{Observer as Looking}
 use Rattle.inc_terms.proofs.Plan.{among_map}
-use Rattle.script_model.specs.Formula.{State, Entry, Body, Observer, Variable, Computed}
+use Rattle.script_model.specs.Formula.{State, Entry, Body, Observer, Variable, Computed, Grab}
 use Rattle.script_model.specs.Need.{Item, Named, own_root, own_roots, roots}
-use Rattle.formula_elab.specs.Today.{IsLaidOutBody}
-use Rattle.script_graph.specs.Today.{AllPlain}
+use Rattle.script_graph.specs.Today.{AllPlain, IsPlainBody, IsEarlierTarget, IsDeclaredTarget}
 use Rattle.script_graph.specs.Represents.{there_in}
 
 -- ---- in order
@@ -40,10 +39,11 @@ looked_all nodes (Some x ∷ made) (o ∷ os) same ended looks =
 
 -- ---- roots
 
-no_own_root : (s : State) (n : ℕ) (b : Body) → IsLaidOutBody b → own_root s n b ≡ []
-no_own_root s n (Variable v) fine = refl
-no_own_root s n (Computed f kept) fine = refl
-no_own_root s n b fine = absurd fine
+no_own_root : (P R : ℕ → Type 0) (s : State) (n : ℕ) (b : Body) → IsPlainBody P R b → own_root s n b ≡ []
+no_own_root P R s n (Variable v) fine = refl
+no_own_root P R s n (Computed f kept) fine = refl
+no_own_root P R s n (Grab bind v is_live) fine = refl
+no_own_root P R s n b fine = absurd fine.0
 
 no_own_roots : (s : State) (n : ℕ) (es : List Entry) → ((j : ℕ) (e : Entry) → slice_get es j ≡ Some e → (m : ℕ) → own_root s m e.body ≡ [])
     → own_roots s n es ≡ []
@@ -59,8 +59,8 @@ nothing_more (x ∷ xs) = ap (λ (r : List _). x ∷ r) (nothing_more xs)
 pub roots_are : (s : State) → AllPlain s → roots s ≡ map (λ (o : Observer). Named o.target) s.observers
 roots_are s plain =
     ap (λ (is : List Item). map (λ (o : Observer). Named o.target) s.observers ++ is)
-    (no_own_roots s 0 s.entries (λ j e at m. no_own_root s m e.body
-    (plain j e.body (ap (λ (x : Option Entry). and_then x (λ (y : Entry). Some y.body)) at)).0.0))
+    (no_own_roots s 0 s.entries (λ j e at m. no_own_root (IsEarlierTarget s j) (IsDeclaredTarget s) s m e.body
+    (plain j e.body (ap (λ (x : Option Entry). and_then x (λ (y : Entry). Some y.body)) at))))
     ∙ nothing_more (map (λ (o : Observer). Named o.target) s.observers)
 
 -- what stands in the image of a list

@@ -5,7 +5,7 @@ use Rattle.std.specs.List.{list_any}
 use Rattle.std.specs.Prelude.{IsFalse}
 use Rattle.std.specs.Str.{bytes_eq}
 use Rattle.graph.specs.Effects.{Observes}
-use Rattle.graph.specs.Standing.{Standing, node_at, looked_at, shown_of, called_last, cutoff_of, times_linked}
+use Rattle.graph.specs.Standing.{Standing, graph, node_at, looked_at, shown_of, called_last, cutoff_of, times_linked}
 use Rattle.inc_value.specs.Choice.{Among}
 use Rattle.inc_value.specs.declared.node.NodeId.{NodeId}
 use Rattle.inc_value.specs.declared.node.ObsId.{ObsId}
@@ -14,9 +14,9 @@ use Rattle.inc_value.specs.declared.outcome.Outcome as engine
 use Rattle.script_model.specs.Check.{Observe, declared_of, is_among, names_of}
 use Rattle.script_model.specs.Formula.{State, Entry, Body, Observer, Meanings, body_at}
 use Rattle.script_model.specs.Step.{Moment, moved, find_observer, new_observer, shown_by}
-use Rattle.script_graph.specs.Kept.{Kept, arena_of, node_in}
+use Rattle.script_graph.specs.Kept.{Kept, node_in}
 use Rattle.script_graph.specs.Represents.{there_in, AreNames, IsObserver, IsShown, Watches}
-use Rattle.script_graph.specs.Settled.{StillDeclares}
+use Rattle.script_graph.specs.Settled.{ScopesBuilt, StillDeclares}
 use Rattle.script_graph.specs.Shown.{ShowsIt}
 use Rattle.script_graph.specs.State.{MatchesMoment}
 use Rattle.script_graph.proofs.Carrying.{LeavesBeside, settled_on}
@@ -135,7 +135,8 @@ with_observer k name o g = record k {
 }
 
 module _ (F : Meanings) (k : Kept) (m : Moment) (name : List ℕ) (target : ℕ) (o : ObsId) (g : Standing (Unit {0})) (stands : MatchesMoment F k m)
-    (unbroken : m.broken ≡ None) (fresh_name : IsFalse (is_among k.names.observers name)) (earlier : target < length k.names.declared) (named_each : length k.observers ≡ length k.names.observers)
+    (unbroken : m.broken ≡ None) (fresh_name : IsFalse (is_among k.names.observers name)) (earlier : target < length k.names.declared)
+    (named_each : length k.observers ≡ length k.names.observers)
     (rooted : k.graph.rooted ≤ length k.graph.observers) (observes : Observes k.graph g o (node_in k.nodes target)) where
   abbrev new : Kept
   new = with_observer k name o g
@@ -274,13 +275,21 @@ module _ (F : Meanings) (k : Kept) (m : Moment) (name : List ℕ) (target : ℕ)
     no_more_cutoffs = λ n equal. ap (λ (h : Standing (Unit {0})). cutoff_of h n) observes.rest ∙ equal;
   }
 
-  still : StillDeclares s k.nodes (arena_of k) then new
+  built_same : (b : NodeId) → (graph g).built b ≡ (graph k.graph).built b
+  built_same b = ap (λ (h : Standing (Unit {0})). (graph h).built b) observes.rest
+
+  still : StillDeclares s k.nodes (graph k.graph) then new
   still = record {
     formulas = λ owner path f is. is;
     targets = λ n e is. (e, is, refl);
     names = λ n e is. refl;
     rows = λ n r u is def. ap (λ (a : Arena). row_at a n) nodes_same ∙ is;
+    lives = λ n r is. (r, ap (λ (a : Arena). row_at a n) nodes_same ∙ is);
+    built = λ b r is. built_same b;
   }
+
+  scopes_still : ScopesBuilt (graph k.graph) → ScopesBuilt (graph g)
+  scopes_still = subst (λ (h : Standing (Unit {0})). ScopesBuilt (graph k.graph) → ScopesBuilt (graph h)) (sym observes.rest) (λ built. built)
 
   shown_was : (y : Observer) → Among y then.observers → IsSome y.shown → Among y s.observers
   shown_was y among is = elim (among_last y x s.observers among) [
@@ -294,9 +303,9 @@ module _ (F : Meanings) (k : Kept) (m : Moment) (name : List ℕ) (target : ℕ)
     names = names;
     accepted = stands.accepted;
     broken = stands.broken;
-    represents = represents_so F s (s.observers ++ x ∷ []) s.accepted k new refl refl nodes_same stands.represents;
+    represents = λ whole. represents_so F s (s.observers ++ x ∷ []) s.accepted k new refl refl refl nodes_same built_same (stands.represents whole);
     watches = watching;
-    settled = λ whole. settled_on F m.settled s then k new leaves still shown_was (stands.settled whole);
+    settled = λ whole. settled_on F m.settled s then k new leaves still (λ n b v was. was) scopes_still shown_was (stands.settled whole);
   }
 
 -- ---- what one shows

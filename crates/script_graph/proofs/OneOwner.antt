@@ -1,15 +1,13 @@
 -- A node has one owner, if it has any: the node outside all scopes round it.
-use Rattle.std.proofs.Common.{◌≡◌, inl, inr, ℕ, List, None, Some, IsSome, is_some, sym, ap, subst, ◌∙◌}
-use Rattle.graph.specs.Standing.{Standing, IsOwner, graph}
+use Rattle.std.proofs.Common.{◌≡◌, inl, inr, None, Some, IsSome, is_some, sym, ap, subst, ◌∙◌}
+use Rattle.graph.specs.Standing.{IsOwner}
 use Rattle.inc_value.specs.declared.node.NodeId.{NodeId}
 use Rattle.inc_terms.specs.Graph.{Graph, Row}
 use Rattle.inc_terms.specs.Rebuild.{Inside, direct, nested}
-use Rattle.node_arena.specs.Arena.{IsLive}
-use Rattle.script_graph.specs.Stabilizing.{AllOlder, NoneOwns}
 
 module _ (G : Graph) where
   -- what stands in no scope stands inside no bind
-  outside_is_in_none : (b n : NodeId) (r : Row) → G.row n ≡ Some r → r.scope ≡ None → Inside G b n → ⊥
+  pub outside_is_in_none : (b n : NodeId) (r : Row) → G.row n ≡ Some r → r.scope ≡ None → Inside G b n → ⊥
   outside_is_in_none b n r row outside (direct {r = q} there scope) = let e : Some r ≡ Some q = sym row ∙ there in cc
   outside_is_in_none b n r row outside (nested {r = q} there scope inside) = let e : Some r ≡ Some q = sym row ∙ there in cc
 
@@ -51,12 +49,3 @@ module _ (G : Graph) where
     | inl e ↦ ap is_some (ap G.row (sym e) ∙ is.is_row)
     | inr inside ↦ inside_is_live top n inside
   ]
-
-module _ {A : Type 0} (nodes : List NodeId) (g : Standing A) (n : NodeId) where
-  -- where the nodes of all declarations are older than one owner they are older than each
-  pub none_owns : (top : NodeId) → IsOwner (graph g) n top → AllOlder nodes top → NoneOwns nodes g n
-  none_owns top is older other is' = subst (AllOlder nodes) (one_owner (graph g) n top other is is') older
-
-  -- what isn't live has no owner
-  pub none_owns_dead : (IsLive g.nodes n → ⊥) → NoneOwns nodes g n
-  none_owns_dead dead top is = absurd (dead (owned_is_live (graph g) n top is))

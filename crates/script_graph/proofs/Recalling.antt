@@ -1,5 +1,7 @@
--- After an accepted stabilize each needed visit was the last call of its node.
-use Rattle.std.proofs.Common.{◌≡◌, ℕ, List, [], ◌∷◌, map, Option, None, Some, refl, ap, ◌∙◌}
+-- After an accepted stabilize what is needed is right, and each needed visit was the last call of its node.
+use Rattle.std.proofs.Common.{◌≡◌, ◌⊎◌, inl, inr, ℕ, zero, suc, List, [], ◌∷◌, map, length, Option, None, Some, refl, sym, ap, subst, ◌∙◌}
+use Rattle.inc_value.specs.Choice.{Reaches, here, step}
+use Rattle.inc_value.specs.Walk.{IsWalk}
 use Rattle.inc_value.specs.declared.function.FnRef.{FnRef}
 use Rattle.inc_value.specs.declared.node.NodeId.{NodeId}
 use Rattle.inc_value.specs.declared.node.Part.{Part}
@@ -7,25 +9,29 @@ use Rattle.inc_value.specs.declared.node.Part.TheVariants.{Change, Main}
 use Rattle.inc_value.specs.declared.node.Point.{Point}
 use Rattle.inc_value.specs.declared.outcome.Outcome.{Outcome}
 use Rattle.inc_value.specs.declared.value.Value.{Value as GraphValue}
-use Rattle.inc_terms.specs.Depend.{kids_of, main, change, unfrozen}
-use Rattle.inc_terms.specs.Evaluate.{answer, GiveAll, Stands}
-use Rattle.inc_terms.specs.Graph.{Graph, Row, Def, Map, Fold, Bind, Freeze, Expert}
-use Rattle.inc_terms.specs.Local.{PartExact, Exact, IsBuilt, shown_of as shown_as}
+use Rattle.inc_terms.specs.Depend.{Depends, gate, ghost, fixed, right, none_died, kids_of, main, change, subject_of, unfrozen}
+use Rattle.inc_terms.specs.Evaluate.{answer, GiveAll, NodeGives, Stands}
+use Rattle.inc_terms.specs.Graph.{Graph, Row, Def, Map, Fold, If, Join, Bind, Freeze, Expert}
+use Rattle.inc_terms.specs.Local.{PartExact, Exact, HasRun, Scoped, shown_of as shown_as}
+use Rattle.inc_terms.specs.Need.{Needed}
 use Rattle.inc_terms.specs.Term.{Functions}
 use Rattle.inc_terms.specs.Work.{cost_of, predicate_cost, predicate_kids}
-use Rattle.graph.specs.Standing.{Standing, in_use, shown_of, chosen_by, called_last}
-use Rattle.graph.proofs.Flat.{nodes_alone, Stabilizes, IsObserved}
+use Rattle.inc_terms.proofs.Local.{needed_more}
+use Rattle.inc_terms.proofs.Unfolding.{scope_stands}
+use Rattle.graph.specs.Standing.{Standing, graph, in_use, shown_of, chosen_by, called_last}
+use Rattle.graph.specs.Stabilizes.{Stabilizes, IsObservedIn, left_by, died_by}
 use Rattle.node_arena.specs.Arena.{Arena, row_at}
+use Rattle.node_outcomes.specs.Choosing.{built_by, built_in}
+use Rattle.point_map.specs.Rows.{at}
 use Rattle.script_model.specs.Formula.{State, Meanings}
-use Rattle.script_model.specs.Need.{Visit, IsVisit, Needed}
+use Rattle.script_model.specs.Need as Need
+use Rattle.script_model.specs.Need.{Visit, IsVisit}
 use Rattle.inc_terms.specs.Work.{taken_by}
 use Rattle.stabilize_round.specs.State.{Call}
 use Rattle.script_graph.specs.Kept.{node_in}
-use Rattle.script_graph.specs.Represents.{graph_functions, besides}
-use Rattle.script_graph.specs.Today.{NoScopes}
 use Rattle.transfer.specs.Both.{Both, graph_value}
 use Rattle.transfer.specs.Items.{node_of, GrabsBind, RootsHave}
-use Rattle.transfer.specs.Shows.{Fits}
+use Rattle.transfer.specs.Shows.{BindsRooted, Fits}
 use Rattle.transfer.proofs.Recalling.{visits_have_nodes}
 
 -- ---- what is needed is right
@@ -39,30 +45,91 @@ shown_in g n Change = chosen_by g n
 abbrev pub shown_at : {A : Type 0} → Standing A → Point → Option Outcome
 shown_at g p = shown_in g p.node p.part
 
--- what is no bind is built for nothing
-built_of : (M : Functions) (G : Graph) (n : NodeId) (def : Def) (o : Outcome) → ((l : NodeId) (f : FnRef) (caps : List NodeId) → def ≡ Bind l f caps → ⊥)
-    → IsBuilt M G n def o
-built_of M G n (Bind l f caps) o none = absurd (none l f caps refl)
-built_of M G n def o none = tt
+-- a bind is built for the outcome by which its change chose last
+built_for : {A : Type 0} (g : Standing A) (n : NodeId) (r : Row) (l : NodeId) (f : FnRef) (caps : List NodeId) (o : Outcome) → row_at g.nodes n ≡ Some r
+    → r.def ≡ Bind l f caps → chosen_by g n ≡ Some o → (graph g).built n ≡ Some (record { outcome = o; root = at g.work.roots (change n) })
+built_for g n r l f caps o row def chosen =
+    ap (λ (x : Option Row). built_in x (chosen_by g n) (at g.work.roots (change n))) row
+    ∙ (ap (λ (x : Option Outcome). built_in (Some r) x (at g.work.roots (change n))) chosen
+    ∙ ap (λ (d : Def). built_by d (Some o) (at g.work.roots (change n))) def)
 
--- where all that is needed is of nodes outside scopes, and no bind's change is needed
-module _ {A : Type 0} (M : Functions) (old new : Standing A) (no_scopes : NoScopes old.nodes)
-    (no_binds : (n l : NodeId) (r : Row) (f : FnRef) (caps : List NodeId) → IsObserved M old (change n) → row_at old.nodes n ≡ Some r
-    → r.def ≡ Bind l f caps → ⊥)
+-- what is needed once these observers have their roots, needs no one who died
+without_dead : (M : Functions) (G : Graph) (died : NodeId → Option NodeId) (p q : Point) → Depends M G none_died p q → Depends M G died p q
+without_dead M G died p q (gate row scope to) = gate row scope to
+without_dead M G died p q (ghost row none to) = absurd (cc)
+without_dead M G died p q (fixed row stands among) = fixed row stands among
+without_dead M G died p q (right row stands is_main subject gives among to) = right row stands is_main subject gives among to
+
+reach_without : (M : Functions) (G : Graph) (died : NodeId → Option NodeId) (p q : Point) → Reaches (Depends M G none_died) p q
+    → Reaches (Depends M G died) p q
+reach_without M G died p q here = here
+reach_without M G died p q (step {b = r} d on) = step (without_dead M G died p r d) (reach_without M G died r q on)
+
+module _ {A : Type 0} (M : Functions) (old new : Standing A) (scoped : Scoped (graph new)) (rooted : BindsRooted M (graph new))
     (done : Stabilizes M old new) where
-  part_right : (n : NodeId) (part : Part) → IsObserved M old (record { node = n; part = part }) → (r : Row)
-      → row_at old.nodes n ≡ Some r → PartExact M (nodes_alone old) (shown_at new) n r.def part
+  abbrev L : Graph
+  L = left_by old new
+
+  abbrev D : NodeId → Option NodeId
+  D = died_by old new
+
+  abbrev IsObserved : Point → Type 0
+  IsObserved p = IsObservedIn M L D old p
+
+  pub observed_without : (p : Point) → Needed M L none_died (in_use old.observers) p → IsObserved p
+  observed_without p need = (need.0, need.1, reach_without M L D (main need.0) p need.2)
+
+  -- a bind whose change is needed was built for what its left gives
+  pub run_right : (n l : NodeId) (r : Row) (f : FnRef) (caps : List NodeId) → IsObserved (change n) → L.row n ≡ Some r → r.def ≡ Bind l f caps
+      → HasRun M L (shown_at new) n (Bind l f caps) l
+  run_right n l r f caps need row def =
+      let c = done.chose n l r row (ap (λ (d : Def). subject_of d) def) need in
+      let is = built_for new n r l f caps c.0 row def c.1 in
+      (c.0, c.1, c.2, (_, is, refl, rooted n r l f caps _ row def is))
+
+  part_right : (n : NodeId) (part : Part) → IsObserved (record { node = n; part = part }) → (r : Row)
+      → L.row n ≡ Some r → PartExact M L (shown_at new) n r.def part
   part_right n Main need r row = let s = done.sees n need in (s.0, ap (λ (x : Option Row). shown_as x (shown_of new n)) row ∙ s.1, s.2)
-  part_right n Change need r row = λ k is.
-      let c = done.chose n k r row is need in
-      (c.0, c.1, c.2, built_of M (nodes_alone old) n r.def c.0 (λ l f caps def. no_binds n l r f caps need row def))
+  part_right n Change need r row = by_def r.def refl
+    where
+      by_def : (d : Def) → r.def ≡ d → PartExact M L (shown_at new) n d Change
+      by_def (Bind l f caps) def = λ k is.
+          let same : l ≡ k = cc in
+          subst (λ (z : NodeId). HasRun M L (shown_at new) n (Bind l f caps) z) same (run_right n l r f caps need row def)
+      by_def (If t a b) def = λ k is. let c = done.chose n k r row (ap (λ (d : Def). subject_of d) def ∙ is) need in (c.0, c.1, c.2, tt)
+      by_def (Join t) def = λ k is. let c = done.chose n k r row (ap (λ (d : Def). subject_of d) def ∙ is) need in (c.0, c.1, c.2, tt)
+      by_def d def = λ k is. absurd (cc)
 
-  stands : (S : Option NodeId) → S ≡ None → Stands M (nodes_alone old) S
+  -- the scope of what is needed stands, or as long a walk begins there, by scopes alone
+  stands_or_walk : (k : ℕ) (p : Point) → IsObserved p → (r : Row) → L.row p.node ≡ Some r
+      → Stands M L r.scope ⊎ ((rest : List Point) × (length rest ≡ k) × IsWalk (Depends M L D) (p ∷ rest))
   unfolding answer
-  stands S none = (1, rw none refl)
+  stands_or_walk zero p need r row = inr ([], refl, tt)
+  stands_or_walk (suc k) p need r row = by_scope r.scope refl (stands_or_walk k)
+    where
+      by_scope : (S : Option NodeId) → r.scope ≡ S
+          → ((q : Point) → IsObserved q → (t : Row) → L.row q.node ≡ Some t
+          → Stands M L t.scope ⊎ ((rest : List Point) × (length rest ≡ k) × IsWalk (Depends M L D) (q ∷ rest)))
+          → Stands M L S ⊎ ((rest : List Point) × (length rest ≡ suc k) × IsWalk (Depends M L D) (p ∷ rest))
+      by_scope None is again = inl (1, refl)
+      by_scope (Some b) is again =
+          let dep : Depends M L D p (change b) = gate row is refl in
+          let next = needed_more M L D (in_use old.observers) p (change b) need dep in
+          let s = scoped p.node r b row is in
+          let run = run_right b s.1 s.0 s.2 s.3 next s.4 s.5 in
+          elim (again (change b) next s.0 s.4) [
+            | inl st ↦ inl (scope_stands M L b s.0 s.1 s.2 s.3 run.3.0 s.4 s.5 st run.3.1 (subst (λ (o : Outcome). NodeGives M L s.1 o) (sym run.3.2) run.2))
+            | inr w ↦ inr (change b ∷ w.0, ap (λ n. suc n) w.1, (dep, w.2))
+          ]
 
-  pub needed_is_right : (p : Point) → IsObserved M old p → Exact M (nodes_alone old) (shown_at new) p
-  needed_is_right p need r row = (stands r.scope (no_scopes p.node r row), part_right p.node p.part need r row)
+  pub needed_is_right : (p : Point) → IsObserved p → Exact M L (shown_at new) p
+  needed_is_right p need r row = (
+    elim (stands_or_walk 129 p need r row) [
+      | inl st ↦ st
+      | inr w ↦ absurd (done.shallow p need w)
+    ],
+    part_right p.node p.part need r row,
+  )
 
 -- ---- what calls
 
@@ -97,14 +164,31 @@ pub record IsRecalled {A : Type 0} (x : Both) (arena : Arena) (g : Standing A) (
   pub is_last : called_last g node ≡ Some call
   pub values_are : call.arguments ≡ map (graph_value x.nodes) v.values
 
-module _ {A : Type 0} (F : Meanings) (s : State) (nodes : List NodeId) (old new : Standing A) (fits : Fits (besides F s nodes old.nodes))
-    (grabs : GrabsBind s) (have : RootsHave (besides F s nodes old.nodes) (in_use old.observers))
-    (exact : (p : Point) → IsObserved (graph_functions F) old p → Exact (graph_functions F) (nodes_alone old) (shown_at new) p)
-    (done : Stabilizes (graph_functions F) old new) where
-  pub visit_is_recalled : (v : Visit) → IsVisit F s v → Needed F s v.item → IsRecalled (besides F s nodes old.nodes) old.nodes new v
+-- over a pair of the graph that a stabilize left, in which nobody is known to have died
+module _ {A : Type 0} (M : Functions) (old new : Standing A) (scoped : Scoped (graph new)) (rooted : BindsRooted M (graph new)) (done : Stabilizes M old new)
+    (F : Meanings) (s : State) (nodes : List NodeId) (fits : Fits (record {
+      meanings = F;
+      state = s;
+      functions = M;
+      graph = graph new;
+      nodes = node_in nodes;
+      died = none_died;
+    })) (grabs : GrabsBind s) (have : RootsHave (record {
+      meanings = F;
+      state = s;
+      functions = M;
+      graph = graph new;
+      nodes = node_in nodes;
+      died = none_died;
+    }) (in_use old.observers)) where
+  abbrev z : Both
+  z = record { meanings = F; state = s; functions = M; graph = graph new; nodes = node_in nodes; died = none_died }
+
+  pub visit_is_recalled : (v : Visit) → IsVisit F s v → Need.Needed F s v.item → IsRecalled z new.nodes new v
   visit_is_recalled v is need =
-      let h = visits_have_nodes (besides F s nodes old.nodes) fits grabs (in_use old.observers) have (shown_at new) exact v is need in
-      let m = called_on (graph_functions F) (nodes_alone old) h.0 (map (graph_value (node_in nodes)) v.values) v.cost h.3.row.def h.3.values h.3.cost in
+      let h = visits_have_nodes z fits grabs (in_use old.observers) have (shown_at new)
+      (λ p observed. needed_is_right M old new scoped rooted done p (observed_without M old new scoped rooted done p observed)) v is need in
+      let m = called_on M (graph new) h.0 (map (graph_value (node_in nodes)) v.values) v.cost h.3.row.def h.3.values h.3.cost in
       let c = done.recalls h.0 h.3.row m.kids (map (graph_value (node_in nodes)) v.values) ((done.needs (main h.0)).1 h.2) h.3.is_row m.takes
       m.give in
       record { node = h.0; is_node = h.1; row = h.3.row; is_row = h.3.is_row; call = c.0; is_last = c.1; values_are = c.2 }

@@ -1,62 +1,47 @@
 -- What a session keeps of the last accepted stabilize is what the laws of calls ask for.
-use Rattle.std.proofs.Common.{◌≡◌, ◌⊎◌, inl, inr, ℕ, zero, suc, ◌<◌, ◌≤◌, true, List, [], ◌∷◌, map, length, Option, None, Some, IsSome, refl, ap, sym, subst, ◌∙◌, arith, slice_get}
+use Rattle.std.proofs.Common.{◌≡◌, ◌⊎◌, inl, inr, ℕ, zero, suc, ◌≤◌, true, List, [], ◌∷◌, map, length, Option, None, Some, IsSome, refl, ap, sym, subst, ◌∙◌, arith, slice_get}
 use Rattle.inc_value.specs.Choice.{Among, Every, and_then}
 use Rattle.inc_value.specs.declared.function.FnRef.{FnRef}
 use Rattle.inc_value.specs.declared.node.NodeId.{NodeId}
 use Rattle.inc_value.specs.declared.node.ObsId.{ObsId}
 use Rattle.inc_value.specs.declared.node.Point.{Point}
 use Rattle.inc_value.specs.declared.value.Value.{Value as GraphValue}
-use Rattle.inc_terms.specs.Depend.{none_died}
+use Rattle.inc_terms.specs.Term as term
+use Rattle.inc_terms.specs.Term.{Functions}
 use Rattle.inc_terms.specs.Need.{Observing, Freezing, nodes_of, Held, Met as GraphMet}
 use Rattle.inc_terms.specs.Work.{WithinWork as GraphWork}
 use Rattle.inc_terms.proofs.Plan.{among_left, among_map}
-use Rattle.node_outcomes.specs.Meaning.{Meaning}
-use Rattle.graph.specs.Sound.{IsSound, IsWhole}
-use Rattle.graph.specs.Stabilizes.{StoodBeside}
-use Rattle.graph.proofs.Flat.{IsMet}
-use Rattle.graph.specs.Standing.{in_use, node_at, IsNeeded, cutoff_of}
+use Rattle.graph.specs.Sound.{IsWhole}
+use Rattle.graph.specs.Stabilizes.{StoodBeside, IsMetIn, left_by, died_by}
+use Rattle.graph.specs.Standing.{Standing, graph, in_use, node_at, IsNeeded, cutoff_of}
 use Rattle.map_nodes.specs.declared.cutoff.Cutoff.{Cutoff}
 use Rattle.map_nodes.specs.declared.cutoff.Cutoff.TheVariants.{Equal, Never}
 use Rattle.node_arena.specs.Arena.{row_at}
 use Rattle.node_outcomes.specs.Row.{is_never}
-use Rattle.script_model.specs.Formula.{State, Entry, Body, Formula, Observer, Meanings, meanings_of, body_at, entry_at, formula_of_body, Variable, Computed}
+use Rattle.script_model.specs.Formula.{State, Entry, Body, Formula, Observer, Meanings, meanings_of, body_at, entry_at, formula_of_body, Variable, Computed, Grab}
 use Rattle.script_model.specs.Need.{Named, Met, WithinWork, formula_at, part_of, own_roots, roots}
 use Rattle.script_model.specs.Step.{Moment}
 use Rattle.script_model.specs.Valid.{Valid, ValidObserver}
 use Rattle.stabilize_round.specs.Calls.{arguments_of}
-use Rattle.script_graph.specs.Kept.{Kept, arena_of, node_in, no_node}
-use Rattle.script_graph.specs.Represents.{graph_functions, besides, beside, there_in, Watches}
-use Rattle.formula_elab.specs.Today.{IsLaidOutBody}
-use Rattle.script_graph.specs.Today.{todays_graph, AllPlain, IsWithin}
+use Rattle.script_graph.specs.Kept.{Kept, node_in, no_node}
+use Rattle.script_graph.specs.Represents.{graph_functions, besides, there_in, Watches}
+use Rattle.script_graph.specs.Today.{AllPlain, IsPlainBody, IsEarlierTarget, IsDeclaredTarget}
 use Rattle.script_graph.specs.Settled.{side_of, observed_by, Settled}
 use Rattle.script_graph.specs.State.{Stands}
-use Rattle.script_graph.proofs.Beside.{represented_fits}
 use Rattle.script_graph.proofs.Extending.{never_given, node_past}
 use Rattle.script_graph.proofs.Held.{looked_within, observed_nodes, rooted_looks, needed_held, stood_beside}
+use Rattle.script_graph.proofs.Leaving.{scopes_stay}
 use Rattle.script_graph.proofs.Looking.{roots_are, among_image, same_name}
-use Rattle.script_graph.proofs.Watching.{watched_roots_are}
+use Rattle.script_graph.proofs.Middle.{IsStabilize, middle, given, fits_then}
+use Rattle.script_graph.proofs.Watching.{roots_are_in}
 use Rattle.script_graph.proofs.Without.{met_more}
 use Rattle.transfer.specs.Both.{Both}
-use Rattle.transfer.specs.Holding.{Later, HoldersAre, LastKept, MarksAreNew, Remembers}
+use Rattle.transfer.specs.Holding.{ScopesStay, Later, HoldersAre, LastKept, MarksAreNew, Remembers}
 use Rattle.transfer.specs.Items.{node_at as place_node, CoveredBy, RootsAre}
-use Rattle.transfer.specs.Shows.{Fits}
-use Rattle.transfer.proofs.Holding.{scopes_kept}
+use Rattle.transfer.specs.Shows.{Fits, plain}
+use Rattle.transfer.proofs.Holding.{scopes_then}
 use Rattle.transfer.proofs.Typed.{body_entry}
 use Rattle.transfer.proofs.Working.{met_is_covered, work_is_covered}
-
--- ---- nodes of names
-
--- ids of two declarations are in the order of the declarations
-pub same_owner : (nodes : List NodeId) (j k : ℕ) (n : NodeId) → IsWithin nodes j n → IsWithin nodes k n → j ≡ k
-same_owner nodes j k n first second = go (compared j k)
-  where
-    compared : (i j : ℕ) → (i < j) ⊎ ((i ≡ j) ⊎ (j < i))
-    compared i j = grind arith
-
-    go : (j < k) ⊎ ((j ≡ k) ⊎ (k < j)) → j ≡ k
-    go (inl low) = absurd (let a = second.later j low in let b = first.not_later in omega (arith, a, b))
-    go (inr (inl same)) = same
-    go (inr (inr high)) = absurd (let a = first.later k high in let b = second.not_later in omega (arith, a, b))
 
 -- ---- observers
 
@@ -109,11 +94,14 @@ not_never : (c : Cutoff) → c ≡ Equal → is_never c ≡ true → ⊥
 not_never Equal e never = cc
 not_never Never e never = cc
 
-module _ (named : List ℕ → Option FnRef) (value : FnRef → List GraphValue → GraphValue) (W : Meaning) (m : Moment) (k : Kept)
-    (stands : Stands (meanings_of named value) k m) (unbroken : m.broken ≡ None) (sound : IsSound W k.graph)
-    (whole : IsWhole W k.graph) where
+module _ (named : List ℕ → Option FnRef) (value : FnRef → List GraphValue → GraphValue) (m : Moment) (k : Kept) (g : Standing (Unit {0}))
+    (stands : Stands (meanings_of named value) k m) (unbroken : m.broken ≡ None) (c : IsStabilize (meanings_of named value) m.present k g)
+    (whole : IsWhole c.meaning k.graph) where
   abbrev F : Meanings
   F = meanings_of named value
+
+  abbrev M : Functions
+  M = graph_functions F k.bodies
 
   abbrev s : State
   s = m.present
@@ -125,62 +113,71 @@ module _ (named : List ℕ → Option FnRef) (value : FnRef → List GraphValue 
   st = stands.matches.settled unbroken
 
   abbrev left : Both
-  left = besides F before st.nodes st.arena
+  left = besides F before st.nodes st.bodies st.left
 
-  abbrev then : Both
-  then = beside F s k
+  abbrev y : Both
+  y = middle F s k g
 
-  fits : Fits then
-  fits = represented_fits named value s k stands.matches.represents
+  pub fits : Fits y
+  fits = fits_then named value s k g c
 
-  -- ---- the state is a later one
+  -- ---- the pair is a later one
 
-  by_body : (owner : ℕ) (n : NodeId) (b : Option Body) → body_at s owner ≡ b → ((c : Body) → b ≡ Some c → IsLaidOutBody c)
-      → node_in k.nodes owner ≡ n → (f : Formula) → and_then b (λ c. and_then (formula_of_body c) (λ g. part_of g [])) ≡ Some f
-      → place_node then owner [] ≡ Some n
+  by_body : (owner : ℕ) (n : NodeId) (b : Option Body) → body_at s owner ≡ b
+      → ((d : Body) → b ≡ Some d → IsPlainBody (IsEarlierTarget s owner) (IsDeclaredTarget s) d)
+      → node_in k.nodes owner ≡ n → (f : Formula) → and_then b (λ d. and_then (formula_of_body d) (λ h. part_of h [])) ≡ Some f
+      → place_node y owner [] ≡ Some n
   by_body owner n None is fine node f e = absurd (cc)
   by_body owner n (Some (Variable v)) is fine node f e = absurd (cc)
-  by_body owner n (Some (Computed g kept)) is fine node f e = rw is (ap (λ (q : NodeId). Some q) node)
-  by_body owner n (Some b) is fine node f e = absurd (fine b refl)
+  by_body owner n (Some (Computed h kept)) is fine node f e = rw is (ap (λ (q : NodeId). Some q) node)
+  by_body owner n (Some (Grab bind v is_live)) is fine node f e = absurd (cc)
+  by_body owner n (Some b) is fine node f e = absurd (fine b refl).0
 
-  whole_on : (owner : ℕ) (n : NodeId) → place_node left owner [] ≡ Some n → place_node then owner [] ≡ Some n
-  whole_on owner n at = go (body_at before owner) refl (λ c is. (st.today.plain owner c is).0.0) at
+  whole_on : (owner : ℕ) (n : NodeId) → place_node left owner [] ≡ Some n → place_node y owner [] ≡ Some n
+  whole_on owner n at = go (body_at before owner) refl (λ d is. st.today.plain owner d is) at
     where
-      go : (b : Option Body) → body_at before owner ≡ b → ((c : Body) → b ≡ Some c → IsLaidOutBody c)
-          → place_node left owner [] ≡ Some n → place_node then owner [] ≡ Some n
+      go : (b : Option Body) → body_at before owner ≡ b
+          → ((d : Body) → b ≡ Some d → IsPlainBody (IsEarlierTarget before owner) (IsDeclaredTarget before) d)
+          → place_node left owner [] ≡ Some n → place_node y owner [] ≡ Some n
       go None is fine at = absurd (let e = rw is at at in cc)
       go (Some (Variable v)) is fine at = absurd (let e = rw is at at in cc)
+      go (Some (Grab bind v is_live)) is fine at = absurd (let e = rw is at at in cc)
       go (Some (Computed f kept)) is fine at =
           let node : Some (node_in st.nodes owner) ≡ Some n = rw is at at in
           let entry = body_entry before owner (Computed f kept) is in
           let formula : formula_at before owner [] ≡ Some f =
-          ap (λ (b : Option Body). and_then b (λ c. and_then (formula_of_body c) (λ g. part_of g []))) is in
-          by_body owner n (body_at s owner) refl (λ c at. (stands.matches.represents.today.plain owner c at).0.0)
+          ap (λ (b : Option Body). and_then b (λ d. and_then (formula_of_body d) (λ h. part_of h []))) is in
+          by_body owner n (body_at s owner) refl (λ d at. c.held.today.plain owner d at)
           (st.still.names owner entry.0 entry.1 ∙ (cc)) f (st.still.formulas owner [] f formula)
-      go (Some b) is fine at = absurd (fine b refl)
+      go (Some b) is fine at = absurd (fine b refl).0
 
   names_on : (n : ℕ) (o : Option Entry) → entry_at before n ≡ o
-      → (then.nodes n ≡ left.nodes n) ⊎ ((entry_at before n ≡ None) × (then.graph.row (left.nodes n) ≡ None))
+      → (y.nodes n ≡ left.nodes n) ⊎ ((entry_at before n ≡ None) × (y.graph.row (left.nodes n) ≡ None))
   names_on n (Some e) is = inl (st.still.names n e is)
   names_on n None is =
       let high = none_past before.entries n is in
       let each = st.one_node_each in
       let past : node_in st.nodes n ≡ no_node = node_past st.nodes n (omega (arith, high, each)) in
-      inr (is, ap (row_at (arena_of k)) past ∙ never_given (arena_of k) sound.nodes)
+      inr (is, ap (row_at g.nodes) past ∙ never_given g.nodes c.sound'.nodes)
 
-  later : Later left then
+  stay : ScopesStay (graph k.graph) (graph g)
+  stay = scopes_stay M k.graph g c.before c.after (given named value s k g c) c.sound.scopes c.built c.stays c.left
+
+  later : Later left y
   later = record {
     meanings = refl;
     formulas = st.still.formulas;
     targets = st.still.targets;
     names = λ n. names_on n (entry_at before n) refl;
     wholes = whole_on;
-    scopes = scopes_kept left.graph then.graph st.still.rows (λ b r row. refl) st.scopes;
+    scopes = scopes_then left.graph (graph k.graph) (graph g) st.still.rows st.still.built
+        (λ n r b row scope. let q = st.scopes n r b row scope in (q.0, term.Bind (term.Ref q.1) q.2 (term.refs q.3), q.4, ap plain q.5))
+        (λ b r row w is. st.still.lives b r row) stay;
   }
 
   -- ---- what stood beside the graph
 
-  holders : HoldersAre left then (side_of k.graph) (observed_by k.graph)
+  holders : HoldersAre left y (side_of k.graph) (observed_by k.graph)
   holders (Observing o) n root still =
       let looks = rooted_looks k.graph o n root in
       let w = stands.matches.watches in
@@ -199,10 +196,10 @@ module _ (named : List ℕ → Option FnRef) (value : FnRef → List GraphValue 
       let w = st.ran v is need in
       (w.node, w.is_node, ap arguments_of w.is_last ∙ ap (λ (vs : List GraphValue). Some vs) w.values_are)
 
-  marks : MarksAreNew left then (side_of k.graph)
+  marks : MarksAreNew left y (side_of k.graph)
   marks v n is need at stale = absurd (cc)
 
-  pub remembers : Remembers left then (side_of k.graph) (observed_by k.graph)
+  pub remembers : Remembers left y (side_of k.graph) (observed_by k.graph)
   remembers = record {
     keep = stands.keep;
     valid = stands.valid.0;
@@ -217,16 +214,19 @@ module _ (named : List ℕ → Option FnRef) (value : FnRef → List GraphValue 
 
   -- ---- what is met, and which calls are due
 
-  roots_now : RootsAre then (nodes_of (observed_by k.graph))
-  roots_now = subst (RootsAre then) (sym (observed_nodes 0 k.graph.observers)) (watched_roots_are F s k stands.matches.represents.today.plain stands.matches.watches)
+  pub observed_are_roots : RootsAre y (in_use k.graph.observers)
+  observed_are_roots = roots_are_in F s k M g.nodes g.work y.died c.held.today.plain stands.matches.watches
+
+  roots_now : RootsAre y (nodes_of (observed_by k.graph))
+  roots_now = subst (RootsAre y) (sym (observed_nodes 0 k.graph.observers)) observed_are_roots
 
   -- what the graph meets is covered by what the script meets
-  pub meeting_is_covered : (p : Point) → IsMet (graph_functions F) k.graph p → CoveredBy then (Met F before s) p
+  pub meeting_is_covered : (p : Point) → IsMetIn M (left_by k.graph g) (died_by k.graph g) k.graph p → CoveredBy y (Met F before s) p
   meeting_is_covered p met =
-      met_is_covered left then (side_of k.graph) (observed_by k.graph) remembers fits stands.valid.1 stands.matches.represents.apart roots_now p
-      (subst (λ (ns : List NodeId). GraphMet (graph_functions F) (todays_graph (arena_of k)) none_died ns (Held (side_of k.graph) (observed_by k.graph)) p)
+      met_is_covered left y (side_of k.graph) (observed_by k.graph) remembers fits stands.valid.1 c.held.apart roots_now p
+      (subst (λ (ns : List NodeId). GraphMet M y.graph y.died ns (Held (side_of k.graph) (observed_by k.graph)) p)
       (sym (observed_nodes 0 k.graph.observers))
-      (met_more (graph_functions F) (todays_graph (arena_of k)) none_died (in_use k.graph.observers) (IsNeeded k.graph)
+      (met_more M y.graph y.died (in_use k.graph.observers) (IsNeeded k.graph)
       (Held (side_of k.graph) (observed_by k.graph)) (needed_held k.graph whole.roots) p met))
 
   pub stood : StoodBeside (side_of k.graph) k.graph (observed_by k.graph)
@@ -236,8 +236,6 @@ module _ (named : List ℕ → Option FnRef) (value : FnRef → List GraphValue 
   observed_among n among = subst (Among n) (sym (observed_nodes 0 k.graph.observers)) among
 
   -- calls that are due over the graph are due of the script
-  pub due_is_covered : (calls : ℕ) → GraphWork (graph_functions F) (todays_graph (arena_of k)) none_died (observed_by k.graph) (side_of k.graph) calls
-      → WithinWork F before s calls
+  pub due_is_covered : (calls : ℕ) → GraphWork M y.graph y.died (observed_by k.graph) (side_of k.graph) calls → WithinWork F before s calls
   due_is_covered calls work =
-      work_is_covered left then (side_of k.graph) (observed_by k.graph) remembers fits stands.valid.1 stands.matches.represents.apart roots_now
-      calls work
+      work_is_covered left y (side_of k.graph) (observed_by k.graph) remembers fits stands.valid.1 c.held.apart roots_now calls work

@@ -1,6 +1,6 @@
 -- What is kept of a script after a variable was set.
-use Rattle.std.proofs.Common.{◌≡◌, ◌⊎◌, inl, inr, ℕ, zero, suc, ◌+◌, List, [], ◌∷◌, map, length, Option, None, Some, option_map, IsTrue, refl, ap, sym, subst, ◌∙◌, arith, slice_get, sum_by}
-use Rattle.std.proofs.lemmas.Option.{slice_get-map}
+use Rattle.std.proofs.Common.{◌≡◌, ◌⊎◌, inl, inr, ℕ, zero, suc, ◌+◌, true, List, [], ◌∷◌, map, length, Option, None, Some, IsSome, option_map, IsTrue, refl, ap, sym, subst, ◌∙◌, arith, slice_get, sum_by}
+use Rattle.std.proofs.lemmas.Option.{none-some, slice_get-map}
 use Rattle.std.proofs.lemmas.Bool.{cases_eq}
 use Rattle.std.proofs.lemmas.List.Sums.{sum_by-cons}
 use Rattle.formula_lang.specs.Fits.{AssignmentFits}
@@ -9,33 +9,33 @@ use Rattle.inc_value.specs.declared.function.FnRef.{FnRef}
 use Rattle.inc_value.specs.declared.node.NodeId.{NodeId}
 use Rattle.inc_value.specs.declared.value.Value.{Value as GraphValue}
 use Rattle.inc_terms.specs.Graph as graph
-use Rattle.inc_terms.specs.Graph.{Row}
+use Rattle.inc_terms.specs.Graph.{Row, Built as BuiltFor}
+use Rattle.inc_terms.specs.Within.{Given}
 use Rattle.graph.specs.Effects.{Sets}
-use Rattle.graph.specs.Standing.{Standing}
+use Rattle.graph.specs.Standing.{Standing, graph as graph_of}
 use Rattle.node_arena.specs.Arena.{row_at, with_value}
 use Rattle.node_arena.specs.Sound as arena
 use Rattle.script_model.specs.Check.{Assign, Declared, Names, declared_of, kind_of_body, is_variable, names_of, target_of_body}
-use Rattle.script_model.specs.Formula as script
-use Rattle.script_model.specs.Formula.{State, Body, Entry, Formula, Meanings, meanings_of, body_at, entry_at, formula_of_body, places_of_body, Bind, Variable, Computed}
+use Rattle.script_model.specs.Formula.{State, Body, Entry, Formula, Meanings, meanings_of, bind_at, bind_of, body_at, built_at, built_of_body, entry_at, formula_of_body, places_of_body, Name, Bind, Variable, Computed, Grab}
 use Rattle.script_model.specs.Need.{Edge, part_of, formula_at}
 use Rattle.script_model.specs.Step.{Moment, changed_at, with_body, moved}
 use Rattle.script_model.specs.Values.{Value}
 use Rattle.script_graph.specs.Kept.{Kept, arena_of, node_in, no_node}
-use Rattle.script_graph.specs.Represents.{AreNames, beside, IsOfItem, Represents, Watches}
-use Rattle.script_graph.specs.Settled.{Settled}
-use Rattle.script_graph.specs.Today.{todays_graph, IsPlainBody, IsEarlierTarget, IsDeclaredTarget, AllPlain, IsWithin, IsPartWithin, OwnNodesOf}
+use Rattle.script_graph.specs.Represents.{AreNames, beside, BuiltAlike, BuiltRefers, Represents, Watches}
+use Rattle.script_graph.specs.Settled.{ScopesBuilt, Settled}
+use Rattle.script_graph.specs.Today.{IsPlainBody, IsEarlierTarget, IsDeclaredTarget, AllPlain, IsWithin, IsPartWithin, OwnNodesOf}
 use Rattle.script_graph.specs.State.{MatchesMoment}
+use Rattle.script_graph.proofs.Bodies.{AnyFunction}
 use Rattle.script_graph.proofs.Carrying.{watches_on, leaves_beside, settled_on}
 use Rattle.script_graph.proofs.Declaring.{plain_body_more, fitting_refers}
-use Rattle.script_graph.proofs.Extending.{declares_still, node_given, never_given, body_past, node_past}
-use Rattle.script_graph.proofs.Placed.{item_still}
+use Rattle.script_graph.proofs.Extending.{KeepsGraph, NodesGiven, body_past, body_within, built_still, declares_still, never_given, node_past, same_serve}
 use Rattle.script_graph.proofs.Owning.{own_nodes_of_on}
-use Rattle.script_graph.proofs.Referring.{value_refers_more}
-use Rattle.transfer.specs.Both.{graph_value}
-use Rattle.transfer.specs.Items.{FormulasStay}
-use Rattle.transfer.specs.Keeping.{NodesApart, RowsStay}
+use Rattle.script_graph.proofs.Referring.{outcome_refers_more, value_refers_more}
+use Rattle.transfer.specs.Both.{graph_outcome, graph_value}
+use Rattle.transfer.specs.Items.{FormulasStay, GrabsStay}
+use Rattle.transfer.specs.Keeping.{GrabsForms, NodesApart, RowsStay}
 use Rattle.transfer.specs.Shows.{Declares, IsOwn, IsTop, plain}
-use Rattle.transfer.proofs.Typed.{body_entry}
+use Rattle.transfer.proofs.Typed.{bind_body, body_entry}
 
 -- ---- declarations, one of which changes
 
@@ -106,8 +106,9 @@ variable_entry names s same target value fits = go (slice_get s.entries target) 
 -- ---- what is kept
 
 module _ (named : List ℕ → Option FnRef) (value : FnRef → List GraphValue → GraphValue) (k : Kept) (g : Standing (Unit {0}))
-    (sound : arena.IsSound (arena_of k)) (sound' : arena.IsSound g.nodes) (m : Moment) (target : ℕ) (w : GraphValue) (v : Value) (is_value : graph_value (node_in k.nodes) v ≡ w)
-    (sets : Sets k.graph g (node_in k.nodes target) w) (fits : AssignmentFits k.names target v) where
+    (sound : arena.IsSound (arena_of k)) (sound' : arena.IsSound g.nodes) (m : Moment) (target : ℕ) (w : GraphValue) (v : Value)
+    (is_value : graph_value (node_in k.nodes) v ≡ w)
+    (sets : Sets k.graph g (node_in k.nodes target) w) (fits : AssignmentFits k.names target v) (given : NodesGiven m.present k) where
   abbrev F : Meanings
   F = meanings_of named value
 
@@ -172,7 +173,7 @@ module _ (named : List ℕ → Option FnRef) (value : FnRef → List GraphValue 
     ]
 
     module _ (held : Represents F s k) where
-      old : IsTop (todays_graph (arena_of k)) (node_in k.nodes target) (graph.Var (graph_value (node_in k.nodes) u))
+      old : IsTop (graph_of k.graph) (node_in k.nodes target) (graph.Var (graph_value (node_in k.nodes) u))
       old = rw was at (held.declares target)
 
       -- a row that isn't the variable's stays
@@ -182,11 +183,41 @@ module _ (named : List ℕ → Option FnRef) (value : FnRef → List GraphValue 
       same_row : (r q : Row) → row_at (arena_of k) (node_in k.nodes target) ≡ Some r → row_at (arena_of k) (node_in k.nodes target) ≡ Some q → r ≡ q
       same_row r q first second = let e : Some r ≡ Some q = sym first ∙ second in cc
 
-      stays : RowsStay (todays_graph (arena_of k)) (todays_graph g.nodes)
+      stays : RowsStay (graph_of k.graph) (graph_of g)
       stays n r t is def = row_other n r (λ same.
           let row : r ≡ old.0 = same_row r old.0 (ap (row_at (arena_of k)) (sym same) ∙ is) old.1 in
           let none : plain r.def ≡ None = ap (λ (q : Row). plain q.def) row ∙ ap plain old.3 in
           let clash : None ≡ Some t = sym none ∙ def in cc) is
+
+      abbrev Of : NodeId → Type 0
+      Of n = Given (arena_of k).given n
+
+      keeps : KeepsGraph Of k g
+      keeps = record {
+        rows = stays;
+        dead = λ n low is. sets.set.changes.others n
+            (λ same. let none : row_at (arena_of k) (node_in k.nodes target) ≡ None = ap (row_at (arena_of k)) (sym same) ∙ is in
+            none-some old.0 (sym none ∙ old.1)) ∙ is;
+        built = sets.beside.built;
+      }
+
+      lives : (n : NodeId) (r : Row) → row_at (arena_of k) n ≡ Some r → (q : Row) × (row_at g.nodes n ≡ Some q)
+      lives n r is = elim (node_or n (node_in k.nodes target)) [
+        | inl same ↦ (with_value sets.set.row w, ap (row_at g.nodes) same ∙ sets.set.changes.changed)
+        | inr other ↦ (r, row_other n r other is)
+      ]
+
+      scopes_still : ScopesBuilt (graph_of k.graph) → ScopesBuilt (graph_of g)
+      scopes_still built n r b is scope = elim (node_or n (node_in k.nodes target)) [
+        | inl same ↦ absurd (
+            let here : Some (with_value sets.set.row w) ≡ Some r = sym sets.set.changes.changed ∙ (ap (row_at g.nodes) (sym same) ∙ is) in
+            let rows : with_value sets.set.row w ≡ r = cc in
+            let was = same_row old.0 sets.set.row old.1 sets.set.there in
+            let none : None ≡ Some b = sym (sym (ap (λ (q : Row). q.scope) was) ∙ old.2) ∙ (ap (λ (q : Row). q.scope) rows ∙ scope) in cc)
+        | inr other ↦
+            let was = sym (sets.set.changes.others n other) ∙ is in
+            subst (λ (x : Option BuiltFor). IsSome x) (sym (sets.beside.built b (sound.scopes n r b was scope))) (built n r b was scope)
+      ]
 
       apart : (n : ℕ) (q : Value) → body_at s n ≡ Some (Variable q) → (n ≡ target → ⊥) → node_in k.nodes n ≡ node_in k.nodes target → ⊥
       apart n q is other same =
@@ -216,10 +247,8 @@ module _ (named : List ℕ → Option FnRef) (value : FnRef → List GraphValue 
             (subst (λ (j : ℕ). Declares (beside F s' new) (node_in k.nodes j) (Some (Variable v))) (sym same) set_shows)
         | inr other ↦
             let here : body_at s n ≡ Some b = sym (others n other) ∙ is in
-            declares_still (beside F s k) (beside F s' new) (IsEarlierTarget s n) (IsDeclaredTarget s) (λ t early. refl) (λ t own. refl) stays
-            (node_in k.nodes n) (node_in k.nodes n) b refl (held.today.plain n b here)
+            declares_still Of F s k held given s' k.nodes k.bodies AnyFunction (same_serve F k) g keeps (λ t low. refl) n b here
             (λ q e r row. row_other (node_in k.nodes n) r (apart n q (here ∙ ap (λ c. Some c) e) other) row)
-            (rw here at (held.declares n))
       ]
 
       plain_each : AreNames k.names s → AllPlain s'
@@ -228,19 +257,19 @@ module _ (named : List ℕ → Option FnRef) (value : FnRef → List GraphValue 
             let body : Variable v ≡ b = let e : Some (Variable v) ≡ Some b = sym now ∙ (ap (body_at s') (sym same) ∙ is) in cc in
             let refers = value_refers_more (IsDeclaredTarget s) (IsDeclaredTarget s') target_on v
             (fitting_refers k.names s names.declared held.today.plain held.targets v fits.refers) in
-            subst (λ (c : Body). IsPlainBody (IsEarlierTarget s' n) (IsDeclaredTarget s') c) body ((tt, refers), tt)
+            subst (λ (c : Body). IsPlainBody (IsEarlierTarget s' n) (IsDeclaredTarget s') c) body (tt, refers)
         | inr other ↦ plain_body_more (IsEarlierTarget s n) (IsEarlierTarget s' n) (IsDeclaredTarget s) (IsDeclaredTarget s') (early_on n) target_on b
             (held.today.plain n b (sym (others n other) ∙ is))
       ]
 
       aged_each : (n : ℕ) (b : Body) → body_at s' n ≡ Some b
-          → OwnNodesOf (todays_graph g.nodes) (IsWithin k.nodes n) (IsPartWithin k.nodes n) (node_in k.nodes n) b
+          → OwnNodesOf (graph_of g) (IsWithin k.nodes n) (IsPartWithin k.nodes n) (node_in k.nodes n) b
       aged_each n b is = elim (cases_eq n target) [
         | inl same ↦
             let body : Variable v ≡ b = let e : Some (Variable v) ≡ Some b = sym now ∙ (ap (body_at s') (sym same) ∙ is) in cc in
-            subst (λ (c : Body). OwnNodesOf (todays_graph g.nodes) (IsWithin k.nodes n) (IsPartWithin k.nodes n) (node_in k.nodes n) c) body
+            subst (λ (c : Body). OwnNodesOf (graph_of g) (IsWithin k.nodes n) (IsPartWithin k.nodes n) (node_in k.nodes n) c) body
             (held.today.aged n (Variable u) (ap (body_at s) same ∙ was))
-        | inr other ↦ own_nodes_of_on (todays_graph (arena_of k)) (todays_graph g.nodes) (IsWithin k.nodes n) (IsWithin k.nodes n)
+        | inr other ↦ own_nodes_of_on (graph_of k.graph) (graph_of g) (IsWithin k.nodes n) (IsWithin k.nodes n)
             (IsPartWithin k.nodes n) (IsPartWithin k.nodes n) (λ q h. h) (λ q h. h) stays (node_in k.nodes n) b (held.today.aged n b (sym (others n other) ∙ is))
       ]
 
@@ -269,30 +298,37 @@ module _ (named : List ℕ → Option FnRef) (value : FnRef → List GraphValue 
           let b = was_entry j c at_j in
           held.apart i j a.0 b.0 a.1 b.1 (a.2 ∙ own_i) (b.2 ∙ own_j) same
 
-      of_items_each : (n : NodeId) (r : Row) → row_at g.nodes n ≡ Some r → IsOfItem (beside F s' new) n
-      of_items_each n r is =
-          let row = row_back n r is in
-          item_still (beside F s k) (beside F s' new) stays (λ b. refl) held.today.plain computed_still variable_still n (held.of_items n row.0 row.1)
-        where
-          row_back : (n : NodeId) (r : Row) → row_at g.nodes n ≡ Some r → (q : Row) × (row_at (arena_of k) n ≡ Some q)
-          row_back n r is = elim (node_or n (node_in k.nodes target)) [
-            | inl same ↦ (sets.set.row, ap (row_at (arena_of k)) same ∙ sets.set.there)
-            | inr other ↦ (r, sym (sets.set.changes.others n other) ∙ is)
-          ]
+      -- what is declared there is no bind, and no grab
+      bind_other : (n : ℕ) (left body : Formula) → bind_at s' n ≡ Some (left, body) → n ≡ target → ⊥
+      bind_other n left body is same =
+          let none : bind_at s' n ≡ None = ap (λ (o : Option Body). and_then o bind_of) (ap (body_at s') same ∙ now) in cc
 
-          computed_still : (j : ℕ) (f : Formula) (kept : script.Kept) → body_at s j ≡ Some (Computed f kept)
-              → (body_at s' j ≡ Some (Computed f kept)) × (node_in k.nodes j ≡ node_in k.nodes j)
-          computed_still j f kept is = elim (cases_eq j target) [
-            | inl same ↦ absurd (let e : Some (Variable u) ≡ Some (Computed f kept) = sym was ∙ (ap (body_at s) (sym same) ∙ is) in cc)
-            | inr other ↦ (others j other ∙ is, refl)
-          ]
+      built_each : BuiltAlike s' new
+      built_each n left body is =
+          let other = bind_other n left body is in
+          let was : bind_at s n ≡ Some (left, body) = ap (λ (o : Option Body). and_then o bind_of) (sym (others n other)) ∙ is in
+          let b = bind_body s n left body was in
+          built_still Of F s k held given s' k.nodes k.bodies AnyFunction (same_serve F k) g keeps (λ t low. refl) n left body was
+          (body_within s n (Computed (Bind left body) b.0) b.1)
+          ∙ ap (λ (o : Option Body). option_map (graph_outcome (node_in k.nodes)) (and_then o built_of_body)) (sym (others n other))
 
-          variable_still : (j : ℕ) (w : Value) → body_at s j ≡ Some (Variable w)
-              → (z : Value) × (body_at s' j ≡ Some (Variable z)) × (node_in k.nodes j ≡ node_in k.nodes j)
-          variable_still j w is = elim (cases_eq j target) [
-            | inl same ↦ (v, ap (body_at s') same ∙ now, refl)
-            | inr other ↦ (w, others j other ∙ is, refl)
-          ]
+      refers_each : BuiltRefers s'
+      refers_each n o is = elim (cases_eq n target) [
+        | inl same ↦ absurd (let none : built_at s' n ≡ None = ap (λ (x : Option Body). and_then x built_of_body) (ap (body_at s') same ∙ now) in cc)
+        | inr other ↦ outcome_refers_more (IsDeclaredTarget s) (IsDeclaredTarget s') target_on o
+            (held.refers n o (ap (λ (x : Option Body). and_then x built_of_body) (sym (others n other)) ∙ is))
+      ]
+
+      -- a grab or a bind was there before
+      was_there : (n : ℕ) (b : Body) → ((q : Value) → b ≡ Variable q → ⊥) → body_at s' n ≡ Some b → body_at s n ≡ Some b
+      was_there n b no_variable is = elim (cases_eq n target) [
+        | inl same ↦ absurd (let e : Some (Variable v) ≡ Some b = sym now ∙ (ap (body_at s') (sym same) ∙ is) in no_variable v (cc))
+        | inr other ↦ sym (others n other) ∙ is
+      ]
+
+      grabs_each : GrabsForms s'
+      grabs_each n b q left t kept is bind =
+          held.grabs n b q left t kept (was_there n (Grab b q true) (λ z e. cc) is) (was_there b (Computed (Bind left (Name t)) kept) (λ z e. cc) bind)
 
       set_represents : AreNames k.names s → Represents F s' new
       set_represents names = record {
@@ -302,7 +338,9 @@ module _ (named : List ℕ → Option FnRef) (value : FnRef → List GraphValue 
         declares = λ n. declares_each n (body_at s' n) refl;
         targets = targets_each;
         apart = apart_each;
-        of_items = of_items_each;
+        built = built_each;
+        refers = refers_each;
+        grabs = grabs_each;
         today = record {
           plain = plain_each names;
           aged = aged_each;
@@ -321,8 +359,13 @@ module _ (named : List ℕ → Option FnRef) (value : FnRef → List GraphValue 
     ]
 
     watches_after : MatchesMoment F k m → Watches s' new
-    watches_after h =
-        watches_on s s' k new sets.beside refl refl refl refl (λ n b is. refl) (node_given F s k h.represents sound) body_stays target_on h.watches
+    watches_after h = watches_on s s' k new sets.beside refl refl refl refl (λ n b is. refl) given body_stays target_on h.watches
+
+    grabs_live : GrabsStay s s'
+    grabs_live n b q live = elim (cases_eq n target) [
+      | inl same ↦ absurd (let e : Some (Grab b q true) ≡ Some (Variable u) = sym live ∙ (ap (body_at s) same ∙ was) in cc)
+      | inr other ↦ others n other ∙ live
+    ]
 
     settled_after : MatchesMoment F k m → m.broken ≡ None → Settled F m.settled s' new
     settled_after h whole =
@@ -330,8 +373,10 @@ module _ (named : List ℕ → Option FnRef) (value : FnRef → List GraphValue 
           formulas = formulas_on;
           targets = targets_on;
           names = λ n d is. refl;
-          rows = stays h.represents;
-        }) (λ x among is. among) (h.settled whole)
+          rows = stays (h.represents whole);
+          lives = lives (h.represents whole);
+          built = λ n q is. sets.beside.built n (sound.given n (rw is refl));
+        }) grabs_live (scopes_still (h.represents whole)) (λ x among is. among) (h.settled whole)
 
     names_on : AreNames k.names s → AreNames k.names s'
     names_on h = record {
@@ -349,7 +394,7 @@ module _ (named : List ℕ → Option FnRef) (value : FnRef → List GraphValue 
         names = names_on d.0 d.1 d.2 d.3 h.names;
         accepted = h.accepted;
         broken = h.broken;
-        represents = set_represents d.0 d.1 d.2 d.3 h.represents h.names;
+        represents = λ whole. set_represents d.0 d.1 d.2 d.3 (h.represents whole) h.names;
         watches = watches_after d.0 d.1 d.2 d.3 h;
         settled = settled_after d.0 d.1 d.2 d.3 h;
       }

@@ -5,14 +5,14 @@ use Rattle.inc_value.specs.declared.node.ObsId.{ObsId}
 use Rattle.graph.specs.Standing.{Standing, node_at, shown_of}
 use Rattle.graph.specs.declared.observer.Observer.{Observer as Looking}
 use Rattle.script_model.specs.Evaluate.{NameGives}
-use Rattle.script_model.specs.Formula.{State, Observer, Watch, Meanings, Unwatched}
+use Rattle.script_model.specs.Formula.{State, Body, Observer, Watch, Meanings, body_at, Unwatched}
 use Rattle.script_model.specs.Settle.{ShowAll, showing, notices_of, watch_after}
 use Rattle.script_model.specs.Values.{Outcome}
 use Rattle.script_graph.specs.Kept.{Kept, node_in}
 use Rattle.script_graph.specs.Represents.{there_in, IsObserver, Watches}
 use Rattle.script_graph.specs.Today.{IsDeclaredTarget, RefersTo}
 use Rattle.script_graph.proofs.Held.{was_there}
-use Rattle.script_graph.proofs.Same.{observed_so}
+use Rattle.script_graph.proofs.Referring.{outcome_refers_more}
 use Rattle.transfer.specs.Both.{graph_outcome}
 
 module _ (F : Meanings) (s : State) (k : Kept) (g : Standing (Unit {0})) where
@@ -89,10 +89,10 @@ module _ (F : Meanings) (s : State) (k : Kept) (g : Standing (Unit {0})) where
   names_then (None ∷ made) all = names_then made all
   names_then (Some x ∷ made) all = ap (λ (ns : List (List ℕ)). x.name ∷ ns) (names_then made all.1)
 
-  module _ (w : Watches s k) (all : AllShow w.made) (accepted count : ℕ) (same : g.observers ≡ k.graph.observers) (rooted : g.rooted ≡ length g.observers) where
-    abbrev then : State
-    then = observed_so s (there_in (made_then w.made all)) accepted
-
+  module _ (w : Watches s k) (all : AllShow w.made) (then : State) (count : ℕ) (are : then.observers ≡ there_in (made_then w.made all))
+      (stays : (n : ℕ) (b : Body) → body_at s n ≡ Some b → (d : Body) × (body_at then n ≡ Some d))
+      (declared : (t : ℕ) → IsDeclaredTarget s t → IsDeclaredTarget then t)
+      (same : g.observers ≡ k.graph.observers) (rooted : g.rooted ≡ length g.observers) where
     abbrev new : Kept
     new = record k { accepted = count; graph = g }
 
@@ -102,7 +102,7 @@ module _ (F : Meanings) (s : State) (k : Kept) (g : Standing (Unit {0})) where
     looks_then : (o : ObsId) (x : Observer) (p : Outcome) → slice_get w.made o.0 ≡ Some (Some x) → ShowsThen x p → IsObserver then new o (showing x p)
     looks_then o x p at shows = record {
       looks = looks_so o x at;
-      target = (w.observing o x at).target;
+      target = let b = (w.observing o x at).target in stays x.target b.0 b.1;
       shown = record {
         earlier = λ before. (p, refl, λ whole. shows.shown);
         later = λ never.
@@ -111,7 +111,8 @@ module _ (F : Meanings) (s : State) (k : Kept) (g : Standing (Unit {0})) where
             let all_of : length g.observers ≡ length k.graph.observers = ap length same in
             absurd (never (was_there g o (node_in k.nodes x.target) (omega (arith, within, each, all_of, rooted)) (looks_so o x at)));
       };
-      refers = λ q is. let same : p ≡ q = (let e : Some p ≡ Some q = is in cc) in subst (RefersTo (IsDeclaredTarget then)) same shows.refers;
+      refers = λ q is. let one : p ≡ q = (let e : Some p ≡ Some q = is in cc) in
+          subst (RefersTo (IsDeclaredTarget then)) one (outcome_refers_more (IsDeclaredTarget s) (IsDeclaredTarget then) declared p shows.refers);
       today = record { unwatched = ap (λ (v : Watch). watch_after v p) shows.unwatched };
     }
 
@@ -120,7 +121,7 @@ module _ (F : Meanings) (s : State) (k : Kept) (g : Standing (Unit {0})) where
     watches_then = record {
       made = made_then w.made all;
       one_each = length_then w.made all ∙ (w.one_each ∙ sym (ap length same));
-      in_order = refl;
+      in_order = are;
       ended = λ o e. subst (λ (os : List Looking). node_at os o ≡ None) (sym same) (w.ended o (ended_then w.made all o.0 e));
       observing = λ o y e.
           let r = was_then w.made all o.0 y e in

@@ -1,5 +1,5 @@
 -- What is kept of a script still fits together.
-use Rattle.std.proofs.Common.{◌≡◌, ◌⊎◌, inl, inr, ℕ, ◌+◌, ◌<◌, ◌≤◌, List, [], ◌∷◌, ◌++◌, length, None, Some, IsSome, refl, ap, sym, subst, ◌∙◌, arith, slice_get}
+use Rattle.std.proofs.Common.{◌≡◌, ◌⊎◌, inl, inr, ℕ, ◌+◌, ◌<◌, ◌≤◌, List, [], ◌∷◌, ◌++◌, length, Option, None, Some, IfSome, IsSome, refl, ap, sym, subst, ◌∙◌, arith, slice_get}
 use Rattle.std.proofs.lemmas.Bool.{cases_eq}
 use Rattle.std.proofs.lemmas.List.{length-append, get_or_append_left, get_or_at}
 use Rattle.std.proofs.lemmas.Option.{slice_get_within}
@@ -10,21 +10,21 @@ use Rattle.graph.specs.declared.observer.Observer.{Observer as Looking}
 use Rattle.inc_value.specs.declared.node.NodeId.{NodeId}
 use Rattle.inc_value.specs.declared.ty.Ty.{Ty}
 use Rattle.inc_value.specs.declared.value.Value.{Value as GraphValue}
-use Rattle.inc_terms.specs.Graph.{Row, Var}
+use Rattle.inc_terms.specs.Graph.{Row, Bind, Var}
+use Rattle.inc_terms.specs.Within.{Given}
 use Rattle.link_table.proofs.Lists.{get_append_last, get_append_other}
-use Rattle.node_arena.specs.Arena.{Arena, row_at, live, IsLive, IsVariable, with_value}
+use Rattle.node_arena.specs.Arena.{Arena, row_at, IsVariable, with_value}
+use Rattle.node_arena.specs.Typing.{Fits}
+use Rattle.script_functions.specs.Bodies as Bodies
 use Rattle.node_arena.specs.Sound as arena
-use Rattle.script_model.specs.Check.{Declared, Variable as VariableKind, Grab as GrabKind, kind_of_body, target_of_body}
+use Rattle.script_model.specs.Check.{Declared, Kind, Grab as GrabKind, kind_of_body, target_of_body}
 use Rattle.script_model.specs.Formula.{Body}
 use Rattle.script_graph.specs.Growing.{Extends}
 use Rattle.script_graph.specs.Kept.{Kept, arena_of, node_in, no_node}
-use Rattle.script_graph.specs.Sound.{HasTarget, HasLiveNode, HasNode, HaveNodes, IsSound}
-use Rattle.script_graph.specs.Today.{NoGrabs}
-use Rattle.script_graph.proofs.Counting.{live_within}
+use Rattle.script_graph.specs.Sound.{AreFew, HasTarget, HasLiveNode, HasNode, HaveNodes, IsLiveBind, IsSound, weight_at, weight_of}
+use Rattle.script_graph.proofs.Few.{sum_less}
 use Rattle.script_graph.proofs.Declaring.{with_declared}
-use Rattle.script_graph.proofs.Extending.{live_stays, flat_on}
-use Rattle.stabilizer.specs.Kept.{HasNoBinds}
-use Rattle.wiring.specs.Kept.{IsBind}
+use Rattle.script_graph.proofs.Extending.{live_stays}
 
 -- what is declared at a position
 abbrev pub declared_at : ℕ → List ℕ → Ty → Body → Declared
@@ -38,24 +38,35 @@ declared_still ds last n d is = let low = slice_get_within ds n d is in get_appe
 variable_on : (a a' : Arena) (n : NodeId) → ((r : Row) → row_at a n ≡ Some r → row_at a' n ≡ Some r) → IsVariable a n → IsVariable a' n
 variable_on a a' n stay v = record { row = v.row; value = v.value; there = stay v.row v.there; variable = v.variable }
 
--- today the target of each declaration has a live node
-pub target_live : (a : Arena) (declared : List Declared) (nodes : List NodeId) → HaveNodes a declared nodes → NoGrabs declared
-    → (n : ℕ) (d : Declared) → slice_get declared n ≡ Some d
-    → (t : Declared) × (slice_get declared d.target ≡ Some t) × (t.ty ≡ d.ty) × HasLiveNode a nodes d.target t
-target_live a declared nodes has none n d is =
-    let t = (has n d is).target in
-    (t.target, t.is_target, t.typed, (has d.target t.target t.is_target).live t.itself (none d.target t.target t.is_target))
+bind_on : (a a' : Arena) (n : NodeId) → ((r : Row) → row_at a n ≡ Some r → row_at a' n ≡ Some r) → IsLiveBind a n → IsLiveBind a' n
+bind_on a a' n stay (r, left, f, captures, is, def) = (r, left, f, captures, stay r is, def)
 
--- so has each declaration
-pub node_live : (a : Arena) (declared : List Declared) (nodes : List NodeId) → HaveNodes a declared nodes → NoGrabs declared
-    → (n : ℕ) (d : Declared) → slice_get declared n ≡ Some d → IsLive a (node_in nodes n)
-node_live a declared nodes has none n d is =
-    let node = (target_live a declared nodes has none n d is).3 in
-    subst (IsLive a) (has n d is).target.node (rw node.is_row refl)
+kind_or : (k : Kind) → (k ≡ GrabKind) ⊎ (k ≡ GrabKind → ⊥)
+kind_or GrabKind = inl refl
+kind_or k = inr (λ e. cc)
 
--- a variable is no bind
-variable_no_bind : (v : GraphValue) → IsBind (Var v) → ⊥
-variable_no_bind v (l, f, captures, e) = cc
+row_fits : (a : Arena) (n : NodeId) (t : Ty) (r : Row) → row_at a n ≡ Some r → r.ty ≡ t → Fits a n t
+row_fits a n t r row ty = subst (λ (o : Option Row). IfSome o (λ (q : Row). q.ty ≡ t)) (sym row) ty
+
+module _ (a : Arena) (sound : arena.IsSound a) (declared : List Declared) (nodes : List NodeId) (has : HaveNodes a declared nodes) where
+  -- the node of what stands for itself was given, and is of its type or dead
+  own_fits : (n : ℕ) (d : Declared) → slice_get declared n ≡ Some d → d.target ≡ n → Given a.given (node_in nodes n) × Fits a (node_in nodes n) d.ty
+  own_fits n d is itself = elim (kind_or d.kind) [
+    | inl grab ↦ (has n d is).grab itself grab
+    | inr other ↦
+        let live = (has n d is).live itself other in
+        (sound.given (node_in nodes n) (rw live.is_row refl), row_fits a (node_in nodes n) d.ty live.row live.is_row live.typed)
+  ]
+
+  -- so is the node of each declaration
+  pub node_fits : (n : ℕ) (d : Declared) → slice_get declared n ≡ Some d → Given a.given (node_in nodes n) × Fits a (node_in nodes n) d.ty
+  node_fits n d is =
+      let t = (has n d is).target in
+      let own = own_fits d.target t.target t.is_target t.itself in
+      subst (λ (q : NodeId). Given a.given q × Fits a q d.ty) t.node (own.0, subst (Fits a (node_in nodes d.target)) t.typed own.1)
+
+  pub node_given : (n : ℕ) (d : Declared) → slice_get declared n ≡ Some d → Given a.given (node_in nodes n)
+  node_given n d is = (node_fits n d is).0
 
 module _ (k : Kept) (h : IsSound k) (sound : arena.IsSound (arena_of k)) where
   module _ (g : Standing (Unit {0})) (more : Extends k.graph g) where
@@ -70,19 +81,30 @@ module _ (k : Kept) (h : IsSound k) (sound : arena.IsSound (arena_of k)) where
       row = node.row;
       is_row = live_stays k.graph g sound more (node_in k.nodes n) node.row node.is_row;
       typed = node.typed;
+      outside = node.outside;
       variable = λ kind. variable_on (arena_of k) g.nodes (node_in k.nodes n) (live_stays k.graph g sound more (node_in k.nodes n)) (node.variable kind);
+      bind = λ kind. bind_on (arena_of k) g.nodes (node_in k.nodes n) (live_stays k.graph g sound more (node_in k.nodes n)) (node.bind kind);
     }
 
-    node_on : (n : ℕ) (d : Declared) → HasNode (arena_of k) k.names.declared k.nodes n d → HasNode g.nodes k.names.declared k.nodes n d
-    node_on n d node = record { target = node.target; live = λ itself no_grab. live_on n d (node.live itself no_grab) }
+    -- a given node that fits a type does so still
+    fits_on : (n : NodeId) (t : Ty) → Given (arena_of k).given n × Fits (arena_of k) n t → Given g.nodes.given n × Fits g.nodes n t
+    fits_on n t (given, fits) = (
+      (let later = more.given in omega (arith, given, later)),
+      subst (λ (o : Option Row). IfSome o (λ (q : Row). q.ty ≡ t)) (sym (more.rows n given)) fits,
+    )
 
-    -- where nodes were added, and the room for those that are declared stays
-    pub sound_on : live g.nodes + k.room ≤ 1048575 → IsSound (record k { graph = g })
-    sound_on few = record {
+    node_on : (n : ℕ) (d : Declared) → HasNode (arena_of k) k.names.declared k.nodes n d → HasNode g.nodes k.names.declared k.nodes n d
+    node_on n d node = record {
+      target = node.target;
+      live = λ itself no_grab. live_on n d (node.live itself no_grab);
+      grab = λ itself grab. fits_on (node_in k.nodes n) d.ty (node.grab itself grab);
+    }
+
+    -- where nodes were added and bodies kept, and the room for those that are declared stays
+    pub sound_on : (bodies : List Bodies.Body) → AreFew bodies g.nodes k.room → IsSound (record k { bodies = bodies; graph = g })
+    sound_on bodies few = record {
       one_node_each = h.one_node_each;
       has_nodes = λ n d is. node_on n d (h.has_nodes n d is);
-      today = h.today;
-      flat = flat_on k.graph g more h.flat;
       few = few;
       one_observer_each = h.one_observer_each;
       looking = λ o among. looks_on o (h.looking o among);
@@ -90,13 +112,14 @@ module _ (k : Kept) (h : IsSound k) (sound : arena.IsSound (arena_of k)) where
       unbroken = unbroken_on;
     }
 
-    module _ (name : List ℕ) (ty : Ty) (body : Body) (root : NodeId) (room : ℕ) (r : Row) (row : row_at g.nodes root ≡ Some r) (typed : r.ty ≡ ty)
-        (variable : kind_of_body body ≡ VariableKind → IsVariable g.nodes root)
-        (no_grab : kind_of_body body ≡ GrabKind → ⊥)
-        (target : HasTarget (with_declared k name ty body root room g).names.declared (k.nodes ++ root ∷ []) (length k.names.declared)
-        (declared_at (length k.names.declared) name ty body)) where
+    module _ (name : List ℕ) (ty : Ty) (body : Body) (root : NodeId) (room : ℕ) (bodies : List Bodies.Body)
+        (grab_fits : kind_of_body body ≡ GrabKind → Given g.nodes.given root × Fits g.nodes root ty)
+        (target : HasTarget (k.names.declared ++ declared_at (length k.names.declared) name ty body ∷ []) (k.nodes ++ root ∷ []) (length k.names.declared)
+        (declared_at (length k.names.declared) name ty body))
+        (live : target_of_body (length k.names.declared) body ≡ length k.names.declared → (kind_of_body body ≡ GrabKind → ⊥)
+        → HasLiveNode g.nodes (k.nodes ++ root ∷ []) (length k.names.declared) (declared_at (length k.names.declared) name ty body)) where
       abbrev new : Kept
-      new = with_declared k name ty body root room g
+      new = with_declared k name ty body root room bodies g
 
       abbrev last : Declared
       last = declared_at (length k.names.declared) name ty body
@@ -125,21 +148,19 @@ module _ (k : Kept) (h : IsSound k) (sound : arena.IsSound (arena_of k)) where
         row = node.row;
         is_row = ap (row_at g.nodes) (node_low n d is) ∙ node.is_row;
         typed = node.typed;
+        outside = node.outside;
         variable = λ kind. subst (λ (q : NodeId). IsVariable g.nodes q) (sym (node_low n d is)) (node.variable kind);
+        bind = λ kind. subst (λ (q : NodeId). IsLiveBind g.nodes q) (sym (node_low n d is)) (node.bind kind);
       }
 
       has_old : (n : ℕ) (d : Declared) → slice_get k.names.declared n ≡ Some d → HasNode g.nodes new.names.declared new.nodes n d
       has_old n d is =
           let node = node_on n d (h.has_nodes n d is) in
-          record { target = target_old n d is node.target; live = λ itself no_grab. live_old n d is (node.live itself no_grab) }
-
-      live_new : HasLiveNode g.nodes new.nodes (length k.names.declared) last
-      live_new = record {
-        row = r;
-        is_row = ap (row_at g.nodes) node_new ∙ row;
-        typed = typed;
-        variable = λ kind. subst (λ (q : NodeId). IsVariable g.nodes q) (sym node_new) (variable kind);
-      }
+          record {
+            target = target_old n d is node.target;
+            live = λ itself no_grab. live_old n d is (node.live itself no_grab);
+            grab = λ itself grab. subst (λ (q : NodeId). Given g.nodes.given q × Fits g.nodes q d.ty) (sym (node_low n d is)) (node.grab itself grab);
+          }
 
       -- each declaration is an earlier one, or the last
       old_or_last : (n : ℕ) (d : Declared) → slice_get new.names.declared n ≡ Some d
@@ -157,24 +178,20 @@ module _ (k : Kept) (h : IsSound k) (sound : arena.IsSound (arena_of k)) where
         | inr e ↦
             subst (λ (c : Declared). HasNode g.nodes new.names.declared new.nodes n c) e.1
             (subst (λ (j : ℕ). HasNode g.nodes new.names.declared new.nodes j last) (sym e.0)
-            (record { target = target; live = λ itself no_grab. live_new }))
-      ]
-
-      no_grabs : NoGrabs new.names.declared
-      no_grabs n d is grab = elim (old_or_last n d is) [
-        | inl old ↦ h.today n d old grab
-        | inr e ↦ no_grab (ap (λ (c : Declared). c.kind) e.1 ∙ grab)
+            (record {
+              target = target;
+              live = λ itself other. live itself other;
+              grab = λ itself grab. subst (λ (q : NodeId). Given g.nodes.given q × Fits g.nodes q ty) (sym node_new) (grab_fits grab);
+            }))
       ]
 
       -- where a declaration was added, with less room
-      pub sound_declared : live g.nodes + room ≤ 1048575 → IsSound new
+      pub sound_declared : AreFew bodies g.nodes room → IsSound new
       sound_declared few = record {
         one_node_each =
             let nodes = length-append k.nodes (root ∷ []) in
             let names = length-append k.names.declared (last ∷ []) in omega (arith, h.one_node_each, nodes, names);
         has_nodes = has_each;
-        today = no_grabs;
-        flat = flat_on k.graph g more h.flat;
         few = few;
         one_observer_each = h.one_observer_each;
         looking = λ o among. looks_on o (h.looking o among);
@@ -196,18 +213,23 @@ module _ (k : Kept) (h : IsSound k) (sound : arena.IsSound (arena_of k)) where
     same_row : (p : NodeId) (r q : Row) → row_at (arena_of k) p ≡ Some r → row_at (arena_of k) p ≡ Some q → r ≡ q
     same_row p r q left right = let e : Some r ≡ Some q = sym left ∙ right in cc
 
-    row_set : (p : NodeId) (r : Row) → row_at (arena_of k) p ≡ Some r → (q : Row) × (row_at g.nodes p ≡ Some q) × (q.ty ≡ r.ty)
+    row_set : (p : NodeId) (r : Row) → row_at (arena_of k) p ≡ Some r → (q : Row) × (row_at g.nodes p ≡ Some q) × (q.ty ≡ r.ty) × (q.scope ≡ r.scope)
     row_set p r is = elim (node_or p n) [
       | inl same ↦
           let row = same_row p sets.set.row r (ap (row_at (arena_of k)) same ∙ sets.set.there) is in
-          (with_value sets.set.row w, ap (row_at g.nodes) same ∙ sets.set.changes.changed, ap (λ (x : Row). x.ty) row)
-      | inr other ↦ (r, sets.set.changes.others p other ∙ is, refl)
+          (with_value sets.set.row w, ap (row_at g.nodes) same ∙ sets.set.changes.changed, ap (λ (x : Row). x.ty) row, ap (λ (x : Row). x.scope) row)
+      | inr other ↦ (r, sets.set.changes.others p other ∙ is, refl, refl)
     ]
 
-    row_back : (p : NodeId) (r : Row) → row_at g.nodes p ≡ Some r → (q : Row) × (row_at (arena_of k) p ≡ Some q)
+    row_back : (p : NodeId) (r : Row) → row_at g.nodes p ≡ Some r → (q : Row) × (row_at (arena_of k) p ≡ Some q) × (q.scope ≡ r.scope)
     row_back p r is = elim (node_or p n) [
-      | inl same ↦ (sets.set.row, ap (row_at (arena_of k)) same ∙ sets.set.there)
-      | inr other ↦ (r, sym (sets.set.changes.others p other) ∙ is)
+      | inl same ↦ (
+        sets.set.row,
+        ap (row_at (arena_of k)) same ∙ sets.set.there,
+        (let e : Some (with_value sets.set.row w) ≡ Some r = sym sets.set.changes.changed ∙ (ap (row_at g.nodes) (sym same) ∙ is) in
+            let rows : with_value sets.set.row w ≡ r = cc in ap (λ (x : Row). x.scope) rows),
+      )
+      | inr other ↦ (r, sym (sets.set.changes.others p other) ∙ is, refl)
     ]
 
     variable_set : (p : NodeId) → IsVariable (arena_of k) p → IsVariable g.nodes p
@@ -221,30 +243,72 @@ module _ (k : Kept) (h : IsSound k) (sound : arena.IsSound (arena_of k)) where
       | inr other ↦ record { row = v.row; value = v.value; there = sets.set.changes.others p other ∙ v.there; variable = v.variable }
     ]
 
-    live_set : (i : ℕ) (d : Declared) → HasLiveNode (arena_of k) k.nodes i d → HasLiveNode g.nodes k.nodes i d
-    live_set i d node =
-        let r = row_set (node_in k.nodes i) node.row node.is_row in
-        record { row = r.0; is_row = r.1; typed = r.2 ∙ node.typed; variable = λ kind. variable_set (node_in k.nodes i) (node.variable kind) }
-
-    has_set : (i : ℕ) (d : Declared) → HasNode (arena_of k) k.names.declared k.nodes i d → HasNode g.nodes k.names.declared k.nodes i d
-    has_set i d node = record { target = node.target; live = λ itself no_grab. live_set i d (node.live itself no_grab) }
-
-    flat_set : HasNoBinds g.nodes
-    flat_set p r is = elim (node_or p n) [
-      | inl same ↦
-          let e : Some (with_value sets.set.row w) ≡ Some r = sym sets.set.changes.changed ∙ (ap (row_at g.nodes) (sym same) ∙ is) in
-          let row : with_value sets.set.row w ≡ r = cc in
-          subst (λ (q : Row). IsBind q.def → ⊥) row (variable_no_bind w)
-      | inr other ↦ h.flat p r (sym (sets.set.changes.others p other) ∙ is)
+    -- a bind isn't the variable that is set
+    bind_set : IsVariable (arena_of k) n → (p : NodeId) → IsLiveBind (arena_of k) p → IsLiveBind g.nodes p
+    bind_set v p (r, left, f, captures, is, def) = elim (node_or p n) [
+      | inl same ↦ absurd (
+          let row : r ≡ v.row = same_row n r v.row (ap (row_at (arena_of k)) (sym same) ∙ is) v.there in
+          let clash : Bind left f captures ≡ Var v.value = sym def ∙ (ap (λ (q : Row). q.def) row ∙ v.variable) in cc)
+      | inr other ↦ (r, left, f, captures, sets.set.changes.others p other ∙ is, def)
     ]
 
-    pub sound_set : IsSound (record k { graph = g })
-    sound_set = record {
+    live_set : IsVariable (arena_of k) n → (i : ℕ) (d : Declared) → HasLiveNode (arena_of k) k.nodes i d → HasLiveNode g.nodes k.nodes i d
+    live_set v i d node =
+        let r = row_set (node_in k.nodes i) node.row node.is_row in
+        record {
+          row = r.0;
+          is_row = r.1;
+          typed = r.2 ∙ node.typed;
+          outside = r.3 ∙ node.outside;
+          variable = λ kind. variable_set (node_in k.nodes i) (node.variable kind);
+          bind = λ kind. bind_set v (node_in k.nodes i) (node.bind kind);
+        }
+
+    fits_set : (p : NodeId) (t : Ty) → Given (arena_of k).given p × Fits (arena_of k) p t → Given g.nodes.given p × Fits g.nodes p t
+    fits_set p t (given, fits) = ((let same = sets.given in omega (arith, given, same)), go (row_at g.nodes p) refl)
+      where
+        go : (o : Option Row) → row_at g.nodes p ≡ o → Fits g.nodes p t
+        go None is = rw is tt
+        go (Some r) is =
+            let back = row_back p r is in
+            let again = row_set p back.0 back.1 in
+            let rows : again.0 ≡ r = (let e : Some again.0 ≡ Some r = sym again.1 ∙ is in cc) in
+            let was : back.0.ty ≡ t = rw back.1 at fits in
+            row_fits g.nodes p t r is (sym (ap (λ (q : Row). q.ty) rows) ∙ (again.2 ∙ was))
+
+    has_set : IsVariable (arena_of k) n → (i : ℕ) (d : Declared) → HasNode (arena_of k) k.names.declared k.nodes i d → HasNode g.nodes k.names.declared k.nodes i d
+    has_set v i d node = record {
+      target = node.target;
+      live = λ itself no_grab. live_set v i d (node.live itself no_grab);
+      grab = λ itself grab. fits_set (node_in k.nodes i) d.ty (node.grab itself grab);
+    }
+
+    -- no node weighs more
+    weight_set : IsVariable (arena_of k) n → (p : NodeId) → weight_at k.bodies g.nodes p ≤ weight_at k.bodies (arena_of k) p
+    weight_set v p = elim (node_or p n) [
+      | inl same ↦
+          let here : weight_at k.bodies g.nodes p ≡ 1 = rw (same, sets.set.changes.changed, weight_at) refl in
+          let row : sets.set.row ≡ v.row = same_row n sets.set.row v.row sets.set.there v.there in
+          let was : weight_at k.bodies (arena_of k) p ≡ weight_of k.bodies (Var v.value) = (rw (same, v.there, weight_at) refl) ∙ ap (weight_of k.bodies) v.variable in
+          omega (arith, here, was)
+      | inr other ↦
+          let same : weight_at k.bodies g.nodes p ≡ weight_at k.bodies (arena_of k) p = rw (sets.set.changes.others p other, weight_at) refl in omega (arith, same)
+    ]
+
+    few_set : IsVariable (arena_of k) n → AreFew k.bodies g.nodes k.room
+    few_set v = record {
+      tops = h.few.tops;
+      given = λ p among. let low = h.few.given p among in let same = sets.given in omega (arith, low, same);
+      all = λ p r is scope. let q = row_back p r is in h.few.all p q.0 q.1 (q.2 ∙ scope);
+      weight = let less = sum_less (weight_at k.bodies g.nodes) (weight_at k.bodies (arena_of k)) h.few.tops (λ p among. weight_set v p) in
+          let most = h.few.weight in omega (arith, less, most);
+    }
+
+    pub sound_set : IsVariable (arena_of k) n → IsSound (record k { graph = g })
+    sound_set v = record {
       one_node_each = h.one_node_each;
-      has_nodes = λ i d is. has_set i d (h.has_nodes i d is);
-      today = h.today;
-      flat = flat_set;
-      few = let count = live_within (arena_of k) g.nodes row_back in omega (arith, count, h.few);
+      has_nodes = λ i d is. has_set v i d (h.has_nodes i d is);
+      few = few_set v;
       one_observer_each = h.one_observer_each;
       looking = λ o among. subst (λ (os : List Looking). IsSome (standing.node_at os o)) (sym sets.beside.observers) (h.looking o among);
       apart = h.apart;

@@ -1,22 +1,29 @@
--- How many calls one visit of each place makes: the places of a state that call functions.
-use Rattle.std.proofs.Common.{◌≡◌, inr, ℕ, zero, suc, ◌+◌, ◌≤◌, List, [], ◌∷◌, ◌++◌, Some, sym, subst, arith, slice_get}
+-- How many calls one visit of each place makes: the places of a state that call functions, whatever the values of the binds round them.
+use Rattle.std.proofs.Common.{◌≡◌, inr, ℕ, zero, suc, true, ◌+◌, ◌≤◌, List, [], ◌∷◌, ◌++◌, map, Some, sym, subst, arith, slice_get}
 use Rattle.std.specs.List.{sum_by}
 use Rattle.std.proofs.lemmas.List.Sums.{sum_by-append, sum_by-cons}
 use Rattle.inc_terms.proofs.Plan.{among_left, among_right}
 use Rattle.inc_value.specs.Choice.{Among, and_then}
-use Rattle.script_model.specs.Formula.{State, Entry, Body, Formula, Formulas, body_at, formula_of_body, Literal, Name, Apply, Fold, If, Join, End, More, Variable, Computed}
-use Rattle.script_model.specs.Need.{Edge, Argument, Test, Then, Else, Child, Item, Place, argument_at, part_at, part_of, formula_at}
+use Rattle.script_model.specs.Formula.{State, Entry, Body, Formula, Formulas, body_at, formula_of_body, Literal, Name, Bound, Apply, Fold, If, Join, Bind, End, More, Variable, Computed, Grab}
+use Rattle.script_model.specs.Need.{Edge, Argument, Test, Then, Else, Child, Left, Inside, argument_at, part_at, part_of, formula_at}
+use Rattle.script_model.specs.Laws.{bare}
+use Rattle.script_model.specs.Values as value
 use Rattle.script_model.specs.Run.{calls_in, calls_in_all, count_in, calls_of_body, most_calls}
 use Rattle.formula_elab.specs.Today.{IsLaidOut}
 use Rattle.script_graph.specs.Today.{AllPlain}
-use Rattle.script_graph.proofs.Plain.{laid_within}
+use Rattle.script_graph.proofs.Plain.{binds_round, laid_within}
 use Rattle.transfer.proofs.Places.{then_some}
 use Rattle.transfer.proofs.Typed.{body_entry}
 
--- a place, and how many calls of its function one visit makes
+-- a place, by its bare path, and how many calls of its function one visit makes
 pub record Spot : Type 0 where
-  pub item : Item
+  pub owner : ℕ
+  pub path : List Edge
   pub cost : ℕ
+
+-- into a bind's body, whatever its value
+abbrev pub within : Edge
+within = bare (Inside (value.Bool true))
 
 -- how many calls they make in all
 abbrev pub costs : List Spot → ℕ
@@ -27,12 +34,13 @@ costs spots = sum_by (λ (y : Spot). y.cost) spots
 abbrev mutual
   -- the places that call functions, of a formula that stands at a path
   pub spots_in : ℕ → List Edge → Formula → List Spot
-  spots_in owner path (Apply f arguments) = record { item = Place owner path; cost = 1 } ∷ spots_each owner path 0 arguments
+  spots_in owner path (Apply f arguments) = record { owner = owner; path = path; cost = 1 } ∷ spots_each owner path 0 arguments
   spots_in owner path (Fold f first elements) =
-      record { item = Place owner path; cost = count_in elements } ∷ spots_each owner path 0 elements
+      record { owner = owner; path = path; cost = count_in elements } ∷ spots_each owner path 0 elements
   spots_in owner path (If test a b) =
       spots_in owner (Test ∷ path) test ++ (spots_in owner (Then ∷ path) a ++ spots_in owner (Else ∷ path) b)
   spots_in owner path (Join child) = spots_in owner (Child ∷ path) child
+  spots_in owner path (Bind left body) = spots_in owner (Left ∷ path) left ++ spots_in owner (within ∷ path) body
   spots_in owner path f = []
 
   -- those of its arguments, from the k-th on
@@ -44,11 +52,11 @@ mutual
   formula_costs : (owner : ℕ) (path : List Edge) (f : Formula) → costs (spots_in owner path f) ≤ calls_in f
   formula_costs owner path (Apply f arguments) =
       let rest = each_costs owner path 0 arguments in
-      let all = sum_by-cons (λ (y : Spot). y.cost) (record { item = Place owner path; cost = 1 }) (spots_each owner path 0 arguments) in
+      let all = sum_by-cons (λ (y : Spot). y.cost) (record { owner = owner; path = path; cost = 1 }) (spots_each owner path 0 arguments) in
       omega (arith, rest, all)
   formula_costs owner path (Fold f first elements) =
       let rest = each_costs owner path 0 elements in
-      let all = sum_by-cons (λ (y : Spot). y.cost) (record { item = Place owner path; cost = count_in elements }) (spots_each owner path 0 elements) in
+      let all = sum_by-cons (λ (y : Spot). y.cost) (record { owner = owner; path = path; cost = count_in elements }) (spots_each owner path 0 elements) in
       omega (arith, rest, all)
   formula_costs owner path (If test a b) =
       let first = formula_costs owner (Test ∷ path) test in
@@ -59,6 +67,11 @@ mutual
       (spots_in owner (Then ∷ path) a ++ spots_in owner (Else ∷ path) b) in
       omega (arith, first, second, third, sides, all)
   formula_costs owner path (Join child) = formula_costs owner (Child ∷ path) child
+  formula_costs owner path (Bind left body) =
+      let first = formula_costs owner (Left ∷ path) left in
+      let second = formula_costs owner (within ∷ path) body in
+      let all = sum_by-append (λ (y : Spot). y.cost) (spots_in owner (Left ∷ path) left) (spots_in owner (within ∷ path) body) in
+      omega (arith, first, second, all)
   formula_costs owner path f = omega arith
 
   each_costs : (owner : ℕ) (path : List Edge) (k : ℕ) (fs : Formulas) → costs (spots_each owner path k fs) ≤ calls_in_all fs
@@ -91,35 +104,42 @@ module _ (owner : ℕ) (y : Spot) where
       let same : j ≡ 0 + j = omega arith in
       among_each path 0 fs j g at (subst (λ (i : ℕ). Among y (spots_in owner (Argument i ∷ path) g)) same among)
 
-  among_part : (path : List Edge) (h : Formula) (edge : Edge) (g : Formula) → part_at h edge ≡ Some g → IsLaidOut h
-      → Among y (spots_in owner (edge ∷ path) g) → Among y (spots_in owner path h)
-  among_part path (Apply f arguments) (Argument j) g at fine among = inr (among_first path arguments j g at among)
-  among_part path (Apply f arguments) edge g at fine among = absurd (cc)
-  among_part path (Fold f first elements) (Argument j) g at fine among = inr (among_first path elements j g at among)
-  among_part path (Fold f first elements) edge g at fine among = absurd (cc)
-  among_part path (If test a b) Test g at fine among =
+  -- a part's places are places of the formula
+  among_part : (binds : ℕ) (path : List Edge) (h : Formula) (edge : Edge) (g : Formula) → part_at h edge ≡ Some g → IsLaidOut binds h
+      → Among y (spots_in owner (bare edge ∷ path) g) → Among y (spots_in owner path h)
+  among_part binds path (Apply f arguments) (Argument j) g at fine among = inr (among_first path arguments j g at among)
+  among_part binds path (Apply f arguments) edge g at fine among = absurd (cc)
+  among_part binds path (Fold f first elements) (Argument j) g at fine among = inr (among_first path elements j g at among)
+  among_part binds path (Fold f first elements) edge g at fine among = absurd (cc)
+  among_part binds path (If test a b) Test g at fine among =
       among_left y (spots_in owner (Test ∷ path) test) (spots_in owner (Then ∷ path) a ++ spots_in owner (Else ∷ path) b)
       (among_same (Test ∷ path) test g at among)
-  among_part path (If test a b) Then g at fine among =
+  among_part binds path (If test a b) Then g at fine among =
       among_right y (spots_in owner (Test ∷ path) test) (spots_in owner (Then ∷ path) a ++ spots_in owner (Else ∷ path) b)
       (among_left y (spots_in owner (Then ∷ path) a) (spots_in owner (Else ∷ path) b) (among_same (Then ∷ path) a g at among))
-  among_part path (If test a b) Else g at fine among =
+  among_part binds path (If test a b) Else g at fine among =
       among_right y (spots_in owner (Test ∷ path) test) (spots_in owner (Then ∷ path) a ++ spots_in owner (Else ∷ path) b)
       (among_right y (spots_in owner (Then ∷ path) a) (spots_in owner (Else ∷ path) b) (among_same (Else ∷ path) b g at among))
-  among_part path (If test a b) edge g at fine among = absurd (cc)
-  among_part path (Join child) Child g at fine among = among_same (Child ∷ path) child g at among
-  among_part path (Join child) edge g at fine among = absurd (cc)
-  among_part path (Literal v) edge g at fine among = absurd (cc)
-  among_part path (Name n) edge g at fine among = absurd (cc)
-  among_part path h edge g at fine among = absurd fine
+  among_part binds path (If test a b) edge g at fine among = absurd (cc)
+  among_part binds path (Join child) Child g at fine among = among_same (Child ∷ path) child g at among
+  among_part binds path (Join child) edge g at fine among = absurd (cc)
+  among_part binds path (Bind left body) Left g at fine among =
+      among_left y (spots_in owner (Left ∷ path) left) (spots_in owner (within ∷ path) body) (among_same (Left ∷ path) left g at among)
+  among_part binds path (Bind left body) (Inside v) g at fine among =
+      among_right y (spots_in owner (Left ∷ path) left) (spots_in owner (within ∷ path) body) (among_same (within ∷ path) body g at among)
+  among_part binds path (Bind left body) edge g at fine among = absurd (cc)
+  among_part binds path (Literal v) edge g at fine among = absurd (cc)
+  among_part binds path (Name n) edge g at fine among = absurd (cc)
+  among_part binds path (Bound k) edge g at fine among = absurd (cc)
+  among_part binds path h edge g at fine among = absurd fine
 
-  -- a part's places are places of the whole
-  among_whole : (f : Formula) → IsLaidOut f → (path : List Edge) (g : Formula) → part_of f path ≡ Some g
-      → Among y (spots_in owner path g) → Among y (spots_in owner [] f)
+  -- and so those of a part further in
+  among_whole : (f : Formula) → IsLaidOut 0 f → (path : List Edge) (g : Formula) → part_of f path ≡ Some g
+      → Among y (spots_in owner (map bare path) g) → Among y (spots_in owner [] f)
   among_whole f fine [] g at among = among_same [] f g at among
   among_whole f fine (edge ∷ path) g at among =
       let h = then_some (part_of f path) (λ h. part_at h edge) g at in
-      among_whole f fine path h.0 h.1 (among_part path h.0 edge g h.2 (laid_within f fine path h.0 h.1) among)
+      among_whole f fine path h.0 h.1 (among_part (binds_round path) (map bare path) h.0 edge g h.2 (laid_within f fine path h.0 h.1) among)
 
 -- ---- of a state
 
@@ -167,7 +187,7 @@ among_from y n (d ∷ es) (suc j) e at among =
 
 -- the places of what stands at a place are those of the state
 pub place_among : (s : State) → AllPlain s → (y : Spot) (owner : ℕ) (path : List Edge) (g : Formula) → formula_at s owner path ≡ Some g
-    → Among y (spots_in owner path g) → Among y (spots s)
+    → Among y (spots_in owner (map bare path) g) → Among y (spots s)
 place_among s plain y owner path g at among =
     let b = then_some (body_at s owner) (λ b. and_then (formula_of_body b) (λ f. part_of f path)) g at in
     let e = body_entry s owner b.0 b.1 in
@@ -177,7 +197,7 @@ place_among s plain y owner path g at among =
     (subst (λ (c : Body). Among y (spots_of_body owner c)) (sym e.2) (by_body b.0 b.1 b.2)))
   where
     by_body : (b : Body) → body_at s owner ≡ Some b → and_then (formula_of_body b) (λ f. part_of f path) ≡ Some g → Among y (spots_of_body owner b)
-    by_body (Computed f kept) is part =
-        among_whole owner y f (plain owner (Computed f kept) is).0.0 path g part among
+    by_body (Computed f kept) is part = among_whole owner y f (plain owner (Computed f kept) is).0 path g part among
     by_body (Variable v) is part = absurd (cc)
-    by_body b is part = absurd (plain owner b is).0.0
+    by_body (Grab bind v is_live) is part = absurd (cc)
+    by_body b is part = absurd (plain owner b is).0

@@ -2,17 +2,18 @@
 use Rattle.std.proofs.Common.{inl, inr, ℕ, List, [], ◌∷◌, Option, None}
 use Rattle.inc_value.specs.declared.node.NodeId.{NodeId}
 use Rattle.inc_value.specs.declared.node.Point.{Point}
-use Rattle.inc_terms.specs.Depend.{main, change, none_died}
+use Rattle.inc_terms.specs.Depend.{main, change}
 use Rattle.inc_terms.specs.Graph.{Graph}
 use Rattle.inc_terms.specs.Need.{Beside, Observed, Met, from_root, from_held}
 use Rattle.inc_terms.specs.Term.{Functions}
 use Rattle.node_outcomes.specs.Meaning.{Meaning}
 use Rattle.graph.specs.Sound.{IsWhole, IsSound}
-use Rattle.graph.specs.Stabilizes.{StoodBeside, AllButLast, IsTried, LeavesTried, IsBuiltMetIn, BuildsRightIn}
-use Rattle.graph.proofs.Flat.{nodes_alone, IsMet, WasCalled, Stabilizes, IsListed, IsLawful, HasCalledMet, IsRefusedFor}
+use Rattle.graph.specs.Stabilizes.{StoodBeside, AllButLast, IsTried, LeavesTried, IsMetIn, IsBuiltMetIn, BuildsRightIn, WasCalledIn, IsListedIn, IsLawfulIn, StandsAnew}
+use Rattle.graph.specs.Stabilizes.{Stabilizes, HasCalledMet, IsRefusedFor, LeavesNodes, left_by, died_by}
 use Rattle.graph.specs.Standing.{Standing, in_use, IsNeeded}
 use Rattle.graph.specs.declared.fault.Kept.{Kept}
 use Rattle.script_graph.specs.Kept.{without_functions}
+use Rattle.wiring.specs.Stands.{Counts}
 use Rattle.wiring.specs.declared.refused.Refused.{Refused}
 use Rattle.wiring.specs.declared.refused.Refused.TheVariants as refused
 
@@ -40,6 +41,7 @@ module _ {A : Type 0} where
     nodes = h.nodes;
     scopes = h.scopes;
     built = h.built;
+    typed = h.typed;
     whole = λ unbroken. whole_without W s (h.whole unbroken);
   }
 
@@ -55,18 +57,16 @@ module _ {A : Type 0} where
       → StoodBeside before s observers
   stood_with before s observers h = record { held = λ p need. h.held p (needed_without s p need); last = h.last; never = h.never }
 
-  module _ (M : Functions) where
-    met_without : (s : Standing A) (p : Point) → IsMet M s p → IsMet M (without_functions s) p
-    met_without s p met = met_more M (nodes_alone s) none_died (in_use s.observers) (IsNeeded s) (IsNeeded (without_functions s)) (needed_without s) p met
+  module _ (M : Functions) (G : Graph) (died : NodeId → Option NodeId) where
+    met_without : (s : Standing A) (p : Point) → IsMetIn M G died s p → IsMetIn M G died (without_functions s) p
+    met_without s p met = met_more M G died (in_use s.observers) (IsNeeded s) (IsNeeded (without_functions s)) (needed_without s) p met
 
     -- ---- what binds are built for
 
-    built_without : (s : Standing A) (b : NodeId) → IsBuiltMetIn M (nodes_alone s) none_died s b
-        → IsBuiltMetIn M (nodes_alone s) none_died (without_functions s) b
+    built_without : (s : Standing A) (b : NodeId) → IsBuiltMetIn M G died s b → IsBuiltMetIn M G died (without_functions s) b
     built_without s b h = record { right = h.right; met = met_without s (change b) h.met }
 
-    pub builds_without : (s : Standing A) (unbuilt : Option NodeId) → BuildsRightIn M (nodes_alone s) none_died s unbuilt
-        → BuildsRightIn M (nodes_alone s) none_died (without_functions s) unbuilt
+    pub builds_without : (s : Standing A) (unbuilt : Option NodeId) → BuildsRightIn M G died s unbuilt → BuildsRightIn M G died (without_functions s) unbuilt
     builds_without s unbuilt h = record {
       stays = λ b r given row. elim (h.stays b r given row) [
         | inl same ↦ inl same
@@ -76,11 +76,11 @@ module _ {A : Type 0} where
       made = λ b r late row. elim (h.made b r late row) [ inl none ↦ inl none | inr right ↦ inr (built_without s b right) ];
       refused = λ b is. let u = h.refused b is in record { none = u.none; differs = u.differs; met = met_without s (change b) u.met };
       was = h.was;
+      scoped = h.scoped;
     }
 
-    -- ---- an accepted stabilize
-
-    called_without : (old new : Standing A) (n : NodeId) → WasCalled M old new n → WasCalled M (without_functions old) (without_functions new) n
+    called_without : (old new : Standing A) (n : NodeId) → WasCalledIn M G died old new n
+        → WasCalledIn M G died (without_functions old) (without_functions new) n
     called_without old new n h = record {
       row = h.row;
       kids = h.kids;
@@ -95,12 +95,26 @@ module _ {A : Type 0} where
       met = met_without old (main n) h.met;
     }
 
-    pub stabilizes_without : (old new : Standing A) → Stabilizes M old new → Stabilizes M (without_functions old) (without_functions new)
-    stabilizes_without old new done = record {
+    -- ---- a refused one
+
+    listed_without : (s : Standing A) (points : List Point) → IsListedIn M G died s points → IsListedIn M G died (without_functions s) points
+    listed_without s points h = record { walk = h.walk; met = λ p starts. met_without s p (h.met p starts) }
+
+    pub lawful_without : (s : Standing A) (met : Refused) → IsLawfulIn M G died s met → IsLawfulIn M G died (without_functions s) met
+    lawful_without s (refused.Height points) h = (listed_without s points.items h.0, h.1, h.2)
+    lawful_without s (refused.Cycle points) h = (listed_without s points.items h.0, h.1)
+    lawful_without s refused.Full h = h
+    lawful_without s refused.Memory h = h
+
+  module _ (M : Functions) (old new : Standing A) where
+    -- ---- an accepted stabilize
+
+    pub stabilizes_without : Stabilizes M old new → Stabilizes M (without_functions old) (without_functions new)
+    stabilizes_without done = record {
       was = done.was;
       unbroken = done.unbroken;
       stays = done.stays;
-      builds = builds_without old None done.builds;
+      builds = builds_without M (left_by old new) (died_by old new) old None done.builds;
       observers = done.observers;
       rooted = done.rooted;
       shows = done.shows;
@@ -112,32 +126,41 @@ module _ {A : Type 0} where
       shallow = done.shallow;
       links = λ p q need. done.links p q (needed_with new p need);
       recalls = λ n r kids values need. done.recalls n r kids values (needed_with new (main n) need);
-      kept = λ n r row not. elim (done.kept n r row not) [ inl same ↦ inl same | inr c ↦ inr (called_without old new n c.0, c.1) ];
+      kept = λ n r row not. elim (done.kept n r row not) [
+        | inl same ↦ inl same
+        | inr c ↦ inr (called_without M (left_by old new) (died_by old new) old new n c.0, c.1)
+      ];
       cutoff = done.cutoff;
       once = done.once;
-      called = λ n among. called_without old new n (done.called n among);
+      called = λ n among. called_without M (left_by old new) (died_by old new) old new n (done.called n among);
       costs = done.costs;
       work = λ before observers stood. done.work before observers (stood_with before old observers stood);
     }
 
-    -- ---- a refused one
-
-    listed_without : (s : Standing A) (points : List Point) → IsListed M s points → IsListed M (without_functions s) points
-    listed_without s points h = record { walk = h.walk; met = λ p starts. met_without s p (h.met p starts) }
-
-    pub lawful_without : (s : Standing A) (met : Refused) → IsLawful M s met → IsLawful M (without_functions s) met
-    lawful_without s (refused.Height points) h = (listed_without s points.items h.0, h.1, h.2)
-    lawful_without s (refused.Cycle points) h = (listed_without s points.items h.0, h.1)
-    lawful_without s refused.Full h = h
-    lawful_without s refused.Memory h = h
-
-    pub few_without : (s : Standing A) (before after : ℕ) → HasCalledMet M s before after → HasCalledMet M (without_functions s) before after
-    few_without s before after h = record {
+    pub few_without : (before after : ℕ) → HasCalledMet M old new before after → HasCalledMet M (without_functions old) (without_functions new) before after
+    few_without before after h = record {
       nodes = h.nodes;
       once = h.once;
       callers = h.callers;
       count = h.count;
-      met = λ n among. met_without s (main n) (h.met n among);
+      met = λ n among. met_without M (left_by old new) (died_by old new) old (main n) (h.met n among);
+    }
+
+    -- ---- what it leaves of the nodes
+
+    anew_without : (n : NodeId) → StandsAnew old new n → StandsAnew (without_functions old) (without_functions new) n
+    anew_without n a = record { bind = a.bind; row = a.row; given = a.given; is_row = a.is_row; inside = a.inside; there = a.there }
+
+    pub left_without : (before after : Counts) → LeavesNodes M old new before after → LeavesNodes M (without_functions old) (without_functions new) before after
+    unfolding anew_without
+    left_without before after l = record {
+      dead = l.dead;
+      fallen = l.fallen;
+      killed = l.killed;
+      roots = l.roots;
+      born = λ n r late row. let b = l.born n r late row in (anew_without n b.0, b.1);
+      builds = l.builds;
+      adds = l.adds;
     }
 
   tried_without : (s : Standing A) (points : List Point) → IsTried s points → IsTried (without_functions s) points
@@ -168,10 +191,10 @@ module _ {A : Type 0} where
     met = done.met;
     broken = done.broken;
     is_cause = done.is_cause;
-    lawful = lawful_without M old done.met done.lawful;
+    lawful = lawful_without M (left_by old new) (died_by old new) old done.met done.lawful;
     tried = leaves_without new done.met done.tried;
     unbuilt = done.unbuilt;
-    builds = builds_without M old done.unbuilt done.builds;
+    builds = builds_without M (left_by old new) (died_by old new) old done.unbuilt done.builds;
     build = done.build;
     full = done.full;
   }

@@ -1,4 +1,5 @@
 pub mod Today
+pub mod Grabbing
 pub mod Growing
 pub mod Kept
 pub mod Represents

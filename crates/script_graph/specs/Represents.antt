@@ -1,50 +1,57 @@
 -- What a graph has to do with the state of a script.
-use Rattle.std.specs.Prelude.{◌≡◌, ◌+◌, ℕ, pos, List, [], ◌∷◌, map, take, length, Option, None, Some, slice_get}
+use Rattle.std.specs.Prelude.{◌≡◌, ◌+◌, ℕ, pos, List, [], ◌∷◌, map, take, length, Option, None, Some, option_map, slice_get}
 use Rattle.inc_value.specs.declared.node.NodeId.{NodeId}
 use Rattle.inc_value.specs.declared.node.ObsId.{ObsId}
 use Rattle.inc_terms.specs.Depend.{none_died}
-use Rattle.inc_terms.specs.Graph.{Row}
+use Rattle.inc_terms.specs.Graph.{Graph}
+use Rattle.inc_terms.specs.Rebuilding.{outcome_of}
 use Rattle.inc_terms.specs.Term.{Functions}
-use Rattle.graph.specs.Standing.{Standing, node_at, shown_of}
-use Rattle.node_arena.specs.Arena.{Arena, row_at}
+use Rattle.graph.specs.Standing.{Standing, graph, node_at, shown_of}
+use Rattle.node_arena.specs.RightSideLaws.{meaning}
+use Rattle.script_functions.specs.Bodies as Bodies
+use Rattle.script_functions.specs.Keeping.{makers, side_in}
 use Rattle.script_model.specs.Check.{Names, names_of, is_among, target_of_body}
-use Rattle.script_model.specs.Formula.{Body, Entry, State, Observer, Meanings, body_at, entry_at, places_of}
-use Rattle.script_model.specs.Need.{Item}
+use Rattle.script_model.specs.Formula.{Body, Entry, Formula, State, Observer, Meanings, bind_at, body_at, built_at, entry_at, places_of}
 use Rattle.script_model.specs.Values.{Outcome, to_engine, from_engine}
-use Rattle.script_graph.specs.Kept.{Kept, arena_of, node_in}
-use Rattle.script_graph.specs.Today.{Computes, maps_alone, todays_graph, IsDeclaredTarget, RefersTo, IsTodaysObserver, IsTodaysScript}
+use Rattle.script_graph.specs.Kept.{Kept, node_in}
+use Rattle.script_graph.specs.Today.{IsDeclaredTarget, RefersTo, IsTodaysObserver, IsTodaysScript}
 use Rattle.transfer.specs.Both.{Both, graph_outcome}
-use Rattle.transfer.specs.Items.{node_of}
-use Rattle.transfer.specs.Keeping.{NodesApart}
+use Rattle.transfer.specs.Keeping.{GrabsForms, NodesApart}
 use Rattle.transfer.specs.Shows.{Declares}
 
--- what a graph's functions give, by those of the script
-abbrev pub graph_functions : Meanings → Functions
-graph_functions F = maps_alone (λ f values. to_engine (F.value f (map from_engine values)))
+-- what a graph's functions give, by those of the script and the bodies that are kept
+abbrev pub graph_functions : Meanings → List Bodies.Body → Functions
+graph_functions F bodies = meaning (λ f values. to_engine (F.value f (map from_engine values))) (side_in (makers bodies))
 
--- a state of a script beside the nodes of an arena, with the node of each declaration
-abbrev pub besides : Meanings → State → List NodeId → Arena → Both
-besides F s nodes a = record {
+-- a state of a script beside a graph over these bodies, with the node of each declaration
+abbrev pub besides : Meanings → State → List NodeId → List Bodies.Body → Graph → Both
+besides F s nodes bodies G = record {
   meanings = F;
   state = s;
-  functions = graph_functions F;
-  graph = todays_graph a;
+  functions = graph_functions F bodies;
+  graph = G;
   nodes = node_in nodes;
   died = none_died;
 }
 
 -- a state of a script beside the graph that is kept
 abbrev pub beside : Meanings → State → Kept → Both
-beside F s k = besides F s k.nodes (arena_of k)
+beside F s k = besides F s k.nodes k.bodies (graph k.graph)
 
 -- ---- declarations
 
--- the node is that of an item that computes something itself
-abbrev pub IsOfItem : Both → NodeId → Type 0
-IsOfItem x n = (i : Item) × Computes x.state i × (node_of x i ≡ Some n)
+-- what each bind at the top is built for is what the graph has it built for
+abbrev pub BuiltAlike : State → Kept → Type 0
+BuiltAlike s k =
+    (n : ℕ) (left body : Formula) → bind_at s n ≡ Some (left, body)
+    → outcome_of ((graph k.graph).built (node_in k.nodes n)) ≡ option_map (graph_outcome (node_in k.nodes)) (built_at s n)
 
--- the graph holds the declarations, at the script's time: each has its node, which shows what is declared; two that are no other names have two nodes; and
--- each live node is that of an item
+-- what a bind was built for refers to what is declared
+abbrev pub BuiltRefers : State → Type 0
+BuiltRefers s = (n : ℕ) (o : Outcome) → built_at s n ≡ Some o → RefersTo (IsDeclaredTarget s) o
+
+-- the graph holds the declarations, at the script's time: each has its node, which shows what is declared, a live grab's is its bind's right side; two that
+-- are no other names have two nodes; what binds are built for is what the state says; and live grabs are of binds whose body is no name
 pub record Represents (F : Meanings) (s : State) (k : Kept) : Type 0 where
   pub room : k.room + places_of s ≡ 1048575
   pub clock : (beside F s k).graph.now ≡ pos s.now
@@ -52,7 +59,9 @@ pub record Represents (F : Meanings) (s : State) (k : Kept) : Type 0 where
   pub declares : (n : ℕ) → Declares (beside F s k) (node_in k.nodes n) (body_at s n)
   pub targets : (n : ℕ) (e : Entry) → entry_at s n ≡ Some e → e.target ≡ target_of_body n e.body
   pub apart : NodesApart s (node_in k.nodes)
-  pub of_items : (n : NodeId) (r : Row) → row_at (arena_of k) n ≡ Some r → IsOfItem (beside F s k) n
+  pub built : BuiltAlike s k
+  pub refers : BuiltRefers s
+  pub grabs : GrabsForms s
   pub today : IsTodaysScript s k
 
 -- ---- observers

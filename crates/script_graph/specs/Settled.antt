@@ -3,22 +3,23 @@ use Rattle.std.specs.Prelude.{◌≡◌, ℕ, suc, cond, List, [], ◌∷◌, ma
 use Rattle.inc_value.specs.Choice.{Among}
 use Rattle.inc_value.specs.declared.node.NodeId.{NodeId}
 use Rattle.inc_terms.specs.Graph.{Graph, Row}
+use Rattle.inc_terms.specs.Local.{Scoped}
 use Rattle.inc_terms.specs.Need.{Beside, Holder, Observing, Freezing, Observed}
 use Rattle.inc_terms.specs.Within.{Given}
-use Rattle.graph.specs.Standing.{Standing, called_last, cutoff_of, times_linked}
+use Rattle.graph.specs.Standing.{Standing, called_last, cutoff_of, graph, times_linked}
 use Rattle.graph.specs.declared.observer.Observer.{Observer as Looking}
-use Rattle.node_arena.specs.Arena.{Arena}
 use Rattle.node_outcomes.specs.Row.{is_never}
 use Rattle.script_model.specs.Formula.{State, Entry, Observer, Meanings, entry_at}
 use Rattle.script_model.specs.Need.{Named, Needed, Visit, IsVisit, roots}
 use Rattle.script_graph.specs.Kept.{Kept, arena_of, node_in}
 use Rattle.script_graph.specs.Represents.{besides, rooted_at}
-use Rattle.script_graph.specs.Today.{todays_graph, frozen_root, none_stale, WasTodays}
+use Rattle.script_functions.specs.Bodies.{Body}
+use Rattle.script_graph.specs.Today.{frozen_root, none_stale, WasTodays}
 use Rattle.stabilize_round.specs.Calls.{arguments_of}
 use Rattle.stabilize_round.specs.State.{Call}
 use Rattle.transfer.specs.Both.{Both, graph_value}
 use Rattle.transfer.specs.Holding.{LinksDepend}
-use Rattle.transfer.specs.Items.{node_of, FormulasStay}
+use Rattle.transfer.specs.Items.{node_of, FormulasStay, GrabsStay}
 use Rattle.transfer.specs.Keeping.{RowsStay}
 use Rattle.transfer.specs.Shows.{Fits}
 
@@ -52,16 +53,19 @@ module _ {A : Type 0} where
 
 -- ---- what stays of the pair
 
--- a row's scope is that of a live node
-abbrev pub ScopesLive : Graph → Type 0
-ScopesLive G = (n : NodeId) (r : Row) (b : NodeId) → G.row n ≡ Some r → r.scope ≡ Some b → (q : Row) × (G.row b ≡ Some q)
+-- the bind of each scope in which a node stands is built
+abbrev pub ScopesBuilt : Graph → Type 0
+ScopesBuilt G = (n : NodeId) (r : Row) (b : NodeId) → G.row n ≡ Some r → r.scope ≡ Some b → IsSome (G.built b)
 
--- what was declared is declared still: formulas, targets and nodes of names stay, and so do rows that formulas may have
-pub record StillDeclares (before : State) (nodes : List NodeId) (arena : Arena) (s : State) (k : Kept) : Type 0 where
+-- what was declared is declared still: formulas, targets and nodes of names stay, and so do live nodes, rows that formulas may have, and what binds are built
+-- for
+pub record StillDeclares (before : State) (nodes : List NodeId) (left : Graph) (s : State) (k : Kept) : Type 0 where
   pub formulas : FormulasStay before s
   pub targets : (n : ℕ) (e : Entry) → entry_at before n ≡ Some e → (d : Entry) × (entry_at s n ≡ Some d) × (d.target ≡ e.target)
   pub names : (n : ℕ) (e : Entry) → entry_at before n ≡ Some e → node_in k.nodes n ≡ node_in nodes n
-  pub rows : RowsStay (todays_graph arena) (todays_graph (arena_of k))
+  pub rows : RowsStay left (graph k.graph)
+  pub lives : (n : NodeId) (r : Row) → left.row n ≡ Some r → (q : Row) × ((graph k.graph).row n ≡ Some q)
+  pub built : (b : NodeId) (r : Row) → left.row b ≡ Some r → (graph k.graph).built b ≡ left.built b
 
 -- the function of the visit's node was last called with the visit's values
 pub record WasRun (x : Both) (k : Kept) (v : Visit) : Type 0 where
@@ -76,17 +80,20 @@ pub record WasRun (x : Both) (k : Kept) (v : Visit) : Type 0 where
 abbrev pub ShownWereRoots : State → State → Type 0
 ShownWereRoots before s = (x : Observer) → Among x s.observers → IsSome x.shown → Among (Named x.target) (roots before)
 
--- the pair as the last accepted stabilize left it: the state then, the nodes of its declarations and the arena. The two fit; what was declared then
--- is so still; attached links of what is held are of what points depend on there; and each call that was needed then was the last one of its
--- node
+-- the pair as the last accepted stabilize left it: the state then, the nodes of its declarations, the bodies that were kept and the graph. The two fit;
+-- what was declared then is so still, live grabs live; attached links of what is held are of what points depend on there; and each call that was needed
+-- then was the last one of its node
 pub record Settled (F : Meanings) (before s : State) (k : Kept) : Type 0 where
   pub nodes : List NodeId
-  pub arena : Arena
+  pub bodies : List Body
+  pub left : Graph
   pub one_node_each : length nodes ≡ length before.entries
-  pub fits : Fits (besides F before nodes arena)
-  pub scopes : ScopesLive (todays_graph arena)
-  pub still : StillDeclares before nodes arena s k
-  pub links : LinksDepend (besides F before nodes arena) (side_of k.graph) (observed_by k.graph)
-  pub ran : (v : Visit) → IsVisit F before v → Needed F before v.item → WasRun (besides F before nodes arena) k v
+  pub fits : Fits (besides F before nodes bodies left)
+  pub scopes : Scoped left
+  pub still : StillDeclares before nodes left s k
+  pub built : ScopesBuilt (graph k.graph)
+  pub grabs : GrabsStay before s
+  pub links : LinksDepend (besides F before nodes bodies left) (side_of k.graph) (observed_by k.graph)
+  pub ran : (v : Visit) → IsVisit F before v → Needed F before v.item → WasRun (besides F before nodes bodies left) k v
   pub watched : ShownWereRoots before s
   pub today : WasTodays before k

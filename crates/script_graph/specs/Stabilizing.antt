@@ -1,10 +1,11 @@
 -- How a stabilize of a script ends.
-use Rattle.std.specs.Prelude.{◌≡◌, ◌⊎◌, ◌<◌, ◌≤◌, ◌+◌, ℕ, List, [], ◌∷◌, ◌++◌, map, length, Option, Some, slice_get}
+use Rattle.std.specs.Prelude.{◌≡◌, ◌⊎◌, ◌<◌, ◌≤◌, ◌+◌, ℕ, List, [], ◌∷◌, ◌++◌, map, length, Option, None, Some, slice_get}
 use Rattle.height_order.specs.Chains.{StartsAt}
 use Rattle.inc_value.specs.declared.node.NodeId.{NodeId}
 use Rattle.inc_value.specs.declared.node.Point.{Point}
 use Rattle.inc_terms.specs.Depend.{main}
 use Rattle.graph.specs.Standing.{Standing, IsOwner, graph}
+use Rattle.node_arena.specs.Arena.{row_at}
 use Rattle.script_model.specs.Check.{Declared}
 use Rattle.script_model.specs.Formula.{Meanings}
 use Rattle.script_model.specs.Need.{WithinWork}
@@ -54,27 +55,37 @@ abbrev pub ChainBegins : Option Refused → Point → Type 0
 ChainBegins (Some (Height points)) p = StartsAt points.items p
 ChainBegins met p = ⊥
 
-module _ (declared : List Declared) (nodes : List NodeId) where
-  -- the point is the main of the node of this declaration, which is its own target
-  abbrev pub IsMainOf : Point → ℕ → Type 0
-  IsMainOf p n = (d : Declared) × (slice_get declared n ≡ Some d) × (d.target ≡ n) × (p ≡ main (node_in nodes n))
+-- the node stands in the scope, or in one within it, of a bind outside all scopes, whose main the point is
+abbrev pub IsOwnRoot : {A : Type 0} → Standing A → Point → NodeId → Type 0
+IsOwnRoot g p n = (top : NodeId) × IsOwner (graph g) n top × (top ≡ n → ⊥) × (p ≡ main top)
 
-  -- the declarations whose mains stand in the list, in its order
-  abbrev pub MainsIn : List Point → List ℕ → Type 0
-  MainsIn [] targets = targets ≡ []
-  MainsIn (p ∷ points) targets =
-      (((n : ℕ) → IsMainOf p n → ⊥) × MainsIn points targets)
-      ⊎ ((n : ℕ) × (more : List ℕ) × (targets ≡ n ∷ more) × IsMainOf p n × MainsIn points more)
+module _ {A : Type 0} (g : Standing A) (declared : List Declared) (nodes : List NodeId) where
+  -- from the one point to the other the declaration is passed: the other is the main of its node, and it is its own target. A bind's right side that its
+  -- own main reads is read as a part of the bind's formula, though it is grabbed
+  abbrev pub IsPassed : Point → Point → ℕ → Type 0
+  IsPassed p q n =
+      (d : Declared) × (slice_get declared n ≡ Some d) × (d.target ≡ n) × (q ≡ main (node_in nodes n)) × (IsOwnRoot g p q.node → ⊥)
 
--- the points without the first
-abbrev pub behind_first : List Point → List Point
-behind_first [] = []
-behind_first (p ∷ points) = points
+  -- the declarations that a walk from the point on passes, in its order
+  abbrev pub PassesFrom : Point → List Point → List ℕ → Type 0
+  PassesFrom p [] targets = targets ≡ []
+  PassesFrom p (q ∷ rest) targets =
+      (((n : ℕ) → IsPassed p q n → ⊥) × PassesFrom q rest targets)
+      ⊎ ((n : ℕ) × (more : List ℕ) × (targets ≡ n ∷ more) × IsPassed p q n × PassesFrom q rest more)
 
--- the cycle of points that was met passes the mains of these declarations, each once
-abbrev pub CyclePasses : List Declared → List NodeId → Option Refused → List ℕ → Type 0
-CyclePasses declared nodes (Some (Cycle points)) targets = MainsIn declared nodes (behind_first points.items) targets
-CyclePasses declared nodes met targets = ⊥
+  -- those that the walk passes
+  abbrev pub PassesAll : List Point → List ℕ → Type 0
+  PassesAll [] targets = targets ≡ []
+  PassesAll (p ∷ rest) targets = PassesFrom p rest targets
+
+-- so does the cycle of points that was met
+abbrev pub PassesMet : {A : Type 0} → Standing A → List Declared → List NodeId → Option Refused → List ℕ → Type 0
+PassesMet g declared nodes (Some (Cycle points)) targets = PassesAll g declared nodes points.items targets
+PassesMet g declared nodes met targets = ⊥
+
+-- the cycle of points that was met passes these declarations, each once
+abbrev pub CyclePasses : {A : Type 0} → Standing A → List Declared → List NodeId → List ℕ → Type 0
+CyclePasses g declared nodes targets = PassesMet g declared nodes g.refused targets
 
 -- it is a cycle of points that was met
 abbrev pub IsCycleMet : Option Refused → Type 0
@@ -95,10 +106,17 @@ pub record IsFirstNotOlder (nodes : List NodeId) (n : NodeId) (target : ℕ) : T
 abbrev pub AllOlder : List NodeId → NodeId → Type 0
 AllOlder nodes n = (j : ℕ) → j < length nodes → (node_in nodes j).gen_ < n.gen_
 
--- the node has an owner, and the declaration's node is the first that isn't older than that
-abbrev pub IsFirstOwned : {A : Type 0} → List NodeId → Standing A → NodeId → ℕ → Type 0
-IsFirstOwned nodes g n target = (top : NodeId) × IsOwner (graph g) n top × IsFirstNotOlder nodes top target
+-- the node is that of a declaration that is its own target
+abbrev pub IsOwnNode : List Declared → List NodeId → NodeId → ℕ → Type 0
+IsOwnNode declared nodes n target =
+    (d : Declared) × (slice_get declared target ≡ Some d) × (d.target ≡ target) × (node_in nodes target ≡ n)
 
--- if the node has an owner, the nodes of all declarations are older than that
-abbrev pub NoneOwns : {A : Type 0} → List NodeId → Standing A → NodeId → Type 0
-NoneOwns nodes g n = (top : NodeId) → IsOwner (graph g) n top → AllOlder nodes top
+-- the node has an owner, and the declaration's node is the first that isn't older than that; or it is dead, and the declaration is the grab whose node it is
+pub data IsTold {A : Type 0} (declared : List Declared) (nodes : List NodeId) (g : Standing A) (n : NodeId) (target : ℕ) : Type 0 where
+  of_owner : (top : NodeId) → IsOwner (graph g) n top → IsFirstNotOlder nodes top target → IsTold declared nodes g n target
+  of_grab : (row_at g.nodes n ≡ None) → IsOwnNode declared nodes n target → IsTold declared nodes g n target
+
+-- if the node has an owner, the nodes of all declarations are older than that; and if it is dead, it is that of none
+pub record NoneTold {A : Type 0} (declared : List Declared) (nodes : List NodeId) (g : Standing A) (n : NodeId) : Type 0 where
+  pub owner : (top : NodeId) → IsOwner (graph g) n top → AllOlder nodes top
+  pub grab : row_at g.nodes n ≡ None → (target : ℕ) → IsOwnNode declared nodes n target → ⊥

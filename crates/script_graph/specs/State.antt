@@ -8,13 +8,13 @@ use Rattle.script_graph.specs.Kept.{Kept}
 use Rattle.script_graph.specs.Represents.{AreNames, Represents, Watches}
 use Rattle.script_graph.specs.Settled.{Settled}
 
--- what is kept matches a moment of a script: names, count and what broke it are those of the moment; the graph holds the present state and its observers,
--- even if it is broken; and unless it is, of the state as the last accepted stabilize left it, the calls
+-- what is kept matches a moment of a script: names, count, what broke it and observers are those of the moment; and unless it is broken the graph holds the
+-- present state and, of the state as the last accepted stabilize left it, the calls
 pub record MatchesMoment (F : Meanings) (k : Kept) (m : Moment) : Type 0 where
   pub names : AreNames k.names m.present
   pub accepted : m.present.accepted ≡ k.accepted
   pub broken : m.broken ≡ k.broken
-  pub represents : Represents F m.present k
+  pub represents : m.broken ≡ None → Represents F m.present k
   pub watches : Watches m.present k
   pub settled : m.broken ≡ None → Settled F m.settled m.present k
 

@@ -1,36 +1,23 @@
 -- What is so of scripts of today's forms alone, and goes with one later form or another.
-use Rattle.std.specs.Prelude.{◌≡◌, ◌<◌, ◌≤◌, ℕ, Bool, IsTrue, false, List, [], ◌∷◌, Option, None, Some, slice_get}
+use Rattle.std.specs.Prelude.{◌≡◌, ◌<◌, ◌≤◌, ℕ, Bool, IsTrue, false, List, [], ◌∷◌, Option, None, Some}
 use Rattle.inc_value.specs.declared.function.FnRef.{FnRef}
 use Rattle.inc_value.specs.declared.node.NodeId.{NodeId}
 use Rattle.inc_value.specs.declared.value.Value.{Value}
 use Rattle.inc_terms.specs.Graph as graph
 use Rattle.inc_terms.specs.Graph.{Graph, Row, Def}
-use Rattle.inc_terms.specs.Term.{Functions}
-use Rattle.formula_elab.specs.Today.{IsLaidOut, AreLaidOut, IsLaidOutBody}
-use Rattle.graph.specs.Standing.{cutoff_of}
+use Rattle.formula_elab.specs.Today.{IsLaidOut, IsLaidOutBody}
+use Rattle.graph.specs.Standing.{cutoff_of, graph as graph_of_standing}
 use Rattle.map_nodes.specs.declared.cutoff.Cutoff.TheVariants.{Equal}
-use Rattle.node_arena.specs.Arena.{Arena, row_at}
-use Rattle.node_arena.specs.Graph.{graph_of, nothing_held}
-use Rattle.node_arena.specs.RightSide.{no_side}
-use Rattle.node_arena.specs.RightSideLaws.{meaning}
-use Rattle.script_model.specs.Check.{Declared, Grab}
-use Rattle.script_model.specs.Formula.{Formula, Formulas, Body, State, Observer, body_at, Literal, Name, Apply, Fold, If, Join, End, More, Variable, Computed, Unwatched, nothing_kept}
-use Rattle.script_model.specs.Leaves.{EveryReference, EveryLeaf, EveryLeafOfAll, EveryLeafOf}
-use Rattle.script_model.specs.Need.{Item, Named, Place, formula_at}
+use Rattle.node_arena.specs.Arena.{Arena}
+use Rattle.node_arena.specs.RightSide.{AreFit, RightSide}
+use Rattle.script_model.specs.Formula.{Formula, Formulas, Body, State, Observer, body_at, Literal, Name, Apply, Fold, If, Join, Bind, End, More, Variable, Computed, Grab, Unwatched}
+use Rattle.script_model.specs.Leaves.{EveryReference, EveryLeaf, EveryLeafOf}
 use Rattle.script_model.specs.Settle.{Notice}
 use Rattle.script_model.specs.Values.{Outcome, Val, Invalid}
-use Rattle.script_graph.specs.Kept.{Kept, arena_of, node_in}
-use Rattle.stabilizer.specs.Kept.{HasNoBinds}
+use Rattle.script_graph.specs.Kept.{Kept, node_in}
 use Rattle.transfer.specs.Shows.{IsOwn}
-use Rattle.wiring.specs.Kept.{IsBind}
 
--- ---- functions: none makes right sides
-
--- functions whose maps have these values
-abbrev pub maps_alone : (FnRef → List Value → Value) → Functions
-maps_alone value = meaning value (λ f. no_side)
-
--- ---- formulas: no binds, no clock; names that are read are of earlier declarations
+-- ---- formulas: no clock; names that are read are of earlier declarations
 
 -- a declaration that is there, and is no other name
 abbrev pub IsDeclaredTarget : State → ℕ → Type 0
@@ -38,20 +25,12 @@ IsDeclaredTarget s t = (b : Body) × (body_at s t ≡ Some b) × IsOwn (Some b)
 
 -- the formula is of forms that are laid out, the names that it reads have the one property, and what its values refer to has the other
 abbrev pub IsPlain : (ℕ → Type 0) → (ℕ → Type 0) → Formula → Type 0
-IsPlain P R f = IsLaidOut f × EveryLeaf P R f
+IsPlain P R f = IsLaidOut 0 f × EveryLeaf P R f
 
--- so are all of the formulas
-abbrev pub ArePlain : (ℕ → Type 0) → (ℕ → Type 0) → Formulas → Type 0
-ArePlain P R fs = AreLaidOut fs × EveryLeafOfAll P R fs
-
--- no stabilize keeps anything of what is declared
-abbrev pub NothingKept : Body → Type 0
-NothingKept (Computed f kept) = kept ≡ nothing_kept
-NothingKept body = Unit {0}
-
--- what is declared is of such forms and has such names and references, and nothing is kept of it
+-- what is declared is of such forms, or a grab, and has such names and references
 abbrev pub IsPlainBody : (ℕ → Type 0) → (ℕ → Type 0) → Body → Type 0
-IsPlainBody P R body = (IsLaidOutBody body × EveryLeafOf P R body) × NothingKept body
+IsPlainBody P R (Grab bind v is_live) = P bind × EveryReference R v
+IsPlainBody P R body = IsLaidOutBody body × EveryLeafOf P R body
 
 -- an earlier declaration that is no other name
 abbrev pub IsEarlierTarget : State → ℕ → ℕ → Type 0
@@ -60,12 +39,6 @@ IsEarlierTarget s n t = (t < n) × IsOwn (body_at s t)
 -- each declaration is of today's forms, over earlier ones; what it refers to is declared
 abbrev pub AllPlain : State → Type 0
 AllPlain s = (n : ℕ) (body : Body) → body_at s n ≡ Some body → IsPlainBody (IsEarlierTarget s n) (IsDeclaredTarget s) body
-
--- ---- declarations: none is a grab
-
--- none of the declarations is a grab
-abbrev pub NoGrabs : List Declared → Type 0
-NoGrabs declared = (n : ℕ) (d : Declared) → slice_get declared n ≡ Some d → d.kind ≡ Grab → ⊥
 
 -- ---- values: none is told
 
@@ -82,31 +55,14 @@ pub record IsTodaysObserver (x : Observer) : Type 0 where
 abbrev pub NoNotices : List Notice → Type 0
 NoNotices notices = notices ≡ []
 
--- ---- the graph: no bind is built
+-- ---- the graph: no clock, no freezes, no experts
 
--- the function of a map or a fold is known, whatever its kind; the definition is no bind
-abbrev pub CallsKnown : (FnRef → Bool) → Def → Type 0
-CallsKnown known (graph.Map f kids) = IsTrue (known f)
-CallsKnown known (graph.Fold f v kids) = IsTrue (known f)
-CallsKnown known (graph.Bind left f captures) = ⊥
-CallsKnown known def = Unit {0}
-
--- a node that is made for a script stands in no scope, and is no bind
-pub record IsTodaysRow (r : Row) : Type 0 where
-  pub outside : r.scope ≡ None
-  pub no_bind : IsBind r.def → ⊥
-
--- no node that a script has kept is a bind
-abbrev pub IsFlat : Kept → Type 0
-IsFlat k = HasNoBinds (arena_of k)
-
--- no live node stands in a scope
-abbrev pub NoScopes : Arena → Type 0
-NoScopes a = (n : NodeId) (r : Row) → row_at a n ≡ Some r → r.scope ≡ None
-
--- the graph of the nodes of a script
-abbrev pub todays_graph : Arena → Graph
-todays_graph a = graph_of a nothing_held
+-- the function of a map or a fold is known, whatever its kind; that of a bind lists nodes that fit
+abbrev pub CallsFit : (FnRef → Bool) → (FnRef → RightSide) → Arena → Def → Type 0
+CallsFit known right a (graph.Map f kids) = IsTrue (known f)
+CallsFit known right a (graph.Fold f v kids) = IsTrue (known f)
+CallsFit known right a (graph.Bind left f captures) = IsTrue (known f) × AreFit a (right f).ids
+CallsFit known right a def = Unit {0}
 
 -- ---- beside the graph: no freezes, and no experts that were made stale
 
@@ -118,30 +74,7 @@ frozen_root n = None
 abbrev pub none_stale : NodeId → Bool
 none_stale n = false
 
--- ---- items that compute: variables, and formulas that are no bare names
-
--- a formula that is no bare name
-abbrev pub IsOwnFormula : Option Formula → Type 0
-IsOwnFormula None = ⊥
-IsOwnFormula (Some (Name n)) = ⊥
-IsOwnFormula (Some f) = Unit {0}
-
--- a variable
-abbrev pub IsVariableBody : Option Body → Type 0
-IsVariableBody (Some (Variable v)) = Unit {0}
-IsVariableBody body = ⊥
-
--- an item that computes something itself
-abbrev pub Computes : State → Item → Type 0
-Computes s (Named n) = IsVariableBody (body_at s n)
-Computes s (Place owner path) = IsOwnFormula (formula_at s owner path)
-
--- the declaration that an item belongs to
-abbrev pub owner_of : Item → ℕ
-owner_of (Named n) = n
-owner_of (Place owner path) = owner
-
--- ---- ages: the nodes of a declaration were given after those of earlier ones, those of its parts before its own
+-- ---- ages: the nodes of a declaration outside all scopes were given after those of earlier ones, those of its parts before its own
 
 abbrev mutual
   -- the formula's node and those of its parts have the property, but for those of bare names
@@ -157,6 +90,9 @@ abbrev mutual
       P n × (r : Row) × (t x y : NodeId) × (G.row n ≡ Some r) × (r.def ≡ graph.If t x y)
       × OwnNodes G P t test × OwnNodes G P x a × OwnNodes G P y b
   OwnNodes G P n (Join child) = P n × (r : Row) × (c : NodeId) × (G.row n ≡ Some r) × (r.def ≡ graph.Join c) × OwnNodes G P c child
+  OwnNodes G P n (Bind left body) =
+      P n × (r : Row) × (l : NodeId) × (f : FnRef) × (captures : List NodeId) × (G.row n ≡ Some r) × (r.def ≡ graph.Bind l f captures)
+      × OwnNodes G P l left
   OwnNodes G P n f = ⊥
 
   -- so have those of all of the formulas
@@ -179,12 +115,16 @@ WholeNodes G P Q n (If test a b) =
     P n × (r : Row) × (t x y : NodeId) × (G.row n ≡ Some r) × (r.def ≡ graph.If t x y)
     × OwnNodes G Q t test × OwnNodes G Q x a × OwnNodes G Q y b
 WholeNodes G P Q n (Join child) = P n × (r : Row) × (c : NodeId) × (G.row n ≡ Some r) × (r.def ≡ graph.Join c) × OwnNodes G Q c child
+WholeNodes G P Q n (Bind left body) =
+    P n × (r : Row) × (l : NodeId) × (f : FnRef) × (captures : List NodeId) × (G.row n ≡ Some r) × (r.def ≡ graph.Bind l f captures)
+    × OwnNodes G Q l left
 WholeNodes G P Q n f = ⊥
 
 -- so have those of what is declared
 abbrev pub OwnNodesOf : Graph → (NodeId → Type 0) → (NodeId → Type 0) → NodeId → Body → Type 0
 OwnNodesOf G P Q n (Variable v) = P n
 OwnNodesOf G P Q n (Computed f kept) = WholeNodes G P Q n f
+OwnNodesOf G P Q n (Grab bind v is_live) = Unit {0}
 OwnNodesOf G P Q n body = ⊥
 
 -- a node was given no later than that of the declaration, and later than those of earlier declarations
@@ -203,7 +143,7 @@ pub record IsPartWithin (nodes : List NodeId) (owner : ℕ) (n : NodeId) : Type 
 pub record IsTodaysScript (s : State) (k : Kept) : Type 0 where
   pub plain : AllPlain s
   pub aged : (n : ℕ) (b : Body) → body_at s n ≡ Some b
-      → OwnNodesOf (todays_graph (arena_of k)) (IsWithin k.nodes n) (IsPartWithin k.nodes n) (node_in k.nodes n) b
+      → OwnNodesOf (graph_of_standing k.graph) (IsWithin k.nodes n) (IsPartWithin k.nodes n) (node_in k.nodes n) b
 
 -- the state was of today's forms as the last accepted stabilize left it, and each node has cutoff Equal
 pub record WasTodays (before : State) (k : Kept) : Type 0 where

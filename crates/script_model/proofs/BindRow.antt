@@ -18,7 +18,7 @@ use Rattle.script_model.specs.Parsing.{formula_read, list_front}
 use Rattle.script_model.specs.Request.{Asks}
 use Rattle.script_model.specs.Row.{IsWholeRun, AddsToTen, bind_lines, bind_transcript, BindIsShown, BindIsOneCall}
 use Rattle.script_model.specs.Run.{Turn, transcript}
-use Rattle.script_model.specs.Settle.{Settles, builds}
+use Rattle.script_model.specs.Settle.{Settles}
 use Rattle.script_model.specs.Check as check
 use Rattle.script_model.specs.Step as steps
 use Rattle.script_model.specs.Step.{Moment, Done, Shown, Stable, Stabilizes, Follows, NothingNeededIsBlocked, Act, verdict_of, first_moment}
@@ -253,7 +253,7 @@ module _ (F : Meanings) (add : FnRef) (v : Value) (built shown : Option Outcome)
           (
             Computed (Bind (Name 0) (sum add)) (record nothing_kept { built = Some (Val v) }),
             refl,
-            (record nothing_kept { built = Some (Val v) }, refl, record { built = builds (Val v) (left_is_met before) left_gives refl }),
+            (record nothing_kept { built = Some (Val v) }, refl, record { built = record { needed = λ need. (Val v, left_gives, refl); either = inr (Val v, left_is_met before, left_gives, refl) } }),
           ),
           tt,
         ),

@@ -11,7 +11,7 @@ use Rattle.inc_value.specs.declared.ty.Base.TheVariants as base
 use Rattle.inc_value.specs.declared.ty.Ty.TheVariants as ty
 use Rattle.inc_value.specs.declared.ty.Ty.{Ty}
 use Rattle.script_model.specs.Check as check
-use Rattle.script_model.specs.Check.{Kind, element_of, kind_of_body, where_same, target_of_body}
+use Rattle.script_model.specs.Check.{element_of, kind_of_body}
 use Rattle.inc_value.specs.Choice.{Every}
 use Rattle.script_model.specs.Values.{Value, Outcome, Val, Invalid}
 use Rattle.script_model.specs.Formula.{Formula, Body, Entry, Observer, Watch, State, Meanings, entry_at, bind_at, built_at, bind_of, links_of, places_of, places_of_body, Literal, Name, Bound, Apply, Fold, If, Join, Bind, At, Steps, Now, Variable, Computed, Expert, Grab, Unwatched, Fresh, Told}

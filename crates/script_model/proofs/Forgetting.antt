@@ -4,11 +4,11 @@ use Rattle.std.proofs.lemmas.Option.{slice_get-map}
 use Rattle.std.proofs.lemmas.List.Sums.{sum_by-cons}
 use Rattle.std.specs.List.{sum_by}
 use Rattle.script_model.specs.Check as check
-use Rattle.script_model.specs.Check.{Command, Names, Kind, Reason, SessionBroken, NotStabilized, NotBuilt, NotLinked, TooManyLinks, TooManyPlaces, command_of, names_of, kind_of_body, declared_of, target_of_body, first_that, is_against}
+use Rattle.script_model.specs.Check.{Command, Names, Reason, SessionBroken, NotStabilized, NotLinked, TooManyLinks, TooManyPlaces, command_of, names_of, kind_of_body, declared_of, target_of_body, first_that, is_against}
 use Rattle.inc_value.specs.Choice.{and_then}
 use Rattle.script_model.specs.Evaluate.{level, body_level, name_level, value_at, Gives}
 use Rattle.script_model.specs.Formula as model
-use Rattle.script_model.specs.Formula.{Formula, Body, Entry, State, Meanings, entry_at, body_at, bind_at, bind_of, links_at, places_of, places_of_body, Literal, Name, Bound, Apply, Fold, If, Join, Bind, At, Steps, Now, Variable, Computed, Freeze, After, Expert, Grab, nothing_kept}
+use Rattle.script_model.specs.Formula.{Formula, Body, Entry, State, Meanings, entry_at, bind_at, bind_of, links_at, places_of_body, Name, Bind, Variable, Computed, Freeze, After, Expert, Grab}
 use Rattle.script_model.specs.Grammar.{Line}
 use Rattle.script_model.specs.Laws.{forget_body, forget_entry, forget_all, forget, forget_moment}
 use Rattle.script_model.specs.Step.{Moment, with_body, linked, unlinked, staled, effect, is_barred, bars, holds, order, verdict_for, verdict_of, name_of}

@@ -13,9 +13,9 @@ use Rattle.script_model.specs.Depth.{Point, Main, Change, Depends, points_at}
 use Rattle.script_model.specs.Blocked.{InTheWay}
 use Rattle.script_model.specs.Row.{NegatesTwo, grab_lives, x_is_set, grab_is_dead, grab_turn, GrabDies}
 use Rattle.script_model.specs.Run.{bytes_of}
-use Rattle.script_model.specs.Settle.{Settles, TurnedInvalid, builds}
+use Rattle.script_model.specs.Settle.{Settles, TurnedInvalid}
 use Rattle.script_model.specs.Step as steps
-use Rattle.script_model.specs.Step.{Moment, Stable, Tells, Stabilizes}
+use Rattle.script_model.specs.Step.{Stable, Tells, Stabilizes}
 use Rattle.script_model.proofs.Falls.{Falls, among_all, needed_among, nothing_is_blocked, either}
 use Rattle.script_model.proofs.Asked.{is_request_read}
 
@@ -219,7 +219,7 @@ module _ (F : Meanings) (neg : FnRef) where
           (
             Computed (Bind (Name 0) (Apply neg (More (Bound 0) End))) (record nothing_kept { built = Some (Val two) }),
             refl,
-            (record nothing_kept { built = Some (Val two) }, refl, record { built = builds (Val two) left_is_met x_gives refl }),
+            (record nothing_kept { built = Some (Val two) }, refl, record { built = record { needed = λ need. (Val two, x_gives, refl); either = inr (Val two, left_is_met, x_gives, refl) } }),
           ),
           ((Grab 2 one false, refl, refl), ((Computed (Join (Name 1)) nothing_kept, refl, (nothing_kept, refl, record { built = refl })), tt)),
         ),

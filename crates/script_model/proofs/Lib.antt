@@ -38,3 +38,4 @@ pub mod Transcripts
 pub mod Refusing
 pub mod Names
 pub mod Leaves
+pub mod Binds

@@ -2,7 +2,7 @@
 use Rattle.std.proofs.Common.{◌≡◌, ℕ, false, List, [], ◌∷◌, Option, None, Some, refl, ap, subst}
 use Rattle.inc_value.specs.Choice.{Every}
 use Rattle.script_model.specs.Check as check
-use Rattle.script_model.specs.Check.{Command, Reason, SessionBroken, command_of, names_of, first_that}
+use Rattle.script_model.specs.Check.{Command, command_of, names_of, first_that}
 use Rattle.script_model.specs.Formula.{Meanings}
 use Rattle.script_model.specs.Grammar as grammar
 use Rattle.script_model.specs.Grammar.{Line}

@@ -1,5 +1,5 @@
 -- An accepted stabilize keeps a state valid.
-use Rattle.std.proofs.Common.{◌≡◌, inl, ℕ, zero, suc, ◌+◌, true, false, ◌&&◌, List, [], ◌∷◌, length, slice_get, Option, None, Some, refl, sym, ◌∙◌, ap, subst, arith}
+use Rattle.std.proofs.Common.{◌≡◌, ◌⊎◌, inl, inr, ℕ, zero, suc, ◌+◌, true, false, ◌&&◌, List, [], ◌∷◌, length, slice_get, Option, None, Some, refl, sym, ◌∙◌, ap, subst, arith}
 use Rattle.std.specs.Prelude as std
 use Rattle.std.specs.List.{sum_by}
 use Rattle.std.proofs.lemmas.List.Sums.{sum_by-cons}
@@ -9,10 +9,10 @@ use Rattle.script_model.specs.Check.{target_of_body}
 use Rattle.inc_value.specs.Choice.{Every}
 use Rattle.script_model.specs.Values.{Value, Outcome, Val, Invalid, same_outcome, same_kept}
 use Rattle.script_model.specs.Formula as model
-use Rattle.script_model.specs.Formula.{Formula, Kept, Body, Entry, Observer, Watch, State, Meanings, entry_at, body_at, bind_at, built_at, bind_of, formula_of_body, places_of_body, Bind, Variable, Computed, Freeze, After, Expert, Grab, Unwatched, Fresh, Told}
+use Rattle.script_model.specs.Formula.{Formula, Kept, Body, Entry, Observer, Watch, State, Meanings, entry_at, built_at, bind_of, places_of_body, Bind, Variable, Computed, Freeze, After, Expert, Grab, Unwatched, Fresh, Told}
 use Rattle.script_model.specs.Evaluate.{Gives, NameGives, truth_of}
-use Rattle.script_model.specs.Need.{Place, Left, ItemGives}
-use Rattle.script_model.specs.Settle.{ShowAll, showing, watch_after, recorded, builds, stays, Builds, Becomes, BecomeAll, Settles, Notice}
+use Rattle.script_model.specs.Need.{Place, Left, ItemGives, Met}
+use Rattle.script_model.specs.Settle.{ShowAll, showing, watch_after, recorded, Builds, Becomes, BecomeAll, Settles, Notice}
 use Rattle.script_model.specs.Valid.{HasType, OutcomeHasType, BuiltFits, BodyHasType, ValidEntry, WatchFits, ValidObserver, Valid, KeepToTypes}
 use Rattle.script_model.proofs.Effects.{stands_where, told_where}
 use Rattle.script_model.proofs.Growing.{Grows, every_lasts, type_lasts, held_lasts, outcome_lasts, name_lasts, grab_lasts, built_lasts}
@@ -187,13 +187,16 @@ module _ (F : Meanings) (before s after : State) (notices : List Notice) (keep :
   built_has : (n : ℕ) (f : Formula) (was now : Kept) (e : Entry) (t : Ty) → entry_at s n ≡ Some e → e.body ≡ Computed f was
       → Builds F before s n f was.built now.built
       → HasType F s n [] f t → BuiltFits F s n f was → BuiltFits F after n f now
-  built_has n (Bind left body) was now e t stands is (builds o met gives built) has fits =
-      λ p there.
-      let same = some_is o p (sym built ∙ there) in
-      let given = given_has n left has.0 o has.1 (left_gives n left body was o e stands is gives) in
-      (has.0, type_lasts s after settles_grow F n [] left has.0 has.1, rw (← same) given)
-  built_has n (Bind left body) was now e t stands is (stays unneeded built) has fits =
-      λ p there. built_lasts s after settles_grow F n (Bind left body) was fits p (sym built ∙ there)
+  built_has n (Bind left body) was now e t stands is h has fits = by_either h.either
+    where
+      by_either : (now.built ≡ was.built) ⊎ ((o : Outcome) × Met F before s (Place n (Left ∷ [])) × ItemGives F s (Place n (Left ∷ [])) o × (now.built ≡ Some o))
+          → BuiltFits F after n (Bind left body) now
+      by_either (inr (o, met, gives, built)) =
+          λ p there.
+          let same = some_is o p (sym built ∙ there) in
+          let given = given_has n left has.0 o has.1 (left_gives n left body was o e stands is gives) in
+          (has.0, type_lasts s after settles_grow F n [] left has.0 has.1, rw (← same) given)
+      by_either (inl built) = λ p there. built_lasts s after settles_grow F n (Bind left body) was fits p (sym built ∙ there)
   built_has n f was now e t stands is same has fits = same ∙ fits
 
   -- a value that a freeze records

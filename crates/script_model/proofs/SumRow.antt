@@ -10,7 +10,7 @@ use Rattle.script_model.specs.Values.{Value, Int, Outcome, Val}
 use Rattle.script_model.specs.Formula.{Formula, Entry, State, Meanings, start, Literal, Name, Apply, End, More, Variable, Computed, Unwatched, nothing_kept}
 use Rattle.script_model.specs.Evaluate.{value_at, Gives}
 use Rattle.script_model.specs.Grammar as grammar
-use Rattle.script_model.specs.Grammar.{Line, Tree}
+use Rattle.script_model.specs.Grammar.{Line}
 use Rattle.script_model.specs.Literals as literals
 use Rattle.script_model.specs.Need.{Item, Named, Place, Argument, Needed, Reads, from_root, Visit, visit_of, IsVisit, WithinWork}
 use Rattle.script_model.specs.Depth.{Point, Main, Depends}

@@ -12,7 +12,7 @@ use Rattle.script_model.specs.Check.{Command, Names, Kind, Declared, command_of,
 use Rattle.inc_value.specs.Choice.{and_then, Every}
 use Rattle.script_model.specs.Evaluate.{Gives}
 use Rattle.script_model.specs.Formula as model
-use Rattle.script_model.specs.Formula.{Body, Entry, Observer, State, Meanings, start, Name, Variable, Computed, Freeze, After, Expert, Grab, nothing_kept}
+use Rattle.script_model.specs.Formula.{Body, Entry, Observer, State, Meanings, Name, Variable, Computed, Freeze, After, Expert, Grab, nothing_kept}
 use Rattle.script_model.specs.Grammar as grammar
 use Rattle.script_model.specs.Grammar.{Line, Tree}
 use Rattle.script_model.specs.Laws.{IsUnbroken, GrabsNothing, PrintAlike, broken_after, OneTranscript, OneBeginning, OneTranscriptPastRefusals, OneEnd, forget_body, forget_entry, forget_all, forget, forget_moment}

@@ -14,11 +14,11 @@ use Rattle.inc_value.specs.declared.ty.Base.{Base}
 use Rattle.inc_value.specs.declared.ty.Ty.TheVariants as ty
 use Rattle.inc_value.specs.declared.ty.Ty.{Ty}
 use Rattle.script_model.specs.Check as check
-use Rattle.script_model.specs.Check.{Declared, Names, TypedValue, TypedFormula, TypedFormulas, TypedBody, first_named, find_declared, typed_literal, where_same, literal_of_type, steps_of_type, typed_as, before, applied, typed_name, element_of, are_all, folded, branched, join_of, typed, typed_each, body_as, frozen_when, typed_top, expert_of, names_of, declared_of, kind_of_body, target_of_body, trees_in, trees_in_all, has_falling_times, times_rise, is_empty_interval}
+use Rattle.script_model.specs.Check.{Declared, TypedValue, TypedFormula, TypedFormulas, first_named, find_declared, typed_literal, where_same, literal_of_type, steps_of_type, typed_as, before, applied, typed_name, element_of, are_all, folded, branched, join_of, typed, typed_each, names_of, declared_of, target_of_body, trees_in, trees_in_all, has_falling_times, times_rise}
 use Rattle.inc_value.specs.Choice.{and_then}
 use Rattle.script_model.specs.Values.{Value}
 use Rattle.script_model.specs.Formula as model
-use Rattle.script_model.specs.Formula.{Formula, Formulas, TimedValue, Kept, Body, Entry, State, Meanings, entry_at, nothing_kept}
+use Rattle.script_model.specs.Formula.{Formula, Formulas, TimedValue, Body, Entry, State, Meanings, entry_at}
 use Rattle.script_model.specs.Grammar as grammar
 use Rattle.script_model.specs.Grammar.{Tree, Trees, TimedLiteral}
 use Rattle.script_model.specs.Literals as literals

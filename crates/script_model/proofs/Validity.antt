@@ -1,7 +1,7 @@
 -- Every line keeps the states valid.
 use Rattle.std.proofs.Common.{◌≡◌, ℕ, zero, suc, ◌+◌, ◌<◌, ◌^◌, true, false, not, cond, List, [], ◌∷◌, length, slice_get, Option, None, Some, refl, sym, subst, arith}
 use Rattle.std.specs.Prelude as std
-use Rattle.std.specs.Prelude.{nat_lt, nat_le, nat_eq, is_none, is_some, unwrap_or}
+use Rattle.std.specs.Prelude.{nat_le, nat_eq, unwrap_or}
 use Rattle.std.specs.List.{list_any}
 use Rattle.std.proofs.lemmas.Bool.{ltb-false, leb-false, ltb-true}
 use Rattle.inc_value.specs.declared.function.FnRef.{FnRef}
@@ -10,7 +10,7 @@ use Rattle.inc_value.specs.declared.ty.Ty.{Ty}
 use Rattle.inc_value.proofs.SameTypes.{types_true}
 use Rattle.inc_value.specs.Ty.{same_types}
 use Rattle.script_model.specs.Check as check
-use Rattle.script_model.specs.Check.{Kind, Command, Declared, TypedBody, TypedFormula, Reason, Declare, Assign, Link, Unlink, Stale, Take, Observe, Unobserve, Watch, Show, Advance, Stabilize, SessionBroken, NotVariable, NotBind, TimeTooLarge, TimesNotRising, SpanIsZero, BackInTime, TooManyLinks, TooManyPlaces, find_declared, kind_of, is_variable, is_bind, is_against, literal_of_type, typed, typed_top, expert_of, element_of, link_of, command_of, names_of, declared_of, kind_of_body, first_that, body_as, where_same, line_order}
+use Rattle.script_model.specs.Check.{Kind, Command, Declared, TypedBody, TypedFormula, Reason, Declare, Assign, Link, Unlink, Stale, Take, Observe, Unobserve, Watch, Show, Advance, Stabilize, NotVariable, NotBind, TimeTooLarge, TimesNotRising, SpanIsZero, BackInTime, TooManyLinks, TooManyPlaces, find_declared, kind_of, is_variable, is_bind, is_against, literal_of_type, typed, typed_top, expert_of, element_of, link_of, command_of, names_of, kind_of_body, first_that, body_as, where_same}
 use Rattle.inc_value.specs.Choice.{and_then, Every}
 use Rattle.script_model.specs.Values.{Value}
 use Rattle.script_model.specs.Formula as model

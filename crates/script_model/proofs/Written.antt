@@ -6,7 +6,7 @@ use Rattle.inc_value.specs.declared.ty.Base.TheVariants as base
 use Rattle.inc_value.specs.declared.ty.Ty.TheVariants as ty
 use Rattle.inc_value.specs.declared.ty.Ty.{Ty}
 use Rattle.script_model.specs.Grammar as grammar
-use Rattle.script_model.specs.Grammar.{Tree, Trees, TimedLiteral, Line, Call, If, Bind, Join, Fold, At, Now, Steps, Freeze, After, Every, End, More, WritesTime, WritesType, WritesLiteral, WritesSteps, WritesAnySteps, Writes, WritesEach, WritesAny, WritesLine, count_of, IsLine, IsTooDeep}
+use Rattle.script_model.specs.Grammar.{Tree, Trees, TimedLiteral, Line, Call, If, Bind, Join, Fold, At, Now, Steps, Freeze, After, Every, End, More, WritesTime, WritesType, WritesLiteral, WritesSteps, WritesAnySteps, Writes, WritesEach, WritesAny, WritesLine, count_of}
 use Rattle.script_model.specs.Literals as literals
 use Rattle.script_model.specs.Literals.{Literal, Integer, Referred}
 use Rattle.script_model.specs.GrammarLaws.{OneWriting, OneLine, LinesAreShallow, LinesAreWellFormed, OneCommand, CommandsAreShallow, CommandsAreWellFormed, DeepLinesAreWellFormed}

@@ -1,12 +1,11 @@
 -- Names, functions and types of commands: what a command comes to, and what stands against it.
 use Rattle.std.specs.Prelude as std
-use Rattle.std.specs.Prelude.{ℕ, ◌+◌, ◌^◌, true, false, not, ◌&&◌, ◌||◌, nat_lt, nat_eq, List, [], ◌∷◌, ◌++◌, length, map, cond, if◌then◌else◌, Option, None, Some, is_some, is_none, unwrap_or, slice_get}
+use Rattle.std.specs.Prelude.{ℕ, ◌+◌, ◌^◌, true, false, not, ◌&&◌, ◌||◌, nat_lt, nat_eq, List, [], ◌∷◌, ◌++◌, map, cond, if◌then◌else◌, Option, None, Some, is_some, is_none, unwrap_or, slice_get}
 use Rattle.std.specs.List.{list_any, flat_map}
 use Rattle.std.specs.Str.{bytes_eq}
 use Rattle.inc_value.specs.Ty.{same_ty, same_types, base_of, type_of_base}
 use Rattle.inc_value.specs.declared.function.FnRef.{FnRef}
 use Rattle.inc_value.specs.declared.ty.Base.TheVariants as base
-use Rattle.inc_value.specs.declared.ty.Base.{Base}
 use Rattle.inc_value.specs.declared.ty.Ty.TheVariants as ty
 use Rattle.inc_value.specs.declared.ty.Ty.{Ty}
 use Rattle.inc_value.specs.Choice.{and_then}
@@ -374,6 +373,11 @@ pub data Command : Type 0 where
   Show : (observer : List ℕ) → Command
   Advance : (time : ℕ) → Command
   Stabilize : Command
+
+-- how many binds a command declares
+abbrev pub binds_of_command : Command → ℕ
+binds_of_command (Declare name t body) = model.binds_of_body body
+binds_of_command command = 0
 
 -- a link, where the node has the type that the expert takes
 abbrev pub link_of : Option Kind → ℕ → Declared → Option Command

@@ -155,6 +155,26 @@ abbrev mutual
   places_in_all End = 0
   places_in_all (More f rest) = places_in f + places_in_all rest
 
+abbrev mutual
+  -- how many binds a formula has
+  pub binds_in : Formula → ℕ
+  binds_in (Apply f arguments) = binds_in_all arguments
+  binds_in (Fold f first elements) = binds_in_all elements
+  binds_in (If test a b) = binds_in test + (binds_in a + binds_in b)
+  binds_in (Join child) = binds_in child
+  binds_in (Bind left body) = 1 + (binds_in left + binds_in body)
+  binds_in f = 0
+
+  pub binds_in_all : Formulas → ℕ
+  binds_in_all End = 0
+  binds_in_all (More f rest) = binds_in f + binds_in_all rest
+
+-- how many binds what is declared has
+abbrev pub binds_of_body : Body → ℕ
+binds_of_body (Computed f kept) = binds_in f
+binds_of_body (Freeze child predicate frozen) = binds_in child
+binds_of_body body = 0
+
 -- a variable, an expert and a form of the top count one place, a formula its own, a grab none
 abbrev pub places_of_body : Body → ℕ
 places_of_body (Variable v) = 1

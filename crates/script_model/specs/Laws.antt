@@ -5,6 +5,7 @@ use Rattle.script_model.specs.Values as value
 use Rattle.script_model.specs.Values.{Value, Outcome}
 use Rattle.inc_value.specs.declared.ty.Ty.{Ty}
 use Rattle.script_model.specs.Formula.{Formula, Body, Computed, nothing_kept, Entry, State, Meanings, entry_at, meanings_of, Name}
+use Rattle.script_model.specs.Check.{Command, Names, binds_of_command, command_of}
 use Rattle.script_model.specs.Evaluate.{value_at, Gives, NameGives}
 use Rattle.script_model.specs.Grammar.{Line, IsLine, Stabilize, Grab}
 use Rattle.script_model.specs.Need.{Item, Named, Needed, ItemGives, WithinWork, Met, Visit, IsVisit, Edge, Inside, Place, Reads}
@@ -46,6 +47,12 @@ abbrev pub OneEffect : Type 0
 OneEffect =
     (F : Meanings) (m a b : Moment) (line : List ℕ) (rs qs : List Reply) → (IsRequest line (Asks Stabilize) → ⊥)
     → Step F m line a rs → Step F m line b qs → (a ≡ b) × (rs ≡ qs)
+
+-- what a line declares has at most 64 binds, since each opens a level for the rest of the line
+abbrev pub FewBinds : Type 0
+FewBinds =
+    (F : Meanings) (names : Names) (bytes : List ℕ) (line : Line) (command : Command) → IsLine bytes line
+    → command_of F names line ≡ Some command → binds_of_command command ≤ 64
 
 -- in a valid state where nothing that is needed is on a cycle, whatever is needed gives an outcome
 abbrev pub NeededGives : Type 0

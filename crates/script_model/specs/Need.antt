@@ -4,7 +4,7 @@ use Rattle.std.specs.List.{sum_by}
 use Rattle.inc_value.specs.Choice.{and_then, Among, NoRepeats, Every, Reaches}
 use Rattle.script_model.specs.Values.{Value, Outcome, Bool, Reference, Val, same_value}
 use Rattle.script_model.specs.Formula as model
-use Rattle.script_model.specs.Formula.{Formula, Formulas, Body, Entry, Observer, State, Meanings, entry_at, body_at, bind_at, formula_of_body, Literal, Name, Bound, Apply, Fold, If, Join, Bind, At, Steps, Now, End, More, Variable, Computed, Freeze, After, Expert, Grab}
+use Rattle.script_model.specs.Formula.{Formula, Formulas, Body, Entry, Observer, State, Meanings, body_at, formula_of_body, Literal, Name, Bound, Apply, Fold, If, Join, Bind, At, Steps, Now, End, More, Variable, Computed, Freeze, After, Expert, Grab}
 use Rattle.script_model.specs.Evaluate.{Gathered, Values, gathered, each_of, value_at}
 
 -- ---- items

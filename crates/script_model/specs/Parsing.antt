@@ -13,7 +13,7 @@ use Rattle.script_model.specs.Literals as literals
 use Rattle.script_model.specs.Literals.{Literal, Integer, Referred}
 use Rattle.script_model.specs.Language.{is_name, integer_of, number_from}
 use Rattle.script_model.specs.Tokens as token
-use Rattle.script_model.specs.Tokens.{Token, Word, Number, Text, Punctuation, Open, Close, OpenBracket, CloseBracket, Comma, Colon, Equals, Ampersand}
+use Rattle.script_model.specs.Tokens.{Token, Word, Number, Text, Punctuation, Open, Ampersand}
 
 -- ---- reading in turn
 

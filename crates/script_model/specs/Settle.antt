@@ -1,5 +1,5 @@
 -- What an accepted stabilize leaves, and what it tells.
-use Rattle.std.specs.Prelude.{◌≡◌, ℕ, suc, ◌+◌, true, false, ◌&&◌, List, [], ◌∷◌, ◌++◌, Option, None, Some}
+use Rattle.std.specs.Prelude.{◌≡◌, ◌⊎◌, ℕ, suc, ◌+◌, true, false, ◌&&◌, List, [], ◌∷◌, ◌++◌, Option, None, Some}
 use Rattle.inc_value.specs.declared.function.FnRef.{FnRef}
 use Rattle.script_model.specs.Values.{Value, Outcome, Val, Invalid, same_outcome, same_kept}
 use Rattle.script_model.specs.Formula as model
@@ -52,9 +52,10 @@ recorded F predicate (Val v) = elim (truth_of (F.value predicate (v ∷ []))) [ 
 
 -- what a bind was last built for, afterwards: its left's outcome where its left is needed; that or what it was where it
 -- is met alone; else what it was
-pub data BuildsFor (F : Meanings) (before s : State) (n : ℕ) (was now : Option Outcome) : Type 0 where
-  builds : (o : Outcome) → Met F before s (Place n (Left ∷ [])) → ItemGives F s (Place n (Left ∷ [])) o → now ≡ Some o → BuildsFor F before s n was now
-  stays : (Needed F s (Place n (Left ∷ [])) → ⊥) → now ≡ was → BuildsFor F before s n was now
+pub record BuildsFor (F : Meanings) (before s : State) (n : ℕ) (was now : Option Outcome) : Type 0 where
+  pub needed : Needed F s (Place n (Left ∷ [])) → (o : Outcome) × ItemGives F s (Place n (Left ∷ [])) o × (now ≡ Some o)
+  pub either : (now ≡ was)
+      ⊎ ((o : Outcome) × Met F before s (Place n (Left ∷ [])) × ItemGives F s (Place n (Left ∷ [])) o × (now ≡ Some o))
 
 -- what the whole formula of a `let` was last built for
 abbrev pub Builds : Meanings → State → State → ℕ → Formula → Option Outcome → Option Outcome → Type 0

@@ -7,7 +7,7 @@ use Rattle.inc_value.specs.declared.ty.Ty.{Ty}
 use Rattle.inc_value.specs.Choice.{and_then, Among}
 use Rattle.script_model.specs.Values.{Outcome, Val, printed_value, printed_outcome}
 use Rattle.script_model.specs.Formula as model
-use Rattle.script_model.specs.Formula.{Formula, Body, Entry, Observer, State, Meanings, Name, start, entry_at, built_at, bind_at, links_at, places_of, places_of_body, nothing_kept, Unwatched, Fresh, Told}
+use Rattle.script_model.specs.Formula.{Formula, Body, Entry, Observer, State, Meanings, Name, start, entry_at, built_at, bind_at, links_at, places_of, places_of_body, nothing_kept, Unwatched, Fresh}
 use Rattle.script_model.specs.Grammar.{Line}
 use Rattle.script_model.specs.Check.{Reason, Command, SessionBroken, NotStabilized, NotBuilt, NotLinked, TooManyLinks, TooManyPlaces, reason_number, is_against, line_order, first_that, command_of, names_of, target_of_body, Declare, Assign, Link, Unlink, Stale, Take, Observe, Unobserve, Watch, Show, Advance, Stabilize}
 use Rattle.script_model.specs.Request.{Request, TooLong, Blank, Malformed, TooDeep, Asks, IsRequest}

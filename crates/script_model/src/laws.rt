@@ -1,8 +1,13 @@
 //! Laws of the definitions. Each function does nothing: its contract is the law.
 ghost use Rattle.script_model.specs.GrammarLaws.{OneWriting, OneLine, LinesAreShallow, LinesAreWellFormed, OneCommand, CommandsAreShallow, CommandsAreWellFormed, DeepLinesAreWellFormed, WhatIsReadIsWritten};
-ghost use Rattle.script_model.specs.Laws.{NothingDueAfterSettling, EveryDepthAgrees, OneOutcome, RefusalsChangeNothing, RefusedStabilizesBreak, OneRequest, OneEffect, StartIsValid, StepsKeepValidity, LinesKeepValidity, HaltsKeepValidity, RunsAreValid, ValuesHaveTypes, DeclarationsHaveTypes, CallsAreTyped, VisitsCountCalls, NeededGives, GivenIsOnNoCycle, LibrariesKeepToTypes, EveryLineAsks, OnlyStabilizesCall, OneVisit, MeetsOnce, ReadsSuffice, OneTranscript, OneBeginning, OneTranscriptPastRefusals, OneEnd, UnblockedIsAccepted, BlockedIsRefused, OnlyHereIsAsked};
+ghost use Rattle.script_model.specs.Laws.{FewBinds, NothingDueAfterSettling, EveryDepthAgrees, OneOutcome, RefusalsChangeNothing, RefusedStabilizesBreak, OneRequest, OneEffect, StartIsValid, StepsKeepValidity, LinesKeepValidity, HaltsKeepValidity, RunsAreValid, ValuesHaveTypes, DeclarationsHaveTypes, CallsAreTyped, VisitsCountCalls, NeededGives, GivenIsOnNoCycle, LibrariesKeepToTypes, EveryLineAsks, OnlyStabilizesCall, OneVisit, MeetsOnce, ReadsSuffice, OneTranscript, OneBeginning, OneTranscriptPastRefusals, OneEnd, UnblockedIsAccepted, BlockedIsRefused, OnlyHereIsAsked};
 ghost use Rattle.script_model.specs.TokenLaws.{OneSpelling};
 ghost use Rattle.script_model.specs.Row.{SumIsShown, SumIsOneCall, BindIsShown, BindIsOneCall, NameIsOnCycle, GrabDies, ChainIsTooDeep, GrabStateIsValid};
+
+/// What a line declares has at most 64 binds.
+pub fn few_binds()
+    ensures { FewBinds }
+{}
 
 /// What a formula gives within a depth it gives within every greater one.
 pub fn every_depth_agrees()

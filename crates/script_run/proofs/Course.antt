@@ -18,10 +18,10 @@ use Rattle.session.specs.declared.answer.Did.{Did}
 use Rattle.session.specs.declared.answer.Did.TheVariants as did
 use Rattle.script_graph.specs.Kept.{Kept}
 use Rattle.script_graph.specs.State.{Stands}
-use Rattle.session.specs.Taken.{Says, Takes, Stops}
-use Rattle.script_run.proofs.Counts.{AreCounts-more}
+use Rattle.session.specs.Taken.{AsksStabilize, Says, Takes, Stops}
+use Rattle.script_run.proofs.Counting.{AreCounts-more}
 use Rattle.script_run.proofs.Turns.{turn_tells, turn_is_alike}
-use Rattle.script_run.specs.Counts.{Counted, turns_of}
+use Rattle.script_run.specs.Counts.{Count, Counted, IsCount, count_at_first, turns_of}
 use Rattle.script_run.specs.Progress.{Point, CourseSoFar, Progress}
 use Rattle.script_run.specs.Running.{Outside, Ran, before_line, at_line, behind_turn}
 use Rattle.script_run.specs.Saying.{is_refusal_said}
@@ -64,8 +64,24 @@ takes_round F m line old new buffer appended called calls how stands t =
     (subst (λ n. TellsRound t.turn.before.present.accepted n t.turn.replies) t.stands.matches.accepted (turn_tells F t.turn t.is_turn))
 
 -- a turn that a line led to, with its counts
-abbrev counted_turn : Turn → ℕ → ℕ → Counted
-counted_turn t called calls = record { turn = t; called = called; calls = calls }
+abbrev counted_turn : Turn → Count → Count → Counted
+counted_turn t was is = record { turn = t; was = was; is = is }
+
+-- no count falls over a line, and that of builds rises in a stabilize alone
+pub record CountsRise (line : List ℕ) (was is : Count) : Type 0 where
+  pub calls : was.calls ≤ is.calls
+  pub builds : was.builds ≤ is.builds
+  pub quiet : (AsksStabilize line → ⊥) → is.builds ≡ was.builds
+
+-- the counts of the turn over the line
+turn_counts : (F : Meanings) (m : Moment) (line : List ℕ) (new : Kept) (buffer appended : List ℕ) (how : Did) (was is : Count)
+    → (t : Takes F m line new buffer appended was.calls is.calls how) → CountsRise line was is → IsCount (counted_turn t.turn was is)
+turn_counts F m line new buffer appended how was is t rise = record {
+  later = rise.calls;
+  within = t.within;
+  built_later = rise.builds;
+  quiet = λ none. rise.quiet (λ asks. none (subst AsksStabilize (sym t.over) asks));
+}
 
 -- the reader took a line off the bytes ahead, within the limit
 pub record IsTaken (limit : ℕ) (old new : Reader) (before after : Option (List ℕ)) (line part : List ℕ) : Type 0 where
@@ -85,16 +101,16 @@ lines-more F limit before point new counted end line part c is =
 
 -- what one line more leads to, but for what the sink is given
 Course-more : (F : Meanings) (limit : ℕ) (before : Outside) (point new : Point) (counted : List Counted) (end : Moment) (line part buffer appended : List ℕ) (how : Did)
-    → CourseSoFar F limit before point counted end → (t : Takes F end line new.kept buffer appended point.calls new.calls how) → point.calls ≤ new.calls
+    → CourseSoFar F limit before point counted end → (t : Takes F end line new.kept buffer appended point.count.calls new.count.calls how) → CountsRise line point.count new.count
     → IsTaken limit point.reader new.reader point.left new.left line part
-    → new.refused ≡ (point.refused || is_refusal_said how) → CourseSoFar F limit before new (counted ++ counted_turn t.turn point.calls new.calls ∷ []) t.turn.after
+    → new.refused ≡ (point.refused || is_refusal_said how) → CourseSoFar F limit before new (counted ++ counted_turn t.turn point.count new.count ∷ []) t.turn.after
 Course-more F limit before point new counted end line part buffer appended how c t later is said =
-    let last = counted_turn t.turn point.calls new.calls in
+    let last = counted_turn t.turn point.count new.count in
     let turns = turns_of-more counted last in
     record {
       chain = subst (λ ts. Chain F first_moment ts t.turn.after) (sym turns) (Chain-more F first_moment end (turns_of counted) t.turn c.chain t.from t.is_turn);
       stands = t.stands;
-      counts = AreCounts-more before.calls point.calls counted last c.counts refl (record { later = later; within = t.within });
+      counts = AreCounts-more (count_at_first before.calls) point.count counted last c.counts refl (turn_counts F end line new.kept buffer appended how point.count new.count t later);
       refused = ap any_refused turns ∙ any_refused-more (turns_of counted) t.turn ∙ ap (λ b. b || is_refused t.turn) c.refused
           ∙ ap (λ b. point.refused || b) (refusal-said F t.turn how t.is_turn t.says) ∙ sym said;
       read = subst (λ ls. IfSome before.left (λ bytes. ReadSoFar limit bytes new.reader new.left ls))
@@ -107,23 +123,23 @@ printed-is : (t : Turn) (buffer appended : List ℕ) → buffer ≡ [] → appen
 printed-is t buffer appended empty are = are ∙ ap (λ l. l ++ bytes_of t) empty
 
 -- nothing is written behind a refusal
-pub refusal_told : (behind : Behind) (quiet : (why : Refusal) (called calls : ℕ) → behind (Refused why ∷ []) called calls ≡ []) (number called calls before after : ℕ)
-    (appended : List ℕ) (replies : List Reply) → Says (did.Refused number) replies → TellsRound before after replies → appended ≡ appended ++ behind replies called calls
-refusal_told behind quiet number called calls before after appended replies says round =
-    sym (append-nil appended) ∙ ap (λ l. appended ++ l) (sym (ap (λ rs. behind rs called calls) says.1 ∙ quiet says.0 called calls))
+pub refusal_told : (behind : Behind) (quiet : (why : Refusal) (was is : Count) → behind (Refused why ∷ []) was is ≡ []) (number : ℕ) (was is : Count) (before after : ℕ)
+    (appended : List ℕ) (replies : List Reply) → Says (did.Refused number) replies → TellsRound before after replies → appended ≡ appended ++ behind replies was is
+refusal_told behind quiet number was is before after appended replies says round =
+    sym (append-nil appended) ∙ ap (λ l. appended ++ l) (sym (ap (λ rs. behind rs was is) says.1 ∙ quiet says.0 was is))
 
 -- one line more, and all that is written of it
 pub Progress-more : (F : Meanings) (behind : Behind) (limit : ℕ) (before : Outside) (point new : Point) (line part buffer appended whole : List ℕ) (how : Did)
-    → Progress F behind limit before point → ((m : Moment) → Stands F point.kept m → Takes F m line new.kept buffer appended point.calls new.calls how) → point.calls ≤ new.calls
+    → Progress F behind limit before point → ((m : Moment) → Stands F point.kept m → Takes F m line new.kept buffer appended point.count.calls new.count.calls how) → CountsRise line point.count new.count
     → IsTaken limit point.reader new.reader point.left new.left line part
     → new.refused ≡ (point.refused || is_refusal_said how) → buffer ≡ []
-    → ((replies : List Reply) → Says how replies → TellsRound point.kept.accepted new.kept.accepted replies → whole ≡ appended ++ behind replies point.calls new.calls)
+    → ((replies : List Reply) → Says how replies → TellsRound point.kept.accepted new.kept.accepted replies → whole ≡ appended ++ behind replies point.count new.count)
     → Appends point.written new.written whole → Progress F behind limit before new
 Progress-more F behind limit before point new line part buffer appended whole how p takes later is said empty told written =
     let t = takes p.end p.course.stands in
-    let last = counted_turn t.turn point.calls new.calls in
+    let last = counted_turn t.turn point.count new.count in
     let are = printed-is t.turn buffer appended empty t.printed in
-    let same : whole ≡ told_of behind last = told t.turn.replies t.says (takes_round F p.end line point.kept new.kept buffer appended point.calls new.calls how p.course.stands t) ∙ ap (λ l. l ++ behind t.turn.replies point.calls new.calls) are in
+    let same : whole ≡ told_of behind last = told t.turn.replies t.says (takes_round F p.end line point.kept new.kept buffer appended point.count.calls new.count.calls how p.course.stands t) ∙ ap (λ l. l ++ behind t.turn.replies point.count new.count) are in
     record {
       counted = p.counted ++ last ∷ [];
       end = t.turn.after;
@@ -142,24 +158,24 @@ no-other F limit before point counted end c =
 
 -- one line more, of which the sink took a front of what is written
 pub Ran-write_fault : (F : Meanings) (behind : Behind) (limit : ℕ) (before : Outside) (point new : Point) (line part buffer appended whole : List ℕ) (how : Did)
-    → Progress F behind limit before point → ((m : Moment) → Stands F point.kept m → Takes F m line new.kept buffer appended point.calls new.calls how) → point.calls ≤ new.calls
+    → Progress F behind limit before point → ((m : Moment) → Stands F point.kept m → Takes F m line new.kept buffer appended point.count.calls new.count.calls how) → CountsRise line point.count new.count
     → IsTaken limit point.reader new.reader point.left new.left line part
     → new.refused ≡ (point.refused || is_refusal_said how) → buffer ≡ []
-    → ((replies : List Reply) → Says how replies → TellsRound point.kept.accepted new.kept.accepted replies → whole ≡ appended ++ behind replies point.calls new.calls)
+    → ((replies : List Reply) → Says how replies → TellsRound point.kept.accepted new.kept.accepted replies → whole ≡ appended ++ behind replies point.count new.count)
     → ((n : ℕ) × (n < length whole) × Appends point.written new.written (take n whole))
-    → Ran F behind ending.WriteFault limit before (record { left = new.left; written = new.written; calls = new.calls })
+    → Ran F behind ending.WriteFault limit before (record { left = new.left; written = new.written; calls = new.count.calls })
 Ran-write_fault F behind limit before point new line part buffer appended whole how p takes later is said empty told written =
     let t = takes p.end p.course.stands in
-    let last = counted_turn t.turn point.calls new.calls in
+    let last = counted_turn t.turn point.count new.count in
     let are = printed-is t.turn buffer appended empty t.printed in
-    let same : whole ≡ told_of behind last = told t.turn.replies t.says (takes_round F p.end line point.kept new.kept buffer appended point.calls new.calls how p.course.stands t) ∙ ap (λ l. l ++ behind t.turn.replies point.calls new.calls) are in
+    let same : whole ≡ told_of behind last = told t.turn.replies t.says (takes_round F p.end line point.kept new.kept buffer appended point.count.calls new.count.calls how p.course.stands t) ∙ ap (λ l. l ++ behind t.turn.replies point.count new.count) are in
     let c = Course-more F limit before point new p.counted p.end line part buffer appended how p.course t later is said in
     record {
       course = record {
         counted = p.counted ++ last ∷ [];
         end = t.turn.after;
         chain = c.chain;
-        reached = new.calls;
+        reached = new.count;
         counts = c.counts;
         halted = [];
         stopped = (refl, refl);
@@ -188,8 +204,8 @@ stops_at_once F m line old new called calls kept same stands = record {
 
 -- no memory for a line
 pub Ran-no_memory : (F : Meanings) (behind : Behind) (limit : ℕ) (before : Outside) (point new : Point) (line part : List ℕ)
-    → Progress F behind limit before point → ((m : Moment) → Stands F point.kept m → Stops F m line new.kept point.calls new.calls) → point.calls ≤ new.calls
-    → IsTaken limit point.reader new.reader point.left new.left line part → Ran F behind ending.Memory limit before (record { left = new.left; written = point.written; calls = new.calls })
+    → Progress F behind limit before point → ((m : Moment) → Stands F point.kept m → Stops F m line new.kept point.count.calls new.count.calls) → CountsRise line point.count new.count
+    → IsTaken limit point.reader new.reader point.left new.left line part → Ran F behind ending.Memory limit before (record { left = new.left; written = point.written; calls = new.count.calls })
 Ran-no_memory F behind limit before point new line part p stops later is =
     let s = stops p.end p.course.stands in
     record {
@@ -197,10 +213,10 @@ Ran-no_memory F behind limit before point new line part p stops later is =
         counted = p.counted;
         end = p.end;
         chain = p.course.chain;
-        reached = point.calls;
+        reached = point.count;
         counts = p.course.counts;
         halted = line ∷ [];
-        stopped = at_line line s.after s.due refl s.halts later s.within;
+        stopped = at_line line s.after s.due refl s.halts later.calls s.within;
       };
       read = AreFirst-so_far limit before.left new.left new.reader (lines_read (turns_of p.counted) ++ line ∷ []) (lines-more F limit before point new p.counted p.end line part p.course is);
       written = p.written;
@@ -208,23 +224,23 @@ Ran-no_memory F behind limit before point new line part p stops later is =
 
 -- no memory for what stands behind a turn
 pub Ran-no_memory_behind : (F : Meanings) (behind : Behind) (limit : ℕ) (before : Outside) (point new : Point) (line part buffer appended : List ℕ) (how : Did)
-    → Progress F behind limit before point → ((m : Moment) → Stands F point.kept m → Takes F m line new.kept buffer appended point.calls new.calls how) → point.calls ≤ new.calls
+    → Progress F behind limit before point → ((m : Moment) → Stands F point.kept m → Takes F m line new.kept buffer appended point.count.calls new.count.calls how) → CountsRise line point.count new.count
     → IsTaken limit point.reader new.reader point.left new.left line part → buffer ≡ []
-    → ((replies : List Reply) → Says how replies → TellsRound point.kept.accepted new.kept.accepted replies → behind replies point.calls new.calls ≢ [])
-    → Ran F behind ending.Memory limit before (record { left = new.left; written = point.written; calls = new.calls })
+    → ((replies : List Reply) → Says how replies → TellsRound point.kept.accepted new.kept.accepted replies → behind replies point.count new.count ≢ [])
+    → Ran F behind ending.Memory limit before (record { left = new.left; written = point.written; calls = new.count.calls })
 Ran-no_memory_behind F behind limit before point new line part buffer appended how p takes later is empty wanted =
     let t = takes p.end p.course.stands in
-    let last = counted_turn t.turn point.calls new.calls in
+    let last = counted_turn t.turn point.count new.count in
     record {
       course = record {
         counted = p.counted;
         end = p.end;
         chain = p.course.chain;
-        reached = point.calls;
+        reached = point.count;
         counts = p.course.counts;
         halted = line ∷ [];
-        stopped = behind_turn last (ap (λ l. l ∷ []) (sym t.over)) t.from t.is_turn (record { later = later; within = t.within }) refl refl
-            (wanted t.turn.replies t.says (takes_round F p.end line point.kept new.kept buffer appended point.calls new.calls how p.course.stands t));
+        stopped = behind_turn last (ap (λ l. l ∷ []) (sym t.over)) t.from t.is_turn (turn_counts F p.end line new.kept buffer appended how point.count new.count t later) refl refl
+            (wanted t.turn.replies t.says (takes_round F p.end line point.kept new.kept buffer appended point.count.calls new.count.calls how p.course.stands t));
       };
       read = AreFirst-so_far limit before.left new.left new.reader (lines_read (turns_of p.counted) ++ line ∷ []) (lines-more F limit before point new p.counted p.end line part p.course is);
       written = p.written;
@@ -233,13 +249,13 @@ Ran-no_memory_behind F behind limit before point new line part buffer appended h
 -- the input came to its end
 ended : (F : Meanings) (behind : Behind) (limit : ℕ) (before : Outside) (point : Point) (left : Option (List ℕ)) (reader : Reader) (part : List ℕ) (refused : Bool)
     → point.refused ≡ refused → Progress F behind limit before point → Consumes (ahead point.reader point.left) (ahead reader left) part → IsEnd reader (ahead reader left) part
-    → Ran F behind (if refused then ending.Refused else ending.Accepted) limit before (record { left = left; written = point.written; calls = point.calls })
+    → Ran F behind (if refused then ending.Refused else ending.Accepted) limit before (record { left = left; written = point.written; calls = point.count.calls })
 ended F behind limit before point left reader part true is p bytes end = record {
   course = record {
     counted = p.counted;
     end = p.end;
     chain = p.course.chain;
-    reached = point.calls;
+    reached = point.count;
     counts = p.course.counts;
     halted = [];
     stopped = (refl, refl);
@@ -252,7 +268,7 @@ ended F behind limit before point left reader part false is p bytes end = record
     counted = p.counted;
     end = p.end;
     chain = p.course.chain;
-    reached = point.calls;
+    reached = point.count;
     counts = p.course.counts;
     halted = [];
     stopped = (refl, refl);
@@ -264,21 +280,21 @@ ended F behind limit before point left reader part false is p bytes end = record
 pub Ran-at_end : (F : Meanings) (behind : Behind) (limit : ℕ) (before : Outside) (point : Point) (left : Option (List ℕ)) (reader : Reader) (part : List ℕ) (e : Ending)
     → e ≡ (if point.refused then ending.Refused else ending.Accepted)
     → Progress F behind limit before point → Consumes (ahead point.reader point.left) (ahead reader left) part → IsEnd reader (ahead reader left) part
-    → Ran F behind e limit before (record { left = left; written = point.written; calls = point.calls })
+    → Ran F behind e limit before (record { left = left; written = point.written; calls = point.count.calls })
 Ran-at_end F behind limit before point left reader part e is p bytes end =
-    subst (λ x. Ran F behind x limit before (record { left = left; written = point.written; calls = point.calls })) (sym is) (ended F behind limit before point left reader part point.refused refl p bytes end)
+    subst (λ x. Ran F behind x limit before (record { left = left; written = point.written; calls = point.count.calls })) (sym is) (ended F behind limit before point left reader part point.refused refl p bytes end)
 
 -- the source failed
 pub Ran-read_fault : (F : Meanings) (behind : Behind) (limit : ℕ) (before : Outside) (point : Point) (left : Option (List ℕ)) (reader : Reader) (part : List ℕ)
     → Progress F behind limit before point → Consumes (ahead point.reader point.left) (ahead reader left) part → reader.taken ≡ point.reader.taken + length part
     → reader.taken ≤ limit → length reader.held ≤ 4096 → IsFault reader part
-    → Ran F behind ending.ReadFault limit before (record { left = left; written = point.written; calls = point.calls })
+    → Ran F behind ending.ReadFault limit before (record { left = left; written = point.written; calls = point.count.calls })
 Ran-read_fault F behind limit before point left reader part p bytes count within few is = record {
   course = record {
     counted = p.counted;
     end = p.end;
     chain = p.course.chain;
-    reached = point.calls;
+    reached = point.count;
     counts = p.course.counts;
     halted = [];
     stopped = (refl, refl);
@@ -291,13 +307,13 @@ Ran-read_fault F behind limit before point left reader part p bytes count within
 pub Ran-limit : (F : Meanings) (behind : Behind) (limit : ℕ) (before : Outside) (point : Point) (left : Option (List ℕ)) (reader : Reader) (part : List ℕ)
     → Progress F behind limit before point → Consumes (ahead point.reader point.left) (ahead reader left) part → reader.taken ≡ point.reader.taken + length part
     → reader.taken ≤ limit → length reader.held ≤ 4096 → IsLimit reader limit part
-    → Ran F behind ending.Limit limit before (record { left = left; written = point.written; calls = point.calls })
+    → Ran F behind ending.Limit limit before (record { left = left; written = point.written; calls = point.count.calls })
 Ran-limit F behind limit before point left reader part p bytes count within few is = record {
   course = record {
     counted = p.counted;
     end = p.end;
     chain = p.course.chain;
-    reached = point.calls;
+    reached = point.count;
     counts = p.course.counts;
     halted = [];
     stopped = (refl, refl);
@@ -309,10 +325,10 @@ Ran-limit F behind limit before point left reader part p bytes count within few 
 -- ---- how a run begins
 
 -- a run that has read nothing
-pub Progress-start : (F : Meanings) (behind : Behind) (limit : ℕ) (before : Outside) (reader : Reader) (kept : Kept) (calls : ℕ) → Stands F kept first_moment
-    → reader ≡ fresh → calls ≡ before.calls
-    → Progress F behind limit before (record { reader = reader; left = before.left; written = before.written; kept = kept; calls = calls; refused = false })
-Progress-start F behind limit before reader kept calls stands none same = record {
+pub Progress-start : (F : Meanings) (behind : Behind) (limit : ℕ) (before : Outside) (reader : Reader) (kept : Kept) (count : Count) → Stands F kept first_moment
+    → reader ≡ fresh → count ≡ count_at_first before.calls
+    → Progress F behind limit before (record { reader = reader; left = before.left; written = before.written; kept = kept; count = count; refused = false })
+Progress-start F behind limit before reader kept count stands none same = record {
   counted = [];
   end = first_moment;
   course = record { chain = refl; stands = stands; counts = sym same; refused = refl; read = ReadSoFar-start limit before.left reader none };
@@ -327,7 +343,7 @@ Ran-nothing F behind limit before calls same = record {
     counted = [];
     end = first_moment;
     chain = refl;
-    reached = before.calls;
+    reached = count_at_first before.calls;
     counts = refl;
     halted = [];
     stopped = before_line refl same;

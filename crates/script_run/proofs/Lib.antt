@@ -1,4 +1,4 @@
-mod Counts
+mod Counting
 mod Course
 mod Steps
 mod Sums

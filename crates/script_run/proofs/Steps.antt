@@ -9,12 +9,12 @@ use Rattle.script_io.specs.declared.ending.Ending.TheVariants as ending
 use Rattle.script_io.specs.declared.line_reader.Got.TheVariants as answer
 use Rattle.script_model.specs.Formula.{Meanings}
 use Rattle.script_model.specs.Step.{first_moment}
-use Rattle.script_run.proofs.Course.{IsTaken, Progress-more, Progress-start, Ran-no_memory, Ran-no_memory_behind, Ran-write_fault}
+use Rattle.script_run.proofs.Course.{CountsRise, IsTaken, Progress-more, Progress-start, Ran-no_memory, Ran-no_memory_behind, Ran-write_fault}
 use Rattle.script_run.specs.Programs.{KeepsLibrary, around}
 use Rattle.script_run.specs.Progress.{Progress}
 use Rattle.script_run.specs.Running.{Outside, Ran}
 use Rattle.script_run.specs.Saying.{is_refusal_said}
-use Rattle.script_run.specs.Steps.{AnswersLine, Desk, EndsRun, IsReady, LineEnds, Place, RunsLines, TakesLine, all_written, cut_off, not_taken, not_told, outside_at, point_at}
+use Rattle.script_run.specs.Steps.{AnswersLine, Desk, EndsRun, IsReady, LineEnds, Place, RunsLines, TakesLine, all_written, counted_at, cut_off, not_taken, not_told, outside_at, point_at}
 use Rattle.script_run.specs.Telling.{Behind}
 
 -- ---- faults
@@ -120,6 +120,13 @@ module _ {L : Type 0} (meanings : L → Meanings) (known : L → FnRef → Bool)
       abbrev F : Meanings
       F = meanings old.desk.session.library
 
+      -- how the counts rise over a line that is answered
+      rise : (IsLine : List ℕ → Type 0) (line : List ℕ) → IsLine line → {result : Result Bool Ending}
+          → AnswersLine meanings known calls behind IsLine refused old.desk new.desk result
+          → CountsRise line (counted_at calls old.desk.session) (counted_at calls new.desk.session)
+      rise IsLine line is_line answers =
+          record { calls = answers.library.calls_grow; builds = answers.builds_grow; quiet = answers.quiet line is_line }
+
       -- a line was taken off the bytes, and answered
       pub takes_line : (IsLine : List ℕ → Type 0) (line part : List ℕ) → IsLine line → IsReady limit old
           → IsTaken limit old.reader new.reader old.left new.left line part → old.reader.taken < new.reader.taken → new.reader.ended ≡ false
@@ -132,7 +139,7 @@ module _ {L : Type 0} (meanings : L → Meanings) (known : L → FnRef → Bool)
           lines = let more = answers.lines in let few = ready.lines in omega (arith, more, few, grows)
 
           go : LineEnds F behind IsLine refused old.desk.session.kept new.desk.session.kept
-              (calls old.desk.session.library) (calls new.desk.session.library) old.desk.written new.desk.written result
+              (counted_at calls old.desk.session) (counted_at calls new.desk.session) old.desk.written new.desk.written result
               → TakesLine meanings known calls behind limit refused old new result
           go (all_written how appended whole p is print) =
               let a = subst (AnswersLine meanings known calls behind IsLine refused old.desk new.desk) is answers in
@@ -145,7 +152,7 @@ module _ {L : Type 0} (meanings : L → Meanings) (known : L → FnRef → Bool)
                 sink = a.sink;
                 goes_on = λ before so_far. Progress-more F behind limit before (point_at calls old refused)
                     (point_at calls new (refused || is_refusal_said how)) line part [] appended whole how so_far
-                    (λ m st. p.takes m line is_line st) a.library.calls_grow taken refl refl p.told print;
+                    (λ m st. p.takes m line is_line st) (rise IsLine line is_line a) taken refl refl p.told print;
                 ends = tt;
               })
           go (cut_off how appended whole size p is short print) =
@@ -160,7 +167,7 @@ module _ {L : Type 0} (meanings : L → Meanings) (known : L → FnRef → Bool)
                 goes_on = tt;
                 ends = λ before so_far. Ran-write_fault F behind limit before (point_at calls old refused)
                     (point_at calls new (refused || is_refusal_said how)) line part [] appended whole how so_far
-                    (λ m st. p.takes m line is_line st) a.library.calls_grow taken refl refl p.told (size, short, print);
+                    (λ m st. p.takes m line is_line st) (rise IsLine line is_line a) taken refl refl p.told (size, short, print);
               })
           go (not_taken stops is same) =
               let a = subst (AnswersLine meanings known calls behind IsLine refused old.desk new.desk) is answers in
@@ -175,7 +182,7 @@ module _ {L : Type 0} (meanings : L → Meanings) (known : L → FnRef → Bool)
                 ends = λ before so_far. subst (λ (w : Option (List ℕ)). Ran F behind ending.Memory limit before
                     (record { left = new.left; written = w; calls = calls new.desk.session.library })) (sym same)
                     (Ran-no_memory F behind limit before (point_at calls old refused) (point_at calls new refused) line part so_far
-                    (λ m st. stops m line is_line st) a.library.calls_grow taken);
+                    (λ m st. stops m line is_line st) (rise IsLine line is_line a) taken);
               })
           go (not_told how appended takes wanted is same) =
               let a = subst (AnswersLine meanings known calls behind IsLine refused old.desk new.desk) is answers in
@@ -190,7 +197,7 @@ module _ {L : Type 0} (meanings : L → Meanings) (known : L → FnRef → Bool)
                 ends = λ before so_far. subst (λ (w : Option (List ℕ)). Ran F behind ending.Memory limit before
                     (record { left = new.left; written = w; calls = calls new.desk.session.library })) (sym same)
                     (Ran-no_memory_behind F behind limit before (point_at calls old refused) (point_at calls new refused) line part [] appended how so_far
-                    (λ m st. takes m line is_line st) a.library.calls_grow taken refl wanted);
+                    (λ m st. takes m line is_line st) (rise IsLine line is_line a) taken refl wanted);
               })
 
       -- no line was taken, and the run ends
@@ -271,10 +278,10 @@ module _ {L : Type 0} (meanings : L → Meanings) (known : L → FnRef → Bool)
 
     -- the session is new and the reader has read nothing, and the library is given back in the end
     pub runs_lines : (limit : ℕ) (lib given : L) (old new : Place L) (e : Ending) → old.desk.session.library ≡ lib → given ≡ new.desk.session.library
-        → Stands (meanings lib) old.desk.session.kept first_moment → old.reader ≡ fresh → EndsRun meanings known calls behind limit false old new e
+        → old.desk.session.builds ≡ 0 → Stands (meanings lib) old.desk.session.kept first_moment → old.reader ≡ fresh → EndsRun meanings known calls behind limit false old new e
         → RunsLines meanings known calls behind limit (around lib old.left old.source_faults old.desk.written old.desk.sink_faults)
         (around given new.left new.source_faults new.desk.written new.desk.sink_faults) e
-    runs_lines limit lib given old new e first last stands none run =
+    runs_lines limit lib given old new e first last unbuilt stands none run =
         let before : Outside = record { left = old.left; written = old.desk.written; calls = calls lib } in
         let same : meanings old.desk.session.library ≡ meanings lib = ap meanings first in
         record {
@@ -282,8 +289,9 @@ module _ {L : Type 0} (meanings : L → Meanings) (known : L → FnRef → Bool)
               (sym last)
               (subst (λ (f : Meanings). Ran f behind e limit before (outside_at calls new)) same
               (run.ends before (Progress-start (meanings old.desk.session.library) behind limit before old.reader old.desk.session.kept
-              (calls old.desk.session.library) (subst (λ (f : Meanings). Stands f old.desk.session.kept first_moment) (sym same) stands) none
-              (ap calls first))));
+              (counted_at calls old.desk.session) (subst (λ (f : Meanings). Stands f old.desk.session.kept first_moment) (sym same) stands) none
+              (ap (λ (n : ℕ). record { calls = n; builds = old.desk.session.builds }) (ap calls first)
+              ∙ ap (λ (n : ℕ). record { calls = calls lib; builds = n }) unbuilt))));
           library = keeps_on lib old.desk.session.library given (keeps_same lib old.desk.session.library first)
               (keeps_on old.desk.session.library new.desk.session.library given run.library (keeps_same new.desk.session.library given last));
           source = run.source;

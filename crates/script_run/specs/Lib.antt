@@ -1,5 +1,6 @@
 pub mod Counts
 pub mod Plain
+pub mod Profile
 pub mod Programs
 pub mod Progress
 pub mod Running

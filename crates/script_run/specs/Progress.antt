@@ -8,25 +8,25 @@ use Rattle.script_model.specs.Run.{Chain, lines_read, any_refused}
 use Rattle.script_model.specs.Step.{Moment, first_moment}
 use Rattle.script_graph.specs.Kept.{Kept}
 use Rattle.script_graph.specs.State.{Stands}
-use Rattle.script_run.specs.Counts.{Counted, AreCounts, turns_of}
+use Rattle.script_run.specs.Counts.{Count, Counted, AreCounts, count_at_first, turns_of}
 use Rattle.script_run.specs.Running.{Outside}
 use Rattle.script_run.specs.Telling.{Behind, all_told}
 
 -- how far a run has come: the reader of lines, what the source has left and what the sink was given, where they tell it,
--- what the session keeps, the calls so far, and whether a line was refused
+-- what the session keeps, what was counted so far, and whether a line was refused
 pub record Point : Type 0 where
   pub reader : Reader
   pub left : Option (List ℕ)
   pub written : Option (List ℕ)
   pub kept : Kept
-  pub calls : ℕ
+  pub count : Count
   pub refused : Bool
 
 -- the turns lead to a moment that the session stands for, over the lines so far, and each has its counts
 pub record CourseSoFar (F : Meanings) (limit : ℕ) (before : Outside) (point : Point) (counted : List Counted) (end : Moment) : Type 0 where
   pub chain : Chain F first_moment (turns_of counted) end
   pub stands : Stands F point.kept end
-  pub counts : AreCounts before.calls counted point.calls
+  pub counts : AreCounts (count_at_first before.calls) counted point.count
   pub refused : any_refused (turns_of counted) ≡ point.refused
   pub read : IfSome before.left (λ bytes. ReadSoFar limit bytes point.reader point.left (lines_read (turns_of counted)))
 

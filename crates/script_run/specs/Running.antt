@@ -7,7 +7,7 @@ use Rattle.script_io.specs.declared.ending.Ending.TheVariants.{Accepted, Refused
 use Rattle.script_model.specs.Formula.{Meanings}
 use Rattle.script_model.specs.Run.{IsTurn, Chain, Halts, lines_read, any_refused}
 use Rattle.script_model.specs.Step.{Moment, first_moment}
-use Rattle.script_run.specs.Counts.{Counted, IsCount, AreCounts, turns_of}
+use Rattle.script_run.specs.Counts.{Count, Counted, IsCount, AreCounts, count_at_first, turns_of}
 use Rattle.script_run.specs.Telling.{Behind, told_of, all_told}
 
 -- what is outside a run: the bytes that the source has left and those that the sink was given, where they tell them,
@@ -19,17 +19,17 @@ pub record Outside : Type 0 where
 
 -- where a run that had come to a moment found no memory: before it had a line; at a line, for which no more functions were called
 -- than were due; or at what is written behind a turn. The lines are the one at which it stopped, or none
-pub data Halted (F : Meanings) (behind : Behind) (m : Moment) (lines : List (List ℕ)) (called calls : ℕ) : Type 0 where
-  before_line : lines ≡ [] → calls ≡ called → Halted F behind m lines called calls
-  at_line : (line : List ℕ) (after : Moment) (due : ℕ) → lines ≡ line ∷ [] → Halts F m line after due → called ≤ calls → calls ≤ called + due
-      → Halted F behind m lines called calls
-  behind_turn : (c : Counted) → lines ≡ c.turn.line ∷ [] → c.turn.before ≡ m → IsTurn F c.turn → IsCount c → c.called ≡ called → c.calls ≡ calls
-      → behind c.turn.replies c.called c.calls ≢ [] → Halted F behind m lines called calls
+pub data Halted (F : Meanings) (behind : Behind) (m : Moment) (lines : List (List ℕ)) (was : Count) (calls : ℕ) : Type 0 where
+  before_line : lines ≡ [] → calls ≡ was.calls → Halted F behind m lines was calls
+  at_line : (line : List ℕ) (after : Moment) (due : ℕ) → lines ≡ line ∷ [] → Halts F m line after due → was.calls ≤ calls → calls ≤ was.calls + due
+      → Halted F behind m lines was calls
+  behind_turn : (c : Counted) → lines ≡ c.turn.line ∷ [] → c.turn.before ≡ m → IsTurn F c.turn → IsCount c → c.was ≡ was → c.is.calls ≡ calls
+      → behind c.turn.replies c.was c.is ≢ [] → Halted F behind m lines was calls
 
 -- where a run stopped, and what the library counted behind the turns: a run with memory stopped at no line, and counted nothing more
-abbrev pub Stopped : Meanings → Behind → Ending → Moment → List (List ℕ) → ℕ → ℕ → Type 0
-Stopped F behind Memory end lines called calls = Halted F behind end lines called calls
-Stopped F behind ending end lines called calls = (lines ≡ []) × (calls ≡ called)
+abbrev pub Stopped : Meanings → Behind → Ending → Moment → List (List ℕ) → Count → ℕ → Type 0
+Stopped F behind Memory end lines was calls = Halted F behind end lines was calls
+Stopped F behind ending end lines was calls = (lines ≡ []) × (calls ≡ was.calls)
 
 -- all that is written of the turns before the last one was written, and a front of what is written of the last one, but not all of it
 pub record IsCutInLast (behind : Behind) (before after : Option (List ℕ)) (counted : List Counted) : Type 0 where
@@ -54,8 +54,8 @@ pub record Course (F : Meanings) (behind : Behind) (ending : Ending) (called cal
   pub counted : List Counted
   pub end : Moment
   pub chain : Chain F first_moment (turns_of counted) end
-  pub reached : ℕ
-  pub counts : AreCounts called counted reached
+  pub reached : Count
+  pub counts : AreCounts (count_at_first called) counted reached
   pub halted : List (List ℕ)
   pub stopped : Stopped F behind ending end halted reached calls
 

@@ -11,8 +11,9 @@ use Rattle.script_io.specs.declared.ending.Ending.TheVariants.{Memory, ReadFault
 use Rattle.script_model.specs.Formula.{Meanings}
 use Rattle.script_model.specs.Step.{Moment, Reply}
 use Rattle.session.specs.Session.{Standing}
-use Rattle.session.specs.Taken.{Says, Stops, Takes}
+use Rattle.session.specs.Taken.{AsksStabilize, Says, Stops, Takes}
 use Rattle.session.specs.declared.answer.Did.{Did}
+use Rattle.script_run.specs.Counts.{Count}
 use Rattle.script_run.specs.Progress.{Point, Progress}
 use Rattle.script_run.specs.Programs.{Around, KeepsLibrary, outside_of}
 use Rattle.script_run.specs.Running.{Outside, Ran}
@@ -40,6 +41,10 @@ desk_of session written faults buffer = record { session = session; written = wr
 abbrev pub place_of : {L : Type 0} → Reader → Option (List ℕ) → ℕ → Desk L → Place L
 place_of reader left faults desk = record { reader = reader; left = left; source_faults = faults; desk = desk }
 
+-- what was counted where a session is: by the library, and by the session itself
+abbrev pub counted_at : {L : Type 0} → (L → ℕ) → Standing L → Count
+counted_at calls session = record { calls = calls session.library; builds = session.builds }
+
 -- how far a run has come at a place
 abbrev pub point_at : {L : Type 0} → (L → ℕ) → Place L → Bool → Point
 point_at calls p refused = record {
@@ -47,7 +52,7 @@ point_at calls p refused = record {
   left = p.left;
   written = p.desk.written;
   kept = p.desk.session.kept;
-  calls = calls p.desk.session.library;
+  count = counted_at calls p.desk.session;
   refused = refused;
 }
 
@@ -64,36 +69,39 @@ pub record IsReady {L : Type 0} (limit : ℕ) (p : Place L) : Type 0 where
   pub empty : p.desk.buffer ≡ []
 
 -- a line was taken by the session, and this is all that is to be written of it
-pub record IsPrinted (F : Meanings) (behind : Behind) (IsLine : List ℕ → Type 0) (old new : Kept) (called calls : ℕ) (how : Did)
+pub record IsPrinted (F : Meanings) (behind : Behind) (IsLine : List ℕ → Type 0) (old new : Kept) (was is : Count) (how : Did)
     (appended whole : List ℕ) : Type 0 where
-  pub takes : (m : Moment) (line : List ℕ) → IsLine line → Stands F old m → Takes F m line new [] appended called calls how
-  pub told : (replies : List Reply) → Says how replies → TellsRound old.accepted new.accepted replies → whole ≡ appended ++ behind replies called calls
+  pub takes : (m : Moment) (line : List ℕ) → IsLine line → Stands F old m → Takes F m line new [] appended was.calls is.calls how
+  pub told : (replies : List Reply) → Says how replies → TellsRound old.accepted new.accepted replies → whole ≡ appended ++ behind replies was is
 
 -- how a line is answered: all of it is written, and whether a line was refused so far; the sink fails, and took a front of it; the session
 -- found no memory for the line; or there was none for what stands behind it
-pub data LineEnds (F : Meanings) (behind : Behind) (IsLine : List ℕ → Type 0) (refused : Bool) (old new : Kept) (called calls : ℕ)
+pub data LineEnds (F : Meanings) (behind : Behind) (IsLine : List ℕ → Type 0) (refused : Bool) (old new : Kept) (was is : Count)
     (before after : Option (List ℕ)) (result : Result Bool Ending) : Type 0 where
-  all_written : (how : Did) (appended whole : List ℕ) → IsPrinted F behind IsLine old new called calls how appended whole
+  all_written : (how : Did) (appended whole : List ℕ) → IsPrinted F behind IsLine old new was is how appended whole
       → result ≡ Ok (refused || is_refusal_said how) → Appends before after whole
-      → LineEnds F behind IsLine refused old new called calls before after result
-  cut_off : (how : Did) (appended whole : List ℕ) (size : ℕ) → IsPrinted F behind IsLine old new called calls how appended whole
+      → LineEnds F behind IsLine refused old new was is before after result
+  cut_off : (how : Did) (appended whole : List ℕ) (size : ℕ) → IsPrinted F behind IsLine old new was is how appended whole
       → result ≡ Err WriteFault → size < length whole → Appends before after (take size whole)
-      → LineEnds F behind IsLine refused old new called calls before after result
-  not_taken : ((m : Moment) (line : List ℕ) → IsLine line → Stands F old m → Stops F m line new called calls)
+      → LineEnds F behind IsLine refused old new was is before after result
+  not_taken : ((m : Moment) (line : List ℕ) → IsLine line → Stands F old m → Stops F m line new was.calls is.calls)
       → result ≡ Err Memory → after ≡ before
-      → LineEnds F behind IsLine refused old new called calls before after result
+      → LineEnds F behind IsLine refused old new was is before after result
   not_told : (how : Did) (appended : List ℕ)
-      → ((m : Moment) (line : List ℕ) → IsLine line → Stands F old m → Takes F m line new [] appended called calls how)
-      → ((replies : List Reply) → Says how replies → TellsRound old.accepted new.accepted replies → behind replies called calls ≢ [])
+      → ((m : Moment) (line : List ℕ) → IsLine line → Stands F old m → Takes F m line new [] appended was.calls is.calls how)
+      → ((replies : List Reply) → Says how replies → TellsRound old.accepted new.accepted replies → behind replies was is ≢ [])
       → result ≡ Err Memory → after ≡ before
-      → LineEnds F behind IsLine refused old new called calls before after result
+      → LineEnds F behind IsLine refused old new was is before after result
 
 module _ {L : Type 0} (meanings : L → Meanings) (known : L → FnRef → Bool) (calls : L → ℕ) (behind : Behind) where
   -- a line was answered
   pub record AnswersLine (IsLine : List ℕ → Type 0) (refused : Bool) (old new : Desk L) (result : Result Bool Ending) : Type 0 where
     pub ends : LineEnds (meanings old.session.library) behind IsLine refused old.session.kept new.session.kept
-        (calls old.session.library) (calls new.session.library) old.written new.written result
+        (counted_at calls old.session) (counted_at calls new.session) old.written new.written result
     pub lines : new.session.lines ≡ old.session.lines + 1
+    -- builds are counted in stabilizes alone
+    pub builds_grow : old.session.builds ≤ new.session.builds
+    pub quiet : (line : List ℕ) → IsLine line → (AsksStabilize line → ⊥) → new.session.builds ≡ old.session.builds
     -- where a run goes on nothing is left to be written
     pub empty : OnOk result (new.buffer ≡ [])
     pub library : KeepsLibrary meanings known calls old.session.library new.session.library

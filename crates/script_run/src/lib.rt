@@ -3,6 +3,8 @@
 #![tactic(auto)]
 
 mod asked;
+mod counted;
+mod counts;
 mod driving;
 mod laws;
 mod plain;
@@ -10,6 +12,8 @@ mod report;
 mod running;
 
 pub use asked::top;
+pub use counted::CountedLibrary;
+pub use counts::Counts;
 pub use driving::drive;
 pub use laws::{counts_add_up, counts_are_within_work, plain_writes_transcripts};
 pub use plain::Plain;

@@ -1,7 +1,7 @@
 -- From what a command leads to, to what the line is answered with.
 use Rattle.std.proofs.Common.{◌≡◌, ℕ, Bool, true, false, List, [], ◌∷◌, ◌++◌, ◌||◌, cond, Option, None, Some, refl, sym, ◌∙◌, ap, subst, arith}
 use Rattle.script_model.specs.Check as check
-use Rattle.script_model.specs.Check.{Command, Declared, Names, Reason, SessionBroken, NameTaken, NotStabilized, NotBuilt, NotLinked, TooManyLinks, TooManyPlaces, command_of, first_that, is_against, line_order, names_of, reason_number}
+use Rattle.script_model.specs.Check.{Command, Declared, Names, Reason, SessionBroken, NotStabilized, NotBuilt, NotLinked, TooManyLinks, TooManyPlaces, command_of, first_that, is_against, line_order, names_of, reason_number}
 use Rattle.inc_value.specs.Choice.{Every}
 use Rattle.script_model.specs.Formula.{Meanings, State}
 use Rattle.script_model.specs.Grammar as grammar

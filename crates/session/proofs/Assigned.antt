@@ -3,7 +3,7 @@ use Rattle.std.proofs.Common.{◌≡◌, ◌<◌, ℕ, length, sym, subst, ◌�
 use Rattle.formula_lang.specs.Fits.{AssignmentFits}
 use Rattle.script_model.specs.Leaves.{EveryReference}
 use Rattle.formula_elab.specs.Opened.{node_at}
-use Rattle.formula_elab.proofs.Showing.{value_same}
+use Rattle.formula_elab.proofs.Writes.{value_same}
 use Rattle.inc_value.specs.declared.node.NodeId.{NodeId}
 use Rattle.inc_value.specs.declared.value.Value.{Value as GraphValue}
 use Rattle.node_arena.specs.Sound.{IsSound as IsSoundArena}
@@ -42,4 +42,4 @@ module _ (k : Kept) (sound : IsSound k) (target : ℕ) (v : Value) (fits : Assig
   node_takes arena w is_value node is =
       subst (λ (x : GraphValue). TakesValue (arena_of k) node x) (sym (is_value ∙ sym value_is))
       (subst (λ (n : NodeId). TakesValue (arena_of k) n (graph_value (node_in k.nodes) v)) (sym (target_node k sound target fits.name.earlier node is))
-      (assigned_takes (arena_of k) k.names k.nodes arena sound.has_nodes sound.today target v fits))
+      (assigned_takes (arena_of k) k.names k.nodes arena sound.one_node_each sound.has_nodes target v fits))

@@ -12,7 +12,7 @@ use Rattle.script_model.specs.Grammar as grammar
 use Rattle.script_model.specs.Request.{Asks, Blank, IsRequest, Request}
 use Rattle.script_model.specs.Run as run
 use Rattle.script_model.specs.Step as model
-use Rattle.script_model.specs.Step.{Answers, Follows, Moment, Reply, Refused, Because, LineTooLong, NoCommand, LineTooDeep, number_of, printed}
+use Rattle.script_model.specs.Step.{Answers, Follows, Moment, Reply, Refused, number_of, printed}
 use Rattle.session.specs.Answered.{Extends, IsAnswered, verdict_on}
 use Rattle.session.specs.Carried.{CarriesOut, IsBeside, Performs, Refuses, EndsStabilize, TakesBytes, Treats}
 use Rattle.session.specs.Replies.{cycle_line, refused_line, stable_line, too_deep_line, name_in}
@@ -27,7 +27,15 @@ use Rattle.session.proofs.Following.{followed_stabilize, nothing_more, refused_c
 
 -- a script is beside itself
 pub beside_itself : {L : Type 0} (s : Script L) → IsBeside 0 0 s s
-beside_itself s = record { library = refl; accepted = refl; broken = refl; given = omega arith; watching = omega arith }
+beside_itself s = record {
+  library = refl;
+  builds = refl;
+  accepted = refl;
+  broken = refl;
+  given = omega arith;
+  bodies = omega arith;
+  watching = omega arith;
+}
 
 -- where a stabilize was refused for a cycle the graph has met one
 pub met_circular : {L E : Type 0} (meanings : L → Meanings) (known : L → FnRef → Bool) (calls : L → ℕ) (old there : Script L) (how : Result Stabilized E)
@@ -53,6 +61,7 @@ module _ {L E : Type 0} (meanings : L → Meanings) (known : L → FnRef → Boo
         let accepted = beside.accepted in
         let given = beside.given in
         let watching = beside.watching in
+        let built = beside.builds in
         record {
           answered = λ m st. subst (λ n. IsAnswered (meanings old.library) m (Leads (meanings old.library) m) new.kept written appended
               (calls old.library) n how) (sym same) (answered m st);
@@ -60,10 +69,13 @@ module _ {L E : Type 0} (meanings : L → Meanings) (known : L → FnRef → Boo
           extended = tt;
           accepted = omega (arith, accepted);
           given = omega (arith, given, few);
+          bodies = beside.bodies;
           observers = omega (arith, watching, one);
           known_still = λ f h. subst (λ l. IsTrue (known l f)) (sym beside.library) h;
           calls_grow = omega (arith, same);
+          builds_grow = omega (arith, built);
           library = λ other. beside.library;
+          builds = λ other. beside.builds;
           kept = kept;
           broken = broken;
           functions = ap meanings beside.library;
@@ -73,6 +85,7 @@ module _ {L E : Type 0} (meanings : L → Meanings) (known : L → FnRef → Boo
         let accepted = beside.accepted in
         let given = beside.given in
         let watching = beside.watching in
+        let built = beside.builds in
         record {
           answered = tt;
           stopped = λ m line st is. subst (λ n. Stops (meanings old.library) m line new.kept (calls old.library) n) (sym same)
@@ -81,10 +94,13 @@ module _ {L E : Type 0} (meanings : L → Meanings) (known : L → FnRef → Boo
           extended = extended;
           accepted = omega (arith, accepted);
           given = omega (arith, given, few);
+          bodies = beside.bodies;
           observers = omega (arith, watching, one);
           known_still = λ f h. subst (λ l. IsTrue (known l f)) (sym beside.library) h;
           calls_grow = omega (arith, same);
+          builds_grow = omega (arith, built);
           library = λ other. beside.library;
+          builds = λ other. beside.builds;
           kept = tt;
           broken = broken;
           functions = ap meanings beside.library;
@@ -148,10 +164,13 @@ module _ {L E : Type 0} (meanings : L → Meanings) (known : L → FnRef → Boo
     extended = tt;
     accepted = c.accepted;
     given = c.given;
+    bodies = c.bodies;
     observers = c.observers;
     known_still = c.known_still;
     calls_grow = c.calls_grow;
+    builds_grow = c.builds_grow;
     library = λ other. c.library (λ is. other (asks is));
+    builds = λ other. c.builds (λ is. other (asks is));
     kept = c.kept;
     broken = c.broken;
     functions = c.functions;
@@ -162,10 +181,13 @@ module _ {L E : Type 0} (meanings : L → Meanings) (known : L → FnRef → Boo
     extended = c.extended;
     accepted = c.accepted;
     given = c.given;
+    bodies = c.bodies;
     observers = c.observers;
     known_still = c.known_still;
     calls_grow = c.calls_grow;
+    builds_grow = c.builds_grow;
     library = λ other. c.library (λ is. other (asks is));
+    builds = λ other. c.builds (λ is. other (asks is));
     kept = tt;
     broken = c.broken;
     functions = c.functions;
@@ -191,16 +213,20 @@ module _ {L E : Type 0} (meanings : L → Meanings) (known : L → FnRef → Boo
   carried_stabilize old new written appended how s unbroken (Ok h) answered stopped extended kept =
       let observers = s.observers in
       let given = s.given in
+      let bodies = s.bodies in
       record {
         answered = answered;
         stopped = tt;
         extended = tt;
         accepted = s.count;
         given = omega (arith, given);
+        bodies = omega (arith, bodies);
         observers = rw observers (omega arith);
         known_still = s.known_still;
         calls_grow = s.calls_grow;
+        builds_grow = s.builds_grow;
         library = λ other. absurd (other refl);
+        builds = λ other. absurd (other refl);
         kept = kept;
         broken = λ broken. absurd (broken unbroken);
         functions = s.functions;
@@ -208,16 +234,20 @@ module _ {L E : Type 0} (meanings : L → Meanings) (known : L → FnRef → Boo
   carried_stabilize old new written appended how s unbroken (Err e) answered stopped extended kept =
       let observers = s.observers in
       let given = s.given in
+      let bodies = s.bodies in
       record {
         answered = tt;
         stopped = λ m line st is. stopped m line st (is refl);
         extended = extended;
         accepted = s.count;
         given = omega (arith, given);
+        bodies = omega (arith, bodies);
         observers = rw observers (omega arith);
         known_still = s.known_still;
         calls_grow = s.calls_grow;
+        builds_grow = s.builds_grow;
         library = λ other. absurd (other refl);
+        builds = λ other. absurd (other refl);
         kept = tt;
         broken = λ broken. absurd (broken unbroken);
         functions = s.functions;
@@ -319,16 +349,20 @@ module _ {L E : Type 0} (meanings : L → Meanings) (known : L → FnRef → Boo
     refused_so number breaks new (Err e) is answered stops extended same broken =
         let observers = done.observers in
         let given = done.given in
+        let bodies = done.bodies in
         subst (λ (x : Script L). Performs {E = E} meanings known calls check.Stabilize old x written appended (Err e)) (sym broken) (record {
           answered = tt;
           stopped = λ m line st asks. stops m line st (asks refl);
           extended = extended;
           accepted = done.count;
           given = omega (arith, given);
+          bodies = omega (arith, bodies);
           observers = rw observers (omega arith);
           known_still = done.known_still;
           calls_grow = done.calls_grow;
+          builds_grow = done.builds_grow;
           library = λ other. absurd (other refl);
+          builds = λ other. absurd (other refl);
           kept = tt;
           broken = λ broken. absurd (broken unbroken);
           functions = done.functions;
@@ -352,7 +386,7 @@ module _ {L E : Type 0} (meanings : L → Meanings) (known : L → FnRef → Boo
     -- it was refused for a cycle
     pub performed_circular : how ≡ Ok Circular → (new : Script L) (result : Result Did E)
         → IfOk result (λ h. h ≡ did.Refused 20)
-        → OnOk result ((targets : List ℕ) × CyclePasses there.kept.names.declared there.kept.nodes there.kept.graph.refused targets
+        → OnOk result ((targets : List ℕ) × CyclePasses there.kept.graph there.kept.names.declared there.kept.nodes targets
         × (appended ≡ written ++ cycle_line (name_in there.kept.names) (closed targets)))
         → OnErr result (Extends written appended) → OnOk result (new ≡ there)
         → OnErr result (new ≡ record there { kept = record there.kept { broken = Some 0 } })

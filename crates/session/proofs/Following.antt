@@ -1,5 +1,5 @@
 -- What commands that are carried out or refused lead to.
-use Rattle.std.proofs.Common.{◌≡◌, ℕ, ◌+◌, ◌<◌, ◌≤◌, true, false, List, [], ◌∷◌, ◌++◌, map, None, Some, refl, sym, ◌∙◌, ap, subst, append-nil, arith}
+use Rattle.std.proofs.Common.{◌≡◌, ℕ, ◌+◌, ◌<◌, ◌≤◌, true, false, List, [], ◌∷◌, ◌++◌, map, None, Some, IsTrue, IsFalse, refl, sym, ◌∙◌, ap, subst, append-nil, arith}
 use Rattle.std.proofs.lemmas.Bool.{le-ltb, lt-ltb}
 use Rattle.std.proofs.Math.Dec.{ltb}
 use Rattle.std.specs.List.{flat_map}
@@ -8,14 +8,14 @@ use Rattle.inc_value.specs.Outcome as engine
 use Rattle.inc_value.specs.declared.outcome.Outcome as declared
 use Rattle.inc_value.specs.declared.ty.Ty.{Ty}
 use Rattle.script_model.specs.Check as check
-use Rattle.script_model.specs.Check.{Command, Declare, Declared, Names, Show, Stabilize, NotStabilized, TooManyPlaces, declared_of, names_of}
-use Rattle.script_model.specs.Formula.{Body, Meanings, State, places_of, places_of_body}
+use Rattle.script_model.specs.Check.{Command, Declare, Show, Stabilize, Take, NotBuilt, NotStabilized, TooManyPlaces}
+use Rattle.script_model.specs.Formula.{Body, Meanings, State, built_at, places_of, places_of_body}
 use Rattle.script_model.specs.Grammar as grammar
 use Rattle.script_model.specs.Laws.{ValidMoment}
 use Rattle.script_model.specs.Run as run
 use Rattle.script_model.specs.Run.{Halts, most_calls}
 use Rattle.script_model.specs.Settle.{Notice}
-use Rattle.script_model.specs.Step.{Moment, Reply, name_of, moved, reply_to, Done, Stable, Shown, Tells, Refused, Height, Because, Cycle, Settle, Act, Refuse, printed, Follows, Stabilizes, settles, by_cycle, by_height, verdict_of}
+use Rattle.script_model.specs.Step.{Moment, Reply, is_built, name_of, moved, reply_to, Done, Stable, Shown, Tells, Refused, Height, Because, Cycle, Settle, Act, Refuse, printed, Follows, Stabilizes, settles, by_cycle, by_height, verdict_of}
 use Rattle.script_model.specs.Valid.{KeepToTypes}
 use Rattle.script_model.proofs.Validity.{halts_keep_validity}
 use Rattle.script_graph.specs.Kept.{Kept, node_in}
@@ -94,7 +94,7 @@ refused_because F k m command why calls written appended refuses st print = reco
 
 module _ (F : Meanings) (k : Kept) (m : Moment) (st : Stands F k m) (unbroken : k.broken ≡ None) (name : List ℕ) (ty : Ty) (body : Body) where
   room_is : k.room + places_of m.present ≡ 1048575
-  room_is = st.matches.represents.room
+  room_is = (st.matches.represents (st.matches.broken ∙ unbroken)).room
 
   pub followed_declare : (new : Kept) (calls : ℕ) (written appended : List ℕ) → places_of_body body ≤ k.room
       → MatchesMoment F new (moved m (Declare name ty body)) → appended ≡ written ++ done_line
@@ -111,18 +111,32 @@ module _ (F : Meanings) (k : Kept) (m : Moment) (st : Stands F k m) (unbroken : 
       lt-ltb 1048575 (places_of m.present + places_of_body body) (omega (arith, room_is, short)) in
       refused_because F k m (Declare name ty body) TooManyPlaces calls written appended (rw many refl) st print
 
+-- ---- grabs
+
+module _ (F : Meanings) (k : Kept) (m : Moment) (st : Stands F k m) (name : List ℕ) (ty : Ty) (bind : ℕ) where
+  pub followed_grab : (new : Kept) (calls : ℕ) (written appended : List ℕ) → IsTrue (is_built (built_at m.present bind))
+      → MatchesMoment F new (moved m (Take name ty bind)) → appended ≡ written ++ done_line
+      → IsAnswered F m (Follows F m (verdict_on m (Take name ty bind))) new written appended calls calls did.Accepted
+  followed_grab new calls written appended built now print =
+      followed_done F new m (Take name ty bind) calls written appended (rw built refl) refl now print
+
+  pub refused_grab : IsFalse (is_built (built_at m.present bind)) → (calls : ℕ) (written appended : List ℕ) → appended ≡ written ++ refused_line 9
+      → IsAnswered F m (Follows F m (verdict_on m (Take name ty bind))) k written appended calls calls (did.Refused 9)
+  refused_grab none calls written appended print =
+      refused_because F k m (Take name ty bind) NotBuilt calls written appended (rw none refl) st print
+
 -- ---- showing
 
 pub followed_show : (F : Meanings) (k : Kept) (m : Moment) (name referred : List ℕ) (o : declared.Outcome) (calls : ℕ) (written appended : List ℕ)
-    → Stands F k m → ShowsIt (node_in k.nodes) m.present name o → IsReferredName k.names k.nodes (referred_node o) referred
+    → Stands F k m → k.broken ≡ None → ShowsIt (node_in k.nodes) m.present name o → IsReferredName k.names k.nodes (referred_node o) referred
     → appended ≡ written ++ shown_line name referred o
     → IsAnswered F m (Follows F m (verdict_on m (Show name))) k written appended calls calls did.Accepted
-followed_show F k m name referred o calls written appended st h told print =
+followed_show F k m name referred o calls written appended st unbroken h told print =
     let reply = Shown name h.outcome in
     let acts : verdict_on m (Show name) ≡ Act (Show name) = rw h.is_shown refl in
     let same : shown_line name referred o ≡ printed m.present reply =
     ap (λ l. line_of (name ++ codes " = " ++ l)) (ap (engine.printed_outcome referred) (sym h.same)
-    ∙ sym (printed_same F k m st.matches referred h.outcome h.refers
+    ∙ sym (printed_same F k m st.matches (st.matches.broken ∙ unbroken) referred h.outcome h.refers
     (subst (λ (x : declared.Outcome). IsReferredName k.names k.nodes (referred_node x) referred) (sym h.same) told))) in
     record {
       after = m;
@@ -226,7 +240,7 @@ module _ (F : Meanings) (new : Kept) (m : Moment) (target called calls : ℕ) (h
   stops_too_deep line keep valid asks unbroken =
       let is = broken_by_height F m h.after target h.stabilizes in
       let there : MatchesMoment F (record new { broken = Some 0 }) (record h.after { broken = Some 0 }) =
-      broken_matches F h.after new new.graph 0 (record { nodes = refl; observers = refl; rooted = refl }) h.matches in
+      broken_matches F h.after new new.graph 0 (record { observers = refl; rooted = refl }) h.matches in
       stops_broken F (record new { broken = Some 0 }) m line called calls keep valid asks unbroken
       (subst (λ (x : Moment). MatchesMoment F (record new { broken = Some 0 }) (record x { broken = Some 0 })) is there) h.within
 

@@ -1,5 +1,5 @@
 -- The functions of a library keep to their types.
-use Rattle.std.proofs.Common.{◌≡◌, List, Bool, Option, Some, IsTrue}
+use Rattle.std.proofs.Common.{◌≡◌, List, [], ◌∷◌, length, Bool, Option, Some, IsTrue, refl, arith}
 use Rattle.inc_value.specs.Sig.{IsMapSig}
 use Rattle.inc_value.specs.declared.function.FnKind.TheVariants.{Map}
 use Rattle.inc_value.specs.declared.function.FnRef.{FnRef}
@@ -20,3 +20,8 @@ library_keeps named known value maps typed proper = libraries_keep_to_types name
       m.2.1,
       λ values fine fit. (typed f values m.0 m.1 fine fit, proper f values m.0 m.1 fine fit),
     ))
+
+-- a list of no length has nothing
+pub none_there : {A : Type 0} (xs : List A) → length xs ≡ 0 → xs ≡ []
+none_there [] none = refl
+none_there (x ∷ xs) none = absurd (omega (arith, none))

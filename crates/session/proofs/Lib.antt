@@ -1,6 +1,5 @@
 pub mod Answering
 mod Assigned
-mod Bodies
 mod Carried
 mod CarriageReturns
 mod Ended
@@ -14,3 +13,8 @@ mod Owned
 mod Referred
 mod Requests
 mod Stabilized
+mod SameMakers
+mod Makers
+mod Grabbing
+mod Making
+mod Room

@@ -19,18 +19,16 @@ use Rattle.inc_value.specs.Choice.{Among, NoRepeats}
 use Rattle.inc_value.specs.declared.node.NodeId.{NodeId}
 use Rattle.inc_value.specs.declared.node.ObsId.{ObsId}
 use Rattle.inc_value.specs.declared.outcome.Outcome as engine
-use Rattle.node_arena.specs.Arena.{Arena, live, IsLive}
+use Rattle.node_arena.specs.Arena.{Arena}
 use Rattle.node_arena.specs.Sound.{IsSound as IsSoundArena}
-use Rattle.script_model.specs.Check.{Names, Declared, Observe, is_among}
+use Rattle.script_model.specs.Check.{Names, Declared, Kind, Grab, Observe, is_among}
 use Rattle.script_model.specs.Formula.{Meanings}
 use Rattle.script_model.specs.Step.{Moment, moved}
 use Rattle.script_graph.specs.Kept.{Kept, arena_of, no_node, node_in, without_functions}
-use Rattle.stabilizer.specs.Kept.{HasNoBinds}
-use Rattle.script_graph.specs.Sound.{HaveNodes, IsSound}
+use Rattle.script_graph.specs.Sound.{AreFew, HasNode, HaveNodes, IsSound}
 use Rattle.script_graph.specs.Shown.{ShowsIt, ShowsNothing}
 use Rattle.script_graph.specs.State.{MatchesMoment}
 use Rattle.script_graph.proofs.Observing.{get_end, get_within, observing_stands, shows_it, shows_nothing, with_observer}
-use Rattle.script_graph.proofs.Sounding.{node_live}
 
 -- ---- a name that is put in use and taken out again
 
@@ -155,7 +153,7 @@ looks_within (o ∷ os) (suc i) h = let rest = looks_within os i h in omega (ari
 -- the node at a declaration's place was given
 target_given : (k : Kept) → IsSound k → IsSoundArena (arena_of k) → (target : ℕ) → target < length k.names.declared
     → Given (arena_of k).given (node_in k.nodes target)
-target_given k sound arena target less = arena.given (node_in k.nodes target) is_live
+target_given k sound arena target less = given_of declared.0 declared.1
   where
     declared : (d : Declared) × (slice_get k.names.declared target ≡ Some d)
     declared = there k.names.declared target less
@@ -165,8 +163,22 @@ target_given k sound arena target less = arena.given (node_in k.nodes target) is
         there (d ∷ ds) zero within = (d, refl)
         there (d ∷ ds) (suc i) within = there ds i (omega (arith, within))
 
-    is_live : IsLive (arena_of k) (node_in k.nodes target)
-    is_live = node_live (arena_of k) k.names.declared k.nodes sound.has_nodes sound.today target declared.0 declared.1
+    is_grab : (k : Kind) → (k ≡ Grab) ⊎ (k ≡ Grab → ⊥)
+    is_grab Grab = inl refl
+    is_grab other = inr (λ is. absurd (cc))
+
+    -- of one that stands for itself: a live node was given, and so was a grab's
+    of_itself : (n : ℕ) (d : Declared) → HasNode (arena_of k) k.names.declared k.nodes n d → d.target ≡ n → Given (arena_of k).given (node_in k.nodes n)
+    of_itself n d has itself = go (is_grab d.kind)
+      where
+        go : (d.kind ≡ Grab) ⊎ (d.kind ≡ Grab → ⊥) → Given (arena_of k).given (node_in k.nodes n)
+        go (inl grab) = (has.grab itself grab).0
+        go (inr no_grab) = arena.given (node_in k.nodes n) (rw (has.live itself no_grab).is_row refl)
+
+    given_of : (d : Declared) → slice_get k.names.declared target ≡ Some d → Given (arena_of k).given (node_in k.nodes target)
+    given_of d is =
+        let t = (sound.has_nodes target d is).target in
+        subst (Given (arena_of k).given) t.node (of_itself d.target t.target (sound.has_nodes d.target t.target t.is_target) t.itself)
 
 -- the node that stands at a target's place, whatever is read elsewhere
 pub target_node : (k : Kept) → IsSound k → (target : ℕ) → target < length k.names.declared → (node : NodeId) → node ≡ slice_index_or k.nodes target node
@@ -218,9 +230,7 @@ module _ (k : Kept) (name : List ℕ) (target : ℕ) (o : ObsId) (g : Standing (
   sound_observed = record {
     one_node_each = sound.one_node_each;
     has_nodes = subst (λ (a : Arena). HaveNodes a k.names.declared k.nodes) (sym arena_same) sound.has_nodes;
-    today = sound.today;
-    flat = subst HasNoBinds (sym arena_same) sound.flat;
-    few = subst (λ (a : Arena). live a + k.room ≤ 1048575) (sym arena_same) sound.few;
+    few = subst (λ (a : Arena). AreFew k.bodies a k.room) (sym arena_same) sound.few;
     one_observer_each = length_more k.observers o ∙ ap (λ (n : ℕ). n + 1) sound.one_observer_each ∙ sym (length_more k.names.observers name);
     looking = λ p among. looks p (among_push k.observers o p among);
     apart = apart_push k.observers o sound.apart new_id;

@@ -1,127 +1,160 @@
--- The declarations that a cycle of points passes, told one after the other.
-use Rattle.std.proofs.Common.{◌≡◌, inl, inr, ℕ, zero, suc, ◌+◌, ◌<◌, ◌≤◌, arith, List, [], ◌∷◌, ◌++◌, length, Option, None, Some, drop, drop-cons, add-one, append-nil, refl, ap, sym, subst, ◌∙◌, get_or}
+-- The declarations that a walk over points passes, told one after the other.
+use Rattle.std.proofs.Common.{◌≡◌, inl, inr, ℕ, zero, suc, ◌+◌, ◌-◌, ◌<◌, ◌≤◌, arith, List, [], ◌∷◌, ◌++◌, length, Option, None, Some, drop, append-nil, refl, ap, sym, subst, ◌∙◌, slice_get, slice_index_or}
 use Rattle.std.proofs.lemmas.Grind.{flat_map-append}
 use Rattle.std.proofs.lemmas.List.{append_assoc}
 use Rattle.std.specs.List.{flat_map}
 use Rattle.std.specs.Prelude.{codes, if◌then◌else◌, is_ok, Result, Ok, Err, OnOk}
+use Rattle.graph.specs.Standing.{Standing}
+use Rattle.wiring.specs.declared.refused.Refused.{Refused}
+use Rattle.wiring.specs.declared.refused.Refused.TheVariants.{Cycle}
+use Rattle.script_graph.specs.Kept.{without_functions}
 use Rattle.inc_value.specs.declared.node.NodeId.{NodeId}
 use Rattle.inc_value.specs.declared.node.Point.{Point}
 use Rattle.script_model.specs.Check.{Declared}
-use Rattle.script_graph.specs.Stabilizing.{IsMainOf, MainsIn, closed}
-use Rattle.session.specs.Naming.{NamesMain, closing_name, either_of}
+use Rattle.script_graph.specs.Stabilizing.{CyclePasses, IsPassed, PassesAll, PassesFrom, PassesMet, closed}
+use Rattle.session.specs.Naming.{closing_name, either_of}
 use Rattle.session.specs.Replies.{cycle_line, line_of, named_of}
 
--- the first of the declarations
-abbrev pub first_of : List ℕ → Option ℕ
-first_of [] = None
-first_of (n ∷ targets) = Some n
+-- ---- lists from a place on
 
--- of the first points these declarations were told, in a line that names them
-pub record AreTold (names : ℕ → List ℕ) (declared : List Declared) (nodes : List NodeId) (points : List Point) (i : ℕ) (line : List ℕ)
-    (first : Option ℕ) : Type 0 where
-  pub targets : List ℕ
-  pub named : line ≡ codes "refused 20 cycle" ++ flat_map (named_of names) targets
-  pub is_first : first ≡ first_of targets
-  pub passed : (more : List ℕ) → MainsIn declared nodes (drop i points) more → MainsIn declared nodes points (targets ++ more)
+drop_at : {A : Type 0} (xs : List A) (i : ℕ) (x : A) → slice_get xs i ≡ Some x → drop i xs ≡ x ∷ drop (suc i) xs
+drop_at [] i x at = absurd (cc)
+drop_at (y ∷ xs) zero x at = let same : y ≡ x = cc in ap (λ z. z ∷ xs) same
+drop_at (y ∷ xs) (suc i) x at = drop_at xs i x at
 
-module _ (names : ℕ → List ℕ) (declared : List Declared) (nodes : List NodeId) (points : List Point) where
-  pub none_told : AreTold names declared nodes points 0 (codes "refused 20 cycle") None
-  none_told = record { targets = []; named = sym (append-nil (codes "refused 20 cycle")); is_first = refl; passed = λ more mains. mains }
+-- what stands at an index is had there
+pub index_get : {A : Type 0} (xs : List A) (i : ℕ) (d : A) → i < length xs → slice_get xs i ≡ Some (slice_index_or xs i d)
+index_get [] i d low = absurd (omega (arith, low))
+index_get (x ∷ xs) zero d low = refl
+index_get (x ∷ xs) (suc i) d low = index_get xs i d (omega (arith, low))
 
-  module _ (i : ℕ) (past : Point) (within : i < length points) (line : List ℕ) (first : Option ℕ)
-      (told : AreTold names declared nodes points i line first) where
-    abbrev p : Point
-    p = get_or points i past
+module _ {A : Type 0} (g : Standing A) (declared : List Declared) (nodes : List NodeId) where
+  -- a walk of one point at most passes none
+  short : (points : List Point) (i : ℕ) → length points ≤ suc i → PassesAll g declared nodes (drop i points) []
+  short [] zero few = refl
+  short [] (suc i) few = refl
+  short (p ∷ []) zero few = refl
+  short (p ∷ q ∷ points) zero few = absurd (omega (arith, few))
+  short (p ∷ points) (suc i) few = short points i (omega (arith, few))
 
-    split : drop i points ≡ p ∷ drop (i + 1) points
-    split = rw add-one (drop-cons points i past within)
+  module _ (names : ℕ → List ℕ) (points : List Point) (written : List ℕ) where
+    -- on the way to the point at a place these declarations were passed, and named behind what was written
+    pub record AreTold (i : ℕ) (line : List ℕ) (first : Option ℕ) : Type 0 where
+      pub targets : List ℕ
+      pub from : 1 ≤ i
+      pub named : line ≡ written ++ flat_map (named_of names) targets
+      pub is_first : first ≡ slice_get targets 0
+      pub passed : (more : List ℕ) → PassesAll g declared nodes (drop (i - 1) points) more → PassesAll g declared nodes points (targets ++ more)
 
-    -- the next point is the main of a declaration, which is named
-    pub one_told : (n : ℕ) → IsMainOf declared nodes p n
-        → AreTold names declared nodes points (i + 1) (line ++ named_of names n) (either_of first n)
-    one_told n is = record {
-      targets = told.targets ++ n ∷ [];
-      named = ap (λ (l : List ℕ). l ++ named_of names n) told.named
-          ∙ (append_assoc (codes "refused 20 cycle") (flat_map (named_of names) told.targets) (named_of names n)
-          ∙ ap (λ (l : List ℕ). codes "refused 20 cycle" ++ l) (sym (flat_map-append (named_of names) told.targets (n ∷ [])
-          ∙ ap (λ (l : List ℕ). flat_map (named_of names) told.targets ++ l) (append-nil (named_of names n)))));
-      is_first = ap (λ (f : Option ℕ). either_of f n) told.is_first ∙ first_more told.targets;
-      passed = λ more mains. subst (MainsIn declared nodes points) (sym (append_assoc told.targets (n ∷ []) more))
-          (told.passed (n ∷ more) (subst (λ (ps : List Point). MainsIn declared nodes ps (n ∷ more)) (sym split) (inr (n, more, refl, is, mains))));
-    }
-      where
-        first_more : (targets : List ℕ) → either_of (first_of targets) n ≡ first_of (targets ++ n ∷ [])
-        first_more [] = refl
-        first_more (m ∷ targets) = refl
+    pub none_told : AreTold 1 written None
+    none_told = record { targets = []; from = omega arith; named = sym (append-nil written); is_first = refl; passed = λ more passes. passes }
 
-    -- it is the main of none
-    pub other_told : ((n : ℕ) → IsMainOf declared nodes p n → ⊥) → AreTold names declared nodes points (i + 1) line first
-    other_told none = record {
-      targets = told.targets;
-      named = told.named;
-      is_first = told.is_first;
-      passed = λ more mains. told.passed more (subst (λ (ps : List Point). MainsIn declared nodes ps more) (sym split) (inl (none, mains)));
-    }
+    module _ (i : ℕ) (before point : Point) (at_before : slice_get points (i - 1) ≡ Some before) (at_point : slice_get points i ≡ Some point)
+        (line : List ℕ) (first : Option ℕ) (told : AreTold i line first) where
+      tail : drop i points ≡ point ∷ drop (suc i) points
+      tail = drop_at points i point at_point
 
-    -- so or so
-    pub next_told : (now : Option ℕ) (more : List ℕ) → NamesMain names declared nodes p first line now more
-        → AreTold names declared nodes points (i + 1) more now
-    next_told now more (inl (n, is, now_is, more_is)) = rw (now_is, more_is) (one_told n is)
-    next_told now more (inr (none, now_is, more_is)) = rw (now_is, more_is) (other_told none)
+      whole : drop (i - 1) points ≡ before ∷ (point ∷ drop (suc i) points)
+      whole =
+          let from = told.from in
+          let next : suc (i - 1) ≡ i = omega (arith, from) in
+          drop_at points (i - 1) before at_before ∙ ap (λ (k : ℕ). before ∷ drop k points) next ∙ ap (λ (ps : List Point). before ∷ ps) tail
 
-  -- ---- at the end
+      behind : (more : List ℕ) → PassesAll g declared nodes (drop ((i + 1) - 1) points) more → PassesAll g declared nodes (point ∷ drop (suc i) points) more
+      behind more passes =
+          let here : (i + 1) - 1 ≡ i = omega arith in
+          subst (λ (ps : List Point). PassesAll g declared nodes ps more) (ap (λ (k : ℕ). drop k points) here ∙ tail) passes
 
-  module _ (i : ℕ) (line : List ℕ) (first : Option ℕ) (told : AreTold names declared nodes points i line first) (high : length points ≤ i) where
-    over : drop i points ≡ []
-    over = dropped points i high
-      where
-        dropped : (ps : List Point) (j : ℕ) → length ps ≤ j → drop j ps ≡ []
-        dropped [] zero low = refl
-        dropped [] (suc j) low = refl
-        dropped (q ∷ ps) zero low = absurd (omega (arith, low))
-        dropped (q ∷ ps) (suc j) low = dropped ps j (omega (arith, low))
+      -- the next point passes a declaration, which is named
+      pub one_told : (n : ℕ) → IsPassed g declared nodes before point n → AreTold (i + 1) (line ++ named_of names n) (either_of first n)
+      one_told n is = record {
+        targets = told.targets ++ n ∷ [];
+        from = omega arith;
+        named = ap (λ (l : List ℕ). l ++ named_of names n) told.named
+            ∙ (append_assoc written (flat_map (named_of names) told.targets) (named_of names n)
+            ∙ ap (λ (l : List ℕ). written ++ l) (sym (flat_map-append (named_of names) told.targets (n ∷ [])
+            ∙ ap (λ (l : List ℕ). flat_map (named_of names) told.targets ++ l) (append-nil (named_of names n)))));
+        is_first = ap (λ (f : Option ℕ). either_of f n) told.is_first ∙ first_more told.targets;
+        passed = λ more passes. subst (PassesAll g declared nodes points) (sym (append_assoc told.targets (n ∷ []) more))
+            (told.passed (n ∷ more) (subst (λ (ps : List Point). PassesAll g declared nodes ps (n ∷ more)) (sym whole)
+            (inr (n, more, refl, is, behind more passes))));
+      }
+        where
+          first_more : (targets : List ℕ) → either_of (slice_get targets 0) n ≡ slice_get (targets ++ n ∷ []) 0
+          first_more [] = refl
+          first_more (m ∷ targets) = refl
 
-    all_passed : MainsIn declared nodes points told.targets
-    all_passed =
-        subst (MainsIn declared nodes points) (append-nil told.targets)
-        (told.passed [] (subst (λ (ps : List Point). MainsIn declared nodes ps []) (sym over) refl))
+      -- it passes none
+      pub other_told : ((n : ℕ) → IsPassed g declared nodes before point n → ⊥) → AreTold (i + 1) line first
+      other_told none = record {
+        targets = told.targets;
+        from = omega arith;
+        named = told.named;
+        is_first = told.is_first;
+        passed = λ more passes. told.passed more (subst (λ (ps : List Point). PassesAll g declared nodes ps more) (sym whole)
+            (inl (none, behind more passes)));
+      }
 
-    -- the first is named once more
-    closed_line : (n : ℕ) → first ≡ Some n
-        → (line ++ named_of names n) ++ 10 ∷ [] ≡ cycle_line names (closed told.targets)
-    closed_line n is = go told.targets told.named (sym told.is_first ∙ is)
-      where
-        go : (targets : List ℕ) → line ≡ codes "refused 20 cycle" ++ flat_map (named_of names) targets → first_of targets ≡ Some n
-            → (line ++ named_of names n) ++ 10 ∷ [] ≡ cycle_line names (closed targets)
-        go [] named is = absurd (cc)
-        go (m ∷ targets) named is =
-            let same : m ≡ n = cc in
-            ap line_of (ap (λ (l : List ℕ). l ++ named_of names n) named
-            ∙ (append_assoc (codes "refused 20 cycle") (flat_map (named_of names) (m ∷ targets)) (named_of names n)
-            ∙ ap (λ (l : List ℕ). codes "refused 20 cycle" ++ l)
-            (ap (λ (k : ℕ). flat_map (named_of names) (m ∷ targets) ++ named_of names k) (sym same)
-            ∙ sym (flat_map-append (named_of names) (m ∷ targets) (m ∷ [])
-            ∙ ap (λ (l : List ℕ). flat_map (named_of names) (m ∷ targets) ++ l) (append-nil (named_of names m))))))
+    -- at the end the whole walk passes these
+    pub all_told : (i : ℕ) (line : List ℕ) (first : Option ℕ) → length points ≤ i → AreTold i line first
+        → (targets : List ℕ) × PassesAll g declared nodes points targets × (first ≡ slice_get targets 0)
+        × (line ≡ written ++ flat_map (named_of names) targets)
+    all_told i line first past told = (
+      told.targets,
+      subst (PassesAll g declared nodes points) (append-nil told.targets)
+          (told.passed [] (short points (i - 1) (let from = told.from in omega (arith, from, past)))),
+      told.is_first,
+      told.named,
+    )
 
-    -- or there is none
-    empty_line : first ≡ None → line ++ 10 ∷ [] ≡ cycle_line names (closed told.targets)
-    empty_line is = go told.targets told.named (sym told.is_first ∙ is)
-      where
-        go : (targets : List ℕ) → line ≡ codes "refused 20 cycle" ++ flat_map (named_of names) targets → first_of targets ≡ None
-            → line ++ 10 ∷ [] ≡ cycle_line names (closed targets)
-        go [] named is = ap line_of named
-        go (m ∷ targets) named is = absurd (cc)
+-- ---- the cycle
 
-    told_whole : (line ++ closing_name names first) ++ 10 ∷ [] ≡ cycle_line names (closed told.targets)
-    told_whole = by_first first refl
-      where
-        by_first : (f : Option ℕ) → first ≡ f → (line ++ closing_name names f) ++ 10 ∷ [] ≡ cycle_line names (closed told.targets)
-        by_first None is = ap (λ (l : List ℕ). l ++ 10 ∷ []) (append-nil line) ∙ empty_line is
-        by_first (Some n) is = closed_line n is
+module _ {A : Type 0} (g : Standing A) (declared : List Declared) (nodes : List NodeId) where
+  -- what is passed doesn't depend on the functions
+  from_without : (p : Point) (points : List Point) (targets : List ℕ) → PassesFrom g declared nodes p points targets
+      → PassesFrom (without_functions g) declared nodes p points targets
+  from_without p [] targets passes = passes
+  from_without p (q ∷ points) targets (inl (none, passes)) = inl (none, from_without q points targets passes)
+  from_without p (q ∷ points) targets (inr (n, more, is, passed, passes)) = inr (n, more, is, passed, from_without q points more passes)
 
-    -- where the line was appended the cycle is told
-    pub cycle_told : {T E : Type 0} (r : Result T E) (old new text : List ℕ) → new ≡ (if is_ok r then old ++ text else old)
-        → text ≡ (line ++ closing_name names first) ++ 10 ∷ []
-        → OnOk r ((targets : List ℕ) × MainsIn declared nodes points targets × (new ≡ old ++ cycle_line names (closed targets)))
-    cycle_told (Ok x) old new text is text_is = (told.targets, all_passed, is ∙ ap (λ (l : List ℕ). old ++ l) (text_is ∙ told_whole))
-    cycle_told (Err e) old new text is text_is = tt
+  without : (points : List Point) (targets : List ℕ) → PassesAll g declared nodes points targets → PassesAll (without_functions g) declared nodes points targets
+  without [] targets passes = passes
+  without (p ∷ points) targets passes = from_without p points targets passes
+
+-- what the points of the cycle that was met pass, that cycle passes
+pub cycle_told : {A : Type 0} (g : Standing A) (declared : List Declared) (nodes own : List NodeId) (points : _) (items : List Point) (targets : List ℕ)
+    → g.refused ≡ Some (Cycle points) → own ≡ nodes → items ≡ points.items → PassesAll g declared own items targets
+    → CyclePasses (without_functions g) declared nodes targets
+cycle_told g declared nodes own points items targets met same_nodes same_items passes =
+    let here : PassesAll g declared nodes points.items targets =
+    subst (λ (ps : List Point). PassesAll g declared nodes ps targets) same_items
+    (subst (λ (ns : List NodeId). PassesAll g declared ns items targets) same_nodes passes) in
+    subst (λ (r : Option Refused). PassesMet (without_functions g) declared nodes r targets) (sym met) (without g declared nodes points.items targets here)
+
+-- ---- the line
+
+-- what was appended is there where nothing failed
+pub where_ok : {T E P : Type 0} (r : Result T E) (new old more : List ℕ) → new ≡ (if is_ok r then old ++ more else old) → (new ≡ old ++ more → P) → OnOk r P
+where_ok (Ok x) new old more is so = so is
+where_ok (Err e) new old more is so = tt
+
+-- the first is named once more behind all of them
+closed_names : (names : ℕ → List ℕ) (targets : List ℕ) (first : Option ℕ) → first ≡ slice_get targets 0
+    → flat_map (named_of names) targets ++ closing_name names first ≡ flat_map (named_of names) (closed targets)
+closed_names names [] None is = refl
+closed_names names [] (Some n) is = absurd (cc)
+closed_names names (m ∷ targets) None is = absurd (cc)
+closed_names names (m ∷ targets) (Some n) is =
+    let same : n ≡ m = cc in
+    ap (λ (k : ℕ). flat_map (named_of names) (m ∷ targets) ++ named_of names k) same
+    ∙ sym (flat_map-append (named_of names) (m ∷ targets) (m ∷ [])
+    ∙ ap (λ (l : List ℕ). flat_map (named_of names) (m ∷ targets) ++ l) (append-nil (named_of names m)))
+
+-- so the line that names them and the first once more is the cycle's
+pub told_line : (names : ℕ → List ℕ) (targets : List ℕ) (first : Option ℕ) (line : List ℕ) → first ≡ slice_get targets 0
+    → line ≡ codes "refused 20 cycle" ++ flat_map (named_of names) targets
+    → (line ++ closing_name names first) ++ 10 ∷ [] ≡ cycle_line names (closed targets)
+told_line names targets first line is named =
+    ap line_of (ap (λ (l : List ℕ). l ++ closing_name names first) named
+    ∙ (append_assoc (codes "refused 20 cycle") (flat_map (named_of names) targets) (closing_name names first)
+    ∙ ap (λ (l : List ℕ). codes "refused 20 cycle" ++ l) (closed_names names targets first is)))

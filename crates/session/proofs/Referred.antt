@@ -29,7 +29,7 @@ name_there names s n are =
     let declared : name_in names n ≡ name_in (names_of s) n = ap (λ (ds : List Declared). name_in (record names { declared = ds }) n) are.declared in
     declared ∙ name_of_entry s.entries n
 
-module _ (F : Meanings) (k : Kept) (m : Moment) (matches : MatchesMoment F k m) where
+module _ (F : Meanings) (k : Kept) (m : Moment) (matches : MatchesMoment F k m) (unbroken : m.broken ≡ None) where
   abbrev s : State
   s = m.present
 
@@ -39,7 +39,7 @@ module _ (F : Meanings) (k : Kept) (m : Moment) (matches : MatchesMoment F k m) 
     entry = body_entry s t own.0 own.1
 
     its_target : entry.0.target ≡ t
-    its_target = matches.represents.targets t entry.0 entry.1 ∙ (ap (target_of_body t) entry.2 ∙ own_target t own.0 own.2)
+    its_target = (matches.represents unbroken).targets t entry.0 entry.1 ∙ (ap (target_of_body t) entry.2 ∙ own_target t own.0 own.2)
 
     itself : IsOwnNode k.names k.nodes (node_in k.nodes t) t
     itself = record {
@@ -54,7 +54,7 @@ module _ (F : Meanings) (k : Kept) (m : Moment) (matches : MatchesMoment F k m) 
     same_position : (position : ℕ) → IsOwnNode k.names k.nodes (node_in k.nodes t) position → position ≡ t
     same_position position is =
         let e = named_entry k.names s matches.names.declared position is.declared is.is_declared in
-        matches.represents.apart position t e.0 entry.0 e.1 entry.1 (ap (λ (d : Declared). d.target) e.2 ∙ is.own) its_target is.is_node
+        (matches.represents unbroken).apart position t e.0 entry.0 e.1 entry.1 (ap (λ (d : Declared). d.target) e.2 ∙ is.own) its_target is.is_node
 
     pub referred_is : (bytes : List ℕ) → IsReferredName k.names k.nodes (Some (node_in k.nodes t)) bytes → bytes ≡ name_of s t
     referred_is bytes (inl (position, is, name)) =

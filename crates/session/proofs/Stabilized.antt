@@ -1,81 +1,180 @@
 -- What is kept of a script once a stabilize ended, and the faults that don't come.
-use Rattle.std.proofs.Common.{◌≡◌, Bool, ℕ, ◌+◌, ◌≤◌, ◌^◌, List, [], ◌∷◌, ◌++◌, arith, Option, None, Some, IsSome, Result, Err, IsErrOf, IsTrue, refl, ap, sym, subst, ◌∙◌}
+use Rattle.std.proofs.Common.{◌≡◌, ◌⊎◌, inl, inr, Bool, ℕ, ◌+◌, ◌<◌, ◌≤◌, List, [], ◌∷◌, ◌++◌, arith, Option, None, Some, IsSome, is_some, Result, Err, IsErrOf, IsTrue, refl, ap, sym, subst, ◌∙◌}
+use Rattle.std.proofs.lemmas.Bool.{cases_lt}
+use Rattle.std.specs.Prelude.{min}
+use Rattle.std.proofs.Math.Nat.{min-eq_left}
+use Rattle.std.proofs.Math.Path.{fun_ext}
+use Rattle.stabilize_round.specs.Counts.{last_count}
 use Rattle.graph.specs.Fault.{kept_of}
-use Rattle.graph.specs.Stabilizes.{Stabilizes, IsRefusedFor, HasCalledMet, left_by}
-use Rattle.inc_terms.specs.Graph.{Graph}
-use Rattle.graph.proofs.Flat as flat
-use Rattle.graph.proofs.Flat.{nodes_alone, is_alone, graph_stays, still_stabilizes, still_refused, still_called, from_graphs}
+use Rattle.graph.specs.Sound.{IsSound as IsSoundGraph}
+use Rattle.graph.specs.Stabilizes.{IsRefusedFor, LeavesNodes}
 use Rattle.graph.specs.Standing.{Standing, graph, IsUnbroken, node_at}
 use Rattle.graph.specs.declared.fault.Kept.{Kept as Cause}
 use Rattle.graph.specs.declared.fault.Kept.TheVariants as cause
 use Rattle.graph.specs.declared.fault.StabilizeFault.{StabilizeFault}
 use Rattle.graph.specs.declared.fault.StabilizeFault.TheVariants as fault
 use Rattle.graph.specs.declared.observer.Observer.{Observer as Looking}
+use Rattle.inc_terms.specs.Graph.{Row}
+use Rattle.inc_terms.specs.Rebuild.{Inside, direct, nested}
 use Rattle.inc_terms.specs.Term.{Functions}
-use Rattle.inc_value.specs.declared.function.FnKind.{FnKind}
-use Rattle.inc_value.specs.declared.function.FnKind.TheVariants as kind
+use Rattle.inc_terms.specs.Within.{Given}
 use Rattle.inc_value.specs.declared.function.FnKind.TheVariants.{Map}
-use Rattle.inc_value.specs.declared.value.Value.{Value as GraphValue}
 use Rattle.inc_value.specs.declared.function.FnRef.{FnRef}
 use Rattle.inc_value.specs.declared.node.NodeId.{NodeId}
 use Rattle.inc_value.specs.declared.node.Point.{Point}
-use Rattle.node_arena.specs.Arena.{Arena, live}
-use Rattle.stabilizer.specs.Kept.{HasNoBinds}
-use Rattle.node_arena.specs.RightSide.{RightSide, no_side}
+use Rattle.node_arena.specs.Arena.{Arena, row_at, IsVariable}
+use Rattle.inc_value.specs.declared.value.Value.{Value as GraphValue}
+use Rattle.node_arena.specs.Meanings.{KeepsKnown, SameKnown, SameValues}
 use Rattle.node_arena.specs.RightSideLaws.{meaning}
-use Rattle.stabilize_round.specs.Calling.{costs_of}
-use Rattle.stabilize_round.specs.Counts.{RoseBy}
-use Rattle.script_model.specs.Values.{seen_value}
-use Rattle.script_graph.specs.Today.{maps_alone}
-use Rattle.session.specs.Today.{HasNoBodies}
-use Rattle.std.proofs.Math.Path.{fun_ext}
-use Rattle.node_arena.specs.Meanings.{KeepsKnown, SameKnown}
-use Rattle.script_graph.specs.Kept.{Kept, arena_of, without_functions}
-use Rattle.script_graph.specs.Sound.{HaveNodes, IsSound}
+use Rattle.node_outcomes.specs.Meaning.{Meaning}
+use Rattle.node_arena.specs.Sound as arenas
+use Rattle.node_arena.specs.Typing as typing
 use Rattle.script_functions.specs.Bodies.{Body}
-use Rattle.script_functions.specs.Keeping.{Maker, is_known, makers, by_kind, side_in}
+use Rattle.script_functions.specs.Keeping.{Maker, is_known, makers, side_in}
 use Rattle.script_functions.specs.KeepingLaws.{map_known, known_map}
-use Rattle.script_graph.specs.Stabilizing.{ChainBegins, IsCircular, IsCycleMet, IsFirstOwned, NoneOwns, closed}
+use Rattle.script_graph.proofs.Few.{sum_less}
+use Rattle.script_graph.proofs.Refusing.{IsSessions}
+use Rattle.script_graph.specs.Growing.{functions_over}
+use Rattle.script_graph.specs.Kept.{Kept, arena_of, node_in, without_functions}
+use Rattle.script_graph.specs.Sound.{AreFew, HasLiveNode, HaveNodes, IsLiveBind, IsSound, weight_at, weight_of}
+use Rattle.script_graph.specs.Stabilizing.{ChainBegins, IsCircular, IsCycleMet, IsTold, NoneTold, closed}
+use Rattle.script_model.specs.Check.{Declared}
 use Rattle.script_model.specs.Formula.{Meanings}
 use Rattle.script_model.specs.Step.{Moment}
+use Rattle.script_model.specs.Values.{seen_value}
+use Rattle.stabilize_round.specs.Laws.{GraphStays}
+use Rattle.wiring.specs.Stands.{Counts}
 use Rattle.wiring.specs.declared.refused.Refused.{Refused}
 use Rattle.wiring.specs.declared.refused.Refused.TheVariants as refused
 
--- ---- what is kept
+-- ---- nodes that a stabilize leaves
 
--- over a graph with the same nodes and observers what is kept fits together, if the graph is unbroken where nothing broke the session
-same_sound : (k : Kept) → IsSound k → (g : Standing (Unit {0})) → g.nodes ≡ arena_of k → g.observers ≡ k.graph.observers
-    → (accepted : ℕ) (broken : Option ℕ) → (broken ≡ None → IsUnbroken g) → IsSound (record k { accepted = accepted; broken = broken; graph = g })
-same_sound k sound g nodes observers accepted broken unbroken = record {
-  one_node_each = sound.one_node_each;
-  has_nodes = subst (λ (a : Arena). HaveNodes a k.names.declared k.nodes) (sym nodes) sound.has_nodes;
-  today = sound.today;
-  flat = subst HasNoBinds (sym nodes) sound.flat;
-  few = subst (λ (a : Arena). live a + k.room ≤ 1048575) (sym nodes) sound.few;
-  one_observer_each = sound.one_observer_each;
-  looking = λ o among. subst (λ (os : List Looking). IsSome (node_at os o)) (sym observers) (sound.looking o among);
-  apart = sound.apart;
-  unbroken = unbroken;
-}
+-- what stands in no scope stands inside no bind
+not_inside : {A : Type 0} (g : Standing A) (b n : NodeId) (r : Row) → row_at g.nodes n ≡ Some r → r.scope ≡ None → Inside (graph g) b n → ⊥
+not_inside g b n r row outside (direct {r = q} there scope) = let e : Some r ≡ Some q = sym row ∙ there in cc
+not_inside g b n r row outside (nested {r = q} there scope inside) = let e : Some r ≡ Some q = sym row ∙ there in cc
 
--- over the same nodes few ids were given
-pub few_given : (old new : Arena) → new ≡ old → new.given ≤ old.given + 2 ^ 20
-few_given old new same = let given = ap (λ (a : Arena). a.given) same in omega (arith, given)
+-- what a node counts as, by its row
+abbrev counted : List Body → Option Row → ℕ
+counted bodies row = elim row [ None ↦ 0 | Some r ↦ weight_of bodies r.def ]
 
-module _ {A : Type 0} (M : Functions) (k : Kept) (sound : IsSound k) (old new : Standing A) (same : k.graph ≡ without_functions old)
-    (nodes : new.nodes ≡ old.nodes) where
-  -- what is kept fits together after a stabilize that was accepted
-  pub accepted_sound : Stabilizes M old new → (accepted : ℕ) → IsSound (record k { accepted = accepted; graph = without_functions new })
-  accepted_sound done accepted = same_sound k sound (without_functions new)
-      (nodes ∙ sym (ap (λ (g : Standing (Unit {0})). g.nodes) same))
-      (done.observers ∙ sym (ap (λ (g : Standing (Unit {0})). g.observers) same)) accepted k.broken (λ none. done.unbroken)
+module _ {A : Type 0} (M : Functions) (old new : Standing A) (before after : Counts) (arena : arenas.IsSound old.nodes)
+    (stays : GraphStays old.nodes.given new.nodes.given (graph old) (graph new)) (left : LeavesNodes M old new before after) where
+  given_old : (n : NodeId) (r : Row) → row_at old.nodes n ≡ Some r → Given old.nodes.given n
+  given_old n r is = arena.given n (ap is_some is)
 
-  -- and after one that was refused and broke the session
-  pub refused_sound : (why : Cause) → IsRefusedFor M old new why → (number : ℕ)
-      → IsSound (record k { broken = Some number; graph = without_functions new })
-  refused_sound why done number = same_sound k sound (without_functions new)
-      (nodes ∙ sym (ap (λ (g : Standing (Unit {0})). g.nodes) same))
-      (done.observers ∙ sym (ap (λ (g : Standing (Unit {0})). g.observers) same)) k.accepted (Some number) (λ none. absurd (cc))
+  -- who stands outside all scopes stays
+  outside_stays : (n : NodeId) (r : Row) → row_at old.nodes n ≡ Some r → r.scope ≡ None → row_at new.nodes n ≡ Some r
+  outside_stays n r is outside = go (stays.rows n (given_old n r is))
+    where
+      go : (row_at new.nodes n ≡ row_at old.nodes n) ⊎ (row_at new.nodes n ≡ None) → row_at new.nodes n ≡ Some r
+      go (inl same) = same ∙ is
+      go (inr dead) = let d = left.dead n r is dead in absurd (not_inside old d.0 n r is outside d.1)
+
+  -- and nobody comes to stand there
+  outside_was : (n : NodeId) (r : Row) → row_at new.nodes n ≡ Some r → r.scope ≡ None → row_at old.nodes n ≡ Some r
+  outside_was n r is outside = go (cases_lt n.gen_ old.nodes.given)
+    where
+      go : (n.gen_ < old.nodes.given) ⊎ (old.nodes.given ≤ n.gen_) → row_at old.nodes n ≡ Some r
+      go (inl given) = was (stays.rows n given)
+        where
+          was : (row_at new.nodes n ≡ row_at old.nodes n) ⊎ (row_at new.nodes n ≡ None) → row_at old.nodes n ≡ Some r
+          was (inl same) = sym same ∙ is
+          was (inr dead) = absurd (let e : None ≡ Some r = sym dead ∙ is in cc)
+      go (inr anew) = let a = (left.born n r anew is).0 in absurd (not_inside new a.bind n r is outside a.inside)
+
+  fits_still : (n : NodeId) (t : _) → Given old.nodes.given n → typing.Fits old.nodes n t → typing.Fits new.nodes n t
+  fits_still n t given fits = go (stays.rows n given)
+    where
+      go : (row_at new.nodes n ≡ row_at old.nodes n) ⊎ (row_at new.nodes n ≡ None) → typing.Fits new.nodes n t
+      go (inl same) = rw same fits
+      go (inr dead) = rw dead tt
+
+  -- each declaration has its node
+  have_nodes : (declared : List Declared) (nodes : List NodeId) → HaveNodes old.nodes declared nodes → HaveNodes new.nodes declared nodes
+  have_nodes declared nodes have n d is =
+      let h = have n d is in
+      record {
+        target = h.target;
+        live = λ itself no_grab. still (h.live itself no_grab);
+        grab = λ itself grab.
+            let g = h.grab itself grab in
+            let more = stays.given in
+            let given = g.0 in
+            (omega (arith, more, given), fits_still (node_in nodes n) d.ty g.0 g.1);
+      }
+    where
+      still : HasLiveNode old.nodes nodes n d → HasLiveNode new.nodes nodes n d
+      still l = record {
+        row = l.row;
+        is_row = outside_stays (node_in nodes n) l.row l.is_row l.outside;
+        typed = l.typed;
+        outside = l.outside;
+        variable = λ kind. as_variable (l.variable kind);
+        bind = λ kind. as_bind (l.bind kind);
+      }
+        where
+          there : (r : Row) → row_at old.nodes (node_in nodes n) ≡ Some r → row_at new.nodes (node_in nodes n) ≡ Some r
+          there r is =
+              let e : Some l.row ≡ Some r = sym l.is_row ∙ is in
+              let same : l.row ≡ r = cc in
+              outside_stays (node_in nodes n) r is (ap (λ (q : Row). q.scope) (sym same) ∙ l.outside)
+
+          as_variable : IsVariable old.nodes (node_in nodes n) → IsVariable new.nodes (node_in nodes n)
+          as_variable v = record { row = v.row; value = v.value; there = there v.row v.there; variable = v.variable }
+
+          as_bind : IsLiveBind old.nodes (node_in nodes n) → IsLiveBind new.nodes (node_in nodes n)
+          as_bind b = (b.0, b.1, b.2, b.3, there b.0 b.4, b.5)
+
+  -- no more nodes may come to live
+  few_still : (bodies : List Body) (room : ℕ) → AreFew bodies old.nodes room → AreFew bodies new.nodes room
+  few_still bodies room few = record {
+    tops = few.tops;
+    given = λ n among. let low = few.given n among in let more = stays.given in omega (arith, low, more);
+    all = λ n r is outside. few.all n r (outside_was n r is outside) outside;
+    weight =
+        let less = sum_less (weight_at bodies new.nodes) (weight_at bodies old.nodes) few.tops (λ n among. no_more n (few.given n among)) in
+        let was = few.weight in
+        omega (arith, less, was);
+  }
+    where
+      no_more : (n : NodeId) → Given old.nodes.given n → weight_at bodies new.nodes n ≤ weight_at bodies old.nodes n
+      no_more n given = go (stays.rows n given)
+        where
+          go : (row_at new.nodes n ≡ row_at old.nodes n) ⊎ (row_at new.nodes n ≡ None) → weight_at bodies new.nodes n ≤ weight_at bodies old.nodes n
+          go (inl same) =
+              let e : weight_at bodies new.nodes n ≡ weight_at bodies old.nodes n = ap (λ (o : Option Row). counted bodies o) same in
+              omega (arith, e)
+          go (inr dead) =
+              let e : weight_at bodies new.nodes n ≡ 0 = ap (λ (o : Option Row). counted bodies o) dead in
+              omega (arith, e)
+
+  -- what is kept fits together over the graph as it is left, if that is unbroken where nothing broke the session
+  pub left_sound : (k : Kept) → IsSound k → k.graph ≡ without_functions old → new.observers ≡ old.observers → (accepted : ℕ) (broken : Option ℕ)
+      → (broken ≡ None → IsUnbroken new) → IsSound (record k { accepted = accepted; broken = broken; graph = without_functions new })
+  left_sound k sound same observers accepted broken unbroken =
+      let nodes : arena_of k ≡ old.nodes = ap (λ (g : Standing (Unit {0})). g.nodes) same in
+      let watching : k.graph.observers ≡ new.observers = ap (λ (g : Standing (Unit {0})). g.observers) same ∙ sym observers in
+      record {
+        one_node_each = sound.one_node_each;
+        has_nodes = have_nodes k.names.declared k.nodes (subst (λ (a : Arena). HaveNodes a k.names.declared k.nodes) nodes sound.has_nodes);
+        few = few_still k.bodies k.room (subst (λ (a : Arena). AreFew k.bodies a k.room) nodes sound.few);
+        one_observer_each = sound.one_observer_each;
+        looking = λ o among. subst (λ (os : List Looking). IsSome (node_at os o)) watching (sound.looking o among);
+        apart = sound.apart;
+        unbroken = unbroken;
+      }
+
+-- a count that stands still at its last value has not fallen
+pub not_fallen : (a b : ℕ) → a ≤ last_count → min a last_count ≤ min b last_count → a ≤ b
+not_fallen a b low kept = go (cases_lt b last_count)
+  where
+    go : (b < last_count) ⊎ (last_count ≤ b) → a ≤ b
+    go (inl less) =
+        let was : min a last_count ≡ a = min-eq_left low in
+        let is : min b last_count ≡ b = min-eq_left (omega (arith, less)) in
+        omega (arith, was, is, kept)
+    go (inr more) = omega (arith, low, more)
 
 -- ---- faults
 
@@ -112,15 +211,16 @@ circular_closed F m k targets first more called calls is circular =
 
 -- ---- where a chain begins
 
-module _ (met : Option Refused) (nodes others : List NodeId) (same : others ≡ nodes) where
-  pub first_of : {A : Type 0} (g : Standing A) (owner target : ℕ) → owner ≡ target
-      → ((p : Point) → ChainBegins met p → IsFirstOwned others g p.node owner) → (p : Point) → ChainBegins met p → IsFirstOwned nodes g p.node target
-  first_of g owner target is first p begins =
-      subst (λ (ns : List NodeId). IsFirstOwned ns g p.node target) same (subst (IsFirstOwned others g p.node) is (first p begins))
+module _ (declared : List Declared) (nodes others : List NodeId) (same : others ≡ nodes) where
+  pub told_over : {A : Type 0} (g : Standing A) (found target : ℕ) → found ≡ target
+      → ((p : Point) → ChainBegins g.refused p → IsTold declared others g p.node found) → (p : Point) → ChainBegins g.refused p
+      → IsTold declared nodes g p.node target
+  told_over g found target is told p begins =
+      subst (λ (ns : List NodeId). IsTold declared ns g p.node target) same (subst (IsTold declared others g p.node) is (told p begins))
 
-  pub none_of : {A : Type 0} (g : Standing A) → ((p : Point) → ChainBegins met p → NoneOwns others g p.node) → (p : Point) → ChainBegins met p
-      → NoneOwns nodes g p.node
-  none_of g none p begins = subst (λ (ns : List NodeId). NoneOwns ns g p.node) same (none p begins)
+  pub none_over : {A : Type 0} (g : Standing A) → ((p : Point) → ChainBegins g.refused p → NoneTold declared others g p.node) → (p : Point)
+      → ChainBegins g.refused p → NoneTold declared nodes g p.node
+  none_over g none p begins = subst (λ (ns : List NodeId). NoneTold declared ns g p.node) same (none p begins)
 
 -- ---- the library
 
@@ -130,37 +230,32 @@ pub library_still_knows : (maps maps' : FnRef → Bool) (sides sides' : List Mak
 library_still_knows maps maps' sides sides' alone keeps f h =
     map_known maps' sides' f (subst IsTrue (sym (keeps f)) (known_map maps sides f h (alone f h))) (alone f h)
 
--- ---- no bodies are kept, so what graphs promise of their functions they promise of the library's alone
+-- ---- what a session knows of a stabilize of its graph
 
-none_made : (k : FnKind) → by_kind k no_side no_side ≡ no_side
-none_made kind.Map = refl
-none_made kind.Rhs = refl
+-- functions that mean the same
+same_functions : (value value' : FnRef → List GraphValue → GraphValue) (ms ms' : List Maker) → SameValues value value' → ms' ≡ ms
+    → meaning value' (side_in ms') ≡ meaning value (side_in ms)
+same_functions value value' ms ms' values made =
+    ap (λ (v : FnRef → List GraphValue → GraphValue). meaning v (side_in ms')) (fun_ext (λ f. fun_ext (λ args. values f args)))
+    ∙ ap (λ (m : List Maker). meaning value (side_in m)) made
 
-alone : (value : FnRef → List GraphValue → GraphValue) (bodies : List Body) → HasNoBodies bodies
-    → meaning (seen_value value) (side_in (makers bodies)) ≡ maps_alone (seen_value value)
-alone value [] none = ap (λ (r : FnRef → RightSide). meaning (seen_value value) r) (fun_ext (λ f. none_made f.id.kind))
-alone value (b ∷ bs) none = absurd (omega (arith, none))
-
-module _ {A : Type 0} (value : FnRef → List GraphValue → GraphValue) (bodies : List Body) (none : HasNoBodies bodies) (old new : Standing A)
-    (no_binds : HasNoBinds old.nodes) (nodes : new.nodes ≡ old.nodes) where
-  abbrev kept_functions : Functions
-  kept_functions = meaning (seen_value value) (side_in (makers bodies))
-
-  abbrev its_functions : Functions
-  its_functions = maps_alone (seen_value value)
-
-  pub alone_stabilizes : Stabilizes kept_functions old new → flat.Stabilizes its_functions old new
-  alone_stabilizes done = still_stabilizes its_functions old new no_binds nodes (subst (λ (F : Functions). Stabilizes F old new) (alone value bodies none) done)
-
-  pub alone_refused : (why : Cause) → IsRefusedFor kept_functions old new why → flat.IsRefusedFor its_functions old new why
-  alone_refused why done = still_refused its_functions old new no_binds nodes why (subst (λ (F : Functions). IsRefusedFor F old new why) (alone value bodies none) done)
-
-  pub alone_called : (before after : ℕ) → HasCalledMet kept_functions old new before after → flat.HasCalledMet its_functions old before after
-  alone_called before after few = still_called its_functions old new no_binds nodes before after
-      (subst (λ (F : Functions). HasCalledMet F old new before after) (alone value bodies none) few)
-
--- what was called in it
-pub costs_still : {A : Type 0} (old new : Standing A) → HasNoBinds old.nodes → new.nodes ≡ old.nodes → (ran : List NodeId) (before after : ℕ)
-    → RoseBy before (costs_of (left_by old new) ran) after → RoseBy before (costs_of (nodes_alone old) ran) after
-costs_still old new no_binds nodes ran before after rose = subst (λ (G : Graph). RoseBy before (costs_of G ran) after) (is_alone old no_binds)
-    (from_graphs (λ G died later. RoseBy before (costs_of G ran) after) (graph old) (graph new) (graph_stays old new no_binds nodes) rose)
+pub of_sessions : {A : Type 0} (value value' : FnRef → List GraphValue → GraphValue) (k : Kept) (bodies : List Body) (old new : Standing A) (W W' : Meaning)
+    (before after : Counts) → k.graph ≡ without_functions old → k.broken ≡ None → IsSound k → IsSoundGraph W old → W.functions ≡ functions_over value k.bodies
+    → IsSoundGraph W' new → W'.functions ≡ functions_over value' bodies → SameValues (seen_value value) (seen_value value') → makers bodies ≡ makers k.bodies
+    → GraphStays old.nodes.given new.nodes.given (graph old) (graph new) → LeavesNodes (functions_over value k.bodies) old new before after
+    → IsSessions value k old new
+of_sessions value value' k bodies old new W W' before after same unbroken kept sound functions sound' functions' values made stays left = record {
+  same = same;
+  unbroken = unbroken;
+  kept = kept;
+  meaning = W;
+  sound = sound;
+  functions = functions;
+  meaning' = W';
+  sound' = sound';
+  functions' = functions' ∙ same_functions (seen_value value) (seen_value value') (makers k.bodies) (makers bodies) values made;
+  stays = stays;
+  before = before;
+  after = after;
+  left = left;
+}

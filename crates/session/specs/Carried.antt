@@ -18,19 +18,22 @@ use Rattle.session.specs.declared.script.stabilizing.Stabilized.{Stabilized}
 use Rattle.session.specs.declared.script.stabilizing.Stabilized.TheVariants.{Accepted, Circular, TooDeep}
 use Rattle.wiring.specs.declared.refused.Refused.TheVariants.{Memory}
 
--- what is kept is within the bounds of one line more: the count of stabilizes, ids of nodes and observers are not at their last
+-- what is kept is within the bounds of one line more: the count of stabilizes, ids of nodes, bodies and observers are not at their last
 pub record HasRoom (k : Kept) : Type 0 where
   pub count : k.accepted + 1 < 2 ^ 64
   pub ids : (arena_of k).given + 2 ^ 20 < 2 ^ 64 - 1
+  pub bodies : length k.bodies + 64 < 1099511627776
   pub observers : length k.graph.observers < 2 ^ 32 - 1
 
 -- what every command but a stabilize leaves: the library, the count of stabilizes and what broke the session are as they were, and no more
--- ids of nodes and observers were given than these
+-- ids of nodes and observers were given than these, and no more than 64 bodies kept
 pub record IsBeside {L : Type 0} (ids observers : ℕ) (old new : Script L) : Type 0 where
   pub library : new.library ≡ old.library
+  pub builds : new.builds ≡ old.builds
   pub accepted : new.kept.accepted ≡ old.kept.accepted
   pub broken : new.kept.broken ≡ old.kept.broken
   pub given : (arena_of new.kept).given ≤ (arena_of old.kept).given + ids
+  pub bodies : length new.kept.bodies ≤ length old.kept.bodies + 64
   pub watching : length new.kept.graph.observers ≤ length old.kept.graph.observers + observers
 
 -- a line was refused with a number, and its reply was appended; without memory nothing was
@@ -56,14 +59,19 @@ module _ {L E : Type 0} (meanings : L → Meanings) (known : L → FnRef → Boo
     pub accepted : new.kept.accepted ≤ old.kept.accepted + 1
     -- few ids of nodes were given
     pub given : (arena_of new.kept).given ≤ (arena_of old.kept).given + 2 ^ 20
+    -- at most 64 bodies were kept
+    pub bodies : length new.kept.bodies ≤ length old.kept.bodies + 64
     -- at most one observer was added
     pub observers : length new.kept.graph.observers ≤ length old.kept.graph.observers + 1
     -- the library knows what it knew
     pub known_still : (f : FnRef) → IsTrue (known old.library f) → IsTrue (known new.library f)
     -- its count of calls didn't fall
     pub calls_grow : calls old.library ≤ calls new.library
-    -- only a stabilize calls functions
+    -- its count of builds didn't fall
+    pub builds_grow : old.builds ≤ new.builds
+    -- only a stabilize calls functions, and builds right sides
     pub library : (AsksIt → ⊥) → new.library ≡ old.library
+    pub builds : (AsksIt → ⊥) → new.builds ≡ old.builds
     -- a line that was refused, or asks for nothing, leaves what is kept
     pub kept : IfOk result (λ how. KeepsUnlessAccepted how old.kept new.kept)
     -- a broken session stays as it is
@@ -97,7 +105,7 @@ module _ {L E : Type 0} (meanings : L → Meanings) (known : L → FnRef → Boo
         → IsTooDeep (meanings old.library) m new.kept target (calls old.library) (calls new.library))
     -- or it was refused for a cycle: the graph tells one, and the declarations whose mains it passes are one of the script, the first once more at its end
     pub circular : IfOk result (λ how. how ≡ Circular → IsCycleMet new.kept.graph.refused
-        × ((m : Moment) (targets : List ℕ) → Stands (meanings old.library) old.kept m → CyclePasses new.kept.names.declared new.kept.nodes new.kept.graph.refused targets
+        × ((m : Moment) (targets : List ℕ) → Stands (meanings old.library) old.kept m → CyclePasses new.kept.graph new.kept.names.declared new.kept.nodes targets
         → IsCircular (meanings old.library) m new.kept (closed targets) (calls old.library) (calls new.library)))
     -- where no memory is found for the names of a cycle it is cut short
     pub unwritten : IfOk result (λ how. how ≡ Circular → (m : Moment) → Stands (meanings old.library) old.kept m
@@ -115,9 +123,11 @@ module _ {L E : Type 0} (meanings : L → Meanings) (known : L → FnRef → Boo
     -- few ids of nodes were given
     pub given : (arena_of new.kept).given ≤ (arena_of old.kept).given + 2 ^ 20
     pub observers : new.kept.graph.observers ≡ old.kept.graph.observers
+    pub bodies : length new.kept.bodies ≡ length old.kept.bodies
     -- the library knows what it knew
     pub known_still : (f : FnRef) → IsTrue (known old.library f) → IsTrue (known new.library f)
-    -- its count of calls didn't fall
+    -- its count of calls didn't fall, nor did that of builds
     pub calls_grow : calls old.library ≤ calls new.library
+    pub builds_grow : old.builds ≤ new.builds
     -- functions mean what they meant
     pub functions : meanings new.library ≡ meanings old.library

@@ -1,6 +1,7 @@
-pub mod Today
 pub mod Answered
 pub mod Carried
+pub mod Grabbed
+pub mod Making
 pub mod Naming
 pub mod RefusalView
 pub mod Replies

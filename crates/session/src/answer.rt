@@ -1,10 +1,12 @@
 //! What a line is answered with, and what it does.
-ghost use Rattle.std.specs.Prelude.{IsTrue, true, ◌≡◌, ◌<◌, ◌+◌, ◌-◌, ◌++◌, ◌^◌, ℕ, List, None, Some, length, IfOk, OnOk, OnErr};
+ghost use Rattle.std.specs.Prelude.{IsTrue, true, ◌≡◌, ◌<◌, ◌≤◌, ◌+◌, ◌-◌, ◌++◌, ◌^◌, ℕ, List, None, Some, length, IfOk, OnOk, OnErr};
 ghost use Rattle.formula_lang.specs.CommandView.{body_view, command_view, constant_view};
-ghost use Rattle.formula_lang.specs.Fits.{AssignmentFits, DeclarationFits, FitsNames, ObserverFits};
+ghost use Rattle.formula_lang.specs.Fits.{AssignmentFits, DeclarationFits, FitsNames, GrabFits, ObserverFits};
 ghost use Rattle.line_parser.specs.TreeView.{line_view};
-ghost use Rattle.script_model.specs.Check.{Assign, Declare, Observe, Show, Stabilize, Unobserve, is_among};
-ghost use Rattle.script_model.specs.Formula.{meanings_of};
+ghost use Rattle.script_model.specs.Check.{Assign, Declare, Observe, Show, Stabilize, Take, Unobserve, is_among};
+ghost use Rattle.script_model.specs.Check.{binds_of_command};
+ghost use Rattle.script_model.specs.Formula.{binds_of_body, meanings_of};
+ghost use Rattle.script_model.specs.Grammar.{IsLine};
 ghost use Rattle.script_model.specs.Here.{is_here};
 ghost use Rattle.script_model.specs.Request.{IsRequest};
 ghost use Rattle.session.specs.Answered.{Extends};
@@ -12,7 +14,6 @@ ghost use Rattle.session.specs.Carried.{HasRoom, Performs, Refuses, TakesBytes, 
 ghost use Rattle.session.specs.Replies.{broken_line, cycle_line, refused_line, too_deep_line, name_in};
 ghost use Rattle.session.specs.RequestView.{request_view};
 ghost use Rattle.session.specs.declared.answer.Did.TheVariants.{Refused};
-ghost use Rattle.script_graph.specs.Kept.{arena_of};
 ghost use Rattle.script_graph.specs.Stabilizing.{CyclePasses, IsCycleMet, closed};
 
 use crate::places::room_behind_body;
@@ -87,6 +88,7 @@ fn carry_out<L: Library>(
 ) -> Result<Did, AllocError>
     requires room { HasRoom script.old.kept }
     requires here { is_here (line_view line.now) ≡ true }
+    requires asked { (bytes : List ℕ) × IsLine bytes (line_view line.now) }
     ensures { Treats (λ l. meanings_of (L.named l) (L.value l)) L.known L.calls (line_view line.now) script.old script.new
         out.old.items out.new.items result }
 {
@@ -114,6 +116,7 @@ fn perform<L: Library>(
     requires room { HasRoom script.old.kept }
     requires unbroken { script.old.kept.broken ≡ None }
     requires fits { FitsNames (L.known script.old.library) script.old.kept.names (command_view command.now) }
+    requires binds { binds_of_command (command_view command.now) ≤ 64 }
     ensures { Performs (λ l. meanings_of (L.named l) (L.value l)) L.known L.calls (command_view command.now) script.old script.new
         out.old.items out.new.items result }
 {
@@ -121,6 +124,7 @@ fn perform<L: Library>(
         Command::Declare { name, ty, body } => {
             declare(alloc, script, name.bytes(), *ty, body, out)
         }
+        Command::Grab { name, ty, bind } => grab(alloc, script, name.bytes(), *ty, *bind, out),
         Command::Assign { target, value } => set(script, *target, value, out),
         Command::Observe { observer, target } => observe(script, observer.bytes(), *target, out),
         Command::Unobserve { observer } => unobserve(script, observer.bytes(), out),
@@ -140,7 +144,8 @@ fn declare<L: Library>(
 ) -> Result<Did, AllocError>
     requires fits { DeclarationFits (L.known script.old.library) script.old.kept.names name.now ty (body_view body.now) }
     requires unbroken { script.old.kept.broken ≡ None }
-    requires ids { (arena_of script.old.kept).given + 2 ^ 20 < 2 ^ 64 - 1 }
+    requires room { HasRoom script.old.kept }
+    requires binds { binds_of_body (body_view body.now) ≤ 64 }
     ensures { Performs (λ l. meanings_of (L.named l) (L.value l)) L.known L.calls (Declare name.now ty (body_view body.now))
         script.old script.new out.old.items out.new.items result }
 {
@@ -149,6 +154,32 @@ fn declare<L: Library>(
     };
     match write_done(out) {
         Ok(()) => match script.declare(name, ty, body, room) {
+            Ok(()) => Ok(Did::Accepted),
+            Err(fault) => Err(fault),
+        },
+        Err(fault) => Err(fault),
+    }
+}
+
+/// Declares a name for the present right side of a bind, once that is built for a value.
+fn grab<L: Library>(
+    alloc: Global,
+    script: &mut Script<L>,
+    name: &[u8],
+    ty: Ty,
+    bind: usize,
+    out: &mut Vec<u8>,
+) -> Result<Did, AllocError>
+    requires fits { GrabFits script.old.kept.names name.now ty bind }
+    requires unbroken { script.old.kept.broken ≡ None }
+    ensures { Performs (λ l. meanings_of (L.named l) (L.value l)) L.known L.calls (Take name.now ty bind)
+        script.old script.new out.old.items out.new.items result }
+{
+    let Some(root) = script.right_side(bind) else {
+        return refuse(alloc, Refusal::NotBuilt.number(), out);
+    };
+    match write_done(out) {
+        Ok(()) => match script.grab(name, ty, root) {
             Ok(()) => Ok(Did::Accepted),
             Err(fault) => Err(fault),
         },
@@ -273,8 +304,8 @@ fn refuse_circular<L: Library>(
 ) -> Result<Did, AllocError>
     requires met { IsCycleMet script.old.kept.graph.refused }
     ensures how { IfOk result (λ how. how ≡ Refused 20) }
-    ensures written { OnOk result ((targets : List ℕ) × CyclePasses script.old.kept.names.declared script.old.kept.nodes
-        script.old.kept.graph.refused targets
+    ensures written { OnOk result ((targets : List ℕ)
+        × CyclePasses script.old.kept.graph script.old.kept.names.declared script.old.kept.nodes targets
         × (out.new.items ≡ out.old.items ++ cycle_line (name_in script.old.kept.names) (closed targets))) }
     ensures unwritten { OnErr result (Extends out.old.items out.new.items) }
     ensures ok { OnOk result (script.new ≡ script.old) }

@@ -12,7 +12,7 @@ pub(crate) fn room_behind(formula: &Formula, room: usize) -> Option<usize>
 {
     match formula {
         Formula::Literal(_) => room.checked_sub(1),
-        Formula::Name(_) => Some(room),
+        Formula::Name(_) | Formula::Bound(_) => Some(room),
         Formula::Apply { arguments, .. } => room_behind_each(arguments, room)?.checked_sub(1),
         Formula::Fold { elements, .. } => room_behind_each(elements, room)?.checked_sub(1),
         Formula::If { test, yes, no } => {
@@ -21,6 +21,10 @@ pub(crate) fn room_behind(formula: &Formula, room: usize) -> Option<usize>
             room_behind(no, left)?.checked_sub(1)
         }
         Formula::Join(child) => room_behind(child, room)?.checked_sub(1),
+        Formula::Bind { left, body } => {
+            let left_over = room_behind(left, room)?;
+            room_behind(body, left_over)?.checked_sub(2)
+        }
     }
 }
 

@@ -10,6 +10,7 @@ pub(crate) enum Refusal {
     NoCommand,
     LineTooLong,
     NotStabilized,
+    NotBuilt,
     TooManyPlaces,
     LineTooDeep,
     /// The session is broken, with the number of what broke it.
@@ -25,6 +26,7 @@ impl Refusal {
             Refusal::NoCommand => 1,
             Refusal::LineTooLong => 2,
             Refusal::NotStabilized => 13,
+            Refusal::NotBuilt => 9,
             Refusal::TooManyPlaces => 19,
             Refusal::LineTooDeep => 25,
             Refusal::Broken { .. } => 22,

@@ -7,6 +7,7 @@ ghost use Rattle.script_graph.specs.State.{Stands};
 ghost use Rattle.session.specs.Replies.{name_in};
 
 mod declaring;
+mod grabbing;
 mod naming;
 mod observing;
 mod setting;
@@ -43,12 +44,12 @@ impl<L: Library> Model for Script<L> {
     ghost use Rattle.script_graph.specs.Kept as kept;
     ghost use Rattle.script_graph.specs.Kept.{without_functions};
     ghost use Rattle.script_graph.specs.Sound.{IsSound};
-    ghost use Rattle.session.specs.Today.{HasNoBodies};
 
     ghost Value = { kept.Script L };
 
     ghost view = { λ s. record {
       library = s.graph.functions.library;
+      builds = s.graph.functions.builds;
       kept = record {
         names = s.names;
         nodes = s.nodes.items;
@@ -56,28 +57,32 @@ impl<L: Library> Model for Script<L> {
         room = s.room;
         accepted = s.accepted;
         broken = s.broken;
+        bodies = s.graph.functions.bodies.items;
         graph = without_functions s.graph;
       };
     } };
 
-    ghost invariant = { λ s. (IsSound (record {
+    ghost invariant = { λ s. IsSound (record {
       names = s.names;
       nodes = s.nodes.items;
       observers = s.observers.items;
       room = s.room;
       accepted = s.accepted;
       broken = s.broken;
+      bodies = s.graph.functions.bodies.items;
       graph = without_functions s.graph;
-    })) × HasNoBodies s.graph.functions.bodies.items };
+    }) };
 }
 
 impl<L: Library> Script<L> {
     /// A script before its first line. It owns the library. This takes no memory.
     pub(crate) fn new(alloc: Global, library: L) -> Script<L>
         ensures library { result.library ≡ library }
+        ensures builds { result.builds ≡ 0 }
         ensures first { Stands (meanings_of (L.named library) (L.value library)) result.kept first_moment }
         ensures accepted { result.kept.accepted ≡ 0 }
         ensures given { (arena_of result.kept).given ≡ 0 }
+        ensures bodies { result.kept.bodies ≡ [] }
         ensures observers { result.kept.graph.observers ≡ [] }
     {
         Script {
@@ -132,6 +137,13 @@ impl<L: Library> Script<L> {
         ensures { result ≡ self.now.kept.accepted }
     {
         self.accepted
+    }
+
+    /// How often a right side of a bind was built, or was to be.
+    pub(crate) fn builds(&self) -> u64
+        ensures { result ≡ self.now.builds }
+    {
+        self.graph.functions().builds()
     }
 
     /// The number of what broke the session, if something did.

@@ -24,13 +24,13 @@ impl<L: Library> Model for Session<L> {
 
     ghost Value = { Standing L };
 
-    ghost view = { λ s. record { library = s.script.library; kept = s.script.kept; lines = s.lines } };
+    ghost view = { λ s. record { library = s.script.library; builds = s.script.builds; kept = s.script.kept; lines = s.lines } };
 
     ghost use Rattle.std.specs.Prelude.{◌≤◌, ◌*◌, ◌^◌, length};
     ghost use Rattle.script_graph.specs.Kept.{arena_of};
 
     ghost invariant = { λ s. (s.lines ≤ 2 ^ 30) × (s.script.kept.accepted ≤ s.lines)
-        × ((arena_of s.script.kept).given ≤ 2 ^ 20 * s.lines) × (length s.script.kept.graph.observers ≤ s.lines) };
+        × ((arena_of s.script.kept).given ≤ 2 ^ 20 * s.lines) × (length s.script.kept.bodies ≤ 64 * s.lines) × (length s.script.kept.graph.observers ≤ s.lines) };
 }
 
 impl<L: Library> Session<L> {
@@ -42,6 +42,7 @@ impl<L: Library> Session<L> {
     /// A session before its first line. It owns the library. This takes no memory.
     pub fn new(alloc: Global, library: L) -> Session<L>
         ensures library { result.library ≡ library }
+        ensures builds { result.builds ≡ 0 }
         ensures lines { result.lines ≡ 0 }
         ensures first { Stands (meanings_of (L.named library) (L.value library)) result.kept first_moment }
     {
@@ -66,12 +67,15 @@ impl<L: Library> Session<L> {
         ensures known { (g : FnRef) → IsTrue (L.known self.old.library g) → IsTrue (L.known self.new.library g) }
         ensures calls_grow { L.calls self.old.library ≤ L.calls self.new.library }
 
-        // Only a stabilize calls functions. A line that was refused, or asks for nothing, leaves what is kept.
+        // Only a stabilize calls functions, and builds right sides of binds. A line that was refused, or asks for nothing, leaves what is kept.
         ensures library { (AsksStabilize text.now → ⊥) → self.new.library ≡ self.old.library }
+        ensures builds { (AsksStabilize text.now → ⊥) → self.new.builds ≡ self.old.builds }
+        ensures builds_grow { self.old.builds ≤ self.new.builds }
         ensures kept { IfOk result (λ how. KeepsUnlessAccepted how self.old.kept self.new.kept) }
 
         // A broken session stays as it is, but that the count of lines rises.
-        ensures broken { (self.old.kept.broken ≡ None → ⊥) → (self.new.kept ≡ self.old.kept) × (self.new.library ≡ self.old.library) }
+        ensures broken { (self.old.kept.broken ≡ None → ⊥)
+            → (self.new.kept ≡ self.old.kept) × (self.new.library ≡ self.old.library) × (self.new.builds ≡ self.old.builds) }
 
         // Without memory the count of lines has risen. A stabilize may have called functions, and then it was accepted, its
         // line alone is missing, or the session is broken.
@@ -101,6 +105,7 @@ impl<L: Library> Session<L> {
             (L.calls self.old.library) (L.calls self.new.library) (Refused 2)) }
         ensures lines { self.new.lines ≡ self.old.lines + 1 }
         ensures library { self.new.library ≡ self.old.library }
+        ensures builds { self.new.builds ≡ self.old.builds }
         ensures kept { self.new.kept ≡ self.old.kept }
         ensures unwritten { OnErr result (out.new.items ≡ out.old.items) }
     {
@@ -120,6 +125,13 @@ impl<L: Library> Session<L> {
         ensures { result ≡ self.library }
     {
         self.script.into_library()
+    }
+
+    /// How often a right side of a bind was built so far, or was to be, up to 2^64 - 1.
+    pub fn builds(&self) -> u64
+        ensures { result ≡ self.now.builds }
+    {
+        self.script.builds()
     }
 
     /// How many stabilizes were accepted so far.

@@ -1,5 +1,5 @@
 -- An if whose test changed gets its other branch.
-use Rattle.std.proofs.Common.{◌≡◌, ◌⊎◌, inl, inr, ℕ, zero, suc, pos, ◌+◌, ◌<◌, ◌≤◌, true, false, List, [], ◌∷◌, Option, None, Some, refl, sym, ap}
+use Rattle.std.proofs.Common.{◌≡◌, ◌⊎◌, inl, inr, pos, ◌+◌, ◌<◌, ◌≤◌, true, false, [], ◌∷◌, None, Some, refl, sym, ap}
 use Rattle.std.proofs.Common.{subst, ◌∙◌, arith}
 use Rattle.std.proofs.Common as common
 use Rattle.inc_value.specs.declared.node.NodeId.{NodeId}
@@ -14,7 +14,7 @@ use Rattle.inc_terms.specs.Plan.{targets}
 use Rattle.inc_terms.specs.Local.{shown, own}
 use Rattle.inc_terms.specs.Evaluate.{NodeGives, Stands, answer}
 use Rattle.inc_terms.specs.Depend as depend
-use Rattle.inc_terms.specs.Depend.{Depends, main, change}
+use Rattle.inc_terms.specs.Depend.{main, change}
 use Rattle.stabilize_round.specs.State.{State, Stage, Bare, Gated, Static, Full, Linked, count, one, plan_at, planned, at_point, at_node}
 use Rattle.stabilize_round.specs.Moves.{Quiet, IsLeast, Enqueues, computed, StepMain}
 use Rattle.stabilize_round.specs.Wire.{linked, newly, IsIt, Link, raised, Raise, finished, Finish}

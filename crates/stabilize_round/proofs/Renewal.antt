@@ -1,5 +1,5 @@
 -- A bind built anew: the new root is linked and computed.
-use Rattle.std.proofs.Common.{◌≡◌, ◌⊎◌, inl, inr, ℕ, pos, ◌+◌, ◌<◌, ◌≤◌, true, false, List, [], ◌∷◌, Option, None, Some, refl, sym, ap, subst, ◌∙◌}
+use Rattle.std.proofs.Common.{◌≡◌, ◌⊎◌, inl, inr, pos, ◌+◌, ◌<◌, ◌≤◌, true, false, [], ◌∷◌, Option, None, Some, refl, sym, ap, subst, ◌∙◌}
 use Rattle.std.proofs.Common.{arith}
 use Rattle.std.proofs.Common as common
 use Rattle.inc_value.specs.declared.node.NodeId.{NodeId}
@@ -14,7 +14,7 @@ use Rattle.inc_terms.specs.Graph.{Row}
 use Rattle.inc_terms.specs.Evaluate.{NodeGives, answer}
 use Rattle.inc_terms.specs.Within.{Given}
 use Rattle.inc_terms.specs.Depend as depend
-use Rattle.inc_terms.specs.Depend.{Depends, Deaths, main, change, rights_of, none_died}
+use Rattle.inc_terms.specs.Depend.{main, change, rights_of}
 use Rattle.inc_terms.specs.Plan.{targets}
 use Rattle.inc_terms.specs.Local.{shown, own}
 use Rattle.stabilize_round.specs.State.{State, Stage, Bare, Gated, Static, Full, Linked, count, plan_at, planned, at_point, at_node}

@@ -10,7 +10,7 @@ use Rattle.inc_value.specs.declared.outcome.Outcome.TheVariants.{Val, Invalid}
 use Rattle.inc_value.specs.Choice.{Among, Reaches, here, step}
 use Rattle.inc_terms.specs.Term.{Functions}
 use Rattle.inc_terms.specs.Graph as graph
-use Rattle.inc_terms.specs.Graph.{Graph, Row, Def, Built}
+use Rattle.inc_terms.specs.Graph.{Graph, Row, Def}
 use Rattle.inc_terms.specs.Evaluate.{NodeGives}
 use Rattle.inc_terms.specs.Rebuild.{Inside, IsDue}
 use Rattle.inc_terms.specs.Rebuilding.{Moment, BuildStep}

@@ -8,7 +8,7 @@ use Rattle.inc_value.specs.declared.outcome.Outcome.TheVariants.{Val, Invalid}
 use Rattle.inc_value.specs.Choice.{Among, NoRepeats, here, step}
 use Rattle.inc_terms.specs.Term.{Functions}
 use Rattle.inc_terms.specs.Graph as graph
-use Rattle.inc_terms.specs.Graph.{Graph, Row, Def, Built, present_def}
+use Rattle.inc_terms.specs.Graph.{Graph, Row, Built, present_def}
 use Rattle.inc_terms.specs.Evaluate.{NodeGives}
 use Rattle.inc_terms.specs.Within.{Given, Fit, TermWithin}
 use Rattle.inc_terms.specs.Rebuild.{Inside, direct, nested}

@@ -131,10 +131,10 @@ module _ (M : Meaning) (old mid : Parts) (n : NodeId) (before after : Counts) (w
   pub left_again : (right : FnRef → RightSide) (e : Refused) → BuildRefused M right old mid n before after e → ChangeIsLeft M right old now n before after e
   left_again right e (rebuilding.as_it_was stands arena counts memory) =
       stepping.as_it_was (λ s b. again_stands s b (stands s b)) arena counts memory
-  left_again right e (rebuilding.unbuilt {count} stops calls later told few) = stepping.unbuilt {count = count}
+  left_again right e (rebuilding.unbuilt {count} stops calls later told few full) = stepping.unbuilt {count = count}
       (λ z s begun quiet b.
       let k = stops z s begun quiet b in
-      (k.0, k.1, k.2, k.3, in_heap_stands k.1 k.5 k.4)) calls later told few
+      (k.0, k.1, k.2, k.3, in_heap_stands k.1 k.5 k.4)) calls later told few full
 
   pub again_kept : Holds mid.work.rows (change n) → IsInStep work.graph → PartsKept now
   again_kept row step = record {

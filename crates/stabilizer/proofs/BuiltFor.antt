@@ -64,6 +64,7 @@ module _ (F : Functions) (old new : Parts) (before after : Counts) (b : Begun F 
     ];
     refused = λ c e. record { none = k.none c e; differs = k.differs c e; met = is_met (change c) (k.met c e) };
     was = k.was;
+    scoped = k.scoped;
   }
 
   -- what the machine says of what binds are built for is so of the parts

@@ -34,21 +34,23 @@ use Rattle.node_outcomes.specs.declared.row.Stage.{Stage}
 use Rattle.node_outcomes.specs.declared.row.Stage.TheVariants as code
 use Rattle.wiring.specs.Began.{IsRoundOf}
 use Rattle.wiring.specs.Kept.{IsKept}
-use Rattle.wiring.specs.Refusing.{TellsWhy}
+use Rattle.wiring.specs.Refusing.{RefusedBy, TellsWhy, no_memory, by_link}
 use Rattle.wiring.specs.Stands.{Stands, Counts, Hand}
 use Rattle.wiring.specs.Turning.{IsWaiting}
 use Rattle.wiring.specs.Wiring.{IsTurnedIn}
 use Rattle.wiring.specs.declared.refused.Refused.{Refused}
+use Rattle.wiring.specs.declared.refused.Refused.TheVariants as cause
 use Rattle.wiring.specs.declared.work.Work.{Work}
 use Rattle.wiring.proofs.Raising.{wired_then, wiring_strict}
 use Rattle.wiring.proofs.Sight.{row_is, sees, change_is}
 use Rattle.wiring.proofs.Trying.{rewritten_there}
 use Rattle.stabilizer.specs.Dying.{TakesLeast, StandsBefore}
+use Rattle.stabilizer.specs.Giving.{StopsFull}
 use Rattle.stabilizer.specs.Kept.{PartsKept}
 use Rattle.stabilizer.specs.Rebuilding.{IsToBuild}
 use Rattle.stabilizer.specs.Stepping as stepping
 use Rattle.stabilizer.specs.Stepping.{ChangeIsTurned, IsTurned, ChangeIsSettled, ChangeIsLeft, as_it_was, unbuilt, unattached, unwired}
-use Rattle.stabilizer.specs.Stepping.{Steps, StepRefused, wiring}
+use Rattle.stabilizer.specs.Stepping.{Steps, StepRefused, StepStopsFull, wiring}
 use Rattle.stabilizer.specs.declared.parts.Parts.{Parts}
 use Rattle.stabilizer.proofs.Carrying.{taken_kept}
 use Rattle.stabilizer.proofs.Falling.{wired_cases, wiring_kept, SettlesChange, change_settled}
@@ -155,6 +157,19 @@ full_in : (s : State) (arena : Arena) (work : Work) (counts : Counts) (hand : Op
     → (x : Option Progress) → at work.rows p ≡ x → stage_in x ≡ Some code.Full → s.stage p ≡ machine.Full
 full_in s arena work counts hand p st None e f = absurd (none-some code.Full f)
 full_in s arena work counts hand p st (Some k) e f = st.stage p k e ∙ ap stage_of (same_stage k.stage code.Full f)
+
+-- no link is refused as full
+link_full : (work : Work) (p q : Point) (e : Refused) → RefusedBy work p q e → (right : FnRef → RightSide) (a : Arena)
+    (before after : Counts) → StopsFull right a before after e
+link_full work p q (cause.Height points) why right a before after = tt
+link_full work p q (cause.Cycle points) why right a before after = tt
+link_full work p q cause.Full why right a before after = absurd why
+link_full work p q cause.Memory why right a before after = tt
+
+pub why_full : (F : Functions) (s : State) (work : Work) (held : Option Hand) (e : Refused) → TellsWhy F s work held e → (right : FnRef → RightSide)
+    (a : Arena) (before after : Counts) → StopsFull right a before after e
+why_full F s work held e no_memory right a before after = tt
+why_full F s work held e (by_link {p} {q} need tried confirmed why) right a before after = link_full work p q e why right a before after
 
 -- ---- a step
 
@@ -305,7 +320,7 @@ module _ (M : Meaning) (old : Parts) (g : NecessaryPart) (p : Point) (n : NodeId
       → StepRefused M old new before after e
   change_stops right new after e (as_it_was stands nodes counts memory) z s begun quiet st =
       as_it_was (subst (λ (k : Counts). Stands new.arena new.work k None s) counts (stands s (stands_before s st))) (inl counts) memory
-  change_stops right new after e (unbuilt {count} stops calls later told few) z s begun quiet st =
+  change_stops right new after e (unbuilt {count} stops calls later told few full) z s begun quiet st =
       let x = stops z s begun quiet (stands_before s st) in
       unbuilt {r = x.0} {t = x.1} {count = count} (preparing_moves F z (change n) s x.0 x.2) x.3 x.4 calls
       (let g = st.given in omega (arith, g, later)) told
@@ -316,3 +331,18 @@ module _ (M : Meaning) (old : Parts) (g : NecessaryPart) (p : Point) (n : NodeId
       let u = attaches F z x after in_turn in
       let a = refused F z u.0 after (moves_keep F z x u.0 (wired_moves F z x u.0 u.1) in_turn.holds) u.2 u.3 in
       (a.0, a.1, wired_then F z x u.0 a.0 u.1 a.2, a.3, a.4))
+
+  -- where it stops as full a build was made, and lacked room
+  pub change_full : (right : FnRef → RightSide) (new : Parts) (after : Counts) (e : Refused) → ChangeIsLeft M right popped new n before after e
+      → StepStopsFull M right old new before after e
+  change_full right new after e (as_it_was stands nodes counts memory) z s begun quiet st =
+      subst (StopsFull right new.arena before after) (sym memory) tt
+  change_full right new after e (unbuilt stops calls later told few full) z s begun quiet st = full
+  change_full right new after e (unattached {turned} k refused only) z s begun quiet st =
+      let x = turns turned after z s begun quiet st k in
+      let a = refused F z x.next after x.in_turn in why_full F a.0 new.work a.1 e a.4 right new.arena before after
+  change_full right new after e (unwired {turned} {attached} k attaches refused only) z s begun quiet st =
+      let x = turns turned after z s begun quiet st k in
+      let u = attaches F z x.next after x.in_turn in
+      let a = refused F z u.0 after (moves_keep F z x.next u.0 (wired_moves F z x.next u.0 u.1) x.in_turn.holds) u.2 u.3 in
+      why_full F a.0 new.work a.1 e a.4 right new.arena before after

@@ -1,5 +1,5 @@
 -- Ids that are given in a round are those of nodes that live at its end.
-use Rattle.std.proofs.Common.{◌≡◌, ◌⊎◌, inl, inr, ℕ, ◌<◌, ◌≤◌, ◌+◌, ◌++◌, List, [], ◌∷◌, length, Option, None, Some, is_some, refl, sym, ap, subst, ◌∙◌, arith}
+use Rattle.std.proofs.Common.{◌≡◌, ◌⊎◌, inl, inr, ℕ, ◌<◌, ◌≤◌, ◌+◌, ◌++◌, List, [], ◌∷◌, length, Option, None, Some, is_some, refl, sym, ap, ◌∙◌, arith}
 use Rattle.std.specs.Prelude.{sum_by, IsSome}
 use Rattle.std.proofs.lemmas.Bool.{cases_lt}
 use Rattle.std.proofs.lemmas.List.Sums.{sum_by-cons}
@@ -13,7 +13,7 @@ use Rattle.node_arena.specs.Arena.{Arena, row_at, live, IsLive}
 use Rattle.node_arena.specs.Sound.{IsSound}
 use Rattle.node_arena.specs.RightSide.{RightSide}
 use Rattle.stabilizer.specs.Giving.{GivesLive, GivesFew}
-use Rattle.stabilizer.proofs.Sums.{those, those_were, those_once, those_sum, share, StandsFor, stood_for, sum_both}
+use Rattle.stabilizer.proofs.Sums.{those, those_were, those_once, those_sum, share, stood_for, sum_both}
 use Rattle.stabilizer.proofs.Alive.{alive, alive_count, alive_once, alive_row, among_alive}
 
 -- ---- lengths
@@ -23,7 +23,7 @@ as_sum [] = refl
 as_sum (n ∷ ns) = let rest = as_sum ns in let c = sum_by-cons (λ (n : NodeId). 1) n ns in omega (arith, rest, c)
 
 -- different ones that are all among others are no more
-no_more : (ns ms : List NodeId) → NoRepeats ns → ((n : NodeId) → Among n ns → Among n ms) → length ns ≤ length ms
+pub no_more : (ns ms : List NodeId) → NoRepeats ns → ((n : NodeId) → Among n ns → Among n ms) → length ns ≤ length ms
 no_more ns ms once h =
     let most = stood_for (λ (n : NodeId). n) (λ n. 1) (λ n. 1) ns ms once (λ n a. record { other = n; among = h n a; same = refl; most = omega arith }) in
     let one = as_sum ns in

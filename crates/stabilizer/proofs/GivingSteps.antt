@@ -1,5 +1,5 @@
 -- Ids that steps give are of nodes that live on.
-use Rattle.std.proofs.Common.{◌≡◌, ℕ, ◌≤◌, Option, None, Some, refl, sym, ap, subst, ◌∙◌, arith}
+use Rattle.std.proofs.Common.{◌≡◌, inl, inr, ◌≤◌, Option, None, Some, refl, sym, ap, subst, ◌∙◌, arith}
 use Rattle.std.specs.Prelude.{is_some, IsSome}
 use Rattle.inc_value.specs.declared.function.FnRef.{FnRef}
 use Rattle.inc_value.specs.declared.node.NodeId.{NodeId}
@@ -11,17 +11,18 @@ use Rattle.node_arena.specs.RightSide.{RightSide}
 use Rattle.stabilize_round.specs.Machine.{Moves}
 use Rattle.stabilize_round.specs.Moves.{Quiet}
 use Rattle.stabilize_round.specs.State.{State, Start}
-use Rattle.stabilize_round.proofs.Runs.{run_grows}
+use Rattle.stabilize_round.proofs.Runs.{run_builds, run_grows}
 use Rattle.stabilize_round.proofs.Steps.{step_moves}
 use Rattle.node_outcomes.specs.Meaning.{Meaning}
 use Rattle.wiring.specs.Began.{IsRoundOf}
 use Rattle.wiring.specs.Stands.{Stands, Counts, Hand}
 use Rattle.wiring.specs.declared.refused.Refused.{Refused}
+use Rattle.wiring.specs.declared.refused.Refused.TheVariants.{Height, Cycle, Full, Memory}
 use Rattle.wiring.specs.declared.work.Work.{Work}
-use Rattle.stabilizer.specs.Giving.{GivesLive, GivesFew}
+use Rattle.stabilizer.specs.Giving.{GivesLive, GivesFew, HasBuilt, StopsFull}
 use Rattle.stabilizer.specs.Round.{IsInRound}
 use Rattle.stabilizer.specs.Stepping as stepping
-use Rattle.stabilizer.specs.Stepping.{IsTurned, ChangeIsLeft, SettlesLeast, Steps, StepStops, StepRefused}
+use Rattle.stabilizer.specs.Stepping.{IsTurned, ChangeIsLeft, SettlesLeast, Steps, StepStops, StepRefused, StepStopsFull}
 use Rattle.stabilizer.specs.declared.parts.Parts.{Parts}
 use Rattle.stabilizer.proofs.Began.{round_on}
 use Rattle.stabilizer.proofs.Giving.{none_gives, none_few, live_few, gives_more}
@@ -51,7 +52,7 @@ pub left_few : (M : Meaning) (right : FnRef → RightSide) (old new : Parts) (n 
     → ChangeIsLeft M right old new n before after e → GivesFew right old.arena.given new.arena
 left_few M right old new n before after e (stepping.as_it_was stands same counts memory) =
     none_few right old.arena.given new.arena (same_given old.arena new.arena same)
-left_few M right old new n before after e (stepping.unbuilt stops calls later told few) = few
+left_few M right old new n before after e (stepping.unbuilt stops calls later told few full) = few
 left_few M right old new n before after e (stepping.unattached {turned} turns refused only) =
     live_few right old.arena.given new.arena (wired_gives M old turned new n before after turns only)
 left_few M right old new n before after e (stepping.unwired {turned} turns attaches refused only) =
@@ -60,6 +61,10 @@ left_few M right old new n before after e (stepping.unwired {turned} turns attac
 -- of a main that was refused
 pub main_few : (right : FnRef → RightSide) (old new : Arena) → new ≡ old → GivesFew right old.given new
 main_few right old new same = none_few right old.given new (same_given old new same)
+
+-- without memory nothing is full
+pub memory_full : (right : FnRef → RightSide) (a : Arena) (before after : Counts) (e : Refused) → e ≡ Memory → StopsFull right a before after e
+memory_full right a before after e is = subst (StopsFull right a before after) (sym is) tt
 
 -- of a step that was made
 step_gives : (M : Meaning) (old new : Parts) (before after : Counts) → SettlesLeast M old new before after → GivesLive old.arena.given 0 new.arena
@@ -140,6 +145,27 @@ module _ (M N : Meaning) (same : N ≡ M) (old mid new : Parts) (before between 
       let last = lasts_run F z t r moves n k in live_in u None after stands n last.row (there_still F z r u stops n last)
   stopped_there e (stepping.wiring {t = u} {left} moves stands calls told) n k =
       let last = lasts_run F z t u moves n k in live_in u left after stands n last.row last.is_row
+
+  -- no fewer builds are counted then
+  builds_more : before.builds ≤ between.builds
+  builds_more =
+      let grow = (run_builds F z s t ran.1).count.kept in
+      let first = ap (λ (c : Counts). c.builds) begins.stands.counts in
+      let last = ap (λ (c : Counts). c.builds) ran.2.counts in
+      omega (arith, grow, first, last)
+
+  built_since : HasBuilt between after → HasBuilt before after
+  built_since (inl more) = let first = builds_more in inl (omega (arith, first, more))
+  built_since (inr last) = inr last
+
+  full_since : (right : FnRef → RightSide) (e : Refused) → StopsFull right new.arena between after e → StopsFull right new.arena before after e
+  full_since right Full full = (built_since full.0, full.1)
+  full_since right Memory full = tt
+  full_since right (Height points) full = tt
+  full_since right (Cycle points) full = tt
+
+  pub full_next : (right : FnRef → RightSide) (e : Refused) → StepStopsFull N right mid new between after e → StopsFull right new.arena before after e
+  full_next right e full = full_since right e (subst (λ (L : Meaning). StepStopsFull L right mid new between after e) same full z t round quiet ran.2)
 
   pub few_next : (right : FnRef → RightSide) (e : Refused) → StepRefused N mid new between after e → GivesFew right mid.arena.given new.arena
       → GivesFew right old.arena.given new.arena

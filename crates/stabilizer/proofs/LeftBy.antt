@@ -32,6 +32,7 @@ unfolding stands_by
 left_as F old new before after s u live k = record {
   rest = k.left.rest;
   dead = λ n r row gone. k.left.dead n r (live n r row) row gone;
+  fallen = λ n r row gone. k.fallen n r row gone;
   killed = k.killed;
   rooted = k.rooted;
   roots = k.left.roots;

@@ -46,6 +46,7 @@ pub mod NewDeaths
 pub mod Released
 pub mod WholeRound
 pub mod Paused
+pub mod Scoping
 pub mod Stopped
 pub mod LeftBy
 pub mod BuiltFor

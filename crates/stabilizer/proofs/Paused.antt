@@ -1,6 +1,8 @@
 -- A round that is refused stops as the machine says, whatever was refused, and who died in it is told by the nodes before and then.
 use Rattle.std.proofs.Common.{◌≡◌, inl, inr, ℕ, None, refl, ap, arith}
 use Rattle.inc_value.specs.Choice.{here}
+use Rattle.inc_value.specs.declared.function.FnRef.{FnRef}
+use Rattle.node_arena.specs.RightSide.{RightSide}
 use Rattle.node_outcomes.specs.Meaning.{Meaning}
 use Rattle.stabilize_round.specs.Machine.{Move, as_it_is, called_more}
 use Rattle.stabilize_round.proofs.Runs.{run_grows}
@@ -12,11 +14,13 @@ use Rattle.wiring.specs.Wiring.{PutsRoots, RootRefused}
 use Rattle.wiring.specs.declared.refused.Refused.{Refused}
 use Rattle.wiring.specs.declared.refused.Refused.TheVariants.{Memory}
 use Rattle.wiring.specs.declared.work.Work.{Work}
+use Rattle.stabilizer.specs.Giving.{StopsFull}
 use Rattle.stabilizer.specs.Kept.{PartsKept}
 use Rattle.stabilizer.specs.Round.{IsReady, Pauses, SettleRefused, died_by}
 use Rattle.stabilizer.specs.declared.parts.Parts.{Parts}
 use Rattle.stabilizer.proofs.Began.{round_on}
 use Rattle.stabilizer.proofs.Beginning.{Begun, BegunOf, begun_of}
+use Rattle.stabilizer.proofs.ChangeSteps.{why_full}
 use Rattle.stabilizer.proofs.Ending.{died_same}
 
 -- a round that was refused, from what it begins with
@@ -69,6 +73,13 @@ module _ (M : Meaning) (old : Parts) (before : Counts) (ready : IsReady M old) w
           told = inl (ap (λ (c : ℕ). called_more k.0 c) (ap (λ (c : Counts). c.calls) k.3.counts), k.4);
         };
       }
+
+  -- and not as full
+  pub roots_full : (rooted : Work) (e : Refused) → RootRefused old.arena old.work rooted e → (right : FnRef → RightSide)
+      → StopsFull right old.arena before before e
+  roots_full rooted e refused right =
+      let k = refused M.functions b.start b.state before begins.round.holds b.stands in
+      why_full M.functions k.0 rooted k.1 e k.4 right old.arena before before
 
   -- a step was refused
   pub steps_paused : (rooted : Work) (new : Parts) (after : Counts) (e : Refused) → PutsRoots old.arena old.work rooted

@@ -55,3 +55,12 @@ module _ (number : ℕ) (old new : Tally) (is : new ≡ one_built number old) wh
   -- nodes that were added
   pub tally_adds : RoseBy (min old.adds last_count) number (min new.adds last_count)
   tally_adds = subst (λ (t : Tally). RoseBy (min old.adds last_count) number (min t.adds last_count)) (sym is) (rose_capped old.adds number)
+
+  -- one more is counted, or as many as can be
+  pub tally_rises : (min old.builds last_count < min new.builds last_count) ⊎ (min new.builds last_count ≡ last_count)
+  tally_rises =
+      let rose = subst (λ (t : Tally). RoseBy (min old.builds last_count) 1 (min t.builds last_count)) (sym is) (rose_capped old.builds 1) in
+      elim (cases_lt (min new.builds last_count) last_count) [
+        | inl below ↦ inl (let exact = rose.exact below in omega (arith, exact))
+        | inr le ↦ inr (let low : min new.builds last_count ≤ last_count = min-le_right new.builds last_count in omega (arith, le, low))
+      ]

@@ -37,11 +37,12 @@ use Rattle.node_outcomes.specs.declared.row.Progress.{Progress}
 use Rattle.wiring.specs.Began.{IsRoundOf}
 use Rattle.wiring.specs.Stands.{Stands, Counts}
 use Rattle.wiring.specs.Wiring.{KeepsGraph}
-use Rattle.wiring.specs.declared.refused.Refused.TheVariants.{Memory}
+use Rattle.wiring.specs.declared.refused.Refused.{Refused}
+use Rattle.wiring.specs.declared.refused.Refused.TheVariants.{Height, Cycle, Full, Memory}
 use Rattle.wiring.specs.declared.work.Work.{Work}
-use Rattle.stabilizer.specs.Building.{HasGrown}
+use Rattle.stabilizer.specs.Building.{HasGrown, StopsBuilding}
 use Rattle.stabilizer.specs.Dying.{IsBindOf, IsCutOff, HasDied, StandsBefore}
-use Rattle.stabilizer.specs.Giving.{GivesLive, GivesFew}
+use Rattle.stabilizer.specs.Giving.{GivesLive, GivesFew, LeavesRoom, HasBuilt, StopsFull}
 use Rattle.stabilizer.specs.Kept.{PartsKept, KeepsMeaning, counts_by}
 use Rattle.stabilizer.specs.Rebuilding.{IsToBuild, BuildsAnew, BuildRefused, as_it_was, IsSettledOn, IsToSettle, RebuildStays}
 use Rattle.stabilizer.specs.Weights.{IsInScope, SidesFit}
@@ -49,7 +50,7 @@ use Rattle.stabilizer.specs.declared.parts.Parts.{Parts}
 use Rattle.stabilizer.proofs.BuiltAnew.{IsRebuilt, HasRoot, run_settled}
 use Rattle.stabilizer.proofs.Giving.{none_gives, none_few}
 use Rattle.stabilizer.proofs.RebuildAsks.{dead_fit, dead_given, bind_stays, is_bind_of, is_known, may_build, gives_type, fit_then, built_root, no_root_built}
-use Rattle.stabilizer.proofs.RebuildCounts.{tally_adds, tally_builds}
+use Rattle.stabilizer.proofs.RebuildCounts.{tally_adds, tally_builds, tally_rises}
 use Rattle.stabilizer.proofs.Rebuilds.{builds_anew, stops_unbuilt}
 use Rattle.stabilizer.proofs.RebuiltKept.{rebuilt_kept, roomy, roomy_kept, roomy_to, roomy_before, died_roomy, roots_roomy, none_grown, no_adds}
 use Rattle.stabilizer.proofs.RebuiltKept.{no_builds}
@@ -311,6 +312,10 @@ module _ {K More : Type 0} (keeper : Ghosts K More) (fs : K) where
         builds = subst (λ (o : Outcome). RoseBy before.builds (builds_of o) after.builds) (sym is)
             (tally_builds number (keeper.tally fs) (keeper.tally fs') w.tally left)
 
+        -- the build is counted
+        has_built : HasBuilt before after
+        has_built = tally_rises number (keeper.tally fs) (keeper.tally fs') w.tally
+
         calls_fit_then : AllCallFit known (ids_of right) grown.arena
         calls_fit_then = fit_then known (keeper.known fs') right (keeper.right fs') grown.arena w.meaning.known w.meaning.sides w.fit
 
@@ -327,31 +332,46 @@ module _ {K More : Type 0} (keeper : Ghosts K More) (fs : K) where
         row_grown : (r : Row) → row_at old.arena b ≡ Some r → row_at grown.arena b ≡ Some r
         row_grown r e = w.grew.nodes b was_given ∙ (same_row ∙ e)
 
-        -- the ids that were spent are no more than its function takes
-        pub spends_few : ((n : NodeId) → ready.arena.given ≤ n.gen_ → row_at grown.arena n ≡ None)
-            → grown.arena.given ≤ ready.arena.given + (right f).size → GivesFew (keeper.right fs') first.arena.given grown.arena
-        spends_few none most =
-            let same = given_same in record {
-              spent = (right f).size;
-              gives = record { born = []; once = tt; live = λ n i. absurd i; since = λ n i. absurd i; given = omega (arith, most, same) };
-              room = inr (record {
-                bind = b;
-                row = h.to.row;
-                left = h.to.left;
-                function = f;
-                captures = captures;
-                is_row = row_grown h.to.row h.to.is_row;
-                is_bind = h.to.is_bind;
-                empty = nobody;
-                most = let size : (keeper.right fs' f).size ≡ (right f).size = ap (λ (s : RightSide). s.size) (w.meaning.sides f) in omega (arith, size);
-              });
-            }
-          where
-            nobody : (n : NodeId) → IsInScope grown.arena b n → ⊥
-            nobody n s = elim (cases_lt n.gen_ ready.arena.given) [
-              | inl lt ↦ (asks_ready left is).empty n s.row (sym (w.grew.nodes n lt) ∙ s.is_row) s.scope
-              | inr le ↦ none-some s.row (sym (none n le) ∙ s.is_row)
-            ]
+        module _ (none : (n : NodeId) → ready.arena.given ≤ n.gen_ → row_at grown.arena n ≡ None)
+            (most : grown.arena.given ≤ ready.arena.given + (right f).size) where
+          nobody : (n : NodeId) → IsInScope grown.arena b n → ⊥
+          nobody n s = elim (cases_lt n.gen_ ready.arena.given) [
+            | inl lt ↦ (asks_ready left is).empty n s.row (sym (w.grew.nodes n lt) ∙ s.is_row) s.scope
+            | inr le ↦ none-some s.row (sym (none n le) ∙ s.is_row)
+          ]
+
+          leaves_room : (k : ℕ) → k ≤ (right f).size → LeavesRoom (keeper.right fs') k grown.arena
+          leaves_room k few = record {
+            bind = b;
+            row = h.to.row;
+            left = h.to.left;
+            function = f;
+            captures = captures;
+            is_row = row_grown h.to.row h.to.is_row;
+            is_bind = h.to.is_bind;
+            empty = nobody;
+            most = let size : (keeper.right fs' f).size ≡ (right f).size = ap (λ (s : RightSide). s.size) (w.meaning.sides f) in omega (arith, size, few);
+          }
+
+          spent_few : grown.arena.given - ready.arena.given ≤ (right f).size
+          spent_few = let k = most in omega (arith, k)
+
+          -- the ids that were spent are no more than its function takes
+          pub spends_few : GivesFew (keeper.right fs') first.arena.given grown.arena
+          spends_few =
+              let same = given_same in record {
+                spent = (right f).size;
+                gives = record { born = []; once = tt; live = λ n i. absurd i; since = λ n i. absurd i; given = omega (arith, most, same) };
+                room = inr (leaves_room (right f).size (omega arith));
+              }
+
+          -- where it stops as full they leave no room with those that live
+          pub spends_full : (e : Refused) → StopsBuilding ready.arena.given grown.arena e → StopsFull (keeper.right fs') grown.arena before after e
+          spends_full Full (inl full) = (has_built, inl (record { spent = number; room = leaves_room number spent_few; full = full }))
+          spends_full Full (inr given) = (has_built, inr given)
+          spends_full Memory stops = tt
+          spends_full (Height points) stops = absurd stops
+          spends_full (Cycle points) stops = absurd stops
 
         -- the bind keeps its row
         pub own_row : (r : Row) → row_at first.arena b ≡ Some r → row_at grown.arena b ≡ Some r

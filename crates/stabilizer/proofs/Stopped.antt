@@ -29,6 +29,7 @@ use Rattle.stabilize_round.proofs.Rebuilding.{met_after}
 use Rattle.stabilize_round.proofs.Runs.{Kind, kind_of, lived, left_given, bind_given, due_differs, differed, later, grows, row_before, run_grows, run_kills}
 use Rattle.stabilize_round.proofs.Runs.{built_stays, refused_keeps}
 use Rattle.stabilize_round.proofs.Stopped.{new_binds_built, stops_leave}
+use Rattle.stabilizer.proofs.Scoping.{Falls, falls_left, scoped_run, scoped_stopped}
 
 -- ---- who is dead
 
@@ -88,12 +89,14 @@ module _ (F : Functions) (z : Start) (s : State) (given : AllGiven F z s) (t : S
 pub record IsLeftOver (F : Functions) (s u : State) : Type 0 where
   pub left : IsLeft F s u
   pub killed : Kills s u
+  pub fallen : Falls s u
   pub rooted : Rooted F u.graph
 
 pub stops_leave_over : (F : Functions) (z : Start) (s t u : State) → Entry F z s → AllGiven F z s → Moves F z s t → Stops F z t u → IsLeftOver F s u
 stops_leave_over F z s t u entry given run stop = record {
   left = stops_leave F z s t u entry given run stop;
   killed = kills_left F z s given t (moves_keep F z s t run (entry_holds F z s entry)) run u stop;
+  fallen = falls_left F z s given t run u stop;
   rooted = let k = refused_keeps F z s t u entry run stop in subst (λ (x : State). Rooted F x.graph) (sym k.2) k.1.rooted;
 }
 
@@ -112,6 +115,8 @@ pub record BuildsLeft (F : Functions) (z : Start) (s u : State) (refused : Optio
   pub differs : (b : NodeId) → refused ≡ Some b → LeftDiffers F u.graph b
   pub met : (b : NodeId) → refused ≡ Some b → MetNow F z u.graph u.died u.root (change b)
   pub was : (b : NodeId) → refused ≡ Some b → Given s.given b → LeftDiffers F s.graph b
+  pub scoped : (n : NodeId) (r : Row) (b : NodeId) → s.given ≤ n.gen_ → u.graph.row n ≡ Some r → r.scope ≡ Some b → u.graph.built b ≡ None
+      → refused ≡ Some b
 
 no_bind : {X : Type 0} (b : NodeId) → None ≡ Some b → X
 no_bind b e = absurd (none-some b e)
@@ -136,6 +141,10 @@ moves_build F z s t entry given run = record {
   differs = λ b e. no_bind b e;
   met = λ b e. no_bind b e;
   was = λ b e. no_bind b e;
+  scoped = λ n r b le row scope none.
+      let inv = moves_keep F z s t run (entry_holds F z s entry) in
+      let w = scoped_run F z s t run given.names.live inv.scoped n r b le row scope in
+      absurd (none-some w.0 (sym none ∙ w.1));
 }
 
 module _ (F : Functions) (z : Start) (s : State) (entry : Entry F z s) (given : AllGiven F z s) (t : State) (inv : Invariant F z t) (run : Moves F z s t)
@@ -246,11 +255,13 @@ module _ (F : Functions) (z : Start) (s : State) (entry : Entry F z s) (given : 
     met = at_bind (λ (b : NodeId). MetNow F z m.graph m.died t.root (change b)) (met_on c own_met);
     was = at_bind (λ (b : NodeId). Given s.given b → LeftDiffers F s.graph b)
         (λ p. differed_run F z s t run c p (due_differs F z t c now m move));
+    scoped = λ n r b le row scope not.
+        scoped_stopped F z s t run given.names.live inv.scoped c now m move n r b le row scope not;
   }
 
 -- the count of calls doesn't matter
 pub called_on : (F : Functions) (z : Start) (s t : State) (calls : ℕ) → BuildsLeft F z s t None → BuildsLeft F z s (called_more t calls) None
-called_on F z s t calls h = record { stays = h.stays; made = h.made; none = h.none; differs = h.differs; met = h.met; was = h.was }
+called_on F z s t calls h = record { stays = h.stays; made = h.made; none = h.none; differs = h.differs; met = h.met; was = h.was; scoped = h.scoped }
 
 -- wherever a round stops at most one bind couldn't be built
 pub stops_build : (F : Functions) (z : Start) (s t u : State) → Entry F z s → AllGiven F z s → Moves F z s t → Stops F z t u

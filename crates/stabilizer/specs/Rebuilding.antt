@@ -29,7 +29,7 @@ use Rattle.wiring.specs.declared.refused.Refused.TheVariants.{Memory}
 use Rattle.wiring.specs.declared.work.Work.{Work}
 use Rattle.stabilizer.specs.Building.{StopsBuilding}
 use Rattle.stabilizer.specs.Dying.{StandsBefore}
-use Rattle.stabilizer.specs.Giving.{GivesLive, GivesFew}
+use Rattle.stabilizer.specs.Giving.{GivesLive, GivesFew, StopsFull}
 use Rattle.stabilizer.specs.Kept.{PartsKept, KeepsMeaning, counts_by}
 use Rattle.stabilizer.specs.Weights.{SidesFit}
 use Rattle.stabilizer.specs.declared.parts.Parts.{Parts}
@@ -63,7 +63,7 @@ pub data BuildRefused (M : Meaning) (right : FnRef → RightSide) (old new : Par
       → (ready stopped : State) × Reaches (Preparing M.functions z (change n)) s ready × Stops M.functions z ready stopped
       × Stands new.arena new.work after None stopped × (stopped.heap (change n) ≡ true))
       → after.calls ≡ before.calls → old.arena.given ≤ count → StopsBuilding count new.arena e → GivesFew right old.arena.given new.arena
-      → BuildRefused M right old new n before after e
+      → StopsFull right new.arena before after e → BuildRefused M right old new n before after e
 
 -- ---- before the change is settled
 

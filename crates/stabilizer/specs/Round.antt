@@ -200,13 +200,15 @@ module _ (F : Functions) (G : Graph) (died : NodeId → Option NodeId) where
 
   -- what a round leaves of what live binds are built for, of which one couldn't be built, or none. That of a bind that was given before stays, or is
   -- what its left gives, and then its change is met; a bind that was made in the round is built for nothing, or for what its left gives, and then its
-  -- change is met. The one that couldn't be built is built for nothing; where it was given before, its left gave another outcome than it was built for
+  -- change is met. The one that couldn't be built is built for nothing; where it was given before, its left gave another outcome than it was built for.
+  -- A new node stands in the scope of a bind that is built, or of the one that couldn't be
   pub record BuildsRightIn (before : Graph) (given : ℕ) (old : Work) (observed : List NodeId) (unbuilt : Option NodeId) : Type 0 where
     pub stays : (b : NodeId) (r : Row) → Given given b → G.row b ≡ Some r
         → (G.built b ≡ before.built b) ⊎ IsBuiltMetIn old observed b ⊎ (unbuilt ≡ Some b)
     pub made : (b : NodeId) (r : Row) → given ≤ b.gen_ → G.row b ≡ Some r → (G.built b ≡ None) ⊎ IsBuiltMetIn old observed b
     pub refused : (b : NodeId) → unbuilt ≡ Some b → IsUnbuiltIn old observed b
     pub was : (b : NodeId) → unbuilt ≡ Some b → Given given b → LeftDiffers F before b
+    pub scoped : (n : NodeId) (r : Row) (b : NodeId) → given ≤ n.gen_ → G.row n ≡ Some r → r.scope ≡ Some b → G.built b ≡ None → unbuilt ≡ Some b
 
 -- a build is refused for want of room or of memory alone
 abbrev pub RefusesBuild : Refused → Type 0
@@ -260,7 +262,8 @@ abbrev pub IsBuiltOtherBy : Parts → Parts → NodeId → Type 0
 IsBuiltOtherBy old new b = outcome_of ((graph_in new).built b) ≡ outcome_of ((graph_in old).built b) → ⊥
 
 -- what a round leaves that stops: of what was given all stays, but for what died: that stood inside a bind whose left gives another outcome than it
--- was built for. Who stood inside a bind that is built for another outcome than before, or for nothing now, is dead. A bind that is built for the same
+-- was built for, and inside one that is built for another outcome than before, or for nothing now. Who stood inside a bind that is built for another
+-- outcome than before, or for nothing now, is dead. A bind that is built for the same
 -- outcome has the same root, and each live bind that is built has one that reads back as its function's term at that, or none for Invalid; a new node
 -- stands inside a bind that is built for another outcome than before, or for nothing. The count of builds rose by at most one for each of some binds, and
 -- of those that were given before each had a left that gives another outcome than it was built for; and as many nodes were added as ids were given
@@ -268,6 +271,8 @@ pub record IsLeftBy (F : Functions) (old new : Parts) (before after : Counts) : 
   pub rest : GraphStays old.arena.given new.arena.given (graph_in old) (graph_in new)
   pub dead : (n : NodeId) (r : Row) → row_at old.arena n ≡ Some r → row_at new.arena n ≡ None
       → (b : NodeId) × Inside (graph_in old) b n × LeftDiffers F (graph_in old) b
+  pub fallen : (n : NodeId) (r : Row) → row_at old.arena n ≡ Some r → row_at new.arena n ≡ None
+      → (b : NodeId) × Inside (graph_in old) b n × (((graph_in new).built b ≡ None) ⊎ IsBuiltOtherBy old new b)
   pub killed : (n b : NodeId) → Inside (graph_in old) b n → IsBuiltOtherBy old new b → row_at new.arena n ≡ None
   pub rooted : Rooted F (graph_in new)
   pub roots : (b : NodeId) (r : Row) → Given old.arena.given b → row_at new.arena b ≡ Some r

@@ -33,7 +33,7 @@ use Rattle.node_outcomes.specs.declared.row.Stage.TheVariants.{Full}
 use Rattle.wiring.specs.Stands.{Stands, Counts, Hand}
 use Rattle.stabilizer.specs.Building.{StopsBuilding}
 use Rattle.stabilizer.specs.Dying.{TakesLeast, StandsBefore}
-use Rattle.stabilizer.specs.Giving.{GivesLive, GivesFew}
+use Rattle.stabilizer.specs.Giving.{GivesLive, GivesFew, StopsFull}
 use Rattle.stabilizer.specs.Kept.{graph_in}
 use Rattle.stabilizer.specs.Rebuilding.{IsToBuild, BuildsAnew}
 use Rattle.stabilizer.specs.declared.parts.Parts.{Parts}
@@ -131,7 +131,7 @@ pub data ChangeIsLeft (M : Meaning) (right : FnRef → RightSide) (old new : Par
       → (ready stopped : State) × Reaches (Preparing M.functions z (change n)) s ready × Stops M.functions z ready stopped
       × Stands new.arena new.work after None stopped)
       → after.calls ≡ before.calls → old.arena.given ≤ count → StopsBuilding count new.arena e → GivesFew right old.arena.given new.arena
-      → ChangeIsLeft M right old new n before after e
+      → StopsFull right new.arena before after e → ChangeIsLeft M right old new n before after e
   unattached : {turned : Parts} → IsTurned M old turned n before after → AttachRefused turned.arena turned.work new.work n e
       → new ≡ record turned { work = new.work } → ChangeIsLeft M right old new n before after e
   unwired : {turned : Parts} {attached : Work} → IsTurned M old turned n before after → Attaches turned.arena turned.work attached n
@@ -165,6 +165,11 @@ pub data StepStops (F : Functions) (z : Start) (s : State) (new : Parts) (before
 abbrev pub StepRefused : Meaning → Parts → Parts → Counts → Counts → Refused → Type 0
 StepRefused M old new before after e =
     (z : Start) (s : State) → IsRoundOf M z s → Quiet s → Stands old.arena old.work before None s → StepStops M.functions z s new before after e
+
+-- where the parts stand for some state of a round, a step stops as full only in a build that lacked room
+abbrev pub StepStopsFull : Meaning → (FnRef → RightSide) → Parts → Parts → Counts → Counts → Refused → Type 0
+StepStopsFull M right old new before after e =
+    (z : Start) (s : State) → IsRoundOf M z s → Quiet s → Stands old.arena old.work before None s → StopsFull right new.arena before after e
 
 -- ---- what is left of a round
 

@@ -23,8 +23,8 @@ ghost use Rattle.stabilizer.specs.Round.{IsReady, AreRooted, IsUpToDate, IsLawfu
 ghost use Rattle.stabilizer.specs.Round.{cutoff_at, left_by, IsLeftBy, BuildsAll, BuildsAllBut};
 ghost use Rattle.stabilizer.specs.Round.{IsInRound, RootsMore, OnlyRoots, Settles, SettleRefused};
 ghost use Rattle.stabilizer.specs.Stepping.{MainIsSettled, MainIsLeft, IsUnbuiltBind, IsBuiltFor, IsTurnedAwake, IsAsleep, IsTurned, ChangeIsSettled, ChangeIsLeft, SettlesLeast};
-ghost use Rattle.stabilizer.specs.Stepping.{Steps, StepRefused, StepFalls};
-ghost use Rattle.stabilizer.specs.Giving.{GivesLive, GivesFew};
+ghost use Rattle.stabilizer.specs.Stepping.{Steps, StepRefused, StepStopsFull, StepFalls};
+ghost use Rattle.stabilizer.specs.Giving.{GivesLive, GivesFew, StopsFull};
 ghost use Rattle.stabilizer.specs.Weights.{SidesFit};
 
 use crate::parts::Parts;
@@ -59,6 +59,8 @@ impl Stabilizer {
         ensures refused { IfErr result (StepRefused (meaning_of F.Functions functions.old) parts.old parts.new
             (counts_by F.Functions functions.old) (counts_by F.Functions functions.new)) }
         ensures spends { OnErr result (GivesFew (F.right functions.new) parts.old.arena.given parts.new.arena) }
+        ensures full { IfErr result (StepStopsFull (meaning_of F.Functions functions.old) (F.right functions.new) parts.old parts.new
+            (counts_by F.Functions functions.old) (counts_by F.Functions functions.new)) }
         ensures kept { PartsKept parts.new }
         ensures quiet { OnOk result (parts.new.work.todo.items ≡ []) }
         ensures falls { IfOk result (λ more. IsTrue more → StepFalls (meaning_of F.Functions functions.old)
@@ -105,6 +107,8 @@ impl Stabilizer {
         ensures ready { OnOk result (IsReady (meaning_of F.Functions functions.new) parts.new) }
         ensures gives { OnOk result (GivesLive parts.old.arena.given 0 parts.new.arena) }
         ensures spends { OnErr result (GivesFew (F.right functions.new) parts.old.arena.given parts.new.arena) }
+        ensures full { IfErr result (StopsFull (F.right functions.new) parts.new.arena
+            (counts_by F.Functions functions.old) (counts_by F.Functions functions.new)) }
         ensures fit { SidesFit (F.known functions.new) (F.right functions.new) parts.new.arena }
         ensures round { OnOk result (parts.new.work.round ≡ parts.old.work.round + 1) }
         ensures lawful { IfErr result (λ e. (observed : List NodeId) → AreRooted parts.old.work observed
@@ -172,6 +176,8 @@ fn settle_all<F: Functions>(parts: &mut Parts, functions: &mut F) -> Result<(), 
         (counts_by F.Functions functions.old) (counts_by F.Functions functions.new)) }
     ensures gives { OnOk result (GivesLive parts.old.arena.given 0 parts.new.arena) }
     ensures spends { OnErr result (GivesFew (F.right functions.new) parts.old.arena.given parts.new.arena) }
+    ensures full { IfErr result (StopsFull (F.right functions.new) parts.new.arena
+        (counts_by F.Functions functions.old) (counts_by F.Functions functions.new)) }
     ensures fit { SidesFit (F.known functions.new) (F.right functions.new) parts.new.arena }
     ensures kept { PartsKept parts.new }
     ensures quiet { OnOk result (parts.new.work.todo.items ≡ []) }

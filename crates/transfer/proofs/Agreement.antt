@@ -27,7 +27,7 @@ use Rattle.inc_terms.proofs.Evaluation.{at_depth}
 use Rattle.inc_terms.proofs.Evaluation as engine_proofs
 use Rattle.script_model.specs.Values.{Value, Outcome, Int, Bool, Text, Reference, Val, Invalid, same_value}
 use Rattle.script_model.specs.Formula as script
-use Rattle.script_model.specs.Formula.{Formula, Formulas, TimedValue, Body, Entry, State, body_at, entry_at, Literal, Name, Bound, Apply, Fold, If, Join, Bind, At, Steps, Now, End, More, Variable, Computed, Freeze, After, Every, Expert, Grab}
+use Rattle.script_model.specs.Formula.{Formula, Formulas, TimedValue, Body, Entry, body_at, entry_at, Literal, Name, Bound, Apply, Fold, If, Join, Bind, At, Steps, Now, End, More, Variable, Computed, Freeze, After, Every, Expert, Grab}
 use Rattle.script_model.specs.Evaluate.{Values, gathered, each_of, given, fold_from, or_invalid, truth_of, target_of, chosen, stepped, while_built, has_come, level, body_level, name_level, value_at, Gives}
 use Rattle.script_model.proofs.Places.{same_values}
 use Rattle.script_model.proofs.Evaluation.{every_depth_agrees, value_more, each_under, links_under}
@@ -434,7 +434,7 @@ module _ (x : Both) (fits : Fits x) where
   -- ---- live grabs
 
   -- the row of a form in a bind's scope
-  root_row : (b : NodeId) (v : Value) (n : NodeId) (f : Formula) → ((t : ℕ) → f ≡ Name t → ⊥)
+  pub root_row : (b : NodeId) (v : Value) (n : NodeId) (f : Formula) → ((t : ℕ) → f ≡ Name t → ⊥)
       → Shows x (Built (Some b)) (record { value = v; mode = Built (Some b) } ∷ []) (term.Ref n) f
       → (r : Row) × (x.graph.row n ≡ Some r) × (r.scope ≡ Some b)
   root_row b v n (Name t) named shows = absurd (named t refl)

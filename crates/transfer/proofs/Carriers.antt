@@ -11,11 +11,11 @@ use Rattle.inc_terms.specs.Same.{same_outcome}
 use Rattle.inc_terms.specs.Evaluate as engine
 use Rattle.inc_terms.specs.Evaluate.{answer, NodeGives, Stands, Of, Around}
 use Rattle.inc_terms.specs.Graph as graph
-use Rattle.inc_terms.specs.Graph.{Graph, Row, Def}
+use Rattle.inc_terms.specs.Graph.{Row, Def}
 use Rattle.inc_terms.specs.Term as term
 use Rattle.script_model.specs.Values.{Value, Outcome, Val}
 use Rattle.script_model.specs.Formula as script
-use Rattle.script_model.specs.Formula.{Formula, Formulas, Body, State, body_at, Literal, Name, Bound, Apply, Fold, If, Join, Bind, At, Steps, Now, End, More, Variable, Computed, Freeze, After, Every, Expert, Grab}
+use Rattle.script_model.specs.Formula.{Formula, Body, body_at, Name, Bind, Variable, Computed, Freeze, After, Every, Expert, Grab}
 use Rattle.script_model.specs.Evaluate.{value_at, Gives}
 use Rattle.script_model.specs.Need.{Edge, Argument, Test, Then, Else, Child, Left, Inside, Item, Named, Place, environment, part_at, formula_at, outcome_at, ItemGives, part_reads, scope_reads, grab_reads}
 use Rattle.script_model.proofs.NeededStands.{among_left}

@@ -8,9 +8,9 @@ use Rattle.inc_value.specs.Walk.{IsWalk as IsGraphWalk}
 use Rattle.inc_terms.specs.Depend as depend
 use Rattle.inc_terms.specs.Depend.{main, change, Depends as GraphDepends}
 use Rattle.inc_terms.specs.Graph as graph
-use Rattle.inc_terms.specs.Graph.{Row, Built as BuiltFor}
+use Rattle.inc_terms.specs.Graph.{Row}
 use Rattle.inc_terms.specs.Term as term
-use Rattle.script_model.specs.Depth.{Point, Main, Change, node_of_body, change_points, points_of, Depends, IsWalk, TooDeep}
+use Rattle.script_model.specs.Depth.{Point, Main, Change, node_of_body, change_points, points_of, Depends, TooDeep}
 use Rattle.script_model.specs.Depth as depth
 use Rattle.script_model.specs.Formula.{Formula, Body, State, body_at, Name, If, Join, Bind, Variable, Computed, Freeze, After, Every, Expert, Grab}
 use Rattle.script_model.specs.Need.{Edge, Left, Inside, Item, Named, Place, rounds, part_at, formula_at, Met, StillStands}

@@ -33,6 +33,7 @@ use Rattle.transfer.proofs.Leading.{OnPlaces, on_places, own_named, leads, left_
 use Rattle.transfer.proofs.Owning.{Own, own_name, own_place, own_choice, own_left, own_grab, IsItself}
 use Rattle.transfer.proofs.Numbers.{number}
 use Rattle.transfer.proofs.Places.{part_above, place_shows}
+use Rattle.transfer.proofs.Staying.{stands_own}
 use Rattle.transfer.proofs.Reaching.{met_closed}
 use Rattle.transfer.proofs.Typed.{body_entry, bind_body, body_typed, place_names, valid_grabs}
 
@@ -96,7 +97,8 @@ module _ (x : Both) (fits : Fits x) (keep : KeepToTypes x.meanings) (valid : Val
             rw body_is at self
     at_bind p b left body kept is (own_place owner path f n here f_is form at p_is P_is) =
         let nodes : x.nodes b ≡ n = ap (λ (p : GraphPoint). p.node) P_is in
-        elim (parts owner path f n b (Computed (Bind left body) kept) f_is form at is tt nodes) [
+        elim (parts owner path f n b (Computed (Bind left body) kept)
+        (stands_own x keep valid owner path f f_is (stand (Place owner path) here)) f_is form at is tt nodes) [
           | inl (owners, paths, g, kept', rest) ↦ p_is ∙ ap (λ (i : Item). Main i) (ap (λ (o : ℕ). Place o path) owners
               ∙ ap (λ (r : List Edge). Place b r) paths)
           | inr (v, body_is, paths) ↦ absurd (cc)
@@ -161,7 +163,7 @@ module _ (x : Both) (fits : Fits x) (keep : KeepToTypes x.meanings) (valid : Val
           not_passed : (k : ℕ) → IsPassed x P Q k → ⊥
           not_passed k ((b, b_is, b_own), k_is, root) =
               let nodes : x.nodes k ≡ m = ap (λ (p : GraphPoint). p.node) (sym k_is ∙ Q_is) in
-              by_parts (parts o r f m k b f_is form at b_is b_own nodes)
+              by_parts (parts o r f m k b (stands_own x keep valid o r f f_is (stand (Place o r) is)) f_is form at b_is b_own nodes)
             where
               by_parts : ((o ≡ k) × (r ≡ []) × (g : Formula) × (kept : script.Kept) × (b ≡ Computed g kept))
                   ⊎ ((v : Value) × (b ≡ Grab o v true) × (r ≡ Inside v ∷ [])) → ⊥

@@ -4,7 +4,7 @@ use Rattle.std.specs.Prelude as std
 use Rattle.inc_value.specs.Choice.{Among, Reaches, here, step}
 use Rattle.script_model.specs.Values.{Value, Outcome, Bool, Reference, Val, Invalid, same_value}
 use Rattle.script_model.specs.Formula as script
-use Rattle.script_model.specs.Formula.{Formula, Formulas, Body, Entry, Observer, State, Meanings, body_at, formula_of_body, Literal, Name, Bound, Apply, Fold, If, Join, Bind, At, Steps, Now, End, More, Variable, Computed, Freeze, After, Every, Expert, Grab}
+use Rattle.script_model.specs.Formula.{Formula, Formulas, Body, Entry, Observer, State, Meanings, body_at, Literal, Name, Bound, Apply, Fold, If, Join, Bind, At, Steps, Now, End, More, Variable, Computed, Freeze, After, Every, Expert, Grab}
 use Rattle.script_model.specs.Evaluate.{value_at}
 use Rattle.script_model.specs.Need.{Edge, Argument, Test, Then, Else, Child, Left, Inside, Item, Named, Place, environment, bind_around, part_at, formula_at, outcome_at, argument_at, argument_places, chosen_place, named_place, inside_place, part_reads, left_of, scope_reads, place_reads, grab_reads, name_reads, Reads, own_root, own_roots, roots, Needed, Held, Met, from_root, from_held, StillStands}
 use Rattle.inc_terms.proofs.Local.{reach_more}

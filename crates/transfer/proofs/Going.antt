@@ -15,20 +15,20 @@ use Rattle.inc_terms.specs.Depend as depend
 use Rattle.inc_terms.specs.Depend.{main, change, Depends as GraphDepends, subject_of, right_of, fixed_reads, root_for, at_most_one}
 use Rattle.inc_terms.specs.Evaluate.{NodeGives, Stands}
 use Rattle.inc_terms.specs.Graph as graph
-use Rattle.inc_terms.specs.Graph.{Graph, Row, Def}
+use Rattle.inc_terms.specs.Graph.{Row, Def}
 use Rattle.inc_terms.specs.Same.{same_outcome}
 use Rattle.inc_terms.specs.Term as term
 use Rattle.inc_terms.specs.Term.{Terms, refs}
 use Rattle.inc_terms.proofs.Same.{outcome_decides}
-use Rattle.script_model.specs.Depth.{Point, Main, Change, node_of_body, node_of_formula, mains, change_of, stands_at, main_points, change_points, scoped_points, body_points, points_at, Depends, IsWalk}
+use Rattle.script_model.specs.Depth.{Point, Main, Change, mains, stands_at, main_points, change_points, scoped_points, body_points, Depends}
 use Rattle.script_model.specs.Depth as depth
 use Rattle.script_model.specs.Evaluate.{value_at}
 use Rattle.script_model.specs.Formula as script
-use Rattle.script_model.specs.Formula.{Formula, Formulas, Body, State, body_at, Literal, Name, Bound, Apply, Fold, If, Join, Bind, At, Steps, Now, End, More, Variable, Computed, Freeze, After, Every, Expert, Grab}
+use Rattle.script_model.specs.Formula.{Formula, Formulas, Body, body_at, Literal, Name, Bound, Apply, Fold, If, Join, Bind, At, Steps, Now, Variable, Computed, Freeze, After, Every, Expert, Grab}
 use Rattle.script_model.specs.Need.{Edge, Argument, Test, Then, Else, Child, Left, Inside, Item, Named, Place, rounds, environment, bind_around, argument_at, part_at, formula_at, outcome_at, argument_places, part_reads, scope_reads, Reads, StillStands}
 use Rattle.script_model.specs.Valid.{HasType, Valid, KeepToTypes}
 use Rattle.script_model.specs.Values as script_value
-use Rattle.script_model.specs.Values.{Value, Outcome, Val, Invalid, same_value}
+use Rattle.script_model.specs.Values.{Value, Outcome, Val, Invalid}
 use Rattle.script_model.proofs.Evaluation.{every_depth_agrees}
 use Rattle.script_model.proofs.NeededStands.{among_left}
 use Rattle.script_model.proofs.TypedCalls.{part_is, place_typed}

@@ -10,22 +10,22 @@ use Rattle.inc_value.specs.declared.outcome.Outcome.TheVariants as outcome
 use Rattle.inc_value.specs.declared.value.Value.TheVariants as held
 use Rattle.inc_value.specs.Choice.{Among, Reaches, here, step, and_then}
 use Rattle.inc_terms.specs.Depend as depend
-use Rattle.inc_terms.specs.Depend.{main, change, Depends, subject_of, kids_of, fixed_reads, unfrozen, root_for, right_of, rights_of, at_most_one}
+use Rattle.inc_terms.specs.Depend.{main, change, Depends, subject_of, fixed_reads, right_of}
 use Rattle.inc_terms.specs.Evaluate.{NodeGives, Of}
 use Rattle.inc_terms.specs.Graph as graph
-use Rattle.inc_terms.specs.Graph.{Graph, Row, Def}
+use Rattle.inc_terms.specs.Graph.{Row, Def}
 use Rattle.inc_terms.specs.Local.{Exact, IsBuilt}
 use Rattle.inc_terms.specs.Need.{Needed as GraphNeeded}
 use Rattle.inc_terms.specs.Same.{same_outcome}
 use Rattle.inc_terms.specs.Term as term
-use Rattle.inc_terms.specs.Term.{Term, Terms, refs}
+use Rattle.inc_terms.specs.Term.{refs}
 use Rattle.inc_terms.proofs.Evaluation.{one_outcome as engine_one}
 use Rattle.inc_terms.proofs.Local.{needed_more}
 use Rattle.inc_terms.proofs.Same.{outcome_decides}
 use Rattle.script_model.specs.Values as script_value
 use Rattle.script_model.specs.Values.{Value, Outcome, Val, Invalid, same_value}
 use Rattle.script_model.specs.Formula as script
-use Rattle.script_model.specs.Formula.{Formula, Formulas, Body, State, body_at, Literal, Name, Bound, Apply, Fold, If, Join, Bind, At, Steps, Now, End, More, Variable, Computed, Freeze, After, Every, Expert, Grab}
+use Rattle.script_model.specs.Formula.{Formula, Formulas, Body, body_at, Literal, Name, Bound, Apply, Fold, If, Join, Bind, At, Steps, Now, End, More, Variable, Computed, Freeze, After, Every, Expert, Grab}
 use Rattle.script_model.specs.Evaluate.{value_at}
 use Rattle.script_model.specs.Need.{Edge, Argument, Test, Then, Else, Child, Left, Inside, Item, Named, Place, environment, bind_around, argument_at, part_at, formula_at, outcome_at, ItemGives, argument_places, chosen_place, named_place, inside_place, part_reads, left_of, scope_reads, place_reads, grab_reads, name_reads, Reads, Needed, roots}
 use Rattle.script_model.proofs.Evaluation.{one_outcome}

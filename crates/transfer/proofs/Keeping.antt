@@ -7,7 +7,7 @@ use Rattle.inc_value.specs.declared.node.NodeId.{NodeId}
 use Rattle.inc_value.specs.declared.ty.Ty.{Ty}
 use Rattle.inc_value.specs.Choice.{Every as Each}
 use Rattle.inc_terms.specs.Graph as graph
-use Rattle.inc_terms.specs.Graph.{Graph, Row, Def}
+use Rattle.inc_terms.specs.Graph.{Graph, Def}
 use Rattle.inc_terms.specs.Term as term
 use Rattle.inc_terms.specs.Term.{Functions}
 use Rattle.script_model.specs.Values.{Value, Int, Bool, Text, Reference, Val}
@@ -23,7 +23,7 @@ use Rattle.transfer.proofs.Typed.{valid_grabs, valid_resolved, body_mentions, sp
 
 -- ---- the nodes of known values tell them apart
 
-same_known : (s : State) (nodes : ℕ → NodeId) → NodesApart s nodes → (n m : ℕ) (t u : Ty) (v w : Value)
+pub same_known : (s : State) (nodes : ℕ → NodeId) → NodesApart s nodes → (n m : ℕ) (t u : Ty) (v w : Value)
     → ValueHasType s n v t → ValueHasType s m w u
     → graph_value nodes v ≡ graph_value nodes w → v ≡ w
 same_known s nodes apart n m t u (Reference a b) (Reference c d) g h e =

@@ -7,17 +7,17 @@ use Rattle.inc_value.specs.declared.outcome.Outcome.TheVariants as outcome
 use Rattle.inc_value.specs.Choice.{and_then, Among, NoRepeats}
 use Rattle.inc_value.specs.Walk.{IsWalk as IsGraphWalk}
 use Rattle.inc_terms.specs.Depend as depend
-use Rattle.inc_terms.specs.Depend.{main, change, Depends as GraphDepends, subject_of, right_of, fixed_reads, root_for, at_most_one}
+use Rattle.inc_terms.specs.Depend.{main, change, Depends as GraphDepends}
 use Rattle.inc_terms.specs.Evaluate.{Stands}
 use Rattle.inc_terms.specs.Graph as graph
-use Rattle.inc_terms.specs.Graph.{Graph, Row, Def}
+use Rattle.inc_terms.specs.Graph.{Row}
 use Rattle.inc_terms.specs.Same.{same_outcome}
 use Rattle.inc_terms.proofs.Same.{outcome_decides}
-use Rattle.script_model.specs.Depth.{Point, Main, Change, node_of_body, node_of_formula, mains, change_of, stands_at, main_points, change_points, scoped_points, body_points, points_at, Depends, IsWalk}
+use Rattle.script_model.specs.Depth.{Point, Main, Change, node_of_body, node_of_formula, Depends, IsWalk}
 use Rattle.script_model.specs.Depth as depth
 use Rattle.script_model.specs.Evaluate.{value_at, Gives}
 use Rattle.script_model.specs.Formula as script
-use Rattle.script_model.specs.Formula.{Formula, Formulas, Body, State, body_at, Literal, Name, Bound, Apply, Fold, If, Join, Bind, At, Steps, Now, End, More, Variable, Computed, Freeze, After, Every, Expert, Grab}
+use Rattle.script_model.specs.Formula.{Formula, Body, body_at, Name, Bind, Variable, Computed, Freeze, After, Every, Expert, Grab}
 use Rattle.script_model.specs.Need.{Edge, Left, Inside, Item, Named, Place, bind_around, formula_at, outcome_at, grab_reads, Reads, StillStands}
 use Rattle.script_model.specs.Valid.{Valid, KeepToTypes}
 use Rattle.script_model.specs.Values.{Value, Outcome, Val}

@@ -5,11 +5,11 @@ use Rattle.inc_value.specs.declared.node.NodeId.{NodeId}
 use Rattle.inc_value.specs.declared.node.Point.{Point as GraphPoint}
 use Rattle.inc_value.specs.Choice.{and_then, Among, Every as Each}
 use Rattle.inc_terms.specs.Depend.{main, change}
-use Rattle.script_model.specs.Depth.{Point, Main, Change, node_of_body, node_of_formula, mains, change_of, stands_at, main_points, change_points, scoped_points, body_points, points_at, Depends, IsWalk}
+use Rattle.script_model.specs.Depth.{Point, Main, Change, mains, change_of, stands_at, main_points, change_points, scoped_points, Depends}
 use Rattle.script_model.specs.Depth as depth
 use Rattle.script_model.specs.Evaluate.{chosen, value_at}
 use Rattle.script_model.specs.Formula as script
-use Rattle.script_model.specs.Formula.{Formula, Formulas, Body, State, body_at, Literal, Name, Bound, Apply, Fold, If, Join, Bind, At, Steps, Now, End, More, Variable, Computed, Freeze, After, Every, Expert, Grab}
+use Rattle.script_model.specs.Formula.{Formula, Body, State, body_at, Literal, Name, Bound, Apply, Fold, If, Join, Bind, At, Steps, Now, Computed, Grab}
 use Rattle.script_model.specs.Need.{Edge, Left, Inside, Item, Named, Place, Round, rounds, environment, bind_around, formula_at, outcome_at, StillGives}
 use Rattle.script_model.specs.Values.{Value, Outcome, Val, same_value}
 use Rattle.script_model.proofs.Evaluation.{every_depth_agrees}

@@ -8,7 +8,7 @@ use Rattle.inc_value.specs.declared.value.Value.{Value as GraphValue}
 use Rattle.inc_terms.specs.Depend.{subject_of}
 use Rattle.inc_terms.specs.Evaluate.{answer, Stands}
 use Rattle.inc_terms.specs.Graph as graph
-use Rattle.inc_terms.specs.Graph.{Graph, Row, Def, Built as BuiltFor}
+use Rattle.inc_terms.specs.Graph.{Graph, Row, Def}
 use Rattle.inc_terms.specs.Same.{same_outcome}
 use Rattle.inc_terms.specs.Term as term
 use Rattle.inc_terms.specs.Term.{Term, Terms, refs}
@@ -16,7 +16,7 @@ use Rattle.inc_terms.proofs.Same.{outcome_decides}
 use Rattle.inc_value.specs.Choice.{and_then}
 use Rattle.script_model.specs.Values.{Value}
 use Rattle.script_model.specs.Formula as script
-use Rattle.script_model.specs.Formula.{Formula, Formulas, Body, State, body_at, formula_of_body, Literal, Name, Bound, Apply, Fold, If, Join, Bind, At, Steps, Now, End, More}
+use Rattle.script_model.specs.Formula.{Formula, Formulas, Body, State, body_at, formula_of_body, Apply, Fold, If, Join, Bind, End, More}
 use Rattle.script_model.specs.Need.{Edge, Argument, Test, Then, Else, Child, Left, Inside, argument_at, part_at, part_of, formula_at}
 use Rattle.script_model.proofs.TypedCalls.{part_stands}
 use Rattle.transfer.specs.Both.{Both, graph_value}

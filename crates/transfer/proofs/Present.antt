@@ -10,7 +10,7 @@ use Rattle.inc_value.specs.Choice.{and_then}
 use Rattle.inc_terms.specs.Evaluate as engine
 use Rattle.inc_terms.specs.Evaluate.{answer, Gives, NodeGives, Stands, Of, Around}
 use Rattle.inc_terms.specs.Graph as graph
-use Rattle.inc_terms.specs.Graph.{Graph, Row, Def, present_def}
+use Rattle.inc_terms.specs.Graph.{Row, present_def}
 use Rattle.inc_terms.specs.Same.{same_outcome}
 use Rattle.inc_terms.specs.Term as term
 use Rattle.inc_terms.proofs.Evaluation.{one_outcome}

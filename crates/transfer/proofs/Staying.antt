@@ -8,7 +8,7 @@ use Rattle.inc_value.specs.declared.value.Value.{Value as GraphValue}
 use Rattle.inc_value.specs.declared.value.Value.TheVariants as held
 use Rattle.inc_value.specs.Choice.{and_then, Among, Every as Each}
 use Rattle.inc_terms.specs.Evaluate as engine
-use Rattle.inc_terms.specs.Evaluate.{answer, Stands, Around}
+use Rattle.inc_terms.specs.Evaluate.{answer, Stands}
 use Rattle.inc_terms.specs.Graph as graph
 use Rattle.inc_terms.specs.Graph.{Graph, Row, Def, Built as BuiltFor}
 use Rattle.inc_terms.specs.Rebuilding.{outcome_of}
@@ -29,6 +29,7 @@ use Rattle.transfer.specs.Keeping.{NodesApart}
 use Rattle.transfer.specs.Shows.{Built, Binding, plain, Opens, graph_step, Shows, Fits}
 use Rattle.transfer.proofs.Carriers.{outer_stands}
 use Rattle.transfer.specs.Cycles.{IsForm}
+pub use Rattle.transfer.specs.Cycles.{IsOwnValue}
 use Rattle.transfer.proofs.Places.{if_true, opened, part_above, then_some, place_shows}
 use Rattle.transfer.proofs.Present.{stands_present}
 use Rattle.transfer.proofs.Stepping.{row_scope}
@@ -80,11 +81,6 @@ part_other g edge f e = tt
 
 -- ---- values
 
--- a reference is to a declaration that is its own target
-abbrev pub IsOwnValue : State → Value → Type 0
-IsOwnValue s (Reference t base) = (e : Entry) × (entry_at s t ≡ Some e) × (e.target ≡ t)
-IsOwnValue s v = Unit {0}
-
 pub known_own : (s : State) (below : ℕ) (v : Value) → IsKnown s below v → IsOwnValue s v
 known_own s below (Int z) h = tt
 known_own s below (Bool b) h = tt
@@ -97,7 +93,7 @@ fit_own s (v ∷ vs) [] h = absurd h
 fit_own s (v ∷ vs) (t ∷ tys) h = (known_own s _ v h.0.1, fit_own s vs tys h.1)
 
 -- where own names have nodes of their own, values with the same node are the same
-same_own : (s : State) (nodes : ℕ → NodeId) → NodesApart s nodes → (u v : Value) → IsOwnValue s u → IsOwnValue s v
+pub same_own : (s : State) (nodes : ℕ → NodeId) → NodesApart s nodes → (u v : Value) → IsOwnValue s u → IsOwnValue s v
     → graph_value nodes u ≡ graph_value nodes v → u ≡ v
 same_own s nodes apart (Int a) (Int b) h k e = cc
 same_own s nodes apart (Int a) (Bool b) h k e = absurd (cc)

@@ -10,7 +10,7 @@ use Rattle.inc_value.specs.declared.outcome.Outcome.TheVariants as outcome
 use Rattle.inc_value.specs.declared.value.Value.{Value as GraphValue}
 use Rattle.inc_value.specs.Choice.{Among, Reaches, here, step}
 use Rattle.inc_terms.specs.Depend as depend
-use Rattle.inc_terms.specs.Depend.{main, change, Depends, subject_of, kids_of, change_reads, main_reads, fixed_reads, unfrozen, root_for, right_of, rights_of, at_most_one}
+use Rattle.inc_terms.specs.Depend.{main, change, Depends, subject_of, fixed_reads, root_for, right_of, rights_of, at_most_one}
 use Rattle.inc_terms.specs.Evaluate.{NodeGives, Stands}
 use Rattle.inc_terms.specs.Graph as graph
 use Rattle.inc_terms.specs.Graph.{Graph, Row, Def}
@@ -21,7 +21,7 @@ use Rattle.inc_terms.proofs.Same.{outcome_decides}
 use Rattle.script_model.specs.Values as script_value
 use Rattle.script_model.specs.Values.{Value, Outcome, Val, Invalid}
 use Rattle.script_model.specs.Formula as script
-use Rattle.script_model.specs.Formula.{Formula, Formulas, Body, State, body_at, Literal, Name, Bound, Apply, Fold, If, Join, Bind, At, Steps, Now, End, More, Variable, Computed, Freeze, After, Every, Expert, Grab}
+use Rattle.script_model.specs.Formula.{Formula, Formulas, Body, body_at, Literal, Name, Bound, Apply, Fold, If, Join, Bind, At, Steps, Now, End, More, Variable, Computed, Freeze, After, Every, Expert, Grab}
 use Rattle.script_model.specs.Evaluate.{value_at}
 use Rattle.script_model.specs.Need.{Edge, Argument, Test, Then, Else, Child, Left, Inside, Item, Named, Place, environment, bind_around, argument_at, part_at, formula_at, outcome_at, ItemGives, argument_places, part_reads}
 use Rattle.script_model.proofs.TypedCalls.{part_is}

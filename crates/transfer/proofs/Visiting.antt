@@ -13,7 +13,7 @@ use Rattle.inc_terms.specs.Depend.{main}
 use Rattle.inc_terms.specs.Evaluate as engine
 use Rattle.inc_terms.specs.Evaluate.{answer, Stands}
 use Rattle.inc_terms.specs.Graph as graph
-use Rattle.inc_terms.specs.Graph.{Graph, Row, Def}
+use Rattle.inc_terms.specs.Graph.{Row, Def}
 use Rattle.inc_terms.specs.Term as term
 use Rattle.inc_terms.specs.Term.{Term, Terms, refs}
 use Rattle.inc_value.specs.Choice.{Among, NoRepeats, Every as Each}

@@ -7,13 +7,13 @@ use Rattle.inc_value.specs.declared.ty.Ty.TheVariants as ty
 use Rattle.inc_value.specs.declared.value.Value.{Value as GraphValue}
 use Rattle.inc_value.specs.declared.value.Value.TheVariants as held
 use Rattle.inc_terms.specs.Graph as graph
-use Rattle.inc_terms.specs.Graph.{Graph, Row, Def}
+use Rattle.inc_terms.specs.Graph.{Row}
 use Rattle.inc_terms.specs.Local.{IsRooted}
 use Rattle.inc_terms.specs.Same.{same_outcome}
 use Rattle.inc_terms.specs.Term as term
 use Rattle.inc_terms.specs.Unfold.{Unfolds}
 use Rattle.script_model.specs.Formula as script
-use Rattle.script_model.specs.Formula.{Body, body_at, Name, Computed, Grab}
+use Rattle.script_model.specs.Formula.{body_at, Name, Computed, Grab}
 use Rattle.script_model.specs.Values.{Value}
 use Rattle.transfer.specs.Shows.{Declares, IsOwn, Own}
 use Rattle.transfer.specs.Laws.{SomeFit, BodyHasNodes}

@@ -1,12 +1,13 @@
 -- Which names a listed cycle of points passes.
 use Rattle.std.specs.Prelude.{◌≡◌, ◌⊎◌, ℕ, Bool, true, List, [], ◌∷◌, Some}
 use Rattle.inc_value.specs.declared.node.NodeId.{NodeId}
+use Rattle.inc_value.specs.Choice.{Every as Each}
 use Rattle.inc_value.specs.declared.node.Point.{Point}
 use Rattle.inc_terms.specs.Depend.{main}
 use Rattle.script_model.specs.Formula as script
-use Rattle.script_model.specs.Formula.{Formula, Body, State, body_at, Name, Computed, Grab}
-use Rattle.script_model.specs.Need.{Edge, Inside, formula_at}
-use Rattle.script_model.specs.Values.{Value}
+use Rattle.script_model.specs.Formula.{Formula, Body, Entry, State, entry_at, body_at, Name, Computed, Grab}
+use Rattle.script_model.specs.Need.{Edge, Inside, environment, formula_at}
+use Rattle.script_model.specs.Values.{Value, Reference}
 use Rattle.transfer.specs.Both.{Both}
 use Rattle.transfer.specs.Items.{node_at}
 use Rattle.transfer.specs.Shows.{IsOwn}
@@ -20,10 +21,17 @@ abbrev pub IsForm : Formula → Type 0
 IsForm (Name t) = ⊥
 IsForm f = Unit {0}
 
--- a place that is no bare name and has the node of an own name is that name's whole formula, or the right side that a grab is of
+-- a reference is to a declaration that is its own target
+abbrev pub IsOwnValue : State → Value → Type 0
+IsOwnValue s (Reference t base) = (e : Entry) × (entry_at s t ≡ Some e) × (e.target ≡ t)
+IsOwnValue s v = Unit {0}
+
+-- a place that is no bare name and has the node of an own name is that name's whole formula, or the right side that a grab is of. The values
+-- of the binds round it refer to declarations that are their own targets
 abbrev pub PartsApart : Both → Type 0
 PartsApart x =
-    (owner : ℕ) (path : List Edge) (f : Formula) (n : NodeId) (k : ℕ) (b : Body) → formula_at x.state owner path ≡ Some f
+    (owner : ℕ) (path : List Edge) (f : Formula) (n : NodeId) (k : ℕ) (b : Body) → Each (IsOwnValue x.state) (environment path)
+    → formula_at x.state owner path ≡ Some f
     → IsForm f → node_at x owner path ≡ Some n → body_at x.state k ≡ Some b → IsOwn (Some b) → x.nodes k ≡ n
     → ((owner ≡ k) × (path ≡ []) × (g : Formula) × (kept : script.Kept) × (b ≡ Computed g kept))
     ⊎ ((v : Value) × (b ≡ Grab owner v true) × (path ≡ Inside v ∷ []))

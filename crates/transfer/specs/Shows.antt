@@ -10,10 +10,10 @@ use Rattle.inc_terms.specs.Graph as graph
 use Rattle.inc_terms.specs.Graph.{Graph, Row, Def, Built as BuiltFor}
 use Rattle.inc_terms.specs.Local.{IsRooted}
 use Rattle.inc_terms.specs.Term as term
-use Rattle.inc_terms.specs.Term.{Term, Terms, Functions, refs, put}
+use Rattle.inc_terms.specs.Term.{Term, Terms, Functions, refs}
 use Rattle.inc_value.specs.Choice.{Every as Each}
 use Rattle.script_model.specs.Formula as script
-use Rattle.script_model.specs.Formula.{Formula, Formulas, TimedValue, Body, State, Meanings, body_at, Literal, Name, Bound, Apply, Fold, If, Join, Bind, At, Steps, Now, End, More, Variable, Computed, Freeze, After, Every, Expert, Grab}
+use Rattle.script_model.specs.Formula.{Formula, Formulas, TimedValue, Body, Meanings, body_at, Literal, Name, Bound, Apply, Fold, If, Join, Bind, At, Steps, Now, End, More, Variable, Computed, Freeze, After, Every, Expert, Grab}
 use Rattle.script_model.specs.Values.{Value, Outcome, Val}
 use Rattle.script_model.specs.Evaluate.{Gives}
 use Rattle.transfer.specs.Both.{Both, graph_value}

@@ -7,7 +7,7 @@ use Rattle.inc_value.specs.declared.outcome.Outcome.TheVariants as outcome
 use Rattle.inc_value.specs.declared.ty.Ty.TheVariants as ty
 use Rattle.inc_value.specs.declared.value.Value.TheVariants as held
 use Rattle.inc_terms.specs.Graph as graph
-use Rattle.inc_terms.specs.Graph.{Graph, Row, Def}
+use Rattle.inc_terms.specs.Graph.{Row, Def}
 use Rattle.inc_terms.specs.Term as term
 use Rattle.script_model.specs.Formula as script
 use Rattle.script_model.specs.Formula.{State, Entry, Body, Name, Bound, Apply, Bind, End, More, Variable, Computed, nothing_kept}

@@ -12,6 +12,7 @@ ghost use Rattle.graph.specs.declared.fault.Kept.{Kept as ACause};
 
 use super::Graph;
 use crate::fault::{GraphFault, more_fault};
+use function_keepers::Keeper;
 use inc_terms::{Def, Nodes};
 use inc_value::{FnRef, NodeId, Ty};
 use node_arena::Functions;
@@ -112,6 +113,34 @@ impl<F: Functions> Graph<F> {
         match row.def {
             Def::Bind { .. } => Ok(self.parts.root_of(node)),
             _ => Ok(None),
+        }
+    }
+}
+
+impl<F: Keeper> Graph<F> {
+    /// Keeps one more function beside the others, as `more` does, where what stays beside it is told.
+    pub fn keep(&mut self, function: F::More) -> Result<FnRef, (GraphFault, F::More)>
+        requires keepable { IsKeepable (F.known self.old.functions) (F.right self.old.functions)
+            (F.brings function).kind (F.brings function).sig (F.brings function).side }
+        requires unbroken { IsUnbroken self.old }
+        ensures keeps { F.keeps self.old.functions self.new.functions }
+        ensures keeping { IfErr result (λ e. (e.0 ≡ GraphFault.TooMany) ⊎ (e.0 ≡ GraphFault.Memory)) }
+        ensures too_many { IfErr result (λ e. (e.0 ≡ GraphFault.TooMany)
+            → (F.tally self.old.functions).taken ≡ (F.tally self.old.functions).most) }
+        ensures known { IfOk result (λ f. IsTrue (F.known self.new.functions f)) }
+        ensures means { IfOk result (λ f. Means (F.value self.new.functions) (F.right self.new.functions) f (F.brings function)) }
+        ensures keeps_known { KeepsKnown (F.known self.old.functions) (F.known self.new.functions) }
+        ensures keeps_meanings { KeepsMeanings (F.known self.old.functions) (F.value self.old.functions) (F.value self.new.functions)
+            (F.right self.old.functions) (F.right self.new.functions) }
+        ensures same_names { SameNames (F.named self.old.functions) (F.named self.new.functions) }
+        ensures tally { F.tally self.new.functions ≡ one_taken result (F.tally self.old.functions) }
+        ensures calls { F.calls self.new.functions ≡ F.calls self.old.functions }
+        ensures back { IfErr result (λ e. e.1 ≡ function) }
+        ensures rest { self.new ≡ record self.old { functions = self.new.functions } }
+    {
+        match self.functions.keep(self.alloc, function) {
+            Ok(f) => Ok(f),
+            Err((fault, function)) => Err((more_fault(fault), function)),
         }
     }
 }

@@ -6,18 +6,19 @@ ghost use Rattle.node_arena.specs.Meanings.{SameNames, SameKnown, SameValues};
 ghost use Rattle.node_arena.specs.RightSide.{SameSides};
 ghost use Rattle.stabilize_round.specs.Calling.{costs_of};
 ghost use Rattle.stabilize_round.specs.Counts.{RoseBy};
-ghost use Rattle.stabilizer.specs.Giving.{GivesLive, GivesFew};
+ghost use Rattle.stabilizer.specs.Giving.{GivesLive, GivesFew, HasBuilt, StopsFull};
 ghost use Rattle.stabilizer.specs.Weights.{SidesFit};
 ghost use Rattle.node_outcomes.specs.Meaning.{functions_of, meaning_of};
 ghost use Rattle.stabilizer.specs.Kept.{KeepsMeaning, counts_by};
 ghost use Rattle.stabilizer.specs.Kept.{HasNoBinds};
-ghost use Rattle.graph.specs.Few.{IdsAreFew};
+ghost use Rattle.graph.specs.Few.{IdsAreFew, IsFilled};
 ghost use Rattle.graph.specs.Inside.{CanStabilize, BringsUpToDate, calls_in, IsNextRound, IsRefusedLawfully, WasTried};
 ghost use Rattle.graph.specs.Inside.{CalledMet, FitTogether, AllShowStill, KeepsCutoffs, KeepsCalled};
 ghost use Rattle.graph.specs.Inside.{LeavesParts, KeepsNodes, BuildsEach, BuildsEachBut};
 ghost use Rattle.graph.specs.Standing.{IsBroken, IsUnbroken, in_use};
 ghost use Rattle.graph.specs.Stabilizes.{Stabilizes, IsRefusedFor, HasCalledMet, LeavesNodes, left_by};
 ghost use Rattle.graph.specs.declared.fault.Kept.{Kept as ACause};
+ghost use Rattle.graph.specs.declared.fault.Kept.TheVariants as kept;
 
 use super::Graph;
 use crate::fault::{StabilizeFault, cause_of};
@@ -51,6 +52,9 @@ impl<F: Functions> Graph<F> {
         ensures left { IsUnbroken self.old → LeavesNodes (functions_of F.Functions self.old.functions) self.old self.new
             (counts_by F.Functions self.old.functions) (counts_by F.Functions self.new.functions) }
         ensures ids { IdsAreFew (F.right self.new.functions) self.old.nodes.given self.new.nodes }
+        ensures full { IsErrOf result (StabilizeFault.Refused kept.Full) → IsFilled (F.right self.new.functions) self.new.nodes }
+        ensures rose { IsErrOf result (StabilizeFault.Refused kept.Full)
+            → HasBuilt (counts_by F.Functions self.old.functions) (counts_by F.Functions self.new.functions) }
         ensures lives { OnOk result (self.new.nodes.given ≤ self.old.nodes.given + live self.new.nodes) }
         ensures flat { HasNoBinds self.old.nodes → self.new.nodes ≡ self.old.nodes }
         ensures calls_grow { F.calls self.old.functions ≤ F.calls self.new.functions }
@@ -123,6 +127,8 @@ fn run<F: Functions>(
         (counts_by F.Functions functions.old) (counts_by F.Functions functions.new) }
     ensures gives { OnOk result (GivesLive parts.old.arena.given 0 parts.new.arena) }
     ensures spends { OnErr result (GivesFew (F.right functions.new) parts.old.arena.given parts.new.arena) }
+    ensures full { IfErr result (StopsFull (F.right functions.new) parts.new.arena
+        (counts_by F.Functions functions.old) (counts_by F.Functions functions.new)) }
     ensures flat { HasNoBinds parts.old.arena → KeepsNodes parts.old parts.new }
     ensures fit { SidesFit (F.known functions.new) (F.right functions.new) parts.new.arena }
     ensures functions { KeepsMeaning F.Functions functions.old functions.new }

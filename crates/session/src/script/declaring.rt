@@ -1,7 +1,9 @@
 //! Declarations in a script.
 ghost use Rattle.std.specs.Prelude.{◌≡◌, ◌<◌, ◌≤◌, ◌+◌, ◌-◌, ◌^◌, ◌++◌, ◌∷◌, [], ℕ, List, length, slice_get, Some, None, IfOk, OnOk, OnErr, Ok, false};
-ghost use Rattle.formula_elab.specs.Laying.{laid_body, type_at};
-ghost use Rattle.formula_elab.specs.Make.{make_view};
+ghost use Rattle.formula_elab.specs.Laying.{laid_body};
+ghost use Rattle.formula_elab.specs.Types.{type_at};
+ghost use Rattle.formula_elab.specs.Functions.{bodies_in, bodies_made};
+ghost use Rattle.formula_elab.specs.Make.{Right, make_view};
 ghost use Rattle.formula_elab.specs.Opened.{AreInOrder, node_at, node_of};
 ghost use Rattle.formula_elab.specs.declared.make.Made.{Made};
 ghost use Rattle.formula_lang.specs.CommandView.{body_view};
@@ -10,26 +12,29 @@ ghost use Rattle.formula_lang.specs.NamesView.{kind_view};
 ghost use Rattle.graph.specs.Effects.{top, Adds, KeepsAll};
 ghost use Rattle.graph.specs.Standing.{IsUnbroken};
 ghost use Rattle.inc_terms.specs.Code.{def_of};
-ghost use Rattle.inc_value.specs.declared.ty.Ty.{Ty};
+ghost use Rattle.inc_value.specs.declared.ty.Ty.{Ty as ATy};
 ghost use Rattle.node_arena.specs.Arena.{live};
-ghost use Rattle.script_graph.specs.Growing.{AllOpenFit, Extends, IsMadeIn, IsMaking, IsWelcome, IsWelcomeMake};
+ghost use Rattle.node_arena.specs.RightSide.{AreUsable};
+ghost use Rattle.script_graph.specs.Growing.{AllPlannedFit, Extends, IsBodyKept, IsMadeIn, IsWelcome, IsWelcomeMake, functions_over};
 ghost use Rattle.script_graph.specs.Kept.{arena_of};
 ghost use Rattle.script_graph.specs.Sound.{HaveNodes};
 ghost use Rattle.script_graph.specs.State.{MatchesMoment};
-ghost use Rattle.script_graph.specs.Today.{NoGrabs};
+ghost use Rattle.script_functions.specs.Bodies.{side_of};
+ghost use Rattle.script_functions.specs.Keeping.{is_known, makers, side_in};
 ghost use Rattle.script_model.specs.Check.{Declare, Declared, kind_of_body, target_of_body};
-ghost use Rattle.script_model.specs.Formula.{meanings_of, places_of_body};
+ghost use Rattle.script_model.specs.Formula.{binds_of_body, meanings_of, places_of_body};
 ghost use Rattle.script_model.specs.Step.{Moment, moved};
 ghost use Rattle.session.specs.Carried.{IsBeside};
+ghost use Rattle.session.specs.Making.{AreMade, IsServing, KeepsFunctions, StayKnown};
 
 use super::{Script, or_no_memory};
 use formula_elab::{Made, Make, Plan, elaborate};
 use formula_lang::{Declaration, Formula, Kind, Names};
-use graph::Graph;
+use graph::{Graph, GraphFault};
 use inc_terms::Def;
 use inc_value::{NodeId, Ty};
 use node_arena::Library;
-use script_functions::ScriptFns;
+use script_functions::{Body, ScriptFns};
 use std::alloc::{AllocError, Global};
 
 impl<L: Library> Script<L> {
@@ -44,6 +49,8 @@ impl<L: Library> Script<L> {
         requires fits { DeclarationFits (L.known self.old.library) self.old.kept.names name.now ty (body_view body.now) }
         requires room { room + places_of_body (body_view body.now) ≡ self.old.kept.room }
         requires unbroken { self.old.kept.broken ≡ None }
+        requires binds { binds_of_body (body_view body.now) ≤ 64 }
+        requires bodies { length self.old.kept.bodies + 64 < 1099511627776 }
         requires ids { (arena_of self.old.kept).given + 2 ^ 20 < 2 ^ 64 - 1 }
         ensures declared { let F = meanings_of (L.named self.old.library) (L.value self.old.library) in
             OnOk result ((m : Moment) → MatchesMoment F self.old.kept m
@@ -92,13 +99,14 @@ fn add_declared<L: Library>(
     requires unbroken { IsUnbroken graph.old }
     requires one_each { length nodes.old.items ≡ length names.old.declared }
     requires has_nodes { HaveNodes graph.old.nodes names.old.declared nodes.old.items }
-    requires no_grabs { NoGrabs names.old.declared }
+    requires binds { binds_of_body (body_view body.now) ≤ 64 }
+    requires bodies { length graph.old.functions.bodies.items + 64 < 1099511627776 }
     requires room { live graph.old.nodes + places_of_body (body_view body.now) ≤ 1048575 }
     requires ids { graph.old.nodes.given + 2 ^ 20 < 2 ^ 64 - 1 }
-    ensures made { OnOk result ((made : List Made)
-        × IsMaking graph.old graph.new (laid_body (node_at nodes.old.items) (type_at names.old) 0 (body_view body.now)).makes made
-        × (length made ≡ length (laid_body (node_at nodes.old.items) (type_at names.old) 0 (body_view body.now)).makes)
-        × (nodes.new.items ≡ nodes.old.items ++ node_of made (laid_body (node_at nodes.old.items) (type_at names.old) 0 (body_view body.now)).root ∷ [])) }
+    ensures made { let plan = laid_body (node_at nodes.old.items) (type_at names.old) 0 (body_view body.now) in
+        OnOk result ((made : List Made)
+        × AreMade (L.known graph.new.functions.library) (L.value graph.new.functions.library) graph.new.functions.bodies.items graph.old graph.new plan.makes made
+        × (nodes.new.items ≡ nodes.old.items ++ node_of made plan.root ∷ [])) }
     ensures names { OnOk result (names.new ≡ record names.old {
       declared = names.old.declared ++ record {
         name = name.now;
@@ -111,6 +119,8 @@ fn add_declared<L: Library>(
     ensures names_kept { OnErr result (names.new ≡ names.old) }
     ensures nodes_kept { OnErr result (nodes.new.items ≡ nodes.old.items) }
     ensures given { graph.new.nodes.given ≤ graph.old.nodes.given + 2 ^ 20 }
+    ensures functions { KeepsFunctions graph.old.functions.library graph.new.functions.library graph.old.functions.builds graph.new.functions.builds
+        graph.old.functions.bodies.items graph.new.functions.bodies.items 64 }
 {
     match make_declared(alloc, graph, names, nodes, body) {
         Ok(node) => {
@@ -136,20 +146,24 @@ fn make_declared<L: Library>(
     nodes: &[NodeId],
     body: &Declaration,
 ) -> Result<NodeId, AllocError>
-    requires fits { (ty : Ty) × BodyFits (L.known graph.old.functions.library) names.now (body_view body.now) ty }
+    requires fits { (ty : ATy) × BodyFits (L.known graph.old.functions.library) names.now (body_view body.now) ty }
     requires unbroken { IsUnbroken graph.old }
     requires one_each { length nodes.now ≡ length names.now.declared }
     requires has_nodes { HaveNodes graph.old.nodes names.now.declared nodes.now }
-    requires no_grabs { NoGrabs names.now.declared }
+    requires binds { binds_of_body (body_view body.now) ≤ 64 }
+    requires bodies { length graph.old.functions.bodies.items + 64 < 1099511627776 }
     requires room { live graph.old.nodes + places_of_body (body_view body.now) ≤ 1048575 }
     requires ids { graph.old.nodes.given + 2 ^ 20 < 2 ^ 64 - 1 }
-    ensures made { IfOk result (λ node. (made : List Made)
-        × IsMaking graph.old graph.new (laid_body (node_at nodes.now) (type_at names.entry.now) 0 (body_view body.now)).makes made
-        × (length made ≡ length (laid_body (node_at nodes.now) (type_at names.entry.now) 0 (body_view body.now)).makes)
-        × (node ≡ node_of made (laid_body (node_at nodes.now) (type_at names.entry.now) 0 (body_view body.now)).root)) }
+    ensures made { let plan = laid_body (node_at nodes.now) (type_at names.entry.now) 0 (body_view body.now) in
+        IfOk result (λ node. (made : List Made)
+        × AreMade (L.known graph.new.functions.library) (L.value graph.new.functions.library) graph.new.functions.bodies.items graph.old graph.new plan.makes made
+        × (node ≡ node_of made plan.root)) }
     ensures kept { OnErr result (Extends graph.old graph.new) }
     ensures given { graph.new.nodes.given ≤ graph.old.nodes.given + 2 ^ 20 }
+    ensures functions { KeepsFunctions graph.old.functions.library graph.new.functions.library graph.old.functions.builds graph.new.functions.builds
+        graph.old.functions.bodies.items graph.new.functions.bodies.items 64 }
 {
+    graph.keeps_sound();
     match elaborate(alloc, body, names, nodes) {
         Ok(plan) => {
             let mut plan = plan;
@@ -169,14 +183,18 @@ fn make_all<L: Library>(
     requires unbroken { IsUnbroken graph.old }
     requires begins { plan.old.made ≡ [] }
     requires waits { plan.old.is_waiting ≡ false }
-    requires order { AreInOrder 0 plan.old.makes }
-    requires fit { AllOpenFit (L.known graph.old.functions.library) graph.old.nodes plan.old.makes }
+    requires order { AreInOrder [] plan.old.makes }
+    requires fit { AllPlannedFit (L.known graph.old.functions.library) graph.old.nodes plan.old.makes }
+    requires bodies { length graph.old.functions.bodies.items + bodies_in plan.old.makes ≤ 1099511627776 }
     requires room { live graph.old.nodes + length plan.old.makes ≤ 1048575 }
     requires ids { graph.old.nodes.given + length plan.old.makes < 2 ^ 64 - 1 }
-    ensures made { IfOk result (λ node. (made : List Made) × IsMaking graph.old graph.new plan.old.makes made
-        × (length made ≡ length plan.old.makes) × (node ≡ node_of made plan.old.root)) }
+    ensures made { IfOk result (λ node. (made : List Made)
+        × AreMade (L.known graph.new.functions.library) (L.value graph.new.functions.library) graph.new.functions.bodies.items graph.old graph.new plan.old.makes made
+        × (node ≡ node_of made plan.old.root)) }
     ensures kept { OnErr result (Extends graph.old graph.new) }
     ensures given { graph.new.nodes.given ≤ graph.old.nodes.given + length plan.old.makes }
+    ensures functions { KeepsFunctions graph.old.functions.library graph.new.functions.library graph.old.functions.builds graph.new.functions.builds
+        graph.old.functions.bodies.items graph.new.functions.bodies.items (bodies_in plan.old.makes) }
 {
     graph.keeps_sound();
     let mut made = None;
@@ -198,13 +216,23 @@ fn make_all<L: Library>(
 /// Makes what fits.
 fn make_one<L: Library>(graph: &mut Graph<ScriptFns<L>>, make: Make) -> Result<Made, AllocError>
     requires unbroken { IsUnbroken graph.old }
-    requires welcome { IsWelcomeMake (L.known graph.old.functions.library) graph.old.nodes (make_view make) }
+    requires welcome { IsWelcomeMake (is_known (L.known graph.old.functions.library) (makers graph.old.functions.bodies.items))
+        (side_in (makers graph.old.functions.bodies.items)) graph.old.nodes (make_view make) }
+    requires bodies { length graph.old.functions.bodies.items + bodies_made (make_view make) ≤ 1099511627776 }
     requires room { live graph.old.nodes < 1048576 }
     requires ids { graph.old.nodes.given < 2 ^ 64 - 1 }
-    ensures made { IfOk result (λ made. IsMadeIn graph.old graph.new (make_view make) made) }
-    ensures kept { OnErr result (KeepsAll graph.old graph.new) }
+    ensures made { IfOk result (λ made. IsMadeIn (functions_over (L.value graph.new.functions.library) graph.new.functions.bodies.items) graph.old graph.new (make_view make) made) }
+    ensures serves { IfOk result (λ made. IsServing (is_known (L.known graph.new.functions.library) (makers graph.new.functions.bodies.items))
+        (side_in (makers graph.new.functions.bodies.items)) (make_view make) made) }
+    ensures kept { OnErr result (Extends graph.old graph.new) }
+    ensures nodes { OnErr result (graph.new.nodes ≡ graph.old.nodes) }
+    ensures functions { KeepsFunctions graph.old.functions.library graph.new.functions.library graph.old.functions.builds graph.new.functions.builds
+        graph.old.functions.bodies.items graph.new.functions.bodies.items (bodies_made (make_view make)) }
+    ensures known { StayKnown (L.known graph.old.functions.library) (L.known graph.new.functions.library)
+        graph.old.functions.bodies.items graph.new.functions.bodies.items }
 {
     match make {
+        Make::Body(body) => keep_body(graph, body),
         Make::Node(def, ty) => match add(graph, def, ty) {
             Ok(node) => Ok(Made::Node(node)),
             Err(fault) => Err(fault),
@@ -212,10 +240,37 @@ fn make_one<L: Library>(graph: &mut Graph<ScriptFns<L>>, make: Make) -> Result<M
     }
 }
 
+/// Keeps a body that can be kept.
+fn keep_body<L: Library>(graph: &mut Graph<ScriptFns<L>>, body: Body) -> Result<Made, AllocError>
+    requires unbroken { IsUnbroken graph.old }
+    requires usable { AreUsable (is_known (L.known graph.old.functions.library) (makers graph.old.functions.bodies.items))
+        (side_in (makers graph.old.functions.bodies.items)) (side_of body) }
+    requires bodies { length graph.old.functions.bodies.items < 1099511627776 }
+    ensures made { IfOk result (λ made. IsBodyKept (functions_over (L.value graph.new.functions.library) graph.new.functions.bodies.items) graph.old graph.new body made) }
+    ensures serves { IfOk result (λ made. IsServing (is_known (L.known graph.new.functions.library) (makers graph.new.functions.bodies.items))
+        (side_in (makers graph.new.functions.bodies.items)) (Right body) made) }
+    ensures rest { graph.new ≡ record graph.old { functions = graph.new.functions } }
+    ensures functions { KeepsFunctions graph.old.functions.library graph.new.functions.library graph.old.functions.builds graph.new.functions.builds
+        graph.old.functions.bodies.items graph.new.functions.bodies.items 1 }
+    ensures known { StayKnown (L.known graph.old.functions.library) (L.known graph.new.functions.library)
+        graph.old.functions.bodies.items graph.new.functions.bodies.items }
+{
+    match graph.keep(body) {
+        Ok(function) => Ok(Made::Fn(function)),
+        Err((fault, body)) => {
+            drop(body);
+            match fault {
+                GraphFault::Memory => Err(AllocError),
+                _ => unreachable!(),
+            }
+        }
+    }
+}
+
 /// Adds a node of a type, whose children are there and fit.
 fn add<L: Library>(graph: &mut Graph<ScriptFns<L>>, def: Def, ty: Ty) -> Result<NodeId, AllocError>
     requires unbroken { IsUnbroken graph.old }
-    requires welcome { IsWelcome (L.known graph.old.functions.library) graph.old.nodes (def_of def) ty }
+    requires welcome { IsWelcome (is_known (L.known graph.old.functions.library) (makers graph.old.functions.bodies.items)) (side_in (makers graph.old.functions.bodies.items)) graph.old.nodes (def_of def) ty }
     requires room { live graph.old.nodes < 1048576 }
     requires ids { graph.old.nodes.given < 2 ^ 64 - 1 }
     ensures added { IfOk result (λ node. Adds graph.old graph.new node (top (def_of def) ty)) }
@@ -230,7 +285,11 @@ fn add<L: Library>(graph: &mut Graph<ScriptFns<L>>, def: Def, ty: Ty) -> Result<
         }
         Def::If { test, yes, no } => or_no_memory(graph.if_(ty, test, yes, no)),
         Def::Join(child) => or_no_memory(graph.join(ty, child)),
-        Def::Bind { .. } => unreachable!(),
+        Def::Bind {
+            left,
+            function,
+            captures,
+        } => or_no_memory(graph.bind(left, function, captures.as_slice())),
     }
 }
 
@@ -243,10 +302,12 @@ fn kind_of(body: &Declaration) -> Kind
         Declaration::Computed(
             Formula::Literal(_)
             | Formula::Name(_)
+            | Formula::Bound(_)
             | Formula::Apply { .. }
             | Formula::Fold { .. }
             | Formula::If { .. }
             | Formula::Join(_),
         ) => Kind::Let,
+        Declaration::Computed(Formula::Bind { .. }) => Kind::Bind,
     }
 }

@@ -1,14 +1,16 @@
 //! The declarations whose nodes a graph tells: those that references are to, and those that a cycle passes.
-ghost use Rattle.std.specs.Prelude.{ℕ, ◌≡◌, ◌<◌, ◌++◌, List, [], length, IfOk, IfSome, IfNone, OnOk, OnErr, IsTrue, IsFalse, None, Some};
-ghost use Rattle.script_graph.specs.Stabilizing.{CyclePasses, IsCycleMet, IsMainOf, MainsIn, behind_first, closed};
-ghost use Rattle.session.specs.Naming.{NamesMain, closing_name, either_of};
+ghost use Rattle.std.specs.Prelude.{ℕ, ◌≡◌, ◌↔◌, ◌<◌, ◌++◌, List, [], length, slice_get, IfOk, IfSome, IfNone, OnOk, OnErr, IsTrue, IsFalse, None, Some};
+ghost use Rattle.std.specs.List.{flat_map};
+ghost use Rattle.script_graph.specs.Stabilizing.{CyclePasses, IsCycleMet, IsOwnRoot, IsPassed, PassesAll, closed};
+ghost use Rattle.session.specs.Naming.{closing_name, either_of};
 ghost use Rattle.session.specs.Replies.{IsOwnNode, IsReferredName, cycle_line, name_in, named_of, referred_node};
 
 use super::Script;
 use formula_lang::Names;
-use graph::Refused;
+use graph::{Graph, Refused};
 use inc_value::{NodeId, Outcome, Part, Point, Value};
 use node_arena::Library;
+use script_functions::ScriptFns;
 use std::alloc::{AllocError, Global};
 
 impl<L: Library> Script<L> {
@@ -29,8 +31,8 @@ impl<L: Library> Script<L> {
     /// once more.
     pub(crate) fn write_cycle(&self, out: &mut Vec<u8>) -> Result<(), AllocError>
         requires met { IsCycleMet self.now.kept.graph.refused }
-        ensures ok { OnOk result ((targets : List ℕ) × CyclePasses self.now.kept.names.declared self.now.kept.nodes
-            self.now.kept.graph.refused targets
+        ensures ok { OnOk result ((targets : List ℕ)
+            × CyclePasses self.now.kept.graph self.now.kept.names.declared self.now.kept.nodes targets
             × (out.new.items ≡ out.old.items ++ cycle_line (name_in self.now.kept.names) (closed targets))) }
         ensures err { OnErr result (out.new.items ≡ out.old.items) }
     {
@@ -38,9 +40,10 @@ impl<L: Library> Script<L> {
             Some(Refused::Cycle(points)) => {
                 write_passed(
                     self.alloc,
+                    &self.graph,
                     &self.names,
                     &self.nodes,
-                    behind_first(points),
+                    points,
                     out,
                 )
             }
@@ -60,7 +63,7 @@ fn referred_node(outcome: &Outcome) -> Option<NodeId>
 }
 
 /// The declaration that stands for itself whose node it is.
-fn own_declaration(names: &Names, nodes: &[NodeId], node: NodeId) -> Option<usize>
+pub(super) fn own_declaration(names: &Names, nodes: &[NodeId], node: NodeId) -> Option<usize>
     requires one_each { length nodes.now ≡ length names.now.declared }
     ensures some { IfSome result (IsOwnNode names.entry.now nodes.now node) }
     ensures none { IfNone result ((position : ℕ) → IsOwnNode names.entry.now nodes.now node position → ⊥) }
@@ -74,7 +77,7 @@ fn own_declaration(names: &Names, nodes: &[NodeId], node: NodeId) -> Option<usiz
 }
 
 /// Whether the declaration at a position stands for itself and has the node.
-fn is_own_node(names: &Names, nodes: &[NodeId], node: NodeId, position: usize) -> bool
+pub(super) fn is_own_node(names: &Names, nodes: &[NodeId], node: NodeId, position: usize) -> bool
     requires one_each { length nodes.now ≡ length names.now.declared }
     requires within { position < length nodes.now }
     ensures yes { IsTrue result → IsOwnNode names.entry.now nodes.now node position }
@@ -83,71 +86,84 @@ fn is_own_node(names: &Names, nodes: &[NodeId], node: NodeId, position: usize) -
     names.get(position).target == position && nodes[position] == node
 }
 
-/// The points without the first.
-fn behind_first(points: &[Point]) -> &[Point]
-    ensures { result.now ≡ behind_first points.now }
-{
-    match points {
-        [_, rest @ ..] => rest,
-        [] => points,
-    }
-}
-
-/// The declaration whose main the point is, which stands for itself.
-fn main_of(names: &Names, nodes: &[NodeId], point: Point) -> Option<usize>
+/// The declaration whose main the point is, which stands for itself, and which a cycle passes there that comes from another
+/// point. The right side of a bind that its main reads is passed as a part of the bind's formula, also where it is grabbed.
+fn passed<L: Library>(
+    graph: &Graph<ScriptFns<L>>,
+    names: &Names,
+    nodes: &[NodeId],
+    before: Point,
+    point: Point,
+) -> Option<usize>
     requires one_each { length nodes.now ≡ length names.now.declared }
-    ensures some { IfSome result (IsMainOf names.entry.now.declared nodes.now point) }
-    ensures none { IfNone result ((n : ℕ) → IsMainOf names.entry.now.declared nodes.now point n → ⊥) }
+    ensures some { IfSome result (IsPassed graph.now names.entry.now.declared nodes.now before point) }
+    ensures none { IfNone result ((n : ℕ) → IsPassed graph.now names.entry.now.declared nodes.now before point n → ⊥) }
 {
     match point.part {
-        Part::Main => own_declaration(names, nodes, point.node),
-        Part::Change => None,
+        Part::Main if !is_own_root(graph, before, point.node) => {
+            own_declaration(names, nodes, point.node)
+        }
+        Part::Main | Part::Change => None,
     }
 }
 
-/// Appends the reply to a stabilize that was refused for a cycle: the declarations whose mains stand among the points, by their names, and the first
-/// of them once more.
-fn write_passed(
+/// Whether the point is the main of the bind in whose scope, or one within, the node stands.
+fn is_own_root<L: Library>(graph: &Graph<ScriptFns<L>>, point: Point, node: NodeId) -> bool
+    ensures { IsTrue result ↔ IsOwnRoot graph.now point node }
+{
+    match (graph.owner(node), point.part) {
+        (Some(bind), Part::Main) => bind != node && point.node == bind,
+        (Some(_), Part::Change) | (None, _) => false,
+    }
+}
+
+/// Appends the reply to a stabilize that was refused for a cycle: the declarations that its points pass, by their names, and the first of them once
+/// more.
+fn write_passed<L: Library>(
     alloc: Global,
+    graph: &Graph<ScriptFns<L>>,
     names: &Names,
     nodes: &[NodeId],
     points: &[Point],
     out: &mut Vec<u8>,
 ) -> Result<(), AllocError>
     requires one_each { length nodes.now ≡ length names.now.declared }
-    ensures ok { OnOk result ((targets : List ℕ) × MainsIn names.entry.now.declared nodes.now points.now targets
+    ensures ok { OnOk result ((targets : List ℕ) × PassesAll graph.now names.entry.now.declared nodes.now points.now targets
         × (out.new.items ≡ out.old.items ++ cycle_line (name_in names.entry.now) (closed targets))) }
     ensures err { OnErr result (out.new.items ≡ out.old.items) }
 {
     let mut line = Vec::new(alloc);
     line.extend_from_slice(b"refused 20 cycle")?;
-    let mut first = None;
-    for point in points {
-        first = write_main(names, nodes, *point, first, &mut line)?;
-    }
+    let first = write_each_passed(graph, names, nodes, points, &mut line)?;
     write_first(names, first, &mut line)?;
     line.push(b'\n')?;
     out.extend_from_slice(&line)
 }
 
-/// Appends a space and the name of the declaration whose main the point is, if it is that of one. The answer is the first that was named.
-fn write_main(
+/// Appends a space and the name of each declaration that the points pass. The answer is the first of them.
+fn write_each_passed<L: Library>(
+    graph: &Graph<ScriptFns<L>>,
     names: &Names,
     nodes: &[NodeId],
-    point: Point,
-    first: Option<usize>,
+    points: &[Point],
     line: &mut Vec<u8>,
 ) -> Result<Option<usize>, AllocError>
     requires one_each { length nodes.now ≡ length names.now.declared }
-    ensures { IfOk result (λ now. NamesMain (name_in names.entry.now) names.entry.now.declared nodes.now point first line.old.items now line.new.items) }
+    ensures { IfOk result (λ first. (targets : List ℕ) × PassesAll graph.now names.entry.now.declared nodes.now points.now targets
+        × (first ≡ slice_get targets 0) × (line.new.items ≡ line.old.items ++ flat_map (named_of (name_in names.entry.now)) targets)) }
 {
-    match main_of(names, nodes, point) {
-        Some(position) => {
-            write_name(names, position, line)?;
-            Ok(either_of(first, position))
+    let mut first = None;
+    for place in 1..points.len() {
+        let (before, point) = (points[place - 1], points[place]);
+        match passed(graph, names, nodes, before, point) {
+            Some(position) => {
+                write_name(names, position, line)?;
+                first = either_of(first, position);
+            }
+            None => {}
         }
-        None => Ok(first),
     }
+    Ok(first)
 }
 
 /// The first of declarations, and of one more.

@@ -3,10 +3,12 @@ ghost use Rattle.std.specs.Prelude.{◌≡◌, ◌<◌, ◌+◌, ◌-◌, ◌^�
 ghost use Rattle.inc_value.specs.declared.node.Point.{Point};
 ghost use Rattle.script_model.specs.Formula.{meanings_of};
 ghost use Rattle.script_graph.specs.Kept.{arena_of};
-ghost use Rattle.script_graph.specs.Stabilizing.{AllOlder, ChainBegins, IsFirstNotOlder, IsFirstOwned, NoneOwns};
+ghost use Rattle.script_graph.specs.Stabilizing.{AllOlder, ChainBegins, IsFirstNotOlder, IsTold, NoneTold};
 ghost use Rattle.session.specs.Carried.{EndsStabilize};
 
 use super::Script;
+use super::naming::own_declaration;
+use formula_lang::Names;
 use graph::{Graph, Kept, Refused, StabilizeFault};
 use inc_value::NodeId;
 use node_arena::Library;
@@ -32,15 +34,18 @@ impl<L: Library> Script<L> {
         requires ids { (arena_of self.old.kept).given + 2 ^ 20 < 2 ^ 64 - 1 }
         ensures { EndsStabilize (λ l. meanings_of (L.named l) (L.value l)) L.known L.calls self.old self.new result }
     {
+        // The count of builds is one that can be shown.
+        let _ = self.graph.functions().builds();
         self.graph.keeps_sound();
-        match self.graph.stabilize() {
+        let stabilized = self.graph.stabilize();
+        self.graph.keeps_sound();
+        match stabilized {
             Ok(()) => {
-                self.graph.keeps_sound();
                 self.accepted += 1;
                 Ok(Stabilized::Accepted)
             }
             Err(StabilizeFault::Refused(Kept::Height)) => {
-                match deep_owner(&self.graph, &self.nodes) {
+                match deep_owner(&self.graph, &self.names, &self.nodes) {
                     Some(target) => {
                         self.broken = Some(21);
                         Ok(Stabilized::TooDeep { target })
@@ -69,33 +74,40 @@ impl<L: Library> Script<L> {
 
 /// The declaration in whose formula the chain of points begins that was too long. A chain begins in one of a script's
 /// formulas, so that there is none only where nothing is too deep.
-fn deep_owner<L: Library>(graph: &Graph<ScriptFns<L>>, nodes: &[NodeId]) -> Option<usize>
-    ensures found { IfSome result (λ i. (p : Point) → ChainBegins graph.now.refused p → IsFirstOwned nodes.now graph.now p.node i) }
+fn deep_owner<L: Library>(
+    graph: &Graph<ScriptFns<L>>,
+    names: &Names,
+    nodes: &[NodeId],
+) -> Option<usize>
+    requires one_each { length nodes.now ≡ length names.now.declared }
+    ensures found { IfSome result (λ i. (p : Point) → ChainBegins graph.now.refused p → IsTold names.entry.now.declared nodes.now graph.now p.node i) }
     ensures within { IfSome result (λ i. i < length nodes.now) }
-    ensures none { IfNone result ((p : Point) → ChainBegins graph.now.refused p → NoneOwns nodes.now graph.now p.node) }
+    ensures none { IfNone result ((p : Point) → ChainBegins graph.now.refused p → NoneTold names.entry.now.declared nodes.now graph.now p.node) }
 {
     match graph.broken() {
         Some(Refused::Height(points)) => match points.first() {
-            Some(point) => owned_by(graph, nodes, point.node),
+            Some(point) => owned_by(graph, names, nodes, point.node),
             None => None,
         },
         _ => None,
     }
 }
 
-/// The first declaration whose node isn't older than the node's owner.
+/// The first declaration whose node isn't older than the node's owner; of a dead node the grab whose own node it is.
 fn owned_by<L: Library>(
     graph: &Graph<ScriptFns<L>>,
+    names: &Names,
     nodes: &[NodeId],
     node: NodeId,
 ) -> Option<usize>
-    ensures found { IfSome result (IsFirstOwned nodes.now graph.now node) }
+    requires one_each { length nodes.now ≡ length names.now.declared }
+    ensures found { IfSome result (IsTold names.entry.now.declared nodes.now graph.now node) }
     ensures within { IfSome result (λ i. i < length nodes.now) }
-    ensures none { IfNone result (NoneOwns nodes.now graph.now node) }
+    ensures none { IfNone result (NoneTold names.entry.now.declared nodes.now graph.now node) }
 {
     match graph.owner(node) {
         Some(top) => first_not_older(nodes, top),
-        None => None,
+        None => own_declaration(names, nodes, node),
     }
 }
 

@@ -7,6 +7,9 @@ returns-in-Var g c = rw c.in-Var.is (c.variable.ensures (meanings_of (g.L.Librar
 pub returns-in-Set : goal.returns-in-Set
 returns-in-Set g c = rw c.in-Set.is (c.assignment.ensures (meanings_of (g.L.Library.named c.args.library.now) (g.L.Library.value c.args.library.now)))
 
+pub returns-in-Grab : goal.returns-in-Grab
+returns-in-Grab g c = rw c.in-Grab.is (c.grab.ensures (meanings_of (g.L.Library.named c.args.library.now) (g.L.Library.value c.args.library.now)))
+
 pub returns-in-Observe : goal.returns-in-Observe
 returns-in-Observe g c = rw c.in-Observe.is
     (c.observation.ensures (meanings_of (g.L.Library.named c.args.library.now) (g.L.Library.value c.args.library.now)))

@@ -1,10 +1,11 @@
-use Rattle.std.proofs.Common.{◌≡◌, Some, sym, ap, refl, ◌∙◌}
+use Rattle.std.proofs.Common.{◌≡◌, Some, map, sym, ap, refl, ◌∙◌}
 use Rattle.script_model.specs.Grammar.{Tree}
 use Rattle.line_parser.specs.TreeView.{level_view, tree_view}
 use Rattle.line_parser.specs.declared.tree.Tree.TheFolds.{fold-roll-Tree}
 use Rattle.line_parser.specs.declared.tree.Tree.TheOpen as level
 use Rattle.line_parser.specs.declared.tree.Tree.TheVariants.{rolls-Fold, rolls-Freeze}
 use Rattle.script_model.specs.Formula.{meanings_of}
+use Rattle.formula_lang.specs.Typing.{bound_view}
 use Rattle.formula_lang.proofs.Plainness.{not_typed_frozen}
 use Rattle.formula_lang.proofs.TypedArguments.{step_done, all_done}
 use Rattle.formula_lang.proofs.typing.+formula.Goals as goal
@@ -14,14 +15,14 @@ typed_each-loop-tree-preserved g t c =
     let F = meanings_of (g.L.Library.named c.args.library.now) (g.L.Library.value c.args.library.now) in
     let found = rw c.in-Some.is at c.in_ok-argument.ensures in
     rw (c.in_ok-push.ensures.items, c.in_ok-push-2.ensures.items)
-    (step_done F c.args.names.now c.args.trees.now c.loop-tree.tree-index c.loop-tree.formulas.items c.loop-tree.tys.items c.tree-item.result
+    (step_done F c.args.names.now (map bound_view c.args.variables.now) c.args.trees.now c.loop-tree.tree-index c.loop-tree.formulas.items c.loop-tree.tys.items c.tree-item.result
     c.in-Some.argument.formula c.in-Some.argument.ty
     c.loop-tree-test.true c.tree-item.is found c.loop-tree.invariant)
 
 pub typed_each-returns : goal.typed_each-returns
 typed_each-returns g t c =
     let F = meanings_of (g.L.Library.named c.args.library.now) (g.L.Library.value c.args.library.now) in
-    all_done F c.args.names.now c.args.trees.now c.loop-tree.tree-index c.loop-tree.formulas.items c.loop-tree.tys.items c.loop-tree-test.false
+    all_done F c.args.names.now (map bound_view c.args.variables.now) c.args.trees.now c.loop-tree.tree-index c.loop-tree.formulas.items c.loop-tree.tys.items c.loop-tree-test.false
     c.loop-tree.invariant
 
 pub typed-returns-in-Some-3 : goal.typed-returns-in-Some-3
@@ -39,4 +40,8 @@ typed-returns-in-Freeze g t c =
     let f = c.in-Freeze in
     let written = ap tree_view (f.is ∙ sym (rolls-Freeze f.child f.predicate f.around))
     ∙ fold-roll-Tree Tree level_view (level.Freeze f.child f.predicate f.around) in
-    rw (written, not_typed_frozen (meanings_of (g.L.Library.named c.args.library.now) (g.L.Library.value c.args.library.now)) c.args.names.now (tree_view f.child.value) f.predicate f.around.items) refl
+    rw (
+      written,
+      not_typed_frozen (meanings_of (g.L.Library.named c.args.library.now) (g.L.Library.value c.args.library.now)) c.args.names.now
+          (map bound_view c.args.variables.now) (tree_view f.child.value) f.predicate f.around.items,
+    ) refl

@@ -1,4 +1,4 @@
-use Rattle.std.proofs.Common.{Bool, Ok, refl, ap}
+use Rattle.std.proofs.Common.{Bool, Ok, refl, ap, arith}
 use Rattle.session.specs.declared.answer.Did.TheVariants as did
 use Rattle.script_run.specs.Steps.{all_written, cut_off, not_taken}
 use Rattle.script_run.proofs.Course.{or_true, refusal_told, stops_at_once}
@@ -12,6 +12,8 @@ returns-in-Ok-deliver g c = λ behind quiet. record {
     told = refusal_told behind quiet 2 _ _ _ _ _;
   }) (ap (λ (b : Bool). Ok b) (or_true c.args.refused)) c.in-Ok-deliver.ensures.ok;
   lines = c.too_long.ensures.lines;
+  builds_grow = omega (arith, c.too_long.ensures.builds);
+  quiet = λ line long none. c.too_long.ensures.builds;
   empty = c.in-Ok-deliver.ensures.cleared;
   library = keeps_same _ _ _ _ _ c.too_long.ensures.library;
   sink = no_fault _ _ c.in-Ok-deliver.ensures.cause.unfailed (on_unwritten _);
@@ -27,6 +29,8 @@ returns-in-Err-deliver g c = λ behind quiet.
         told = refusal_told behind quiet 2 _ _ _ _ _;
       }) refl cut.1 cut.2;
       lines = c.too_long.ensures.lines;
+      builds_grow = omega (arith, c.too_long.ensures.builds);
+      quiet = λ line long none. c.too_long.ensures.builds;
       empty = tt;
       library = keeps_same _ _ _ _ _ c.too_long.ensures.library;
       sink = faulted _ _ c.deliver.ensures.cause.later c.in-Err-deliver.ensures.cause.failed refl;
@@ -37,6 +41,8 @@ pub returns-in-Err : goal.returns-in-Err
 returns-in-Err g c = λ behind quiet. record {
   ends = not_taken (λ m line long st. stops_at_once _ m line _ _ _ _ c.too_long.ensures.kept (ap g.L.Library.calls c.too_long.ensures.library) st) refl refl;
   lines = c.too_long.ensures.lines;
+  builds_grow = omega (arith, c.too_long.ensures.builds);
+  quiet = λ line long none. c.too_long.ensures.builds;
   empty = tt;
   library = keeps_same _ _ _ _ _ c.too_long.ensures.library;
   sink = no_fault _ _ refl memory_unwritten;

@@ -14,4 +14,4 @@ returns-in-Err g c = record {
 pub returns : goal.returns
 returns g c =
     let s = c.new-session.ensures in
-    runs_lines _ _ _ _ _ _ _ _ _ _ s.library c.into_library.ensures s.first c.in-Ok.ensures.ok c.take_lines-ending.ensures
+    runs_lines _ _ _ _ _ _ _ _ _ _ s.library c.into_library.ensures s.builds s.first c.in-Ok.ensures.ok c.take_lines-ending.ensures

@@ -2,6 +2,7 @@ use Rattle.std.proofs.Common.{refl}
 use Rattle.script_model.specs.Request as asked
 use Rattle.script_model.specs.Step.{LineTooLong, NoCommand, LineTooDeep}
 use Rattle.line_parser.specs.TreeView.{line_view}
+use Rattle.script_model.specs.Language.{without_return}
 use Rattle.session.proofs.Carried.{taken_blank, taken_line, taken_refused}
 use Rattle.session.proofs.answer.answer_request.Goals as goal
 
@@ -22,3 +23,8 @@ returns-in-TooDeep g c = taken_refused _ _ _ _ _ _ _ asked.TooDeep LineTooDeep (
 
 pub returns-in-Asks : goal.returns-in-Asks
 returns-in-Asks g c = taken_line _ _ _ _ _ _ _ _ (line_view c.in-Asks.line) (rw c.in-Asks.is at c.requires.asks) _ c.carry_out.ensures
+
+pub carry_out-requires-clause-asked : goal.carry_out-requires-clause-asked
+carry_out-requires-clause-asked g c =
+    let asks = rw c.in-Asks.is at c.requires.asks in
+    (without_return c.args.text.now, asks.1.1.line)

@@ -5,6 +5,7 @@ use Rattle.script_model.specs.Check.{Names, command_of, first_that, is_against, 
 use Rattle.script_model.specs.Formula.{meanings_of}
 use Rattle.script_model.specs.Grammar.{Line}
 use Rattle.script_model.specs.Request.{Asks, IsRequest}
+use Rattle.script_model.proofs.Binds.{few_binds}
 use Rattle.session.proofs.Answering.{answered_broken, answered_refused, followed_line, stabilize_line}
 use Rattle.session.proofs.Carried.{carried_nothing, carried_on, carried_refused}
 use Rattle.session.proofs.Failing.{none_of}
@@ -31,6 +32,12 @@ returns-in-Ok g c =
     (λ bytes asks stabilizes. subst (λ (x : Line). IsRequest bytes (Asks x)) (stabilize_line F k.names line
     (allowed.1 ∙ ap (λ x. Some x) stabilizes)) asks)
     (λ stabilizes. stabilize_line F k.names line (allowed.1 ∙ ap (λ x. Some x) stabilizes))
+
+pub perform-performed-requires-clause-binds : goal.perform-performed-requires-clause-binds
+perform-performed-requires-clause-binds g c =
+    let l = c.library.result.now in
+    few_binds (meanings_of (g.L.Library.named l) (g.L.Library.value l)) c.names.result.now c.requires.asked.0 (line_view c.args.line.now)
+    (command_view c.in-Ok.command) c.requires.asked.1 c.in-Ok.ensures.allowed.1
 
 pub returns-in-Err-Refusal : goal.returns-in-Err-Refusal
 returns-in-Err-Refusal g c =

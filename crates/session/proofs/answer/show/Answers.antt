@@ -5,7 +5,7 @@ use Rattle.session.proofs.answer.show.Goals as goal
 
 pub returns-in-Ok : goal.returns-in-Ok
 returns-in-Ok g c = carried_done _ _ _ _ _ _ 0 0 (omega arith) (omega arith) _ _ _ _ (beside_itself _) c.requires.unbroken (λ m st.
-    followed_show _ c.args.script.now.kept m c.args.name.now _ c.in-Some.outcome.now _ _ _ st
+    followed_show _ c.args.script.now.kept m c.args.name.now _ c.in-Some.outcome.now _ _ _ st c.requires.unbroken
     (c.in-Some.ensures.some _ m st.matches) c.referred_name.ensures c.in-Ok.ensures.ok)
 
 pub returns-in-Err : goal.returns-in-Err

@@ -1,9 +1,10 @@
 use Rattle.std.proofs.Common.{◌∙◌, refl, arith}
 use Rattle.node_outcomes.specs.Meaning.{meaning_of}
 use Rattle.stabilizer.specs.Kept.{counts_by}
+use Rattle.stabilizer.specs.Giving.{StopsFull}
 use Rattle.stabilizer.specs.Round.{SettleRefused}
 use Rattle.stabilizer.proofs.Giving.{none_gives}
-use Rattle.stabilizer.proofs.GivingSteps.{gives_next, few_next}
+use Rattle.stabilizer.proofs.GivingSteps.{gives_next, few_next, full_next}
 use Rattle.stabilizer.proofs.MeaningKept.{meaning_on, nothing_meant, means_still, stays_flat}
 use Rattle.stabilizer.proofs.Rounding.{exit_is, on_err, no_step, next_step, less_left, step_stops}
 use Rattle.stabilizer.proofs.stabilizer.settle_all.Goals as goal
@@ -61,6 +62,18 @@ returns-in_err-step-clause-spends g c =
     (counts_by g.F.Functions c.args.functions.now) (counts_by g.F.Functions c.loop.functions) (counts_by g.F.Functions c.step.new.functions)
     c.loop.invariant.so c.requires.in_round c.loop.invariant.gives
     (g.F.Functions.right c.step.new.functions) c.in_err-step.field-0.0 c.in_err-step.ensures.refused c.in_err-step.ensures.spends)
+
+pub returns-in_err-step-clause-full : goal.returns-in_err-step-clause-full
+returns-in_err-step-clause-full g c =
+    let e = c.in_err-step.field-0.0 in
+    let right = g.F.Functions.right c.step.new.functions in
+    exit_is c.from_residual.result e
+    (StopsFull right c.step.new.parts.arena (counts_by g.F.Functions c.args.functions.now) (counts_by g.F.Functions c.step.new.functions))
+    c.from_residual.ensures.1
+    (full_next (meaning_of g.F.Functions c.args.functions.now) (meaning_of g.F.Functions c.loop.functions)
+    (means_still g.F.Functions _ _ c.loop.invariant.functions) c.args.parts.now c.loop.parts c.step.new.parts
+    (counts_by g.F.Functions c.args.functions.now) (counts_by g.F.Functions c.loop.functions) (counts_by g.F.Functions c.step.new.functions)
+    c.loop.invariant.so c.requires.in_round c.loop.invariant.gives right e c.in_err-step.ensures.full)
 
 -- ---- what a last step leaves
 

@@ -7,7 +7,7 @@ use Rattle.stabilizer.specs.Round.{left_by, died_by}
 use Rattle.stabilizer.proofs.Giving.{live_few, gives_few}
 use Rattle.stabilizer.proofs.MeaningKept.{means_still}
 use Rattle.graph.proofs.Sound.{ready_built}
-use Rattle.graph.proofs.Grouping.{ids_few}
+use Rattle.graph.proofs.Grouping.{ids_few, filled_by, full_by}
 use Rattle.graph.proofs.Rounding.{accepted, refused_in, few_in, leaves_nodes}
 use Rattle.graph.proofs.graph.Graph.stabilize.Goals as goal
 
@@ -67,6 +67,18 @@ pub returns-in-Err-clause-ids : goal.returns-in-Err-clause-ids
 returns-in-Err-clause-ids g c =
     rw (← c.self.view_is) (ids_few (g.F.Functions.right c.run.new.functions) c.run.new.parts.arena c.run.ensures.fit.scopes
     c.in-Err.ensures.kept.work.scopes c.self.inside.parts.arena.given c.in-Err.ensures.spends)
+
+pub returns-in-Err-clause-full : goal.returns-in-Err-clause-full
+returns-in-Err-clause-full g c is =
+    filled_by (g.F.Functions.right c.run.new.functions) c.run.new.parts.arena c.run.ensures.fit.scopes
+    c.in-Err.ensures.kept.work.scopes (counts_by g.F.Functions c.self.inside.functions) (counts_by g.F.Functions c.run.new.functions)
+    c.in-Err.refused c.in-Err.ensures.full (let e = c.cause_of-cause.ensures in cc)
+
+pub returns-in-Err-clause-rose : goal.returns-in-Err-clause-rose
+returns-in-Err-clause-rose g c is =
+    let rose = (full_by (g.F.Functions.right c.run.new.functions) c.run.new.parts.arena (counts_by g.F.Functions c.self.inside.functions)
+    (counts_by g.F.Functions c.run.new.functions) c.in-Err.refused c.in-Err.ensures.full (let e = c.cause_of-cause.ensures in cc)).0 in
+    rw (← c.self.view_is) rose
 
 pub returns-in-Ok-clause-lives : goal.returns-in-Ok-clause-lives
 returns-in-Ok-clause-lives g c =

@@ -6,7 +6,7 @@ use Rattle.wiring.proofs.Raising.{if_refusal}
 use Rattle.stabilizer.specs.Kept.{counts_by}
 use Rattle.stabilizer.specs.Rebuilding.{BuildRefused, unbuilt}
 use Rattle.stabilizer.proofs.RebuildAsks.{stands_but}
-use Rattle.stabilizer.proofs.RebuildEnds.{on_err, left_roomy, roomy_stays, are_cut, WasBuilt, fits_dead, given_first, dead_few, spends_few}
+use Rattle.stabilizer.proofs.RebuildEnds.{on_err, left_roomy, roomy_stays, are_cut, WasBuilt, fits_dead, given_first, dead_few, spends_few, spends_full}
 use Rattle.stabilizer.proofs.RebuildEnds.{dead_stays, ready_stays, grown_stays, root_stays}
 use Rattle.stabilizer.proofs.RebuildEnds.{asks_known, asks_own, asks_ready, ready, stops_roomless, stops_building, settles_root, settles_none}
 use Rattle.stabilizer.proofs.RebuiltKept.{roomy_kept, roots_roomy}
@@ -89,7 +89,7 @@ returns-in_err-reserve-3-clause-refused g c =
     counts counts) Memory
     c.from_residual-in_err-reserve-3.result c.from_residual-in_err-reserve-3.ensures.1
     (unbuilt {count = c.let_die.new.self.arena.given} (stops_roomless K fs h c.reserve-3.new.self c.reserve-3.ensures.rows) refl
-    (given_first K fs h) tt (dead_few K fs h (K.right fs)))
+    (given_first K fs h) tt (dead_few K fs h (K.right fs)) tt)
 
 pub returns-in_err-reserve-3-clause-kept : goal.returns-in_err-reserve-3-clause-kept
 returns-in_err-reserve-3-clause-kept g c =
@@ -168,7 +168,9 @@ returns-in_err-root-clause-refused g c =
     c.in-Val.is w)
     c.build.ensures.calls (given_first K fs h) c.in_err-root.ensures.stops
     (spends_few K fs h c.reserve-3.new.self c.reserve-3.ensures.rows c.in-Val.left c.in-Val.is w c.in_err-root.ensures.unbuilt.none
-    c.build.ensures.spends))
+    c.build.ensures.spends)
+    (spends_full K fs h c.reserve-3.new.self c.reserve-3.ensures.rows c.in-Val.left c.in-Val.is w c.in_err-root.ensures.unbuilt.none
+    c.build.ensures.spends e c.in_err-root.ensures.stops))
 
 pub returns-in_err-root-clause-stays : goal.returns-in_err-root-clause-stays
 returns-in_err-root-clause-stays g c =

@@ -7,6 +7,7 @@ use Rattle.node_arena.proofs.RightSides.{fit_lists_given}
 use Rattle.node_outcomes.specs.Meaning.{Meaning, functions_of, meaning_of}
 use Rattle.wiring.specs.declared.refused.Refused.TheVariants.{Memory}
 use Rattle.stabilizer.specs.Kept.{counts_by}
+use Rattle.stabilizer.specs.Giving.{StopsFull}
 use Rattle.stabilizer.specs.Round.{IsReady, AreRooted, IsLawful, LeavesTried, BuildsAllBut}
 use Rattle.stabilizer.specs.declared.parts.Parts.{Parts}
 use Rattle.stabilizer.proofs.BuiltFor.{paused_built}
@@ -14,7 +15,7 @@ use Rattle.stabilizer.proofs.Giving.{none_few}
 use Rattle.stabilizer.proofs.Lawful.{paused_lawful}
 use Rattle.stabilizer.proofs.Leftover.{none_called, only_still, paused_cutoffs, paused_shows, paused_called, paused_left}
 use Rattle.stabilizer.proofs.MeaningKept.{nothing_meant, means_still}
-use Rattle.stabilizer.proofs.Paused.{none_paused, roots_paused, steps_paused}
+use Rattle.stabilizer.proofs.Paused.{none_paused, roots_paused, roots_full, steps_paused}
 use Rattle.stabilizer.proofs.Rounding.{on_err, exit_is}
 use Rattle.stabilizer.proofs.Tried.{paused_tried}
 use Rattle.stabilizer.proofs.Released.{released_of}
@@ -180,6 +181,15 @@ returns-in_err-put_roots-clause-spends g c =
     on_err c.from_residual.result
     (none_few (g.F.Functions.right c.args.functions.now) c.args.parts.now.arena.given c.args.parts.now.arena (omega arith))
 
+pub returns-in_err-put_roots-clause-full : goal.returns-in_err-put_roots-clause-full
+returns-in_err-put_roots-clause-full g c =
+    let right = g.F.Functions.right c.args.functions.now in
+    let counts = counts_by g.F.Functions c.args.functions.now in
+    let e = c.in_err-put_roots.field-0.0 in
+    exit_is c.from_residual.result e (StopsFull right c.args.parts.now.arena counts counts) c.from_residual.ensures.1
+    (roots_full (meaning_of g.F.Functions c.args.functions.now) c.args.parts.now counts c.requires.ready c.put_roots.new.work e
+    c.in_err-put_roots.ensures.refused right)
+
 -- ---- a step was refused
 
 pub returns-in_err-settle_all-clause-lawful : goal.returns-in_err-settle_all-clause-lawful
@@ -289,6 +299,13 @@ returns-in_err-settle_all-clause-functions g c = c.settle_all.ensures.functions
 
 pub returns-in_err-settle_all-clause-spends : goal.returns-in_err-settle_all-clause-spends
 returns-in_err-settle_all-clause-spends g c = on_err c.from_residual-in_err-settle_all.result c.in_err-settle_all.ensures.spends
+
+pub returns-in_err-settle_all-clause-full : goal.returns-in_err-settle_all-clause-full
+returns-in_err-settle_all-clause-full g c =
+    exit_is c.from_residual-in_err-settle_all.result c.in_err-settle_all.field-0.0
+    (StopsFull (g.F.Functions.right c.settle_all.new.functions) c.settle_all.new.parts.arena (counts_by g.F.Functions c.args.functions.now)
+    (counts_by g.F.Functions c.settle_all.new.functions)) c.from_residual-in_err-settle_all.ensures.1
+    c.in_err-settle_all.ensures.full
 
 -- ---- the round ended
 

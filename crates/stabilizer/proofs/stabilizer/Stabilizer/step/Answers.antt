@@ -4,11 +4,11 @@ use Rattle.node_arena.specs.Arena.{Arena}
 use Rattle.stabilizer.specs.Weights.{SidesFit}
 use Rattle.node_outcomes.specs.Meaning.{meaning_of}
 use Rattle.stabilizer.specs.Kept.{counts_by}
-use Rattle.stabilizer.specs.Stepping.{of_main, of_change, StepRefused}
+use Rattle.stabilizer.specs.Stepping.{of_main, of_change, StepRefused, StepStopsFull}
 use Rattle.stabilizer.proofs.Carrying.{taken_kept}
-use Rattle.stabilizer.proofs.ChangeSteps.{change_steps, change_stops}
+use Rattle.stabilizer.proofs.ChangeSteps.{change_steps, change_stops, change_full}
 use Rattle.stabilizer.proofs.Falling.{is_change, steps_leave_less}
-use Rattle.stabilizer.proofs.GivingSteps.{left_few, main_few}
+use Rattle.stabilizer.proofs.GivingSteps.{left_few, main_few, memory_full}
 use Rattle.stabilizer.proofs.Mains.{is_main}
 use Rattle.stabilizer.proofs.Rounding.{on_err}
 use Rattle.wiring.proofs.Raising.{if_refusal}
@@ -66,6 +66,21 @@ returns-in_err-step_change-in-Change-clause-spends g c =
     (left_few (meaning_of g.F.Functions c.args.functions.now) (g.F.Functions.right c.step_change.new.functions) old c.step_change.new.parts
     c.in-Some.p.node (counts_by g.F.Functions c.args.functions.now) (counts_by g.F.Functions c.step_change.new.functions)
     c.in_err-step_change-in-Change.field-0.0 c.in_err-step_change-in-Change.ensures.refused)
+
+pub returns-in_err-step_change-in-Change-clause-full : goal.returns-in_err-step_change-in-Change-clause-full
+returns-in_err-step_change-in-Change-clause-full g c =
+    let M = meaning_of g.F.Functions c.args.functions.now in
+    let old = c.args.parts.now in
+    let new = c.step_change.new.parts in
+    let p = c.in-Some.p in
+    let before = counts_by g.F.Functions c.args.functions.now in
+    let after = counts_by g.F.Functions c.step_change.new.functions in
+    let right = g.F.Functions.right c.step_change.new.functions in
+    let e = c.in_err-step_change-in-Change.field-0.0 in
+    if_refusal (StepStopsFull M right old new before after) e c.from_residual.result c.from_residual.ensures.1
+    (change_full M old c.pop_least.new.self p p.node (is_change p c.in-Change.is) before c.requires.kept c.requires.quiet
+    c.in-Some.ensures.was c.in-Some.ensures.least c.pop_least.ensures.rest c.in-Some.ensures.removed
+    right new after e c.in_err-step_change-in-Change.ensures.refused)
 
 pub returns-in_ok-step_change-in-Change-clause-stepped : goal.returns-in_ok-step_change-in-Change-clause-stepped
 returns-in_ok-step_change-in-Change-clause-stepped g c = λ more.
@@ -219,6 +234,11 @@ returns-in-Err-clause-kept g c =
       scopes = k.scopes;
       dying = k.dying;
     }
+
+pub returns-in-Err-clause-full : goal.returns-in-Err-clause-full
+returns-in-Err-clause-full g c z s begun quiet st =
+    memory_full (g.F.Functions.right c.step_main.new.functions) c.step_main.new.parts.arena (counts_by g.F.Functions c.args.functions.now)
+    (counts_by g.F.Functions c.step_main.new.functions) c.in-Err.refused c.in-Err.ensures.memory
 
 pub returns-in-Err-clause-spends : goal.returns-in-Err-clause-spends
 returns-in-Err-clause-spends g c =

@@ -1,0 +1,49 @@
+use Rattle.std.proofs.Common.{ap, arith}
+use Rattle.graph.specs.Standing.{without_functions}
+use Rattle.script_graph.proofs.Extending.{keeps_extends, rest_extends}
+use Rattle.session.proofs.Failing.{always_err}
+use Rattle.session.proofs.Making.{functions_stay, stay_known}
+use Rattle.session.proofs.script.declaring.make_one.Goals as goal
+
+-- ---- a body
+
+pub keep_body-requires-clause-usable : goal.keep_body-requires-clause-usable
+keep_body-requires-clause-usable g c = rw c.in-Body.is at c.requires.welcome
+
+pub keep_body-requires-clause-bodies : goal.keep_body-requires-clause-bodies
+keep_body-requires-clause-bodies g c = let room = rw c.in-Body.is at c.requires.bodies in omega (arith, room)
+
+pub returns-in-Body-clause-made : goal.returns-in-Body-clause-made
+returns-in-Body-clause-made g c = rw c.in-Body.is c.keep_body.ensures.made
+
+pub returns-in-Body-clause-serves : goal.returns-in-Body-clause-serves
+returns-in-Body-clause-serves g c = rw c.in-Body.is c.keep_body.ensures.serves
+
+pub returns-in-Body-clause-kept : goal.returns-in-Body-clause-kept
+returns-in-Body-clause-kept g c = always_err c.keep_body.result (rest_extends _ _ (ap without_functions c.keep_body.ensures.rest))
+
+pub returns-in-Body-clause-nodes : goal.returns-in-Body-clause-nodes
+returns-in-Body-clause-nodes g c = always_err c.keep_body.result (ap (λ s. s.nodes) c.keep_body.ensures.rest)
+
+pub returns-in-Body-clause-functions : goal.returns-in-Body-clause-functions
+returns-in-Body-clause-functions g c = rw c.in-Body.is c.keep_body.ensures.functions
+
+-- ---- a node
+
+pub returns-in-Ok-clause-made : goal.returns-in-Ok-clause-made
+returns-in-Ok-clause-made g c = rw c.in-Node.is c.in-Ok.ensures.added
+
+pub returns-in-Ok-clause-functions : goal.returns-in-Ok-clause-functions
+returns-in-Ok-clause-functions g c = rw c.in-Ok.ensures.added.beside.functions (functions_stay _ _ _ _)
+
+pub returns-in-Ok-clause-known : goal.returns-in-Ok-clause-known
+returns-in-Ok-clause-known g c = rw c.in-Ok.ensures.added.beside.functions (stay_known _ _)
+
+pub returns-in-Err-clause-kept : goal.returns-in-Err-clause-kept
+returns-in-Err-clause-kept g c = keeps_extends _ _ c.in-Err.ensures.kept
+
+pub returns-in-Err-clause-functions : goal.returns-in-Err-clause-functions
+returns-in-Err-clause-functions g c = rw c.in-Err.ensures.kept.beside.functions (functions_stay _ _ _ _)
+
+pub returns-in-Err-clause-known : goal.returns-in-Err-clause-known
+returns-in-Err-clause-known g c = rw c.in-Err.ensures.kept.beside.functions (stay_known _ _)
