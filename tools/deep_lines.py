@@ -1,5 +1,5 @@
 #!/usr/bin/env python3
-"""Runs incr under a stack of 256 KB, on lines of at most 4,096 bytes that are nested as deep as the grammar lets them.
+"""Runs incr under a stack of 512 KB, on lines of at most 4,096 bytes that are nested as deep as the grammar lets them.
 
 The last line is `N passed, M failed`, and the status is 1 where a line was answered otherwise.
 """
@@ -9,7 +9,7 @@ import sys
 from pathlib import Path
 
 PROGRAM = Path(__file__).resolve().parent.parent / "crates/incr/out/incr"
-STACK = 256 * 1024
+STACK = 512 * 1024           # (256 KB were enough before formulas had binds)
 LONGEST_LINE = 4096
 
 # What a line is made of: its front, what stands so often before its middle, its middle, and what stands as often behind it.
