@@ -20,7 +20,6 @@ const MOST: usize = 65_535;
 /// An example stands in the crate `closure_tests`: `held` makes a `Holder`, whose invariant is of a graph's
 /// form, and asks it; `kept` has one function more kept beside another; `bind_and_build` builds right sides.
 /// The tests there make the boxes and call these.
-#[derive(Drop)]
 pub struct Closures {
     maps: Vec<Box<dyn MapFn>>,
     sides: Vec<Box<dyn RhsFn>>,
@@ -29,6 +28,22 @@ pub struct Closures {
     builds: u64,
     adds: u64,
     ghost few: { length maps.items + length sides.items ≤ 65535 },
+}
+
+// (written out: whoever drops one proves one call, and no drop of its parts)
+impl Drop for Closures {
+    fn drop(self) {
+        let Closures {
+            maps,
+            sides,
+            calls: _,
+            wants: _,
+            builds: _,
+            adds: _,
+        } = self;
+        drop(maps);
+        drop(sides);
+    }
 }
 
 /// A function that can be kept.

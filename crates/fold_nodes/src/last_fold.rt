@@ -8,9 +8,16 @@ use std::alloc::{AllocError, Global};
 use std::marker::Model;
 
 /// The values of a fold's children when it was last computed, if it was.
-#[derive(Drop)]
 pub struct LastFold {
     kids: LastArgs,
+}
+
+// (written out: whoever drops one proves one call, and no drop of its parts)
+impl Drop for LastFold {
+    fn drop(self) {
+        let LastFold { kids } = self;
+        drop(kids);
+    }
 }
 
 impl Model for LastFold {

@@ -33,7 +33,6 @@ pub use undo::Mark;
 ///
 /// A graph whose functions are kept in boxes is made and used by functions that are generic in `F`: its invariant speaks
 /// of `F`, and of a keeper of boxes such a type can't be named. An example is `held` of closure_tests.
-#[derive(Drop)]
 pub struct Graph<F: Functions> {
     alloc: Global,
     functions: F,
@@ -44,6 +43,26 @@ pub struct Graph<F: Functions> {
     /// What an observer of a dead node shows.
     invalid: Outcome,
     refused: Option<Refused>,
+}
+
+// (written out: whoever drops one proves one call, and no drop of its parts)
+impl<F: Functions> Drop for Graph<F> {
+    fn drop(self) {
+        let Graph {
+            alloc: _,
+            functions,
+            parts,
+            observers,
+            rooted: _,
+            invalid,
+            refused,
+        } = self;
+        drop(functions);
+        drop(parts);
+        drop(observers);
+        drop(invalid);
+        drop(refused);
+    }
 }
 
 impl<F: Functions> Model for Graph<F> {

@@ -37,11 +37,23 @@ impl From<AllocError> for LinkFault {
 
 /// Points with heights from 0 to 128, and counted links between them. Each point stands higher than
 /// every point that it reads.
-#[derive(Drop)]
 pub struct Heights {
     alloc: Global,
     heights: PointMap<u32>,
     links: LinkTable,
+}
+
+// (written out: whoever drops one proves one call, and no drop of its parts)
+impl Drop for Heights {
+    fn drop(self) {
+        let Heights {
+            alloc: _,
+            heights,
+            links,
+        } = self;
+        drop(heights);
+        drop(links);
+    }
 }
 
 impl Model for Heights {

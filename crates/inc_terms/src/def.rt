@@ -10,9 +10,16 @@ use std::alloc::{AllocError, Global};
 use std::marker::Model;
 
 /// A list of nodes. Lists of at most two take no memory of their own.
-#[derive(Drop)]
 pub struct Nodes {
     nodes: SmallVec<NodeId, 2>,
+}
+
+// (written out: whoever drops one proves one call, and no drop of its parts)
+impl Drop for Nodes {
+    fn drop(self) {
+        let Nodes { nodes } = self;
+        drop(nodes);
+    }
 }
 
 impl Model for Nodes {

@@ -7,10 +7,19 @@ use std::alloc::{AllocError, Global};
 
 /// What evaluating a node gives. Invalid is the outcome of what stands on a right-hand side that is
 /// gone.
-#[derive(Drop)]
 pub enum Outcome {
     Val(Value),
     Invalid,
+}
+
+// (written out: whoever drops one proves one call, and no drop of its parts)
+impl Drop for Outcome {
+    fn drop(self) {
+        match self {
+            Outcome::Val(value) => drop(value),
+            Outcome::Invalid => {}
+        }
+    }
 }
 
 impl Outcome {

@@ -10,9 +10,16 @@ use thiserror::Error;
 const MAX_LEN: usize = 4_096;
 
 /// A text: at most 4,096 bytes, each from 0x20 to 0x7E.
-#[derive(Drop)]
 pub struct Text {
     bytes: Vec<u8>,
+}
+
+// (written out: whoever drops one proves one call, and no drop of its parts)
+impl Drop for Text {
+    fn drop(self) {
+        let Text { bytes } = self;
+        drop(bytes);
+    }
 }
 
 impl Model for Text {

@@ -11,11 +11,23 @@ use std::marker::Model;
 /// Numbered lists of rows, each row at a place of its own, where it stays until it is taken off. A push and a removal
 /// take constant time and no memory: `widen` makes lists, and `reserve` room for rows. A contract sees each list as its
 /// rows in order, each with its place.
-#[derive(Drop)]
 pub struct IndexLists<R> {
     ends: Vec<Ends>,
     links: Slab<Link<R>>,
     spare: usize,
+}
+
+// (written out: whoever drops one proves one call, and no drop of its parts)
+impl<R: Drop> Drop for IndexLists<R> {
+    fn drop(self) {
+        let IndexLists {
+            ends,
+            links,
+            spare: _,
+        } = self;
+        drop(ends);
+        drop(links);
+    }
 }
 
 impl<R> Model for IndexLists<R> {

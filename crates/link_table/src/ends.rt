@@ -31,10 +31,17 @@ impl Default for End {
 }
 
 /// The ends of links at each point. A point at which there are none takes no room.
-#[derive(Drop)]
 pub(crate) struct EndLists {
     pub(crate) rows: PointMap<SmallVec<End, 2>>,
     alloc: Global,
+}
+
+// (written out: whoever drops one proves one call, and no drop of its parts)
+impl Drop for EndLists {
+    fn drop(self) {
+        let EndLists { rows, alloc: _ } = self;
+        drop(rows);
+    }
 }
 
 impl EndLists {

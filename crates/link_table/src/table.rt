@@ -16,10 +16,18 @@ use std::marker::Model;
 /// Each link has an end among the kids of its reader and one among the readers of its kid, and each of
 /// the two tells the place of the other. So a link goes in constant time, however many others its points have,
 /// but for a search through the shorter of the two lists.
-#[derive(Drop)]
 pub struct LinkTable {
     kids: EndLists,
     readers: EndLists,
+}
+
+// (written out: whoever drops one proves one call, and no drop of its parts)
+impl Drop for LinkTable {
+    fn drop(self) {
+        let LinkTable { kids, readers } = self;
+        drop(kids);
+        drop(readers);
+    }
 }
 
 impl Model for LinkTable {

@@ -10,10 +10,17 @@ use std::marker::Model;
 
 /// The values on which a function was last called, if it was called. Two values that are no texts take no memory of
 /// their own.
-#[derive(Drop)]
 pub struct LastArgs {
     any: bool,
     args: SmallVec<Value, 2>,
+}
+
+// (written out: whoever drops one proves one call, and no drop of its parts)
+impl Drop for LastArgs {
+    fn drop(self) {
+        let LastArgs { any: _, args } = self;
+        drop(args);
+    }
 }
 
 impl Model for LastArgs {

@@ -25,13 +25,29 @@ use std::marker::Model;
 /// Points with heights, roots, counted links, and the points that are to be recomputed. Each call leaves them in step:
 /// heights rise along links and are at most 128, only needed points have links of their own, needed points are there, and
 /// the points that are to be recomputed are needed, each at its height.
-#[derive(Drop)]
 pub struct NecessaryGraph {
     heights: Heights,
     needs: Needs,
     heap: RecomputeHeap,
     points: usize,
     moved: Vec<Point>,
+}
+
+// (written out: whoever drops one proves one call, and no drop of its parts)
+impl Drop for NecessaryGraph {
+    fn drop(self) {
+        let NecessaryGraph {
+            heights,
+            needs,
+            heap,
+            points: _,
+            moved,
+        } = self;
+        drop(heights);
+        drop(needs);
+        drop(heap);
+        drop(moved);
+    }
 }
 
 impl Model for NecessaryGraph {

@@ -15,12 +15,26 @@ use std::alloc::{AllocError, Global};
 use std::marker::Model;
 
 /// Roots and attached links between points, both counted. A point is needed where it is reached from a root.
-#[derive(Drop)]
 pub struct Needs {
     links: LinkTable,
     rows: PointMap<Need>,
     attached: usize,
     waiting: Vec<Point>,
+}
+
+// (written out: whoever drops one proves one call, and no drop of its parts)
+impl Drop for Needs {
+    fn drop(self) {
+        let Needs {
+            links,
+            rows,
+            attached: _,
+            waiting,
+        } = self;
+        drop(links);
+        drop(rows);
+        drop(waiting);
+    }
 }
 
 impl Model for Needs {

@@ -40,12 +40,24 @@ struct Entry {
 }
 
 /// The live nodes of a graph. An id is given once: a node that was dropped never lives again.
-#[derive(Drop)]
 pub struct Arena {
     nodes: Slab<Entry>,
     // Given ids by rising generation, all that are live among them.
     order: Vec<NodeId>,
     given: u64,
+}
+
+// (written out: whoever drops one proves one call, and no drop of its parts)
+impl Drop for Arena {
+    fn drop(self) {
+        let Arena {
+            nodes,
+            order,
+            given: _,
+        } = self;
+        drop(nodes);
+        drop(order);
+    }
 }
 
 impl Model for Arena {

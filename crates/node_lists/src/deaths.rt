@@ -20,10 +20,18 @@ pub struct Death {
 /// The nodes that died in this round, in order, each with the bind in whose scope it stood. A contract sees the list of
 /// nodes, and the scope of each at its main: no node died twice, and no other point has a scope. `reserve` makes room, and
 /// no other call takes memory.
-#[derive(Drop)]
 pub struct Deaths {
     nodes: Vec<NodeId>,
     scopes: PointMap<NodeId>,
+}
+
+// (written out: whoever drops one proves one call, and no drop of its parts)
+impl Drop for Deaths {
+    fn drop(self) {
+        let Deaths { nodes, scopes } = self;
+        drop(nodes);
+        drop(scopes);
+    }
 }
 
 impl Model for Deaths {

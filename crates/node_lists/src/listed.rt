@@ -13,10 +13,17 @@ use std::marker::Model;
 
 /// Nodes of one kind. Dead ones stay until more than half are counted dead, so that the list costs what was put into it.
 /// Only `reserve` takes memory.
-#[derive(Drop)]
 pub struct Listed {
     nodes: Vec<NodeId>,
     dead: usize,
+}
+
+// (written out: whoever drops one proves one call, and no drop of its parts)
+impl Drop for Listed {
+    fn drop(self) {
+        let Listed { nodes, dead: _ } = self;
+        drop(nodes);
+    }
 }
 
 impl Model for Listed {

@@ -9,9 +9,16 @@ use std::marker::Model;
 use std::mem;
 
 /// What a node's function was last called on, if it was called, and what it gave.
-#[derive(Drop)]
 pub struct LastCall {
     kept: Kept,
+}
+
+// (written out: whoever drops one proves one call, and no drop of its parts)
+impl Drop for LastCall {
+    fn drop(self) {
+        let LastCall { kept } = self;
+        drop(kept);
+    }
 }
 
 /// What is kept of the last call, by what called.

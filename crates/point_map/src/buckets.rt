@@ -18,11 +18,23 @@ struct Link<R> {
 }
 
 /// Points in numbered buckets, each point at a place of its own. A push, a pop and a removal take constant time and no memory.
-#[derive(Drop)]
 pub struct Buckets<R> {
     heads: Vec<Option<usize>>,
     links: Slab<Link<R>>,
     spare: usize,
+}
+
+// (written out: whoever drops one proves one call, and no drop of its parts)
+impl<R: Drop> Drop for Buckets<R> {
+    fn drop(self) {
+        let Buckets {
+            heads,
+            links,
+            spare: _,
+        } = self;
+        drop(heads);
+        drop(links);
+    }
 }
 
 impl<R> Model for Buckets<R> {

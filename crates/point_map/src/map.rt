@@ -11,10 +11,17 @@ use std::mem;
 
 /// A finite map from points to rows. Each point is in the bucket of its slot, so it is found in constant time.
 /// `reserve` makes room, and no other call takes memory.
-#[derive(Drop)]
 pub struct PointMap<R> {
     buckets: Buckets<R>,
     alloc: Global,
+}
+
+// (written out: whoever drops one proves one call, and no drop of its parts)
+impl<R: Drop> Drop for PointMap<R> {
+    fn drop(self) {
+        let PointMap { buckets, alloc: _ } = self;
+        drop(buckets);
+    }
 }
 
 impl<R> Model for PointMap<R> {

@@ -9,11 +9,23 @@ use std::marker::Model;
 
 /// The points to be recomputed, each with its height of at most 128. A contract sees a heap as a
 /// finite map from points to heights. `reserve` makes room, the buckets too, and no other call takes memory.
-#[derive(Drop)]
 pub struct RecomputeHeap {
     places: PointMap<usize>,
     buckets: Buckets<()>,
     least: usize,
+}
+
+// (written out: whoever drops one proves one call, and no drop of its parts)
+impl Drop for RecomputeHeap {
+    fn drop(self) {
+        let RecomputeHeap {
+            places,
+            buckets,
+            least: _,
+        } = self;
+        drop(places);
+        drop(buckets);
+    }
 }
 
 impl Model for RecomputeHeap {

@@ -15,13 +15,26 @@ use std::marker::Model;
 /// Which nodes stand in which scopes. A scope goes by a node, that of its bind, which may stand in a scope itself.
 /// Where a scope is killed, its nodes and those of scopes within it are given one by one. Each is moved once on the way,
 /// so a kill costs what it kills. Only `enter` takes memory.
-#[derive(Drop)]
 pub struct Scopes {
     // The first list has the nodes that were killed. Each scope with nodes has the list behind that of its number.
     lists: IndexLists<Member>,
     numbers: PointMap<usize>,
     // The scope of each number. A number that is let go is given again.
     names: Slab<NodeId>,
+}
+
+// (written out: whoever drops one proves one call, and no drop of its parts)
+impl Drop for Scopes {
+    fn drop(self) {
+        let Scopes {
+            lists,
+            numbers,
+            names,
+        } = self;
+        drop(lists);
+        drop(numbers);
+        drop(names);
+    }
 }
 
 impl Model for Scopes {

@@ -14,13 +14,26 @@ const MOST: usize = 1_099_511_627_776;
 
 /// The functions of a library as maps, and bodies as functions of right sides. Maps can't tell nodes apart: to a map
 /// each reference leads to one and the same node.
-#[derive(Drop)]
 pub struct ScriptFns<L: Library> {
     library: L,
     bodies: Vec<Body>,
     builds: u64,
     adds: u64,
     ghost few: { length bodies.items ≤ 1099511627776 },
+}
+
+// (written out: whoever drops one proves one call, and no drop of its parts)
+impl<L: Library> Drop for ScriptFns<L> {
+    fn drop(self) {
+        let ScriptFns {
+            library,
+            bodies,
+            builds: _,
+            adds: _,
+        } = self;
+        drop(library);
+        drop(bodies);
+    }
 }
 
 impl<L: Library> ScriptFns<L> {

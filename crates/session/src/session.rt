@@ -12,11 +12,22 @@ use std::alloc::{AllocError, Global};
 use std::marker::Model;
 
 /// A script in the making, over the functions of a library.
-#[derive(Drop)]
 pub struct Session<L: Library> {
     alloc: Global,
     script: Script<L>,
     lines: u64,
+}
+
+// (written out: whoever drops one proves one call, and no drop of its parts)
+impl<L: Library> Drop for Session<L> {
+    fn drop(self) {
+        let Session {
+            alloc: _,
+            script,
+            lines: _,
+        } = self;
+        drop(script);
+    }
 }
 
 impl<L: Library> Model for Session<L> {

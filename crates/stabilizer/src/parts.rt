@@ -36,7 +36,6 @@ use std::alloc::{AllocError, Global};
 use wiring::Work;
 
 /// The nodes of a graph with all that a stabilizer keeps of them.
-#[derive(Drop)]
 pub struct Parts {
     pub(crate) alloc: Global,
     pub(crate) arena: Arena,
@@ -47,6 +46,25 @@ pub struct Parts {
     pub(crate) dying: Vec<NodeId>,
     /// The nodes whose functions were called in the last round that ended, each once.
     pub(crate) ran: Vec<NodeId>,
+}
+
+// (written out: whoever drops one proves one call, and no drop of its parts)
+impl Drop for Parts {
+    fn drop(self) {
+        let Parts {
+            alloc: _,
+            arena,
+            scopes,
+            work,
+            dying,
+            ran,
+        } = self;
+        drop(arena);
+        drop(scopes);
+        drop(work);
+        drop(dying);
+        drop(ran);
+    }
 }
 
 impl Parts {

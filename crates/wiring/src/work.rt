@@ -39,7 +39,6 @@ use point_map::PointMap;
 use std::alloc::{AllocError, Global};
 
 /// What a stabilize works on beside the nodes.
-#[derive(Drop)]
 pub struct Work {
     /// Need, heights, and what is to be recomputed.
     pub graph: NecessaryGraph,
@@ -61,6 +60,32 @@ pub struct Work {
     pub strict: bool,
     /// The number of this round. The first is 1.
     pub round: u64,
+}
+
+// (written out: whoever drops one proves one call, and no drop of its parts)
+impl Drop for Work {
+    fn drop(self) {
+        let Work {
+            graph,
+            rows,
+            roots,
+            pairs,
+            scoped,
+            deaths,
+            todo,
+            ran,
+            strict: _,
+            round: _,
+        } = self;
+        drop(graph);
+        drop(rows);
+        drop(roots);
+        drop(pairs);
+        drop(scoped);
+        drop(deaths);
+        drop(todo);
+        drop(ran);
+    }
 }
 
 impl Work {
