@@ -134,12 +134,13 @@ impl<F: Functions> Graph<F> {
         ensures sound { F.is_sound result }
     {
         let Graph {
+            alloc: _,
             functions,
             parts,
             observers,
+            rooted: _,
             invalid,
             refused,
-            ..
         } = self;
         drop(parts);
         drop(observers);

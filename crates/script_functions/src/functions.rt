@@ -87,7 +87,14 @@ impl<L: Library> ScriptFns<L> {
     pub fn into_library(self) -> L
         ensures { result ≡ self.library }
     {
-        self.library
+        let ScriptFns {
+            library,
+            bodies,
+            builds: _,
+            adds: _,
+        } = self;
+        drop(bodies);
+        library
     }
 }
 
