@@ -135,7 +135,12 @@ impl<L: Library> Session<L> {
     pub fn into_library(self) -> L
         ensures { result ≡ self.library }
     {
-        self.script.into_library()
+        let Session {
+            alloc: _,
+            script,
+            lines: _,
+        } = self;
+        script.into_library()
     }
 
     /// How often a right side of a bind was built so far, or was to be, up to 2^64 - 1.
