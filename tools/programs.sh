@@ -163,5 +163,10 @@ else
     failed=$((failed + 1))
 fi
 
+sh tools/launcher.sh >"$room/launcher" 2>&1
+status=$?
+[ $status -eq 0 ] || cat "$room/launcher"
+judge 'tools/launcher.sh' $status 0
+
 echo "$passed passed, $failed failed"
 [ "$failed" -eq 0 ]
