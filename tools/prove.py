@@ -3,11 +3,11 @@
 
 prove.py [NAME..]      of incr and incr_profile, both where none is named; a program is put to crates/NAME/out/NAME
 
-The crates that these programs stand on are proved by `rt ci`, over a copy of them that has no crates of tests and no must-fail edits.
-So what is proved here is kept on this machine for the gate and for every other checkout, and what they proved isn't proved again. A
-run that was stopped goes on where it was, but for the crates that it was at. Of two runs in a checkout the second waits. How far it
-is goes to standard error: one line that is written over where that is a terminal, else a line a crate. All that was said is in
-out/prove.log. It is not the gate.
+The crates that these programs stand on are proved by `rt ci`, over a copy of them that has no crates of tests and no
+must-fail edits. So what is proved here is kept on this machine for the gate and for every other checkout, and what they
+proved isn't proved again. A run that was stopped goes on where it was, but for the crates that it was at. Of two runs in
+a checkout the second waits. How far it is goes to standard error: one line that is written over where that is a terminal,
+else a line a crate. All that was said is in out/prove.log. It is not the gate.
 """
 import ctypes
 import fcntl
@@ -33,7 +33,7 @@ SET_PARENT_DEATH_SIGNAL = 1
 
 
 def lines_below(names):
-    """Returns the lines of crates.txt of these programs and of each crate that they stand on, directly or through others, by crate."""
+    """Returns the lines of crates.txt of these programs and of all crates that they stand on, by crate."""
     with open(f"{ROOT}/crates.txt", encoding="utf-8") as file:
         lines = [line.strip() for line in file]
     named = {line.split(":")[0].split()[0]: line for line in lines if line and not line.startswith("#")}
@@ -48,8 +48,9 @@ def lines_below(names):
 
 def copy_crates(lines, room):
     """Copies what `rt ci` reads of these crates to the folder room, without their must-fail edits."""
+    unread = shutil.ignore_patterns("out", "must-fail")
     for name in lines:
-        shutil.copytree(f"{ROOT}/crates/{name}", f"{room}/crates/{name}", symlinks=True, ignore=shutil.ignore_patterns("out", "must-fail"))
+        shutil.copytree(f"{ROOT}/crates/{name}", f"{room}/crates/{name}", symlinks=True, ignore=unread)
     with open(f"{room}/crates.txt", "w", encoding="utf-8") as file:
         file.write("".join(f"{line}\n" for line in lines.values()))
     shutil.copyfile(f"{ROOT}/HANDLES", f"{room}/HANDLES")
@@ -80,8 +81,10 @@ class Progress:
         self.looks = threading.Thread(target=self.look, daemon=True)
 
     def words(self):
-        ready = [it for it in self.below if it not in self.done and it not in self.failed and self.below[it] <= self.done]
-        return f"proved {len(self.done)} of {len(self.below)} crates ({told(time.monotonic() - self.began)}){'; next ' if ready else ''}{', '.join(ready)}"
+        ended = self.done | {*self.failed}
+        ready = [it for it in self.below if it not in ended and self.below[it] <= self.done]
+        words = f"proved {len(self.done)} of {len(self.below)} crates ({told(time.monotonic() - self.began)})"
+        return f"{words}; next {', '.join(ready)}" if ready else words
 
     def say(self, words):
         """Writes a line that stays."""
@@ -104,7 +107,8 @@ class Progress:
     def look(self):
         while not self.ended.wait(0.5):
             with self.writes:
-                print(f"\r\033[K{self.words()[: shutil.get_terminal_size().columns - 1]}", end="", file=sys.stderr, flush=True)
+                words = self.words()[: shutil.get_terminal_size().columns - 1]
+                print(f"\r\033[K{words}", end="", file=sys.stderr, flush=True)
 
     def begin(self):
         if self.is_terminal:
@@ -123,8 +127,8 @@ def end_with_parent():
 
 def prove(room, log, progress):
     """Runs `rt ci` in the folder room, with all that it says in the log, and returns its status."""
-    how = {"cwd": room, "stdin": subprocess.DEVNULL, "stdout": subprocess.PIPE, "stderr": subprocess.STDOUT, "text": True, "errors": "replace"}
-    ran = subprocess.Popen(["rt", "ci"], start_new_session=True, preexec_fn=end_with_parent, **how)
+    how = {"stdin": subprocess.DEVNULL, "stdout": subprocess.PIPE, "stderr": subprocess.STDOUT, "text": True, "errors": "replace"}
+    ran = subprocess.Popen(["rt", "ci"], cwd=room, start_new_session=True, preexec_fn=end_with_parent, **how)
     progress.begin()
     try:
         for line in ran.stdout:
