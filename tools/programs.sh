@@ -148,9 +148,9 @@ for program in incr incr_profile; do
 done
 
 if [ -x crates/incr_bench/out/incr_bench ]; then
-    echo 'usage: incr_bench chain|fan|tree|fold|cut|never|idle|flip|flipx|aside|switch|bind|nested|random SIZE ROUNDS | incr_bench needs SIZE' >"$room/bench.usage"
-    measures 0 crates/incr_bench/stdout random 60 300
-    measures 2 "$room/bench.usage" random 220
+    echo 'usage: incr_bench chain|fan|tree|fold|cut|never|idle|flip|flipx|aside|switch|bind|nested|boxed SIZE ROUNDS' >"$room/bench.usage"
+    measures 0 crates/incr_bench/stdout nested 9 100
+    measures 2 "$room/bench.usage" boxed 220
     measures 2 "$room/bench.usage" chain 129 1
     timeout 10 crates/incr_bench/out/incr_bench chain 3 1 >/dev/full 2>/dev/null
     judge "incr_bench chain 3 1 > /dev/full" $? 4

@@ -83,6 +83,13 @@ impl Closures {
         }
     }
 
+    /// How often maps were called, up to 2^64 - 1.
+    pub fn calls(&self) -> u64
+        ensures { result ≡ ⟦<Closures as Functions>⟧.calls self.now }
+    {
+        self.calls
+    }
+
     /// Keeps a map, and gives its name. Functions that were known stay so, and mean what they meant. It is
     /// refused as one too many exactly where 65,535 functions are kept, and else where there is no memory. A
     /// refused call hands the map back, and makes none known.

@@ -1,3 +1,6 @@
-pub mod Chance
-pub mod Comparing
+pub mod Boxed
 pub mod Jobs
+pub mod Reports
+pub mod Shown
+pub mod Sides
+pub mod Status

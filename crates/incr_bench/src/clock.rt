@@ -1,5 +1,6 @@
 //! Times in nanoseconds.
-ghost use Rattle.std.specs.Prelude.{◌≡◌, None};
+ghost use Rattle.std.specs.Prelude.{◌≡◌, ◌-◌, ◌^◌, min, None};
+ghost use Rattle.core.specs.Duration.{as_nanos};
 
 use std::time::{Clock, Duration, Instant};
 
@@ -9,7 +10,9 @@ pub fn begin<C: Clock>(clock: &C) -> Option<Instant> {
 }
 
 /// The nanoseconds of a duration, up to 2^64 - 1.
-fn nanoseconds(time: Duration) -> u64 {
+fn nanoseconds(time: Duration) -> u64
+    ensures { result ≡ min (as_nanos time) (2 ^ 64 - 1) }
+{
     time.as_secs()
         .saturating_mul(1_000_000_000)
         .saturating_add(time.subsec_nanos() as u64)

@@ -47,11 +47,8 @@ pub enum Shape {
     /// A bind of binds, of which a round builds the outer one anew or the inner one, whose right side has so many nodes.
     Nested,
 
-    /// Graphs by chance, compared with plain evaluation after each stabilize.
-    Random,
-
-    /// Observers that are made and ended.
-    Needs,
+    /// As the fan, where the negation is a function in a box.
+    Boxed,
 }
 
 /// What the words ask for.
@@ -70,7 +67,6 @@ fn most(shape: Shape) -> usize
         Shape::Chain => 128,
         Shape::Flip | Shape::Flipx => 127,
         Shape::Tree => 524_288,
-        Shape::Random => 10_000,
         Shape::Bind | Shape::Nested => 200_000,
         Shape::Fan
         | Shape::Fold
@@ -79,7 +75,7 @@ fn most(shape: Shape) -> usize
         | Shape::Idle
         | Shape::Aside
         | Shape::Switch
-        | Shape::Needs => 1_000_000,
+        | Shape::Boxed => 1_000_000,
     }
 }
 
@@ -99,7 +95,7 @@ fn shape_named(name: &str) -> Option<Shape> {
         "switch" => Some(Shape::Switch),
         "bind" => Some(Shape::Bind),
         "nested" => Some(Shape::Nested),
-        "random" => Some(Shape::Random),
+        "boxed" => Some(Shape::Boxed),
         _ => None,
     }
 }
@@ -130,7 +126,6 @@ pub fn asked(words: &[Word]) -> Option<Job>
     ensures { IfSome result IsWithin }
 {
     match words {
-        [_, name, size] if name.as_str() == "needs" => sized(Shape::Needs, number(size)?, 1),
         [_, name, size, rounds] => sized(
             shape_named(name.as_str())?,
             number(size)?,

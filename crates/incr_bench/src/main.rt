@@ -2,23 +2,22 @@
 //! tells how many functions were called and how long it took.
 #![tactic(auto)]
 
-mod campaign;
-mod chance;
+mod boxed;
 mod clock;
-mod generator;
+mod counted;
+mod fault;
 mod job;
-mod lists;
 mod live;
-mod needs;
 mod perform;
 mod report;
+mod rounds;
 mod shapes;
 mod sides;
 
 use crate::job::asked;
 use crate::perform::perform;
-use bench_engine::{Fault, status};
-use script_io::tell_usage;
+use crate::report::status;
+use script_io::{Ending, tell_usage};
 use std::alloc::AllocError;
 use std::env;
 use std::process::ExitCode;
@@ -26,19 +25,19 @@ use std_streams::{StdSink, words};
 
 /// What is written where the words ask for nothing.
 const USAGE: &[u8] =
-    b"usage: incr_bench chain|fan|tree|fold|cut|never|idle|flip|flipx|aside|switch|bind|nested|random SIZE ROUNDS | incr_bench needs SIZE\n";
+    b"usage: incr_bench chain|fan|tree|fold|cut|never|idle|flip|flipx|aside|switch|bind|nested|boxed SIZE ROUNDS\n";
 
 fn main(rt: HostRuntime) -> ExitCode {
     let words = match words(rt.alloc(), env::args(&rt)) {
         Ok(words) => words,
-        Err(AllocError) => return ExitCode::from(Fault::Memory.status()),
+        Err(AllocError) => return ExitCode::from(Ending::Memory.status()),
     };
     let mut out = StdSink::new(rt.stdout());
     let mut notes = StdSink::new(rt.stderr());
     match asked(&words) {
         Some(job) => {
-            let verdict = perform(rt.alloc(), &rt, job, &mut out, &mut notes);
-            ExitCode::from(status(verdict))
+            let ending = perform(rt.alloc(), &rt, job, &mut out, &mut notes);
+            ExitCode::from(status(ending))
         }
         None => ExitCode::from(tell_usage(&mut out, USAGE)),
     }

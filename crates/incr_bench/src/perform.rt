@@ -1,94 +1,157 @@
 //! Runs that are timed.
-ghost use Rattle.std.specs.Prelude.{◌≡◌};
-ghost use Rattle.bench_engine.specs.Verdicts.{SinksTell};
-ghost use Rattle.bench_engine.specs.declared.verdict.Verdict.TheVariants.{Unwritten};
+ghost use Rattle.std.specs.Prelude.{◌≡◌, [], IsTrue};
 ghost use Rattle.incr_bench.specs.Jobs.{IsWithin};
+ghost use Rattle.incr_bench.specs.Status.{SinksTell};
+ghost use Rattle.incr_bench.specs.declared.report.Ending.TheVariants.{Unwritten};
 
-use crate::campaign::{Campaign, Tally};
+use crate::boxed::Negation;
 use crate::clock::{begin, since};
+use crate::counted::Counted;
+use crate::fault::Fault;
 use crate::job::{Job, Shape};
 use crate::live::Live;
-use crate::needs::{Ends, build, measure};
-use crate::report::{of_ends, of_rounds, of_tally};
-use crate::shapes::{Rounds, Steady};
-use bench_engine::{Fault, Findings, Verdict, publish};
+use crate::report::{Ending, Report, of_rounds, publish};
+use crate::rounds::{Rounds, measure};
+use crate::shapes::{bind, fill, nested};
+use crate::sides::{keep_nested, keep_tree};
+use closures::Closures;
+use inc_value::FnRef;
+use node_arena::MapFn;
+use script_functions::ScriptFns;
 use script_io::Sink;
 use std::alloc::Global;
 use std::time::Clock;
+use std_library::{Function, StdLib};
 
-/// Builds a graph and runs rounds over it.
-fn measure_rounds<C: Clock>(
-    alloc: Global,
-    live: &mut Live,
+/// Builds a graph of a shape without binds, and runs rounds over it.
+fn measure_filled<F: Counted, C: Clock>(
+    live: &mut Live<F>,
     clock: &C,
     job: Job,
 ) -> Result<Rounds, Fault>
-    requires { IsWithin job }
+    requires within { IsWithin job }
 {
     let start = begin(clock);
-    let steady = Steady::new(alloc, live, job.shape, job.size)?;
+    fill(live, job.shape, job.size)?;
+    live.stabilize()?;
     let building = since(clock, start);
-    steady.measure(live, clock, job.rounds, building)
+    measure(live, clock, job, building)
 }
 
-/// Builds a graph by chance and runs rounds over it.
-fn measure_tally<C: Clock>(
+/// Measures a shape without binds over functions.
+fn measure_over<F: Counted, C: Clock>(
     alloc: Global,
-    live: &mut Live,
+    functions: F,
+    negation: FnRef,
     clock: &C,
     job: Job,
-) -> Result<Tally, Fault> {
-    let mut campaign = Campaign::new(alloc, live, job.size)?;
-    campaign.measure(live, clock, job.rounds)
-}
-
-/// Makes and ends observers.
-fn measure_ends<C: Clock>(
-    alloc: Global,
-    live: &mut Live,
-    clock: &C,
-    job: Job,
-) -> Result<Ends, Fault> {
-    let start = begin(clock);
-    let order = build(alloc, live, job.size)?;
-    let building = since(clock, start);
-    measure(live, clock, &order, building)
-}
-
-/// What the words ask for, over a graph without nodes.
-fn found_over<C: Clock>(
-    alloc: Global,
-    live: &mut Live,
-    clock: &C,
-    job: Job,
-) -> Result<Findings, Fault>
-    requires { IsWithin job }
+) -> Result<Rounds, Fault>
+    requires within { IsWithin job }
+    requires sound { F.is_sound functions }
 {
+    let mut live = Live::new(alloc, functions, negation);
+    let rounds = measure_filled(&mut live, clock, job);
+    live.end();
+    rounds
+}
+
+/// Builds a graph of a shape of binds, and runs rounds over it.
+fn measure_bound<F: Counted, C: Clock>(
+    live: &mut Live<F>,
+    side: FnRef,
+    clock: &C,
+    job: Job,
+) -> Result<Rounds, Fault>
+    requires known { IsTrue (F.known live.old.graph.functions side) }
+    requires lists_none { (F.right live.old.graph.functions side).ids ≡ [] }
+{
+    let start = begin(clock);
     match job.shape {
-        Shape::Random => {
-            let tally = measure_tally(alloc, live, clock, job)?;
-            Ok(of_tally(alloc, job, tally)?)
-        }
-        Shape::Needs => {
-            let ends = measure_ends(alloc, live, clock, job)?;
-            Ok(of_ends(alloc, job, ends)?)
-        }
-        _ => {
-            let rounds = measure_rounds(alloc, live, clock, job)?;
-            Ok(of_rounds(alloc, job, rounds)?)
+        Shape::Nested => nested(live, side)?,
+        _ => bind(live, side)?,
+    }
+    live.stabilize()?;
+    let building = since(clock, start);
+    measure(live, clock, job, building)
+}
+
+/// Measures a shape of binds over functions, of which one makes the right sides.
+fn measure_sides<F: Counted, C: Clock>(
+    alloc: Global,
+    functions: F,
+    side: FnRef,
+    clock: &C,
+    job: Job,
+) -> Result<Rounds, Fault>
+    requires sound { F.is_sound functions }
+    requires known { IsTrue (F.known functions side) }
+    requires lists_none { (F.right functions side).ids ≡ [] }
+{
+    let mut live = Live::new(alloc, functions, Function::Neg.reference());
+    let rounds = measure_bound(&mut live, side, clock, job);
+    live.end();
+    rounds
+}
+
+/// Measures a shape without binds over the standard library.
+fn over_library<C: Clock>(alloc: Global, clock: &C, job: Job) -> Result<Rounds, Fault>
+    requires within { IsWithin job }
+{
+    let functions = ScriptFns::new(alloc, StdLib::new());
+    measure_over(alloc, functions, Function::Neg.reference(), clock, job)
+}
+
+/// Measures a shape of binds over the standard library.
+fn over_sides<C: Clock>(alloc: Global, clock: &C, job: Job) -> Result<Rounds, Fault>
+    requires within { IsWithin job }
+{
+    let mut functions = ScriptFns::new(alloc, StdLib::new());
+    let kept = match job.shape {
+        Shape::Nested => keep_nested(alloc, &mut functions, job.size),
+        _ => keep_tree(alloc, &mut functions, job.size),
+    };
+    match kept {
+        Ok(side) => measure_sides(alloc, functions, side, clock, job),
+        Err(fault) => {
+            drop(functions);
+            Err(fault)
         }
     }
 }
 
-/// What the words ask for. A graph is owned here alone and ended by a call: a function that drops one has each of
-/// the graph's lists in its proof.
-fn found<C: Clock>(alloc: Global, clock: &C, job: Job) -> Result<Findings, Fault>
+/// Measures a shape without binds over a negation in a box.
+fn over_box<C: Clock>(alloc: Global, clock: &C, job: Job) -> Result<Rounds, Fault>
+    requires within { IsWithin job }
+{
+    let Ok(boxed) = Box::new(alloc, Negation {}) else {
+        return Err(Fault::Memory);
+    };
+    let boxed: Box<dyn MapFn> = boxed;
+    if !boxed.sig().is_map() {
+        drop(boxed);
+        return Err(Fault::Refused);
+    }
+    let mut functions = Closures::new(alloc);
+    match functions.add_map(boxed) {
+        Ok(negation) => measure_over(alloc, functions, negation, clock, job),
+        Err((_, boxed)) => {
+            drop(boxed);
+            drop(functions);
+            Err(Fault::Memory)
+        }
+    }
+}
+
+/// What the words ask for.
+fn found<C: Clock>(alloc: Global, clock: &C, job: Job) -> Result<Report, Fault>
     requires { IsWithin job }
 {
-    let mut live = Live::new(alloc);
-    let found = found_over(alloc, &mut live, clock, job);
-    live.end();
-    found
+    let rounds = match job.shape {
+        Shape::Bind | Shape::Nested => over_sides(alloc, clock, job)?,
+        Shape::Boxed => over_box(alloc, clock, job)?,
+        _ => over_library(alloc, clock, job)?,
+    };
+    Ok(of_rounds(alloc, job, rounds)?)
 }
 
 /// Does what the words ask for. Nothing is written before all is found.
@@ -98,16 +161,16 @@ pub fn perform<C: Clock, K: Sink, N: Sink>(
     job: Job,
     out: &mut K,
     notes: &mut N,
-) -> Verdict
+) -> Ending
     requires { IsWithin job }
     ensures sinks { SinksTell (result ≡ Unwritten) (K.faults out.old) (K.faults out.new) (N.faults notes.old) (N.faults notes.new) }
 {
     match found(alloc, clock, job) {
         Ok(found) => {
-            let verdict = publish(&found, out, notes);
+            let ending = publish(&found, out, notes);
             drop(found);
-            verdict
+            ending
         }
-        Err(fault) => Verdict::Stopped(fault),
+        Err(fault) => Ending::Stopped(fault),
     }
 }

@@ -1,23 +1,43 @@
 //! What a run tells.
-ghost use Rattle.std.specs.Prelude.{◌≡◌, IfOk};
+ghost use Rattle.std.specs.Prelude.{◌≡◌, ◌≢◌, IfOk, string_bytes};
+ghost use Rattle.std.specs.Io.KnownBytes.{Appends};
+ghost use Rattle.incr_bench.specs.Reports.{counts_text};
+ghost use Rattle.incr_bench.specs.Status.{SinksTell, status_of};
+ghost use Rattle.incr_bench.specs.declared.report.Ending.TheVariants.{Unwritten};
 
-use crate::campaign::Tally;
+use crate::fault::Fault;
 use crate::job::Job;
-use crate::needs::Ends;
-use crate::shapes::Rounds;
-use bench_engine::Findings;
+use crate::rounds::Rounds;
+use script_io::{Failed, Sink, write_whole};
 use std::alloc::{AllocError, Global};
 
-/// Tells a number of a name.
-fn tell(alloc: Global, counts: &mut String, name: &str, number: u64) -> Result<(), AllocError> {
-    let text = format!(in alloc; "{name} {number}\n")?;
-    counts.push_str(text.as_str())
+/// What a run found: the counts, which are its output, and the times, which are notes.
+#[derive(Drop)]
+pub struct Report {
+    pub counts: String,
+    pub times: String,
 }
 
-/// Tells the last value.
-fn tell_last(alloc: Global, counts: &mut String, value: i64) -> Result<(), AllocError> {
-    let text = format!(in alloc; "last {value}\n")?;
-    counts.push_str(text.as_str())
+/// How a run ends.
+#[derive(Clone, Copy)]
+pub enum Ending {
+    /// What was found is written.
+    Told,
+
+    /// What was found couldn't be written.
+    Unwritten,
+
+    /// A fault ended the run before anything was written.
+    Stopped(Fault),
+}
+
+/// What the counts of rounds are told as.
+fn counts(alloc: Global, rounds: Rounds) -> Result<String, AllocError>
+    ensures { IfOk result (λ text. string_bytes text ≡ counts_text rounds.calls rounds.last) }
+{
+    let calls = rounds.calls;
+    let last = rounds.last;
+    format!(in alloc; "calls {calls}\nlast {last}\n")
 }
 
 /// Tells a time, and what of it falls to one of a count.
@@ -33,14 +53,8 @@ fn tell_time(
     times.push_str(text.as_str())
 }
 
-/// Tells the counts of rounds.
-fn tell_calls(alloc: Global, counts: &mut String, calls: u64, last: i64) -> Result<(), AllocError> {
-    tell(alloc, counts, "calls", calls)?;
-    tell_last(alloc, counts, last)
-}
-
 /// Tells the times of rounds: by nodes built, by rounds and by calls.
-fn tell_round_times(
+fn tell_times(
     alloc: Global,
     times: &mut String,
     job: Job,
@@ -52,77 +66,39 @@ fn tell_round_times(
 }
 
 /// What rounds found.
-pub fn of_rounds(alloc: Global, job: Job, rounds: Rounds) -> Result<Findings, AllocError>
-    ensures { IfOk result (λ found. found.disagreements ≡ 0) }
+pub fn of_rounds(alloc: Global, job: Job, rounds: Rounds) -> Result<Report, AllocError>
+    ensures { IfOk result (λ report. string_bytes report.counts ≡ counts_text rounds.calls rounds.last) }
 {
-    let mut counts = String::new(alloc);
     let mut times = String::new(alloc);
-    tell_calls(alloc, &mut counts, rounds.calls, rounds.last)?;
-    tell_round_times(alloc, &mut times, job, rounds)?;
-    Ok(Findings {
-        counts,
-        times,
-        disagreements: 0,
-    })
+    tell_times(alloc, &mut times, job, rounds)?;
+    let counts = counts(alloc, rounds)?;
+    Ok(Report { counts, times })
 }
 
-/// Tells what a campaign counted.
-fn tell_counts(alloc: Global, counts: &mut String, tally: Tally) -> Result<(), AllocError> {
-    tell(alloc, counts, "calls", tally.calls)?;
-    tell(alloc, counts, "builds", tally.builds)?;
-    tell(alloc, counts, "grabs", tally.grabs)?;
-    tell(alloc, counts, "deaths", tally.deaths)?;
-    tell(alloc, counts, "stabilizes", tally.stabilizes)?;
-    tell(alloc, counts, "refusals", tally.refusals)?;
-    tell(alloc, counts, "comparisons", tally.comparisons)?;
-    tell(alloc, counts, "disagreements", tally.disagreements)
-}
-
-/// What a campaign found.
-pub fn of_tally(alloc: Global, job: Job, tally: Tally) -> Result<Findings, AllocError>
-    ensures { IfOk result (λ found. found.disagreements ≡ tally.disagreements) }
+/// Writes what was found. A write that fails is not tried again, and ends it.
+pub fn publish<K: Sink, N: Sink>(report: &Report, out: &mut K, notes: &mut N) -> Ending
+    ensures counts { result ≢ Unwritten → Appends (K.written out.old) (K.written out.new) (string_bytes report.now.counts) }
+    ensures times { result ≢ Unwritten → Appends (N.written notes.old) (N.written notes.new) (string_bytes report.now.times) }
+    ensures sinks { SinksTell (result ≡ Unwritten) (K.faults out.old) (K.faults out.new) (N.faults notes.old) (N.faults notes.new) }
 {
-    let mut counts = String::new(alloc);
-    let mut times = String::new(alloc);
-    tell_counts(alloc, &mut counts, tally)?;
-    tell_time(alloc, &mut times, "rounds", tally.running, job.rounds)?;
-    Ok(Findings {
-        counts,
-        times,
-        disagreements: tally.disagreements,
-    })
+    match write_whole(out, report.counts.as_bytes()) {
+        Ok(()) => {}
+        Err(Failed) => return Ending::Unwritten,
+    }
+    match write_whole(notes, report.times.as_bytes()) {
+        Ok(()) => Ending::Told,
+        Err(Failed) => Ending::Unwritten,
+    }
 }
 
-/// Tells what was called where observers were made, and after they were ended.
-fn tell_end_calls(alloc: Global, counts: &mut String, ends: Ends) -> Result<(), AllocError> {
-    tell(alloc, counts, "calls", ends.calls)?;
-    tell(alloc, counts, "calls after the end", ends.after)
-}
-
-/// Tells how long it took to observe nodes, to stabilize, and to end the observers.
-fn tell_end_times(
-    alloc: Global,
-    times: &mut String,
-    size: u64,
-    ends: Ends,
-) -> Result<(), AllocError> {
-    tell_time(alloc, times, "built", ends.building, size)?;
-    tell_time(alloc, times, "observed", ends.observing, size)?;
-    tell_time(alloc, times, "stabilized", ends.stabilizing, size)?;
-    tell_time(alloc, times, "ended", ends.ending, size)
-}
-
-/// What was found where observers were made and ended.
-pub fn of_ends(alloc: Global, job: Job, ends: Ends) -> Result<Findings, AllocError>
-    ensures { IfOk result (λ found. found.disagreements ≡ 0) }
+/// The status that the program ends with.
+pub fn status(ending: Ending) -> u8
+    ensures { result ≡ status_of ending }
 {
-    let mut counts = String::new(alloc);
-    let mut times = String::new(alloc);
-    tell_end_calls(alloc, &mut counts, ends)?;
-    tell_end_times(alloc, &mut times, job.size as u64, ends)?;
-    Ok(Findings {
-        counts,
-        times,
-        disagreements: 0,
-    })
+    match ending {
+        Ending::Told => 0,
+        Ending::Stopped(Fault::Refused) => 1,
+        Ending::Unwritten => 4,
+        Ending::Stopped(Fault::Memory) => 5,
+    }
 }

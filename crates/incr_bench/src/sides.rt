@@ -1,221 +1,193 @@
-//! Right sides as the engine keeps them.
+//! Right sides of binds.
+ghost use Rattle.std.specs.Prelude.{◌≡◌, ◌≤◌, [], IfOk, IsTrue};
+ghost use Rattle.inc_value.specs.Choice.{Every};
+ghost use Rattle.script_functions.specs.Lines.{line_uses};
+ghost use Rattle.incr_bench.specs.Sides.{CanCall};
+ghost use Rattle.incr_bench.specs.Status.{of_line};
 
-use inc_value::{Base, FnRef, NodeId, Sig, Ty, Value};
-use plain_evaluation::{Definition, Line, Part, Side};
-use script_functions::{
-    Body, Draft, Line as KeptLine, LineFault, ListedNode, Part as KeptPart, Parts,
-};
-use std::alloc::{AllocError, Global};
-use std_library::Function;
+use crate::fault::Fault;
+use inc_value::{FnRef, Sig, Ty};
+use node_arena::{Functions, MoreFault};
+use script_functions::{Body, Draft, Line, LineFault, Part, Parts, ScriptFns, TypedLine};
+use std::alloc::Global;
+use std_library::{Function, StdLib};
 
-/// Right sides that the engine keeps, how many nodes one takes at most, and the places of the nodes that they list.
-#[derive(Drop)]
-pub struct KeptSide {
-    pub function: FnRef,
-    pub size: u64,
-    pub places: Vec<usize>,
-}
-
-/// Why a line isn't kept: lines of right sides fit.
-fn want(fault: LineFault) -> AllocError {
-    let _ = fault;
-    AllocError
-}
-
-/// The types of what the node at a place gives.
-fn type_of(definitions: &[Definition], place: usize) -> Ty {
-    match definitions.get(place) {
-        Some(Definition::Truth(_) | Definition::Less(..)) => Ty::Bool,
-        Some(Definition::Refer(_)) => Ty::Node(Base::Int),
-        _ => Ty::Int,
+/// Why a line that isn't added stops a run.
+fn of_line(fault: LineFault) -> Fault
+    ensures { result ≡ of_line fault }
+{
+    match fault {
+        LineFault::Memory => Fault::Memory,
+        LineFault::Unknown | LineFault::WrongType | LineFault::TooLarge => Fault::Refused,
     }
 }
 
-/// Right sides that are being kept: the nodes that they list so far, and where these stand.
-#[derive(Drop)]
-struct Listing {
-    places: Vec<usize>,
-    nodes: Vec<ListedNode>,
-}
-
-impl Listing {
-    /// The place of a node in the list.
-    fn place_of(&self, node: usize) -> Option<usize> {
-        for place in 0..self.places.len() {
-            if self.places[place] == node {
-                return Some(place);
-            }
-        }
-        None
-    }
-
-    /// Lists the node that a part names, if it names one that isn't listed.
-    fn list(
-        &mut self,
-        nodes: &[NodeId],
-        definitions: &[Definition],
-        part: Part,
-    ) -> Result<(), AllocError> {
-        if let Part::Outside(place) = part {
-            if self.place_of(place).is_none() {
-                let node = nodes.get(place).copied().unwrap_or_default();
-                self.places.push(place)?;
-                self.nodes
-                    .push(ListedNode::new(node, type_of(definitions, place)))?;
-            }
-        }
-        Ok(())
-    }
-
-    /// Lists the nodes that kept right sides list: those that bind these list them too.
-    fn list_kept(
-        &mut self,
-        nodes: &[NodeId],
-        definitions: &[Definition],
-        kept: &KeptSide,
-    ) -> Result<(), AllocError> {
-        for place in &kept.places {
-            self.list(nodes, definitions, Part::Outside(*place))?;
-        }
-        Ok(())
-    }
-
-    /// Lists the nodes that a line names, and those that the right sides list that it binds.
-    fn list_line(
-        &mut self,
-        nodes: &[NodeId],
-        sides: &[KeptSide],
-        definitions: &[Definition],
-        line: Line,
-    ) -> Result<(), AllocError> {
-        match line {
-            Line::Number(_) => Ok(()),
-            Line::Neg(kid) | Line::Join(kid) => self.list(nodes, definitions, kid),
-            Line::Sum(left, right) | Line::Less(left, right) => {
-                self.list(nodes, definitions, left)?;
-                self.list(nodes, definitions, right)
-            }
-            Line::If(test, first, second) => {
-                self.list(nodes, definitions, test)?;
-                self.list(nodes, definitions, first)?;
-                self.list(nodes, definitions, second)
-            }
-            Line::Bind {
-                left,
-                side,
-                first,
-                second,
-            } => {
-                self.list(nodes, definitions, left)?;
-                self.list(nodes, definitions, first)?;
-                self.list(nodes, definitions, second)?;
-                match sides.get(side) {
-                    Some(kept) => self.list_kept(nodes, definitions, kept),
-                    None => Ok(()),
-                }
-            }
-        }
-    }
-
-    /// A part as the engine has it.
-    fn part(&self, part: Part) -> KeptPart {
-        match part {
-            Part::Outside(place) => KeptPart::Listed(self.place_of(place).unwrap_or(usize::MAX)),
-            Part::First => KeptPart::Captured(0),
-            Part::Second => KeptPart::Captured(1),
-            Part::Line(line) => KeptPart::Line(line),
-        }
-    }
-
-    /// A map of parts.
-    fn map(
-        &self,
-        alloc: Global,
-        function: Function,
-        parts: &[KeptPart],
-    ) -> Result<KeptLine, AllocError> {
-        Ok(KeptLine::Map(function.reference(), Parts::from_slice(alloc, parts)?))
-    }
-
-    /// A line as the engine has it.
-    fn line(&self, alloc: Global, sides: &[KeptSide], line: Line) -> Result<KeptLine, AllocError> {
-        match line {
-            Line::Number(number) => Ok(KeptLine::Const(Value::Int(number))),
-            Line::Neg(kid) => self.map(alloc, Function::Neg, &[self.part(kid)]),
-            Line::Sum(left, right) => {
-                self.map(alloc, Function::Add, &[self.part(left), self.part(right)])
-            }
-            Line::Less(left, right) => {
-                self.map(alloc, Function::Lt, &[self.part(left), self.part(right)])
-            }
-            Line::If(test, first, second) => Ok(KeptLine::If {
-                test: self.part(test),
-                yes: self.part(first),
-                no: self.part(second),
-            }),
-            Line::Join(reference) => Ok(KeptLine::Join(self.part(reference))),
-            Line::Bind {
-                left,
-                side,
-                first,
-                second,
-            } => {
-                let kept = sides.get(side).ok_or(AllocError)?;
-                let captures = Parts::from_slice(alloc, &[self.part(first), self.part(second)])?;
-                Ok(KeptLine::Bind {
-                    left: self.part(left),
-                    function: kept.function,
-                    most: kept.size,
-                    captures,
-                })
-            }
-        }
+/// Adds a line.
+fn add(draft: &mut Draft, line: Line) -> Result<(), Fault>
+    ensures { draft.new.listed ≡ draft.old.listed }
+{
+    match draft.add(line) {
+        Ok(_) => Ok(()),
+        Err(fault) => Err(of_line(fault)),
     }
 }
 
-/// The nodes that right sides name, and those that right sides list that they bind.
-fn list_of(
-    alloc: Global,
-    nodes: &[NodeId],
-    sides: &[KeptSide],
-    definitions: &[Definition],
-    side: &Side,
-) -> Result<Listing, AllocError> {
-    let mut listing = Listing {
-        places: Vec::new(alloc),
-        nodes: Vec::new(alloc),
+/// Adds a line that applies a function to parts.
+fn add_map(alloc: Global, draft: &mut Draft, function: Function, parts: &[Part]) -> Result<(), Fault>
+    ensures { draft.new.listed ≡ draft.old.listed }
+{
+    let parts = Parts::from_slice(alloc, parts)?;
+    add(draft, Line::Map(function.reference(), parts))
+}
+
+/// Adds so many negations of the left number, and sums of them, pairwise.
+fn add_tree(alloc: Global, draft: &mut Draft, leaves: usize) -> Result<(), Fault>
+    requires { leaves ≤ 1000000 }
+    ensures { draft.new.listed ≡ draft.old.listed }
+{
+    for _ in 0..leaves {
+        add_map(alloc, draft, Function::Neg, &[Part::Line(0)])?;
+    }
+    for k in 1..leaves {
+        let kids = [Part::Line(2 * k - 1), Part::Line(2 * k)];
+        add_map(alloc, draft, Function::Add, &kids)?;
+    }
+    Ok(())
+}
+
+/// Adds a bind of a function on the captured number, which takes so many nodes at most.
+fn add_bind(alloc: Global, draft: &mut Draft, function: FnRef, most: u64) -> Result<(), Fault>
+    ensures { draft.new.listed ≡ draft.old.listed }
+{
+    let captures = Parts::from_slice(alloc, &[])?;
+    let line = Line::Bind {
+        left: Part::Captured(0),
+        function,
+        most,
+        captures,
     };
-    for line in &side.lines {
-        listing.list_line(nodes, sides, definitions, *line)?;
-    }
-    listing.list(nodes, definitions, side.root)?;
-    Ok(listing)
+    add(draft, line)
 }
 
-/// Right sides as a body: of a left number and two captured ones. The places are those of the nodes that it lists.
-pub fn body_of(
-    alloc: Global,
-    nodes: &[NodeId],
-    sides: &[KeptSide],
-    definitions: &[Definition],
-    side: &Side,
-) -> Result<(Body, Vec<usize>), AllocError> {
-    let listing = list_of(alloc, nodes, sides, definitions, side)?;
-    let mut listed = Vec::new(alloc);
-    for node in &listing.nodes {
-        listed.push(*node)?;
+/// The right sides of lines, of which the one at a place is the root.
+fn finished(draft: Draft, added: Result<(), Fault>, root: usize) -> Result<Body, Fault>
+    ensures { IfOk result (λ body. body.draft ≡ draft) }
+{
+    match added {
+        Ok(()) => match Body::new(draft, Part::Line(root)) {
+            Ok(body) => Ok(body),
+            Err(fault) => Err(of_line(fault)),
+        },
+        Err(fault) => {
+            drop(draft);
+            Err(fault)
+        }
     }
-    let sig = Sig::new(&[Ty::Int, Ty::Int, Ty::Int], Ty::Int);
-    let mut draft = Draft::new(alloc, sig, listed);
-    for line in &side.lines {
-        let kept = listing.line(alloc, sides, *line)?;
-        draft.add(kept).map_err(want)?;
+}
+
+/// Right sides of so many nodes beside the left number, one more where that is even: negations of it, summed pairwise.
+fn tree(alloc: Global, size: usize) -> Result<Body, Fault>
+    requires { size ≤ 1000000 }
+    ensures { IfOk result (λ body. body.draft.listed ≡ []) }
+{
+    let leaves = size / 2 + 1;
+    let mut draft = Draft::new(alloc, Sig::new(&[Ty::Int], Ty::Int), Vec::new(alloc));
+    let added = add_tree(alloc, &mut draft, leaves);
+    finished(draft, added, 2 * leaves - 1)
+}
+
+/// Right sides that bind a function, which takes so many nodes at most, on a captured number.
+fn binding(alloc: Global, function: FnRef, most: u64) -> Result<Body, Fault>
+    ensures { IfOk result (λ body. body.draft.listed ≡ []) }
+{
+    let sig = Sig::new(&[Ty::Int, Ty::Int], Ty::Int);
+    let mut draft = Draft::new(alloc, sig, Vec::new(alloc));
+    let added = add_bind(alloc, &mut draft, function, most);
+    finished(draft, added, 1)
+}
+
+/// Whether the function is known, lists no nodes, and takes so many at most.
+fn can_call(functions: &ScriptFns<StdLib>, function: FnRef, most: u64) -> bool
+    ensures { IsTrue result → CanCall (⟦<ScriptFns<StdLib> as Functions>⟧.known functions.now)
+        (⟦<ScriptFns<StdLib> as Functions>⟧.right functions.now) (record { function = function; most = most }) }
+{
+    if !functions.knows(function) {
+        return false;
     }
-    let body = Body::new(draft, listing.part(side.root)).map_err(want)?;
-    let Listing {
-        places,
-        nodes: named,
-    } = listing;
-    drop(named);
-    Ok((body, places))
+    match functions.body(function) {
+        Some(body) => body.size() <= most && body.draft().listed().is_empty(),
+        None => true,
+    }
+}
+
+/// Whether what the line calls can be called.
+fn can_call_line(functions: &ScriptFns<StdLib>, line: &TypedLine) -> bool
+    ensures { IsTrue result → Every (CanCall (⟦<ScriptFns<StdLib> as Functions>⟧.known functions.now)
+        (⟦<ScriptFns<StdLib> as Functions>⟧.right functions.now)) (line_uses line.now.line) }
+{
+    match &line.line {
+        Line::Map(function, _) | Line::Fold(function, _, _) => can_call(functions, *function, 0),
+        Line::Bind { function, most, .. } => can_call(functions, *function, *most),
+        Line::Const(_) | Line::If { .. } | Line::Join(_) => true,
+    }
+}
+
+/// Whether what the lines call can be called.
+fn can_call_lines(functions: &ScriptFns<StdLib>, lines: &[TypedLine]) -> bool
+    ensures { IsTrue result → Every (λ x. Every (CanCall (⟦<ScriptFns<StdLib> as Functions>⟧.known functions.now)
+        (⟦<ScriptFns<StdLib> as Functions>⟧.right functions.now)) (line_uses x.line)) lines.now }
+{
+    lines.iter().all(|line| can_call_line(functions, line))
+}
+
+/// Keeps right sides that list no nodes. They are refused where a function that their lines call isn't known, lists nodes, or
+/// takes more of them than the line says.
+fn keep(alloc: Global, functions: &mut ScriptFns<StdLib>, body: Body) -> Result<FnRef, Fault>
+    requires sound { ⟦<ScriptFns<StdLib> as Functions>⟧.is_sound functions.old }
+    requires lists_none { body.draft.listed ≡ [] }
+    ensures sound { ⟦<ScriptFns<StdLib> as Functions>⟧.is_sound functions.new }
+    ensures known { IfOk result (λ f. IsTrue (⟦<ScriptFns<StdLib> as Functions>⟧.known functions.new f)) }
+    ensures lists_none { IfOk result (λ f. (⟦<ScriptFns<StdLib> as Functions>⟧.right functions.new f).ids ≡ []) }
+{
+    if !can_call_lines(functions, body.draft().lines()) {
+        drop(body);
+        return Err(Fault::Refused);
+    }
+    match functions.more(alloc, body) {
+        Ok(function) => Ok(function),
+        Err((fault, body)) => {
+            drop(body);
+            match fault {
+                MoreFault::TooMany => Err(Fault::Refused),
+                MoreFault::Memory => Err(Fault::Memory),
+            }
+        }
+    }
+}
+
+/// Keeps right sides of so many nodes beside the left number, and gives the function that makes them.
+pub fn keep_tree(alloc: Global, functions: &mut ScriptFns<StdLib>, size: usize) -> Result<FnRef, Fault>
+    requires sound { ⟦<ScriptFns<StdLib> as Functions>⟧.is_sound functions.old }
+    requires small { size ≤ 1000000 }
+    ensures sound { ⟦<ScriptFns<StdLib> as Functions>⟧.is_sound functions.new }
+    ensures known { IfOk result (λ f. IsTrue (⟦<ScriptFns<StdLib> as Functions>⟧.known functions.new f)) }
+    ensures lists_none { IfOk result (λ f. (⟦<ScriptFns<StdLib> as Functions>⟧.right functions.new f).ids ≡ []) }
+{
+    let body = tree(alloc, size)?;
+    keep(alloc, functions, body)
+}
+
+/// Keeps right sides that bind such a function on a captured number, and gives the function that makes them.
+pub fn keep_nested(alloc: Global, functions: &mut ScriptFns<StdLib>, size: usize) -> Result<FnRef, Fault>
+    requires sound { ⟦<ScriptFns<StdLib> as Functions>⟧.is_sound functions.old }
+    requires small { size ≤ 1000000 }
+    ensures sound { ⟦<ScriptFns<StdLib> as Functions>⟧.is_sound functions.new }
+    ensures known { IfOk result (λ f. IsTrue (⟦<ScriptFns<StdLib> as Functions>⟧.known functions.new f)) }
+    ensures lists_none { IfOk result (λ f. (⟦<ScriptFns<StdLib> as Functions>⟧.right functions.new f).ids ≡ []) }
+{
+    let body = tree(alloc, size)?;
+    let most = body.size();
+    let inner = keep(alloc, functions, body)?;
+    let outer = binding(alloc, inner, most)?;
+    keep(alloc, functions, outer)
 }

@@ -2,4 +2,4 @@ use Rattle.std.proofs.Common.{◌≡◌}
 use Rattle.incr_bench.proofs.shapes.readers.Given as goal
 
 abbrev pub invariant-loop : goal.invariant-loop
-invariant-loop l = l.live.engine.calls ≡ l.fn.live.engine.calls
+invariant-loop g l = l.live.graph.functions ≡ l.fn.live.graph.functions

@@ -1,6 +1,0 @@
--- Numbers by chance.
-use Rattle.std.specs.Prelude.{ℕ, ◌+◌, ◌*◌, ◌%◌, ◌^◌}
-
--- the state that follows, of a linear congruential generator
-abbrev pub next_state : ℕ → ℕ
-next_state state = (state * 6364136223846793005 + 1442695040888963407) % 2 ^ 64

@@ -1,0 +1,90 @@
+//! Rounds that change a graph.
+ghost use Rattle.std.specs.Prelude.{◌≡◌, ◌≤◌, ◌+◌, IfOk};
+
+use crate::clock::{begin, since};
+use crate::counted::Counted;
+use crate::fault::Fault;
+use crate::job::{Job, Shape};
+use crate::live::Live;
+use inc_value::{Base, Value};
+use node_arena::Functions;
+use std::time::Clock;
+
+/// What was measured, in nanoseconds, how many functions were called in the rounds, and what the first observer shows then.
+#[derive(Clone, Copy)]
+pub struct Rounds {
+    pub building: u64,
+    pub running: u64,
+    pub calls: u64,
+    pub last: i64,
+}
+
+/// The variable that a round changes, of so many.
+fn turn(round: u64, variables: usize) -> usize {
+    let place = round.wrapping_mul(7919) as usize;
+    if variables == 0 { 0 } else { place % variables }
+}
+
+/// The number that a round gives a variable, another one than any of the last 2,000,000,000 rounds gave.
+fn fresh(round: u64) -> Value {
+    Value::Int((round % 2_000_000_000) as i64 + 2)
+}
+
+/// The truth that a round gives a variable, another one than the last round gave.
+fn other(round: u64) -> Value {
+    Value::Bool(round % 2 == 1)
+}
+
+/// Changes what a round of a shape changes.
+fn change<F: Functions>(live: &mut Live<F>, job: Job, round: u64) -> Result<(), Fault>
+    ensures uncalled { live.new.graph.functions ≡ live.old.graph.functions }
+{
+    match job.shape {
+        Shape::Tree | Shape::Fold => live.set(turn(round, job.size), fresh(round)),
+        Shape::Nested => live.set(turn(round, 2), fresh(round)),
+        Shape::Flip | Shape::Aside => live.set(0, other(round)),
+        Shape::Flipx => {
+            live.set(1, fresh(round))?;
+            live.set(0, other(round))
+        }
+        Shape::Switch => {
+            let target = live.node(turn(round, job.size));
+            live.set(job.size, Value::Node(target, Base::Int))
+        }
+        _ => live.set(0, fresh(round)),
+    }
+}
+
+/// So many rounds.
+fn run<F: Functions>(live: &mut Live<F>, job: Job) -> Result<(), Fault>
+    ensures calls_grow { F.calls live.old.graph.functions ≤ F.calls live.new.graph.functions }
+{
+    for round in 0..job.rounds {
+        change(live, job, round)?;
+        live.stabilize()?;
+    }
+    Ok(())
+}
+
+/// Rounds over a graph that was built in so many nanoseconds.
+pub fn measure<F: Counted, C: Clock>(
+    live: &mut Live<F>,
+    clock: &C,
+    job: Job,
+    building: u64,
+) -> Result<Rounds, Fault>
+    ensures building { IfOk result (λ rounds. rounds.building ≡ building) }
+    ensures calls { IfOk result (λ rounds. F.calls live.old.graph.functions + rounds.calls ≡ F.calls live.new.graph.functions) }
+{
+    let before = live.functions().count();
+    let start = begin(clock);
+    run(live, job)?;
+    let running = since(clock, start);
+    let last = live.shown()?;
+    Ok(Rounds {
+        building,
+        running,
+        calls: live.functions().count().saturating_sub(before),
+        last,
+    })
+}

@@ -1,8 +1,0 @@
-use Rattle.std.proofs.Common.{rules}
-use Rattle.std.proofs.lemmas.Slice.Eq.{slice_eq-Decides}
-use Rattle.plain_evaluation.proofs.comparison.agree.Goals as goal
-
-pub returns : goal.returns
-returns c =
-    let e = slice_eq-Decides (λ a b. search rules) c.args.left.now c.args.right.now c.eq.result c.eq.ensures in
-    (λ h. e.0 h, λ h. e.1 h)
