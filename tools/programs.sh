@@ -1,7 +1,7 @@
 #!/bin/sh
 # Runs the built programs as the system does: over every example, on other words, into a full sink, from a folder, line by
-# line, with little memory, and over more bytes than a script may have. What they write must be right byte for byte, and so
-# must the status. The last line is `N passed, M failed`, and the status is 1 where one failed or a program isn't built.
+# line, with little memory, over more bytes than a script may have, and over the dialogues. What they write must be right byte
+# for byte, and so must the status. The last line is `N passed, M failed`, and the status is 1 where one failed or a program isn't built.
 cd "$(dirname "$0")/.." || exit 1
 room=$(mktemp -d) || exit 1
 trap 'rm -rf "$room"' EXIT
@@ -167,6 +167,8 @@ sh tools/launcher.sh >"$room/launcher" 2>&1
 status=$?
 [ $status -eq 0 ] || cat "$room/launcher"
 judge 'tools/launcher.sh' $status 0
+# the dialogues, which tell of themselves how many runs were as wanted
+if python3 tools/dialogues.py; then passed=$((passed + 1)); else failed=$((failed + 1)); fi
 
 echo "$passed passed, $failed failed"
 [ "$failed" -eq 0 ]

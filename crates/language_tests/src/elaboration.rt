@@ -8,7 +8,6 @@ ghost use Rattle.language_tests.specs.Planning.{negation_of_two, sum_of_both, to
 ghost use Rattle.language_tests.specs.Planning.{negation_of_bound, sum_of_bounds, nested_bind};
 ghost use Rattle.language_tests.specs.Planning.{one_name, IsPlannable, AwaitsNode, AwaitsFunction};
 
-use crate::std_functions::are_same;
 use formula_elab::{Made, Make, Plan, elaborate};
 use formula_lang::{Constant, Declaration, Formula, Kind, Names};
 use inc_terms::Def;
@@ -23,6 +22,13 @@ fn node(number: u64) -> NodeId {
         slot: 0,
         gen_: number,
     }
+}
+
+/// Whether the types are the same, one for one.
+fn are_same(left: &[Ty], right: &[Ty]) -> bool
+    ensures { IsTrue result ↔ (left.now ≡ right.now) }
+{
+    left == right
 }
 
 /// The negation of 2.

@@ -1,6 +1,5 @@
-//! Tests of the language that no script of `examples/` can show: any byte in a line, lines too long for a session, what
-//! is a token of no command, every form of the grammar, plans carried out, and the standard library against values from
-//! outside. They stand apart from the crates that they test, which the gate would prove a second time for them.
+//! Tests of the language that no script can show: lines that no session hands on, forms that no script may have yet, plans
+//! carried out, and bodies by hand. What scripts show stands in dialogues, which the built programs answer.
 #![tactic(auto)]
 
 #[cfg(test)]
@@ -9,7 +8,3 @@ mod bodies;
 mod elaboration;
 #[cfg(test)]
 mod lines;
-#[cfg(test)]
-mod std_functions;
-#[cfg(test)]
-mod tests;

@@ -1,41 +1,12 @@
-//! Every command, every form of a formula and every unit of time, lines that are none, and which refusal comes first.
-use formula_lang::{CheckFault, Kind, Names, check};
-use inc_value::Ty;
+//! Lines that no session hands on as they are, and the grammar of forms that no script may have yet.
 use line_parser::{Line, ParseFault, Time, is_here, parse};
-use std::alloc::Global;
+use node_arena::Library;
+use std::alloc::{AllocError, Global};
 use std_library::StdLib;
 
-/// Lines of forms that are here.
-const HERE: &[&str] = &[
-    "var x int 1",
-    "var x bool true",
-    "var x text \"a\"",
-    "set x -1",
-    "let y x",
-    "let y add(x, 1)",
-    "let y fold add from 0 [x]",
-    "var r node int &x",
-    "var r node bool &x",
-    "var r node text &x",
-    "var x int &x",
-    "set r &x",
-    "let y &x",
-    "let y f(&x)",
-    "let y fold f from &x []",
-    "let y if p then x else y",
-    "let y if if p then p else p then x else f(x)",
-    "let y join(r)",
-    "let y join(join(r))",
-    "let y bind v = x in v",
-    "let y bind v = x in bind w = v in f(v, w)",
-    "let y join(bind v = r in v)",
-    "grab g b",
-    "let y f(bind v = if p then x else y in fold f from 0 [v, x], 1)",
-    "observe o x",
-    "unobserve o",
-    "show o",
-    "stabilize",
-];
+const FORM: Option<ParseFault> = Some(ParseFault::Form);
+
+const LEVEL: Option<ParseFault> = Some(ParseFault::Level);
 
 /// Lines of forms that aren't here yet.
 const LATER: &[&str] = &[
@@ -74,37 +45,8 @@ const LATER: &[&str] = &[
     "advance-to   0",
 ];
 
-/// What is no line, though its bytes are tokens.
-const NONE: &[&str] = &[
-    "x",
-    "let",
-    "let y",
-    "let if 1",
-    "var x int",
-    "var x node &x",
-    "var x node node int &x",
-    "var x Int 1",
-    "var if int 1",
-    "var x int 1 1",
-    "set x",
-    "set x y",
-    "set 1 1",
-    "set x & x y",
-    "let y &if",
-    "let y &",
-    "let y &1",
-    "let y if p then x",
-    "let y if p x else x",
-    "let y if p then x else",
-    "let y if p then x else x x",
-    "let y then",
-    "let y bind v x in v",
-    "let y bind if = x in x",
-    "let y bind v = x",
-    "let y bind v = in x",
-    "let y join x",
-    "let y join()",
-    "let y join(x, x)",
+/// What is no line, though it begins as one of such a form.
+const NOT_LATER: &[&str] = &[
     "let y at",
     "let y at -5",
     "let y at x",
@@ -128,10 +70,6 @@ const NONE: &[&str] = &[
     "let y after",
     "let y after x",
     "let y every -1",
-    "let y f()",
-    "let y f(x x)",
-    "let y f(x]",
-    "let y f(1, 2, 3, 4, 5, 6, 7, 8, 9, 10)",
     "expert e add from 0",
     "expert e fold add 0",
     "expert e fold add from x",
@@ -143,8 +81,6 @@ const NONE: &[&str] = &[
     "unlink if x",
     "stale",
     "stale e x",
-    "grab g",
-    "grab g b b",
     "watch",
     "watch o o",
     "advance",
@@ -154,15 +90,50 @@ const NONE: &[&str] = &[
     "advance-to",
     "advance-to 5 5",
     "advance to 5",
-    "stabilize x",
-    "Stabilize",
-    "show",
-    "show o o",
-    "observe o",
-    "unobserve o o",
-    "let y 9223372036854775808",
-    "let y -9223372036854775809",
     "let y steps 0 [1: 9223372036854775808]",
+];
+
+/// What a session passes over or takes off, and a newline in each place: none of it is part of a line.
+const UNCUT: &[&str] = &[
+    " ",
+    "#",
+    "#show o",
+    "\r",
+    "show \r",
+    "show o\r",
+    "unobserve o\r",
+    "set x 1\r",
+    "\n",
+    "\nshow o",
+    "show\no",
+    "show \n",
+    "show o\n",
+    "unobserve\no",
+    "unobserve o\n",
+    "set x 1\n",
+    "set x \"\n\"",
+    "set x \"\\\n\"",
+    "let y fold f from 0 [\n]",
+    "let y fold f from 0 [x\nx]",
+    "let y fold f from 0 \n]",
+];
+
+/// Lines that are longer than a session takes, or of a form that isn't here yet, as a front, a piece and how often it
+/// stands, a middle, and an end that stands as often, with the fault of each.
+const LONG: &[(&str, &str, usize, &str, &str, Option<ParseFault>)] = &[
+    ("let y ", "f(", 10_000, "1", "", LEVEL),
+    ("", "(", 10_000, "", "", LEVEL),
+    ("", "[", 10_000, "", "", LEVEL),
+    ("let y ", "if ", 10_000, "", "", LEVEL),
+    ("let y ", "bind ", 10_000, "", "", LEVEL),
+    ("let y ", "fold f from 0 [", 10_000, "", "", LEVEL),
+    ("var x text \"", "a", 4096, "\"", "", None),
+    ("var x text \"", "a", 4097, "\"", "", FORM),
+    ("var x text \"", "\\\"", 4096, "\"", "", None),
+    ("var x text \"", "\\\"", 4097, "\"", "", FORM),
+    ("let y ", "freeze ", 10_000, "x", " when f", None),
+    ("let y ", "freeze ", 10_000, "x", "", FORM),
+    ("let y ", "freeze join(", 64, "x", ") when f", None),
 ];
 
 /// Times as they are written, with their nanoseconds; none where they are too large.
@@ -190,65 +161,14 @@ const TIMES: &[(&str, Option<u64>)] = &[
     ("000000000000000000000000000001s", Some(1_000_000_000)),
 ];
 
-/// Lines where `x` is declared and no observer is in use, each with the number of its refusal, and 0 for none.
-const REFUSED: &[(&str, u8)] = &[
-    ("let y neg(x)", 0),
-    ("set x 5", 0),
-    ("observe o x", 0),
-    ("let x freeze freeze q when foo when foo", 1),
-    ("watch o", 1),
-    ("advance 9223372036854775808", 1),
-    ("let y steps 0 [2: 1, 1: 1]", 1),
-    ("link q q", 1),
-    ("let x neg(q) ~", 1),
-    ("let x \"", 1),
-    ("let x 1s2", 1),
-    ("let x neg(q", 1),
-    ("let x 9223372036854775808", 1),
-    ("let x 5s", 1),
-    ("let y bind v = x in neg(v)", 0),
-    ("let y bind x = x in neg(x)", 0),
-    ("let y bind v = x in bind v = lt(v, 1) in not(v)", 0),
-    ("let y bind v = x in join(&x)", 0),
-    ("grab x q", 3),
-    ("grab y q", 4),
-    ("grab y x", 8),
-    ("let y bind v = v in x", 4),
-    ("let y bind v = x in w", 4),
-    ("let y add(bind v = x in v, v)", 4),
-    ("let y bind v = x in join(&v)", 4),
-    ("let y bind v = x in foo(v, w)", 4),
-    ("let y bind v = x in foo(true, v)", 5),
-    ("let y bind v = true in neg(v)", 6),
-    ("let y bind x = true in neg(x)", 6),
-    ("let x foo(q, true)", 3),
-    ("let x if foo(q) then 1 else true", 3),
-    ("var x bool 1", 3),
-    ("var x node int &q", 3),
-    ("let y foo(q, true)", 4),
-    ("let y if foo(x) then q else x", 4),
-    ("let y foo(&q)", 4),
-    ("var q node int &q", 4),
-    ("set q true", 4),
-    ("set q &q", 4),
-    ("set x &q", 4),
-    ("observe o q", 4),
-    ("let y foo(x, neg(true))", 5),
-    ("let y if foo(x) then x else join(x)", 5),
-    ("let y neg(true)", 6),
-    ("set x true", 6),
-    ("show o", 11),
-    ("unobserve o", 11),
-];
-
-/// Whether each line is read, and of forms that are here or not.
-fn are_read(alloc: Global, lines: &[&str], here: bool) -> bool {
+/// Whether each line is read, and is of a form that isn't here yet.
+fn are_later(alloc: Global, lines: &[&str]) -> bool {
     for line in lines {
         match parse(alloc, line.as_bytes()) {
             Ok(parsed) => {
-                let found = is_here(&parsed);
+                let here = is_here(&parsed);
                 drop(parsed);
-                if found != here {
+                if here {
                     return false;
                 }
             }
@@ -261,11 +181,52 @@ fn are_read(alloc: Global, lines: &[&str], here: bool) -> bool {
 /// Whether each line is none.
 fn are_none(alloc: Global, lines: &[&str]) -> bool {
     for line in lines {
-        if parse(alloc, line.as_bytes()).err() != Some(ParseFault::Form) {
+        if parse(alloc, line.as_bytes()).err() != FORM {
             return false;
         }
     }
     true
+}
+
+/// Makes the line of `front`, `count` times `piece`, `middle`, and `count` times `end`.
+fn make(
+    line: &mut Vec<u8>,
+    front: &str,
+    piece: &str,
+    count: usize,
+    middle: &str,
+    end: &str,
+) -> Result<(), AllocError> {
+    line.clear();
+    line.extend_from_slice(front.as_bytes())?;
+    for _ in 0..count {
+        line.extend_from_slice(piece.as_bytes())?;
+    }
+    line.extend_from_slice(middle.as_bytes())?;
+    for _ in 0..count {
+        line.extend_from_slice(end.as_bytes())?;
+    }
+    Ok(())
+}
+
+/// Whether the long lines, made in the buffer, have the faults of their rows.
+fn have_their_faults(alloc: Global, line: &mut Vec<u8>) -> bool {
+    for (front, piece, count, middle, end, fault) in LONG {
+        if make(line, front, piece, *count, middle, end).is_err()
+            || parse(alloc, line).err() != *fault
+        {
+            return false;
+        }
+    }
+    true
+}
+
+/// The same with a buffer of its own.
+fn tells_long_lines(alloc: Global) -> bool {
+    let mut line = Vec::new(alloc);
+    let well = have_their_faults(alloc, &mut line);
+    drop(line);
+    well
 }
 
 /// The time of an `advance`, if it is one.
@@ -305,51 +266,16 @@ fn are_times(alloc: Global, rows: &[(&str, Option<u64>)]) -> bool {
     true
 }
 
-/// The number of a line's refusal, and 0 for none.
-fn refusal(alloc: Global, names: &Names, line: &str) -> u8 {
-    match parse(alloc, line.as_bytes()) {
-        Ok(parsed) => {
-            let number = if is_here(&parsed) {
-                match check(alloc, &parsed, names, &StdLib::new()) {
-                    Ok(_) => 0,
-                    Err(CheckFault::Refusal(number)) => number,
-                    Err(CheckFault::Memory) => u8::MAX,
-                }
-            } else {
-                1
-            };
-            drop(parsed);
-            number
-        }
-        Err(ParseFault::Form) => 1,
-        Err(ParseFault::Level) => 25,
-        Err(ParseFault::Memory) => u8::MAX,
-    }
-}
-
-/// Whether the lines are refused as their rows say.
-fn are_refused(alloc: Global, names: &Names) -> bool {
-    for (line, number) in REFUSED {
-        if refusal(alloc, names, line) != *number {
-            return false;
-        }
-    }
-    true
-}
-
-/// The same with names of its own.
-fn refuses_well(alloc: Global) -> bool {
-    let mut names = Names::new(alloc);
-    let well = names.declare(b"x", Ty::Int, Kind::Var, 0).is_ok() && are_refused(alloc, &names);
-    drop(names);
-    well
+#[test]
+fn reads_lines(rt: HostRuntime) {
+    assert!(rt; are_later(rt.alloc(), LATER));
+    assert!(rt; are_none(rt.alloc(), NOT_LATER));
+    assert!(rt; are_none(rt.alloc(), UNCUT));
+    assert!(rt; tells_long_lines(rt.alloc()));
+    assert!(rt; are_times(rt.alloc(), TIMES));
 }
 
 #[test]
-fn reads_lines(rt: HostRuntime) {
-    assert!(rt; are_read(rt.alloc(), HERE, true));
-    assert!(rt; are_read(rt.alloc(), LATER, false));
-    assert!(rt; are_none(rt.alloc(), NONE));
-    assert!(rt; are_times(rt.alloc(), TIMES));
-    assert!(rt; refuses_well(rt.alloc()));
+fn no_function_lacks_a_name(rt: HostRuntime) {
+    assert!(rt; StdLib::new().find(b"").is_none());
 }

@@ -1,14 +1,10 @@
-//! Tests of whole runs of scripts: transcripts from outside, with the statuses and the numbers of calls, and runs that are
-//! cut off. They stand apart from the programs, which the gate would prove a second time for them.
+//! Tests of whole runs: worked scripts with their transcripts and with what each stabilize calls and builds, and runs that
+//! are cut off. They stand apart from the programs, which the gate would prove a second time for them.
 #![tactic(auto)]
 
 #[cfg(test)]
-mod binds;
+mod driver;
 #[cfg(test)]
-mod choices;
-#[cfg(test)]
-mod runs;
-#[cfg(test)]
-mod scripts;
+mod rows;
 #[cfg(test)]
 mod tests;

@@ -1,6 +1,6 @@
 use Rattle.std.proofs.Common.{rules}
 use Rattle.std.proofs.lemmas.Slice.Eq.{slice_eq-Decides}
-use Rattle.language_tests.proofs.std_functions.are_same.Goals as goal
+use Rattle.language_tests.proofs.elaboration.are_same.Goals as goal
 
 -- the types are compared one for one
 pub returns : goal.returns
