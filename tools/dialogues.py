@@ -52,9 +52,9 @@ class Dialogue:
         self.name = name
         self.turns = []
 
-    def script(self):
-        """Returns the script's bytes."""
-        return b"".join(line for line, _ in self.turns)
+    def lines(self):
+        """Returns the lines of the script."""
+        return [line for line, _ in self.turns]
 
     def answers(self, program):
         """Returns the bytes that a program is to write behind each line."""
@@ -117,19 +117,18 @@ def read(file):
     return found
 
 
-def whole(program, script, answers):
-    """Runs a program over a file. Returns what it writes, and its status."""
-    del answers
+def whole(program, lines, _):
+    """Runs a program over a file of lines. Returns what it writes, and its status."""
     with tempfile.TemporaryFile() as source:
-        source.write(script)
+        source.write(b"".join(lines))
         source.seek(0)
         ran = subprocess.run([program, "run"], stdin=source, stdout=subprocess.PIPE, timeout=3 * PATIENCE, check=False)
     return ran.stdout, ran.returncode
 
 
-def in_pieces(program, script, answers):
+def in_pieces(program, lines, _):
     """The same, with as many bytes a read as a packet has."""
-    del answers
+    script = b"".join(lines)
     size = 1 if len(script) <= SHORT else 7
     feeding, source = socket.socketpair(socket.AF_UNIX, socket.SOCK_SEQPACKET)
 
@@ -150,12 +149,12 @@ def in_pieces(program, script, answers):
     return written, ran.returncode
 
 
-def line_by_line(program, script, answers):
-    """The same, where a line is written once as many bytes are there as the answers to the lines before have."""
+def line_by_line(program, lines, answers):
+    """The same, where a line is written once as many bytes are there as the answer to the last one has."""
     written = b""
     with subprocess.Popen([program, "run"], stdin=subprocess.PIPE, stdout=subprocess.PIPE, bufsize=0) as ran:
         try:
-            for line, answer in zip(script.splitlines(keepends=True), answers):
+            for line, answer in zip(lines, answers):
                 ran.stdin.write(line)
                 lacking = len(answer) if line.endswith(b"\n") else 0
                 while lacking and select.select([ran.stdout], [], [], PATIENCE)[0]:
@@ -187,7 +186,7 @@ def run_all(dialogues):
         for dialogue in dialogues:
             answers = dialogue.answers(name)
             for way in (whole, in_pieces, line_by_line):
-                written, status = way(program, dialogue.script(), answers)
+                written, status = way(program, dialogue.lines(), answers)
                 if (written, status) == (b"".join(answers), dialogue.status()):
                     passed += 1
                     continue
@@ -206,7 +205,7 @@ def judge_all(dialogues, model):
     for dialogue in dialogues:
         ran = [answer for _, answer in dialogue.turns if answer and re.match(rb"stable \d|refused 2[01] ", answer[0])]
         calls = [int(answer[1][len("calls "):]) if len(answer) > 1 else None for answer in ran]
-        verdict = judge.judge(dialogue.script(), b"".join(dialogue.answers("incr")), THROUGH, calls, walks=True)
+        verdict = judge.judge(b"".join(dialogue.lines()), b"".join(dialogue.answers("incr")), THROUGH, calls, walks=True)
         passed, failed = passed + verdict.ok, failed + (not verdict.ok)
         if not verdict.ok:
             print(f"dialogues: {dialogue.name}: {verdict.message}: line {verdict.script_line} of the script, "
@@ -218,7 +217,7 @@ def write_cases(folder, dialogues):
     """Writes each script as a file, and one of what incr is to write."""
     folder.mkdir()
     for number, dialogue in enumerate(dialogues):
-        (folder / f"{number:02}").write_bytes(dialogue.script())
+        (folder / f"{number:02}").write_bytes(b"".join(dialogue.lines()))
         (folder / f"{number:02}.stdout").write_bytes(b"".join(dialogue.answers("incr")))
 
 

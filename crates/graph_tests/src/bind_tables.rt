@@ -1,63 +1,8 @@
-//! Acts on graphs with binds as tables, with the number that each answers.
+//! Tables of acts on graphs with binds, with the number that each answers.
 
-use crate::binding::{NO_MEMORY, bind, nested};
 use crate::bodies::Side;
-use crate::tests::{
-    Scripted, called, choice, code, live, made, map, negations, nth, observed, points, shown,
-    stabilized, told, var,
-};
-use graph::Graph;
-use inc_value::{Base, NodeId, ObsId, Ty, Value};
-use script_functions::ScriptFns;
-use std::alloc::Global;
-use std_library::{Function, StdLib};
-
-/// What is done to a graph. Nodes and observers go by the order in which they were made or grabbed.
-#[derive(Clone, Copy)]
-enum Act {
-    Var(i64),
-    /// Makes a variable that holds a truth.
-    Truth(bool),
-    /// Makes a variable that refers to a node of numbers.
-    Refer(usize),
-    Neg(usize),
-    Not(usize),
-    /// Makes a node that reads its second node where the first is true, else the third.
-    If(usize, usize, usize),
-    /// The same, of nodes that refer to others.
-    IfRefer(usize, usize, usize),
-    /// Makes so many negations over a node, each over the one before.
-    Negations(usize, usize),
-    /// Makes a node that reads the node of numbers to which a node refers.
-    Join(usize),
-    /// Makes a bind on a node.
-    Bind(usize, Side),
-    /// Makes a bind on the first node, whose right sides are binds on the second, whose right sides are sums of both
-    /// values.
-    Nested(usize, usize),
-    /// The present root of a bind is a node from then on. 1 where there is one.
-    Grab(usize),
-    /// Makes a bind on a node and takes it back.
-    BindAndTakeBack(usize),
-    Set(usize, i64),
-    SetTruth(usize, bool),
-    /// Has a variable refer to another node.
-    SetTarget(usize, usize),
-    Observe(usize),
-    Unobserve(u32),
-    Stabilize,
-    Show(u32),
-    Live(usize),
-    /// The place of the first node that is a node's owner, -1 where it has none.
-    Owner(usize),
-    /// How many functions were called since the graph was made.
-    Calls,
-    /// How often right sides were built since the graph was made, and how many nodes were added for them.
-    Builds,
-    Adds,
-    /// How many points a refused stabilize met.
-    Points,
-}
+use crate::tables::Act;
+use std_library::Function;
 
 /// A sum with the left value: built where the left changes alone.
 const SUM: &[(Act, i64)] = &[
@@ -194,7 +139,7 @@ const CHOICE_WITHIN: &[(Act, i64)] = &[
 const DEAD_READER: &[(Act, i64)] = &[
     (Act::Var(1), 0),
     (Act::Var(1), 0),
-    (Act::Neg(1), 0),
+    (Act::Map(Function::Neg, 1, 0, 0), 0),
     (Act::Bind(0, Side::NegOf(2)), 0),
     (Act::Observe(3), 0),
     (Act::Stabilize, 2),
@@ -211,7 +156,7 @@ const DEAD_READER: &[(Act, i64)] = &[
 /// The same, with its nodes made in another order.
 const DEAD_READER_TURNED: &[(Act, i64)] = &[
     (Act::Var(1), 0),
-    (Act::Neg(0), 0),
+    (Act::Map(Function::Neg, 0, 0, 0), 0),
     (Act::Var(1), 0),
     (Act::Bind(2, Side::NegOf(1)), 0),
     (Act::Observe(3), 0),
@@ -235,7 +180,7 @@ const PASSING_CIRCLE: &[(Act, i64)] = &[
     (Act::Observe(4), 0),
     (Act::Stabilize, 1),
     (Act::Grab(4), 1),
-    (Act::Neg(5), 0),
+    (Act::Map(Function::Neg, 5, 0, 0), 0),
     (Act::Observe(6), 0),
     (Act::Stabilize, 1),
     (Act::Set(0, 2), 0),
@@ -256,7 +201,7 @@ const PASSING_CIRCLE_TURNED: &[(Act, i64)] = &[
     (Act::Stabilize, 1),
     (Act::Grab(4), 1),
     (Act::Unobserve(0), 0),
-    (Act::Neg(5), 0),
+    (Act::Map(Function::Neg, 5, 0, 0), 0),
     (Act::Observe(6), 0),
     (Act::Observe(4), 0),
     (Act::Stabilize, 1),
@@ -292,7 +237,7 @@ const JOINED_ROOT: &[(Act, i64)] = &[
 const OUTSIDE_ROOT: &[(Act, i64)] = &[
     (Act::Var(1), 0),
     (Act::Var(7), 0),
-    (Act::Neg(1), 0),
+    (Act::Map(Function::Neg, 1, 0, 0), 0),
     (Act::Bind(0, Side::Outside(2)), 0),
     (Act::Observe(3), 0),
     (Act::Stabilize, 1),
@@ -428,8 +373,8 @@ const SCOPE_TURNED_AWAY_FROM: &[(Act, i64)] = &[
     (Act::Unobserve(0), 0),
     (Act::Negations(0, 126), 0),
     (Act::Truth(true), 0),
-    (Act::Not(131), 0),
-    (Act::Not(132), 0),
+    (Act::Map(Function::Not, 131, 0, 0), 0),
+    (Act::Map(Function::Not, 132, 0, 0), 0),
     (Act::If(133, 4, 0), 0),
     (Act::Observe(134), 0),
     (Act::Observe(130), 0),
@@ -451,10 +396,10 @@ const UNNEEDED_FOR_A_WHILE: &[(Act, i64)] = &[
     (Act::Refer(1), 0),
     (Act::Bind(0, Side::JoinOrNeg(2)), 0),
     (Act::Truth(true), 0),
-    (Act::Not(4), 0),
-    (Act::Not(5), 0),
-    (Act::Not(6), 0),
-    (Act::Not(7), 0),
+    (Act::Map(Function::Not, 4, 0, 0), 0),
+    (Act::Map(Function::Not, 5, 0, 0), 0),
+    (Act::Map(Function::Not, 6, 0, 0), 0),
+    (Act::Map(Function::Not, 7, 0, 0), 0),
     (Act::Refer(3), 0),
     (Act::Refer(1), 0),
     (Act::IfRefer(8, 9, 10), 0),
@@ -487,10 +432,10 @@ const PUT_BACK_IN_THE_HAND: &[(Act, i64)] = &[
     (Act::Stabilize, 0),
     (Act::Grab(3), 1),
     (Act::Truth(true), 0),
-    (Act::Not(5), 0),
-    (Act::Not(6), 0),
-    (Act::Not(7), 0),
-    (Act::Not(8), 0),
+    (Act::Map(Function::Not, 5, 0, 0), 0),
+    (Act::Map(Function::Not, 6, 0, 0), 0),
+    (Act::Map(Function::Not, 7, 0, 0), 0),
+    (Act::Map(Function::Not, 8, 0, 0), 0),
     (Act::Refer(4), 0),
     (Act::Refer(1), 0),
     (Act::IfRefer(9, 10, 11), 0),
@@ -557,7 +502,7 @@ const SIDES_THAT_CHANGE_PLACES: &[(Act, i64)] = &[
     (Act::Stabilize, -120),
 ];
 
-const TABLES: &[&[(Act, i64)]] = &[
+pub(crate) const BIND_TABLES: &[&[(Act, i64)]] = &[
     SUM,
     SUM_TURNED,
     NESTED,
@@ -581,145 +526,3 @@ const TABLES: &[&[(Act, i64)]] = &[
     DEEP_RIGHT_SIDE,
     SIDES_THAT_CHANGE_PLACES,
 ];
-
-/// The present root of a bind is a node from then on.
-fn grab(graph: &Scripted, nodes: &mut Vec<NodeId>, bind: NodeId) -> i64 {
-    match graph.right_side(bind) {
-        Ok(Some(root)) => match nodes.push(root) {
-            Ok(()) => 1,
-            Err(_) => NO_MEMORY,
-        },
-        Ok(None) => 0,
-        Err(fault) => code(fault),
-    }
-}
-
-/// Makes a bind on a node and takes it back.
-fn bind_and_take_back(
-    alloc: Global,
-    graph: &mut Scripted,
-    nodes: &mut Vec<NodeId>,
-    left: usize,
-) -> i64 {
-    let mark = match graph.mark() {
-        Ok(mark) => mark,
-        Err(fault) => return code(fault),
-    };
-    let bound = bind(alloc, graph, nodes, left, Side::NegLeft);
-    match graph.back_to(mark) {
-        Ok(()) => bound,
-        Err(fault) => code(fault),
-    }
-}
-
-/// The place of the first node that is a node's owner.
-fn owner(graph: &Scripted, nodes: &[NodeId], node: NodeId) -> i64 {
-    let Some(top) = graph.owner(node) else {
-        return -1;
-    };
-    for place in 0..nodes.len() {
-        if nodes[place] == top {
-            return place as i64;
-        }
-    }
-    -2
-}
-
-/// A count as a number.
-fn number(count: u64) -> i64 {
-    i64::try_from(count).unwrap_or(i64::MAX)
-}
-
-/// Does an act that makes nodes.
-fn make(alloc: Global, graph: &mut Scripted, nodes: &mut Vec<NodeId>, act: Act) -> i64 {
-    match act {
-        Act::Var(value) => var(graph, nodes, value),
-        Act::Refer(target) => made(nodes, graph.var(Value::Node(nth(nodes, target), Base::Int))),
-        Act::Truth(holds) => made(nodes, graph.var(Value::Bool(holds))),
-        Act::Neg(kid) => map(graph, nodes, Function::Neg, &[nth(nodes, kid)]),
-        Act::Not(kid) => map(graph, nodes, Function::Not, &[nth(nodes, kid)]),
-        Act::If(test, yes, no) => {
-            let kids = [nth(nodes, test), nth(nodes, yes), nth(nodes, no)];
-            choice(graph, nodes, Ty::Int, kids)
-        }
-        Act::IfRefer(test, yes, no) => {
-            let kids = [nth(nodes, test), nth(nodes, yes), nth(nodes, no)];
-            choice(graph, nodes, Ty::Node(Base::Int), kids)
-        }
-        Act::Negations(kid, length) => negations(graph, nodes, kid, length),
-        Act::Join(kid) => made(nodes, graph.join(Ty::Int, nth(nodes, kid))),
-        Act::Bind(left, side) => bind(alloc, graph, nodes, left, side),
-        Act::Nested(left, right) => nested(alloc, graph, nodes, left, right),
-        Act::BindAndTakeBack(left) => bind_and_take_back(alloc, graph, nodes, left),
-        Act::Grab(place) => grab(graph, nodes, nth(nodes, place)),
-        _ => -113,
-    }
-}
-
-fn perform(alloc: Global, graph: &mut Scripted, nodes: &mut Vec<NodeId>, act: Act) -> i64 {
-    match act {
-        Act::Set(i, value) => told(graph.set_var(nth(nodes, i), Value::Int(value))),
-        Act::SetTruth(i, holds) => told(graph.set_var(nth(nodes, i), Value::Bool(holds))),
-        Act::SetTarget(i, target) => {
-            told(graph.set_var(nth(nodes, i), Value::Node(nth(nodes, target), Base::Int)))
-        }
-        Act::Observe(i) => observed(graph, nth(nodes, i)),
-        Act::Unobserve(observer) => told(graph.unobserve(ObsId(observer))),
-        Act::Stabilize => stabilized(graph),
-        Act::Show(observer) => shown(graph, observer),
-        Act::Live(i) => live(graph, nth(nodes, i)),
-        Act::Owner(i) => owner(graph, nodes, nth(nodes, i)),
-        Act::Calls => called(graph),
-        Act::Builds => number(graph.functions().builds()),
-        Act::Adds => number(graph.functions().adds()),
-        Act::Points => points(graph),
-        _ => make(alloc, graph, nodes, act),
-    }
-}
-
-/// The first place at which an act answers another number, with that number, as one: 0 where none does.
-fn first_other(
-    alloc: Global,
-    graph: &mut Scripted,
-    nodes: &mut Vec<NodeId>,
-    acts: &[(Act, i64)],
-) -> i64 {
-    let mut place: i64 = 0;
-    for (act, wanted) in acts {
-        place = place.saturating_add(1);
-        let answer = perform(alloc, graph, nodes, *act);
-        if answer != *wanted {
-            return place.saturating_mul(1000).saturating_add(answer);
-        }
-    }
-    0
-}
-
-/// What the acts answer otherwise than is wanted, done to a new graph.
-fn other_in(alloc: Global, acts: &[(Act, i64)]) -> i64 {
-    let mut graph = Graph::new(alloc, ScriptFns::new(alloc, StdLib::new()));
-    let mut nodes = Vec::new(alloc);
-    let other = first_other(alloc, &mut graph, &mut nodes, acts);
-    drop(nodes);
-    drop(graph);
-    other
-}
-
-/// The first table that answers otherwise than is wanted, with the place and the answer; 0 where none does.
-fn first_table(alloc: Global) -> i64 {
-    let mut table: i64 = 0;
-    for acts in TABLES {
-        table = table.saturating_add(1);
-        let other = other_in(alloc, acts);
-        if other != 0 {
-            return table.saturating_mul(1_000_000).saturating_add(other);
-        }
-    }
-    0
-}
-
-#[test]
-fn binds_answer_their_numbers(rt: HostRuntime) {
-    let other = first_table(rt.alloc());
-    assert_eq!(rt; other, 0);
-}

@@ -214,3 +214,21 @@ pub(crate) fn nested(
         Err(number) => number,
     }
 }
+
+/// Makes a bind on a node and takes it back.
+pub(crate) fn bind_and_take_back(
+    alloc: Global,
+    graph: &mut Scripted,
+    nodes: &mut Vec<NodeId>,
+    left: usize,
+) -> i64 {
+    let mark = match graph.mark() {
+        Ok(mark) => mark,
+        Err(fault) => return code(fault),
+    };
+    let bound = bind(alloc, graph, nodes, left, Side::NegLeft);
+    match graph.back_to(mark) {
+        Ok(()) => bound,
+        Err(fault) => code(fault),
+    }
+}

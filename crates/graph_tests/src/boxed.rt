@@ -3,7 +3,7 @@ ghost use Rattle.std.specs.Prelude.{◌≡◌, [], IfSome, IsTrue};
 ghost use Rattle.inc_value.specs.declared.function.FnKind.TheVariants.{Map};
 ghost use Rattle.node_arena.specs.Meanings.{KeepsKnown};
 
-use closure_tests::{Neg, NegOfLeft, Sum, Table};
+use closure_examples::{Neg, NegOfLeft, Sum, Table};
 use closures::Closures;
 use graph::Graph;
 use inc_value::{Base, FnRef, NodeId, ObsId, Outcome, Value};
@@ -124,7 +124,7 @@ fn negation_follows<F: Functions>(alloc: Global, functions: F, negation: FnRef) 
 }
 
 /// Keeps the function, if it has the types of a map.
-fn keep_map(functions: &mut Closures, function: Box<dyn MapFn>) -> Option<FnRef>
+pub(crate) fn keep_map(functions: &mut Closures, function: Box<dyn MapFn>) -> Option<FnRef>
     requires { ⟦<Closures as Functions>⟧.is_sound functions.old }
     ensures sound { ⟦<Closures as Functions>⟧.is_sound functions.new }
     ensures known { IfSome result (λ f. IsTrue (⟦<Closures as Functions>⟧.known functions.new f)) }

@@ -11,6 +11,8 @@ mod bodies;
 #[cfg(test)]
 mod boxed;
 #[cfg(test)]
+mod keeping;
+#[cfg(test)]
 mod tables;
 #[cfg(test)]
 mod tests;

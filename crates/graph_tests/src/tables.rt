@@ -1,8 +1,9 @@
-//! Tables of acts on a graph, with the number that each answers.
+//! Tables of acts on a graph without binds, with the number that each answers.
 
+use crate::bodies::Side;
 use std_library::Function;
 
-/// What is done to a graph. Nodes and observers go by the order in which they were made.
+/// What is done to a graph. Nodes and observers go by the order in which they were made or grabbed.
 #[derive(Clone, Copy)]
 pub(crate) enum Act {
     Constant(i64),
@@ -27,6 +28,17 @@ pub(crate) enum Act {
     Fold(i64, usize, usize, usize),
     /// Makes the fold from a number on over no nodes.
     FoldNone(i64),
+    /// Makes the negation of a node and the negation of that, and takes both back.
+    TakeBack(usize),
+    /// Makes a bind on a node.
+    Bind(usize, Side),
+    /// Makes a bind on the first node, whose right sides are binds on the second, whose right sides are sums of both
+    /// values.
+    Nested(usize, usize),
+    /// Makes a bind on a node and takes it back.
+    BindAndTakeBack(usize),
+    /// The present root of a bind is a node from then on. 1 where there is one.
+    Grab(usize),
     Set(usize, i64),
     SetTruth(usize, bool),
     /// Has a variable refer to another node.
@@ -41,11 +53,9 @@ pub(crate) enum Act {
     /// Stabilizes, and where that is refused tries to go back to a mark made before it.
     StabilizeOrBack,
     Show(u32),
-    /// Makes the negation of a node and the negation of that, and takes both back.
-    TakeBack(usize),
     /// Whether a node is live.
     Live(usize),
-    /// Whether a node is its own owner.
+    /// The place of the first node that is a node's owner, -1 where it has none.
     Owner(usize),
     /// How often a node's function was called in the last accepted stabilize.
     Ran(usize),
@@ -53,6 +63,9 @@ pub(crate) enum Act {
     First(usize),
     /// How many functions were called since the graph was made.
     Calls,
+    /// How often right sides were built since the graph was made, and how many nodes were added for them.
+    Builds,
+    Adds,
     /// How many points a refused stabilize met.
     Points,
 }
@@ -271,7 +284,7 @@ const TAKEN_BACK: &[(Act, i64)] = &[
     (Act::Live(1), 1),
     (Act::Live(2), 0),
     (Act::Live(3), 0),
-    (Act::Owner(3), 0),
+    (Act::Owner(3), -1),
     (Act::Set(2, 1), -103),
     (Act::Var(5), 0),
     (Act::Live(4), 1),
@@ -432,7 +445,7 @@ const CHAIN_THAT_FITS: &[(Act, i64)] = &[
     (Act::TakeBack(0), 0),
     (Act::Live(0), 1),
     (Act::Stabilize, 0),
-    (Act::Owner(0), 1),
+    (Act::Owner(0), 0),
     (Act::Points, 0),
 ];
 
@@ -450,7 +463,7 @@ const CHAIN_THAT_BREAKS: &[(Act, i64)] = &[
     (Act::TakeBack(0), -101),
     (Act::Live(0), -101),
     (Act::Stabilize, -101),
-    (Act::Owner(0), 1),
+    (Act::Owner(0), 0),
     (Act::Points, 130),
 ];
 

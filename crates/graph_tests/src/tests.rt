@@ -1,5 +1,7 @@
 //! Acts on a graph, done in the order of their tables.
 
+use crate::bind_tables::BIND_TABLES;
+use crate::binding::{NO_MEMORY, bind, bind_and_take_back, nested};
 use crate::tables::{Act, TABLES};
 use graph::{Cutoff, Graph, GraphFault, Kept, Refused, StabilizeFault};
 use inc_value::{Base, NodeId, ObsId, Outcome, Ty, Value};
@@ -46,7 +48,7 @@ pub(crate) fn made(nodes: &mut Vec<NodeId>, answer: Result<NodeId, GraphFault>) 
 }
 
 /// 0, or the fault's number.
-pub(crate) fn told(answer: Result<(), GraphFault>) -> i64 {
+fn told(answer: Result<(), GraphFault>) -> i64 {
     match answer {
         Ok(()) => 0,
         Err(fault) => code(fault),
@@ -54,7 +56,7 @@ pub(crate) fn told(answer: Result<(), GraphFault>) -> i64 {
 }
 
 /// The number that is shown, or the fault's. Invalid has a number of its own.
-pub(crate) fn shown(graph: &Scripted, observer: u32) -> i64 {
+fn shown(graph: &Scripted, observer: u32) -> i64 {
     match graph.value(ObsId(observer)) {
         Ok(Outcome::Val(Value::Int(number))) => *number,
         Ok(_) => -109,
@@ -74,7 +76,7 @@ fn refusal(fault: StabilizeFault) -> i64 {
 }
 
 /// How many functions were called, or why none was.
-pub(crate) fn stabilized(graph: &mut Scripted) -> i64 {
+fn stabilized(graph: &mut Scripted) -> i64 {
     match graph.stabilize() {
         Ok(()) => graph.round().ran.len() as i64,
         Err(fault) => refusal(fault),
@@ -112,19 +114,11 @@ fn taken_back(graph: &mut Scripted, nodes: &mut Vec<NodeId>, kid: NodeId) -> i64
 }
 
 /// 1 where the node is live, else 0, or the fault's number.
-pub(crate) fn live(graph: &Scripted, node: NodeId) -> i64 {
+fn live(graph: &Scripted, node: NodeId) -> i64 {
     match graph.is_live(node) {
         Ok(true) => 1,
         Ok(false) => 0,
         Err(fault) => code(fault),
-    }
-}
-
-/// 1 where the node is its own owner, else 0.
-fn owned(graph: &Scripted, node: NodeId) -> i64 {
-    match graph.owner(node) {
-        Some(owner) if owner == node => 1,
-        _ => 0,
     }
 }
 
@@ -148,7 +142,7 @@ fn ran_first(graph: &Scripted, node: NodeId) -> i64 {
 }
 
 /// How many functions were called since the graph was made.
-pub(crate) fn called(graph: &Scripted) -> i64 {
+fn called(graph: &Scripted) -> i64 {
     match i64::try_from(graph.functions().library().calls()) {
         Ok(calls) => calls,
         Err(_) => -114,
@@ -156,7 +150,7 @@ pub(crate) fn called(graph: &Scripted) -> i64 {
 }
 
 /// How many points a refused stabilize met in a row; 0 of an unbroken graph.
-pub(crate) fn points(graph: &Scripted) -> i64 {
+fn points(graph: &Scripted) -> i64 {
     match graph.broken() {
         Some(Refused::Height(points) | Refused::Cycle(points)) => points.len() as i64,
         Some(_) => -110,
@@ -164,24 +158,19 @@ pub(crate) fn points(graph: &Scripted) -> i64 {
     }
 }
 
-pub(crate) fn observed(graph: &mut Scripted, node: NodeId) -> i64 {
+fn observed(graph: &mut Scripted, node: NodeId) -> i64 {
     match graph.observe(node) {
         Ok(_) => 0,
         Err(fault) => code(fault),
     }
 }
 
-pub(crate) fn var(graph: &mut Scripted, nodes: &mut Vec<NodeId>, value: i64) -> i64 {
+fn var(graph: &mut Scripted, nodes: &mut Vec<NodeId>, value: i64) -> i64 {
     made(nodes, graph.var(Value::Int(value)))
 }
 
 /// Makes a map of as many of the nodes as its function takes.
-pub(crate) fn map(
-    graph: &mut Scripted,
-    nodes: &mut Vec<NodeId>,
-    function: Function,
-    kids: &[NodeId],
-) -> i64 {
+fn map(graph: &mut Scripted, nodes: &mut Vec<NodeId>, function: Function, kids: &[NodeId]) -> i64 {
     let f = function.reference();
     let count = f.sig.takes().len().min(kids.len());
     made(nodes, graph.map(f, &kids[..count]))
@@ -194,23 +183,13 @@ fn fold(graph: &mut Scripted, nodes: &mut Vec<NodeId>, initial: i64, kids: &[Nod
 }
 
 /// Makes a node that reads its second node where the first is true, else the third.
-pub(crate) fn choice(
-    graph: &mut Scripted,
-    nodes: &mut Vec<NodeId>,
-    ty: Ty,
-    kids: [NodeId; 3],
-) -> i64 {
+fn choice(graph: &mut Scripted, nodes: &mut Vec<NodeId>, ty: Ty, kids: [NodeId; 3]) -> i64 {
     let [test, yes, no] = kids;
     made(nodes, graph.if_(ty, test, yes, no))
 }
 
 /// Makes so many negations over a node, each over the one before.
-pub(crate) fn negations(
-    graph: &mut Scripted,
-    nodes: &mut Vec<NodeId>,
-    kid: usize,
-    length: usize,
-) -> i64 {
+fn negations(graph: &mut Scripted, nodes: &mut Vec<NodeId>, kid: usize, length: usize) -> i64 {
     let mut worst = 0;
     let mut below = nth(nodes, kid);
     for _ in 0..length {
@@ -262,21 +241,64 @@ fn make(graph: &mut Scripted, nodes: &mut Vec<NodeId>, act: Act) -> i64 {
     }
 }
 
+/// The place of the first node that is a node's owner.
+fn owner(graph: &Scripted, nodes: &[NodeId], node: NodeId) -> i64 {
+    let Some(top) = graph.owner(node) else {
+        return -1;
+    };
+    for place in 0..nodes.len() {
+        if nodes[place] == top {
+            return place as i64;
+        }
+    }
+    -2
+}
+
+/// A count as a number.
+fn number(count: u64) -> i64 {
+    i64::try_from(count).unwrap_or(i64::MAX)
+}
+
+/// The present root of a bind is a node from then on.
+fn grab(graph: &Scripted, nodes: &mut Vec<NodeId>, bind: NodeId) -> i64 {
+    match graph.right_side(bind) {
+        Ok(Some(root)) => match nodes.push(root) {
+            Ok(()) => 1,
+            Err(_) => NO_MEMORY,
+        },
+        Ok(None) => 0,
+        Err(fault) => code(fault),
+    }
+}
+
 /// Does an act that only looks.
 fn look(graph: &Scripted, nodes: &[NodeId], act: Act) -> i64 {
     match act {
         Act::Show(observer) => shown(graph, observer),
         Act::Live(i) => live(graph, nth(nodes, i)),
-        Act::Owner(i) => owned(graph, nth(nodes, i)),
+        Act::Owner(i) => owner(graph, nodes, nth(nodes, i)),
         Act::Ran(i) => times_run(graph, nth(nodes, i)),
         Act::First(i) => ran_first(graph, nth(nodes, i)),
         Act::Calls => called(graph),
+        Act::Builds => number(graph.functions().builds()),
+        Act::Adds => number(graph.functions().adds()),
         Act::Points => points(graph),
         _ => -113,
     }
 }
 
-fn perform(graph: &mut Scripted, nodes: &mut Vec<NodeId>, act: Act) -> i64 {
+/// Does an act that makes a bind, or a node of one.
+fn make_bind(alloc: Global, graph: &mut Scripted, nodes: &mut Vec<NodeId>, act: Act) -> i64 {
+    match act {
+        Act::Bind(left, side) => bind(alloc, graph, nodes, left, side),
+        Act::Nested(left, right) => nested(alloc, graph, nodes, left, right),
+        Act::BindAndTakeBack(left) => bind_and_take_back(alloc, graph, nodes, left),
+        Act::Grab(place) => grab(graph, nodes, nth(nodes, place)),
+        _ => make(graph, nodes, act),
+    }
+}
+
+fn perform(alloc: Global, graph: &mut Scripted, nodes: &mut Vec<NodeId>, act: Act) -> i64 {
     match act {
         Act::Set(i, value) => told(graph.set_var(nth(nodes, i), Value::Int(value))),
         Act::SetTruth(i, holds) => told(graph.set_var(nth(nodes, i), Value::Bool(holds))),
@@ -292,43 +314,60 @@ fn perform(graph: &mut Scripted, nodes: &mut Vec<NodeId>, act: Act) -> i64 {
         Act::Show(_) | Act::Live(_) | Act::Owner(_) | Act::Ran(_) | Act::First(_) => {
             look(graph, nodes, act)
         }
-        Act::Calls | Act::Points => look(graph, nodes, act),
-        _ => make(graph, nodes, act),
+        Act::Calls | Act::Builds | Act::Adds | Act::Points => look(graph, nodes, act),
+        _ => make_bind(alloc, graph, nodes, act),
     }
 }
 
-/// Whether each act answers its number.
-fn does_all(graph: &mut Scripted, nodes: &mut Vec<NodeId>, acts: &[(Act, i64)]) -> bool {
+/// The first place at which an act answers another number, with that number, as one: 0 where none does.
+fn first_other(
+    alloc: Global,
+    graph: &mut Scripted,
+    nodes: &mut Vec<NodeId>,
+    acts: &[(Act, i64)],
+) -> i64 {
+    let mut place: i64 = 0;
     for (act, wanted) in acts {
-        if perform(graph, nodes, *act) != *wanted {
-            return false;
+        place = place.saturating_add(1);
+        let answer = perform(alloc, graph, nodes, *act);
+        if answer != *wanted {
+            return place.saturating_mul(1000).saturating_add(answer);
         }
     }
-    true
+    0
 }
 
-/// Whether the acts, done to a new graph, answer what is wanted. The graph is let go in one place, since each place where
-/// it may be costs a proof.
-fn is_done(alloc: Global, acts: &[(Act, i64)]) -> bool {
+/// What the acts answer otherwise than is wanted, done to a new graph.
+fn other_in(alloc: Global, acts: &[(Act, i64)]) -> i64 {
     let mut graph = Graph::new(alloc, ScriptFns::new(alloc, StdLib::new()));
     let mut nodes = Vec::new(alloc);
-    let well = does_all(&mut graph, &mut nodes, acts);
+    let other = first_other(alloc, &mut graph, &mut nodes, acts);
     drop(nodes);
     drop(graph);
-    well
+    other
 }
 
-/// Whether that is so of each table.
-fn are_done(alloc: Global) -> bool {
-    for acts in TABLES {
-        if !is_done(alloc, acts) {
-            return false;
+/// The first table that answers otherwise than is wanted, with the place and the answer; 0 where none does.
+fn first_table(alloc: Global, tables: &[&[(Act, i64)]]) -> i64 {
+    let mut table: i64 = 0;
+    for acts in tables {
+        table = table.saturating_add(1);
+        let other = other_in(alloc, acts);
+        if other != 0 {
+            return table.saturating_mul(1_000_000).saturating_add(other);
         }
     }
-    true
+    0
 }
 
 #[test]
 fn acts_answer_their_numbers(rt: HostRuntime) {
-    assert!(rt; are_done(rt.alloc()));
+    let other = first_table(rt.alloc(), TABLES);
+    assert_eq!(rt; other, 0);
+}
+
+#[test]
+fn binds_answer_their_numbers(rt: HostRuntime) {
+    let other = first_table(rt.alloc(), BIND_TABLES);
+    assert_eq!(rt; other, 0);
 }

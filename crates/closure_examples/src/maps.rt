@@ -1,0 +1,53 @@
+//! Maps of integers.
+
+use inc_value::{Sig, Ty, Value};
+use node_arena::MapFn;
+use std::alloc::{AllocError, Global};
+
+/// The negation of an integer, wrapping at 64 bits.
+#[derive(Drop)]
+pub struct Neg {}
+
+impl MapFn for Neg {
+    ghost use Rattle.closure_examples.specs.Arithmetic.{int_to_int, negation_of};
+
+    ghost map_sig = { λ s. int_to_int };
+
+    ghost map_value = { λ s args. negation_of args };
+
+    fn sig(&self) -> Sig {
+        Sig::new(&[Ty::Int], Ty::Int)
+    }
+
+    fn apply(&mut self, alloc: Global, args: &[Value]) -> Result<Value, AllocError> {
+        let _ = alloc;
+        match args {
+            [Value::Int(number)] => Ok(Value::Int(number.wrapping_neg())),
+            _ => Ok(Value::Int(0)),
+        }
+    }
+}
+
+/// The sum of two integers, wrapping at 64 bits.
+#[derive(Drop)]
+pub struct Sum {}
+
+impl MapFn for Sum {
+    ghost use Rattle.closure_examples.specs.Arithmetic.{ints_to_int, sum_of};
+
+    ghost map_sig = { λ s. ints_to_int };
+
+    ghost map_value = { λ s args. sum_of args };
+
+    fn sig(&self) -> Sig {
+        Sig::new(&[Ty::Int, Ty::Int], Ty::Int)
+    }
+
+    fn apply(&mut self, alloc: Global, args: &[Value]) -> Result<Value, AllocError> {
+        let _ = alloc;
+        match args {
+            [Value::Int(left), Value::Int(right)] => Ok(Value::Int(left.wrapping_add(*right))),
+            _ => Ok(Value::Int(0)),
+        }
+    }
+}

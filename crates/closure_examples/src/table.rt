@@ -1,0 +1,205 @@
+//! A table of right sides.
+ghost use Rattle.std.specs.Prelude.{◌≡◌, IfSome};
+ghost use Rattle.inc_value.specs.declared.function.FnKind.TheVariants.{Map, Rhs};
+ghost use Rattle.closure_examples.specs.Arithmetic.{int_to_int, ints_to_int};
+ghost use Rattle.closure_examples.specs.Making.{BuildsTerm, IsReady, captured};
+ghost use Rattle.closure_examples.specs.Sides.{entry_of, table_term, table_uses};
+
+use crate::adding::added;
+use crate::types::{is_int_to_int, is_ints_to_int};
+use inc_value::{Base, FnKind, FnRef, NodeId, Sig, Ty, Value};
+use node_arena::{BuildFault, Builder, RhsFn};
+use std::alloc::Global;
+
+/// By the left integer, one of seven right sides over three captures: an integer, a truth value and a reference to an
+/// integer. From 1 to 6 these are the constant 5, the negation of the first, the sum of the first and itself, the first
+/// or else 0, what the reference names, and a bind on the first. For any other left value it is the constant 0.
+#[derive(Drop)]
+pub struct Table {
+    neg: FnRef,
+    add: FnRef,
+    of_left: FnRef,
+    ghost neg_map: { neg.id.kind ≡ Map },
+    ghost neg_types: { neg.sig ≡ int_to_int },
+    ghost add_map: { add.id.kind ≡ Map },
+    ghost add_types: { add.sig ≡ ints_to_int },
+    ghost of_left_rhs: { of_left.id.kind ≡ Rhs },
+    ghost of_left_types: { of_left.sig ≡ int_to_int },
+}
+
+/// Which of the right sides.
+#[derive(Clone, Copy)]
+enum Entry {
+    Five,
+    Negation,
+    Double,
+    Choice,
+    Target,
+    Nested,
+    Zero,
+}
+
+/// The captures.
+#[derive(Clone, Copy)]
+struct Captured {
+    x: NodeId,
+    c: NodeId,
+    h: NodeId,
+}
+
+/// Which right side the left value has.
+fn entry_of(left: &Value) -> Entry
+    ensures { result ≡ entry_of left.now }
+{
+    match left {
+        Value::Int(1) => Entry::Five,
+        Value::Int(2) => Entry::Negation,
+        Value::Int(3) => Entry::Double,
+        Value::Int(4) => Entry::Choice,
+        Value::Int(5) => Entry::Target,
+        Value::Int(6) => Entry::Nested,
+        _ => Entry::Zero,
+    }
+}
+
+impl Table {
+    /// A table that calls a negation, a sum, and a function of right sides of an integer.
+    pub fn new(neg: &FnRef, add: &FnRef, of_left: &FnRef) -> Option<Table>
+        ensures { IfSome result (λ t. (t.neg ≡ neg.now) × (t.add ≡ add.now) × (t.of_left ≡ of_left.now)) }
+    {
+        if neg.id.kind != FnKind::Map || !is_int_to_int(neg.sig) {
+            return None;
+        }
+        if add.id.kind != FnKind::Map || !is_ints_to_int(add.sig) {
+            return None;
+        }
+        if of_left.id.kind != FnKind::Rhs || !is_int_to_int(of_left.sig) {
+            return None;
+        }
+        Some(Table {
+            neg: *neg,
+            add: *add,
+            of_left: *of_left,
+        })
+    }
+
+    /// The constant 5.
+    fn five(&self, captures: Captured, builder: &mut Builder) -> Result<NodeId, BuildFault>
+        ensures { BuildsTerm (table_uses self.now.neg self.now.add self.now.of_left) 3 builder.old builder.new
+            (captured captures) (table_term self.now.neg self.now.add self.now.of_left Entry.Five) result }
+    {
+        added(builder.constant(Value::Int(5)))
+    }
+
+    /// The constant 0.
+    fn zero(&self, captures: Captured, builder: &mut Builder) -> Result<NodeId, BuildFault>
+        ensures { BuildsTerm (table_uses self.now.neg self.now.add self.now.of_left) 3 builder.old builder.new
+            (captured captures) (table_term self.now.neg self.now.add self.now.of_left Entry.Zero) result }
+    {
+        added(builder.constant(Value::Int(0)))
+    }
+
+    /// The negation of the first capture.
+    fn negation(&self, captures: Captured, builder: &mut Builder) -> Result<NodeId, BuildFault>
+        requires ready { IsReady builder.old captures }
+        ensures { BuildsTerm (table_uses self.now.neg self.now.add self.now.of_left) 3 builder.old builder.new
+            (captured captures) (table_term self.now.neg self.now.add self.now.of_left Entry.Negation) result }
+    {
+        added(builder.map(self.neg, &[captures.x]))
+    }
+
+    /// The sum of the first capture and itself.
+    fn double(&self, captures: Captured, builder: &mut Builder) -> Result<NodeId, BuildFault>
+        requires ready { IsReady builder.old captures }
+        ensures { BuildsTerm (table_uses self.now.neg self.now.add self.now.of_left) 3 builder.old builder.new
+            (captured captures) (table_term self.now.neg self.now.add self.now.of_left Entry.Double) result }
+    {
+        added(builder.fold(self.add, Value::Int(0), &[captures.x, captures.x]))
+    }
+
+    /// The first capture where the second is true, else 0.
+    fn choice(&self, captures: Captured, builder: &mut Builder) -> Result<NodeId, BuildFault>
+        requires ready { IsReady builder.old captures }
+        ensures { BuildsTerm (table_uses self.now.neg self.now.add self.now.of_left) 3 builder.old builder.new
+            (captured captures) (table_term self.now.neg self.now.add self.now.of_left Entry.Choice) result }
+    {
+        let zero = match builder.constant(Value::Int(0)) {
+            Ok(id) => id,
+            Err(fault) => return Err(BuildFault::from_add(fault)),
+        };
+        added(builder.if_(Ty::Int, captures.c, captures.x, zero))
+    }
+
+    /// What the third capture names.
+    fn target(&self, captures: Captured, builder: &mut Builder) -> Result<NodeId, BuildFault>
+        requires ready { IsReady builder.old captures }
+        ensures { BuildsTerm (table_uses self.now.neg self.now.add self.now.of_left) 3 builder.old builder.new
+            (captured captures) (table_term self.now.neg self.now.add self.now.of_left Entry.Target) result }
+    {
+        added(builder.join(Ty::Int, captures.h))
+    }
+
+    /// A bind on the first capture.
+    fn nested(&self, captures: Captured, builder: &mut Builder) -> Result<NodeId, BuildFault>
+        requires ready { IsReady builder.old captures }
+        ensures { BuildsTerm (table_uses self.now.neg self.now.add self.now.of_left) 3 builder.old builder.new
+            (captured captures) (table_term self.now.neg self.now.add self.now.of_left Entry.Nested) result }
+    {
+        added(builder.bind(captures.x, self.of_left, &[]))
+    }
+
+    /// One of the right sides.
+    fn entry(
+        &self,
+        entry: Entry,
+        captures: Captured,
+        builder: &mut Builder,
+    ) -> Result<NodeId, BuildFault>
+        requires ready { IsReady builder.old captures }
+        ensures { BuildsTerm (table_uses self.now.neg self.now.add self.now.of_left) 3 builder.old builder.new
+            (captured captures) (table_term self.now.neg self.now.add self.now.of_left entry) result }
+    {
+        match entry {
+            Entry::Five => self.five(captures, builder),
+            Entry::Negation => self.negation(captures, builder),
+            Entry::Double => self.double(captures, builder),
+            Entry::Choice => self.choice(captures, builder),
+            Entry::Target => self.target(captures, builder),
+            Entry::Nested => self.nested(captures, builder),
+            Entry::Zero => self.zero(captures, builder),
+        }
+    }
+}
+
+impl RhsFn for Table {
+    ghost use Rattle.closure_examples.specs.Sides.{table_side, table_sig};
+
+    ghost rhs_sig = { λ s. table_sig };
+
+    ghost rhs = { λ s. table_side s.neg s.add s.of_left };
+
+    fn sig(&self) -> Sig {
+        Sig::new(&[Ty::Int, Ty::Int, Ty::Bool, Ty::Node(Base::Int)], Ty::Int)
+    }
+
+    fn build(
+        &mut self,
+        alloc: Global,
+        left: &Value,
+        captures: &[NodeId],
+        builder: &mut Builder,
+    ) -> Result<NodeId, BuildFault> {
+        let _ = alloc;
+        match captures {
+            [x, c, h] => {
+                let captures = Captured {
+                    x: *x,
+                    c: *c,
+                    h: *h,
+                };
+                self.entry(entry_of(left), captures, builder)
+            }
+            _ => unreachable!(),
+        }
+    }
+}
