@@ -88,6 +88,8 @@ def blocks_written_out(file):
             block = None
         else:
             (block[1] if block else lines).append((number, line))
+    if block:
+        sys.exit(f"dialogues: {file}: a block has no end")
     return lines
 
 
@@ -117,13 +119,22 @@ def read(file):
     return found
 
 
+def rest_of(ran):
+    """Returns what a program still writes. One that doesn't end is ended."""
+    try:
+        return ran.communicate(timeout=3 * PATIENCE)[0]
+    except subprocess.TimeoutExpired:
+        ran.kill()
+        return ran.communicate()[0]
+
+
 def whole(program, lines, _):
     """Runs a program over a file of lines. Returns what it writes, and its status."""
     with tempfile.TemporaryFile() as source:
         source.write(b"".join(lines))
         source.seek(0)
-        ran = subprocess.run([program, "run"], stdin=source, stdout=subprocess.PIPE, timeout=3 * PATIENCE, check=False)
-    return ran.stdout, ran.returncode
+        with subprocess.Popen([program, "run"], stdin=source, stdout=subprocess.PIPE) as ran:
+            return rest_of(ran), ran.returncode
 
 
 def in_pieces(program, lines, _):
@@ -144,9 +155,9 @@ def in_pieces(program, lines, _):
         source.close()
         feeder = threading.Thread(target=feed)
         feeder.start()
-        written = ran.communicate(timeout=3 * PATIENCE)[0]
+        written = rest_of(ran)
         feeder.join()
-    return written, ran.returncode
+        return written, ran.returncode
 
 
 def line_by_line(program, lines, answers):
@@ -164,8 +175,8 @@ def line_by_line(program, lines, answers):
                     ran.kill()
         except BrokenPipeError:
             pass    # (it ended)
-        written += ran.communicate(timeout=PATIENCE)[0]
-    return written, ran.returncode
+        written += rest_of(ran)
+        return written, ran.returncode
 
 
 def difference(written, wanted):
