@@ -167,6 +167,7 @@ sh tools/launcher.sh >"$room/launcher" 2>&1
 status=$?
 [ $status -eq 0 ] || cat "$room/launcher"
 judge 'tools/launcher.sh' $status 0
+
 # the dialogues, which tell of themselves how many runs were as wanted
 if python3 tools/dialogues.py; then passed=$((passed + 1)); else failed=$((failed + 1)); fi
 
