@@ -177,35 +177,19 @@ impl Function {
         ensures { result ≡ sig_of self }
     {
         match self {
-            Function::Add => Sig::new(&[Ty::Int, Ty::Int], Ty::Int),
-            Function::Sub => Sig::new(&[Ty::Int, Ty::Int], Ty::Int),
-            Function::Mul => Sig::new(&[Ty::Int, Ty::Int], Ty::Int),
-            Function::Div => Sig::new(&[Ty::Int, Ty::Int], Ty::Int),
-            Function::Rem => Sig::new(&[Ty::Int, Ty::Int], Ty::Int),
+            Function::Add
+            | Function::Sub
+            | Function::Mul
+            | Function::Div
+            | Function::Rem
+            | Function::Min
+            | Function::Max => Sig::new(&[Ty::Int, Ty::Int], Ty::Int),
             Function::Neg => Sig::new(&[Ty::Int], Ty::Int),
-            Function::Min => Sig::new(&[Ty::Int, Ty::Int], Ty::Int),
-            Function::Max => Sig::new(&[Ty::Int, Ty::Int], Ty::Int),
             Function::Clamp => Sig::new(&[Ty::Int, Ty::Int, Ty::Int], Ty::Int),
             Function::Pick => Sig::new(&[Ty::Bool, Ty::Int, Ty::Int], Ty::Int),
-            Function::Sum9 => Sig::new(
-                &[
-                    Ty::Int,
-                    Ty::Int,
-                    Ty::Int,
-                    Ty::Int,
-                    Ty::Int,
-                    Ty::Int,
-                    Ty::Int,
-                    Ty::Int,
-                    Ty::Int,
-                ],
-                Ty::Int,
-            ),
-            Function::Eq => Sig::new(&[Ty::Int, Ty::Int], Ty::Bool),
-            Function::Lt => Sig::new(&[Ty::Int, Ty::Int], Ty::Bool),
-            Function::Le => Sig::new(&[Ty::Int, Ty::Int], Ty::Bool),
-            Function::And => Sig::new(&[Ty::Bool, Ty::Bool], Ty::Bool),
-            Function::Or => Sig::new(&[Ty::Bool, Ty::Bool], Ty::Bool),
+            Function::Sum9 => Sig::new(&[Ty::Int; 9], Ty::Int),
+            Function::Eq | Function::Lt | Function::Le => Sig::new(&[Ty::Int, Ty::Int], Ty::Bool),
+            Function::And | Function::Or => Sig::new(&[Ty::Bool, Ty::Bool], Ty::Bool),
             Function::Not => Sig::new(&[Ty::Bool], Ty::Bool),
             Function::Cat => Sig::new(&[Ty::Text, Ty::Text], Ty::Text),
             Function::Len => Sig::new(&[Ty::Text], Ty::Int),
@@ -365,10 +349,12 @@ impl Function {
 fn first_named(functions: &[Function], name: &[u8]) -> Option<Function>
     ensures { result ≡ says.first_named functions.now name.now }
 {
-    functions
-        .iter()
-        .copied()
-        .find(|function| function.has_name(name))
+    for function in functions {
+        if function.has_name(name) {
+            return Some(*function);
+        }
+    }
+    None
 }
 
 /// The function at the place.

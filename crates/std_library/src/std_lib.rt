@@ -63,7 +63,10 @@ impl Library for StdLib {
     ghost wants = { λ l. l.wants };
 
     fn find(&self, name: &[u8]) -> Option<FnRef> {
-        Function::named(name).map(|function| function.reference())
+        match Function::named(name) {
+            Some(function) => Some(function.reference()),
+            None => None,
+        }
     }
 
     fn knows(&self, f: FnRef) -> bool {
