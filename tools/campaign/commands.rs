@@ -1,0 +1,345 @@
+//! Which commands are accepted: the refusals in their one order, the types, and what an accepted command does.
+
+use crate::state::{Body, Declared, Kind, Observer, Place, State};
+use crate::syntax::{Command, Formula, Literal};
+use crate::values::{BOOL, INT, Outcome, TEXT, Type, Value, function};
+use std::collections::BTreeSet;
+use std::rc::Rc;
+
+const MOST_PLACES: usize = 1_048_575;
+
+/// A state, and what it printed.
+pub struct Answer {
+    pub printed: Vec<u8>,
+    pub state: State,
+}
+
+fn refused(number: u8, state: State) -> Answer {
+    let printed = match state.broken {
+        Some(broken) if number == 22 => format!("refused 22 {broken}\n"),
+        _ => format!("refused {number}\n"),
+    };
+    Answer { printed: printed.into_bytes(), state }
+}
+
+fn accepted(state: State) -> Answer {
+    Answer { printed: b"ok\n".to_vec(), state }
+}
+
+/// What a state may answer to a line that isn't a stabilize. There is more than one answer where it isn't known what a bind was
+/// built for.
+pub fn answers(state: State, parsed: &Result<Option<Command>, u8>) -> Vec<Answer> {
+    match parsed {
+        Err(number) => vec![refused(*number, state)],
+        Ok(None) => vec![Answer { printed: Vec::new(), state }],
+        Ok(Some(command)) => match check(&state, command) {
+            Err(number) => vec![refused(number, state)],
+            Ok(()) => carry_out(state, command),
+        },
+    }
+}
+
+/// The refusals up to the types.
+fn check(state: &State, command: &Command) -> Result<(), u8> {
+    refuse_if(state.broken.is_some(), 22)?;
+    if let Command::Var(name, ..) | Command::Let(name, _) | Command::Grab(name, _) = command {
+        refuse_if(state.find(name).is_some(), 3)?;
+    }
+    if let Command::Observe(observer, _) = command {
+        refuse_if(state.observer(observer).is_some(), 12)?;
+    }
+    let mut read = Vec::new();
+    names_read(command, &mut read);
+    refuse_if(read.iter().any(|name| state.find(name).is_none()), 4)?;
+    if let Command::Unobserve(observer) | Command::Show(observer) = command {
+        refuse_if(state.observer(observer).is_none(), 11)?;
+    }
+    if let Command::Let(_, formula) = command {
+        refuse_if(!functions_are_known(formula), 5)?;
+    }
+    let body = |name| &state.declared[state.target(found(state, name))].body;
+    if let Command::Set(name, _) = command {
+        refuse_if(!matches!(body(name), Body::Var), 7)?;
+    }
+    if let Command::Grab(_, bind) = command {
+        refuse_if(state.bind(state.target(found(state, bind))).is_none(), 8)?;
+    }
+    Ok(())
+}
+
+fn refuse_if(refuse: bool, number: u8) -> Result<(), u8> {
+    if refuse { Err(number) } else { Ok(()) }
+}
+
+fn found(state: &State, name: &str) -> usize {
+    state.find(name).expect("the names that are read were looked up")
+}
+
+/// The declared names that a command reads: bind variables where they stand aren't among them.
+fn names_read<'a>(command: &'a Command, read: &mut Vec<&'a str>) {
+    match command {
+        Command::Var(_, _, literal) => reference_read(literal, read),
+        Command::Set(name, literal) => {
+            read.push(name);
+            reference_read(literal, read);
+        }
+        Command::Let(_, formula) => free_names(formula, &mut Vec::new(), read),
+        Command::Grab(_, name) | Command::Observe(_, name) => read.push(name),
+        Command::Unobserve(_) | Command::Show(_) | Command::Stabilize => {}
+    }
+}
+
+fn reference_read<'a>(literal: &'a Literal, read: &mut Vec<&'a str>) {
+    if let Literal::Reference(name) = literal {
+        read.push(name);
+    }
+}
+
+fn free_names<'a>(formula: &'a Formula, variables: &mut Vec<&'a str>, read: &mut Vec<&'a str>) {
+    match formula {
+        Formula::Literal(literal) => reference_read(literal, read),
+        Formula::Name(name) if variables.contains(&name.as_str()) => {}
+        Formula::Name(name) => read.push(name),
+        Formula::Call(_, kids) => kids.iter().for_each(|kid| free_names(kid, variables, read)),
+        Formula::If(kids) => kids.iter().for_each(|kid| free_names(kid, variables, read)),
+        Formula::Bind(variable, parts) => {
+            free_names(&parts[0], variables, read);
+            variables.push(variable);
+            free_names(&parts[1], variables, read);
+            variables.pop();
+        }
+        Formula::Join(kid) => free_names(kid, variables, read),
+        Formula::Fold(_, first, kids) => {
+            reference_read(first, read);
+            kids.iter().for_each(|kid| free_names(kid, variables, read));
+        }
+    }
+}
+
+fn functions_are_known(formula: &Formula) -> bool {
+    match formula {
+        Formula::Literal(_) | Formula::Name(_) => true,
+        Formula::Call(name, kids) | Formula::Fold(name, _, kids) => {
+            function(name).is_some() && kids.iter().all(functions_are_known)
+        }
+        Formula::If(kids) => kids.iter().all(functions_are_known),
+        Formula::Bind(_, parts) => parts.iter().all(functions_are_known),
+        Formula::Join(kid) => functions_are_known(kid),
+    }
+}
+
+/// The refusals from the types on, and what an accepted command does.
+fn carry_out(mut state: State, command: &Command) -> Vec<Answer> {
+    let refusal = match command {
+        Command::Var(name, ty, literal) => declare_variable(&mut state, name, *ty, literal).err(),
+        Command::Let(name, formula) => declare_formula(&mut state, name, formula).err(),
+        Command::Set(name, literal) => set(&mut state, name, literal).err(),
+        Command::Grab(name, bind) => return grab(state, name, bind),
+        Command::Observe(observer, name) => {
+            let target = state.target(found(&state, name));
+            state.observers.push(Observer { name: observer.clone(), target, shown: None });
+            None
+        }
+        Command::Unobserve(observer) => {
+            state.observers.retain(|other| other.name != *observer);
+            None
+        }
+        Command::Show(observer) => return vec![show(state, observer)],
+        Command::Stabilize => unreachable!("a stabilize is judged by itself"),
+    };
+    vec![match refusal {
+        Some(number) => refused(number, state),
+        None => accepted(state),
+    }]
+}
+
+fn show(state: State, observer: &str) -> Answer {
+    let observer = &state.observers[state.observer(observer).expect("it is in use")];
+    let mut printed = format!("{} = ", observer.name).into_bytes();
+    match &observer.shown {
+        None => return refused(13, state),
+        Some(Outcome::Invalid) => printed.extend_from_slice(b"invalid"),
+        Some(Outcome::Value(value)) => state.print(value, &mut printed),
+    }
+    printed.push(b'\n');
+    Answer { printed, state }
+}
+
+fn declare(state: &mut State, name: &str, ty: Type, target: Option<usize>, body: Body) {
+    let target = target.unwrap_or(state.declared.len());
+    state.declared.push(Rc::new(Declared { name: name.to_owned(), ty, target, body }));
+}
+
+fn declare_variable(state: &mut State, name: &str, ty: Type, literal: &Literal) -> Result<(), u8> {
+    let (has, value) = typed_literal(state, literal)?;
+    refuse_if(has != ty, 6)?;
+    refuse_if(state.counted + 1 > MOST_PLACES, 19)?;
+    state.counted += 1;
+    state.values.insert(state.declared.len(), value);
+    declare(state, name, ty, None, Body::Var);
+    Ok(())
+}
+
+fn set(state: &mut State, name: &str, literal: &Literal) -> Result<(), u8> {
+    let variable = found(state, name);
+    let (has, value) = typed_literal(state, literal)?;
+    refuse_if(has != state.declared[variable].ty, 6)?;
+    state.values.insert(state.target(variable), value);
+    Ok(())
+}
+
+fn declare_formula(state: &mut State, name: &str, formula: &Formula) -> Result<(), u8> {
+    if let Formula::Name(other) = formula {
+        let position = found(state, other);
+        declare(state, name, state.declared[position].ty, Some(state.target(position)), Body::Alias);
+        return Ok(());
+    }
+    let mut typing = Typing { state, places: Vec::new(), binds: Vec::new(), counted: 0 };
+    let (outermost, ty) = typing.formula(formula)?;
+    let (places, counted) = (typing.places, typing.counted);
+    refuse_if(state.counted + counted > MOST_PLACES, 19)?;
+    state.counted += counted;
+    state.places.extend(places.into_iter().map(|place| Rc::new(place.expect("each place was typed"))));
+    if let Kind::Bind { .. } = state.places[outermost].kind {
+        state.built.insert(state.declared.len(), BTreeSet::from([None]));
+    }
+    declare(state, name, ty, None, Body::Let(outermost));
+    Ok(())
+}
+
+/// A grab has another answer for each way in which the bind may have been built.
+fn grab(state: State, name: &str, bind: &str) -> Vec<Answer> {
+    let bind = state.target(found(&state, bind));
+    let (_, body) = state.bind(bind).expect("its formula is a bind");
+    let ty = state.places[body].ty;
+    let (values, others): (BTreeSet<_>, BTreeSet<_>) =
+        state.built[&bind].iter().cloned().partition(|built| matches!(built, Some(Outcome::Value(_))));
+    let mut answers = Vec::new();
+    if !others.is_empty() {
+        let mut state = state.clone();
+        state.built.insert(bind, others);
+        answers.push(refused(9, state));
+    }
+    if let Kind::Name(named) = state.places[body].kind {
+        if !values.is_empty() {
+            let mut state = state;
+            state.built.insert(bind, values);
+            declare(&mut state, name, ty, Some(named), Body::Alias);
+            answers.push(accepted(state));
+        }
+        return answers;
+    }
+    for built in values {
+        let mut state = state.clone();
+        let Some(Outcome::Value(left)) = built.clone() else { unreachable!("only values are left") };
+        state.built.insert(bind, BTreeSet::from([built]));
+        match state.live_grab(bind) {
+            Some(grab) => declare(&mut state, name, ty, Some(grab), Body::Alias),
+            None => {
+                state.live.insert(state.declared.len());
+                declare(&mut state, name, ty, None, Body::Grab { bind, left });
+            }
+        }
+        answers.push(accepted(state));
+    }
+    answers
+}
+
+fn typed_literal(state: &State, literal: &Literal) -> Result<(Type, Value), u8> {
+    Ok(match literal {
+        Literal::Int(number) => (INT, Value::Int(*number)),
+        Literal::Bool(truth) => (BOOL, Value::Bool(*truth)),
+        Literal::Text(text) => (TEXT, Value::Text(text.as_slice().into())),
+        Literal::Reference(name) => {
+            let position = found(state, name);
+            match state.declared[position].ty {
+                Type::Base(base) => (Type::Node(base), Value::Node(state.target(position))),
+                Type::Node(_) => return Err(6),
+            }
+        }
+    })
+}
+
+/// Gives the places of a formula their numbers and types.
+struct Typing<'a> {
+    state: &'a State,
+    places: Vec<Option<Place>>,
+    /// The binds in whose bodies it stands, each with its variable and the type of its left.
+    binds: Vec<(&'a str, usize, Type)>,
+    counted: usize,
+}
+
+impl<'a> Typing<'a> {
+    fn formula(&mut self, formula: &'a Formula) -> Result<(usize, Type), u8> {
+        let number = self.state.places.len() + self.places.len();
+        let at = self.places.len();
+        self.places.push(None);
+        let within = self.binds.last().map(|bind| bind.1);
+        let (kind, ty) = self.kind(formula, number)?;
+        self.counted += match kind {
+            Kind::Name(_) | Kind::Variable { .. } => 0,
+            Kind::Bind { .. } => 2,
+            _ => 1,
+        };
+        self.places[at] = Some(Place { kind, ty, owner: self.state.declared.len(), within });
+        Ok((number, ty))
+    }
+
+    fn kind(&mut self, formula: &'a Formula, number: usize) -> Result<(Kind, Type), u8> {
+        match formula {
+            Formula::Literal(literal) => {
+                let (ty, value) = typed_literal(self.state, literal)?;
+                Ok((Kind::Literal(value), ty))
+            }
+            Formula::Name(name) => Ok(self.name(name)),
+            Formula::Call(name, kids) => {
+                let function = function(name).expect("functions were looked up");
+                let (kids, types) = self.formulas(kids)?;
+                refuse_if(
+                    !types.iter().eq(function.takes.iter().map(|base| Type::Base(*base)).collect::<Vec<_>>().iter()),
+                    6,
+                )?;
+                Ok((Kind::Application(function, kids), Type::Base(function.gives)))
+            }
+            Formula::If(kids) => {
+                let (places, types) = self.formulas(kids.as_slice())?;
+                refuse_if(types[0] != BOOL || types[1] != types[2], 6)?;
+                Ok((Kind::If { test: places[0], yes: places[1], no: places[2] }, types[1]))
+            }
+            Formula::Join(kid) => match self.formula(kid)? {
+                (kid, Type::Node(base)) => Ok((Kind::Join(kid), Type::Base(base))),
+                _ => Err(6),
+            },
+            Formula::Bind(variable, parts) => {
+                let (left, left_type) = self.formula(&parts[0])?;
+                self.binds.push((variable, number, left_type));
+                let (body, ty) = self.formula(&parts[1])?;
+                self.binds.pop();
+                Ok((Kind::Bind { left, body }, ty))
+            }
+            Formula::Fold(name, first, kids) => {
+                let function = function(name).expect("functions were looked up");
+                let element = function.folds().ok_or(6)?;
+                let (ty, first) = typed_literal(self.state, first)?;
+                let (kids, types) = self.formulas(kids)?;
+                refuse_if(ty != Type::Base(function.gives) || types.iter().any(|ty| *ty != Type::Base(element)), 6)?;
+                Ok((Kind::Fold(function, first, kids), ty))
+            }
+        }
+    }
+
+    fn formulas(&mut self, formulas: &'a [Formula]) -> Result<(Vec<usize>, Vec<Type>), u8> {
+        let typed: Result<Vec<_>, u8> = formulas.iter().map(|formula| self.formula(formula)).collect();
+        Ok(typed?.into_iter().unzip())
+    }
+
+    fn name(&self, name: &str) -> (Kind, Type) {
+        match self.binds.iter().rev().enumerate().find(|(_, bind)| bind.0 == name) {
+            Some((outward, &(_, bind, ty))) => (Kind::Variable { bind, outward }, ty),
+            None => {
+                let position = found(self.state, name);
+                (Kind::Name(self.state.target(position)), self.state.declared[position].ty)
+            }
+        }
+    }
+}

@@ -1,0 +1,116 @@
+//! Runs the campaign over sessions of the embedded library.
+
+use crate::incr::{Session, Took};
+use crate::judge::{COUNTED, Count, Counts, Judge};
+use crate::writer::Writer;
+use crate::{Options, report};
+use std::process::ExitCode;
+
+/// Sessions that disagree until a thread gives up.
+const MOST_FAILURES: u64 = 3;
+/// Plain evaluation and the engine go as deep as a chain is long.
+const STACK: usize = 64 << 20;
+
+/// A session of the library, and the judge of what it answers.
+struct Judged {
+    session: Session,
+    judge: Judge,
+}
+
+impl Judged {
+    fn open() -> Judged {
+        Judged { session: Session::open().expect("there is memory"), judge: Judge::new() }
+    }
+
+    /// Gives both a line. What disagrees is told.
+    fn line(&mut self, line: &[u8]) -> Result<(), String> {
+        let (took, printed) = self.session.line(line).expect("there is memory");
+        let refusal = match took {
+            Took::Blank => "",
+            Took::Accepted if printed.starts_with(b"refused ") => {
+                return Err("accepted, and printed as refused".to_owned());
+            }
+            Took::Accepted => "",
+            Took::Refused(number) => &format!("refused {number}"),
+        };
+        if !printed.starts_with(refusal.as_bytes()) || took == Took::Blank && !printed.is_empty() {
+            return Err(format!("{took:?}, and printed {}", String::from_utf8_lossy(printed)));
+        }
+        self.judge.line(line, printed).map_err(|disagreement| disagreement.to_string())
+    }
+}
+
+pub fn run(options: &Options) -> ExitCode {
+    let (mut counts, mut sessions, mut failed) = ([0; COUNTED.len()], 0, 0);
+    std::thread::scope(|scope| {
+        let threads: Vec<_> = (0..options.threads)
+            .map(|thread| {
+                let part = move || campaign(options, thread);
+                std::thread::Builder::new().stack_size(STACK).spawn_scoped(scope, part).expect("a thread starts")
+            })
+            .collect();
+        for thread in threads {
+            let part = thread.join().expect("the thread ends");
+            counts.iter_mut().zip(part.0).for_each(|(sum, count)| *sum += count);
+            sessions += part.1;
+            failed += part.2;
+        }
+    });
+    println!("{sessions:>12} sessions");
+    report(&counts, failed)
+}
+
+/// A thread's part: what was counted, the sessions, and how many of them disagreed. Each session has a seed of its own.
+fn campaign(options: &Options, thread: u64) -> (Counts, u64, u64) {
+    let (mut counts, mut sessions, mut failed) = ([0; COUNTED.len()], 0, 0);
+    let mut stabilizes = 0;
+    while stabilizes < options.stabilizes / options.threads && failed < MOST_FAILURES {
+        let seed = options.seed + thread + sessions * options.threads;
+        sessions += 1;
+        let mut judged = Judged::open();
+        let mut writer = Writer::new(seed, options.size);
+        let mut script: Vec<String> = Vec::new();
+        while let Some(line) = writer.next(&mut judged.judge) {
+            let answer = judged.line(line.as_bytes());
+            script.push(line);
+            if let Err(told) = answer {
+                failed += 1;
+                println!("seed {seed}, line {}: {}\n{told}", script.len(), script.last().expect("just pushed"));
+                println!("the script, cut down:\n{}", cut_down(script).join("\n"));
+                break;
+            }
+        }
+        counts.iter_mut().zip(judged.judge.counts).for_each(|(sum, count)| *sum += count);
+        let ended = [Count::Accepted, Count::Circles, Count::Heights];
+        stabilizes += ended.iter().map(|count| judged.judge.counts[*count as usize]).sum::<u64>();
+    }
+    (counts, sessions, failed)
+}
+
+/// Leaves out lines, many at once and then fewer, as long as an answer still disagrees.
+fn cut_down(mut script: Vec<String>) -> Vec<String> {
+    let mut width = script.len() / 2;
+    while width > 0 {
+        let mut from = script.len() - width;
+        loop {
+            let mut shorter = script.clone();
+            shorter.drain(from..(from + width).min(script.len()));
+            if let Some(length) = disagrees(&shorter) {
+                shorter.truncate(length);
+                script = shorter;
+            }
+            if from == 0 {
+                break;
+            }
+            from = from.saturating_sub(width).min(script.len());
+        }
+        width /= 2;
+    }
+    script
+}
+
+/// How many lines of a script there are up to the first that disagrees.
+fn disagrees(script: &[String]) -> Option<usize> {
+    let mut judged = Judged::open();
+    script.iter().position(|line| judged.line(line.as_bytes()).is_err()).map(|last| last + 1)
+}

@@ -1,0 +1,292 @@
+//! The lines of a script, as far as their form goes: tokens, the level, and the grammar of the forms that are written.
+
+use crate::values::{Base, Type};
+
+const LONGEST_LINE: usize = 4096;
+const DEEPEST_LEVEL: i32 = 64;
+const RESERVED: [&str; 21] = [
+    "if", "then", "else", "bind", "in", "join", "fold", "from", "at", "steps", "now", "freeze", "when", "after",
+    "every", "true", "false", "int", "bool", "text", "node",
+];
+
+pub enum Command {
+    Var(String, Type, Literal),
+    Set(String, Literal),
+    Let(String, Formula),
+    Grab(String, String),
+    Observe(String, String),
+    Unobserve(String),
+    Show(String),
+    Stabilize,
+}
+
+pub enum Literal {
+    Int(i64),
+    Bool(bool),
+    Text(Vec<u8>),
+    Reference(String),
+}
+
+pub enum Formula {
+    Literal(Literal),
+    Name(String),
+    Call(String, Vec<Formula>),
+    If(Box<[Formula; 3]>),
+    /// The variable, and the left side and the body.
+    Bind(String, Box<[Formula; 2]>),
+    Join(Box<Formula>),
+    Fold(String, Literal, Vec<Formula>),
+}
+
+/// The command of a line, `None` for a line that asks for nothing, or the number that it is refused with.
+pub fn parse(line: &[u8]) -> Result<Option<Command>, u8> {
+    if line.len() > LONGEST_LINE {
+        return Err(2);
+    }
+    let line = line.strip_suffix(b"\r").unwrap_or(line);
+    if matches!(line.iter().find(|&&byte| byte != b' '), None | Some(b'#')) {
+        return Ok(None);
+    }
+    let tokens = tokens(line).ok_or(1)?;
+    if too_deep(&tokens) {
+        return Err(25);
+    }
+    let mut rest = Rest { tokens: &tokens };
+    let command = rest.command().ok_or(1)?;
+    if rest.tokens.is_empty() { Ok(Some(command)) } else { Err(1) }
+}
+
+enum Token {
+    Word(String),
+    Int(String),
+    Text(Vec<u8>),
+    Sign(u8),
+    /// A time or `advance-to`: tokens, of which no form that is written has one.
+    Other,
+}
+
+fn is_letter(byte: u8) -> bool {
+    byte.is_ascii_alphabetic() || byte == b'_'
+}
+
+fn is_word(byte: u8) -> bool {
+    is_letter(byte) || byte.is_ascii_digit()
+}
+
+fn tokens(line: &[u8]) -> Option<Vec<Token>> {
+    let mut found = Vec::new();
+    let mut at = 0;
+    while at < line.len() {
+        let rest = &line[at..];
+        if rest[0] == b' ' {
+            at += 1;
+            continue;
+        }
+        let (token, length) = token(rest)?;
+        found.push(token);
+        at += length;
+    }
+    Some(found)
+}
+
+/// The first token, and how many bytes it has.
+fn token(rest: &[u8]) -> Option<(Token, usize)> {
+    let words = |from: usize| from + rest[from..].iter().take_while(|&&byte| is_word(byte)).count();
+    let spelled = |from: usize, to: usize| String::from_utf8_lossy(&rest[from..to]).into_owned();
+    match rest[0] {
+        b'(' | b')' | b'[' | b']' | b',' | b':' | b'=' | b'&' => Some((Token::Sign(rest[0]), 1)),
+        b'"' => quoted(rest),
+        first if is_letter(first) => {
+            let to = words(0);
+            if &rest[..to] == b"advance" && rest[to..].starts_with(b"-to") && words(to + 3) == to + 3 {
+                return Some((Token::Other, to + 3));
+            }
+            Some((Token::Word(spelled(0, to)), to))
+        }
+        first if first == b'-' || first.is_ascii_digit() => {
+            let from = usize::from(first == b'-');
+            let digits = from + rest[from..].iter().take_while(|byte| byte.is_ascii_digit()).count();
+            let to = words(digits);
+            match &rest[digits..to] {
+                _ if digits == from => None,
+                b"" => Some((Token::Int(spelled(0, to)), to)),
+                b"ns" | b"us" | b"ms" | b"s" if from == 0 => Some((Token::Other, to)),
+                _ => None,
+            }
+        }
+        _ => None,
+    }
+}
+
+fn quoted(rest: &[u8]) -> Option<(Token, usize)> {
+    let mut text = Vec::new();
+    let mut at = 1;
+    loop {
+        match *rest.get(at)? {
+            b'"' => return Some((Token::Text(text), at + 1)),
+            b'\\' => match *rest.get(at + 1)? {
+                escaped @ (b'"' | b'\\') => {
+                    text.push(escaped);
+                    at += 2;
+                }
+                _ => return None,
+            },
+            byte @ 0x20..=0x7e => {
+                text.push(byte);
+                at += 1;
+            }
+            _ => return None,
+        }
+    }
+}
+
+fn too_deep(tokens: &[Token]) -> bool {
+    let mut level = 0;
+    tokens.iter().any(|token| {
+        level += match token {
+            Token::Sign(b'(' | b'[') => 1,
+            Token::Sign(b')' | b']') => -1,
+            Token::Word(word) if word == "if" || word == "bind" => 1,
+            _ => 0,
+        };
+        level > DEEPEST_LEVEL
+    })
+}
+
+/// The tokens that are still to be read. What isn't in the grammar gives `None`.
+struct Rest<'a> {
+    tokens: &'a [Token],
+}
+
+impl Rest<'_> {
+    fn command(&mut self) -> Option<Command> {
+        let Token::Word(word) = self.next()? else { return None };
+        Some(match word.as_str() {
+            "var" => Command::Var(self.name()?, self.ty()?, self.literal()?),
+            "set" => Command::Set(self.name()?, self.literal()?),
+            "let" => Command::Let(self.name()?, self.formula()?),
+            "grab" => Command::Grab(self.name()?, self.name()?),
+            "observe" => Command::Observe(self.name()?, self.name()?),
+            "unobserve" => Command::Unobserve(self.name()?),
+            "show" => Command::Show(self.name()?),
+            "stabilize" => Command::Stabilize,
+            _ => return None,
+        })
+    }
+
+    fn next(&mut self) -> Option<&Token> {
+        let (first, rest) = self.tokens.split_first()?;
+        self.tokens = rest;
+        Some(first)
+    }
+
+    fn word(&mut self, word: &str) -> Option<()> {
+        matches!(self.next()?, Token::Word(found) if found == word).then_some(())
+    }
+
+    fn sign(&mut self, sign: u8) -> Option<()> {
+        matches!(self.next()?, Token::Sign(found) if *found == sign).then_some(())
+    }
+
+    fn begins_with(&self, sign: u8) -> bool {
+        matches!(self.tokens.first(), Some(Token::Sign(found)) if *found == sign)
+    }
+
+    fn name(&mut self) -> Option<String> {
+        match self.next()? {
+            Token::Word(word) if !RESERVED.contains(&word.as_str()) => Some(word.clone()),
+            _ => None,
+        }
+    }
+
+    fn ty(&mut self) -> Option<Type> {
+        let Token::Word(word) = self.next()? else { return None };
+        if word == "node" {
+            let Token::Word(word) = self.next()? else { return None };
+            return Some(Type::Node(base(word)?));
+        }
+        Some(Type::Base(base(word)?))
+    }
+
+    fn literal(&mut self) -> Option<Literal> {
+        Some(match self.next()? {
+            Token::Int(digits) => Literal::Int(digits.parse().ok()?),
+            Token::Text(text) => Literal::Text(text.clone()),
+            Token::Word(word) if word == "true" || word == "false" => Literal::Bool(word == "true"),
+            Token::Sign(b'&') => Literal::Reference(self.name()?),
+            _ => return None,
+        })
+    }
+
+    fn formula(&mut self) -> Option<Formula> {
+        let Some(Token::Word(word)) = self.tokens.first() else { return Some(Formula::Literal(self.literal()?)) };
+        match word.as_str() {
+            "true" | "false" => return Some(Formula::Literal(self.literal()?)),
+            "if" | "bind" | "join" | "fold" => self.next()?,
+            _ => {
+                let name = self.name()?;
+                return Some(if self.begins_with(b'(') {
+                    Formula::Call(name, self.arguments()?)
+                } else {
+                    Formula::Name(name)
+                });
+            }
+        };
+        Some(match word.as_str() {
+            "if" => {
+                let test = self.formula()?;
+                self.word("then")?;
+                let yes = self.formula()?;
+                self.word("else")?;
+                Formula::If(Box::new([test, yes, self.formula()?]))
+            }
+            "bind" => {
+                let variable = self.name()?;
+                self.sign(b'=')?;
+                let left = self.formula()?;
+                self.word("in")?;
+                Formula::Bind(variable, Box::new([left, self.formula()?]))
+            }
+            "join" => {
+                self.sign(b'(')?;
+                let kid = self.formula()?;
+                self.sign(b')')?;
+                Formula::Join(Box::new(kid))
+            }
+            _ => {
+                let function = self.name()?;
+                self.word("from")?;
+                let first = self.literal()?;
+                self.sign(b'[')?;
+                let elements = if self.begins_with(b']') { Vec::new() } else { self.formulas()? };
+                self.sign(b']')?;
+                Formula::Fold(function, first, elements)
+            }
+        })
+    }
+
+    fn arguments(&mut self) -> Option<Vec<Formula>> {
+        self.sign(b'(')?;
+        let arguments = self.formulas()?;
+        self.sign(b')')?;
+        (arguments.len() <= 9).then_some(arguments)
+    }
+
+    fn formulas(&mut self) -> Option<Vec<Formula>> {
+        let mut found = vec![self.formula()?];
+        while self.begins_with(b',') {
+            self.next()?;
+            found.push(self.formula()?);
+        }
+        Some(found)
+    }
+}
+
+fn base(word: &str) -> Option<Base> {
+    match word {
+        "int" => Some(Base::Int),
+        "bool" => Some(Base::Bool),
+        "text" => Some(Base::Text),
+        _ => None,
+    }
+}
