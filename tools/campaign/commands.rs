@@ -26,8 +26,8 @@ fn accepted(state: State) -> Answer {
     Answer { printed: b"ok\n".to_vec(), state }
 }
 
-/// What a state may answer to a line that isn't a stabilize. There is more than one answer where it isn't known what a bind was
-/// built for.
+/// What a state may answer to a line that isn't a stabilize. There is more than one answer where it isn't known what a
+/// bind was built for.
 pub fn answers(state: State, parsed: &Result<Option<Command>, u8>) -> Vec<Answer> {
     match parsed {
         Err(number) => vec![refused(*number, state)],
@@ -295,10 +295,8 @@ impl<'a> Typing<'a> {
             Formula::Call(name, kids) => {
                 let function = function(name).expect("functions were looked up");
                 let (kids, types) = self.formulas(kids)?;
-                refuse_if(
-                    !types.iter().eq(function.takes.iter().map(|base| Type::Base(*base)).collect::<Vec<_>>().iter()),
-                    6,
-                )?;
+                let takes: Vec<Type> = function.takes.iter().map(|base| Type::Base(*base)).collect();
+                refuse_if(types != takes, 6)?;
                 Ok((Kind::Application(function, kids), Type::Base(function.gives)))
             }
             Formula::If(kids) => {

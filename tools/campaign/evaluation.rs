@@ -1,5 +1,5 @@
-//! Plain evaluation: what names and places are worth in one state, what they read, and how deep they stand, each from the
-//! formulas alone. Nothing passes from one state to another.
+//! Plain evaluation: what names and places are worth in one state, what they read, and how deep they stand, each from
+//! the formulas alone. Nothing passes from one state to another.
 
 use crate::state::{Body, Kind, State};
 use crate::values::{Outcome, Value};
@@ -80,8 +80,8 @@ pub enum Item {
     Place(usize, Environment),
 }
 
-/// One state as it is evaluated. What was found is kept for the state. An answer is missing (`None`) where evaluation comes
-/// back to a name that it is in, and wherever such an answer is needed.
+/// One state as it is evaluated. What was found is kept for the state. An answer is missing (`None`) where evaluation
+/// comes back to a name that it is in, and wherever such an answer is needed.
 pub struct View<'a> {
     pub state: &'a State,
     environments: &'a RefCell<Environments>,

@@ -1,7 +1,7 @@
 //! Judges the answers of a session, line by line, by what evaluation from scratch gives.
 //!
-//! Where more than one answer is lawful, the answer that was given decides. What it leaves open is kept as several readings: a
-//! reading that a later answer doesn't fit is dropped, and an answer that none fits is a disagreement.
+//! Where more than one answer is lawful, the answer that was given decides. What it leaves open is kept as several
+//! readings: a reading that a later answer doesn't fit is dropped, and an answer that none fits is a disagreement.
 
 use crate::commands::{Answer, answers};
 use crate::evaluation::{Environments, Item, Items, NOWHERE, View};
@@ -287,8 +287,9 @@ fn look(before: &State, state: &State) -> Outlook {
     outlook
 }
 
-/// What is needed, and what is reached from what was needed before: from the names that were roots and are still, by what they
-/// read then. Of that only what stands still: where the left of a bind round it has another value, it is passed over.
+/// What is needed, and what is reached from what was needed before: from the names that were roots and are still, by
+/// what they read then. Of that only what stands still: where the left of a bind round it has another value, it is
+/// passed over.
 fn met(before: &State, view: &mut View, environments: &RefCell<Environments>, needed: &Items) -> Items {
     let mut view_before = View::new(before, environments);
     let kept: Vec<Item> = before.roots().intersection(&view.state.roots()).copied().map(Item::Name).collect();
@@ -334,7 +335,8 @@ fn shortest_circle(state: &State, name: usize) -> Vec<usize> {
     circle_through(&mut View::new(state, &environments), name).expect("the name is on a circle")
 }
 
-/// The names that a refusal may print for an item that stands too deep: its own or its formula's, and the bind of a grab.
+/// The names that a refusal may print for an item that stands too deep: its own or its formula's, and the bind of a
+/// grab.
 fn printed_for(state: &State, item: Item) -> Vec<usize> {
     let name = match item {
         Item::Name(name) => name,
@@ -374,8 +376,8 @@ fn is_circle(state: &State, names: &[usize]) -> bool {
 }
 
 impl Outlook {
-    /// The states that an accepted stabilize may leave. Whether a bind whose left was met, and isn't needed, was built is open:
-    /// where it has a live grab, that lives or dies with it.
+    /// The states that an accepted stabilize may leave. Whether a bind whose left was met, and isn't needed, was built
+    /// is open: where it has a live grab, that lives or dies with it.
     fn settled(&self, state: &State) -> Vec<State> {
         let mut after = state.clone();
         after.stabilizes += 1;

@@ -1,7 +1,8 @@
 //! The random campaign: sessions of random lines, of which every answer is judged by evaluation from scratch.
 //!
-//! `run` gives the lines to sessions of the embedded library, in this process. `write` and `judge` are for an engine that is run
-//! elsewhere: one writes a script, and the other judges what was answered to it. `answer` answers a script by the model alone.
+//! `run` gives the lines to sessions of the embedded library, in this process. `write` and `judge` are for an engine
+//! that is run elsewhere: one writes a script, and the other judges what was answered to it. `answer` answers a script
+//! by the model alone.
 
 mod commands;
 mod evaluation;
@@ -94,10 +95,7 @@ fn write(options: &Options) -> ExitCode {
         judge.line(line.as_bytes(), &answer).unwrap_or_else(|_| unreachable!("the model's own answer is lawful"));
         script.extend_from_slice(line.as_bytes());
         script.push(b'\n');
-        if judge.state().stabilizes == options.stabilizes
-            && judge.state().broken.is_none()
-            && line.starts_with("stabilize")
-        {
+        if line == "stabilize" && judge.state().stabilizes == options.stabilizes {
             let shows = judge.state().observers.iter().map(|observer| format!("show {}\n", observer.name));
             script.extend(shows.collect::<String>().into_bytes());
             break;

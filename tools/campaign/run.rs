@@ -25,19 +25,18 @@ impl Judged {
     /// Gives both a line. What disagrees is told.
     fn line(&mut self, line: &[u8]) -> Result<(), String> {
         let (took, printed) = self.session.line(line).expect("there is memory");
-        let refusal = match took {
-            Took::Blank => "",
-            Took::Accepted if printed.starts_with(b"refused ") => {
-                return Err("accepted, and printed as refused".to_owned());
-            }
-            Took::Accepted => "",
-            Took::Refused(number) => &format!("refused {number}"),
-        };
-        if !printed.starts_with(refusal.as_bytes()) || took == Took::Blank && !printed.is_empty() {
+        let refused = if let Took::Refused(number) = took { Some(number) } else { None };
+        if refused_with(printed) != refused || printed.is_empty() != (took == Took::Blank) {
             return Err(format!("{took:?}, and printed {}", String::from_utf8_lossy(printed)));
         }
         self.judge.line(line, printed).map_err(|disagreement| disagreement.to_string())
     }
+}
+
+/// The number in a line that says that one was refused.
+fn refused_with(printed: &[u8]) -> Option<u8> {
+    let rest = std::str::from_utf8(printed).ok()?.strip_prefix("refused ")?;
+    rest.split([' ', '\n']).next()?.parse().ok()
 }
 
 pub fn run(options: &Options) -> ExitCode {

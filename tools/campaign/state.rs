@@ -76,8 +76,8 @@ pub struct State {
     /// How many places count against the limit.
     pub counted: usize,
     pub values: BTreeMap<usize, Value>,
-    /// The outcomes that each bind of a `let` may have been built for last, `None` for never. There is more than one where
-    /// nothing that was printed since tells them apart.
+    /// The outcomes that each bind of a `let` may have been built for last, `None` for never. There is more than one
+    /// where nothing that was printed since tells them apart.
     pub built: BTreeMap<usize, BTreeSet<Option<Outcome>>>,
     /// The grabs that live and are their own targets.
     pub live: BTreeSet<usize>,

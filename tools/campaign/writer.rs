@@ -122,7 +122,7 @@ impl Writer {
                 Some(Step::Shows) => self.show(judge.state()),
                 Some(Step::Stabilize) => {
                     let outlook = judge.outlook();
-                    let leaves = self.leaves_blocked && self.chance.percent(5);
+                    let leaves = self.leaves_blocked && self.chance.percent(8);
                     if !outlook.blocked || self.mends == MOST_MENDS || leaves {
                         self.mends = 0;
                         self.needed.clone_from(&outlook.variables);
@@ -506,7 +506,8 @@ impl Writer {
         }
     }
 
-    /// A name that a test, a reference or a bind turns away from in the round in which it comes to stand on a circle or too deep.
+    /// A name that a test, a reference or a bind turns away from in the round in which it comes to stand on a circle
+    /// or too deep.
     fn passed(&mut self, state: &State) {
         let number = self.variable(state, INT).expect("there is one");
         let truth = self.variable(state, BOOL).expect("there is one");
