@@ -8,12 +8,24 @@ use line_tokens::{is_too_deep, tokens};
 use std::alloc::{AllocError, Global};
 use thiserror::Error;
 
+/// What is found. Where nothing is, or there is no memory, the function round it answers so.
+macro_rules! found {
+    ($answer:expr) => {
+        match $answer {
+            Ok(Some(found)) => found,
+            Ok(None) => return Ok(None),
+            Err(error) => return Err(error),
+        }
+    };
+}
+
 mod clock;
 mod command;
 mod cursor;
 mod formula;
 mod freeze;
 mod literal;
+mod names;
 mod word;
 
 use command::command_of;

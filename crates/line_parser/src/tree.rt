@@ -13,7 +13,6 @@ pub enum Time {
 }
 
 /// A literal.
-#[derive(Drop)]
 pub enum Literal {
     Integer(i64),
     /// `true` or `false`.
@@ -24,11 +23,29 @@ pub enum Literal {
     Reference(Name),
 }
 
+// (written out: whoever drops one proves one call, and no drop of its parts)
+impl Drop for Literal {
+    fn drop(self) {
+        match self {
+            Literal::Integer(_) | Literal::Bool(_) => {}
+            Literal::Text(text) => drop(text),
+            Literal::Reference(name) => drop(name),
+        }
+    }
+}
+
 /// `TIME: LITERAL`: a literal from a time on.
-#[derive(Drop)]
 pub struct TimedLiteral {
     pub time: Time,
     pub literal: Literal,
+}
+
+// (written out: whoever drops one proves one call, and no drop of its parts)
+impl Drop for TimedLiteral {
+    fn drop(self) {
+        let TimedLiteral { time: _, literal } = self;
+        drop(literal);
+    }
 }
 
 /// A formula as it is written.
@@ -89,7 +106,6 @@ pub enum Tree {
 }
 
 /// A command as it is written.
-#[derive(Drop)]
 pub enum Line {
     /// `var NAME TYPE LITERAL`.
     Var {
@@ -159,4 +175,50 @@ pub enum Line {
     },
     /// `stabilize`.
     Stabilize,
+}
+
+// (written out: whoever drops one proves one call, and no drop of its parts)
+impl Drop for Line {
+    fn drop(self) {
+        match self {
+            Line::Var { name, ty: _, first } => {
+                drop(name);
+                drop(first);
+            }
+            Line::Set { name, value } => {
+                drop(name);
+                drop(value);
+            }
+            Line::Let { name, formula } => {
+                drop(name);
+                drop(formula);
+            }
+            Line::Expert {
+                name,
+                function,
+                first,
+            } => {
+                drop(name);
+                drop(function);
+                drop(first);
+            }
+            Line::Link { expert, name } | Line::Unlink { expert, name } => {
+                drop(expert);
+                drop(name);
+            }
+            Line::Stale { expert } => drop(expert),
+            Line::Grab { name, bind } => {
+                drop(name);
+                drop(bind);
+            }
+            Line::Observe { observer, name } => {
+                drop(observer);
+                drop(name);
+            }
+            Line::Unobserve { observer } | Line::Watch { observer } | Line::Show { observer } => {
+                drop(observer)
+            }
+            Line::Advance { span: _ } | Line::AdvanceTo { time: _ } | Line::Stabilize => {}
+        }
+    }
 }

@@ -8,7 +8,7 @@ ghost use Rattle.script_model.specs.Parsing.{any_front, clock_front, list_front,
 
 use super::cursor::Cursor;
 use super::literal::{literal_of, step_of, truth_of};
-use super::word::time_of;
+use super::word::{equals, time_of};
 use crate::tree::{Literal, TimedLiteral, Tree};
 use line_tokens::Sign;
 use std::alloc::{AllocError, Global};
@@ -53,9 +53,7 @@ fn some_steps_of(
 {
     let mut found = Vec::new(alloc);
     for _count in 0..limit {
-        let Some(step) = step_of(alloc, tokens)? else {
-            return Ok(None);
-        };
+        let step = found!(step_of(alloc, tokens));
         found.push(step)?;
         if tokens.eat(Sign::CloseBracket) {
             return Ok(Some(found));
@@ -87,16 +85,12 @@ fn any_steps_of(
 fn steps_of(alloc: Global, tokens: &mut Cursor<'_, '_>) -> Result<Option<Tree>, AllocError>
     ensures { IfOk result (λ found. option_map (λ tree. (tree_view tree, tokens.new)) found ≡ steps_front tokens.old) }
 {
-    let Some(first) = literal_of(alloc, tokens)? else {
-        return Ok(None);
-    };
+    let first = found!(literal_of(alloc, tokens));
     if !tokens.eat(Sign::OpenBracket) {
         return Ok(None);
     }
-    match any_steps_of(alloc, tokens)? {
-        Some(steps) => Ok(Some(Tree::Steps { first, steps })),
-        None => Ok(None),
-    }
+    let steps = found!(any_steps_of(alloc, tokens));
+    Ok(Some(Tree::Steps { first, steps }))
 }
 
 /// Reads what the clock gives, or a literal, that begins with the word.
@@ -107,15 +101,15 @@ pub(super) fn clock_of(
 ) -> Result<Option<Tree>, AllocError>
     ensures { IfOk result (λ found. option_map (λ tree. (tree_view tree, tokens.new)) found ≡ clock_front word.now tokens.old) }
 {
-    if word == b"at".as_slice() {
+    if equals(word, b"at") {
         Ok(at_of(tokens))
-    } else if word == b"now".as_slice() {
+    } else if equals(word, b"now") {
         Ok(Some(Tree::Now))
-    } else if word == b"steps".as_slice() {
+    } else if equals(word, b"steps") {
         steps_of(alloc, tokens)
-    } else if word == b"after".as_slice() {
+    } else if equals(word, b"after") {
         Ok(after_of(tokens))
-    } else if word == b"every".as_slice() {
+    } else if equals(word, b"every") {
         Ok(every_of(tokens))
     } else {
         Ok(truth_tree(word))

@@ -1,54 +1,21 @@
 //! Commands, read from tokens.
 ghost use Rattle.std.specs.Prelude.{◌≡◌, IfOk, map, option_map};
-ghost use Rattle.line_parser.specs.Reading.{name_alone, names_alone, stabilize_alone, time_alone};
+ghost use Rattle.line_parser.specs.Reading.{stabilize_alone, time_alone};
 ghost use Rattle.line_parser.specs.TreeView.{line_view};
 ghost use Rattle.line_parser.specs.View.{time_view};
 ghost use Rattle.line_tokens.specs.View.{token_view};
-ghost use Rattle.script_model.specs.Grammar.{Advance, AdvanceTo, Grab, Link, Observe, Show, Stale, Unlink, Unobserve, Watch};
-ghost use Rattle.script_model.specs.Parsing.{command_read, command_with, expert_read, expert_with, let_read, observer_with, one_name, set_read, time_front, turn_with, two_names, var_read, whole};
+ghost use Rattle.script_model.specs.Grammar.{Advance, AdvanceTo};
+ghost use Rattle.script_model.specs.Parsing.{command_read, command_with, expert_read, expert_with, let_read, observer_with, set_read, time_front, turn_with, var_read, whole};
 
 use super::cursor::Cursor;
 use super::formula::formula_of;
 use super::literal::{fold_head, literal_of};
-use super::word::{name_of, time_of, type_of};
+use super::names::{OneName, TwoNames, one_name_of, two_names_of};
+use super::word::{equals, name_of, time_of, type_of};
 use crate::name::Name;
 use crate::tree::{Line, Time};
 use line_tokens::Token;
 use std::alloc::{AllocError, Global};
-
-/// Reads a name, behind which nothing is left.
-fn name_alone(alloc: Global, tokens: &mut Cursor<'_, '_>) -> Result<Option<Name>, AllocError>
-    ensures { IfOk result (λ name. name ≡ name_alone tokens.old) }
-{
-    let Some(name) = name_of(tokens) else {
-        return Ok(None);
-    };
-    if !tokens.is_empty() {
-        return Ok(None);
-    }
-    Ok(Some(Name::new(alloc, name)?))
-}
-
-/// Reads two names, behind which nothing is left.
-fn names_alone(
-    alloc: Global,
-    tokens: &mut Cursor<'_, '_>,
-) -> Result<Option<(Name, Name)>, AllocError>
-    ensures { IfOk result (λ names. names ≡ names_alone tokens.old) }
-{
-    let Some(first) = name_of(tokens) else {
-        return Ok(None);
-    };
-    let Some(second) = name_of(tokens) else {
-        return Ok(None);
-    };
-    if !tokens.is_empty() {
-        return Ok(None);
-    }
-    let first = Name::new(alloc, first)?;
-    let second = Name::new(alloc, second)?;
-    Ok(Some((first, second)))
-}
 
 /// Reads a time, behind which nothing is left.
 fn time_alone(tokens: &mut Cursor<'_, '_>) -> Option<Time>
@@ -68,14 +35,18 @@ fn var_of(alloc: Global, tokens: &mut Cursor<'_, '_>) -> Result<Option<Line>, Al
     let Some(ty) = type_of(tokens) else {
         return Ok(None);
     };
-    let Some(first) = literal_of(alloc, tokens)? else {
-        return Ok(None);
-    };
+    let first = found!(literal_of(alloc, tokens));
     if !tokens.is_empty() {
+        drop(first);
         return Ok(None);
     }
-    let name = Name::new(alloc, name)?;
-    Ok(Some(Line::Var { name, ty, first }))
+    match Name::new(alloc, name) {
+        Ok(name) => Ok(Some(Line::Var { name, ty, first })),
+        Err(error) => {
+            drop(first);
+            Err(error)
+        }
+    }
 }
 
 /// `set NAME LITERAL`, behind its first word.
@@ -85,14 +56,18 @@ fn set_of(alloc: Global, tokens: &mut Cursor<'_, '_>) -> Result<Option<Line>, Al
     let Some(name) = name_of(tokens) else {
         return Ok(None);
     };
-    let Some(value) = literal_of(alloc, tokens)? else {
-        return Ok(None);
-    };
+    let value = found!(literal_of(alloc, tokens));
     if !tokens.is_empty() {
+        drop(value);
         return Ok(None);
     }
-    let name = Name::new(alloc, name)?;
-    Ok(Some(Line::Set { name, value }))
+    match Name::new(alloc, name) {
+        Ok(name) => Ok(Some(Line::Set { name, value })),
+        Err(error) => {
+            drop(value);
+            Err(error)
+        }
+    }
 }
 
 /// `let NAME FORMULA`, behind its first word.
@@ -103,9 +78,7 @@ fn let_of(alloc: Global, tokens: &mut Cursor<'_, '_>) -> Result<Option<Line>, Al
         return Ok(None);
     };
     let depth = tokens.len() + 1;
-    let Some(formula) = formula_of(alloc, depth, tokens)? else {
-        return Ok(None);
-    };
+    let formula = found!(formula_of(alloc, depth, tokens));
     if !tokens.is_empty() {
         drop(formula);
         return Ok(None);
@@ -129,9 +102,7 @@ fn expert_of(alloc: Global, tokens: &mut Cursor<'_, '_>) -> Result<Option<Line>,
     if !tokens.eat_word(b"fold") {
         return Ok(None);
     }
-    let Some((function, first)) = fold_head(alloc, tokens)? else {
-        return Ok(None);
-    };
+    let (function, first) = found!(fold_head(alloc, tokens));
     if !tokens.is_empty() {
         return Ok(None);
     }
@@ -140,94 +111,6 @@ fn expert_of(alloc: Global, tokens: &mut Cursor<'_, '_>) -> Result<Option<Line>,
         function,
         first,
     }))
-}
-
-/// `link NAME NAME`, behind its first word.
-#[tactic(auto, using(crate::proofs::Steps::both_alone))]
-fn link_of(alloc: Global, tokens: &mut Cursor<'_, '_>) -> Result<Option<Line>, AllocError>
-    ensures { IfOk result (λ found. option_map line_view found ≡ two_names Link tokens.old) }
-{
-    match names_alone(alloc, tokens)? {
-        Some((expert, name)) => Ok(Some(Line::Link { expert, name })),
-        None => Ok(None),
-    }
-}
-
-/// `unlink NAME NAME`, behind its first word.
-#[tactic(auto, using(crate::proofs::Steps::both_alone))]
-fn unlink_of(alloc: Global, tokens: &mut Cursor<'_, '_>) -> Result<Option<Line>, AllocError>
-    ensures { IfOk result (λ found. option_map line_view found ≡ two_names Unlink tokens.old) }
-{
-    match names_alone(alloc, tokens)? {
-        Some((expert, name)) => Ok(Some(Line::Unlink { expert, name })),
-        None => Ok(None),
-    }
-}
-
-/// `stale NAME`, behind its first word.
-#[tactic(auto, using(crate::proofs::Steps::one_alone))]
-fn stale_of(alloc: Global, tokens: &mut Cursor<'_, '_>) -> Result<Option<Line>, AllocError>
-    ensures { IfOk result (λ found. option_map line_view found ≡ one_name Stale tokens.old) }
-{
-    match name_alone(alloc, tokens)? {
-        Some(expert) => Ok(Some(Line::Stale { expert })),
-        None => Ok(None),
-    }
-}
-
-/// `grab NAME NAME`, behind its first word.
-#[tactic(auto, using(crate::proofs::Steps::both_alone))]
-fn grab_of(alloc: Global, tokens: &mut Cursor<'_, '_>) -> Result<Option<Line>, AllocError>
-    ensures { IfOk result (λ found. option_map line_view found ≡ two_names Grab tokens.old) }
-{
-    match names_alone(alloc, tokens)? {
-        Some((name, bind)) => Ok(Some(Line::Grab { name, bind })),
-        None => Ok(None),
-    }
-}
-
-/// `observe NAME NAME`, behind its first word.
-#[tactic(auto, using(crate::proofs::Steps::both_alone))]
-fn observe_of(alloc: Global, tokens: &mut Cursor<'_, '_>) -> Result<Option<Line>, AllocError>
-    ensures { IfOk result (λ found. option_map line_view found ≡ two_names Observe tokens.old) }
-{
-    match names_alone(alloc, tokens)? {
-        Some((observer, name)) => Ok(Some(Line::Observe { observer, name })),
-        None => Ok(None),
-    }
-}
-
-/// `unobserve NAME`, behind its first word.
-#[tactic(auto, using(crate::proofs::Steps::one_alone))]
-fn unobserve_of(alloc: Global, tokens: &mut Cursor<'_, '_>) -> Result<Option<Line>, AllocError>
-    ensures { IfOk result (λ found. option_map line_view found ≡ one_name Unobserve tokens.old) }
-{
-    match name_alone(alloc, tokens)? {
-        Some(observer) => Ok(Some(Line::Unobserve { observer })),
-        None => Ok(None),
-    }
-}
-
-/// `watch NAME`, behind its first word.
-#[tactic(auto, using(crate::proofs::Steps::one_alone))]
-fn watch_of(alloc: Global, tokens: &mut Cursor<'_, '_>) -> Result<Option<Line>, AllocError>
-    ensures { IfOk result (λ found. option_map line_view found ≡ one_name Watch tokens.old) }
-{
-    match name_alone(alloc, tokens)? {
-        Some(observer) => Ok(Some(Line::Watch { observer })),
-        None => Ok(None),
-    }
-}
-
-/// `show NAME`, behind its first word.
-#[tactic(auto, using(crate::proofs::Steps::one_alone))]
-fn show_of(alloc: Global, tokens: &mut Cursor<'_, '_>) -> Result<Option<Line>, AllocError>
-    ensures { IfOk result (λ found. option_map line_view found ≡ one_name Show tokens.old) }
-{
-    match name_alone(alloc, tokens)? {
-        Some(observer) => Ok(Some(Line::Show { observer })),
-        None => Ok(None),
-    }
 }
 
 /// `advance TIME`, behind its first word.
@@ -267,11 +150,11 @@ fn command_with(
 ) -> Result<Option<Line>, AllocError>
     ensures { IfOk result (λ found. option_map line_view found ≡ command_with word.now tokens.old) }
 {
-    if word == b"var".as_slice() {
+    if equals(word, b"var") {
         var_of(alloc, tokens)
-    } else if word == b"set".as_slice() {
+    } else if equals(word, b"set") {
         set_of(alloc, tokens)
-    } else if word == b"let".as_slice() {
+    } else if equals(word, b"let") {
         let_of(alloc, tokens)
     } else {
         expert_with(alloc, word, tokens)
@@ -286,16 +169,16 @@ fn expert_with(
 ) -> Result<Option<Line>, AllocError>
     ensures { IfOk result (λ found. option_map line_view found ≡ expert_with word.now tokens.old) }
 {
-    if word == b"expert".as_slice() {
+    if equals(word, b"expert") {
         expert_of(alloc, tokens)
-    } else if word == b"link".as_slice() {
-        link_of(alloc, tokens)
-    } else if word == b"unlink".as_slice() {
-        unlink_of(alloc, tokens)
-    } else if word == b"stale".as_slice() {
-        stale_of(alloc, tokens)
-    } else if word == b"grab".as_slice() {
-        grab_of(alloc, tokens)
+    } else if equals(word, b"link") {
+        two_names_of(alloc, TwoNames::Link, tokens)
+    } else if equals(word, b"unlink") {
+        two_names_of(alloc, TwoNames::Unlink, tokens)
+    } else if equals(word, b"stale") {
+        one_name_of(alloc, OneName::Stale, tokens)
+    } else if equals(word, b"grab") {
+        two_names_of(alloc, TwoNames::Grab, tokens)
     } else {
         observer_with(alloc, word, tokens)
     }
@@ -309,14 +192,14 @@ fn observer_with(
 ) -> Result<Option<Line>, AllocError>
     ensures { IfOk result (λ found. option_map line_view found ≡ observer_with word.now tokens.old) }
 {
-    if word == b"observe".as_slice() {
-        observe_of(alloc, tokens)
-    } else if word == b"unobserve".as_slice() {
-        unobserve_of(alloc, tokens)
-    } else if word == b"watch".as_slice() {
-        watch_of(alloc, tokens)
-    } else if word == b"show".as_slice() {
-        show_of(alloc, tokens)
+    if equals(word, b"observe") {
+        two_names_of(alloc, TwoNames::Observe, tokens)
+    } else if equals(word, b"unobserve") {
+        one_name_of(alloc, OneName::Unobserve, tokens)
+    } else if equals(word, b"watch") {
+        one_name_of(alloc, OneName::Watch, tokens)
+    } else if equals(word, b"show") {
+        one_name_of(alloc, OneName::Show, tokens)
     } else {
         Ok(turn_with(word, tokens))
     }
@@ -326,9 +209,9 @@ fn observer_with(
 fn turn_with(word: &[u8], tokens: &mut Cursor<'_, '_>) -> Option<Line>
     ensures { option_map line_view result ≡ turn_with word.now tokens.old }
 {
-    if word == b"advance".as_slice() {
+    if equals(word, b"advance") {
         advance_of(tokens)
-    } else if word == b"stabilize".as_slice() {
+    } else if equals(word, b"stabilize") {
         stabilize_of(tokens)
     } else {
         None

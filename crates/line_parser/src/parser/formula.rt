@@ -8,9 +8,9 @@ ghost use Rattle.script_model.specs.Tokens.{sign_byte};
 
 use super::clock::{clock_of, written};
 use super::cursor::Cursor;
-use super::freeze::{boxed, frozen_of};
+use super::freeze::frozen_of;
 use super::literal::{fold_head, literal_with};
-use super::word::name_of;
+use super::word::{equals, name_of};
 use crate::name::Name;
 use crate::reserved::is_name;
 use crate::tree::Tree;
@@ -34,10 +34,8 @@ pub(super) fn formula_of(
     if depth <= freezes {
         return Ok(None);
     }
-    match unfrozen_of(alloc, depth - freezes - 1, tokens)? {
-        Some(child) => frozen_of(alloc, freezes, child, tokens),
-        None => Ok(None),
-    }
+    let child = found!(unfrozen_of(alloc, depth - freezes - 1, tokens));
+    frozen_of(alloc, freezes, child, tokens)
 }
 
 /// Reads a formula that begins with no freeze.
@@ -55,10 +53,10 @@ fn unfrozen_of(
     match first {
         Token::Word(word) if is_name(word) => named_of(alloc, depth, word, tokens),
         Token::Word(word) => reserved_of(alloc, depth, word, tokens),
-        _ => match literal_with(alloc, first, tokens)? {
-            Some(literal) => Ok(Some(written(literal))),
-            None => Ok(None),
-        },
+        _ => {
+            let literal = found!(literal_with(alloc, first, tokens));
+            Ok(Some(written(literal)))
+        }
     }
 }
 
@@ -77,13 +75,11 @@ fn named_of(
     if !tokens.eat(Sign::Open) {
         return Ok(Some(Tree::Name(name)));
     }
-    match list_of(alloc, depth, MAX_ARGUMENTS, Sign::Close, tokens)? {
-        Some(arguments) => Ok(Some(Tree::Call {
-            function: name,
-            arguments,
-        })),
-        None => Ok(None),
-    }
+    let arguments = found!(list_of(alloc, depth, MAX_ARGUMENTS, Sign::Close, tokens));
+    Ok(Some(Tree::Call {
+        function: name,
+        arguments,
+    }))
 }
 
 /// Reads the formula that begins with the word, which is reserved and not `freeze`.
@@ -97,13 +93,13 @@ fn reserved_of(
     ensures { IfOk result (λ found. option_map (λ tree. (tree_view tree, tokens.new)) found
         ≡ reserved_front (formula_read depth) word.now tokens.old) }
 {
-    if word == b"if".as_slice() {
+    if equals(word, b"if") {
         if_of(alloc, depth, tokens)
-    } else if word == b"bind".as_slice() {
+    } else if equals(word, b"bind") {
         bind_of(alloc, depth, tokens)
-    } else if word == b"join".as_slice() {
+    } else if equals(word, b"join") {
         join_of(alloc, depth, tokens)
-    } else if word == b"fold".as_slice() {
+    } else if equals(word, b"fold") {
         fold_of(alloc, depth, tokens)
     } else {
         clock_of(alloc, word, tokens)
@@ -119,15 +115,9 @@ fn if_of(
 ) -> Result<Option<Tree>, AllocError>
     ensures { IfOk result (λ found. option_map (λ tree. (tree_view tree, tokens.new)) found ≡ if_front (formula_read depth) tokens.old) }
 {
-    let Some(test) = boxed(alloc, formula_of(alloc, depth, tokens)?)? else {
-        return Ok(None);
-    };
-    let Some(then_side) = side_of(alloc, depth, b"then", tokens)? else {
-        return Ok(None);
-    };
-    let Some(else_side) = side_of(alloc, depth, b"else", tokens)? else {
-        return Ok(None);
-    };
+    let test = found!(boxed_of(alloc, depth, tokens));
+    let then_side = found!(side_of(alloc, depth, b"then", tokens));
+    let else_side = found!(side_of(alloc, depth, b"else", tokens));
     Ok(Some(Tree::If {
         test,
         then_side,
@@ -150,12 +140,8 @@ fn bind_of(
     if !tokens.eat(Sign::Equals) {
         return Ok(None);
     }
-    let Some(left) = boxed(alloc, formula_of(alloc, depth, tokens)?)? else {
-        return Ok(None);
-    };
-    let Some(body) = side_of(alloc, depth, b"in", tokens)? else {
-        return Ok(None);
-    };
+    let left = found!(boxed_of(alloc, depth, tokens));
+    let body = found!(side_of(alloc, depth, b"in", tokens));
     Ok(Some(Tree::Bind {
         variable: Name::new(alloc, variable)?,
         left,
@@ -177,7 +163,20 @@ fn side_of(
     if !tokens.eat_word(word) {
         return Ok(None);
     }
-    boxed(alloc, formula_of(alloc, depth, tokens)?)
+    boxed_of(alloc, depth, tokens)
+}
+
+/// Reads a formula, onto the heap.
+#[cycle(formula)]
+fn boxed_of(
+    alloc: Global,
+    depth: usize,
+    tokens: &mut Cursor<'_, '_>,
+) -> Result<Option<Box<Tree>>, AllocError>
+    ensures { IfOk result (λ found. option_map (λ tree. (tree_view tree.value, tokens.new)) found ≡ formula_read depth tokens.old) }
+{
+    let tree = found!(formula_of(alloc, depth, tokens));
+    Ok(Some(Box::new(alloc, tree)?))
 }
 
 /// Reads what stands behind the word `join`.
@@ -192,9 +191,7 @@ fn join_of(
     if !tokens.eat(Sign::Open) {
         return Ok(None);
     }
-    let Some(child) = boxed(alloc, formula_of(alloc, depth, tokens)?)? else {
-        return Ok(None);
-    };
+    let child = found!(boxed_of(alloc, depth, tokens));
     if tokens.eat(Sign::Close) {
         Ok(Some(Tree::Join { child }))
     } else {
@@ -211,20 +208,16 @@ fn fold_of(
 ) -> Result<Option<Tree>, AllocError>
     ensures { IfOk result (λ found. option_map (λ tree. (tree_view tree, tokens.new)) found ≡ fold_front (formula_read depth) tokens.old) }
 {
-    let Some((function, first)) = fold_head(alloc, tokens)? else {
-        return Ok(None);
-    };
+    let (function, first) = found!(fold_head(alloc, tokens));
     if !tokens.eat(Sign::OpenBracket) {
         return Ok(None);
     }
-    match elements_of(alloc, depth, tokens)? {
-        Some(elements) => Ok(Some(Tree::Fold {
-            function,
-            first,
-            elements,
-        })),
-        None => Ok(None),
-    }
+    let elements = found!(elements_of(alloc, depth, tokens));
+    Ok(Some(Tree::Fold {
+        function,
+        first,
+        elements,
+    }))
 }
 
 /// Reads the elements of a fold, and the `]` that ends them.
@@ -260,9 +253,7 @@ fn list_of(
 {
     let mut found = Vec::new(alloc);
     for _count in 0..limit {
-        let Some(formula) = formula_of(alloc, depth, tokens)? else {
-            return Ok(None);
-        };
+        let formula = found!(formula_of(alloc, depth, tokens));
         found.push(formula)?;
         if tokens.eat(end) {
             return Ok(Some(found));

@@ -10,16 +10,6 @@ use crate::name::Name;
 use crate::tree::Tree;
 use std::alloc::{AllocError, Global};
 
-/// A formula on the heap.
-pub(super) fn boxed(alloc: Global, tree: Option<Tree>) -> Result<Option<Box<Tree>>, AllocError>
-    ensures { IfOk result (λ boxed. option_map (λ tree. tree.value) boxed ≡ tree) }
-{
-    match tree {
-        Some(tree) => Ok(Some(Box::new(alloc, tree)?)),
-        None => Ok(None),
-    }
-}
-
 /// Reads `when NAME`.
 fn when_of(alloc: Global, tokens: &mut Cursor<'_, '_>) -> Result<Option<Name>, AllocError>
     ensures { IfOk result (λ found. option_map (λ name. (name, tokens.new)) found ≡ when_front tokens.old) }
@@ -44,9 +34,7 @@ fn whens_of(
 {
     let mut found = Vec::new(alloc);
     for _index in 0..count {
-        let Some(name) = when_of(alloc, tokens)? else {
-            return Ok(None);
-        };
+        let name = found!(when_of(alloc, tokens));
         found.push(name)?;
     }
     Ok(Some(found))
@@ -66,15 +54,11 @@ pub(super) fn frozen_of(
         return Ok(Some(child));
     }
     let child = Box::new(alloc, child)?;
-    let Some(predicate) = when_of(alloc, tokens)? else {
-        return Ok(None);
-    };
-    match whens_of(alloc, freezes - 1, tokens)? {
-        Some(around) => Ok(Some(Tree::Freeze {
-            child,
-            predicate,
-            around,
-        })),
-        None => Ok(None),
-    }
+    let predicate = found!(when_of(alloc, tokens));
+    let around = found!(whens_of(alloc, freezes - 1, tokens));
+    Ok(Some(Tree::Freeze {
+        child,
+        predicate,
+        around,
+    }))
 }

@@ -99,10 +99,8 @@ pub(super) fn step_of(
     if !tokens.eat(Sign::Colon) {
         return Ok(None);
     }
-    match literal_of(alloc, tokens)? {
-        Some(literal) => Ok(Some(TimedLiteral { time, literal })),
-        None => Ok(None),
-    }
+    let literal = found!(literal_of(alloc, tokens));
+    Ok(Some(TimedLiteral { time, literal }))
 }
 
 /// Reads `NAME from LITERAL`, which a fold begins with.
@@ -119,8 +117,6 @@ pub(super) fn fold_head(
         return Ok(None);
     }
     let function = Name::new(alloc, function)?;
-    match literal_of(alloc, tokens)? {
-        Some(first) => Ok(Some((function, first))),
-        None => Ok(None),
-    }
+    let first = found!(literal_of(alloc, tokens));
+    Ok(Some((function, first)))
 }

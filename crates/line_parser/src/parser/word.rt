@@ -1,5 +1,6 @@
 //! Words, types and times, read from tokens.
 ghost use Rattle.std.specs.Prelude.{◌≡◌, map, option_map};
+ghost use Rattle.std.specs.Str.{bytes_eq};
 ghost use Rattle.line_parser.specs.Reading.{base_in, name_in, time_in, word_in};
 ghost use Rattle.line_parser.specs.View.{time_view};
 ghost use Rattle.line_tokens.specs.View.{token_view};
@@ -11,6 +12,13 @@ use crate::reserved::is_name;
 use crate::tree::Time;
 use inc_value::{Base, Ty};
 use line_tokens::Token;
+
+/// Whether a word is the wanted one.
+pub(super) fn equals(word: &[u8], wanted: &[u8]) -> bool
+    ensures { result ≡ bytes_eq word.now wanted.now }
+{
+    word == wanted
+}
 
 /// The word that a token is.
 pub(super) fn word_in<'t, 'a>(token: &'t Token<'a>) -> Option<&'t [u8]>
@@ -72,11 +80,22 @@ fn base_of(tokens: &mut Cursor<'_, '_>) -> Option<Base>
 pub(super) fn type_of(tokens: &mut Cursor<'_, '_>) -> Option<Ty>
     ensures { option_map (λ ty. (ty, tokens.new)) result ≡ type_front tokens.old }
 {
-    let word = word_in(tokens.next()?)?;
-    if word == b"node".as_slice() {
-        Some(Ty::Node(base_of(tokens)?))
+    let Some(token) = tokens.next() else {
+        return None;
+    };
+    let Some(word) = word_in(token) else {
+        return None;
+    };
+    if equals(word, b"node") {
+        match base_of(tokens) {
+            Some(base) => Some(Ty::Node(base)),
+            None => None,
+        }
     } else {
-        Some(base_named(word)?.ty())
+        match base_named(word) {
+            Some(base) => Some(base.ty()),
+            None => None,
+        }
     }
 }
 

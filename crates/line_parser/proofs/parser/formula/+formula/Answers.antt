@@ -8,33 +8,33 @@ use Rattle.line_parser.proofs.parser.formula.+formula.Goals as goal
 
 pub list_of-loop-count-preserved : goal.list_of-loop-count-preserved
 list_of-loop-count-preserved t c =
-    let found : Some (tree_view c.in-Some.formula, c.formula_of.new.tokens) ≡ formula_read c.args.depth c.loop-count.tokens =
-    rw c.in-Some.is at c.in_ok-formula.ensures in
-    rw (c.in_ok-push.ensures.items, map_pushed c.loop-count.found.items c.in-Some.formula, c.if-not-eat.ensures.rest, c.if-eat.ensures.rest)
+    let next : Some (tree_view c.in-Ok-Some.found, c.formula_of.new.tokens) ≡ formula_read c.args.depth c.loop-count.tokens =
+    rw c.in-Ok-Some.field-0-is at c.in-Ok-Some.ensures in
+    rw (c.in_ok-push.ensures.items, map_pushed c.loop-count.found.items c.in-Ok-Some.found, c.if-not-eat.ensures.rest, c.if-eat.ensures.rest)
     (list_continued (formula_read c.args.depth) (sign_byte (sign_view c.args.end)) c.args.limit c.loop-count._count (map tree_view c.loop-count.found.items)
-    c.loop-count.tokens c.loop-count-test.true (tree_view c.in-Some.formula) c.formula_of.new.tokens found c.if-eat.ensures.found
+    c.loop-count.tokens c.loop-count-test.true (tree_view c.in-Ok-Some.found) c.formula_of.new.tokens next c.if-eat.ensures.found
     (rw c.if-eat.ensures.rest at c.if-not-eat.ensures.found)
     ∙ c.loop-count.invariant)
 
 pub list_of-returns-then-eat : goal.list_of-returns-then-eat
 list_of-returns-then-eat t c =
-    let found : Some (tree_view c.in-Some.formula, c.formula_of.new.tokens) ≡ formula_read c.args.depth c.loop-count.tokens =
-    rw c.in-Some.is at c.in_ok-formula.ensures in
-    rw (c.in_ok-push.ensures.items, map_pushed c.loop-count.found.items c.in-Some.formula, c.if-eat.ensures.rest)
+    let next : Some (tree_view c.in-Ok-Some.found, c.formula_of.new.tokens) ≡ formula_read c.args.depth c.loop-count.tokens =
+    rw c.in-Ok-Some.field-0-is at c.in-Ok-Some.ensures in
+    rw (c.in_ok-push.ensures.items, map_pushed c.loop-count.found.items c.in-Ok-Some.found, c.if-eat.ensures.rest)
     (list_ended (formula_read c.args.depth) (sign_byte (sign_view c.args.end)) c.args.limit c.loop-count._count (map tree_view c.loop-count.found.items)
-    c.loop-count.tokens c.loop-count-test.true (tree_view c.in-Some.formula) c.formula_of.new.tokens found c.if-eat.ensures.found
+    c.loop-count.tokens c.loop-count-test.true (tree_view c.in-Ok-Some.found) c.formula_of.new.tokens next c.if-eat.ensures.found
     ∙ c.loop-count.invariant)
 
 pub list_of-returns-then-not-eat : goal.list_of-returns-then-not-eat
 list_of-returns-then-not-eat t c =
-    let found : Some (tree_view c.in-Some.formula, c.formula_of.new.tokens) ≡ formula_read c.args.depth c.loop-count.tokens =
-    rw c.in-Some.is at c.in_ok-formula.ensures in
+    let next : Some (tree_view c.in-Ok-Some.found, c.formula_of.new.tokens) ≡ formula_read c.args.depth c.loop-count.tokens =
+    rw c.in-Ok-Some.field-0-is at c.in-Ok-Some.ensures in
     list_broken (formula_read c.args.depth) (sign_byte (sign_view c.args.end)) c.args.limit c.loop-count._count (map tree_view c.loop-count.found.items)
-    c.loop-count.tokens c.loop-count-test.true (tree_view c.in-Some.formula) c.formula_of.new.tokens found c.if-eat.ensures.found
+    c.loop-count.tokens c.loop-count-test.true (tree_view c.in-Ok-Some.found) c.formula_of.new.tokens next c.if-eat.ensures.found
     (rw c.if-eat.ensures.rest at c.if-not-eat.ensures.found)
     ∙ c.loop-count.invariant
 
-pub list_of-returns-in_default : goal.list_of-returns-in_default
-list_of-returns-in_default t c =
+pub list_of-returns-in-Ok-None : goal.list_of-returns-in-Ok-None
+list_of-returns-in-Ok-None t c =
     none_read (formula_read c.args.depth) (sign_byte (sign_view c.args.end)) c.args.limit c.loop-count._count (map tree_view c.loop-count.found.items)
-    c.loop-count.tokens c.loop-count-test.true (rw c.in_default.is at c.in_ok-formula.ensures) ∙ c.loop-count.invariant
+    c.loop-count.tokens c.loop-count-test.true (rw c.in-Ok-None.field-0-is at c.in-Ok-None.ensures) ∙ c.loop-count.invariant

@@ -30,7 +30,10 @@ abbrev pub decreases-fold_of : goal.decreases-fold_of
 decreases-fold_of l = 6 * l.depth + 3
 
 abbrev pub decreases-side_of : goal.decreases-side_of
-decreases-side_of l = 6 * l.depth + 1
+decreases-side_of l = 6 * l.depth + 2
+
+abbrev pub decreases-boxed_of : goal.decreases-boxed_of
+decreases-boxed_of l = 6 * l.depth + 1
 
 abbrev pub decreases-elements_of : goal.decreases-elements_of
 decreases-elements_of l = 6 * l.depth + 2
