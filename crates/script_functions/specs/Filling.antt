@@ -1,5 +1,5 @@
 -- Lines over nodes: what the nodes of a right side are.
-use Rattle.std.specs.Prelude.{List, map, option_map, slice_get, unwrap_or}
+use Rattle.std.specs.Prelude.{List, [], map, option_map, slice_get, unwrap_or}
 use Rattle.inc_value.specs.declared.node.NodeId.{NodeId}
 use Rattle.inc_value.specs.declared.ty.Ty.{Ty}
 use Rattle.inc_terms.specs.Graph as graph
@@ -22,6 +22,13 @@ abbrev pub node_of : List Listed → List NodeId → List NodeId → parts.Part 
 node_of listed captures made (part.Listed i) = unwrap_or (option_map (λ (x : Listed). x.node) (slice_get listed i)) nowhere
 node_of listed captures made (part.Captured i) = unwrap_or (slice_get captures i) nowhere
 node_of listed captures made (part.Line i) = unwrap_or (slice_get made i) nowhere
+
+-- the parts of a line that stand in a list
+abbrev pub parts_in_list : lines.Line → List parts.Part
+parts_in_list (Map f ps) = ps
+parts_in_list (Fold f v ps) = ps
+parts_in_list (Bind l f most ps) = ps
+parts_in_list line = []
 
 -- what the node of a line is
 abbrev pub filled : List Listed → List NodeId → List NodeId → lines.Line → Def

@@ -10,10 +10,17 @@ use std::alloc::Global;
 use std::marker::Model;
 
 /// The right sides of a script's bind: of a left value, one node for each line.
-#[derive(Drop)]
 pub struct Body {
     draft: Draft,
     root: Part,
+}
+
+// (written out: whoever drops one proves one call, and no drop of its parts)
+impl Drop for Body {
+    fn drop(self) {
+        let Body { draft, root: _ } = self;
+        drop(draft);
+    }
 }
 
 impl Model for Body {

@@ -1,12 +1,13 @@
 //! Lines built in an arena.
-ghost use Rattle.std.specs.Prelude.{◌≡◌, map, Ok, IfOk, IfErr, IsErr, OnOk, OnErr, IsErrOf};
+ghost use Rattle.std.specs.Prelude.{◌≡◌, map, option_map, slice_get, Ok, IfOk, IfErr, IsErr, OnOk, OnErr, IsErrOf};
 ghost use Rattle.inc_value.specs.Value.{type_of};
 ghost use Rattle.inc_terms.specs.Graph.{Const, Map, Fold, If, Join, Bind};
 ghost use Rattle.node_arena.specs.Arena.{IsFull};
 ghost use Rattle.node_arena.specs.Building.{Adds, Grows};
+ghost use Rattle.node_arena.specs.Listing.{Listed};
 ghost use Rattle.node_arena.specs.RightSide.{MayBuild, IsRoot};
 ghost use Rattle.script_functions.specs.Bodies.{side_of};
-ghost use Rattle.script_functions.specs.Filling.{node_of, filled, IsReady};
+ghost use Rattle.script_functions.specs.Filling.{node_of, filled, parts_in_list, IsReady};
 ghost use Rattle.script_functions.specs.Underway.{IsNoted, AreBuilt};
 
 use crate::{Body, Line, ListedNode, Part, TypedLine};
@@ -14,12 +15,22 @@ use inc_value::{FnRef, NodeId, Ty, Value};
 use node_arena::{AddFault, BuildFault, Builder};
 use std::alloc::{AllocError, Global};
 
+/// The node at a place of those that are listed, if it is there.
+fn listed_node(listed: &[ListedNode], place: usize) -> Option<NodeId>
+    ensures { result ≡ option_map (λ (x : Listed). x.node) (slice_get listed.now place) }
+{
+    match listed.get(place) {
+        Some(listed) => Some(listed.node()),
+        None => None,
+    }
+}
+
 /// The node that a part stands for, if it is there.
 fn node_of(listed: &[ListedNode], captures: &[NodeId], made: &[NodeId], part: Part) -> NodeId
     ensures { result ≡ node_of listed.now captures.now made.now part }
 {
     let node = match part {
-        Part::Listed(place) => listed.get(place).map(|listed| listed.node()),
+        Part::Listed(place) => listed_node(listed, place),
         Part::Captured(place) => captures.get(place).copied(),
         Part::Line(place) => made.get(place).copied(),
     };
@@ -146,6 +157,52 @@ fn add_bind(
     built(builder.bind(left, f, captures))
 }
 
+/// The parts of a line that stand in a list.
+fn parts_in_list(line: &Line) -> &[Part]
+    ensures { result.now ≡ parts_in_list line.now }
+{
+    match line {
+        Line::Map(_, parts) | Line::Fold(_, _, parts) => parts.as_slice(),
+        Line::Bind { captures, .. } => captures.as_slice(),
+        Line::Const(_) | Line::If { .. } | Line::Join(_) => &[],
+    }
+}
+
+/// Adds the node of a line, where its parts are of the types that it wants, and `nodes` are those of its list.
+fn add_over(
+    alloc: Global,
+    listed: &[ListedNode],
+    captures: &[NodeId],
+    made: &[NodeId],
+    row: &TypedLine,
+    nodes: &[NodeId],
+    builder: &mut Builder,
+) -> Result<NodeId, BuildFault>
+    requires nodes { nodes.now ≡ map (node_of listed.now captures.now made.now) (parts_in_list row.now.line) }
+    requires ready { IsReady builder.old (filled listed.now captures.now made.now row.now.line) row.now.ty }
+    ensures added { IfOk result (λ id. Adds builder.old builder.new id
+        (filled listed.now captures.now made.now row.now.line) row.now.ty) }
+    ensures full { IsErrOf result BuildFault.Full → IsFull builder.new.arena }
+    ensures err { OnErr result (builder.new ≡ builder.old) }
+{
+    match &row.line {
+        Line::Const(value) => add_constant(alloc, value, builder),
+        Line::Map(f, _) => add_map(*f, nodes, builder),
+        Line::Fold(f, initial, _) => add_fold(alloc, *f, initial, nodes, builder),
+        Line::If { test, yes, no } => {
+            let test = node_of(listed, captures, made, *test);
+            let yes = node_of(listed, captures, made, *yes);
+            let no = node_of(listed, captures, made, *no);
+            add_if(test, yes, no, row.ty, builder)
+        }
+        Line::Join(part) => add_join(node_of(listed, captures, made, *part), row.ty, builder),
+        Line::Bind { left, function, .. } => {
+            let left = node_of(listed, captures, made, *left);
+            add_bind(left, *function, nodes, builder)
+        }
+    }
+}
+
 /// Adds the node of a line, where its parts are of the types that it wants.
 fn add_line(
     alloc: Global,
@@ -161,28 +218,14 @@ fn add_line(
     ensures full { IsErrOf result BuildFault.Full → IsFull builder.new.arena }
     ensures err { OnErr result (builder.new ≡ builder.old) }
 {
-    let node = |part: Part| node_of(listed, captures, made, part);
-    match &row.line {
-        Line::Const(value) => add_constant(alloc, value, builder),
-        Line::Map(f, parts) => {
-            let nodes = nodes_of(alloc, listed, captures, made, parts.as_slice())?;
-            add_map(*f, &nodes, builder)
+    let parts = parts_in_list(&row.line);
+    match nodes_of(alloc, listed, captures, made, parts) {
+        Ok(nodes) => {
+            let added = add_over(alloc, listed, captures, made, row, &nodes, builder);
+            drop(nodes);
+            added
         }
-        Line::Fold(f, initial, parts) => {
-            let nodes = nodes_of(alloc, listed, captures, made, parts.as_slice())?;
-            add_fold(alloc, *f, initial, &nodes, builder)
-        }
-        Line::If { test, yes, no } => add_if(node(*test), node(*yes), node(*no), row.ty, builder),
-        Line::Join(part) => add_join(node(*part), row.ty, builder),
-        Line::Bind {
-            left,
-            function,
-            captures: parts,
-            ..
-        } => {
-            let nodes = nodes_of(alloc, listed, captures, made, parts.as_slice())?;
-            add_bind(node(*left), *function, &nodes, builder)
-        }
+        Err(fault) => Err(fault),
     }
 }
 

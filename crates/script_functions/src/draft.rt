@@ -16,12 +16,25 @@ use std::marker::Model;
 use thiserror::Error;
 
 /// A body whose lines are still written. Each line is of its type over what stands before it.
-#[derive(Drop)]
 pub struct Draft {
     sig: Sig,
     listed: Vec<ListedNode>,
     lines: Vec<TypedLine>,
     size: u64,
+}
+
+// (written out: whoever drops one proves one call, and no drop of its parts)
+impl Drop for Draft {
+    fn drop(self) {
+        let Draft {
+            sig: _,
+            listed,
+            lines,
+            size: _,
+        } = self;
+        drop(listed);
+        drop(lines);
+    }
 }
 
 impl Model for Draft {
@@ -144,14 +157,20 @@ impl Draft {
 fn listed_type(listed: &[ListedNode], place: usize) -> Option<Ty>
     ensures { result ≡ option_map (λ (x : Listed). x.ty) (slice_get listed.now place) }
 {
-    listed.get(place).map(|listed| listed.ty())
+    match listed.get(place) {
+        Some(listed) => Some(listed.ty()),
+        None => None,
+    }
 }
 
 /// The type of the line at the place.
 fn later_type(lines: &[TypedLine], place: usize) -> Option<Ty>
     ensures { result ≡ slice_get (map (λ (x : TypedLine). x.ty) lines.now) place }
 {
-    lines.get(place).map(|row| row.ty)
+    match lines.get(place) {
+        Some(row) => Some(row.ty),
+        None => None,
+    }
 }
 
 /// The type of the line at the place, where line 0 is the left value.

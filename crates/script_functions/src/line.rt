@@ -17,9 +17,16 @@ pub enum Part {
 }
 
 /// A list of parts.
-#[derive(Drop)]
 pub struct Parts {
     parts: Vec<Part>,
+}
+
+// (written out: whoever drops one proves one call, and no drop of its parts)
+impl Drop for Parts {
+    fn drop(self) {
+        let Parts { parts } = self;
+        drop(parts);
+    }
 }
 
 impl Model for Parts {
@@ -50,7 +57,6 @@ impl Parts {
 }
 
 /// What the node of one place of a formula is, over what it reads.
-#[derive(Drop)]
 pub enum Line {
     /// Always the value.
     Const(Value),
@@ -74,6 +80,32 @@ pub enum Line {
         most: u64,
         captures: Parts,
     },
+}
+
+// (written out: whoever drops one proves one call, and no drop of its parts)
+impl Drop for Line {
+    fn drop(self) {
+        match self {
+            Line::Const(value) => drop(value),
+            Line::Map(_, parts) => drop(parts),
+            Line::Fold(_, first, parts) => {
+                drop(first);
+                drop(parts);
+            }
+            Line::If {
+                test: _,
+                yes: _,
+                no: _,
+            }
+            | Line::Join(_) => {}
+            Line::Bind {
+                left: _,
+                function: _,
+                most: _,
+                captures,
+            } => drop(captures),
+        }
+    }
 }
 
 impl Line {
@@ -113,10 +145,17 @@ impl Line {
 }
 
 /// A line, and the type of its node's values.
-#[derive(Drop)]
 pub struct TypedLine {
     pub line: Line,
     pub ty: Ty,
+}
+
+// (written out: whoever drops one proves one call, and no drop of its parts)
+impl Drop for TypedLine {
+    fn drop(self) {
+        let TypedLine { line, ty: _ } = self;
+        drop(line);
+    }
 }
 
 /// A node that stands outside of the body, with its type.

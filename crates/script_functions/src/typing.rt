@@ -61,14 +61,24 @@ fn has(draft: &Draft, part: Part, ty: Ty) -> bool
 fn are_there(draft: &Draft, parts: &[Part]) -> bool
     ensures { IsTrue result ↔ Every (IsThere draft.now) parts.now }
 {
-    parts.iter().all(|part| is_there(draft, *part))
+    for part in parts {
+        if !is_there(draft, *part) {
+            return false;
+        }
+    }
+    true
 }
 
 /// Whether each of the parts is of the type.
 fn each_has(draft: &Draft, parts: &[Part], ty: Ty) -> bool
     ensures { IsTrue result ↔ Every (λ p. type_at draft.now p ≡ Some ty) parts.now }
 {
-    parts.iter().all(|part| has(draft, *part, ty))
+    for part in parts {
+        if !has(draft, *part, ty) {
+            return false;
+        }
+    }
+    true
 }
 
 /// Whether the parts are of the types, one for one.
@@ -237,7 +247,11 @@ pub(crate) fn admitted(draft: &Draft, line: &Line) -> Result<(Ty, u64), LineFaul
     if !reads_what_is_there(draft, line) {
         return Err(LineFault::Unknown);
     }
-    let ty = type_of_line(draft, line).ok_or(LineFault::WrongType)?;
-    let size = size_with(draft.size(), line).ok_or(LineFault::TooLarge)?;
+    let Some(ty) = type_of_line(draft, line) else {
+        return Err(LineFault::WrongType);
+    };
+    let Some(size) = size_with(draft.size(), line) else {
+        return Err(LineFault::TooLarge);
+    };
     Ok((ty, size))
 }
