@@ -256,91 +256,121 @@ impl Function {
         ensures scalar { (sig_of self).gives ≢ Ty.Text → IsOk result }
     {
         match self {
-            Function::Add => {
-                let (a, b) = two_integers(args);
-                Ok(Value::Int(a.wrapping_add(b)))
-            }
-            Function::Sub => {
-                let (a, b) = two_integers(args);
-                Ok(Value::Int(a.wrapping_sub(b)))
-            }
-            Function::Mul => {
-                let (a, b) = two_integers(args);
-                Ok(Value::Int(a.wrapping_mul(b)))
-            }
-            Function::Div => {
-                let (a, b) = two_integers(args);
-                Ok(Value::Int(quotient(a, b)))
-            }
-            Function::Rem => {
-                let (a, b) = two_integers(args);
-                Ok(Value::Int(remainder(a, b)))
-            }
-            Function::Neg => {
-                let a = integer(args);
-                Ok(Value::Int(a.wrapping_neg()))
-            }
-            Function::Min => {
-                let (a, b) = two_integers(args);
-                Ok(Value::Int(a.min(b)))
-            }
-            Function::Max => {
-                let (a, b) = two_integers(args);
-                Ok(Value::Int(a.max(b)))
-            }
-            Function::Clamp => {
-                let (a, b, c) = three_integers(args);
-                Ok(Value::Int(a.max(b).min(c)))
-            }
-            Function::Pick => {
-                let (first, a, b) = truth_and_integers(args);
-                Ok(Value::Int(if first { a } else { b }))
-            }
-            Function::Sum9 => Ok(Value::Int(sum(args))),
-            Function::Eq => {
-                let (a, b) = two_integers(args);
-                Ok(Value::Bool(a == b))
-            }
-            Function::Lt => {
-                let (a, b) = two_integers(args);
-                Ok(Value::Bool(a < b))
-            }
-            Function::Le => {
-                let (a, b) = two_integers(args);
-                Ok(Value::Bool(a <= b))
-            }
-            Function::And => {
-                let (a, b) = two_truths(args);
-                Ok(Value::Bool(a & b))
-            }
-            Function::Or => {
-                let (a, b) = two_truths(args);
-                Ok(Value::Bool(a | b))
-            }
-            Function::Not => {
-                let a = truth(args);
-                Ok(Value::Bool(!a))
-            }
+            Function::Add
+            | Function::Sub
+            | Function::Mul
+            | Function::Div
+            | Function::Rem
+            | Function::Neg
+            | Function::Min
+            | Function::Max
+            | Function::Clamp
+            | Function::Pick
+            | Function::Sum9
+            | Function::Len => Ok(Value::Int(self.integer_given(args))),
+            Function::Eq
+            | Function::Lt
+            | Function::Le
+            | Function::And
+            | Function::Or
+            | Function::Not
+            | Function::Same
+            | Function::Pos => Ok(Value::Bool(self.truth_given(args))),
             Function::Cat => {
                 let (a, b) = two_texts(args);
                 Ok(Value::Text(joined(alloc, a, b)?))
-            }
-            Function::Len => {
-                let a = text(args);
-                Ok(Value::Int(length(a)))
-            }
-            Function::Same => {
-                let (a, b) = two_texts(args);
-                Ok(Value::Bool(a.same(b)))
             }
             Function::Show => {
                 let a = integer(args);
                 Ok(Value::Text(shown(alloc, a)?))
             }
-            Function::Pos => {
-                let a = integer(args);
-                Ok(Value::Bool(a > 0))
+        }
+    }
+
+    /// The integer that the function gives for the arguments.
+    fn integer_given(self, args: &[Value]) -> i64
+        requires fit { HaveTypes args.now (sig_of self).takes }
+        requires gives { (sig_of self).gives ≡ Ty.Int }
+        ensures { value_of self args.now ≡ Value.Int result }
+    {
+        match self {
+            Function::Add => {
+                let (a, b) = two_integers(args);
+                a.wrapping_add(b)
             }
+            Function::Sub => {
+                let (a, b) = two_integers(args);
+                a.wrapping_sub(b)
+            }
+            Function::Mul => {
+                let (a, b) = two_integers(args);
+                a.wrapping_mul(b)
+            }
+            Function::Div => {
+                let (a, b) = two_integers(args);
+                quotient(a, b)
+            }
+            Function::Rem => {
+                let (a, b) = two_integers(args);
+                remainder(a, b)
+            }
+            Function::Neg => integer(args).wrapping_neg(),
+            Function::Min => {
+                let (a, b) = two_integers(args);
+                a.min(b)
+            }
+            Function::Max => {
+                let (a, b) = two_integers(args);
+                a.max(b)
+            }
+            Function::Clamp => {
+                let (a, b, c) = three_integers(args);
+                a.max(b).min(c)
+            }
+            Function::Pick => {
+                let (first, a, b) = truth_and_integers(args);
+                if first { a } else { b }
+            }
+            Function::Sum9 => sum(args),
+            Function::Len => length(text(args)),
+            _ => unreachable!(),
+        }
+    }
+
+    /// The truth that the function gives for the arguments.
+    fn truth_given(self, args: &[Value]) -> bool
+        requires fit { HaveTypes args.now (sig_of self).takes }
+        requires gives { (sig_of self).gives ≡ Ty.Bool }
+        ensures { value_of self args.now ≡ Value.Bool result }
+    {
+        match self {
+            Function::Eq => {
+                let (a, b) = two_integers(args);
+                a == b
+            }
+            Function::Lt => {
+                let (a, b) = two_integers(args);
+                a < b
+            }
+            Function::Le => {
+                let (a, b) = two_integers(args);
+                a <= b
+            }
+            Function::And => {
+                let (a, b) = two_truths(args);
+                a & b
+            }
+            Function::Or => {
+                let (a, b) = two_truths(args);
+                a | b
+            }
+            Function::Not => !truth(args),
+            Function::Same => {
+                let (a, b) = two_texts(args);
+                a.same(b)
+            }
+            Function::Pos => integer(args) > 0,
+            _ => unreachable!(),
         }
     }
 }
