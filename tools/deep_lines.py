@@ -1,5 +1,7 @@
 #!/usr/bin/env python3
-"""Runs incr under a stack of 512 KB, on lines of at most 4,096 bytes that are nested as deep as the grammar lets them.
+"""Runs incr under a small stack, on lines of at most 4,096 bytes that are nested as deep as the grammar lets them.
+
+    deep_lines.py [KILOBYTES]     the stack; 256 where it isn't told
 
 The last line is `N passed, M failed`, and the status is 1 where a line was answered otherwise.
 """
@@ -9,7 +11,7 @@ import sys
 from pathlib import Path
 
 PROGRAM = Path(__file__).resolve().parent.parent / "crates/incr/out/incr"
-STACK = 512 * 1024           # (256 KB were enough before formulas had binds)
+KILOBYTES = 256
 LONGEST_LINE = 4096
 
 # What a line is made of: its front, what stands so often before its middle, its middle, and what stands as often behind it.
@@ -57,11 +59,14 @@ LINES = [
 
 
 def main():
+    if len(sys.argv) > 2 or not all(word.isdecimal() for word in sys.argv[1:]):
+        sys.exit("usage: deep_lines.py [KILOBYTES]")
+    stack = 1024 * int(sys.argv[1] if len(sys.argv) > 1 else KILOBYTES)
     lines = [front + before * count + middle + behind * count for front, before, count, middle, behind, _ in LINES]
     if any(len(line) > LONGEST_LINE for line in lines):
         sys.exit("a line is too long")
     run = subprocess.run([PROGRAM, "run"], input="".join(line + "\n" for line in lines), stdout=subprocess.PIPE, text=True,
-                         preexec_fn=lambda: resource.setrlimit(resource.RLIMIT_STACK, (STACK, STACK)))
+                         preexec_fn=lambda: resource.setrlimit(resource.RLIMIT_STACK, (stack, stack)))
     found = run.stdout.splitlines()
     found += ["nothing, and the program ended with %d" % run.returncode] * (len(LINES) - len(found))
     failed = [(line, answer, wanted) for line, answer, (*_, wanted) in zip(lines, found, LINES) if answer != wanted]

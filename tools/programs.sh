@@ -147,6 +147,9 @@ for program in incr incr_profile; do
     done
 done
 
+python3 tools/deep_lines.py >"$room/written" || { cat "$room/written"; false; }
+judge "incr run: the deepest lines under 256 KB of stack" $? 0
+
 if [ -x crates/incr_bench/out/incr_bench ]; then
     echo 'usage: incr_bench chain|fan|tree|fold|cut|never|idle|flip|flipx|aside|switch|bind|nested|boxed SIZE ROUNDS' >"$room/bench.usage"
     measures 0 crates/incr_bench/stdout nested 9 100

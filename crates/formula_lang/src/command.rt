@@ -7,13 +7,22 @@ use inc_value::{Base, FnRef, Text, Ty};
 use line_parser::Name;
 
 /// A value as a command holds it.
-#[derive(Drop)]
 pub enum Constant {
     Int(i64),
     Bool(bool),
     Text(Text),
     /// The declaration at the position, whose values have the base type.
     Reference { target: usize, base: Base },
+}
+
+// (written out: whoever drops one proves one call, and no drop of its parts)
+impl Drop for Constant {
+    fn drop(self) {
+        match self {
+            Constant::Int(_) | Constant::Bool(_) | Constant::Reference { target: _, base: _ } => {}
+            Constant::Text(text) => drop(text),
+        }
+    }
 }
 
 /// A formula with a position for each name and a reference for each function.
@@ -50,12 +59,21 @@ pub enum Formula {
 }
 
 /// What is declared.
-#[derive(Drop)]
 pub enum Declaration {
     /// A variable with its first value.
     Variable(Constant),
     /// A name for a formula.
     Computed(Formula),
+}
+
+// (written out: whoever drops one proves one call, and no drop of its parts)
+impl Drop for Declaration {
+    fn drop(self) {
+        match self {
+            Declaration::Variable(first) => drop(first),
+            Declaration::Computed(formula) => drop(formula),
+        }
+    }
 }
 
 impl Declaration {
@@ -81,7 +99,6 @@ impl Declaration {
 }
 
 /// A command with a position for each name that it reads.
-#[derive(Drop)]
 pub enum Command {
     /// Declares a name.
     Declare {
@@ -115,4 +132,28 @@ pub enum Command {
     Show {
         observer: Name,
     },
+}
+
+// (written out: whoever drops one proves one call, and no drop of its parts)
+impl Drop for Command {
+    fn drop(self) {
+        match self {
+            Command::Declare { name, ty: _, body } => {
+                drop(name);
+                drop(body);
+            }
+            Command::Grab {
+                name,
+                ty: _,
+                bind: _,
+            } => drop(name),
+            Command::Assign { target: _, value } => drop(value),
+            Command::Observe {
+                observer,
+                target: _,
+            } => drop(observer),
+            Command::Unobserve { observer } | Command::Show { observer } => drop(observer),
+            Command::Stabilize => {}
+        }
+    }
 }

@@ -28,7 +28,6 @@ pub enum Kind {
 }
 
 /// A declared name.
-#[derive(Drop)]
 pub struct Declared {
     pub name: Name,
     /// The type of its values.
@@ -38,13 +37,39 @@ pub struct Declared {
     pub target: usize,
 }
 
+// (written out: whoever drops one proves one call, and no drop of its parts)
+impl Drop for Declared {
+    fn drop(self) {
+        let Declared {
+            name,
+            ty: _,
+            kind: _,
+            target: _,
+        } = self;
+        drop(name);
+    }
+}
+
 /// The declared names in order, the observers' names in use, and the clock, in nanoseconds.
-#[derive(Drop)]
 pub struct Names {
     alloc: Global,
     declared: IndexMap<Vec<u8>, Declared>,
     observers: IndexSet<Vec<u8>>,
     now: i64,
+}
+
+// (written out: whoever drops one proves one call, and no drop of its parts)
+impl Drop for Names {
+    fn drop(self) {
+        let Names {
+            alloc: _,
+            declared,
+            observers,
+            now: _,
+        } = self;
+        drop(declared);
+        drop(observers);
+    }
 }
 
 impl Model for Names {

@@ -6,6 +6,7 @@ ghost use Rattle.formula_lang.specs.Here.{functions_here, functions_here_in_all,
 ghost use Rattle.script_model.specs.Literals.{Referred};
 ghost use Rattle.script_model.specs.Parsing.{trees_of};
 ghost use Rattle.script_model.specs.Formula.{Bind, Literal as Held, meanings_of};
+ghost use Rattle.script_model.specs.Grammar.{Call, Fold, Join};
 ghost use Rattle.inc_value.specs.Choice.{and_then};
 ghost use Rattle.inc_value.specs.Ty.{same_ty, same_types};
 ghost use Rattle.formula_lang.specs.CommandView.{constant_view};
@@ -109,6 +110,7 @@ fn have_unknown_function<L: Library>(library: &L, trees: &[Tree]) -> bool
 
 /// A formula within binds of these variables, with its type, unless a name or a function is unknown or a type does not fit.
 #[cycle(formula)]
+#[inline(never)]
 pub(crate) fn typed<L: Library>(
     alloc: Global,
     names: &Names,
@@ -126,62 +128,39 @@ pub(crate) fn typed<L: Library>(
         Tree::Call {
             function,
             arguments,
-        } => {
-            let Some(function) = library.find(function.bytes()) else {
-                return Ok(None);
-            };
-            let Some(arguments) = typed_each(alloc, names, library, variables, arguments)? else {
-                return Ok(None);
-            };
-            Ok(applied(function, arguments))
-        }
+        } => typed_call(alloc, names, library, variables, function, arguments),
         Tree::Fold {
             function,
             first,
             elements,
-        } => {
-            let Some(function) = library.find(function.bytes()) else {
-                return Ok(None);
-            };
-            let Some(elements) = typed_each(alloc, names, library, variables, elements)? else {
-                return Ok(None);
-            };
-            folded(alloc, names, function, first, elements)
-        }
+        } => typed_fold(alloc, names, library, variables, function, first, elements),
         Tree::If {
             test,
             then_side,
             else_side,
         } => {
-            let Some(test) = boxed(alloc, typed(alloc, names, library, variables, test)?)? else {
+            let Some(test) = typed_part(alloc, names, library, variables, test)? else {
                 return Ok(None);
             };
-            let Some(then_side) = boxed(alloc, typed(alloc, names, library, variables, then_side)?)?
-            else {
+            let Some(then_side) = typed_part(alloc, names, library, variables, then_side)? else {
                 return Ok(None);
             };
-            let Some(else_side) = boxed(alloc, typed(alloc, names, library, variables, else_side)?)?
-            else {
+            let Some(else_side) = typed_part(alloc, names, library, variables, else_side)? else {
                 return Ok(None);
             };
             Ok(branched(test, then_side, else_side))
         }
-        Tree::Join { child } => {
-            let Some(child) = boxed(alloc, typed(alloc, names, library, variables, child)?)? else {
-                return Ok(None);
-            };
-            Ok(joined(child))
-        }
+        Tree::Join { child } => typed_join(alloc, names, library, variables, child),
         Tree::Bind {
             variable,
             left,
             body,
         } => {
-            let Some(left) = boxed(alloc, typed(alloc, names, library, variables, left)?)? else {
+            let Some(left) = typed_part(alloc, names, library, variables, left)? else {
                 return Ok(None);
             };
             let body = typed_within(alloc, names, library, variables, variable, left.ty, body)?;
-            let Some(body) = boxed(alloc, body)? else {
+            let Some(body) = body else {
                 return Ok(None);
             };
             Ok(Some(bound(left, body)))
@@ -191,8 +170,78 @@ pub(crate) fn typed<L: Library>(
     }
 }
 
-/// The body of a bind within the others, with its type, unless it has none.
+/// A function of arguments, with its type, unless it has none.
 #[cycle(formula)]
+#[inline(never)]
+fn typed_call<L: Library>(
+    alloc: Global,
+    names: &Names,
+    library: &L,
+    variables: &[Variable],
+    function: &Name,
+    arguments: &[Tree],
+) -> Result<Option<TypedFormula>, AllocError>
+    ensures { IfOk result (λ t. option_map typed_view t
+        ≡ typed_here (meanings_of (L.named library.now) (L.value library.now)) names.entry.now (map bound_view variables.now)
+        (Call function.now (trees_of (map tree_view arguments.now)))) }
+{
+    let Some(function) = library.find(function.bytes()) else {
+        return Ok(None);
+    };
+    match typed_each(alloc, names, library, variables, arguments)? {
+        Some(arguments) => Ok(applied(function, arguments)),
+        None => Ok(None),
+    }
+}
+
+/// A fold of elements, with its type, unless it has none.
+#[cycle(formula)]
+#[inline(never)]
+fn typed_fold<L: Library>(
+    alloc: Global,
+    names: &Names,
+    library: &L,
+    variables: &[Variable],
+    function: &Name,
+    first: &Literal,
+    elements: &[Tree],
+) -> Result<Option<TypedFormula>, AllocError>
+    ensures { IfOk result (λ t. option_map typed_view t
+        ≡ typed_here (meanings_of (L.named library.now) (L.value library.now)) names.entry.now (map bound_view variables.now)
+        (Fold function.now (literal_view first.now) (trees_of (map tree_view elements.now)))) }
+{
+    let Some(function) = library.find(function.bytes()) else {
+        return Ok(None);
+    };
+    match typed_each(alloc, names, library, variables, elements)? {
+        Some(elements) => folded(alloc, names, function, first, elements),
+        None => Ok(None),
+    }
+}
+
+/// What a formula refers to, with its type, unless it has none.
+#[cycle(formula)]
+#[inline(never)]
+fn typed_join<L: Library>(
+    alloc: Global,
+    names: &Names,
+    library: &L,
+    variables: &[Variable],
+    child: &Tree,
+) -> Result<Option<TypedFormula>, AllocError>
+    ensures { IfOk result (λ t. option_map typed_view t
+        ≡ typed_here (meanings_of (L.named library.now) (L.value library.now)) names.entry.now (map bound_view variables.now)
+        (Join (tree_view child.now))) }
+{
+    match typed_part(alloc, names, library, variables, child)? {
+        Some(child) => Ok(joined(child)),
+        None => Ok(None),
+    }
+}
+
+/// The body of a bind within the others, in a box, with its type, unless it has none.
+#[cycle(formula)]
+#[inline(never)]
 fn typed_within<L: Library>(
     alloc: Global,
     names: &Names,
@@ -201,14 +250,14 @@ fn typed_within<L: Library>(
     variable: &Name,
     ty: Ty,
     body: &Tree,
-) -> Result<Option<TypedFormula>, AllocError>
-    ensures { IfOk result (λ t. option_map typed_view t
+) -> Result<Option<TypedPart>, AllocError>
+    ensures { IfOk result (λ part. option_map part_view part
         ≡ typed_here (meanings_of (L.named library.now) (L.value library.now)) names.entry.now
         (record { name = variable.now; ty = ty } ∷ map bound_view variables.now) (tree_view body.now)) }
 {
     match within(alloc, variable, ty, variables) {
         Ok(variables) => {
-            let body = typed(alloc, names, library, &variables, body);
+            let body = typed_part(alloc, names, library, &variables, body);
             drop(variables);
             body
         }
@@ -216,8 +265,29 @@ fn typed_within<L: Library>(
     }
 }
 
+/// A formula in a box, with its type, unless it has none.
+#[cycle(formula)]
+#[inline(never)]
+fn typed_part<L: Library>(
+    alloc: Global,
+    names: &Names,
+    library: &L,
+    variables: &[Variable],
+    tree: &Tree,
+) -> Result<Option<TypedPart>, AllocError>
+    ensures { IfOk result (λ part. option_map part_view part
+        ≡ typed_here (meanings_of (L.named library.now) (L.value library.now)) names.entry.now (map bound_view variables.now)
+        (tree_view tree.now)) }
+{
+    match typed(alloc, names, library, variables, tree)? {
+        Some(typed) => boxed(alloc, typed),
+        None => Ok(None),
+    }
+}
+
 /// The formulas with their types, unless one of them has none.
 #[cycle(formula)]
+#[inline(never)]
 fn typed_each<L: Library>(
     alloc: Global,
     names: &Names,
@@ -242,19 +312,17 @@ fn typed_each<L: Library>(
 }
 
 /// A formula with its type, put into a box.
-fn boxed(alloc: Global, typed: Option<TypedFormula>) -> Result<Option<TypedPart>, AllocError>
-    ensures { IfOk result (λ part. option_map part_view part ≡ option_map typed_view typed) }
+fn boxed(alloc: Global, typed: TypedFormula) -> Result<Option<TypedPart>, AllocError>
+    ensures { IfOk result (λ part. option_map part_view part ≡ Some (typed_view typed)) }
 {
-    match typed {
-        Some(typed) => Ok(Some(TypedPart {
-            formula: Box::new(alloc, typed.formula)?,
-            ty: typed.ty,
-        })),
-        None => Ok(None),
-    }
+    Ok(Some(TypedPart {
+        formula: Box::new(alloc, typed.formula)?,
+        ty: typed.ty,
+    }))
 }
 
 /// A literal as a formula, unless it refers to nothing of a base type.
+#[inline(never)]
 fn typed_literal(
     alloc: Global,
     names: &Names,
@@ -276,6 +344,7 @@ fn typed_literal(
 }
 
 /// A name as a formula: the innermost variable of the name, or what is declared.
+#[inline(never)]
 fn typed_name(names: &Names, variables: &[Variable], name: &Name) -> Option<TypedFormula>
     ensures { option_map typed_view result ≡ typed_name names.entry.now name.now 0 (map bound_view variables.now) }
 {
@@ -300,6 +369,7 @@ fn typed_declared(names: &Names, name: &Name) -> Option<TypedFormula>
 }
 
 /// The function of the arguments, if their types are those that it takes.
+#[inline(never)]
 fn applied(function: FnRef, arguments: TypedFormulas) -> Option<TypedFormula>
     ensures { option_map typed_view result ≡ applied_to function (typed_each_view arguments) }
 {
@@ -317,6 +387,7 @@ fn applied(function: FnRef, arguments: TypedFormulas) -> Option<TypedFormula>
 
 /// The fold of the elements from the first value, if the function takes what it gives and an element, the first value has the type
 /// that it gives, and each element that which it takes.
+#[inline(never)]
 fn folded(
     alloc: Global,
     names: &Names,
@@ -348,6 +419,7 @@ fn folded(
 }
 
 /// One of two sides by a test, if the test is a truth value and the sides have one type.
+#[inline(never)]
 fn branched(test: TypedPart, then_side: TypedPart, else_side: TypedPart) -> Option<TypedFormula>
     ensures { option_map typed_view result ≡ branched (part_view test) (part_view then_side) (part_view else_side) }
 {
@@ -365,6 +437,7 @@ fn branched(test: TypedPart, then_side: TypedPart, else_side: TypedPart) -> Opti
 }
 
 /// What a declaration is worth to which the formula refers, if that has a type of references.
+#[inline(never)]
 fn joined(child: TypedPart) -> Option<TypedFormula>
     ensures { option_map typed_view result ≡ join_of (part_view child) child.ty }
 {
@@ -378,6 +451,7 @@ fn joined(child: TypedPart) -> Option<TypedFormula>
 }
 
 /// The body with the left for its variable.
+#[inline(never)]
 fn bound(left: TypedPart, body: TypedPart) -> TypedFormula
     ensures { Some (typed_view result) ≡ typed_as (Bind (part_view left).formula (part_view body).formula) body.ty }
 {

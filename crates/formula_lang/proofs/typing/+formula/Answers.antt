@@ -1,4 +1,4 @@
-use Rattle.std.proofs.Common.{◌≡◌, Some, map, sym, ap, refl, ◌∙◌}
+use Rattle.std.proofs.Common.{map, sym, ap, refl, ◌∙◌}
 use Rattle.script_model.specs.Grammar.{Tree}
 use Rattle.line_parser.specs.TreeView.{level_view, tree_view}
 use Rattle.line_parser.specs.declared.tree.Tree.TheFolds.{fold-roll-Tree}
@@ -25,15 +25,12 @@ typed_each-returns g t c =
     all_done F c.args.names.now (map bound_view c.args.variables.now) c.args.trees.now c.loop-tree.tree-index c.loop-tree.formulas.items c.loop-tree.tys.items c.loop-tree-test.false
     c.loop-tree.invariant
 
-pub typed-returns-in-Some-3 : goal.typed-returns-in-Some-3
-typed-returns-in-Some-3 g t c =
-    let F = meanings_of (g.L.Library.named c.args.library.now) (g.L.Library.value c.args.library.now) in
-    let written = ap tree_view (sym (rolls-Fold c.in-Fold.function c.in-Fold.first c.in-Fold.elements))
-    ∙ fold-roll-Tree Tree level_view (level.Fold c.in-Fold.function c.in-Fold.first c.in-Fold.elements) in
-    let found : F.named c.in-Fold.function ≡ Some c.in-Some-find.function =
-    rw (← c.bytes-in-Fold.ensures) (sym c.find-in-Fold.ensures ∙ c.in-Some-find.is) in
-    let each = rw (c.in-Some-3.is, c.deref-in-Fold.ensures.value) at c.in_ok-elements-in-Fold.ensures in
-    rw (c.in-Fold.is, written, found, ← each) c.folded.ensures
+pub typed-returns-in-Fold : goal.typed-returns-in-Fold
+typed-returns-in-Fold g t c =
+    let f = c.in-Fold in
+    let written = ap tree_view (f.is ∙ sym (rolls-Fold f.function f.first f.elements))
+    ∙ fold-roll-Tree Tree level_view (level.Fold f.function f.first f.elements) in
+    rw written (rw c.deref-in-Fold.ensures.value at c.typed_fold.ensures)
 
 pub typed-returns-in-Freeze : goal.typed-returns-in-Freeze
 typed-returns-in-Freeze g t c =
