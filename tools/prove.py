@@ -132,7 +132,8 @@ def prove(room, log, progress):
     progress.begin()
     try:
         for line in ran.stdout:
-            log.write(line)
+            # (the copy is gone when the log is read)
+            log.write(line.replace(room, ROOT))
             log.flush()
             progress.take(line)
         return ran.wait()
