@@ -8,7 +8,7 @@ use std::collections::VecDeque;
 const MOST_READINGS: usize = 16;
 const MOST_MENDS: u32 = 12;
 /// How many negations one line nests; a line may have 64 levels.
-const ONE_LINE: u32 = 58;
+const ONE_LINE: usize = 58;
 
 /// Numbers that look random: the same for the same seed.
 pub struct Chance(u64);
@@ -74,8 +74,8 @@ fn line(text: impl Into<String>) -> Step {
     Step::Line(text.into())
 }
 
-fn nested(count: u32, inner: &str) -> String {
-    format!("{}{inner}{}", "neg(".repeat(count as usize), ")".repeat(count as usize))
+fn nested(count: usize, inner: &str) -> String {
+    format!("{}{inner}{}", "neg(".repeat(count), ")".repeat(count))
 }
 
 impl Writer {
@@ -434,45 +434,71 @@ impl Writer {
         }
     }
 
-    /// Chains of about 128 points, over a variable or over what a reference names, or of about half of that.
+    /// A chain of negations over a variable, over what a reference names or within a right side, and another one over it.
     fn chain(&mut self, state: &State) {
         let reference = self.variable(state, Type::Node(Base::Int)).expect("there is one");
         let number = self.variable(state, INT).expect("there is one");
-        let (one, two, three) = (self.fresh("d"), self.fresh("d"), self.fresh("d"));
-        // (how many points such a chain has, and how many more reach the greatest depth over two lines of it)
+        // (how many more points reach the greatest depth over two lines of such a chain)
         let bases = [(format!("join({reference})"), 14), (number.clone(), 16), ("v".to_owned(), 13)];
         let (base, more) = self.chance.pick(&bases).clone();
-        let in_body = if base == "v" { format!("bind v = {number} in ") } else { String::new() };
-        self.plan([line(format!("let {one} {in_body}{}", nested(ONE_LINE - 4, &base)))]);
-        self.tops.push(one.clone());
-        match self.chance.below(3) {
+        let body = nested(ONE_LINE - 4, &base);
+        let first = self.fresh("d");
+        let formula = if base == "v" { format!("bind v = {number} in {body}") } else { body };
+        self.plan([line(format!("let {first} {formula}"))]);
+        self.tops.push(first.clone());
+        match self.chance.below(4) {
             0 => {
-                let rest = self.chance.between(more - 2, more + 1) as u32;
-                self.plan([
-                    line(format!("let {two} {}", nested(ONE_LINE, &one))),
-                    line(format!("let {three} {}", nested(rest, &two))),
-                ]);
-                self.observe_name(&three);
+                let rest = self.chance.between(more - 2, more + 1);
+                let second = self.chain_over(&first, ONE_LINE);
+                let third = self.chain_over(&second, rest);
+                self.observe_name(&third);
             }
-            1 => {
-                let new = self.fresh("h");
-                let rest = self.chance.between(8, ONE_LINE as usize) as u32;
-                let names = if self.chance.percent(50) { &one } else { "x0" };
-                self.plan([
-                    line(format!("var {new} node int &{names}")),
-                    line(format!("let {two} {}", nested(rest, &format!("join({new})")))),
-                ]);
-                self.tops.push(two.clone());
-                self.observe_name(&two);
-            }
-            _ => {
-                let count = self.chance.between(20, 50) as u32;
-                let body = format!("add(v, {})", nested(count, &format!("join({reference})")));
-                self.plan([line(format!("let {two} bind v = {number} in {body}"))]);
-                self.tops.push(two.clone());
-                self.observe_name(&two);
-            }
+            1 => self.chain_over_chance(&first),
+            2 => self.chain_in_a_body(&number, &reference),
+            _ => self.lowered_chain(&first),
         }
+    }
+
+    fn chain_over(&mut self, inner: &str, count: usize) -> String {
+        let name = self.fresh("d");
+        self.plan([line(format!("let {name} {}", nested(count, inner)))]);
+        name
+    }
+
+    /// A chain over a reference that may come to name another chain.
+    fn chain_over_chance(&mut self, first: &str) {
+        let reference = self.fresh("h");
+        let names = if self.chance.percent(50) { first } else { "x0" };
+        self.plan([line(format!("var {reference} node int &{names}"))]);
+        let count = self.chance.between(8, ONE_LINE);
+        let name = self.chain_over(&format!("join({reference})"), count);
+        self.observe_name(&name);
+        self.tops.push(name);
+    }
+
+    fn chain_in_a_body(&mut self, number: &str, reference: &str) {
+        let name = self.fresh("d");
+        let count = self.chance.between(20, 50);
+        let body = format!("add(v, {})", nested(count, &format!("join({reference})")));
+        self.plan([line(format!("let {name} bind v = {number} in {body}"))]);
+        self.observe_name(&name);
+        self.tops.push(name);
+    }
+
+    /// A chain that stands high over another one, comes down, and has a third one put over it.
+    fn lowered_chain(&mut self, first: &str) {
+        let reference = self.fresh("h");
+        let second = self.chain_over(first, ONE_LINE);
+        self.plan([line(format!("var {reference} node int &{second}"))]);
+        let low = self.chain_over(&format!("join({reference})"), 10);
+        self.observe_name(&low);
+        self.plan([Step::Stabilize, Step::Shows, line(format!("set {reference} &x0"))]);
+        if self.chance.percent(50) {
+            self.plan([Step::Stabilize]);
+        }
+        let high = self.chain_over(&low, 40);
+        self.observe_name(&high);
+        self.plan([Step::Stabilize, Step::Shows]);
     }
 
     /// Two names that may read one another, and circles through the parts of a bind.
