@@ -4,6 +4,7 @@
 //! readings: a reading that a later answer doesn't fit is dropped, and an answer that none fits is a disagreement.
 
 use crate::commands::{Answer, answers};
+use crate::counts::{Count, Counts};
 use crate::evaluation::{Environments, Item, Items, NOWHERE, View};
 use crate::state::{Body, State};
 use crate::syntax::{Command, parse};
@@ -46,44 +47,6 @@ impl Outlook {
     }
 }
 
-/// What is counted, so that it can be seen what was met.
-#[derive(Clone, Copy)]
-pub enum Count {
-    Lines,
-    Refused,
-    Accepted,
-    Circles,
-    Heights,
-    PassedAccepted,
-    PassedRefused,
-    GreatestDepth,
-    Builds,
-    Grabs,
-    Deaths,
-    Values,
-    Invalid,
-    Readings,
-}
-
-pub const COUNTED: [&str; 14] = [
-    "lines answered",
-    "lines refused that aren't a stabilize",
-    "stabilizes accepted",
-    "stabilizes refused for a circle",
-    "stabilizes refused for a height",
-    "stabilizes accepted that turned away from a circle or a height",
-    "stabilizes refused for what they turned away from",
-    "stabilizes accepted with something that stands at the greatest depth",
-    "right sides built for a new value of a bind that is needed",
-    "grabs",
-    "grabs that died",
-    "values shown",
-    "outcomes shown that are invalid",
-    "answers behind which more than one reading stood",
-];
-
-pub type Counts = [u64; COUNTED.len()];
-
 /// An answer that no reading explains, and those that they have.
 pub struct Disagreement {
     given: String,
@@ -96,6 +59,12 @@ impl std::fmt::Display for Disagreement {
     }
 }
 
+/// The number that a printed line refuses with.
+pub fn refused_with(printed: &[u8]) -> Option<u8> {
+    let rest = std::str::from_utf8(printed).ok()?.strip_prefix("refused ")?;
+    rest.split([' ', '\n']).next()?.parse().ok()
+}
+
 pub struct Judge {
     readings: Vec<Reading>,
     pub counts: Counts,
@@ -103,7 +72,7 @@ pub struct Judge {
 
 impl Judge {
     pub fn new() -> Judge {
-        Judge { readings: vec![Reading::default()], counts: [0; COUNTED.len()] }
+        Judge { readings: vec![Reading::default()], counts: Counts::default() }
     }
 
     /// The state of the first reading.
@@ -130,7 +99,7 @@ impl Judge {
                 let outlook = reading.outlook();
                 match reading.stabilize(given) {
                     Some(readings) if following.is_empty() => {
-                        self.count_stabilize(&reading, &outlook, &readings[0], given);
+                        self.count_stabilize(&reading, &outlook, &readings[0]);
                         following.extend(readings);
                     }
                     Some(readings) => following.extend(readings),
@@ -156,35 +125,34 @@ impl Judge {
         Ok(())
     }
 
-    fn count(&mut self, what: Count, by: u64) {
-        self.counts[what as usize] += by;
-    }
-
     fn count_line(&mut self, parsed: &Result<Option<Command>, u8>, given: &[u8]) {
-        self.count(Count::Lines, 1);
-        self.count(Count::Readings, u64::from(self.readings.len() > 1));
+        let counts = &mut self.counts;
+        counts.count(Count::Lines, 1);
+        counts.count(Count::Readings, u64::from(self.readings.len() > 1));
         match parsed {
-            Ok(Some(Command::Stabilize)) if !given.starts_with(b"refused 22") => {}
-            _ if given.starts_with(b"refused ") => self.count(Count::Refused, 1),
-            Ok(Some(Command::Show(_))) if given.ends_with(b"= invalid\n") => self.count(Count::Invalid, 1),
-            Ok(Some(Command::Show(_))) => self.count(Count::Values, 1),
-            Ok(Some(Command::Grab(..))) => self.count(Count::Grabs, 1),
+            _ if refused_with(given).is_some() => {}
+            Ok(Some(Command::Show(_))) if given.ends_with(b"= invalid\n") => counts.count(Count::Invalid, 1),
+            Ok(Some(Command::Show(_))) => counts.count(Count::Values, 1),
+            Ok(Some(Command::Grab(..))) => counts.count(Count::Grabs, 1),
             _ => {}
         }
+        if let Some(number) = refused_with(given) {
+            counts.refused(number);
+        }
     }
 
-    fn count_stabilize(&mut self, was: &Reading, outlook: &Outlook, reading: &Reading, given: &[u8]) {
+    fn count_stabilize(&mut self, was: &Reading, outlook: &Outlook, reading: &Reading) {
+        let counts = &mut self.counts;
         let passes = u64::from(outlook.passes_blocked());
         if reading.state.broken.is_some() {
-            self.count(Count::PassedRefused, passes);
-            self.count(if given.starts_with(b"refused 20") { Count::Circles } else { Count::Heights }, 1);
+            counts.count(Count::PassedRefused, passes);
             return;
         }
-        self.count(Count::Accepted, 1);
-        self.count(Count::PassedAccepted, passes);
-        self.count(Count::GreatestDepth, u64::from(outlook.deepest == GREATEST_DEPTH));
-        self.count(Count::Builds, outlook.builds(&was.state));
-        self.count(Count::Deaths, (was.state.live.len() - reading.state.live.len()) as u64);
+        counts.count(Count::Accepted, 1);
+        counts.count(Count::PassedAccepted, passes);
+        counts.count(Count::GreatestDepth, u64::from(outlook.deepest == GREATEST_DEPTH));
+        counts.count(Count::Builds, outlook.builds(&was.state));
+        counts.count(Count::Deaths, (was.state.live.len() - reading.state.live.len()) as u64);
     }
 
     /// A lawful answer of the first reading, as an engine would give it.

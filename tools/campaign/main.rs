@@ -5,6 +5,7 @@
 //! by the model alone.
 
 mod commands;
+mod counts;
 mod evaluation;
 mod judge;
 mod state;
@@ -18,7 +19,8 @@ mod incr;
 #[cfg(library)]
 mod run;
 
-use judge::{COUNTED, Counts, Judge};
+use counts::{Count, Counts};
+use judge::Judge;
 use std::io::{Read, Write};
 use std::process::ExitCode;
 use writer::Writer;
@@ -78,10 +80,8 @@ fn run(_: Options) -> ExitCode {
 
 /// Prints what was met, and how many answers were right and wrong.
 pub fn report(counts: &Counts, failed: u64) -> ExitCode {
-    for (count, what) in counts.iter().zip(COUNTED) {
-        println!("{count:>12} {what}");
-    }
-    println!("{} passed, {failed} failed", counts[judge::Count::Lines as usize]);
+    counts.print();
+    println!("{} passed, {failed} failed", counts.of(Count::Lines));
     if failed == 0 { ExitCode::SUCCESS } else { ExitCode::FAILURE }
 }
 

@@ -1,7 +1,8 @@
 //! Runs the campaign over sessions of the embedded library.
 
+use crate::counts::{Count, Counts};
 use crate::incr::{Session, Took};
-use crate::judge::{COUNTED, Count, Counts, Judge};
+use crate::judge::{Judge, refused_with};
 use crate::writer::Writer;
 use crate::{Options, report};
 use std::process::ExitCode;
@@ -33,14 +34,8 @@ impl Judged {
     }
 }
 
-/// The number in a line that says that one was refused.
-fn refused_with(printed: &[u8]) -> Option<u8> {
-    let rest = std::str::from_utf8(printed).ok()?.strip_prefix("refused ")?;
-    rest.split([' ', '\n']).next()?.parse().ok()
-}
-
 pub fn run(options: &Options) -> ExitCode {
-    let (mut counts, mut sessions, mut failed) = ([0; COUNTED.len()], 0, 0);
+    let (mut counts, mut failed) = (Counts::default(), 0);
     std::thread::scope(|scope| {
         let threads: Vec<_> = (0..options.threads)
             .map(|thread| {
@@ -50,22 +45,19 @@ pub fn run(options: &Options) -> ExitCode {
             .collect();
         for thread in threads {
             let part = thread.join().expect("the thread ends");
-            counts.iter_mut().zip(part.0).for_each(|(sum, count)| *sum += count);
-            sessions += part.1;
-            failed += part.2;
+            counts.add(&part.0);
+            failed += part.1;
         }
     });
-    println!("{sessions:>12} sessions");
     report(&counts, failed)
 }
 
-/// A thread's part: what was counted, the sessions, and how many of them disagreed. Each session has a seed of its own.
-fn campaign(options: &Options, thread: u64) -> (Counts, u64, u64) {
-    let (mut counts, mut sessions, mut failed) = ([0; COUNTED.len()], 0, 0);
-    let mut stabilizes = 0;
-    while stabilizes < options.stabilizes / options.threads && failed < MOST_FAILURES {
-        let seed = options.seed + thread + sessions * options.threads;
-        sessions += 1;
+/// A thread's part: what was counted, and how many sessions disagreed. Each session has a seed of its own.
+fn campaign(options: &Options, thread: u64) -> (Counts, u64) {
+    let (mut counts, mut failed) = (Counts::default(), 0);
+    while counts.stabilizes() < options.stabilizes / options.threads && failed < MOST_FAILURES {
+        let seed = options.seed + thread + counts.of(Count::Sessions) * options.threads;
+        counts.count(Count::Sessions, 1);
         let mut judged = Judged::open();
         let mut writer = Writer::new(seed, options.size);
         let mut script: Vec<String> = Vec::new();
@@ -79,11 +71,9 @@ fn campaign(options: &Options, thread: u64) -> (Counts, u64, u64) {
                 break;
             }
         }
-        counts.iter_mut().zip(judged.judge.counts).for_each(|(sum, count)| *sum += count);
-        let ended = [Count::Accepted, Count::Circles, Count::Heights];
-        stabilizes += ended.iter().map(|count| judged.judge.counts[*count as usize]).sum::<u64>();
+        counts.add(&judged.judge.counts);
     }
-    (counts, sessions, failed)
+    (counts, failed)
 }
 
 /// Leaves out lines, many at once and then fewer, as long as an answer still disagrees.
