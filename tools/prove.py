@@ -126,14 +126,16 @@ def end_with_parent():
 
 
 def prove(room, log, progress):
-    """Runs `rt ci` in the folder room, with all that it says in the log, and returns its status."""
-    how = {"stdin": subprocess.DEVNULL, "stdout": subprocess.PIPE, "stderr": subprocess.STDOUT, "text": True, "errors": "replace"}
-    ran = subprocess.Popen(["rt", "ci"], cwd=room, start_new_session=True, preexec_fn=end_with_parent, **how)
+    """Runs `rt ci` over the copy in the folder room, with all that it says in the log, and returns its status."""
+    # (what it leaves among its temporary files where it is killed goes with the folder)
+    how = {"cwd": f"{room}/copy", "env": {**os.environ, "TMPDIR": f"{room}/temporary"}, "text": True, "errors": "replace"}
+    how.update(stdin=subprocess.DEVNULL, stdout=subprocess.PIPE, stderr=subprocess.STDOUT)
+    ran = subprocess.Popen(["rt", "ci"], start_new_session=True, preexec_fn=end_with_parent, **how)
     progress.begin()
     try:
         for line in ran.stdout:
             # (the copy is gone when the log is read)
-            log.write(line.replace(room, ROOT))
+            log.write(line.replace(f"{room}/copy", ROOT))
             log.flush()
             progress.take(line)
         return ran.wait()
@@ -168,7 +170,12 @@ def install(made, name, began):
 def build(names, room):
     """Proves and builds the programs in the folder room and puts them to their places. Returns the status."""
     began, lines = time.time(), lines_below(names)
-    copy_crates(lines, room)
+    for name in ("copy", "temporary"):
+        os.mkdir(f"{room}/{name}")
+    # (`rt ci` runs a program as nobody, below its temporary files)
+    for path in (room, f"{room}/temporary"):
+        os.chmod(path, 0o711)
+    copy_crates(lines, f"{room}/copy")
     progress = Progress(lines)
     progress.say(f"incr: proving {len(lines)} crates: an hour of a processor or more, less what is proved on this machine already")
     try:
@@ -178,11 +185,11 @@ def build(names, room):
         progress.say("incr: stopped; the crates that are proved are kept, and the next ./incr prove goes on from there")
         raise
     took = told(time.time() - began)
-    if status or not all(os.path.isfile(f"{room}/crates/{it}/out/{it}") for it in names):
+    if status or not all(os.path.isfile(f"{room}/copy/crates/{it}/out/{it}") for it in names):
         progress.say(f"incr: failed {why_failed(progress)} after {took}; all that was said is in {ROOT}/{LOG}")
         return 1
     for it in names:
-        install(f"{room}/crates/{it}/out/{it}", it, began)
+        install(f"{room}/copy/crates/{it}/out/{it}", it, began)
     progress.say(f"incr: proved and built in {took}")
     return 0
 
