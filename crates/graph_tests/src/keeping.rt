@@ -92,7 +92,7 @@ fn keeps_one_more(rt: HostRuntime) -> Result<(), Fail> {
     let is_map = boxed.sig().is_map();
     assert!(rt; is_map);
     let given = kept(alloc, &mut functions, &neg, NewFn::Map(boxed));
-    assert!(rt; matches!(given, Some(Value::Int(-3))));
+    assert!(rt; matches!(&given, Some(Value::Int(-3))));
     let known = held(alloc, functions, neg);
     assert!(rt; known);
     Ok(())
