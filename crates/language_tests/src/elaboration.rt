@@ -94,7 +94,7 @@ fn begins_with_two(plan: &mut Plan) -> bool
 {
     match plan.next(None) {
         Ok(Some(Make::Node(def, ty))) => {
-            let is = matches!(def, Def::Const(Value::Int(2))) && ty == Ty::Int;
+            let is = matches!(&def, Def::Const(Value::Int(2))) && ty == Ty::Int;
             drop(def);
             is
         }
