@@ -50,12 +50,13 @@ impl Outlook {
 /// An answer that no reading explains, and those that they have.
 pub struct Disagreement {
     given: String,
-    lawful: Vec<String>,
+    lawful: BTreeSet<String>,
 }
 
 impl std::fmt::Display for Disagreement {
     fn fmt(&self, f: &mut std::fmt::Formatter<'_>) -> std::fmt::Result {
-        write!(f, "answered: {}\nlawful:   {}", self.given.trim_end(), self.lawful.join("\n          "))
+        let lawful: Vec<&str> = self.lawful.iter().map(String::as_str).collect();
+        write!(f, "answered: {}\nlawful:   {}", self.given.trim_end(), lawful.join("\n          "))
     }
 }
 
@@ -91,7 +92,7 @@ impl Judge {
     /// Goes on with the readings that the answer to a line fits.
     pub fn line(&mut self, line: &[u8], given: &[u8]) -> Result<(), Disagreement> {
         let parsed = parse(line);
-        let mut lawful = Vec::new();
+        let mut lawful = BTreeSet::new();
         let mut following = Vec::new();
         let stabilizes = matches!(parsed, Ok(Some(Command::Stabilize)));
         for mut reading in std::mem::take(&mut self.readings) {
@@ -113,7 +114,7 @@ impl Judge {
                     let outlook = if printed == b"ok\n" { None } else { outlook.clone() };
                     following.push(Reading { before: before.clone(), state, outlook });
                 } else {
-                    lawful.push(String::from_utf8_lossy(&printed).trim_end().to_owned());
+                    lawful.insert(String::from_utf8_lossy(&printed).trim_end().to_owned());
                 }
             }
         }

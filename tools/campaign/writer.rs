@@ -434,7 +434,7 @@ impl Writer {
         }
     }
 
-    /// A chain of negations over a variable, over what a reference names or within a right side, and another one over it.
+    /// A chain of negations over a variable, over what a reference names or in a right side, and another one over it.
     fn chain(&mut self, state: &State) {
         let reference = self.variable(state, Type::Node(Base::Int)).expect("there is one");
         let number = self.variable(state, INT).expect("there is one");
