@@ -190,7 +190,7 @@ impl Reading {
         Some(states.into_iter().map(|state| Reading { before: Rc::new(state.clone()), state, outlook: None }).collect())
     }
 
-    /// The answers that a stabilize may have, one cycle for each name that is met on one.
+    /// The answers that a stabilize may have, one circle for each name that is met on one.
     fn lawful(&mut self) -> Vec<String> {
         let outlook = self.outlook();
         let mut found = Vec::new();
