@@ -1,5 +1,5 @@
 -- Formulas laid out one after the other.
-use Rattle.std.proofs.Common.{◌≡◌, ℕ, ◌+◌, ◌<◌, ◌≤◌, ◌^◌, List, [], ◌∷◌, ◌++◌, length, map, drop, arith, ap, subst, ◌∙◌}
+use Rattle.std.proofs.Common.{◌≡◌, ℕ, ◌+◌, ◌<◌, ◌≤◌, ◌^◌, List, [], ◌∷◌, ◌++◌, length, map, drop, Result, Ok, Err, IfOk, OnOk, arith, ap, subst, ◌∙◌}
 use Rattle.std.proofs.lemmas.List.{length-append, append_assoc}
 use Rattle.formula_lang.specs.CommandView.{formula_view, formulas_of}
 use Rattle.formula_lang.specs.declared.command.Formula.{Formula}
@@ -88,8 +88,15 @@ module _ (nodes : ℕ → NodeId) (tys : ℕ → Ty) where
         ∙ (append_assoc (m0 ++ first.makes) second.makes (third.makes ++ if_last)
         ∙ append_assoc m0 first.makes (second.makes ++ (third.makes ++ if_last)))
 
-    pub if_laid : (m4 : List Planned) → m4 ≡ m3 ++ Node (If if_ty r1 r2 r3) ∷ [] → IsLaid nodes tys (model.If test a b) m0 m4 (Made (length m3))
-    if_laid m4 e = record {
+    if_laid : (m4 : List Planned) (root : Part) → m4 ≡ m3 ++ Node (If if_ty r1 r2 r3) ∷ [] → root ≡ Made (length m3)
+        → IsLaid nodes tys (model.If test a b) m0 m4 root
+    if_laid m4 root e is = record {
       makes = e ∙ (ap (λ (x : Planned). m3 ++ x ∷ []) if_is ∙ (ap (λ (m : List Planned). m ++ if_last) before_if ∙ if_turned));
-      root = ap Made size_third;
+      root = is ∙ ap Made size_third;
     }
+
+    -- where the node of the if is added, if there is memory
+    pub if_answer : {E : Type 0} (m4 : List Planned) (r' : Result Part E) → OnOk r' (m4 ≡ m3 ++ Node (If if_ty r1 r2 r3) ∷ [])
+        → IfOk r' (λ x. x ≡ Made (length m3)) → IfOk r' (λ x. IsLaid nodes tys (model.If test a b) m0 m4 x)
+    if_answer m4 (Ok x) added is = if_laid m4 x added is
+    if_answer m4 (Err fault) added is = tt

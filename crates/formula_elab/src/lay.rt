@@ -1,5 +1,5 @@
 //! Laying formulas out as nodes to be made.
-ghost use Rattle.std.specs.Prelude.{◌≡◌, ◌<◌, ◌≤◌, ◌^◌, ◌++◌, [], Bool, false, length, map, IfOk};
+ghost use Rattle.std.specs.Prelude.{◌≡◌, ◌<◌, ◌≤◌, ◌^◌, ◌++◌, ◌∷◌, [], Bool, false, length, map, IfOk, OnOk};
 ghost use Rattle.inc_value.specs.declared.function.FnRef.{FnRef};
 ghost use Rattle.inc_value.specs.declared.ty.Ty.{Ty};
 ghost use Rattle.formula_lang.specs.Fits.{BodyFits};
@@ -11,6 +11,8 @@ ghost use Rattle.formula_elab.specs.Names.{EveryName, EveryNameOfAll, EveryNameO
 ghost use Rattle.script_model.specs.Leaves.{EveryReference};
 ghost use Rattle.formula_elab.specs.Opened.{node_at, weight, AreInOrder};
 ghost use Rattle.formula_elab.specs.Types.{type_at, AreTypedAsTargets};
+ghost use Rattle.formula_elab.specs.declared.opened.Part.TheVariants as part;
+ghost use Rattle.formula_elab.specs.declared.plan.Planned.TheVariants as planned;
 
 use crate::opened::{Open, Part, Parts};
 use crate::plan::{Plan, Planned};
@@ -65,17 +67,26 @@ fn lay_body(
         (body_view body.now) makes.old.items makes.new.items root) }
 {
     match body {
-        Declaration::Variable(value) => {
-            let root = Part::Made(makes.len());
-            makes.push(Planned::Node(Open::Var(value_of(alloc, value, ids)?)))?;
-            Ok(root)
-        }
+        Declaration::Variable(value) => { add_node(Open::Var(value_of(alloc, value, ids)?), makes) }
         Declaration::Computed(formula) => lay(alloc, formula, names, ids, makes),
     }
 }
 
+/// Adds a node behind what is to be made already. The answer is its place. (Like others that go with each level of a formula, it
+/// isn't inlined, so that each level takes little stack.)
+#[inline(never)]
+fn add_node(node: Open, makes: &mut Vec<Planned>) -> Result<Part, AllocError>
+    ensures root { IfOk result (λ root. root ≡ part.Made (length makes.old.items)) }
+    ensures added { OnOk result (makes.new.items ≡ makes.old.items ++ planned.Node node ∷ []) }
+{
+    let root = Part::Made(makes.len());
+    makes.push(Planned::Node(node))?;
+    Ok(root)
+}
+
 /// Lays a formula out behind what is to be made already. The answer is its node.
 #[cycle(lay)]
+#[inline(never)]
 fn lay(
     alloc: Global,
     formula: &Formula,
@@ -91,11 +102,7 @@ fn lay(
         (formula_view formula.now) makes.old.items makes.new.items root) }
 {
     match formula {
-        Formula::Literal(value) => {
-            let root = Part::Made(makes.len());
-            makes.push(Planned::Node(Open::Const(value_of(alloc, value, ids)?)))?;
-            Ok(root)
-        }
+        Formula::Literal(value) => { add_node(Open::Const(value_of(alloc, value, ids)?), makes) }
         Formula::Name(position) => Ok(Part::Given(ids[*position])),
         // No bind stands round the formula.
         Formula::Bound(_) => unreachable!(),
@@ -113,9 +120,7 @@ fn lay(
             let test = lay(alloc, test, names, ids, makes)?;
             let yes = lay(alloc, yes, names, ids, makes)?;
             let no = lay(alloc, no, names, ids, makes)?;
-            let root = Part::Made(makes.len());
-            makes.push(Planned::Node(Open::If { ty, test, yes, no }))?;
-            Ok(root)
+            add_node(Open::If { ty, test, yes, no }, makes)
         }
         Formula::Join(child) => lay_join(alloc, child, names, ids, makes),
         Formula::Bind { left, body } => lay_bind(alloc, left, body, names, ids, makes),
@@ -124,6 +129,7 @@ fn lay(
 
 /// Lays a function of these formulas out behind what is to be made already. The answer is its node.
 #[cycle(lay)]
+#[inline(never)]
 fn lay_map(
     alloc: Global,
     function: FnRef,
@@ -140,13 +146,12 @@ fn lay_map(
         (Apply function (formulas_of (map formula_view arguments.now))) makes.old.items makes.new.items root) }
 {
     let arguments = Parts::new(lay_each(alloc, arguments, names, ids, makes)?);
-    let root = Part::Made(makes.len());
-    makes.push(Planned::Node(Open::Map(function, arguments)))?;
-    Ok(root)
+    add_node(Open::Map(function, arguments), makes)
 }
 
 /// Lays a fold of these formulas out behind what is to be made already. The answer is its node.
 #[cycle(lay)]
+#[inline(never)]
 fn lay_fold(
     alloc: Global,
     function: FnRef,
@@ -166,13 +171,12 @@ fn lay_fold(
 {
     let first = value_of(alloc, first, ids)?;
     let elements = Parts::new(lay_each(alloc, elements, names, ids, makes)?);
-    let root = Part::Made(makes.len());
-    makes.push(Planned::Node(Open::Fold(function, first, elements)))?;
-    Ok(root)
+    add_node(Open::Fold(function, first, elements), makes)
 }
 
 /// Lays a join of this formula out behind what is to be made already. The answer is its node.
 #[cycle(lay)]
+#[inline(never)]
 fn lay_join(
     alloc: Global,
     child: &Formula,
@@ -189,14 +193,13 @@ fn lay_join(
 {
     let ty = joined_type(formula_type(alloc, names, &[], child)?);
     let child = lay(alloc, child, names, ids, makes)?;
-    let root = Part::Made(makes.len());
-    makes.push(Planned::Node(Open::Join { ty, child }))?;
-    Ok(root)
+    add_node(Open::Join { ty, child }, makes)
 }
 
 /// Lays a bind of these formulas out behind what is to be made already: its left, its function, and its node. The answer is
 /// its node.
 #[cycle(lay)]
+#[inline(never)]
 fn lay_bind(
     alloc: Global,
     left: &Formula,
@@ -218,17 +221,19 @@ fn lay_bind(
     let ty = body.sig().gives();
     let number = makes.len();
     makes.push(Planned::Body(body))?;
-    let root = Part::Made(makes.len());
-    makes.push(Planned::Node(Open::Bind {
-        ty,
-        left,
-        body: number,
-    }))?;
-    Ok(root)
+    add_node(
+        Open::Bind {
+            ty,
+            left,
+            body: number,
+        },
+        makes,
+    )
 }
 
 /// Lays formulas out one after the other. The answer is their nodes.
 #[cycle(lay)]
+#[inline(never)]
 fn lay_each(
     alloc: Global,
     formulas: &[Formula],

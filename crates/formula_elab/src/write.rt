@@ -25,6 +25,7 @@ use std::alloc::{AllocError, Global};
 /// Writes the body of a bind, where the variables of the binds round it have these types, its own first. The functions of
 /// the binds in it are laid out behind what is to be made already.
 #[cycle(write)]
+#[inline(never)]
 pub(crate) fn write_body(
     alloc: Global,
     formula: &Formula,
@@ -54,6 +55,7 @@ pub(crate) fn write_body(
 
 /// Writes a formula. The answer is the part that reads it.
 #[cycle(write)]
+#[inline(never)]
 fn write(
     alloc: Global,
     formula: &Formula,
@@ -103,6 +105,7 @@ fn write(
 }
 
 /// Writes a literal. The node that it names is listed.
+#[inline(never)]
 fn write_literal(
     alloc: Global,
     constant: &Constant,
@@ -138,6 +141,7 @@ fn list_named(constant: &Constant, ids: &[NodeId], page: &mut Page) -> Result<()
 
 /// Writes a function of these formulas.
 #[cycle(write)]
+#[inline(never)]
 fn write_map(
     alloc: Global,
     function: FnRef,
@@ -161,6 +165,7 @@ fn write_map(
 
 /// Writes a fold of these formulas. The node that its first value names is listed.
 #[cycle(write)]
+#[inline(never)]
 fn write_fold(
     alloc: Global,
     function: FnRef,
@@ -187,6 +192,7 @@ fn write_fold(
 
 /// Writes a join of this formula.
 #[cycle(write)]
+#[inline(never)]
 fn write_join(
     alloc: Global,
     child: &Formula,
@@ -209,6 +215,7 @@ fn write_join(
 
 /// Adds the line of a bind of the part, which captures so many variables. Its function, of the body, is laid out behind what
 /// is to be made already.
+#[inline(never)]
 fn add_bind(
     alloc: Global,
     left: Part,
@@ -235,6 +242,7 @@ fn add_bind(
 
 /// Writes formulas one after the other.
 #[cycle(write)]
+#[inline(never)]
 fn write_each(
     alloc: Global,
     formulas: &[Formula],
