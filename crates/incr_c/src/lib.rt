@@ -1,21 +1,12 @@
-//! Sessions for programs in other languages. A caller keeps a session in a slot of its own, and gives it the lines of a
-//! script; what they print waits in the session until it is read.
+//! The calls of `session_slots` for programs in other languages, under the names that these link.
 #![tactic(auto)]
 
-ghost use Rattle.std.specs.Prelude.{◌≡◌, ◌≤◌, ◌<◌, ◌↔◌, length, IsTrue};
-ghost use Rattle.incr_c.specs.Answers.{code_of};
-ghost use Rattle.incr_c.specs.Slots.{At, Closes, Opens, ReadsIn, TakesIn};
-ghost use Rattle.incr_c.specs.declared.answer.Answer.TheVariants.{NoSlot};
+ghost use Rattle.std.specs.Prelude.{◌≡◌, ◌≤◌, ◌<◌, length};
+ghost use Rattle.session_slots.specs.Answers.{code_of};
+ghost use Rattle.session_slots.specs.Slots.{At, Closes, Opens, ReadsIn, TakesIn};
+ghost use Rattle.session_slots.specs.declared.answer.Answer.TheVariants.{NoSlot};
 
-mod answer;
-mod handle;
-mod holder;
-mod laws;
-mod slot;
-
-use crate::answer::Answer;
-pub use crate::laws::hands_out_transcripts;
-use crate::slot::Slot;
+use session_slots::{Slot, close_at, line_at, open_at, rest_at};
 use std::alloc::Global;
 
 /// Opens a session in the slot: 1. Where the slot has one already that one stays, and the answer is -5; without memory the
@@ -64,23 +55,13 @@ pub extern "C" fn incr_close(alloc: Global, slot: &mut Slot) -> i32
     slot.close(alloc)
 }
 
-/// Whether there is a slot with this number.
-fn has(slots: &[Slot], number: usize) -> bool
-    ensures { IsTrue result ↔ number < length slots.now }
-{
-    number < slots.len()
-}
-
 /// `incr_open` in the slot with this number, or -4 where there is none.
 #[unsafe(no_mangle)]
 pub extern "C" fn incr_open_at(alloc: Global, slots: &mut [Slot], number: usize) -> i32
     ensures beyond { length slots.old ≤ number → (result ≡ code_of NoSlot) × (slots.new ≡ slots.old) }
     ensures within { number < length slots.old → At slots.old number slots.new (λ old new. Opens old result new) }
 {
-    if !has(slots, number) {
-        return Answer::NoSlot.code();
-    }
-    slots[number].open(alloc)
+    open_at(alloc, slots, number)
 }
 
 /// `incr_line` at the slot with this number, or -4 where there is none.
@@ -96,11 +77,7 @@ pub extern "C" fn incr_line_at(
     ensures beyond { length slots.old ≤ number → (result ≡ code_of NoSlot) × (slots.new ≡ slots.old) × (count.new ≡ 0) × (out.new ≡ out.old) }
     ensures within { number < length slots.old → At slots.old number slots.new (λ old new. TakesIn text.now out.old out.new count.new old result new) }
 {
-    if !has(slots, number) {
-        *count = 0;
-        return Answer::NoSlot.code();
-    }
-    slots[number].line(alloc, text, out, count)
+    line_at(alloc, slots, number, text, out, count)
 }
 
 /// `incr_rest` at the slot with this number, or -4 where there is none.
@@ -115,11 +92,7 @@ pub extern "C" fn incr_rest_at(
     ensures beyond { length slots.old ≤ number → (result ≡ code_of NoSlot) × (slots.new ≡ slots.old) × (count.new ≡ 0) × (out.new ≡ out.old) }
     ensures within { number < length slots.old → At slots.old number slots.new (λ old new. ReadsIn out.old out.new count.new old result new) }
 {
-    if !has(slots, number) {
-        *count = 0;
-        return Answer::NoSlot.code();
-    }
-    slots[number].rest(alloc, out, count)
+    rest_at(alloc, slots, number, out, count)
 }
 
 /// `incr_close` at the slot with this number, or -4 where there is none.
@@ -128,8 +101,5 @@ pub extern "C" fn incr_close_at(alloc: Global, slots: &mut [Slot], number: usize
     ensures beyond { length slots.old ≤ number → (result ≡ code_of NoSlot) × (slots.new ≡ slots.old) }
     ensures within { number < length slots.old → At slots.old number slots.new (λ old new. Closes old result new) }
 {
-    if !has(slots, number) {
-        return Answer::NoSlot.code();
-    }
-    slots[number].close(alloc)
+    close_at(alloc, slots, number)
 }

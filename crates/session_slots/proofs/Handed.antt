@@ -1,0 +1,51 @@
+-- What a session hands out is what its lines print.
+use Rattle.std.specs.Prelude.{◌≡◌, ℕ, List, [], ◌∷◌, ◌++◌, map}
+use Rattle.std.specs.List.{flat_map}
+use Rattle.std.proofs.Common.{refl, sym, ap, ◌∙◌, subst}
+use Rattle.std.proofs.lemmas.List.{append_assoc, append-nil}
+use Rattle.script_graph.specs.State.{Stands}
+use Rattle.script_model.specs.Run.{Turn, Chain, bytes_of, lines_read, transcript}
+use Rattle.script_model.specs.Step.{Moment}
+use Rattle.session.specs.Session.{Standing}
+use Rattle.std_library.specs.Calls.{Calls}
+use Rattle.session_slots.specs.Holding.{standard}
+use Rattle.session_slots.specs.Handed.{Given, AreGiven, HandsOutTranscripts}
+use Rattle.session_slots.specs.declared.holder.Holder.{Holder}
+
+-- a run from this moment on, over the lines that were given; what was to be read before and what the run prints is what was handed out and what is to be read
+abbrev Runs : Holder → Moment → List Given → Holder → Type 0
+Runs h m givens end = (turns : List Turn) × (last : Moment) × Chain standard m turns last × Stands standard end.session.kept last
+    × (lines_read turns ≡ map (λ (g : Given). g.line) givens) × (flat_map (λ (g : Given). g.handed) givens ++ end.printed.items ≡ h.printed.items ++ transcript turns)
+
+-- what is printed behind a front goes on behind it
+handed_on : (before handed left bytes rest more end taken : List ℕ) → taken ≡ handed ++ left → taken ≡ before ++ bytes → more ++ end ≡ left ++ rest
+    → (handed ++ more) ++ end ≡ before ++ (bytes ++ rest)
+handed_on before handed left bytes rest more end taken split printed further =
+    append_assoc handed more end ∙ ap (λ (xs : List ℕ). handed ++ xs) further ∙ sym (append_assoc handed left rest)
+    ∙ ap (λ (xs : List ℕ). xs ++ rest) (sym split ∙ printed) ∙ append_assoc before bytes rest
+
+runs_on : (h : Holder) (m : Moment) (givens : List Given) (end : Holder) → Stands standard h.session.kept m → AreGiven h givens end → Runs h m givens end
+runs_on h m [] end stands same = (
+  [],
+  m,
+  refl,
+  subst (λ (x : Holder). Stands standard x.session.kept m) same stands,
+  refl,
+  ap (λ (x : Holder). x.printed.items) (sym same) ∙ sym (append-nil h.printed.items),
+)
+runs_on h m (g ∷ givens) end stands (taken, same, split, more) =
+    let t = taken.0 m stands in
+    let later = runs_on g.after t.turn.after givens end (subst (λ (s : Standing Calls). Stands standard s.kept t.turn.after) (sym same) t.stands) more in (
+      t.turn ∷ later.0,
+      later.1,
+      (t.from, t.is_turn, later.2),
+      later.3,
+      (λ i. t.over i ∷ later.4 i),
+      handed_on h.printed.items g.handed g.after.printed.items (bytes_of t.turn) (transcript later.0) (flat_map (λ (x : Given). x.handed) givens) end.printed.items
+          g.taken.printed.items split t.printed later.5,
+    )
+
+pub hands_out : HandsOutTranscripts
+hands_out first end givens (stands, lines, empty) are =
+    let run = runs_on first _ givens end stands are in
+    (run.0, run.1, run.2, run.3, run.4, run.5 ∙ ap (λ (xs : List ℕ). xs ++ transcript run.0) empty)

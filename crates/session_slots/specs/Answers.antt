@@ -1,0 +1,17 @@
+-- What the calls answer, as numbers.
+use Rattle.std.specs.Prelude.{◌+◌, ℤ, pos, negsuc}
+use Rattle.session.specs.declared.answer.Did.TheVariants as did
+use Rattle.session_slots.specs.declared.answer.Answer.{Answer}
+use Rattle.session_slots.specs.declared.answer.Answer.TheVariants.{Line, Done, NoSession, NoMemory, TooManyLines, NoSlot, OpenAlready}
+
+-- 0 and more where something was done, below 0 where nothing was
+abbrev pub code_of : Answer → ℤ
+code_of (Line did.Blank) = pos 0
+code_of (Line did.Accepted) = pos 1
+code_of (Line (did.Refused n)) = pos (100 + n)
+code_of Done = pos 1
+code_of NoSession = negsuc 0
+code_of NoMemory = negsuc 1
+code_of TooManyLines = negsuc 2
+code_of NoSlot = negsuc 3
+code_of OpenAlready = negsuc 4

@@ -1,0 +1,36 @@
+//! What a call answers.
+ghost use Rattle.std.specs.Prelude.{◌≡◌};
+ghost use Rattle.session_slots.specs.Answers.{code_of};
+
+use session::Did;
+
+/// How a line was taken, that what was asked for is done, or why it is not.
+#[derive(Clone, Copy)]
+pub enum Answer {
+    Line(Did),
+    Done,
+    NoSession,
+    NoMemory,
+    TooManyLines,
+    NoSlot,
+    OpenAlready,
+}
+
+impl Answer {
+    /// The answer as a number.
+    pub(crate) fn code(self) -> i32
+        ensures { result ≡ code_of self }
+    {
+        match self {
+            Answer::Line(Did::Blank) => 0,
+            Answer::Line(Did::Accepted) => 1,
+            Answer::Line(Did::Refused(number)) => 100 + i32::from(number),
+            Answer::Done => 1,
+            Answer::NoSession => -1,
+            Answer::NoMemory => -2,
+            Answer::TooManyLines => -3,
+            Answer::NoSlot => -4,
+            Answer::OpenAlready => -5,
+        }
+    }
+}
