@@ -17,18 +17,10 @@ const LONGEST_LINE: usize = 4096;
 const LINE_TOO_LONG: u8 = 2;
 
 /// A session over the standard library, and what it printed that is still to be read.
+#[derive(Drop)]
 pub struct Holder {
     session: Session<StdLib>,
     printed: Vec<u8>,
-}
-
-/// By hand, since a derived one has what a session is made of proved here once more.
-impl Drop for Holder {
-    fn drop(self) {
-        let Holder { session, printed } = self;
-        drop(session.into_library());
-        drop(printed);
-    }
 }
 
 impl Holder {

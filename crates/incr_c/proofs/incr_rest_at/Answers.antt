@@ -1,0 +1,11 @@
+use Rattle.std.proofs.Common.{sym, subst, w32}
+use Rattle.std.proofs.Math.Facts.{to_z-of_z}
+use Rattle.std.specs.Prelude.{ℤ}
+use Rattle.session_slots.specs.Slots.{At, ReadsIn}
+use Rattle.session_slots.specs.declared.slot.Slot.{Slot}
+use Rattle.incr_c.proofs.incr_rest_at.Goals as goal
+
+-- the number that is handed on is the one that was answered
+pub returns-clause-within : goal.returns-clause-within
+returns-clause-within c = λ within. subst (λ (code : ℤ). At c.args.slots.now c.args.number c.rest_at.new.slots (λ (old new : Slot). ReadsIn c.args.out.now c.rest_at.new.out c.rest_at.new.count old code new))
+    (sym (to_z-of_z {w = w32} (record { sfits = c.rest_at.type_inv }))) (c.rest_at.ensures.within within)
