@@ -71,13 +71,7 @@ impl Slot {
     /// Gives the session its next line, without its newline, and copies out all that is to be read where there is room for it.
     /// `count` is how much that is. The answer is 0 for a line that asks for nothing, 1 for an accepted one, 100 and a refusal's
     /// number for a refused one, -1 without a session, -2 without memory and -3 where a session has taken as many lines as it may.
-    pub fn line(
-        &mut self,
-        alloc: Global,
-        text: &[u8],
-        out: &mut [u8],
-        count: &mut usize,
-    ) -> i32
+    pub fn line(&mut self, alloc: Global, text: &[u8], out: &mut [u8], count: &mut usize) -> i32
         ensures { TakesIn text.now out.old out.new count.new self.old result self.new }
     {
         let Some(mut held) = self.take(alloc) else {

@@ -15,8 +15,8 @@ returns c = (
       to_z-of_z {w = w32} (record { sfits = c.code-2.type_inv }) ∙ c.code-2.ensures,
       c.line-how.new.self,
       let held = c.in-Some.ensures.taken.1 in
-      let lent = c.deref_mut.ensures.value in
-      subst (λ (h : Holder). TakesLine h c.args.text.now c.line-how.new.self c.line-how.result) cc c.line-how.ensures,
+          let lent = c.deref_mut.ensures.value in
+          subst (λ (h : Holder). TakesLine h c.args.text.now c.line-how.new.self c.line-how.result) cc c.line-how.ensures,
       search rules,
       search rules,
       search rules,
