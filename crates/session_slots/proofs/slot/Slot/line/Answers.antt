@@ -16,7 +16,7 @@ returns c = (
       c.line-how.new.self,
       let held = c.in-Some.ensures.taken.1 in
           let lent = c.deref_mut.ensures.value in
-          subst (λ (h : Holder). TakesLine h c.args.text.now c.line-how.new.self c.line-how.result) cc c.line-how.ensures,
+          subst (λ (h : Holder). TakesLine h c.args.text.now c.line-how.new.self c.line-how.result) (cc) c.line-how.ensures,
       search rules,
       search rules,
       search rules,
