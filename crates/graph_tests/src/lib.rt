@@ -11,7 +11,7 @@ mod bodies;
 #[cfg(test)]
 mod boxed;
 #[cfg(test)]
-mod keeping;
+mod handing;
 #[cfg(test)]
 mod tables;
 #[cfg(test)]

@@ -1,6 +1,6 @@
 use Rattle.std.proofs.Common.{map, length}
 use Rattle.closures.specs.Tables.{AreSound, map_of, side_of}
-use Rattle.graph_tests.proofs.keeping.keep_all.Given as goal
+use Rattle.graph_tests.proofs.handing.keep_all.Given as goal
 
 abbrev pub invariant-loop-function : goal.invariant-loop-function
 invariant-loop-function g l =
