@@ -17,7 +17,6 @@ use std::alloc::{AllocError, Global};
 use std::marker::Model;
 
 /// A line of a body.
-#[derive(Drop)]
 pub(crate) enum OpenLine {
     /// One that is ready.
     Ready(Line),
@@ -29,6 +28,21 @@ pub(crate) enum OpenLine {
         most: u64,
         captures: Parts,
     },
+}
+
+// (written out: whoever drops one proves one call, and no drop of its parts)
+impl Drop for OpenLine {
+    fn drop(self) {
+        match self {
+            OpenLine::Ready(line) => drop(line),
+            OpenLine::Bind {
+                left: _,
+                body: _,
+                most: _,
+                captures,
+            } => drop(captures),
+        }
+    }
 }
 
 impl OpenLine {
@@ -67,11 +81,23 @@ impl OpenLine {
 }
 
 /// The lines of a body, and the nodes that they read, while they are written.
-#[derive(Drop)]
 pub(crate) struct Page {
     listed: Vec<ListedNode>,
     lines: Vec<OpenLine>,
     size: u64,
+}
+
+// (written out: whoever drops one proves one call, and no drop of its parts)
+impl Drop for Page {
+    fn drop(self) {
+        let Page {
+            listed,
+            lines,
+            size: _,
+        } = self;
+        drop(listed);
+        drop(lines);
+    }
 }
 
 impl Model for Page {
@@ -149,13 +175,27 @@ impl Page {
 }
 
 /// The right sides of a bind.
-#[derive(Drop)]
 pub(crate) struct OpenBody {
     sig: Sig,
     listed: Vec<ListedNode>,
     lines: Vec<OpenLine>,
     root: Part,
     size: u64,
+}
+
+// (written out: whoever drops one proves one call, and no drop of its parts)
+impl Drop for OpenBody {
+    fn drop(self) {
+        let OpenBody {
+            sig: _,
+            listed,
+            lines,
+            root: _,
+            size: _,
+        } = self;
+        drop(listed);
+        drop(lines);
+    }
 }
 
 impl Model for OpenBody {

@@ -33,9 +33,16 @@ impl Part {
 }
 
 /// The nodes of a function's arguments or a fold's elements in order, seen as a list.
-#[derive(Drop)]
 pub(crate) struct Parts {
     parts: Vec<Part>,
+}
+
+// (written out: whoever drops one proves one call, and no drop of its parts)
+impl Drop for Parts {
+    fn drop(self) {
+        let Parts { parts } = self;
+        drop(parts);
+    }
 }
 
 impl Model for Parts {
@@ -64,7 +71,6 @@ impl Parts {
 }
 
 /// What a node is to be, over nodes that may not be made yet.
-#[derive(Drop)]
 pub(crate) enum Open {
     Const(Value),
     Var(Value),
@@ -90,6 +96,32 @@ pub(crate) enum Open {
     },
 }
 
+// (written out: whoever drops one proves one call, and no drop of its parts)
+impl Drop for Open {
+    fn drop(self) {
+        match self {
+            Open::Const(value) | Open::Var(value) => drop(value),
+            Open::Map(_, parts) => drop(parts),
+            Open::Fold(_, first, parts) => {
+                drop(first);
+                drop(parts);
+            }
+            Open::If {
+                ty: _,
+                test: _,
+                yes: _,
+                no: _,
+            }
+            | Open::Join { ty: _, child: _ }
+            | Open::Bind {
+                ty: _,
+                left: _,
+                body: _,
+            } => {}
+        }
+    }
+}
+
 impl Open {
     /// The definition, with what was made.
     pub(crate) fn filled(&self, alloc: Global, made: &[Made]) -> Result<Def, AllocError>
@@ -100,16 +132,11 @@ impl Open {
             Open::Const(value) => Def::Const(value.copy(alloc)?),
             Open::Var(value) => Def::Var(value.copy(alloc)?),
             Open::Map(function, parts) => {
-                let kids = nodes_of(alloc, parts.as_slice(), made)?;
-                Def::Map(*function, Nodes::from_slice(alloc, &kids)?)
+                Def::Map(*function, kids_of(alloc, parts.as_slice(), made)?)
             }
             Open::Fold(function, first, parts) => {
-                let kids = nodes_of(alloc, parts.as_slice(), made)?;
-                Def::Fold(
-                    *function,
-                    first.copy(alloc)?,
-                    Nodes::from_slice(alloc, &kids)?,
-                )
+                let kids = kids_of(alloc, parts.as_slice(), made)?;
+                Def::Fold(*function, first.copy(alloc)?, kids)
             }
             Open::If { test, yes, no, .. } => Def::If {
                 test: test.node(made),
@@ -143,6 +170,21 @@ fn function_of(made: &[Made], number: usize) -> FnRef
     ensures { result ≡ function_made (made_at made.now number) }
 {
     made[number].function()
+}
+
+/// The kids of a node in order, where this was made.
+fn kids_of(alloc: Global, parts: &[Part], made: &[Made]) -> Result<Nodes, AllocError>
+    requires earlier { (earlier : List Planned) × All (IsEarlier earlier) parts.now × AreMadeAs earlier made.now × (length earlier ≡ length made.now) }
+    ensures { IfOk result (λ kids. kids ≡ map (node_of made.now) parts.now) }
+{
+    match nodes_of(alloc, parts, made) {
+        Ok(nodes) => {
+            let kids = Nodes::from_slice(alloc, &nodes);
+            drop(nodes);
+            kids
+        }
+        Err(error) => Err(error),
+    }
 }
 
 /// The nodes in order, where this was made.

@@ -14,12 +14,21 @@ use std::alloc::{AllocError, Global};
 use std::marker::Model;
 
 /// What is to be made, over nodes and functions that may not be made yet.
-#[derive(Drop)]
 pub(crate) enum Planned {
     /// The function of a bind's right sides.
     Body(OpenBody),
     /// A node.
     Node(Open),
+}
+
+// (written out: whoever drops one proves one call, and no drop of its parts)
+impl Drop for Planned {
+    fn drop(self) {
+        match self {
+            Planned::Body(body) => drop(body),
+            Planned::Node(node) => drop(node),
+        }
+    }
 }
 
 impl Planned {
@@ -37,7 +46,6 @@ impl Planned {
 }
 
 /// What is to be made in a graph for a declaration, one after the other.
-#[derive(Drop)]
 pub struct Plan {
     alloc: Global,
     makes: Vec<Planned>,
@@ -45,6 +53,21 @@ pub struct Plan {
     /// Whether the last one asked for isn't known to be made.
     is_waiting: bool,
     root: Part,
+}
+
+// (written out: whoever drops one proves one call, and no drop of its parts)
+impl Drop for Plan {
+    fn drop(self) {
+        let Plan {
+            alloc: _,
+            makes,
+            made,
+            is_waiting: _,
+            root: _,
+        } = self;
+        drop(makes);
+        drop(made);
+    }
 }
 
 impl Model for Plan {
