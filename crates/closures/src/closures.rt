@@ -17,9 +17,9 @@ const MOST: usize = 65_535;
 /// `Closures`. It cannot name the graph's type itself, nor any other type whose invariant speaks of what its
 /// functions promise: the toolchain takes no such type over a keeper of boxes.
 ///
-/// An example stands in the crate `closure_tests`: `held` makes a `Holder`, whose invariant is of a graph's
+/// An example stands in the crate `closure_examples`: `held` makes a `Holder`, whose invariant is of a graph's
 /// form, and asks it; `kept` has one function more kept beside another; `bind_and_build` builds right sides.
-/// The tests there make the boxes and call these.
+/// Tests of `graph_tests` make the boxes and call these.
 pub struct Closures {
     maps: Vec<Box<dyn MapFn>>,
     sides: Vec<Box<dyn RhsFn>>,

@@ -32,7 +32,7 @@ pub use undo::Mark;
 /// up to date by `stabilize` and shows until the next one.
 ///
 /// A graph whose functions are kept in boxes is made and used by functions that are generic in `F`: its invariant speaks
-/// of `F`, and of a keeper of boxes such a type can't be named. An example is `held` of closure_tests.
+/// of `F`, and of a keeper of boxes such a type can't be named. An example is `held` of closure_examples.
 pub struct Graph<F: Functions> {
     alloc: Global,
     functions: F,
