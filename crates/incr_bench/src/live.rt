@@ -97,12 +97,19 @@ impl<F: Functions> Live<F> {
         }
     }
 
+    /// Whether the function is known.
+    fn knows(&self, function: &FnRef) -> bool
+        ensures { result ≡ F.known self.now.graph.functions function.now }
+    {
+        self.graph.functions().knows(*function)
+    }
+
     /// Makes a node that applies a function to nodes. It is refused where the function isn't known.
     fn map(&mut self, function: FnRef, kids: &[NodeId]) -> Result<(), Fault>
         ensures grows { OnOk result (length self.new.nodes.items ≡ length self.old.nodes.items + 1) }
         ensures uncalled { self.new.graph.functions ≡ self.old.graph.functions }
     {
-        if !self.graph.functions().knows(function) {
+        if !self.knows(&function) {
             return Err(Fault::Refused);
         }
         match self.graph.map(function, kids) {
@@ -117,7 +124,8 @@ impl<F: Functions> Live<F> {
         ensures uncalled { self.new.graph.functions ≡ self.old.graph.functions }
     {
         let kids = [self.node(kid)];
-        self.map(self.negation, &kids)
+        let negation = self.negation;
+        self.map(negation, &kids)
     }
 
     /// Makes the sum of two nodes.
@@ -153,7 +161,7 @@ impl<F: Functions> Live<F> {
         ensures uncalled { self.new.graph.functions ≡ self.old.graph.functions }
     {
         let add = Function::Add.reference();
-        if !self.graph.functions().knows(add) {
+        if !self.knows(&add) {
             return Err(Fault::Refused);
         }
         match self.graph.fold(add, Value::Int(0), &self.nodes) {
@@ -167,10 +175,10 @@ impl<F: Functions> Live<F> {
         ensures grows { OnOk result (length self.new.nodes.items ≡ length self.old.nodes.items + 1) }
         ensures uncalled { self.new.graph.functions ≡ self.old.graph.functions }
     {
-        match self
-            .graph
-            .if_(Ty::Int, self.node(test), self.node(yes), self.node(no))
-        {
+        let test = self.node(test);
+        let yes = self.node(yes);
+        let no = self.node(no);
+        match self.graph.if_(Ty::Int, test, yes, no) {
             Ok(node) => append(&mut self.nodes, node),
             Err(fault) => Err(of_graph(fault)),
         }
@@ -181,7 +189,8 @@ impl<F: Functions> Live<F> {
         ensures grows { OnOk result (length self.new.nodes.items ≡ length self.old.nodes.items + 1) }
         ensures uncalled { self.new.graph.functions ≡ self.old.graph.functions }
     {
-        match self.graph.join(Ty::Int, self.node(reference)) {
+        let reference = self.node(reference);
+        match self.graph.join(Ty::Int, reference) {
             Ok(node) => append(&mut self.nodes, node),
             Err(fault) => Err(of_graph(fault)),
         }
@@ -194,7 +203,8 @@ impl<F: Functions> Live<F> {
         ensures grows { OnOk result (length self.new.nodes.items ≡ length self.old.nodes.items + 1) }
         ensures uncalled { self.new.graph.functions ≡ self.old.graph.functions }
     {
-        match self.graph.bind(self.node(left), side, captures) {
+        let left = self.node(left);
+        match self.graph.bind(left, side, captures) {
             Ok(node) => append(&mut self.nodes, node),
             Err(fault) => Err(of_graph(fault)),
         }
@@ -205,7 +215,8 @@ impl<F: Functions> Live<F> {
         ensures uncalled { self.new.graph.functions ≡ self.old.graph.functions }
         ensures same_nodes { self.new.nodes.items ≡ self.old.nodes.items }
     {
-        match self.graph.observe(self.node(place)) {
+        let node = self.node(place);
+        match self.graph.observe(node) {
             Ok(_) => Ok(()),
             Err(fault) => Err(of_graph(fault)),
         }
@@ -216,7 +227,8 @@ impl<F: Functions> Live<F> {
         ensures uncalled { self.new.graph.functions ≡ self.old.graph.functions }
         ensures same_nodes { self.new.nodes.items ≡ self.old.nodes.items }
     {
-        match self.graph.set_var(self.node(place), value) {
+        let node = self.node(place);
+        match self.graph.set_var(node, value) {
             Ok(()) => Ok(()),
             Err(fault) => Err(of_graph(fault)),
         }
@@ -227,7 +239,8 @@ impl<F: Functions> Live<F> {
         ensures uncalled { self.new.graph.functions ≡ self.old.graph.functions }
         ensures same_nodes { self.new.nodes.items ≡ self.old.nodes.items }
     {
-        match self.graph.set_cutoff(self.node(place), Cutoff::Never) {
+        let node = self.node(place);
+        match self.graph.set_cutoff(node, Cutoff::Never) {
             Ok(()) => Ok(()),
             Err(fault) => Err(of_graph(fault)),
         }

@@ -33,7 +33,12 @@ fn add(draft: &mut Draft, line: Line) -> Result<(), Fault>
 }
 
 /// Adds a line that applies a function to parts.
-fn add_map(alloc: Global, draft: &mut Draft, function: Function, parts: &[Part]) -> Result<(), Fault>
+fn add_map(
+    alloc: Global,
+    draft: &mut Draft,
+    function: Function,
+    parts: &[Part],
+) -> Result<(), Fault>
     ensures { draft.new.listed ≡ draft.old.listed }
 {
     let parts = Parts::from_slice(alloc, parts)?;
@@ -107,14 +112,14 @@ fn binding(alloc: Global, function: FnRef, most: u64) -> Result<Body, Fault>
 }
 
 /// Whether the function is known, lists no nodes, and takes so many at most.
-fn can_call(functions: &ScriptFns<StdLib>, function: FnRef, most: u64) -> bool
+fn can_call(functions: &ScriptFns<StdLib>, function: &FnRef, most: u64) -> bool
     ensures { IsTrue result → CanCall (⟦<ScriptFns<StdLib> as Functions>⟧.known functions.now)
-        (⟦<ScriptFns<StdLib> as Functions>⟧.right functions.now) (record { function = function; most = most }) }
+        (⟦<ScriptFns<StdLib> as Functions>⟧.right functions.now) (record { function = function.now; most = most }) }
 {
-    if !functions.knows(function) {
+    if !functions.knows(*function) {
         return false;
     }
-    match functions.body(function) {
+    match functions.body(*function) {
         Some(body) => body.size() <= most && body.draft().listed().is_empty(),
         None => true,
     }
@@ -126,8 +131,8 @@ fn can_call_line(functions: &ScriptFns<StdLib>, line: &TypedLine) -> bool
         (⟦<ScriptFns<StdLib> as Functions>⟧.right functions.now)) (line_uses line.now.line) }
 {
     match &line.line {
-        Line::Map(function, _) | Line::Fold(function, _, _) => can_call(functions, *function, 0),
-        Line::Bind { function, most, .. } => can_call(functions, *function, *most),
+        Line::Map(function, _) | Line::Fold(function, _, _) => can_call(functions, function, 0),
+        Line::Bind { function, most, .. } => can_call(functions, function, *most),
         Line::Const(_) | Line::If { .. } | Line::Join(_) => true,
     }
 }
@@ -166,7 +171,11 @@ fn keep(alloc: Global, functions: &mut ScriptFns<StdLib>, body: Body) -> Result<
 }
 
 /// Keeps right sides of so many nodes beside the left number, and gives the function that makes them.
-pub fn keep_tree(alloc: Global, functions: &mut ScriptFns<StdLib>, size: usize) -> Result<FnRef, Fault>
+pub fn keep_tree(
+    alloc: Global,
+    functions: &mut ScriptFns<StdLib>,
+    size: usize,
+) -> Result<FnRef, Fault>
     requires sound { ⟦<ScriptFns<StdLib> as Functions>⟧.is_sound functions.old }
     requires small { size ≤ 1000000 }
     ensures sound { ⟦<ScriptFns<StdLib> as Functions>⟧.is_sound functions.new }
@@ -178,7 +187,11 @@ pub fn keep_tree(alloc: Global, functions: &mut ScriptFns<StdLib>, size: usize) 
 }
 
 /// Keeps right sides that bind such a function on a captured number, and gives the function that makes them.
-pub fn keep_nested(alloc: Global, functions: &mut ScriptFns<StdLib>, size: usize) -> Result<FnRef, Fault>
+pub fn keep_nested(
+    alloc: Global,
+    functions: &mut ScriptFns<StdLib>,
+    size: usize,
+) -> Result<FnRef, Fault>
     requires sound { ⟦<ScriptFns<StdLib> as Functions>⟧.is_sound functions.old }
     requires small { size ≤ 1000000 }
     ensures sound { ⟦<ScriptFns<StdLib> as Functions>⟧.is_sound functions.new }
