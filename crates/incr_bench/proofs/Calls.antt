@@ -4,7 +4,7 @@ use Rattle.inc_value.specs.Choice.{Among, Every}
 use Rattle.inc_value.specs.declared.function.FnRef.{FnRef}
 use Rattle.node_arena.specs.Building.{Use}
 use Rattle.node_arena.specs.Listing.{Listed}
-use Rattle.node_arena.specs.RightSide.{RightSide, IsUsable, AreFit, AreUsable}
+use Rattle.node_arena.specs.RightSide.{RightSide, AreFit, AreUsable}
 use Rattle.node_arena.specs.Arena.{Arena}
 use Rattle.script_functions.specs.Bodies.{Body, side_of}
 use Rattle.script_functions.specs.Lines.{line_uses, uses_of}

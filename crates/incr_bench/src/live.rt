@@ -17,19 +17,6 @@ pub struct Live<F: Functions> {
     negation: FnRef,
 }
 
-/// The node at a place, or one that no graph has.
-fn node_at(nodes: &[NodeId], place: usize) -> NodeId
-    ensures { result ≡ node_in nodes.now place }
-{
-    match nodes.get(place) {
-        Some(node) => *node,
-        None => NodeId {
-            slot: 0,
-            gen_: u64::MAX,
-        },
-    }
-}
-
 /// Puts a node behind those that were made.
 fn append(nodes: &mut Vec<NodeId>, node: NodeId) -> Result<(), Fault>
     ensures { OnOk result (length nodes.new.items ≡ length nodes.old.items + 1) }
@@ -83,7 +70,13 @@ impl<F: Functions> Live<F> {
     pub fn node(&self, place: usize) -> NodeId
         ensures { result ≡ node_in self.now.nodes.items place }
     {
-        node_at(&self.nodes, place)
+        match self.nodes.get(place) {
+            Some(node) => *node,
+            None => NodeId {
+                slot: 0,
+                gen_: u64::MAX,
+            },
+        }
     }
 
     /// Makes a variable with its first value.

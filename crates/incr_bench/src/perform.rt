@@ -13,7 +13,7 @@ use crate::live::Live;
 use crate::report::{Ending, Report, of_rounds, publish};
 use crate::rounds::{Rounds, measure};
 use crate::shapes::{bind, fill, nested};
-use crate::sides::{keep_nested, keep_tree};
+use crate::sides::keep_sides;
 use closures::Closures;
 use inc_value::FnRef;
 use node_arena::MapFn;
@@ -106,11 +106,8 @@ fn over_sides<C: Clock>(alloc: Global, clock: &C, job: Job) -> Result<Rounds, Fa
     requires within { IsWithin job }
 {
     let mut functions = ScriptFns::new(alloc, StdLib::new());
-    let kept = match job.shape {
-        Shape::Nested => keep_nested(alloc, &mut functions, job.size),
-        _ => keep_tree(alloc, &mut functions, job.size),
-    };
-    match kept {
+    let nested = matches!(job.shape, Shape::Nested);
+    match keep_sides(alloc, &mut functions, job.size, nested) {
         Ok(side) => measure_sides(alloc, functions, side, clock, job),
         Err(fault) => {
             drop(functions);

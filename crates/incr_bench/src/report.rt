@@ -1,7 +1,7 @@
 //! What a run tells.
-ghost use Rattle.std.specs.Prelude.{◌≡◌, ◌≢◌, IfOk, string_bytes};
+ghost use Rattle.std.specs.Prelude.{◌≡◌, ◌≢◌, ◌++◌, IfOk, OnOk, string_bytes};
 ghost use Rattle.std.specs.Io.KnownBytes.{Appends};
-ghost use Rattle.incr_bench.specs.Reports.{counts_text};
+ghost use Rattle.incr_bench.specs.Reports.{calls_line, last_line};
 ghost use Rattle.incr_bench.specs.Status.{SinksTell, status_of};
 ghost use Rattle.incr_bench.specs.declared.report.Ending.TheVariants.{Unwritten};
 
@@ -14,7 +14,7 @@ use std::alloc::{AllocError, Global};
 /// What a run found: the counts, which are its output, and the times, which are notes.
 #[derive(Drop)]
 pub struct Report {
-    pub counts: String,
+    pub counts: Vec<u8>,
     pub times: String,
 }
 
@@ -31,13 +31,20 @@ pub enum Ending {
     Stopped(Fault),
 }
 
-/// What the counts of rounds are told as.
-fn counts(alloc: Global, rounds: Rounds) -> Result<String, AllocError>
-    ensures { IfOk result (λ text. string_bytes text ≡ counts_text rounds.calls rounds.last) }
+/// Tells how many functions were called in the rounds.
+fn tell_calls(alloc: Global, counts: &mut Vec<u8>, calls: u64) -> Result<(), AllocError>
+    ensures { OnOk result (counts.new.items ≡ counts.old.items ++ calls_line calls) }
 {
-    let calls = rounds.calls;
-    let last = rounds.last;
-    format!(in alloc; "calls {calls}\nlast {last}\n")
+    let line = format!(in alloc; "calls {calls}\n")?;
+    counts.extend_from_slice(line.as_bytes())
+}
+
+/// Tells what the first observer shows after them.
+fn tell_last(alloc: Global, counts: &mut Vec<u8>, last: i64) -> Result<(), AllocError>
+    ensures { OnOk result (counts.new.items ≡ counts.old.items ++ last_line last) }
+{
+    let line = format!(in alloc; "last {last}\n")?;
+    counts.extend_from_slice(line.as_bytes())
 }
 
 /// Tells a time, and what of it falls to one of a count.
@@ -67,21 +74,23 @@ fn tell_times(
 
 /// What rounds found.
 pub fn of_rounds(alloc: Global, job: Job, rounds: Rounds) -> Result<Report, AllocError>
-    ensures { IfOk result (λ report. string_bytes report.counts ≡ counts_text rounds.calls rounds.last) }
+    ensures { IfOk result (λ report. report.counts.items ≡ calls_line rounds.calls ++ last_line rounds.last) }
 {
+    let mut counts = Vec::new(alloc);
     let mut times = String::new(alloc);
+    tell_calls(alloc, &mut counts, rounds.calls)?;
+    tell_last(alloc, &mut counts, rounds.last)?;
     tell_times(alloc, &mut times, job, rounds)?;
-    let counts = counts(alloc, rounds)?;
     Ok(Report { counts, times })
 }
 
 /// Writes what was found. A write that fails is not tried again, and ends it.
 pub fn publish<K: Sink, N: Sink>(report: &Report, out: &mut K, notes: &mut N) -> Ending
-    ensures counts { result ≢ Unwritten → Appends (K.written out.old) (K.written out.new) (string_bytes report.now.counts) }
+    ensures counts { result ≢ Unwritten → Appends (K.written out.old) (K.written out.new) report.now.counts.items }
     ensures times { result ≢ Unwritten → Appends (N.written notes.old) (N.written notes.new) (string_bytes report.now.times) }
     ensures sinks { SinksTell (result ≡ Unwritten) (K.faults out.old) (K.faults out.new) (N.faults notes.old) (N.faults notes.new) }
 {
-    match write_whole(out, report.counts.as_bytes()) {
+    match write_whole(out, &report.counts) {
         Ok(()) => {}
         Err(Failed) => return Ending::Unwritten,
     }

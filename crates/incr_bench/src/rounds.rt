@@ -30,11 +30,6 @@ fn fresh(round: u64) -> Value {
     Value::Int((round % 2_000_000_000) as i64 + 2)
 }
 
-/// The truth that a round gives a variable, another one than the last round gave.
-fn other(round: u64) -> Value {
-    Value::Bool(round % 2 == 1)
-}
-
 /// Changes what a round of a shape changes.
 fn change<F: Functions>(live: &mut Live<F>, job: Job, round: u64) -> Result<(), Fault>
     ensures uncalled { live.new.graph.functions ≡ live.old.graph.functions }
@@ -42,10 +37,10 @@ fn change<F: Functions>(live: &mut Live<F>, job: Job, round: u64) -> Result<(), 
     match job.shape {
         Shape::Tree | Shape::Fold => live.set(turn(round, job.size), fresh(round)),
         Shape::Nested => live.set(turn(round, 2), fresh(round)),
-        Shape::Flip | Shape::Aside => live.set(0, other(round)),
+        Shape::Flip | Shape::Aside => live.set(0, Value::Bool(round % 2 == 1)),
         Shape::Flipx => {
             live.set(1, fresh(round))?;
-            live.set(0, other(round))
+            live.set(0, Value::Bool(round % 2 == 1))
         }
         Shape::Switch => {
             let target = live.node(turn(round, job.size));

@@ -52,17 +52,6 @@ fn variables<F: Functions>(live: &mut Live<F>, size: usize) -> Result<(), Fault>
     Ok(())
 }
 
-/// Sums of the nodes, pairwise, until one is left.
-fn sums<F: Functions>(live: &mut Live<F>, size: usize) -> Result<(), Fault>
-    requires { size ≤ 1000000 }
-    ensures uncalled { live.new.graph.functions ≡ live.old.graph.functions }
-{
-    for k in 1..size {
-        live.sum(2 * (k - 1), 2 * k - 1)?;
-    }
-    Ok(())
-}
-
 /// Variables that are summed pairwise, with the whole sum observed.
 fn tree<F: Functions>(live: &mut Live<F>, size: usize) -> Result<(), Fault>
     requires small { size ≤ 1000000 }
@@ -70,7 +59,9 @@ fn tree<F: Functions>(live: &mut Live<F>, size: usize) -> Result<(), Fault>
     ensures uncalled { live.new.graph.functions ≡ live.old.graph.functions }
 {
     variables(live, size)?;
-    sums(live, size)?;
+    for k in 1..size {
+        live.sum(2 * (k - 1), 2 * k - 1)?;
+    }
     live.observe(2 * size - 2)
 }
 
@@ -83,33 +74,18 @@ fn folded<F: Functions>(live: &mut Live<F>, size: usize) -> Result<(), Fault>
     live.observe(size)
 }
 
-/// A variable that is compared with 0, two numbers, and the outcome of the comparison: four variables and node 4.
-fn comparison<F: Functions>(live: &mut Live<F>) -> Result<(), Fault>
+/// A variable that is compared with 0, and so many readers of the comparison, which choose one of two numbers, all observed.
+fn cut<F: Functions>(live: &mut Live<F>, size: usize) -> Result<(), Fault>
     ensures uncalled { live.new.graph.functions ≡ live.old.graph.functions }
 {
     live.var(Value::Int(1))?;
     live.var(Value::Int(0))?;
     live.var(Value::Int(10))?;
     live.var(Value::Int(20))?;
-    live.less(1, 0)
-}
-
-/// Readers of the comparison.
-fn readers<F: Functions>(live: &mut Live<F>, size: usize) -> Result<(), Fault>
-    ensures uncalled { live.new.graph.functions ≡ live.old.graph.functions }
-{
+    live.less(1, 0)?;
     for _ in 0..size {
         live.pick(4, 2, 3)?;
     }
-    Ok(())
-}
-
-/// A comparison that stays as it is, with readers behind it, all observed.
-fn cut<F: Functions>(live: &mut Live<F>, size: usize) -> Result<(), Fault>
-    ensures uncalled { live.new.graph.functions ≡ live.old.graph.functions }
-{
-    comparison(live)?;
-    readers(live, size)?;
     observe_all(live, 5, size)
 }
 
@@ -121,26 +97,17 @@ fn never<F: Functions>(live: &mut Live<F>, size: usize) -> Result<(), Fault>
     live.tell_all(4)
 }
 
-/// A variable and its negation, which is observed in every second pair.
-fn pair<F: Functions>(live: &mut Live<F>, i: usize) -> Result<(), Fault>
-    ensures uncalled { live.new.graph.functions ≡ live.old.graph.functions }
-{
-    let place = live.len();
-    live.var(Value::Int(7))?;
-    live.neg(place)?;
-    if i % 2 == 0 {
-        live.observe(place.saturating_add(1))
-    } else {
-        Ok(())
-    }
-}
-
-/// Nodes at rest: variables with their negations.
+/// Nodes at rest: variables with their negations, every second one observed.
 fn rest<F: Functions>(live: &mut Live<F>, size: usize) -> Result<(), Fault>
     ensures uncalled { live.new.graph.functions ≡ live.old.graph.functions }
 {
     for i in 0..size / 2 {
-        pair(live, i)?;
+        let place = live.len();
+        live.var(Value::Int(7))?;
+        live.neg(place)?;
+        if i % 2 == 0 {
+            live.observe(place.saturating_add(1))?;
+        }
     }
     Ok(())
 }

@@ -142,7 +142,12 @@ fn can_call_lines(functions: &ScriptFns<StdLib>, lines: &[TypedLine]) -> bool
     ensures { IsTrue result → Every (λ x. Every (CanCall (⟦<ScriptFns<StdLib> as Functions>⟧.known functions.now)
         (⟦<ScriptFns<StdLib> as Functions>⟧.right functions.now)) (line_uses x.line)) lines.now }
 {
-    lines.iter().all(|line| can_call_line(functions, line))
+    for line in lines {
+        if !can_call_line(functions, line) {
+            return false;
+        }
+    }
+    true
 }
 
 /// Keeps right sides that list no nodes. They are refused where a function that their lines call isn't known, lists nodes, or
@@ -170,27 +175,13 @@ fn keep(alloc: Global, functions: &mut ScriptFns<StdLib>, body: Body) -> Result<
     }
 }
 
-/// Keeps right sides of so many nodes beside the left number, and gives the function that makes them.
-pub fn keep_tree(
+/// Keeps the right sides of a shape, and gives the function that makes them: so many nodes beside the left number, or where
+/// they are nested a bind on a captured number of such a function.
+pub fn keep_sides(
     alloc: Global,
     functions: &mut ScriptFns<StdLib>,
     size: usize,
-) -> Result<FnRef, Fault>
-    requires sound { ⟦<ScriptFns<StdLib> as Functions>⟧.is_sound functions.old }
-    requires small { size ≤ 1000000 }
-    ensures sound { ⟦<ScriptFns<StdLib> as Functions>⟧.is_sound functions.new }
-    ensures known { IfOk result (λ f. IsTrue (⟦<ScriptFns<StdLib> as Functions>⟧.known functions.new f)) }
-    ensures lists_none { IfOk result (λ f. (⟦<ScriptFns<StdLib> as Functions>⟧.right functions.new f).ids ≡ []) }
-{
-    let body = tree(alloc, size)?;
-    keep(alloc, functions, body)
-}
-
-/// Keeps right sides that bind such a function on a captured number, and gives the function that makes them.
-pub fn keep_nested(
-    alloc: Global,
-    functions: &mut ScriptFns<StdLib>,
-    size: usize,
+    nested: bool,
 ) -> Result<FnRef, Fault>
     requires sound { ⟦<ScriptFns<StdLib> as Functions>⟧.is_sound functions.old }
     requires small { size ≤ 1000000 }
@@ -201,6 +192,9 @@ pub fn keep_nested(
     let body = tree(alloc, size)?;
     let most = body.size();
     let inner = keep(alloc, functions, body)?;
+    if !nested {
+        return Ok(inner);
+    }
     let outer = binding(alloc, inner, most)?;
     keep(alloc, functions, outer)
 }
