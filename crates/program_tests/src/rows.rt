@@ -109,7 +109,8 @@ const LINE_AND_FAULT: Outside = Outside {
     room: 100_000,
 };
 
-pub(super) const ROWS: &[Row] = &[
+/// Sums and what stays as it is.
+pub(super) const SUMS: &[Row] = &[
     Row {
         name: "nothing",
         script: &[Lines::Once("", "")],
@@ -173,6 +174,10 @@ pub(super) const ROWS: &[Row] = &[
         outside: USUAL,
         status: 0,
     },
+];
+
+/// Binds and grabs.
+pub(super) const BINDS: &[Row] = &[
     Row {
         name: "a bind",
         script: &[Lines::Once(
@@ -206,147 +211,6 @@ pub(super) const ROWS: &[Row] = &[
                  o = 12\nok\nstable 3\ncalls 1\no = 22\nok\nok\nstable 4\ncalls 0\np = 22\nok\n\
                  stable 5\ncalls 1\nbuilds 1\np = invalid\nok\nstable 6\ncalls 1\nbuilds 1\n\
                  p = invalid\no = 22\n",
-        )],
-        outside: USUAL,
-        status: 0,
-    },
-    Row {
-        name: "a join that reads itself",
-        script: &[Lines::Once(
-            "var x int 1\nvar h node int &x\nlet j join(h)\nobserve o j\nset h &j\nstabilize\nshow o\n",
-            "ok\nok\nok\nok\nok\nrefused 20 cycle j j\nrefused 22 20\n",
-        )],
-        outside: USUAL,
-        status: 1,
-    },
-    Row {
-        name: "ifs that read each other in turn",
-        script: &[Lines::Once(
-            "var c bool true\nvar u int 1\nvar hx node int &u\nvar hy node int &u\n\
-                 let x if c then join(hx) else u\nlet y if c then u else join(hy)\nset hx &y\n\
-                 set hy &x\nobserve o x\nobserve p y\nstabilize\nshow o\nset c false\nstabilize\n\
-                 show o\nshow p\n",
-            "ok\nok\nok\nok\nok\nok\nok\nok\nok\nok\nstable 1\ncalls 0\no = 1\nok\nstable 2\n\
-                 calls 0\no = 1\np = 1\n",
-        )],
-        outside: USUAL,
-        status: 0,
-    },
-    Row {
-        name: "the longest chain, and one more",
-        script: &[
-            Lines::Once("var n0 int 1\n", "ok\n"),
-            Lines::Each((0, 128), ("", 0), "let n% neg(n$)\n", "ok\n"),
-            Lines::Once(
-                "observe o n128\nstabilize\nshow o\nlet n129 neg(n128)\nobserve p n129\nstabilize\n\
-                 show o\n",
-                "ok\nstable 1\ncalls 128\no = 1\nok\nok\nrefused 21 height n129\nrefused 22 21\n",
-            ),
-        ],
-        outside: USUAL,
-        status: 1,
-    },
-    Row {
-        name: "a line that is too long, and a last one without a newline",
-        script: &[
-            Lines::Once(
-                "var x int 9223372036854775807\nlet y add(x, 1)\nobserve o y\nstabilize\n",
-                "ok\nok\nok\nstable 1\ncalls 1\n",
-            ),
-            Lines::Each(
-                (0, 1),
-                ("a", 4_097),
-                "*\nshow o",
-                "refused 2\no = -9223372036854775808\n",
-            ),
-        ],
-        outside: SEVEN_BYTES,
-        status: 1,
-    },
-    Row {
-        name: "the longest line",
-        script: &[Lines::Each((0, 1), ("a", 4_096), "*\n", "refused 1\n")],
-        outside: USUAL,
-        status: 1,
-    },
-    Row {
-        name: "an observer that ends",
-        script: &[Lines::Once(
-            "var x int 3\nlet y add(x, 4)\nobserve o y\nstabilize\nshow o\nunobserve o\nset x 9\n\
-                 stabilize\nshow o\n",
-            "ok\nok\nok\nstable 1\ncalls 1\no = 7\nok\nok\nstable 2\ncalls 0\nrefused 11\n",
-        )],
-        outside: USUAL,
-        status: 1,
-    },
-    Row {
-        name: "an observer that takes the place of another",
-        script: &[Lines::Once(
-            "var x int 3\nlet y add(x, 4)\nobserve o y\nstabilize\nshow o\nunobserve o\n\
-                 observe q y\nstabilize\nshow q\n",
-            "ok\nok\nok\nstable 1\ncalls 1\no = 7\nok\nok\nstable 2\ncalls 0\nq = 7\n",
-        )],
-        outside: USUAL,
-        status: 0,
-    },
-    Row {
-        name: "nine arguments, and a fold from the left",
-        script: &[Lines::Once(
-            "var x int 2\nlet s sum9(x, x, x, x, x, x, x, x, x)\nlet f fold sub from 100 [x, x, 5]\n\
-                 observe o s\nobserve p f\nstabilize\nshow o\nshow p\nset x 3\nstabilize\nshow p\n",
-            "ok\nok\nok\nok\nok\nstable 1\ncalls 4\no = 18\np = 91\nok\nstable 2\ncalls 4\np = 89\n",
-        )],
-        outside: USUAL,
-        status: 0,
-    },
-    Row {
-        name: "a text",
-        script: &[Lines::Once(
-            "var t text \"a\\\"b\"\nlet u cat(t, \"c\")\nobserve o u\nstabilize\nshow o\n",
-            "ok\nok\nok\nstable 1\ncalls 1\no = \"a\\\"bc\"\n",
-        )],
-        outside: USUAL,
-        status: 0,
-    },
-    Row {
-        name: "functions at their edges",
-        script: &[
-            Lines::Each((0, 1), ("a", 2_048), "var t text \"*\"\n", "ok\n"),
-            Lines::Once(
-                "let h cat(t, t)\nlet i len(cat(h, h))\nobserve oi i\nlet a div(-7, 2)\nobserve oa a\n\
-                 let b rem(-7, 2)\nobserve ob b\nlet c div(7, 0)\nobserve oc c\nlet d rem(7, 0)\n\
-                 observe od d\nlet e div(-9223372036854775808, -1)\nobserve oe e\n\
-                 let f rem(-9223372036854775808, -1)\nobserve of f\nlet g clamp(5, 1, 3)\nobserve og g\n",
-                "ok\nok\nok\nok\nok\nok\nok\nok\nok\nok\nok\nok\nok\nok\nok\nok\nok\n",
-            ),
-            Lines::Once(
-                "stabilize\nshow oi\nshow oa\nshow ob\nshow oc\nshow od\nshow oe\nshow of\nshow og\n",
-                "stable 1\ncalls 10\noi = 4096\noa = -3\nob = -1\noc = 0\nod = 0\n\
-                 oe = -9223372036854775808\nof = 0\nog = 3\n",
-            ),
-        ],
-        outside: USUAL,
-        status: 0,
-    },
-    Row {
-        name: "the side of an if that is read",
-        script: &[Lines::Once(
-            "var c bool true\nvar x int 1\nvar y int 2\nlet q if c then neg(x) else neg(y)\n\
-                 observe o q\nstabilize\nshow o\nset c false\nstabilize\nshow o\nset x 5\nstabilize\n\
-                 show o\n",
-            "ok\nok\nok\nok\nok\nstable 1\ncalls 1\no = -1\nok\nstable 2\ncalls 1\no = -2\nok\n\
-                 stable 3\ncalls 0\no = -2\n",
-        )],
-        outside: USUAL,
-        status: 0,
-    },
-    Row {
-        name: "a join that is read no more",
-        script: &[Lines::Once(
-            "var c bool true\nvar d bool true\nvar x int 1\nvar h node int &x\n\
-                 let g if not(not(d)) then h else h\nlet j join(g)\nlet q if c then j else x\n\
-                 observe o q\nstabilize\nset c false\nset h &j\nstabilize\nshow o\n",
-            "ok\nok\nok\nok\nok\nok\nok\nok\nstable 1\ncalls 2\nok\nok\nstable 2\ncalls 0\no = 1\n",
         )],
         outside: USUAL,
         status: 0,
@@ -409,6 +273,55 @@ pub(super) const ROWS: &[Row] = &[
         outside: USUAL,
         status: 0,
     },
+];
+
+/// Ifs, joins and references.
+pub(super) const CHOICES: &[Row] = &[
+    Row {
+        name: "a join that reads itself",
+        script: &[Lines::Once(
+            "var x int 1\nvar h node int &x\nlet j join(h)\nobserve o j\nset h &j\nstabilize\nshow o\n",
+            "ok\nok\nok\nok\nok\nrefused 20 cycle j j\nrefused 22 20\n",
+        )],
+        outside: USUAL,
+        status: 1,
+    },
+    Row {
+        name: "ifs that read each other in turn",
+        script: &[Lines::Once(
+            "var c bool true\nvar u int 1\nvar hx node int &u\nvar hy node int &u\n\
+                 let x if c then join(hx) else u\nlet y if c then u else join(hy)\nset hx &y\n\
+                 set hy &x\nobserve o x\nobserve p y\nstabilize\nshow o\nset c false\nstabilize\n\
+                 show o\nshow p\n",
+            "ok\nok\nok\nok\nok\nok\nok\nok\nok\nok\nstable 1\ncalls 0\no = 1\nok\nstable 2\n\
+                 calls 0\no = 1\np = 1\n",
+        )],
+        outside: USUAL,
+        status: 0,
+    },
+    Row {
+        name: "the side of an if that is read",
+        script: &[Lines::Once(
+            "var c bool true\nvar x int 1\nvar y int 2\nlet q if c then neg(x) else neg(y)\n\
+                 observe o q\nstabilize\nshow o\nset c false\nstabilize\nshow o\nset x 5\nstabilize\n\
+                 show o\n",
+            "ok\nok\nok\nok\nok\nstable 1\ncalls 1\no = -1\nok\nstable 2\ncalls 1\no = -2\nok\n\
+                 stable 3\ncalls 0\no = -2\n",
+        )],
+        outside: USUAL,
+        status: 0,
+    },
+    Row {
+        name: "a join that is read no more",
+        script: &[Lines::Once(
+            "var c bool true\nvar d bool true\nvar x int 1\nvar h node int &x\n\
+                 let g if not(not(d)) then h else h\nlet j join(g)\nlet q if c then j else x\n\
+                 observe o q\nstabilize\nset c false\nset h &j\nstabilize\nshow o\n",
+            "ok\nok\nok\nok\nok\nok\nok\nok\nstable 1\ncalls 2\nok\nok\nstable 2\ncalls 0\no = 1\n",
+        )],
+        outside: USUAL,
+        status: 0,
+    },
     Row {
         name: "a reference to a second name",
         script: &[Lines::Once(
@@ -416,6 +329,130 @@ pub(super) const ROWS: &[Row] = &[
                  var h node int &y\nobserve q h\nstabilize\nshow o\nshow q\n",
             "ok\nok\nok\nok\nok\nok\nok\nstable 1\ncalls 1\no = \"a\\\"bc\"\nq = &x\n",
         )],
+        outside: USUAL,
+        status: 0,
+    },
+];
+
+/// Scripts at the limits.
+pub(super) const LIMITS: &[Row] = &[
+    Row {
+        name: "the longest chain, and one more",
+        script: &[
+            Lines::Once("var n0 int 1\n", "ok\n"),
+            Lines::Each((0, 128), ("", 0), "let n% neg(n$)\n", "ok\n"),
+            Lines::Once(
+                "observe o n128\nstabilize\nshow o\nlet n129 neg(n128)\nobserve p n129\nstabilize\n\
+                 show o\n",
+                "ok\nstable 1\ncalls 128\no = 1\nok\nok\nrefused 21 height n129\nrefused 22 21\n",
+            ),
+        ],
+        outside: USUAL,
+        status: 1,
+    },
+    Row {
+        name: "a line that is too long, and a last one without a newline",
+        script: &[
+            Lines::Once(
+                "var x int 9223372036854775807\nlet y add(x, 1)\nobserve o y\nstabilize\n",
+                "ok\nok\nok\nstable 1\ncalls 1\n",
+            ),
+            Lines::Each(
+                (0, 1),
+                ("a", 4_097),
+                "*\nshow o",
+                "refused 2\no = -9223372036854775808\n",
+            ),
+        ],
+        outside: SEVEN_BYTES,
+        status: 1,
+    },
+    Row {
+        name: "the longest line",
+        script: &[Lines::Each((0, 1), ("a", 4_096), "*\n", "refused 1\n")],
+        outside: USUAL,
+        status: 1,
+    },
+    Row {
+        name: "all places taken, and one more",
+        script: &[
+            Lines::Each(
+                (0, 1_023),
+                (",1", 1_022),
+                "let a$ fold add from 0 [1*]\n",
+                "ok\n",
+            ),
+            Lines::Each(
+                (1023, 1_024),
+                (",1", 1_021),
+                "let a$ fold add from 0 [1*]\n",
+                "ok\n",
+            ),
+            Lines::Once("let z 1\n", "refused 19\n"),
+        ],
+        outside: WIDE,
+        status: 1,
+    },
+];
+
+/// Observers, functions, and lines of each kind.
+pub(super) const LANGUAGE: &[Row] = &[
+    Row {
+        name: "an observer that ends",
+        script: &[Lines::Once(
+            "var x int 3\nlet y add(x, 4)\nobserve o y\nstabilize\nshow o\nunobserve o\nset x 9\n\
+                 stabilize\nshow o\n",
+            "ok\nok\nok\nstable 1\ncalls 1\no = 7\nok\nok\nstable 2\ncalls 0\nrefused 11\n",
+        )],
+        outside: USUAL,
+        status: 1,
+    },
+    Row {
+        name: "an observer that takes the place of another",
+        script: &[Lines::Once(
+            "var x int 3\nlet y add(x, 4)\nobserve o y\nstabilize\nshow o\nunobserve o\n\
+                 observe q y\nstabilize\nshow q\n",
+            "ok\nok\nok\nstable 1\ncalls 1\no = 7\nok\nok\nstable 2\ncalls 0\nq = 7\n",
+        )],
+        outside: USUAL,
+        status: 0,
+    },
+    Row {
+        name: "nine arguments, and a fold from the left",
+        script: &[Lines::Once(
+            "var x int 2\nlet s sum9(x, x, x, x, x, x, x, x, x)\nlet f fold sub from 100 [x, x, 5]\n\
+                 observe o s\nobserve p f\nstabilize\nshow o\nshow p\nset x 3\nstabilize\nshow p\n",
+            "ok\nok\nok\nok\nok\nstable 1\ncalls 4\no = 18\np = 91\nok\nstable 2\ncalls 4\np = 89\n",
+        )],
+        outside: USUAL,
+        status: 0,
+    },
+    Row {
+        name: "a text",
+        script: &[Lines::Once(
+            "var t text \"a\\\"b\"\nlet u cat(t, \"c\")\nobserve o u\nstabilize\nshow o\n",
+            "ok\nok\nok\nstable 1\ncalls 1\no = \"a\\\"bc\"\n",
+        )],
+        outside: USUAL,
+        status: 0,
+    },
+    Row {
+        name: "functions at their edges",
+        script: &[
+            Lines::Each((0, 1), ("a", 2_048), "var t text \"*\"\n", "ok\n"),
+            Lines::Once(
+                "let h cat(t, t)\nlet i len(cat(h, h))\nobserve oi i\nlet a div(-7, 2)\nobserve oa a\n\
+                 let b rem(-7, 2)\nobserve ob b\nlet c div(7, 0)\nobserve oc c\nlet d rem(7, 0)\n\
+                 observe od d\nlet e div(-9223372036854775808, -1)\nobserve oe e\n\
+                 let f rem(-9223372036854775808, -1)\nobserve of f\nlet g clamp(5, 1, 3)\nobserve og g\n",
+                "ok\nok\nok\nok\nok\nok\nok\nok\nok\nok\nok\nok\nok\nok\nok\nok\nok\n",
+            ),
+            Lines::Once(
+                "stabilize\nshow oi\nshow oa\nshow ob\nshow oc\nshow od\nshow oe\nshow of\nshow og\n",
+                "stable 1\ncalls 10\noi = 4096\noa = -3\nob = -1\noc = 0\nod = 0\n\
+                 oe = -9223372036854775808\nof = 0\nog = 3\n",
+            ),
+        ],
         outside: USUAL,
         status: 0,
     },
@@ -445,26 +482,10 @@ pub(super) const ROWS: &[Row] = &[
         outside: USUAL,
         status: 1,
     },
-    Row {
-        name: "all places taken, and one more",
-        script: &[
-            Lines::Each(
-                (0, 1_023),
-                (",1", 1_022),
-                "let a$ fold add from 0 [1*]\n",
-                "ok\n",
-            ),
-            Lines::Each(
-                (1023, 1_024),
-                (",1", 1_021),
-                "let a$ fold add from 0 [1*]\n",
-                "ok\n",
-            ),
-            Lines::Once("let z 1\n", "refused 19\n"),
-        ],
-        outside: WIDE,
-        status: 1,
-    },
+];
+
+/// Reads in pieces, and runs that are cut off.
+pub(super) const STREAMS: &[Row] = &[
     Row {
         name: "a sum, byte by byte",
         script: &[Lines::Once(

@@ -1,7 +1,7 @@
 //! Whether the rows are answered as they say.
 
 use crate::driver::is_answered;
-use crate::rows::{ROWS, Row};
+use crate::rows::{BINDS, CHOICES, LANGUAGE, LIMITS, Row, STREAMS, SUMS};
 use std::alloc::Global;
 use std::test::Fail;
 
@@ -15,10 +15,40 @@ fn first_unanswered(alloc: Global, rows: &[Row]) -> Option<&'static str> {
     None
 }
 
-#[test]
-fn rows_are_answered(rt: HostRuntime) -> Result<(), Fail> {
-    match first_unanswered(rt.alloc(), ROWS) {
+/// Fails with the name of the first row that isn't answered as it says.
+fn are_answered(alloc: Global, rows: &[Row]) -> Result<(), Fail> {
+    match first_unanswered(alloc, rows) {
         Some(name) => Err(Fail::new(name)),
         None => Ok(()),
     }
+}
+
+#[test]
+fn sums_are_answered(rt: HostRuntime) -> Result<(), Fail> {
+    are_answered(rt.alloc(), SUMS)
+}
+
+#[test]
+fn binds_are_answered(rt: HostRuntime) -> Result<(), Fail> {
+    are_answered(rt.alloc(), BINDS)
+}
+
+#[test]
+fn choices_are_answered(rt: HostRuntime) -> Result<(), Fail> {
+    are_answered(rt.alloc(), CHOICES)
+}
+
+#[test]
+fn limits_are_answered(rt: HostRuntime) -> Result<(), Fail> {
+    are_answered(rt.alloc(), LIMITS)
+}
+
+#[test]
+fn language_is_answered(rt: HostRuntime) -> Result<(), Fail> {
+    are_answered(rt.alloc(), LANGUAGE)
+}
+
+#[test]
+fn streams_are_answered(rt: HostRuntime) -> Result<(), Fail> {
+    are_answered(rt.alloc(), STREAMS)
 }
