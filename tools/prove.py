@@ -177,7 +177,7 @@ def build(names, room):
         os.chmod(path, 0o711)
     copy_crates(lines, f"{room}/copy")
     progress = Progress(lines)
-    progress.say(f"incr: proving {len(lines)} crates: an hour of a processor or more, less what is proved on this machine already")
+    progress.say(f"incr: proving {len(lines)} crates: some 66 minutes of a processor, less what is proved on this machine already")
     try:
         with open(f"{ROOT}/{LOG}", "w", encoding="utf-8") as log:
             status = prove(room, log, progress)
