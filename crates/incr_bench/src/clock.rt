@@ -1,11 +1,14 @@
 //! Times in nanoseconds.
-ghost use Rattle.std.specs.Prelude.{◌≡◌, ◌-◌, ◌^◌, min, None};
+ghost use Rattle.std.specs.Prelude.{◌≡◌, ◌-◌, ◌^◌, min, None, IfSome};
 ghost use Rattle.std.specs.Duration.{as_nanos};
+ghost use Rattle.std.specs.Time.{instant_nanos, FitsClock};
 
 use std::time::{Clock, Duration, Instant};
 
-/// The time that the clock shows, if it can be read.
-pub fn begin<C: Clock>(clock: &C) -> Option<Instant> {
+/// The time that the clock shows, if it can be read. Which time that is, and whether it can, only the clock says.
+pub fn begin<C: Clock>(clock: &C) -> Option<Instant>
+    ensures { IfSome result (λ time. FitsClock (instant_nanos time)) }
+{
     Instant::now(clock).ok()
 }
 

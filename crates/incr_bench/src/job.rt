@@ -1,6 +1,7 @@
 //! The words of the command line, and what they ask for.
-ghost use Rattle.std.specs.Prelude.{◌≤◌, IfSome};
-ghost use Rattle.incr_bench.specs.Jobs.{IsWithin};
+ghost use Rattle.std.specs.Prelude.{◌≡◌, ◌≤◌, ◌<◌, None, Some, IfSome};
+ghost use Rattle.incr_bench.specs.Jobs.{Asks, AsksFor, IsWithin, Writes, most_of, shape_of};
+ghost use Rattle.incr_bench.specs.declared.job.Job.{Job as AJob};
 
 use script_io::Word;
 use std::convert::AsStr;
@@ -61,7 +62,7 @@ pub struct Job {
 
 /// The largest size of a shape: as long as a chain may be, and as many nodes as a graph may have.
 fn most(shape: Shape) -> usize
-    ensures { result ≤ 1000000 }
+    ensures { result ≡ most_of shape }
 {
     match shape {
         Shape::Chain => 128,
@@ -80,7 +81,9 @@ fn most(shape: Shape) -> usize
 }
 
 /// The shape that a word names.
-fn shape_named(name: &str) -> Option<Shape> {
+fn shape_named(name: &str) -> Option<Shape>
+    ensures { result ≡ shape_of name.now }
+{
     match name {
         "chain" => Some(Shape::Chain),
         "fan" => Some(Shape::Fan),
@@ -101,13 +104,17 @@ fn shape_named(name: &str) -> Option<Shape> {
 }
 
 /// The number that a word writes.
-fn number(word: &Word) -> Option<u64> {
+fn number(word: &Word) -> Option<u64>
+    ensures { Writes word.now result }
+{
     word.as_str().parse::<u64>().ok()
 }
 
 /// A job of a shape, where its size is from 1 to the shape's largest.
 fn sized(shape: Shape, size: u64, rounds: u64) -> Option<Job>
-    ensures { IfSome result IsWithin }
+    ensures some { IfSome result (λ job. job ≡ record { shape = shape; size = size; rounds = rounds }) }
+    ensures within { IfSome result IsWithin }
+    ensures none { result ≡ None → 0 < size → size ≤ most_of shape → ⊥ }
 {
     let size = size as usize;
     if size >= 1 && size <= most(shape) {
@@ -121,16 +128,26 @@ fn sized(shape: Shape, size: u64, rounds: u64) -> Option<Job>
     }
 }
 
+/// The job for which a shape's name, its size and the rounds ask.
+fn read(name: &Word, size: &Word, rounds: &Word) -> Option<Job>
+    ensures asked { IfSome result (Asks name.now size.now rounds.now) }
+    ensures within { IfSome result IsWithin }
+    ensures none { result ≡ None → (job : AJob) → Asks name.now size.now rounds.now job → ⊥ }
+{
+    let shape = shape_named(name.as_str())?;
+    let size = number(size)?;
+    let rounds = number(rounds)?;
+    sized(shape, size, rounds)
+}
+
 /// What the words of the command line ask for, of which the first is the program's name.
 pub fn asked(words: &[Word]) -> Option<Job>
-    ensures { IfSome result IsWithin }
+    ensures asked { IfSome result (AsksFor words.now) }
+    ensures within { IfSome result IsWithin }
+    ensures none { result ≡ None → (job : AJob) → AsksFor words.now job → ⊥ }
 {
     match words {
-        [_, name, size, rounds] => sized(
-            shape_named(name.as_str())?,
-            number(size)?,
-            number(rounds)?,
-        ),
+        [_, name, size, rounds] => read(name, size, rounds),
         _ => None,
     }
 }

@@ -1,6 +1,6 @@
 //! A graph with the nodes that were made.
-ghost use Rattle.std.specs.Prelude.{◌≡◌, ◌≤◌, ◌+◌, ◌^◌, ◌-◌, [], length, slice_get, unwrap_or, IfOk, OnOk, IsTrue};
-ghost use Rattle.incr_bench.specs.Shown.{Shows, node_in};
+ghost use Rattle.std.specs.Prelude.{◌≡◌, ◌≤◌, ◌+◌, ◌++◌, [], ◌∷◌, length, IfOk, OnOk, OnErr, IsErr, IsTrue, None, Some};
+ghost use Rattle.incr_bench.specs.Shown.{node_in, number_in, shown_by};
 
 use crate::fault::{Fault, of_graph, of_stabilize};
 use graph::{Cutoff, Graph};
@@ -19,11 +19,25 @@ pub struct Live<F: Functions> {
 
 /// Puts a node behind those that were made.
 fn append(nodes: &mut Vec<NodeId>, node: NodeId) -> Result<(), Fault>
-    ensures { OnOk result (length nodes.new.items ≡ length nodes.old.items + 1) }
+    ensures appended { OnOk result (nodes.new.items ≡ nodes.old.items ++ node ∷ []) }
+    ensures longer { OnOk result (length nodes.new.items ≡ length nodes.old.items + 1) }
+    ensures kept { OnErr result (nodes.new.items ≡ nodes.old.items) }
 {
     match nodes.push(node) {
         Ok(()) => Ok(()),
         Err(_) => Err(Fault::Memory),
+    }
+}
+
+/// The number of an outcome; nothing else has one.
+fn number_of(outcome: &Outcome) -> Result<i64, Fault>
+    ensures number { IfOk result (λ number. number_in outcome.now ≡ Some number) }
+    ensures none { IsErr result → number_in outcome.now ≡ None }
+{
+    match outcome {
+        Outcome::Val(Value::Int(number)) => Ok(*number),
+        Outcome::Val(Value::Bool(_) | Value::Text(_) | Value::Node(..)) | Outcome::Invalid =>
+            Err(Fault::Refused),
     }
 }
 
@@ -252,11 +266,11 @@ impl<F: Functions> Live<F> {
 
     /// The number that the first observer shows. Where it shows none, the answer is a fault.
     pub fn shown(&self) -> Result<i64, Fault>
-        ensures { IfOk result (Shows self.now.graph (record { 0 = 0 })) }
+        ensures number { IfOk result (λ number. shown_by self.now.graph (record { 0 = 0 }) ≡ Some number) }
+        ensures none { IsErr result → shown_by self.now.graph (record { 0 = 0 }) ≡ None }
     {
         match self.graph.value(ObsId(0)) {
-            Ok(Outcome::Val(Value::Int(number))) => Ok(*number),
-            Ok(_) => Err(Fault::Refused),
+            Ok(outcome) => number_of(outcome),
             Err(fault) => Err(of_graph(fault)),
         }
     }

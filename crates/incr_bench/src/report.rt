@@ -1,7 +1,7 @@
 //! What a run tells.
-ghost use Rattle.std.specs.Prelude.{◌≡◌, ◌≢◌, ◌++◌, IfOk, OnOk, string_bytes};
+ghost use Rattle.std.specs.Prelude.{◌≡◌, ◌≢◌, ◌++◌, [], IfOk, OnOk, string_bytes};
 ghost use Rattle.std.specs.Io.KnownBytes.{Appends};
-ghost use Rattle.incr_bench.specs.Reports.{calls_line, last_line};
+ghost use Rattle.incr_bench.specs.Reports.{calls_line, each_of, last_line, with_number, with_time, with_times};
 ghost use Rattle.incr_bench.specs.Status.{SinksTell, status_of};
 ghost use Rattle.incr_bench.specs.declared.report.Ending.TheVariants.{Unwritten};
 
@@ -47,6 +47,27 @@ fn tell_last(alloc: Global, counts: &mut Vec<u8>, last: i64) -> Result<(), Alloc
     counts.extend_from_slice(line.as_bytes())
 }
 
+/// What of a time falls to one of a count; 0 where there is none.
+fn each_of(time: u64, count: u64) -> u64
+    ensures { result ≡ each_of time count }
+{
+    if count == 0 { 0 } else { time / count }
+}
+
+/// Tells a number, between two texts.
+fn tell_number(
+    alloc: Global,
+    times: &mut String,
+    before: &str,
+    number: u64,
+    behind: &str,
+) -> Result<(), AllocError>
+    ensures { OnOk result (string_bytes times.new ≡ with_number (string_bytes times.old) before.now number behind.now) }
+{
+    let text = format!(in alloc; "{before}{number}{behind}")?;
+    times.push_str(text.as_str())
+}
+
 /// Tells a time, and what of it falls to one of a count.
 fn tell_time(
     alloc: Global,
@@ -54,10 +75,13 @@ fn tell_time(
     name: &str,
     time: u64,
     count: u64,
-) -> Result<(), AllocError> {
-    let each = if count == 0 { 0 } else { time / count };
-    let text = format!(in alloc; "{name}: {time} ns, {each} ns for each of {count}\n")?;
-    times.push_str(text.as_str())
+) -> Result<(), AllocError>
+    ensures { OnOk result (string_bytes times.new ≡ with_time (string_bytes times.old) name.now time count) }
+{
+    times.push_str(name)?;
+    tell_number(alloc, times, ": ", time, " ns, ")?;
+    tell_number(alloc, times, "", each_of(time, count), " ns for each of ")?;
+    tell_number(alloc, times, "", count, "\n")
 }
 
 /// Tells the times of rounds: by nodes built, by rounds and by calls.
@@ -66,7 +90,9 @@ fn tell_times(
     times: &mut String,
     job: Job,
     rounds: Rounds,
-) -> Result<(), AllocError> {
+) -> Result<(), AllocError>
+    ensures { OnOk result (string_bytes times.new ≡ with_times (string_bytes times.old) job rounds) }
+{
     tell_time(alloc, times, "built", rounds.building, job.size as u64)?;
     tell_time(alloc, times, "rounds", rounds.running, job.rounds)?;
     tell_time(alloc, times, "calls", rounds.running, rounds.calls)
@@ -74,7 +100,8 @@ fn tell_times(
 
 /// What rounds found.
 pub fn of_rounds(alloc: Global, job: Job, rounds: Rounds) -> Result<Report, AllocError>
-    ensures { IfOk result (λ report. report.counts.items ≡ calls_line rounds.calls ++ last_line rounds.last) }
+    ensures counts { IfOk result (λ report. report.counts.items ≡ calls_line rounds.calls ++ last_line rounds.last) }
+    ensures times { IfOk result (λ report. string_bytes report.times ≡ with_times [] job rounds) }
 {
     let mut counts = Vec::new(alloc);
     let mut times = String::new(alloc);

@@ -1,5 +1,6 @@
 //! Rounds that change a graph.
-ghost use Rattle.std.specs.Prelude.{◌≡◌, ◌≤◌, ◌+◌, IfOk};
+ghost use Rattle.std.specs.Prelude.{◌≡◌, ◌≤◌, ◌<◌, ◌+◌, ◌*◌, ◌%◌, ◌^◌, pos, IfOk};
+ghost use Rattle.inc_value.specs.declared.value.Value.TheVariants.{Int};
 
 use crate::clock::{begin, since};
 use crate::counted::Counted;
@@ -19,14 +20,19 @@ pub struct Rounds {
     pub last: i64,
 }
 
-/// The variable that a round changes, of so many.
-fn turn(round: u64, variables: usize) -> usize {
+/// The variable that a round changes, of so many: rounds go through them in a mixed order.
+fn turn(round: u64, variables: usize) -> usize
+    ensures none { variables ≡ 0 → result ≡ 0 }
+    ensures mixed { 0 < variables → result ≡ ((round * 7919) % 2 ^ 64) % variables }
+{
     let place = round.wrapping_mul(7919) as usize;
     if variables == 0 { 0 } else { place % variables }
 }
 
 /// The number that a round gives a variable, another one than any of the last 2,000,000,000 rounds gave.
-fn fresh(round: u64) -> Value {
+fn fresh(round: u64) -> Value
+    ensures { result ≡ Int (pos (round % 2000000000 + 2)) }
+{
     Value::Int((round % 2_000_000_000) as i64 + 2)
 }
 

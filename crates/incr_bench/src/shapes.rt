@@ -24,6 +24,7 @@ fn chain<F: Functions>(live: &mut Live<F>, size: usize) -> Result<(), Fault>
 /// Observes so many nodes, from a place on.
 fn observe_all<F: Functions>(live: &mut Live<F>, start: usize, size: usize) -> Result<(), Fault>
     ensures uncalled { live.new.graph.functions ≡ live.old.graph.functions }
+    ensures same_nodes { live.new.nodes.items ≡ live.old.nodes.items }
 {
     for i in 0..size {
         live.observe(start.saturating_add(i))?;
@@ -34,6 +35,7 @@ fn observe_all<F: Functions>(live: &mut Live<F>, start: usize, size: usize) -> R
 /// One variable under negations, all observed.
 fn fan<F: Functions>(live: &mut Live<F>, size: usize) -> Result<(), Fault>
     ensures uncalled { live.new.graph.functions ≡ live.old.graph.functions }
+    ensures grows { OnOk result (length live.new.nodes.items ≡ length live.old.nodes.items + (size + 1)) }
 {
     live.var(Value::Int(1))?;
     for _ in 0..size {
@@ -45,6 +47,7 @@ fn fan<F: Functions>(live: &mut Live<F>, size: usize) -> Result<(), Fault>
 /// Variables.
 fn variables<F: Functions>(live: &mut Live<F>, size: usize) -> Result<(), Fault>
     ensures uncalled { live.new.graph.functions ≡ live.old.graph.functions }
+    ensures grows { OnOk result (length live.new.nodes.items ≡ length live.old.nodes.items + size) }
 {
     for _ in 0..size {
         live.var(Value::Int(-1))?;

@@ -1,5 +1,5 @@
 //! Right sides of binds.
-ghost use Rattle.std.specs.Prelude.{◌≡◌, ◌≤◌, [], IfOk, IsTrue};
+ghost use Rattle.std.specs.Prelude.{◌≡◌, ◌≤◌, ◌↔◌, [], IfOk, IsTrue};
 ghost use Rattle.inc_value.specs.Choice.{Every};
 ghost use Rattle.script_functions.specs.Lines.{line_uses};
 ghost use Rattle.incr_bench.specs.Sides.{CanCall};
@@ -113,7 +113,7 @@ fn binding(alloc: Global, function: FnRef, most: u64) -> Result<Body, Fault>
 
 /// Whether the function is known, lists no nodes, and takes so many at most.
 fn can_call(functions: &ScriptFns<StdLib>, function: &FnRef, most: u64) -> bool
-    ensures { IsTrue result → CanCall (⟦<ScriptFns<StdLib> as Functions>⟧.known functions.now)
+    ensures { IsTrue result ↔ CanCall (⟦<ScriptFns<StdLib> as Functions>⟧.known functions.now)
         (⟦<ScriptFns<StdLib> as Functions>⟧.right functions.now) (record { function = function.now; most = most }) }
 {
     if !functions.knows(*function) {
@@ -127,7 +127,7 @@ fn can_call(functions: &ScriptFns<StdLib>, function: &FnRef, most: u64) -> bool
 
 /// Whether what the line calls can be called.
 fn can_call_line(functions: &ScriptFns<StdLib>, line: &TypedLine) -> bool
-    ensures { IsTrue result → Every (CanCall (⟦<ScriptFns<StdLib> as Functions>⟧.known functions.now)
+    ensures { IsTrue result ↔ Every (CanCall (⟦<ScriptFns<StdLib> as Functions>⟧.known functions.now)
         (⟦<ScriptFns<StdLib> as Functions>⟧.right functions.now)) (line_uses line.now.line) }
 {
     match &line.line {
@@ -139,7 +139,7 @@ fn can_call_line(functions: &ScriptFns<StdLib>, line: &TypedLine) -> bool
 
 /// Whether what the lines call can be called.
 fn can_call_lines(functions: &ScriptFns<StdLib>, lines: &[TypedLine]) -> bool
-    ensures { IsTrue result → Every (λ x. Every (CanCall (⟦<ScriptFns<StdLib> as Functions>⟧.known functions.now)
+    ensures { IsTrue result ↔ Every (λ x. Every (CanCall (⟦<ScriptFns<StdLib> as Functions>⟧.known functions.now)
         (⟦<ScriptFns<StdLib> as Functions>⟧.right functions.now)) (line_uses x.line)) lines.now }
 {
     for line in lines {

@@ -1,5 +1,8 @@
-use Rattle.std.proofs.Common.{◌≡◌}
+use Rattle.std.proofs.Common.{◌≡◌, ◌+◌, length}
 use Rattle.incr_bench.proofs.shapes.variables.Given as goal
 
 abbrev pub invariant-loop : goal.invariant-loop
-invariant-loop g l = l.live.graph.functions ≡ l.fn.live.graph.functions
+invariant-loop g l = record {
+  uncalled : l.live.graph.functions ≡ l.fn.live.graph.functions;
+  grows : length l.live.nodes.items ≡ length l.fn.live.nodes.items + l.counter;
+}
