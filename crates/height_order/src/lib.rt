@@ -1,5 +1,7 @@
 //! Heights of points that rise along every link, so that each point stands higher than what it
 //! reads. A link that would close a cycle, or make a chain too long, is refused with its witness.
+//!
+//! [`Heights`] has its own table of links. `make_link` does the same over heights and links that are lent.
 #![tactic(auto)]
 
 mod climb;
@@ -9,3 +11,5 @@ mod lifts;
 mod linking;
 
 pub use heights::{Heights, LinkFault};
+pub use levels::{add_at, level_of};
+pub use linking::make_link;

@@ -1,6 +1,6 @@
 -- Lists by place, and the tests of points.
 use Rattle.std.proofs.Common.{◌≡◌, ◌≢◌, ◌⊎◌, inl, inr, ℕ, zero, suc, ◌+◌, ◌<◌, Bool, true, false, List, [], ◌∷◌, ◌++◌, length, refl, ap, sym, arith, rules}
-use Rattle.std.specs.Prelude.{Some, Result, Ok, Err, OnErr, slice_get, slice_set, map, sum_by}
+use Rattle.std.specs.Prelude.{Option, None, Some, IfNone, Result, Ok, Err, OnErr, slice_get, slice_set, map, sum_by}
 use Rattle.std.proofs.lemmas.Bool.{cases_eq}
 use Rattle.std.proofs.lemmas.List.Sums.{sum_by-cons}
 use Rattle.inc_value.specs.declared.node.Point.{Point}
@@ -12,6 +12,11 @@ use Rattle.link_table.specs.Links.{is_point, link}
 pub on_err : {T E Q : Type 0} (r : Result T E) → Q → OnErr r Q
 on_err (Ok x) q = search rules
 on_err (Err e) q = q
+
+-- a fact that holds, also where nothing is answered
+pub if_none : {T Q : Type 0} (o : Option T) → Q → IfNone o Q
+if_none None q = q
+if_none (Some x) q = tt
 
 -- a test passes or fails
 pub split : (b : Bool) → (b ≡ true) ⊎ (b ≡ false)

@@ -1,5 +1,5 @@
 //! The two sides of a table of links: the ends at each reader, and the ends at each kid.
-ghost use Rattle.std.specs.Prelude.{◌≡◌, ◌-◌, ◌<◌, length, IfSome, IfNone, OnOk, OnErr};
+ghost use Rattle.std.specs.Prelude.{[], ◌≡◌, ◌-◌, ◌<◌, length, IfSome, IfNone, OnOk, OnErr};
 ghost use Rattle.link_table.specs.Ends.{ends_at, end_at, ends_with, LeadsTo, HasNoEmptyRow, KeepsEnds, KeepsPoints, OneEndMoreWith, IsTwoWay};
 
 use crate::ends::{End, EndLists};
@@ -60,6 +60,16 @@ pub(crate) fn kid_place(kids: &EndLists, readers: &EndLists, p: Point, q: Point)
         let back = place_of(readers, p)?;
         Some(readers[back].back)
     }
+}
+
+/// The last of p's kids and its place, if there is one.
+pub(crate) fn last_kid(kids: &EndLists, p: Point) -> Option<(Point, usize)>
+    ensures some { IfSome result (λ e. LeadsTo (ends_at kids.now p) e.0 e.1) }
+    ensures none { IfNone result (ends_at kids.now p ≡ []) }
+{
+    let ends = kids.of(p);
+    let last = ends.len().checked_sub(1)?;
+    Some((ends[last].point, last))
 }
 
 // Puts the i-th end of p behind the others, in exchange for the last. The other side is told the new places.

@@ -1,10 +1,11 @@
 //! The table of links.
-ghost use Rattle.std.specs.Prelude.{[], ◌≡◌, ◌↔◌, IsTrue, OnOk, OnErr};
-ghost use Rattle.link_table.specs.Links.{Reads, KeepsLinks, OneLinkMore, AreKids, AreReaders};
+ghost use Rattle.std.specs.Prelude.{[], ◌≡◌, ◌↔◌, IsTrue, IfSome, IfNone, OnOk, OnErr};
+ghost use Rattle.inc_value.specs.declared.node.Point.{Point};
+ghost use Rattle.link_table.specs.Links.{times, Reads, KeepsLinks, OneLinkMore, AreKids, AreReaders};
 ghost use Rattle.link_table.specs.Walks.{kids_left, readers_left};
 
 use crate::ends::EndLists;
-use crate::sides::{add_ends, kid_place, remove_ends};
+use crate::sides::{add_ends, kid_place, last_kid, remove_ends};
 use crate::walks::{Kids, Readers};
 use inc_value::Point;
 use std::alloc::{AllocError, Global};
@@ -73,6 +74,20 @@ impl LinkTable {
         remove_ends(&mut self.kids, &mut self.readers, p, q, i);
         // The walk over its places is what says that each point has one row.
         let _places = self.kids.rows.places();
+    }
+
+    /// Takes the last link of p off, and gives the point that it led to. None where p reads none. Nothing is
+    /// searched for, and this takes no memory.
+    pub fn pop_kid(&mut self, p: Point) -> Option<Point>
+        ensures removed { IfSome result (λ q. OneLinkMore self.new self.old p q) }
+        ensures none { IfNone result ((q : Point) → times self.old p q ≡ 0) }
+        ensures unchanged { IfNone result (self.new ≡ self.old) }
+    {
+        let (q, last) = last_kid(&self.kids, p)?;
+        remove_ends(&mut self.kids, &mut self.readers, p, q, last);
+        // The walk over its places is what says that each point has one row.
+        let _places = self.kids.rows.places();
+        Some(q)
     }
 
     /// Whether p reads q.

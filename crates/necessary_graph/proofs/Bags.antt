@@ -6,7 +6,7 @@ use Rattle.std.proofs.lemmas.List.Edits.{length-remove}
 use Rattle.inc_value.specs.declared.node.Point.{Point}
 use Rattle.point_map.proofs.Places.{same_point_self}
 use Rattle.link_table.specs.declared.link.Link.{Link}
-use Rattle.link_table.specs.Links.{Links, link, same_link, times, Reads, KeepsLinks, OneLinkMore, is_point, occurrences, AreKids}
+use Rattle.link_table.specs.Links.{Links, link, same_link, times, Reads, OneLinkMore, is_point, occurrences, AreKids}
 use Rattle.necessity.proofs.Counts.{same_link_self, other_link}
 use Rattle.necessary_graph.proofs.Found.{link_found, link_removed}
 use Rattle.necessary_graph.proofs.Sweeping.{link_cases}
@@ -50,34 +50,9 @@ one_longer fewer more p q o =
 pub first_counted : (k : Point) (rest : List Point) → 0 < occurrences (k ∷ rest) k
 first_counted k rest = rw (sum_by-cons (λ y. cond (is_point k y) 1 0) k rest, same_point_self k) (omega arith)
 
--- both bags lose the same link
-pub both_off : (h h' n n' : Links) (p q : Point) → KeepsLinks h n → OneLinkMore h' h p q → OneLinkMore n' n p q → KeepsLinks h' n'
-both_off h h' n n' p q same off_h off_n a b = elim (link_cases a b p q) [
-  | inl is ↦ rw (is.0, is.1) (omega (arith, same p q, off_h.raised, off_n.raised))
-  | inr other ↦ omega (arith, same a b, off_h.others a b other, off_n.others a b other)
-]
-
--- both bags get the same link
-pub both_on : (h h' n n' : Links) (p q : Point) → KeepsLinks h n → OneLinkMore h h' p q → OneLinkMore n n' p q → KeepsLinks h' n'
-both_on h h' n n' p q same on_h on_n a b = elim (link_cases a b p q) [
-  | inl is ↦ rw (is.0, is.1) (omega (arith, same p q, on_h.raised, on_n.raised))
-  | inr other ↦ omega (arith, same a b, on_h.others a b other, on_n.others a b other)
-]
-
--- a link on, and off again
-pub on_and_off : (l m n : Links) (p q : Point) → OneLinkMore l m p q → OneLinkMore n m p q → KeepsLinks l n
-on_and_off l m n p q on off a b = elim (link_cases a b p q) [
-  | inl is ↦ rw (is.0, is.1) (omega (arith, on.raised, off.raised))
-  | inr other ↦ omega (arith, on.others a b other, off.others a b other)
-]
-
 -- the first of a walk over kids is read
 pub first_read : (l : Links) (p k : Point) (left rest : List Point) → left ≡ k ∷ rest → AreKids l p left → Reads l p k
 first_read l p k left rest e kids = let c = first_counted k rest in let at_k : occurrences (k ∷ rest) k ≡ times l p k = rw e at kids k in omega (arith, c, at_k)
-
--- a walk over no kids
-pub none_read : (l : Links) (p : Point) (left : List Point) → left ≡ [] → AreKids l p left → (q : Point) → times l p q ≡ 0
-none_read l p left e kids q = let at_q : occurrences [] q ≡ times l p q = rw e at kids q in omega (arith, at_q)
 
 -- fewer links in a bag that isn't longer
 pub off_shorter : (old mid new : Links) (p q : Point) → OneLinkMore mid old p q → ((a b : Point) → times new a b ≤ times mid a b)

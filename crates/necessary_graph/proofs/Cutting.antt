@@ -1,5 +1,5 @@
 -- A link or a root comes off, and a sweep follows.
-use Rattle.std.proofs.Common.{◌≡◌, ◌⊎◌, inl, inr, ℕ, ◌<◌, ◌≤◌, Bool, Some, arith, sym, refl, ap, ◌∙◌}
+use Rattle.std.proofs.Common.{◌≡◌, ◌⊎◌, inl, inr, ℕ, zero, suc, ◌+◌, ◌<◌, ◌≤◌, Bool, Some, arith, sym, refl, ap, ◌∙◌}
 use Rattle.std.specs.Prelude.{None, is_some}
 use Rattle.std.proofs.lemmas.Option.{none-some}
 use Rattle.inc_value.specs.declared.node.Point.{Point}
@@ -10,13 +10,13 @@ use Rattle.link_table.specs.Links.{times, Reads, KeepsLinks, OneLinkMore}
 use Rattle.necessity.specs.Need.{root_times, KeepsRoots, OneRootMore}
 use Rattle.height_order.specs.Levels.{level}
 use Rattle.necessary_graph.specs.Part.{NecessaryPart, Needed, IsInStep}
-use Rattle.necessary_graph.specs.Sweep.{Sweep, DropsLeaves, IsSwept, IsBare, IsRead, IsUnlinked, IsUnrooted}
-use Rattle.necessary_graph.proofs.Reaching.{leads_more, root_needed, read_needed, led_needed, needed_has, needed_more, thinned_need, thinned_up, thinned_down}
-use Rattle.necessary_graph.proofs.Sweeping.{link_cases, again_swept, swept_then}
+use Rattle.necessary_graph.specs.Sweep.{Sweep, DropsLeaves, IsSwept, IsBare, IsRead, IsHeld, IsUnlinked, IsUnrooted}
+use Rattle.necessary_graph.proofs.Reaching.{leads_more, root_needed, read_needed, needed_held, led_needed, needed_more, thinned_need, thinned_up, thinned_down}
+use Rattle.necessary_graph.proofs.Sweeping.{link_cases, again_swept, swept_then, held_stays}
 
--- needed still, or without links and out of the heap
-abbrev pub IsDealtWith : (Point → Bool) → NecessaryPart → NecessaryPart → Point → Type 0
-IsDealtWith leaf t u p = Needed t p ⊎ IsBare leaf u p
+-- a root or read still, or without links and out of the heap
+abbrev pub IsDealtWith : (Point → Bool) → NecessaryPart → Point → Type 0
+IsDealtWith leaf u p = IsHeld u.links u.roots p ⊎ IsBare leaf u p
 
 -- less than before, and what was needed by it is dealt with
 pub record IsCut (leaf : Point → Bool) (old t u : NecessaryPart) : Type 0 where
@@ -24,20 +24,48 @@ pub record IsCut (leaf : Point → Bool) (old t u : NecessaryPart) : Type 0 wher
   pub heap : t.heap ≡ old.heap
   pub roots : (a : Point) → root_times t.roots a ≤ root_times old.roots a
   pub links : (a b : Point) → times t.links a b ≤ times old.links a b
-  pub root_done : (a : Point) → 0 < root_times old.roots a → IsDealtWith leaf t u a
-  pub link_done : (a b : Point) → Reads old.links a b → Reads t.links a b ⊎ IsDealtWith leaf t u b
+  pub root_done : (a : Point) → 0 < root_times old.roots a → (0 < root_times t.roots a) ⊎ IsDealtWith leaf u a
+  pub link_done : (a b : Point) → Reads old.links a b → Reads t.links a b ⊎ IsDealtWith leaf u b
 
 module _ (leaf : Point → Bool) (first : Point) (old t u : NecessaryPart) (inv : IsInStep old) (was : Needed old first) (cut : IsCut leaf old t u)
     (w : IsSwept leaf first t u) where
   -- all that was needed is dealt with
-  covered : (a : Point) → Needed old a → IsDealtWith leaf t u a
-  covered a n = needed_has old (IsDealtWith leaf t u) cut.root_done (λ x y r d. elim (cut.link_done x y r) [
-    | inr done ↦ done
-    | inl still ↦ elim d [
-      | inl needed ↦ inl (read_needed t x y needed still)
-      | inr bare ↦ w.followed x y (omega (arith, bare.reads_none y, still))
+  held_done : (a : Point) → IsHeld t.links t.roots a → IsDealtWith leaf u a
+  held_done a held = held_stays leaf first t u w a held
+
+  dealt : (a : Point) → Needed old a → IsDealtWith leaf u a
+  dealt a n = elim (needed_held old a n) [
+    | inl root ↦ elim (cut.root_done a root) [ inl still ↦ held_done a (inl still) | inr done ↦ done ]
+    | inr read ↦ elim (cut.link_done read.0 a read.1) [ inl still ↦ held_done a (inr (read.0, still)) | inr done ↦ done ]
+  ]
+
+  read_before : (r a : Point) → Reads u.links r a → Reads old.links r a
+  read_before r a reads = omega (arith, cut.links r a, w.thinned.fewer r a, reads)
+
+  -- a reader is higher, so from the greatest height down what is held is needed
+  covered_from : (k : ℕ) (a : Point) → 128 ≤ level old.heights a + k → Needed old a → Needed u a ⊎ IsBare leaf u a
+  covered_from zero a high n = elim (dealt a n) [
+    | inr bare ↦ inr bare
+    | inl held ↦ elim held [
+      | inl root ↦ inl (root_needed u a root)
+      | inr read ↦ absurd (omega (arith, high, inv.rises read.0 a (read_before read.0 a read.1), inv.low read.0))
     ]
-  ]) a n
+  ]
+  covered_from (suc k) a high n = elim (dealt a n) [
+    | inr bare ↦ inr bare
+    | inl held ↦ elim held [
+      | inl root ↦ inl (root_needed u a root)
+      | inr read ↦
+          let before = read_before read.0 a read.1 in
+          elim (covered_from k read.0 (omega (arith, high, inv.rises read.0 a before)) (inv.readers read.0 a before)) [
+            | inl needed ↦ inl (read_needed u read.0 a needed read.1)
+            | inr bare ↦ absurd (omega (arith, bare.reads_none a, read.1))
+          ]
+    ]
+  ]
+
+  covered : (a : Point) → Needed old a → Needed t a ⊎ IsBare leaf u a
+  covered a n = elim (covered_from 128 a (omega arith) n) [ inl needed ↦ inl (thinned_down t u w.thinned a needed) | inr bare ↦ inr bare ]
 
   less_needed : (a : Point) → Needed t a → Needed old a
   less_needed a n = needed_more t old (λ x r. omega (arith, cut.roots x, r)) (λ x y r. omega (arith, cut.links x y, r)) a n
@@ -122,15 +150,14 @@ module _ (leaf : Point → Bool) (first : Point) (old t u : NecessaryPart) (inv 
     heap = λ a h e. (same_height a (heap_needed a h e) ∙ (inv.heap a h (was_in a h e)).0, thinned_up t u w.thinned a (heap_needed a h e));
   }
 
--- a link comes off, and its kid is needed still or swept
+-- a link comes off, and its kid is held still or swept
 pub unlinked : (leaf : Point → Bool) (old t u : NecessaryPart) (p q : Point) → IsInStep old → OneLinkMore t.links old.links p q
-    → KeepsRoots old.roots t.roots → t.heights ≡ old.heights → t.heap ≡ old.heap → IsSwept leaf q t u → IsDealtWith leaf t u q
+    → KeepsRoots old.roots t.roots → t.heights ≡ old.heights → t.heap ≡ old.heap → IsSwept leaf q t u → IsDealtWith leaf u q
     → IsUnlinked leaf old u p q × IsInStep u
 unlinked leaf old t u p q inv off roots heights heap w done =
     let s : NecessaryPart = record old { links = t.links } in
     let again = again_swept leaf q s t roots (λ a b. refl) heights heap in
     let all = swept_then leaf q s t u q here again w in
-    let kid : IsDealtWith leaf s u q = elim done [ inl n ↦ inl (thinned_down s t again.thinned q n) | inr bare ↦ inr bare ] in
     let read : Reads old.links p q = omega (arith, off.raised) in
     let was : Needed old q = read_needed old p q (inv.readers p q read) read in
     let cut : IsCut leaf old s u = record {
@@ -141,9 +168,9 @@ unlinked leaf old t u p q inv off roots heights heap w done =
         | inl same ↦ rw (same.0, same.1) (omega (arith, off.raised))
         | inr other ↦ omega (arith, off.others a b other)
       ];
-      root_done = λ a r. inl (root_needed s a r);
+      root_done = λ a r. inl r;
       link_done = λ a b r. elim (link_cases a b p q) [
-        | inl same ↦ inr (rw same.1 kid)
+        | inl same ↦ inr (rw same.1 done)
         | inr other ↦ inl (omega (arith, off.others a b other, r))
       ];
     } in (
@@ -151,15 +178,14 @@ unlinked leaf old t u p q inv off roots heights heap w done =
       cut_in_step leaf q old s u inv was cut all,
     )
 
--- a root comes off, and the point is needed still or swept
+-- a root comes off, and the point is held still or swept
 pub unrooted : (leaf : Point → Bool) (old t u : NecessaryPart) (p : Point) → IsInStep old → OneRootMore t.roots old.roots p
-    → KeepsLinks old.links t.links → t.heights ≡ old.heights → t.heap ≡ old.heap → IsSwept leaf p t u → IsDealtWith leaf t u p
+    → KeepsLinks old.links t.links → t.heights ≡ old.heights → t.heap ≡ old.heap → IsSwept leaf p t u → IsDealtWith leaf u p
     → IsUnrooted leaf old u p × IsInStep u
 unrooted leaf old t u p inv off links heights heap w done =
     let s : NecessaryPart = record old { roots = t.roots } in
     let again = again_swept leaf p s t (λ a. refl) links heights heap in
     let all = swept_then leaf p s t u p here again w in
-    let point : IsDealtWith leaf s u p = elim done [ inl n ↦ inl (thinned_down s t again.thinned p n) | inr bare ↦ inr bare ] in
     let was : Needed old p = root_needed old p (omega (arith, off.raised)) in
     let cut : IsCut leaf old s u = record {
       heights = refl;
@@ -170,8 +196,8 @@ unrooted leaf old t u p inv off links heights heap w done =
       ];
       links = λ a b. omega arith;
       root_done = λ a r. elim (point_cases a p) [
-        | inl same ↦ rw same point
-        | inr other ↦ inl (root_needed s a (omega (arith, off.others a other, r)))
+        | inl same ↦ inr (rw same done)
+        | inr other ↦ inl (omega (arith, off.others a other, r))
       ];
       link_done = λ a b r. inl r;
     } in (
@@ -179,13 +205,13 @@ unrooted leaf old t u p inv off links heights heap w done =
       cut_in_step leaf p old s u inv was cut all,
     )
 
--- and where the kid, or the point, is needed still nothing is swept
+-- and where the kid, or the point, is held still nothing is swept
 pub unlinked_alone : (leaf : Point → Bool) (old t : NecessaryPart) (p q : Point) → IsInStep old → OneLinkMore t.links old.links p q
-    → KeepsRoots old.roots t.roots → t.heights ≡ old.heights → t.heap ≡ old.heap → Needed t q → IsUnlinked leaf old t p q × IsInStep t
-unlinked_alone leaf old t p q inv off roots heights heap n =
-    unlinked leaf old t t p q inv off roots heights heap (again_swept leaf q t t (λ a. refl) (λ a b. refl) refl refl) (inl n)
+    → KeepsRoots old.roots t.roots → t.heights ≡ old.heights → t.heap ≡ old.heap → IsHeld t.links t.roots q → IsUnlinked leaf old t p q × IsInStep t
+unlinked_alone leaf old t p q inv off roots heights heap held =
+    unlinked leaf old t t p q inv off roots heights heap (again_swept leaf q t t (λ a. refl) (λ a b. refl) refl refl) (inl held)
 
 pub unrooted_alone : (leaf : Point → Bool) (old t : NecessaryPart) (p : Point) → IsInStep old → OneRootMore t.roots old.roots p
-    → KeepsLinks old.links t.links → t.heights ≡ old.heights → t.heap ≡ old.heap → Needed t p → IsUnrooted leaf old t p × IsInStep t
-unrooted_alone leaf old t p inv off links heights heap n =
-    unrooted leaf old t t p inv off links heights heap (again_swept leaf p t t (λ a. refl) (λ a b. refl) refl refl) (inl n)
+    → KeepsLinks old.links t.links → t.heights ≡ old.heights → t.heap ≡ old.heap → IsHeld t.links t.roots p → IsUnrooted leaf old t p × IsInStep t
+unrooted_alone leaf old t p inv off links heights heap held =
+    unrooted leaf old t t p inv off links heights heap (again_swept leaf p t t (λ a. refl) (λ a b. refl) refl refl) (inl held)

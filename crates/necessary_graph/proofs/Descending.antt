@@ -11,7 +11,7 @@ use Rattle.link_table.specs.Links.{Links, times, Reads}
 use Rattle.height_order.specs.Levels.{level, Rises, Ends}
 use Rattle.necessary_graph.specs.Part.{NecessaryPart, Needed}
 use Rattle.necessary_graph.specs.Room.{HasRoom}
-use Rattle.necessary_graph.specs.Sweep.{IsSwept, IsRead, IsBare, IsGone, IsLeft}
+use Rattle.necessary_graph.specs.Sweep.{IsSwept, IsRead, IsHeld, IsBare, IsGone, IsLeft}
 use Rattle.necessary_graph.proofs.Reaching.{thinned_down}
 use Rattle.necessary_graph.proofs.Room.{room_dropped}
 use Rattle.necessary_graph.proofs.Sweeping.{IsOff, off_fewer, off_read, again_swept, swept_then, more_swept, out_still}
@@ -72,10 +72,10 @@ module _ (leaf : Point → Bool) (p : Point) (s0 : NecessaryPart) (unneeded : Ne
       pub kid_lower : Rises (Reads s0.links) (level s0.heights) → level t.heights q < level s0.heights p
       kid_lower rises = rw (off.heights, ← w.there) (rises_now rises p q (off_read s t p q off))
 
-      -- a link came off, and its kid is needed
-      pub under_way_off : Needed t q → IsUnderWay leaf p s0 t
-      under_way_off needed = record {
-        swept = more_swept leaf s0 s t t p q unneeded w.swept off (again_swept leaf q t t (λ a. refl) (λ a b. refl) refl refl) (inl needed);
+      -- a link came off, and its kid is held
+      pub under_way_off : IsHeld t.links t.roots q → IsUnderWay leaf p s0 t
+      under_way_off held = record {
+        swept = more_swept leaf s0 s t t p q unneeded w.swept off (again_swept leaf q t t (λ a. refl) (λ a b. refl) refl refl) (inl held);
         ends = off_ends;
         there = ap (λ m. at m p) off.heights ∙ w.there;
         out = ap (λ m. at m p) off.heap ∙ w.out;

@@ -1,16 +1,15 @@
 -- A link or a root comes on.
-use Rattle.std.proofs.Common.{◌≡◌, ◌⊎◌, inl, inr, ℕ, ◌<◌, ◌≤◌, Some, List, [], ◌∷◌, arith, sym, refl, ap, ◌∙◌}
-use Rattle.std.specs.Prelude.{Option, None, is_some, Result, Ok, Err, IfErr}
+use Rattle.std.proofs.Common.{◌≡◌, ◌⊎◌, inl, inr, ℕ, Some, List, [], ◌∷◌, arith, sym, refl, ap, ◌∙◌}
+use Rattle.std.specs.Prelude.{Option, None, is_some, Result, Ok, Err, IfErr, Bool, true, false, not, IsTrue, IsFalse, ◌↔◌}
 use Rattle.std.specs.Result.{IsErrAnd}
 use Rattle.inc_value.specs.declared.node.Point.{Point}
-use Rattle.inc_value.specs.Choice.{Reaches, here, step}
-use Rattle.point_map.specs.Rows.{Rows, at, Holds}
+use Rattle.point_map.specs.Rows.{at, Holds}
 use Rattle.point_map.proofs.Places.{point_cases}
 use Rattle.link_table.specs.Links.{Links, Reads, KeepsLinks, OneLinkMore}
 use Rattle.necessity.specs.Need.{KeepsRoots, OneRootMore}
-use Rattle.height_order.specs.Chains.{Reading, ReadsWith, IsChain, IsPath, Leads, HasChain}
-use Rattle.height_order.specs.Levels.{level, or_zero, Rises, AllLow, IsExactBelow, KeepsPoints}
-use Rattle.height_order.specs.Faults.{IfPath, IfOver, UnlessOver}
+use Rattle.height_order.specs.Chains.{Reading, ReadsWith, IsChain}
+use Rattle.height_order.specs.Levels.{level, or_zero, Rises, AllLow, KeepsPoints}
+use Rattle.height_order.specs.Faults.{IfPath, UnlessOver}
 use Rattle.height_order.specs.declared.heights.LinkFault.{LinkFault}
 use Rattle.height_order.specs.declared.heights.LinkFault.TheVariants.{Path, Over, Memory}
 use Rattle.necessary_graph.specs.Part.{NecessaryPart, Needed, AlsoNeeded, IsInStep}
@@ -22,55 +21,6 @@ pub chain_as : (R S : Reading) → ((a b : Point) → R a b → S a b) → (list
 chain_as R S more [] c = tt
 chain_as R S more (p ∷ []) c = (tt, tt)
 chain_as R S more (p ∷ q ∷ rest) c = (more p q c.0, chain_as R S more (q ∷ rest) c.1)
-
-pub path_as : (R S : Reading) → ((a b : Point) → R a b → S a b) → (list : List Point) (p q : Point) → IsPath R list p q → IsPath S list p q
-path_as R S more list p q path = record { chain = chain_as R S more list path.chain; starts = path.starts; ends = path.ends }
-
-pub leads_as : (R S : Reading) → ((a b : Point) → R a b → S a b) → (p q : Point) → Leads R p q → Leads S p q
-leads_as R S more p q l = (l.0, path_as R S more l.0 p q l.1)
-
-pub has_chain_as : (R S : Reading) → ((a b : Point) → R a b → S a b) → (n : ℕ) → HasChain R n → HasChain S n
-has_chain_as R S more n c = (c.0, chain_as R S more c.0 c.1, c.2)
-
--- the same links twice over
-module _ (h n : Links) (same : KeepsLinks h n) where
-  pub reads_there : (a b : Point) → Reads h a b → Reads n a b
-  reads_there a b r = omega (arith, same a b, r)
-
-  pub reads_back : (a b : Point) → Reads n a b → Reads h a b
-  reads_back a b r = omega (arith, same a b, r)
-
-  pub with_there : (p q a b : Point) → ReadsWith h p q a b → ReadsWith n p q a b
-  with_there p q a b (inl r) = inl (reads_there a b r)
-  with_there p q a b (inr e) = inr e
-
-  pub with_back : (p q a b : Point) → ReadsWith n p q a b → ReadsWith h p q a b
-  with_back p q a b (inl r) = inl (reads_back a b r)
-  with_back p q a b (inr e) = inr e
-
-  led_there : (p q x : Point) → Leads (Reads n) p x ⊎ Leads (Reads n) q x → Leads (Reads h) p x ⊎ Leads (Reads h) q x
-  led_there p q x (inl leads) = inl (leads_as (Reads n) (Reads h) reads_back p x leads)
-  led_there p q x (inr leads) = inr (leads_as (Reads n) (Reads h) reads_back q x leads)
-
-  pub exact_there : (heights : Rows ℕ) (p q : Point) → IsExactBelow heights h p q → IsExactBelow heights n p q
-  exact_there heights p q exact x leads =
-      let e = exact x (led_there p q x leads) in record {
-        list = e.list;
-        chain = chain_as (Reads h) (Reads n) reads_there e.list e.chain;
-        starts = e.starts;
-        long = e.long;
-        none_longer = λ other c s. e.none_longer other (chain_as (Reads n) (Reads h) reads_back other c) s;
-      }
-
--- heights rise along walks
-pub walk_rises : (links : Links) (heights : Point → ℕ) → Rises (Reads links) heights → {a b : Point} → Reaches (Reads links) a b → heights b ≤ heights a
-walk_rises links heights rises here = omega arith
-walk_rises links heights rises (step {a} {b} {c} r rest) = omega (arith, rises a b r, walk_rises links heights rises rest)
-
--- a lower point doesn't lead to a higher one
-pub no_way_up : (links : Links) (heights : Point → ℕ) (p q : Point) → Rises (Reads links) heights → heights q < heights p
-    → Reaches (Reads links) q p → ⊥
-no_way_up links heights p q rises lower way = let down = walk_rises links heights rises way in omega (arith, lower, down)
 
 -- what is read over the new links is read over the old ones, or is the new link
 pub read_with : (old new : Links) (p q : Point) → OneLinkMore old new p q → (a b : Point) → Reads new a b → ReadsWith old p q a b
@@ -204,20 +154,15 @@ rooted_in_step old new p inv more links heights heap there =
       heap = heap_stands old new inv f up;
     }
 
+-- a point is newly needed, unless it was needed
+pub newly_unless : (b : Bool) (P Q : Type 0) → IsTrue b ↔ P → P ↔ Q → IsFalse (not b) ↔ Q
+newly_unless true P Q is same = (λ _. same.0 (is.0 refl), λ _. refl)
+newly_unless false P Q is same = (λ e. absurd (let f = e in cc), λ needed. absurd (let f = is.1 (same.1 needed) in cc))
+
 -- what an error is that goes on as it is
 pub exit_is : {T E : Type 0} (r : Result T E) (e : E) (P : E → Type 0) → IsErrAnd r (λ x. x ≡ e) → P e → IfErr r P
 exit_is (Ok x) e P is p = absurd is
 exit_is (Err x) e P is p = rw is p
-
-pub if_path : (P Q : List Point → Type 0) → ((list : List Point) → P list → Q list) → (e : LinkFault) → IfPath P e → IfPath Q e
-if_path P Q more (Path list) h = more list.items h
-if_path P Q more (Over list) h = tt
-if_path P Q more Memory h = tt
-
-pub if_over : (P Q : List Point → Type 0) → ((list : List Point) → P list → Q list) → (e : LinkFault) → IfOver P e → IfOver Q e
-if_over P Q more (Over list) h = more list.items h
-if_over P Q more (Path list) h = tt
-if_over P Q more Memory h = tt
 
 pub path_unless_over : (P : Type 0) (e : LinkFault) → UnlessOver P e → IfPath (λ _. P) e
 path_unless_over P (Path list) h = h

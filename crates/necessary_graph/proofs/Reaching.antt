@@ -1,12 +1,12 @@
 -- What is needed, along links.
-use Rattle.std.proofs.Common.{◌<◌, ◌≤◌, arith, ◌∙◌}
+use Rattle.std.proofs.Common.{inl, inr, ◌<◌, ◌≤◌, arith, ◌∙◌}
 use Rattle.std.specs.Prelude.{◌↔◌}
 use Rattle.inc_value.specs.declared.node.Point.{Point}
 use Rattle.inc_value.specs.Choice.{Reaches, here, step}
 use Rattle.link_table.specs.Links.{Links, times, Reads}
 use Rattle.necessity.specs.Need.{root_times}
 use Rattle.necessary_graph.specs.Part.{NecessaryPart, Needed}
-use Rattle.necessary_graph.specs.Sweep.{IsThinned}
+use Rattle.necessary_graph.specs.Sweep.{IsThinned, IsHeld}
 
 -- one step more at the end
 pub reaches_more : {A : Type 0} {R : A → A → Type 0} {a b c : A} → Reaches R a b → R b c → Reaches R a c
@@ -45,6 +45,10 @@ led_needed g a b n leads = record { root = n.root; is_root = n.is_root; leads = 
 pub needed_has : (g : NecessaryPart) (P : Point → Type 0) → ((a : Point) → 0 < root_times g.roots a → P a) → ((a b : Point) → Reads g.links a b → P a → P b)
     → (p : Point) → Needed g p → P p
 needed_has g P roots along p n = walk_has P along n.leads (roots n.root n.is_root)
+
+-- what is needed is a root, or is read
+pub needed_held : (g : NecessaryPart) (p : Point) → Needed g p → IsHeld g.links g.roots p
+needed_held g p n = needed_has g (IsHeld g.links g.roots) (λ a r. inl r) (λ a b r held. inr (a, r)) p n
 
 -- more is needed of more roots and links
 pub needed_more : (g h : NecessaryPart) → ((a : Point) → 0 < root_times g.roots a → 0 < root_times h.roots a)

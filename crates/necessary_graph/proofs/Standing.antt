@@ -3,7 +3,7 @@ use Rattle.std.proofs.Common.{◌≡◌, ◌≢◌, inl, inr, ℕ, ◌<◌, ◌�
 use Rattle.std.proofs.lemmas.Bool.{cases_lt}
 use Rattle.std.proofs.lemmas.Option.{none-some}
 use Rattle.necessary_graph.proofs.Sweeping.{none_of}
-use Rattle.std.specs.Prelude.{Option, None, is_some, IsSome}
+use Rattle.std.specs.Prelude.{Option, None, is_some, IsSome, ◌↔◌}
 use Rattle.inc_value.specs.declared.node.Point.{Point}
 use Rattle.point_map.specs.Rows.{Rows, at, Holds, Changes, KeepsRows}
 use Rattle.point_map.proofs.Places.{point_cases}
@@ -11,7 +11,8 @@ use Rattle.link_table.specs.Links.{times, Reads}
 use Rattle.necessity.specs.Need.{root_times}
 use Rattle.height_order.specs.Levels.{level, or_zero}
 use Rattle.necessary_graph.specs.Part.{NecessaryPart, Needed, IsInStep}
-use Rattle.necessary_graph.proofs.Reaching.{root_needed, read_needed, needed_has}
+use Rattle.necessary_graph.specs.Sweep.{IsHeld}
+use Rattle.necessary_graph.proofs.Reaching.{root_needed, read_needed, needed_has, needed_held}
 
 -- each of the heap's points is needed, at its height
 abbrev pub HeapStands : NecessaryPart → Rows ℕ → Type 0
@@ -135,6 +136,13 @@ module _ (g : NecessaryPart) (inv : IsInStep g) where
 
     pub out_of_heap : at g.heap p ≡ None
     out_of_heap = none_of (at g.heap p) (λ h e. unneeded ((inv.heap p h e).1))
+
+-- what is held is what is needed
+pub held_exactly : (g : NecessaryPart) → IsInStep g → (p : Point) → IsHeld g.links g.roots p ↔ Needed g p
+held_exactly g inv p = (
+  λ held. elim held [ inl root ↦ root_needed g p root | inr read ↦ read_needed g read.0 p (inv.readers read.0 p read.1) read.1 ],
+  λ n. needed_held g p n,
+)
 
 -- without points, roots and links all stands
 pub new_in_step : (g : NecessaryPart) → ((p : Point) → at g.heights p ≡ None) → ((p : Point) → root_times g.roots p ≡ 0)

@@ -11,7 +11,7 @@ use Rattle.link_table.specs.Links.{link, times, Reads, KeepsLinks, OneLinkMore}
 use Rattle.necessity.specs.Need.{KeepsRoots}
 use Rattle.height_order.specs.Levels.{Rises}
 use Rattle.necessary_graph.specs.Part.{NecessaryPart, Needed}
-use Rattle.necessary_graph.specs.Sweep.{IsThinned, IsSwept, IsBare, IsRead}
+use Rattle.necessary_graph.specs.Sweep.{IsThinned, IsSwept, IsBare, IsRead, IsHeld}
 use Rattle.necessary_graph.proofs.Reaching.{reaches_on, leads_more, thinned_up, thinned_down, thinned_then}
 
 -- two links are the same, or not
@@ -45,8 +45,8 @@ module _ (leaf : Point → Bool) (first : Point) where
   pub gone_stays : (t u : NecessaryPart) → IsSwept leaf first t u → (p : Point) → at t.heights p ≡ None → at u.heights p ≡ None
   gone_stays t u w p gone = elim (w.heights p) [ inl same ↦ same ∙ gone | inr shed ↦ shed.gone ]
 
-  -- what is bare stays bare, unless it is needed: a leaf that loses its last reader is dropped
-  pub bare_stays : (t u : NecessaryPart) → IsSwept leaf first t u → (p : Point) → IsBare leaf t p → Needed t p ⊎ IsBare leaf u p
+  -- what is bare stays bare, unless it is held: a leaf that loses its last reader is dropped
+  pub bare_stays : (t u : NecessaryPart) → IsSwept leaf first t u → (p : Point) → IsBare leaf t p → IsHeld u.links u.roots p ⊎ IsBare leaf u p
   bare_stays t u w p bare = elim (cases_Bool (leaf p)) [
     | inr is_not ↦ inr (still (λ is. absurd (let e = sym is ∙ is_not in cc)))
     | inl is ↦ elim (bare.left is) [
@@ -64,6 +64,14 @@ module _ (leaf : Point → Bool) (first : Point) where
         out = none_of (at u.heap p) (λ h e. none-some h (sym bare.out ∙ w.heap_fewer p h e));
         left = left;
       }
+
+  -- what is held stays so, or is bare once its last reader's link is off
+  pub held_stays : (t u : NecessaryPart) → IsSwept leaf first t u → (p : Point) → IsHeld t.links t.roots p → IsHeld u.links u.roots p ⊎ IsBare leaf u p
+  held_stays t u w p (inl root) = inl (inl (omega (arith, w.thinned.roots p, root)))
+  held_stays t u w p (inr (reader, reads)) = elim (cases_lt 0 (times u.links reader p)) [
+    | inl still ↦ inl (inr (reader, still))
+    | inr none ↦ w.followed reader p (omega (arith, none, reads))
+  ]
 
 -- a sweep, and then one of what the first leads to
 module _ (leaf : Point → Bool) (first : Point) where
@@ -85,11 +93,8 @@ module _ (leaf : Point → Bool) (first : Point) where
       })
     ];
     followed = λ a b less. elim (cases_lt (times t.links a b) (times s.links a b)) [
-      | inl earlier ↦ elim (f.followed a b earlier) [
-        | inl n ↦ inl n
-        | inr bare ↦ elim (bare_stays leaf next t u g b bare) [ inl n ↦ inl (thinned_down s t f.thinned b n) | inr done ↦ inr done ]
-      ]
-      | inr not_earlier ↦ elim (g.followed a b (omega (arith, not_earlier, less))) [ inl n ↦ inl (thinned_down s t f.thinned b n) | inr bare ↦ inr bare ]
+      | inl earlier ↦ elim (f.followed a b earlier) [ inl held ↦ held_stays leaf next t u g b held | inr bare ↦ bare_stays leaf next t u g b bare ]
+      | inr not_earlier ↦ g.followed a b (omega (arith, not_earlier, less))
     ];
     heap_kept = λ a n. g.heap_kept a (thinned_up s t f.thinned a n) ∙ f.heap_kept a n;
     heap_fewer = λ a h e. f.heap_fewer a h (g.heap_fewer a h e);
@@ -122,9 +127,9 @@ off_thinned s t p q unneeded off = record {
 pub off_read : (s t : NecessaryPart) (p q : Point) → IsOff s t p q → Reads s.links p q
 off_read s t p q off = omega (arith, off.link.raised)
 
--- a link of a point that isn't needed comes off, and its kid is swept, unless it is needed
+-- a link of a point that isn't needed comes off, and its kid is swept, unless it is held
 pub link_swept : (leaf : Point → Bool) (s t u : NecessaryPart) (p q : Point) → (Needed s p → ⊥) → IsOff s t p q → IsSwept leaf q t u
-    → Needed t q ⊎ IsBare leaf u q → IsSwept leaf p s u
+    → IsHeld u.links u.roots q ⊎ IsBare leaf u q → IsSwept leaf p s u
 link_swept leaf s t u p q unneeded off w kid =
     let thin = off_thinned s t p q unneeded off in record {
       thinned = thinned_then s t u thin w.thinned;
@@ -138,25 +143,19 @@ link_swept leaf s t u p q unneeded off w kid =
         })
       ];
       followed = λ a b less. elim (link_cases a b p q) [
-        | inl same ↦ elim kid [
-          | inl n ↦ inl (rw same.1 (thinned_down s t thin q n))
-          | inr bare ↦ inr (rw same.1 bare)
-        ]
-        | inr other ↦ elim (w.followed a b (omega (arith, off.link.others a b other, less))) [
-          | inl n ↦ inl (thinned_down s t thin b n)
-          | inr bare ↦ inr bare
-        ]
+        | inl same ↦ rw same.1 kid
+        | inr other ↦ w.followed a b (omega (arith, off.link.others a b other, less))
       ];
       heap_kept = λ a n. w.heap_kept a (thinned_up s t thin a n) ∙ ap (λ m. at m a) off.heap;
       heap_fewer = λ a h e. rw off.heap at w.heap_fewer a h e;
     }
 
--- a sweep under way at p: a link to a kid came off, and the kid was swept unless it is needed
+-- a sweep under way at p: a link to a kid came off, and the kid was swept unless it is held
 module _ (leaf : Point → Bool) (s0 s t u : NecessaryPart) (p q : Point) (unneeded : Needed s0 p → ⊥) (so_far : IsSwept leaf p s0 s) (off : IsOff s t p q) where
   pub unneeded_still : Needed s p → ⊥
   unneeded_still n = unneeded (thinned_down s0 s so_far.thinned p n)
 
-  pub more_swept : IsSwept leaf q t u → Needed t q ⊎ IsBare leaf u q → IsSwept leaf p s0 u
+  pub more_swept : IsSwept leaf q t u → IsHeld u.links u.roots q ⊎ IsBare leaf u q → IsSwept leaf p s0 u
   more_swept w kid = swept_then leaf p s0 s u p here so_far (link_swept leaf s t u p q unneeded_still off w kid)
 
 -- fewer links rise too

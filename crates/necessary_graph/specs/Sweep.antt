@@ -4,7 +4,7 @@ use Rattle.inc_value.specs.declared.node.Point.{Point}
 use Rattle.inc_value.specs.Choice.{Reaches}
 use Rattle.point_map.specs.Rows.{Rows, at, Changes}
 use Rattle.link_table.specs.Links.{Links, times, Reads, OneLinkMore}
-use Rattle.necessity.specs.Need.{Roots, KeepsRoots, OneRootMore}
+use Rattle.necessity.specs.Need.{Roots, root_times, KeepsRoots, OneRootMore}
 use Rattle.necessary_graph.specs.Part.{NecessaryPart, Needed}
 
 -- what is reached from a root keeps all, and what isn't loses its links and leaves the heap
@@ -60,6 +60,10 @@ pub record IsUnrooted (leaf : Point → Bool) (old new : NecessaryPart) (p : Poi
 abbrev pub IsRead : Links → Point → Type 0
 IsRead links p = (reader : Point) × Reads links reader p
 
+-- the point is a root, or some point reads it
+abbrev pub IsHeld : Links → Roots → Point → Type 0
+IsHeld links roots p = (0 < root_times roots p) ⊎ IsRead links p
+
 -- the point has no links of its own, and isn't in the heap; a leaf is gone, unless it is read
 pub record IsBare (leaf : Point → Bool) (g : NecessaryPart) (p : Point) : Type 0 where
   pub reads_none : (q : Point) → times g.links p q ≡ 0
@@ -79,11 +83,11 @@ pub record IsShed (leaf : Point → Bool) (first : Point) (old new : NecessaryPa
   pub leads : Reaches (Reads old.links) first p
   pub gone : at new.heights p ≡ None
 
--- the first loses what it has, and so does what it read, unless it is needed
+-- the first loses what it has, and so does what it read, unless it is a root or is read still
 pub record IsSwept (leaf : Point → Bool) (first : Point) (old new : NecessaryPart) : Type 0 where
   pub thinned : IsThinned old new
   pub heights : (p : Point) → (at new.heights p ≡ at old.heights p) ⊎ IsShed leaf first old new p
-  pub followed : (p q : Point) → times new.links p q < times old.links p q → Needed old q ⊎ IsBare leaf new q
+  pub followed : (p q : Point) → times new.links p q < times old.links p q → IsHeld new.links new.roots q ⊎ IsBare leaf new q
   pub heap_kept : (p : Point) → Needed old p → at new.heap p ≡ at old.heap p
   pub heap_fewer : (p : Point) (h : ℕ) → at new.heap p ≡ Some h → at old.heap p ≡ Some h
 

@@ -14,20 +14,25 @@ ghost use Rattle.necessary_graph.specs.Readers.{HasReaders};
 ghost use Rattle.necessary_graph.specs.Sweep.{IsUnlinked, IsReduced, IsUnrooted};
 
 use crate::readers::{Skip, put, put_readers};
+use crate::roots::{add_root, is_held, remove_root, root_count};
 use crate::sweep::{Leaves, kid_beside, raise_moved, sweep, take_out};
-use height_order::{Heights, LinkFault};
+use height_order::{LinkFault, add_at, level_of, make_link};
 use inc_value::Point;
-use necessity::{Kids, Needs, Readers};
+use link_table::{Kids, Link, LinkTable, Readers};
+use point_map::PointMap;
 use recompute_heap::RecomputeHeap;
 use std::alloc::{AllocError, Global};
 use std::marker::Model;
 
 /// Points with heights, roots, counted links, and the points that are to be recomputed. Each call leaves them in step:
 /// heights rise along links and are at most 128, only needed points have links of their own, needed points are there, and
-/// the points that are to be recomputed are needed, each at its height.
+/// the points that are to be recomputed are needed, each at its height. So a point is needed where it is a root or is read,
+/// and nothing is counted but roots.
 pub struct NecessaryGraph {
-    heights: Heights,
-    needs: Needs,
+    alloc: Global,
+    links: LinkTable,
+    heights: PointMap<u32>,
+    roots: PointMap<usize>,
     heap: RecomputeHeap,
     points: usize,
     moved: Vec<Point>,
@@ -37,14 +42,17 @@ pub struct NecessaryGraph {
 impl Drop for NecessaryGraph {
     fn drop(self) {
         let NecessaryGraph {
+            alloc: _,
+            links,
             heights,
-            needs,
+            roots,
             heap,
             points: _,
             moved,
         } = self;
+        drop(links);
         drop(heights);
-        drop(needs);
+        drop(roots);
         drop(heap);
         drop(moved);
     }
@@ -54,16 +62,14 @@ impl Model for NecessaryGraph {
     ghost use Rattle.necessary_graph.specs.Part.{NecessaryPart, IsInStep};
     ghost use Rattle.necessary_graph.specs.Room.{HasRoom};
     ghost use Rattle.necessary_graph.specs.Part.{part_of};
-    ghost use Rattle.link_table.specs.Links.{KeepsLinks};
 
     ghost Value = { NecessaryPart };
 
-    ghost view = { λ g. part_of g.heights g.needs g.heap };
+    ghost view = { λ g. part_of g.links g.heights g.roots g.heap };
 
     ghost invariant = { λ g.
-        KeepsLinks g.heights.links g.needs.links
-        × IsInStep (part_of g.heights g.needs g.heap)
-        × HasRoom g.heights.heights g.heap g.points };
+        IsInStep (part_of g.links g.heights g.roots g.heap)
+        × HasRoom g.heights g.heap g.points };
 }
 
 impl NecessaryGraph {
@@ -76,8 +82,10 @@ impl NecessaryGraph {
         ensures in_step { IsInStep result }
     {
         NecessaryGraph {
-            heights: Heights::new(alloc),
-            needs: Needs::new(alloc),
+            alloc,
+            links: LinkTable::new(alloc),
+            heights: PointMap::new(alloc),
+            roots: PointMap::new(alloc),
             heap: RecomputeHeap::new(alloc),
             points: 0,
             moved: Vec::new(alloc),
@@ -97,7 +105,7 @@ impl NecessaryGraph {
     {
         let points = self.points.checked_add(1).ok_or(AllocError)?;
         self.heap.reserve(points - self.heap.len())?;
-        self.heights.add_at(p, height)?;
+        add_at(&mut self.heights, p, height)?;
         self.points = points;
         Ok(())
     }
@@ -112,7 +120,7 @@ impl NecessaryGraph {
         ensures heap { self.new.heap ≡ self.old.heap }
         ensures in_step { IsInStep self.new }
     {
-        self.heights.drop_point(p);
+        self.heights.remove(p);
         self.points -= 1;
     }
 
@@ -128,8 +136,8 @@ impl NecessaryGraph {
         ensures heap { self.new.heap ≡ self.old.heap }
         ensures in_step { IsInStep self.new }
     {
-        let newly = !self.needs.is_needed(p);
-        self.needs.make_needed(p)?;
+        let newly = !is_held(&self.links, &self.roots, p);
+        add_root(&mut self.roots, p)?;
         Ok(newly)
     }
 
@@ -140,11 +148,12 @@ impl NecessaryGraph {
         ensures unrooted { IsUnrooted (L.is_leaf leaves.now) self.old self.new p }
         ensures in_step { IsInStep self.new }
     {
-        self.needs.make_unneeded(p);
-        if !self.needs.is_needed(p) {
+        remove_root(&mut self.roots, p);
+        if !is_held(&self.links, &self.roots, p) {
             sweep(
+                &mut self.links,
                 &mut self.heights,
-                &mut self.needs,
+                &self.roots,
                 &mut self.heap,
                 &mut self.points,
                 p,
@@ -179,18 +188,18 @@ impl NecessaryGraph {
         ensures still { level self.old.heights q < level self.old.heights p → KeepsRows self.old.heights self.new.heights }
         ensures in_step { IsInStep self.new }
     {
-        let newly = !self.needs.is_needed(q);
+        let newly = !is_held(&self.links, &self.roots, q);
         self.moved.clear();
-        let linked = self.heights.link(p, q, &mut self.moved);
+        let linked = make_link(
+            self.alloc,
+            &mut self.heights,
+            &mut self.links,
+            Link { reader: p, kid: q },
+            &mut self.moved,
+        );
         raise_moved(&self.heights, &mut self.heap, &self.moved);
         linked?;
-        match self.needs.attach(p, q) {
-            Ok(()) => Ok(newly),
-            Err(AllocError) => {
-                self.heights.unlink(p, q);
-                Err(LinkFault::Memory)
-            }
-        }
+        Ok(newly)
     }
 
     /// Takes a link from `p` to `q` off, once. What is no longer needed then loses its links and leaves the heap, and
@@ -200,12 +209,12 @@ impl NecessaryGraph {
         ensures unlinked { IsUnlinked (L.is_leaf leaves.now) self.old self.new p q }
         ensures in_step { IsInStep self.new }
     {
-        self.needs.detach(p, q);
-        self.heights.unlink(p, q);
-        if !self.needs.is_needed(q) {
+        self.links.remove(p, q);
+        if !is_held(&self.links, &self.roots, q) {
             sweep(
+                &mut self.links,
                 &mut self.heights,
-                &mut self.needs,
+                &self.roots,
                 &mut self.heap,
                 &mut self.points,
                 q,
@@ -221,7 +230,7 @@ impl NecessaryGraph {
         ensures reduced { IsReduced (L.is_leaf leaves.now) self.old self.new p kept }
         ensures in_step { IsInStep self.new }
     {
-        while let Some(kid) = kid_beside(&self.needs, p, kept) {
+        while let Some(kid) = kid_beside(&self.links, p, kept) {
             self.unlink(p, kid, leaves);
         }
     }
@@ -243,7 +252,7 @@ impl NecessaryGraph {
         ensures rest { self.new ≡ record self.old { heap = self.new.heap } }
         ensures in_step { IsInStep self.new }
     {
-        put_readers(&self.heights, &self.needs, &mut self.heap, q, skip);
+        put_readers(&self.heights, &self.links, &mut self.heap, q, skip);
     }
 
     /// Takes a point from the heap, if it is in.
@@ -287,14 +296,14 @@ impl NecessaryGraph {
     pub fn is_root(&self, p: Point) -> bool
         ensures { IsTrue result ↔ IsRoot (web self.now) p }
     {
-        self.needs.is_root(p)
+        root_count(&self.roots, p) > 0
     }
 
     /// Whether the point is a root, or reached from one over links.
     pub fn is_needed(&self, p: Point) -> bool
         ensures { IsTrue result ↔ Needed self.now p }
     {
-        self.needs.is_needed(p)
+        is_held(&self.links, &self.roots, p)
     }
 
     /// The height of a point, at most 128.
@@ -303,27 +312,27 @@ impl NecessaryGraph {
         ensures height { result ≡ level self.now.heights p }
         ensures low { result ≤ 128 }
     {
-        self.heights.height(p)
+        level_of(&self.heights, p)
     }
 
     /// Whether `p` reads `q`.
     pub fn reads(&self, p: Point, q: Point) -> bool
         ensures { IsTrue result ↔ Reads self.now.links p q }
     {
-        self.needs.reads(p, q)
+        self.links.reads(p, q)
     }
 
     /// The points that read `q`, each once for each link.
     pub fn readers(&self, q: Point) -> Readers<'_>
         ensures { AreReaders self.now.links q (readers_left result) }
     {
-        self.needs.readers(q)
+        self.links.readers(q)
     }
 
     /// The points that `p` reads, each once for each link.
     pub fn kids(&self, p: Point) -> Kids<'_>
         ensures { AreKids self.now.links p (kids_left result) }
     {
-        self.needs.kids(p)
+        self.links.kids(p)
     }
 }

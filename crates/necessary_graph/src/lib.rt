@@ -4,10 +4,11 @@
 
 mod graph;
 mod readers;
+mod roots;
 mod sweep;
 
 pub use graph::NecessaryGraph;
 pub use height_order::LinkFault;
-pub use necessity::{Kids, Readers};
+pub use link_table::{Kids, Readers};
 pub use readers::Skip;
 pub use sweep::Leaves;

@@ -2,16 +2,17 @@
 ghost use Rattle.std.specs.Prelude.{◌≡◌, ◌≢◌, ◌⊎◌, ◌<◌, ◌↔◌, ℕ, None, Some, IsTrue, IfSome, IfNone, Contains};
 ghost use Rattle.inc_value.specs.declared.node.Point.{Point, Point as APoint};
 ghost use Rattle.point_map.specs.Rows.{Rows, at, count, Holds, Changes};
-ghost use Rattle.link_table.specs.Links.{times, Reads, KeepsLinks};
-ghost use Rattle.necessity.specs.Need.{IsNeeded};
-ghost use Rattle.height_order.specs.Levels.{level, Rises, Ends, KeepsPoints};
+ghost use Rattle.link_table.specs.Links.{Reads};
+ghost use Rattle.height_order.specs.Levels.{level, AllLow, Rises, Ends, KeepsPoints};
 ghost use Rattle.necessary_graph.specs.Room.{HasRoom};
-ghost use Rattle.necessary_graph.specs.Part.{part_of};
-ghost use Rattle.necessary_graph.specs.Sweep.{IsSwept, IsRead, IsBare, IsGone, IsLeft};
+ghost use Rattle.necessary_graph.specs.Part.{part_of, Needed};
+ghost use Rattle.necessary_graph.specs.Sweep.{IsSwept, IsBare, IsGone, IsLeft};
 
-use height_order::Heights;
+use crate::roots::{is_held, is_read};
+use height_order::level_of;
 use inc_value::Point;
-use necessity::Needs;
+use link_table::LinkTable;
+use point_map::PointMap;
 use recompute_heap::RecomputeHeap;
 
 /// Tells which points are leaves: those that are there only while they are needed.
@@ -27,76 +28,64 @@ pub trait Leaves {
         ensures { result ≡ is_leaf self.now p };
 }
 
-/// Takes a point that isn't needed from the heap, and its links off. A kid that isn't needed any more
-/// is swept in turn. Heights fall along links, so this goes at most 129 deep. A leaf that nobody reads any more is
+/// Takes a point that isn't needed from the heap, and its links off. A kid that is no root and that nobody reads any more
+/// is swept in turn; one that is still read by a point to be swept is swept with that point's link. Heights fall along
+/// links, so this goes at most 129 deep. A leaf that nobody reads any more is
 /// dropped; `points` counts the points that are there.
 pub fn sweep<L: Leaves>(
-    heights: &mut Heights,
-    needs: &mut Needs,
+    links: &mut LinkTable,
+    heights: &mut PointMap<u32>,
+    roots: &PointMap<usize>,
     heap: &mut RecomputeHeap,
     points: &mut usize,
     p: Point,
     leaves: &L,
 )
-    requires same { KeepsLinks heights.old.links needs.old.links }
-    requires ends { Ends heights.old.heights needs.old.links }
-    requires rises { Rises (Reads needs.old.links) (level heights.old.heights) }
-    requires there { Holds heights.old.heights p }
-    requires unneeded { IsNeeded needs.old p → ⊥ }
-    requires room { HasRoom heights.old.heights heap.old points.old }
-    ensures same { KeepsLinks heights.new.links needs.new.links }
-    ensures swept { IsSwept (L.is_leaf leaves.now) p (part_of heights.old needs.old heap.old) (part_of heights.new needs.new heap.new) }
-    ensures bare { IsBare (L.is_leaf leaves.now) (part_of heights.new needs.new heap.new) p }
-    ensures ends { Ends heights.new.heights needs.new.links }
-    ensures room { HasRoom heights.new.heights heap.new points.new }
+    requires ends { Ends heights.old links.old }
+    requires rises { Rises (Reads links.old) (level heights.old) }
+    requires there { Holds heights.old p }
+    requires unneeded { Needed (part_of links.old heights.old roots.now heap.old) p → ⊥ }
+    requires room { HasRoom heights.old heap.old points.old }
+    ensures swept { IsSwept (L.is_leaf leaves.now) p (part_of links.old heights.old roots.now heap.old) (part_of links.new heights.new roots.now heap.new) }
+    ensures bare { IsBare (L.is_leaf leaves.now) (part_of links.new heights.new roots.now heap.new) p }
+    ensures ends { Ends heights.new links.new }
+    ensures room { HasRoom heights.new heap.new points.new }
 {
     take_out(heap, p);
-    while let Some(kid) = needs.kids(p).next() {
-        needs.detach(p, kid);
-        heights.unlink(p, kid);
-        if !needs.is_needed(kid) {
-            sweep(heights, needs, heap, points, kid, leaves);
+    while let Some(kid) = links.pop_kid(p) {
+        if !is_held(links, roots, kid) {
+            sweep(links, heights, roots, heap, points, kid, leaves);
         }
     }
-    drop_leaf(heights, needs, points, p, leaves);
+    drop_leaf(links, heights, points, p, leaves);
 }
 
 /// Drops a point that reads none, if it is a leaf that nobody reads.
 fn drop_leaf<L: Leaves>(
-    heights: &mut Heights,
-    needs: &Needs,
+    links: &LinkTable,
+    heights: &mut PointMap<u32>,
     points: &mut usize,
     p: Point,
     leaves: &L,
 )
-    requires same { KeepsLinks heights.old.links needs.now.links }
-    requires there { Holds heights.old.heights p }
-    requires reads_none { (q : Point) → times needs.now.links p q ≡ 0 }
+    requires there { Holds heights.old p }
     requires room { 0 < points.old }
-    ensures links { heights.new.links ≡ heights.old.links }
-    ensures leaf { IsGone (L.is_leaf leaves.now) needs.now.links p heights.old.heights heights.new.heights points.old points.new
-        ⊎ IsLeft (L.is_leaf leaves.now) needs.now.links p heights.old.heights heights.new.heights points.old points.new }
+    ensures leaf { IsGone (L.is_leaf leaves.now) links.now p heights.old heights.new points.old points.new
+        ⊎ IsLeft (L.is_leaf leaves.now) links.now p heights.old heights.new points.old points.new }
 {
-    if leaves.has(p) && !is_read(needs, p) {
-        heights.drop_point(p);
+    if leaves.has(p) && !is_read(links, p) {
+        heights.remove(p);
         *points -= 1;
     }
 }
 
-/// Whether some point reads this one.
-fn is_read(needs: &Needs, p: Point) -> bool
-    ensures { IsTrue result ↔ IsRead needs.now.links p }
-{
-    needs.readers(p).next().is_some()
-}
-
 /// A point that `p` reads beside `kept`, if there is one.
-pub fn kid_beside(needs: &Needs, p: Point, kept: Point) -> Option<Point>
-    ensures reads { IfSome result (λ kid. Reads needs.now.links p kid) }
+pub fn kid_beside(links: &LinkTable, p: Point, kept: Point) -> Option<Point>
+    ensures reads { IfSome result (λ kid. Reads links.now p kid) }
     ensures other { IfSome result (λ kid. kid ≢ kept) }
-    ensures none { IfNone result ((b : APoint) → Reads needs.now.links p b → b ≡ kept) }
+    ensures none { IfNone result ((b : APoint) → Reads links.now p b → b ≡ kept) }
 {
-    for kid in needs.kids(p) {
+    for kid in links.kids(p) {
         if kid != kept {
             return Some(kid);
         }
@@ -115,17 +104,18 @@ pub fn take_out(heap: &mut RecomputeHeap, p: Point)
 }
 
 /// Gives each of these points that is in the heap its present height. All others have theirs.
-pub fn raise_moved(heights: &Heights, heap: &mut RecomputeHeap, moved: &[Point])
-    requires there { (p : Point) → Holds heap.old p → Holds heights.now.heights p }
-    requires due { (p : Point) (h : ℕ) → at heap.old p ≡ Some h → (h ≡ level heights.now.heights p) ⊎ Contains moved.now p }
-    ensures heights { (p : Point) (h : ℕ) → at heap.new p ≡ Some h → h ≡ level heights.now.heights p }
+pub fn raise_moved(heights: &PointMap<u32>, heap: &mut RecomputeHeap, moved: &[Point])
+    requires there { (p : Point) → Holds heap.old p → Holds heights.now p }
+    requires low { AllLow (level heights.now) }
+    requires due { (p : Point) (h : ℕ) → at heap.old p ≡ Some h → (h ≡ level heights.now p) ⊎ Contains moved.now p }
+    ensures heights { (p : Point) (h : ℕ) → at heap.new p ≡ Some h → h ≡ level heights.now p }
     ensures points { KeepsPoints heap.old heap.new }
     ensures count { count heap.new ≡ count heap.old }
     ensures spare { heap.new.spare ≡ heap.old.spare }
 {
     for p in moved {
         if heap.holds(*p) {
-            heap.raise(*p, heights.height(*p));
+            heap.raise(*p, level_of(heights, *p));
         }
     }
 }

@@ -6,8 +6,8 @@ use Rattle.necessary_graph.proofs.readers.put_readers.Goals as goal
 
 pub loop-reader-init : goal.loop-reader-init
 loop-reader-init g c =
-    let heights = c.args.heights.now.heights in
-    let links = c.args.needs.now.links in
+    let heights = c.args.heights.now in
+    let links = c.args.links.now in
     let heap = c.args.heap.now in
     let skipped = g.S.Skip.skipped c.args.skip.now in
     let same = ap readers_left (sym c.into_iter-reader-iterator.ensures.into_iter_gives) in
@@ -20,8 +20,8 @@ loop-reader-init g c =
 
 pub put-requires-clause-there : goal.put-requires-clause-there
 put-requires-clause-there g c =
-    let heights = c.args.heights.now.heights in
-    let links = c.args.needs.now.links in
+    let heights = c.args.heights.now in
+    let links = c.args.links.now in
     let skipped = g.S.Skip.skipped c.args.skip.now in
     let so = rw c.in-Some.ensures.steps at c.loop-reader.invariant.telling in
     c.requires.there c.in-Some.reader
@@ -32,8 +32,8 @@ put-requires-clause-room g c = (c.requires.room.0, c.loop-reader.invariant.room 
 
 pub loop-reader-preserved-then-not-skips : goal.loop-reader-preserved-then-not-skips
 loop-reader-preserved-then-not-skips g c =
-    let heights = c.args.heights.now.heights in
-    let links = c.args.needs.now.links in
+    let heights = c.args.heights.now in
+    let links = c.args.links.now in
     let skipped = g.S.Skip.skipped c.args.skip.now in
     let so = rw c.in-Some.ensures.steps at c.loop-reader.invariant.telling in
     record {
@@ -45,8 +45,8 @@ loop-reader-preserved-then-not-skips g c =
 
 pub loop-reader-preserved : goal.loop-reader-preserved
 loop-reader-preserved g c =
-    let heights = c.args.heights.now.heights in
-    let links = c.args.needs.now.links in
+    let heights = c.args.heights.now in
+    let links = c.args.links.now in
     let skipped = g.S.Skip.skipped c.args.skip.now in
     let so = rw c.in-Some.ensures.steps at c.loop-reader.invariant.telling in
     record {

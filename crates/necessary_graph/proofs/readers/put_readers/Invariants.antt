@@ -7,7 +7,7 @@ use Rattle.necessary_graph.proofs.readers.put_readers.Given as goal
 
 abbrev pub invariant-loop-reader : goal.invariant-loop-reader
 invariant-loop-reader g l = record {
-  telling : IsTelling l.heights.heights l.needs.links l.fn.q (g.S.Skip.skipped l.skip) l.fn.heap l.heap (readers_left l.reader-iterator);
-  heights : HasHeights l.heights.heights l.heap;
-  room : (points : ℕ) → HasRoom l.heights.heights l.fn.heap points → HasRoom l.heights.heights l.heap points;
+  telling : IsTelling l.heights l.links l.fn.q (g.S.Skip.skipped l.skip) l.fn.heap l.heap (readers_left l.reader-iterator);
+  heights : HasHeights l.heights l.heap;
+  room : (points : ℕ) → HasRoom l.heights l.fn.heap points → HasRoom l.heights l.heap points;
 }

@@ -7,13 +7,13 @@ use Rattle.necessary_graph.proofs.sweep.raise_moved.Goals.{then-holds, else-hold
 pub loop-p-preserved : goal.loop-p-preserved
 loop-p-preserved c =
     let inv = c.loop-p.invariant in
-    let heights = c.args.heights.now.heights in
+    let heights = c.args.heights.now in
     let moved = c.args.moved.now in
     elim c.if-holds.branch [
       | then-holds w ↦ rw w.heap-is (record {
-        due = raised_due heights c.loop-p.heap moved c.loop-p.p-index _ c.loop-p-test.true inv.due w.raise.new.self w.height.result
-            w.height.ensures.height w.raise.ensures.changes;
-        points = points_raised c.args.heap.now c.loop-p.heap w.raise.new.self _ w.height.result inv.points (sym w.if-holds.ensures)
+        due = raised_due heights c.loop-p.heap moved c.loop-p.p-index _ c.loop-p-test.true inv.due w.raise.new.self w.level_of.result
+            w.level_of.ensures w.raise.ensures.changes;
+        points = points_raised c.args.heap.now c.loop-p.heap w.raise.new.self _ w.level_of.result inv.points (sym w.if-holds.ensures)
             w.raise.ensures.changes;
         count = w.raise.ensures.count ∙ inv.count;
         spare = w.raise.ensures.spare ∙ inv.spare;

@@ -6,11 +6,10 @@ pub invariant_of-self : goal.invariant_of-self
 invariant_of-self g c =
     let i = c.self.inside in
     let e = c.put_readers.ensures in (
-      c.self.invariant.0,
-      readers_stand (part_of i.heights i.needs i.heap) c.self.invariant.1 c.put_readers.new.heap c.args.q (g.S.Skip.skipped c.args.skip.now)
+      readers_stand (part_of i.links i.heights i.roots i.heap) c.self.invariant.0 c.put_readers.new.heap c.args.q (g.S.Skip.skipped c.args.skip.now)
           e.heights e.put,
-      e.room i.points c.self.invariant.2,
+      e.room i.points c.self.invariant.1,
     )
 
 pub returns-clause-in_step : goal.returns-clause-in_step
-returns-clause-in_step g c = (invariant_of-self g c).1
+returns-clause-in_step g c = (invariant_of-self g c).0

@@ -1,5 +1,7 @@
-use Rattle.std.proofs.Common.{◌≡◌, ◌∙◌, sym, refl}
+use Rattle.std.proofs.Common.{◌≡◌, refl}
+use Rattle.std.specs.Prelude.{unwrap_or}
 use Rattle.inc_value.specs.declared.node.Point.{Point}
+use Rattle.point_map.specs.Rows.{at}
 use Rattle.link_table.specs.Links.{times}
 use Rattle.necessary_graph.specs.Part.{part_of}
 use Rattle.necessary_graph.proofs.Room.{room_new, empty_out}
@@ -8,13 +10,15 @@ use Rattle.necessary_graph.proofs.graph.NecessaryGraph.new.Goals as goal
 
 pub invariant_of-result : goal.invariant_of-result
 invariant_of-result c =
-    let heap = c.new-3.result in
-    let empty = c.new-3.ensures.empty in
-    let links : (p q : Point) → times c.new-2.result.links p q ≡ 0 = λ p q. rw c.new-2.ensures.links refl in (
-      λ p q. links p q ∙ sym (c.new.ensures.links p q),
-      new_in_step (part_of c.new.result c.new-2.result heap) c.new.ensures.points c.new-2.ensures.roots links (empty_out heap empty),
-      room_new c.new.result.heights heap c.new.ensures.points empty,
+    let heights = c.new-2.result in
+    let heap = c.new-4.result in
+    let points = empty_out heights c.new-2.ensures.empty in
+    let empty = c.new-4.ensures.empty in
+    let roots : (p : Point) → unwrap_or (at c.new-3.result p) 0 ≡ 0 = λ p. rw (empty_out c.new-3.result c.new-3.ensures.empty p) refl in
+    let links : (p q : Point) → times c.new.result p q ≡ 0 = λ p q. rw c.new.ensures.none refl in (
+      new_in_step (part_of c.new.result heights c.new-3.result heap) points roots links (empty_out heap empty),
+      room_new heights heap points empty,
     )
 
 pub returns-clause-in_step : goal.returns-clause-in_step
-returns-clause-in_step c = (invariant_of-result c).1
+returns-clause-in_step c = (invariant_of-result c).0

@@ -17,7 +17,7 @@ loop-kid-preserved g c =
     let leaf = g.L.Leaves.is_leaf c.args.leaves.now in
     let old = c.args.self.now in
     let now = c.loop-kid.self in
-    let step : IsInStep now = rw (← c.self.view_is) c.self.invariant.1 in
+    let step : IsInStep now = rw (← c.self.view_is) c.self.invariant.0 in
     inr (reducing_more leaf old c.args.p c.args.kept now c.unlink.new.self c.in-Some.kid
     (reducing_at leaf old c.args.p c.args.kept now step c.requires.needed c.loop-kid.invariant) c.in-Some.ensures.other c.unlink.ensures.unlinked)
 
@@ -26,7 +26,7 @@ returns g c =
     let leaf = g.L.Leaves.is_leaf c.args.leaves.now in
     let old = c.args.self.now in
     let now = c.loop-kid.self in
-    let step : IsInStep now = rw (← c.self.view_is) c.self.invariant.1 in record {
+    let step : IsInStep now = rw (← c.self.view_is) c.self.invariant.0 in record {
       reduced = reduced leaf old c.args.p c.args.kept now (reducing_at leaf old c.args.p c.args.kept now step c.requires.needed c.loop-kid.invariant)
           (rw (← c.self.view_is) c.in_default.ensures.none);
       in_step = step;

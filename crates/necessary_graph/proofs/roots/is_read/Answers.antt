@@ -3,7 +3,7 @@ use Rattle.std.specs.Prelude.{is_some}
 use Rattle.link_table.specs.Walks.{readers_left}
 use Rattle.necessity.proofs.Counts.{split}
 use Rattle.necessity.proofs.Starts.{some_left, none_left, none_reads}
-use Rattle.necessary_graph.proofs.sweep.is_read.Goals as goal
+use Rattle.necessary_graph.proofs.roots.is_read.Goals as goal
 
 pub returns : goal.returns
 returns c = (
@@ -13,7 +13,7 @@ returns c = (
   λ read. elim (split (is_some c.next.result)) [
     | inl some ↦ c.is_some.ensures ∙ some
     | inr none ↦ absurd (
-        let unread = none_reads c.args.needs.now.links c.args.p (readers_left c.readers.result) c.readers.ensures
+        let unread = none_reads c.args.links.now c.args.p (readers_left c.readers.result) c.readers.ensures
         (none_left readers_left c.readers.result c.next.new.self c.next.result c.next.ensures.steps none) in
         omega (arith, unread read.0, read.1))
   ],
