@@ -1,8 +1,13 @@
 -- Lists by place, and the tests of points.
-use Rattle.std.proofs.Common.{◌≡◌, ◌≢◌, ◌⊎◌, inl, inr, ℕ, zero, suc, ◌+◌, ◌<◌, Bool, true, false, List, [], ◌∷◌, ◌++◌, length, refl, ap, sym, arith, rules}
-use Rattle.std.specs.Prelude.{Option, None, Some, IfNone, Result, Ok, Err, OnErr, slice_get, slice_set, map, sum_by}
+use Rattle.std.proofs.Common.{◌≡◌, ◌≢◌, ◌⊎◌, inl, inr, ◌∙◌, ℕ, zero, suc, ◌+◌, ◌-◌, ◌<◌, Bool, true, false, List, [], ◌∷◌, ◌++◌, length, swap_remove, refl, ap, sym, arith, rules}
+use Rattle.std.specs.Prelude.{Option, None, Some, IfNone, IsTrue, IsFalse, ◌==◌, Result, Ok, Err, OnErr, slice_get, slice_set, slice_index_or, option_copied, map, sum_by}
+use Rattle.std.specs.Borrow.{Bor}
+use Rattle.std.specs.Slice.{IsItemAt}
 use Rattle.std.proofs.lemmas.Bool.{cases_eq}
+use Rattle.std.proofs.lemmas.Bool.Decides.{nat_tests}
+use Rattle.std.proofs.lemmas.List.{take-set-le, take_at}
 use Rattle.std.proofs.lemmas.List.Sums.{sum_by-cons}
+use Rattle.std.proofs.lemmas.Option.{slice_get_past, slice_get_read}
 use Rattle.inc_value.specs.declared.node.Point.{Point}
 use Rattle.point_map.specs.Rows.{same_point}
 use Rattle.point_map.proofs.Places.{same_point_eq, point_cases}
@@ -17,6 +22,28 @@ on_err (Err e) q = q
 pub if_none : {T Q : Type 0} (o : Option T) → Q → IfNone o Q
 if_none None q = q
 if_none (Some x) q = tt
+
+-- a list without items, and one with some
+zero_when : (n : ℕ) (b : Bool) → b ≡ (n == 0) → IsTrue b → n ≡ 0
+zero_when n b e t = grind (arith, nat_tests)
+
+some_when : (n : ℕ) (b : Bool) → b ≡ (n == 0) → IsFalse b → 0 < n
+some_when n b e f = grind (arith, nat_tests)
+
+nothing : {T : Type 0} (xs : List T) → length xs ≡ 0 → xs ≡ []
+nothing [] h = refl
+nothing (x ∷ xs) h = absurd (omega (arith, h))
+
+pub empty_when : {T : Type 0} (xs : List T) (b : Bool) → b ≡ (length xs == 0) → IsTrue b → xs ≡ []
+empty_when xs b e t = nothing xs (zero_when (length xs) b e t)
+
+pub filled_when : {T : Type 0} (xs : List T) (b : Bool) → b ≡ (length xs == 0) → IsFalse b → xs ≢ []
+filled_when xs b e f h = let none : length xs ≡ 0 = ap length h in omega (arith, none, some_when (length xs) b e f)
+
+-- what a slice lends at a place
+pub copied_at : {X : Type 0} (xs : List X) (i : ℕ) (r : Option (Bor X)) → IsItemAt xs i r → option_copied r ≡ slice_get xs i
+copied_at xs i None h = sym (slice_get_past xs i h.3)
+copied_at xs i (Some x) h = sym (slice_get_read xs (length xs) i x.now refl h.3.0 h.1)
 
 -- a test passes or fails
 pub split : (b : Bool) → (b ≡ true) ⊎ (b ≡ false)
@@ -67,14 +94,12 @@ module _ {X : Type 0} where
   length_more [] y = refl
   length_more (x ∷ xs) y = let next = length_more xs y in omega (arith, next)
 
-  -- two lists with one element behind them
-  pub front_same : (xs ys : List X) (x y : X) → xs ++ x ∷ [] ≡ ys ++ y ∷ [] → xs ≡ ys
-  front_same [] [] x y h = refl
-  front_same [] (b ∷ ys) x y h = absurd (let l = ap length h in let m = length_more ys y in omega (arith, l, m))
-  front_same (a ∷ xs) [] x y h = absurd (let l = ap length h in let m = length_more xs x in omega (arith, l, m))
-  front_same (a ∷ xs) (b ∷ ys) x y h =
-      let parts : (a ≡ b) × (xs ++ x ∷ [] ≡ ys ++ y ∷ []) = (cc, cc) in
-      rw (parts.0, front_same xs ys x y parts.1) refl
+  -- what stands last goes, and the others stay where they are
+  pub swap_last : (xs : List X) (x y : X) → swap_remove (xs ++ x ∷ []) (length xs) y ≡ xs
+  swap_last xs x y =
+      let more = length_more xs x in
+      take-set-le (length (xs ++ x ∷ []) - 1) (xs ++ x ∷ []) (length xs) (slice_index_or (xs ++ x ∷ []) (length (xs ++ x ∷ []) - 1) y) (omega (arith, more))
+      ∙ take_at xs (x ∷ []) (length (xs ++ x ∷ []) - 1) (omega (arith, more))
 
 module _ {X Y : Type 0} (f : Y → ℕ) (g : X → Y) where
   pub sum_of_map : (xs : List X) → sum_by f (map g xs) ≡ sum_by (λ x. f (g x)) xs

@@ -95,11 +95,9 @@ more_than_kept fewer more was p q m k = record {
   others = λ a b other. sym (k.counts a b) ∙ m.others a b other;
 }
 
-pub kept_twice : (a b c : EndLists) → KeepsPoints a b → KeepsPoints b c → KeepsPoints a c
-kept_twice a b c h k = record {
-  lengths = λ x. k.lengths x ∙ h.lengths x;
-  counts = λ x y. k.counts x y ∙ h.counts x y;
+-- one more than what is kept
+pub kept_more : (fewer kept more : EndLists) (p q : Point) → OneEndMoreWith fewer more p q → KeepsPoints fewer kept → OneEndMoreWith kept more p q
+kept_more fewer kept more p q m k = record {
+  raised = let same = k.counts p q in let up = m.raised in omega (arith, same, up);
+  others = λ a b other. m.others a b other ∙ sym (k.counts a b);
 }
-
-pub kept_same : (a : EndLists) → KeepsPoints a a
-kept_same a = record { lengths = λ x. refl; counts = λ x y. refl }

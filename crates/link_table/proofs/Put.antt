@@ -1,4 +1,4 @@
--- A link put on both sides, or taken off both.
+-- A link put on both sides.
 use Rattle.std.proofs.Common.{◌≡◌, ◌∙◌, inl, inr, ℕ, length, refl, ap, sym, arith}
 use Rattle.std.specs.Prelude.{Some, slice_get}
 use Rattle.std.proofs.lemmas.Option.{slice_get_within}
@@ -6,7 +6,7 @@ use Rattle.inc_value.specs.declared.node.Point.{Point}
 use Rattle.link_table.specs.declared.ends.End.{End}
 use Rattle.link_table.specs.declared.ends.EndLists.{EndLists}
 use Rattle.link_table.specs.Ends.{end, ends_at, end_at, ends_with, OneEndMore, OneEndMoreWith, IsTwoWay, KeepsEnds}
-use Rattle.link_table.proofs.Lists.{place_cases, link_cases, front_same}
+use Rattle.link_table.proofs.Lists.{place_cases, link_cases}
 use Rattle.link_table.proofs.Places.{end_parts, put_here, put_elsewhere, put_with}
 
 -- every end of the one side leads to its end on the other
@@ -36,10 +36,6 @@ module _ (a more_a b more_b : EndLists) (p q : Point) (i c : ℕ) (h : IsPut a m
   elsewhere_there : (x : Point) (k : ℕ) → (x ≡ q → k ≡ c → ⊥) → end_at more_b x k ≡ end_at b x k
   elsewhere_there x k other = put_elsewhere b more_b q (end p i) h.that x k (λ s e. other s (e ∙ sym h.that_last))
 
-  none_yet : (x : Point) (k : ℕ) (e : End) → x ≡ p → k ≡ i → end_at a x k ≡ Some e → ⊥
-  none_yet x k e same at_i was =
-      let w = slice_get_within (ends_at a x) k e was in let l = rw same at w in omega (arith, l, at_i, h.this_last)
-
   none_there : (x : Point) (k : ℕ) (e : End) → x ≡ q → k ≡ c → end_at b x k ≡ Some e → ⊥
   none_there x k e same at_c was =
       let w = slice_get_within (ends_at b x) k e was in let l = rw same at w in omega (arith, l, at_c, h.that_last)
@@ -51,13 +47,6 @@ module _ (a more_a b more_b : EndLists) (p q : Point) (i c : ℕ) (h : IsPut a m
     | inr other ↦ let before = rw (elsewhere x k other) at was in let back = l x y k d before in
         elsewhere_there y d (λ s e. none_there y d (end x k) s e back) ∙ back
   ]
-
-  pub leads_less : Leads more_a more_b → Leads a b
-  leads_less l x y k d was =
-      let after = elsewhere x k (λ s e. none_yet x k (end y d) s e was) ∙ was in
-      let back = l x y k d after in
-      sym (elsewhere_there y d (λ s e. let found = rw (s, e, there) at back in let parts = end_parts p x i k found in
-      none_yet x k (end y d) (sym parts.0) (sym parts.1) was)) ∙ back
 
   this_with : OneEndMoreWith a more_a p q
   this_with = put_with a more_a p (end q c) h.this
@@ -74,15 +63,6 @@ module _ (a more_a b more_b : EndLists) (p q : Point) (i c : ℕ) (h : IsPut a m
         ∙ sym (this_with.others x y other)
   ]
 
-  pub counted_less : ((x y : Point) → ends_with (ends_at more_b y) x ≡ ends_with (ends_at more_a x) y)
-      → (x y : Point) → ends_with (ends_at b y) x ≡ ends_with (ends_at a x) y
-  counted_less counted x y = elim (link_cases x p y q) [
-    | inl same ↦ let after = counted p q in let up = this_with.raised in let down = that_with.raised in
-        rw (same.0, same.1) (omega (arith, after, up, down))
-    | inr other ↦ sym (that_with.others y x (λ e. other (rw (ap (λ l. l.reader) e, ap (λ l. l.kid) e) refl))) ∙ counted x y
-        ∙ this_with.others x y other
-  ]
-
 -- a link more on both sides
 pub two_way_more : (a more_a b more_b : EndLists) (p q : Point) (i c : ℕ) → IsPut a more_a b more_b p q i c → IsTwoWay a b → IsTwoWay more_a more_b
 two_way_more a more_a b more_b p q i c h t = record {
@@ -91,32 +71,10 @@ two_way_more a more_a b more_b p q i c h t = record {
   counted = counted_more a more_a b more_b p q i c h t.counted;
 }
 
--- a link less on both sides
-pub two_way_less : (a more_a b more_b : EndLists) (p q : Point) (i c : ℕ) → IsPut a more_a b more_b p q i c → IsTwoWay more_a more_b → IsTwoWay a b
-two_way_less a more_a b more_b p q i c h t = record {
-  there = λ x y k d. leads_less a more_a b more_b p q i c h (λ x y k d. t.there x y k d) x y k d;
-  back = λ x y k d. leads_less b more_b a more_a q p c i (put_flipped a more_a b more_b p q i c h) (λ y x d k. t.back x y k d) y x d k;
-  counted = counted_less a more_a b more_b p q i c h t.counted;
-}
-
 -- the same ends on both sides
 pub two_way_kept : (a b a' b' : EndLists) → KeepsEnds a a' → KeepsEnds b b' → IsTwoWay a b → IsTwoWay a' b'
 two_way_kept a b a' b' ka kb t = record {
   there = λ x y k d was. ap (λ l. slice_get l d) (kb y) ∙ t.there x y k d (sym (ap (λ l. slice_get l k) (ka x)) ∙ was);
   back = λ x y k d was. ap (λ l. slice_get l k) (ka x) ∙ t.back x y k d (sym (ap (λ l. slice_get l d) (kb y)) ∙ was);
   counted = λ x y. ap (λ l. ends_with l x) (kb y) ∙ t.counted x y ∙ sym (ap (λ l. ends_with l y) (ka x));
-}
-
--- an end put behind the others and taken off again
-pub put_and_taken : (old more new : EndLists) (p : Point) (e f : End) → OneEndMore old more p e → OneEndMore new more p f → KeepsEnds old new
-put_and_taken old more new p e f put taken x = elim (place_cases x p 0 0) [
-  | inl same ↦ rw same.0 (front_same (ends_at new p) (ends_at old p) f e (sym taken.last ∙ put.last))
-  | inr other ↦ sym (taken.others x (λ s. other s refl)) ∙ put.others x (λ s. other s refl)
-]
-
-pub two_way_flipped : (a b : EndLists) → IsTwoWay a b → IsTwoWay b a
-two_way_flipped a b t = record {
-  there = λ x y k d h. t.back y x d k h;
-  back = λ x y k d h. t.there y x d k h;
-  counted = λ x y. sym (t.counted y x);
 }

@@ -1,71 +1,92 @@
--- A link taken off both sides, once it is the last on both.
-use Rattle.std.proofs.Common.{◌≡◌, ◌∙◌, ℕ, zero, suc, ◌-◌, ◌<◌, List, [], ◌∷◌, length, refl, ap, sym, arith}
-use Rattle.std.specs.Prelude.{Some, slice_get, slice_index_or}
-use Rattle.std.proofs.lemmas.Option.{slice_get_within, none-some, same_Some}
+-- A link taken off both sides, its end at the one and then its end at the other.
+use Rattle.std.proofs.Common.{◌≡◌, ◌∙◌, inl, inr, ℕ, ◌-◌, ◌<◌, List, length, refl, ap, sym, arith}
+use Rattle.std.specs.Prelude.{Option, Some, None, slice_get, option_map}
+use Rattle.std.proofs.lemmas.Option.{slice_get_within, slice_get_past, same_Some}
 use Rattle.inc_value.specs.declared.node.Point.{Point}
 use Rattle.link_table.specs.declared.ends.End.{End}
 use Rattle.link_table.specs.declared.ends.EndLists.{EndLists}
-use Rattle.link_table.specs.Ends.{end, ends_at, end_at, LeadsTo, OneEndMore, OneEndMoreWith, IsTwoWay, KeepsPoints}
-use Rattle.link_table.proofs.Places.{put_here, put_length, put_with, more_than_kept, kept_twice}
-use Rattle.link_table.proofs.Put.{IsPut, two_way_less, two_way_flipped}
+use Rattle.link_table.specs.Ends.{end, ends_at, end_at, ends_with, LeadsTo, EndIsTaken, LastIsKnown, IsTold, OneEndMoreWith, IsTwoWay}
+use Rattle.link_table.proofs.Lists.{link_cases}
+use Rattle.link_table.proofs.Places.{end_parts, more_than_kept, kept_more}
+use Rattle.link_table.proofs.Taking.{taken_with}
+use Rattle.link_table.proofs.Paired.{IsLeft, AtPlace, Nowhere, flipped, loosened, left}
 
 -- the end at a place that leads to q
-pub end_leading : (ends : List End) (q : Point) (i : ℕ) (d : End) → LeadsTo ends q i → slice_get ends i ≡ Some (end q (slice_index_or ends i d).back)
-end_leading [] q i d h = absurd (none-some q h)
-end_leading (x ∷ xs) q zero d h = ap (λ r. Some (end r x.back)) (same_Some x.point q h)
-end_leading (x ∷ xs) q (suc i) d h = end_leading xs q i d h
+pub end_leading : (ends : List End) (q : Point) (i : ℕ) (e : End) → LeadsTo ends q i → slice_get ends i ≡ Some e → slice_get ends i ≡ Some (end q e.back)
+end_leading ends q i e leads was =
+    let same : e.point ≡ q = same_Some e.point q (sym (ap (λ (o : Option End). option_map (λ (x : End). x.point) o) was) ∙ leads) in
+    was ∙ ap (λ r. Some (end r e.back)) same
 
--- the end of a removed link is made the last on the one side, then on the other, and both are popped
-pub record IsRemoval (k0 r0 k1 r1 k2 r2 k3 r3 : EndLists) (p q : Point) (b : ℕ) (e f : End) : Type 0 where
-  pub two_way : IsTwoWay k1 r1
-  pub last : end_at k1 p (length (ends_at k0 p) - 1) ≡ Some (end q b)
-  pub kept : KeepsPoints k0 k1
-  pub two_way_too : IsTwoWay r2 k2
-  pub last_too : end_at r2 q (length (ends_at r1 q) - 1) ≡ end_at r1 q b
-  pub kept_there : KeepsPoints r1 r2
-  pub kept_too : KeepsPoints k1 k2
-  pub popped : OneEndMore k3 k2 p e
-  pub popped_too : OneEndMore r3 r2 q f
+-- where two sides know each other, each of them knows the last end of a point of the other
+pub last_known : (a b : EndLists) (p : Point) (i : ℕ) → IsTwoWay a b → LastIsKnown a b p i
+last_known a b p i t e _ was = t.there p e.point (length (ends_at a p) - 1) e.back was
 
--- where the end stands on the other side
-pub back_within : (k r : EndLists) (p q : Point) (i b : ℕ) → IsTwoWay k r → end_at k p i ≡ Some (end q b) → b < length (ends_at r q)
-back_within k r p q i b t h = slice_get_within (ends_at r q) b (end p i) (t.there p q i b h)
+-- the end of a link is off at the one side
+pub record IsHalf (k0 r0 k1 r1 : EndLists) (p q : Point) (i : ℕ) (e : End) (o : Option End) : Type 0 where
+  pub two_way : IsTwoWay k0 r0
+  pub leads : LeadsTo (ends_at k0 p) q i
+  pub taken : EndIsTaken k0 k1 p i e
+  pub now : end_at k1 p i ≡ o
+  pub told : IsTold o r0 r1 p i
 
-module _ (k0 r0 k1 r1 k2 r2 k3 r3 : EndLists) (p q : Point) (b : ℕ) (e f : End) (h : IsRemoval k0 r0 k1 r1 k2 r2 k3 r3 p q b e f) where
-  kid_place : ℕ
-  kid_place = length (ends_at k3 p)
+module _ (k0 r0 k1 r1 : EndLists) (p q : Point) (i : ℕ) (e : End) (o : Option End) (h : IsHalf k0 r0 k1 r1 p q i e o) where
+  link : end_at k0 p i ≡ Some (end q e.back)
+  link = end_leading (ends_at k0 p) q i e h.leads h.taken.was
 
-  kid_length : length (ends_at k0 p) - 1 ≡ length (ends_at k3 p)
-  kid_length = let l = put_length k3 k2 p e h.popped in let a = h.kept.lengths p in let b = h.kept_too.lengths p in omega (arith, l, a, b)
+  half : IsLeft k1 r0 r1 (AtPlace q e.back)
+  half = left k0 k1 r0 r1 p i e (AtPlace q e.back) (loosened k0 r0 p q i e.back h.two_way link) h.taken o h.now h.told
 
-  reader_length : length (ends_at r1 q) - 1 ≡ length (ends_at r3 q)
-  reader_length = let l = put_length r3 r2 q f h.popped_too in let a = h.kept_there.lengths q in omega (arith, l, a)
+  -- the end at the other side still stands at its place
+  other_end : end_at r1 q e.back ≡ Some (end p i)
+  other_end = half.loose q e.back (refl, refl) ∙ h.two_way.there p q i e.back link
 
-  reader_now : end_at r2 q (length (ends_at r3 q)) ≡ Some (end p (length (ends_at k3 p)))
-  reader_now =
-      let last = rw kid_length at h.last in
-      let back = h.two_way.there p q (length (ends_at k3 p)) b last in
-      let last_too = rw reader_length at h.last_too in last_too ∙ back
+  pub other_within : e.back < length (ends_at r1 q)
+  other_within = slice_get_within (ends_at r1 q) e.back (end p i) other_end
 
-  kid_now : end_at k2 p (length (ends_at k3 p)) ≡ Some (end q (length (ends_at r3 q)))
-  kid_now = h.two_way_too.there q p (length (ends_at r3 q)) (length (ends_at k3 p)) reader_now
+  pub other_known : LastIsKnown r1 k1 q e.back
+  other_known d apart was =
+      (half.paired.back d.point q d.back (length (ends_at r1 q) - 1) (λ s. apart (sym s.1)) was).0
 
-  kid_end : e ≡ end q (length (ends_at r3 q))
-  kid_end = same_Some e (end q (length (ends_at r3 q))) (sym (put_here k3 k2 p e h.popped) ∙ kid_now)
+  -- and goes in turn
+  module _ (k2 r2 : EndLists) (f : End) (taken : EndIsTaken r1 r2 q e.back f) (told : IsTold (end_at r2 q e.back) k1 k2 q e.back) where
+    whole : IsLeft r2 k1 k2 Nowhere
+    whole = left r1 r2 k1 k2 q e.back f Nowhere (flipped k1 r1 Nowhere (AtPlace q e.back) half.paired) taken (end_at r2 q e.back) refl told
 
-  reader_end : f ≡ end p (length (ends_at k3 p))
-  reader_end = same_Some f (end p (length (ends_at k3 p))) (sym (put_here r3 r2 q f h.popped_too) ∙ reader_now)
+    same_kid : e.point ≡ q
+    same_kid = (end_parts e.point q e.back e.back (sym h.taken.was ∙ link)).0
 
-  was_put : IsPut k3 k2 r3 r2 p q (length (ends_at k3 p)) (length (ends_at r3 q))
-  was_put = record {
-    this = rw kid_end at h.popped;
-    that = rw reader_end at h.popped_too;
-    this_last = refl;
-    that_last = refl;
-  }
+    same_reader : f.point ≡ p
+    same_reader = (end_parts f.point p f.back i (sym taken.was ∙ other_end)).0
 
-  pub removed_two_way : IsTwoWay k3 r3
-  removed_two_way = two_way_less k3 k2 r3 r2 p q (length (ends_at k3 p)) (length (ends_at r3 q)) was_put (two_way_flipped r2 k2 h.two_way_too)
+    pub removed_with : OneEndMoreWith k2 k0 p q
+    removed_with = kept_more k1 k2 k0 p q (rw same_kid at (taken_with k0 k1 p i e h.taken)) whole.points
 
-  pub removed_with : OneEndMoreWith k3 k0 p q
-  removed_with = more_than_kept k3 k2 k0 p q (put_with k3 k2 p (end q (length (ends_at r3 q))) was_put.this) (kept_twice k0 k1 k2 h.kept h.kept_too)
+    removed_there : OneEndMoreWith r2 r0 q p
+    removed_there = more_than_kept r2 r1 r0 q p (rw same_reader at (taken_with r1 r2 q e.back f taken)) half.points
+
+    counted : (x y : Point) → ends_with (ends_at r2 y) x ≡ ends_with (ends_at k2 x) y
+    counted x y = elim (link_cases x p y q) [
+      | inl same ↦ let was = h.two_way.counted p q in let up = removed_with.raised in let down = removed_there.raised in
+          rw (same.0, same.1) (omega (arith, was, up, down))
+      | inr other ↦
+          sym (removed_there.others y x (λ e. other (rw (ap (λ l. l.reader) e, ap (λ l. l.kid) e) refl))) ∙ h.two_way.counted x y
+          ∙ removed_with.others x y other
+    ]
+
+    pub removed_two_way : IsTwoWay k2 r2
+    removed_two_way = record {
+      there = λ x y k d was. (whole.paired.back y x d k (λ no. no) was).0;
+      back = λ x y k d was. (whole.paired.there y x d k (λ no. no) was).0;
+      counted = counted;
+    }
+
+-- the last end of a point popped
+pub popped_half : (k0 k1 r : EndLists) (p : Point) (e : End) → IsTwoWay k0 r → EndIsTaken k0 k1 p (length (ends_at k1 p)) e
+    → IsHalf k0 r k1 r p e.point (length (ends_at k1 p)) e None
+popped_half k0 k1 r p e two_way taken = record {
+  two_way = two_way;
+  leads = ap (λ (o : Option End). option_map (λ (x : End). x.point) o) taken.was;
+  taken = taken;
+  now = slice_get_past (ends_at k1 p) (length (ends_at k1 p)) (omega arith);
+  told = λ x. refl;
+}

@@ -1,15 +1,17 @@
 -- What a write to the row of a point leaves.
 use Rattle.std.proofs.Common.{◌≡◌, ◌≢◌, ◌∙◌, ℕ, ◌<◌, List, [], ◌∷◌, ◌++◌, length, refl, ap, sym, inl, inr, arith}
-use Rattle.std.specs.Prelude.{Option, Some, slice_set}
+use Rattle.std.specs.Prelude.{Option, Some, slice_set, slice_index_or, swap_remove}
 use Rattle.std.specs.List.{refill}
 use Rattle.std.proofs.lemmas.List.{length-set}
+use Rattle.std.proofs.lemmas.Option.{slice_get-get_or}
 use Rattle.smallvec.specs.SmallVec.{SmallVec}
 use Rattle.inc_value.specs.declared.node.Point.{Point}
 use Rattle.point_map.specs.Rows.{Rows, at, Changes, Holds}
 use Rattle.point_map.proofs.Places.{point_cases}
 use Rattle.link_table.specs.declared.ends.End.{End}
 use Rattle.link_table.specs.declared.ends.EndLists.{EndLists}
-use Rattle.link_table.specs.Ends.{row_ends, ends_at, HasNoEmptyRow, KeepsEnds, OneEndMore, EndIsSet}
+use Rattle.link_table.proofs.Lists.{get_append_last, swap_last}
+use Rattle.link_table.specs.Ends.{row_ends, ends_at, HasNoEmptyRow, KeepsEnds, OneEndMore, EndIsSet, EndIsTaken}
 
 module _ {X : Type 0} where
   -- a list as long as the one that it is put over stays as it is
@@ -46,11 +48,23 @@ one_end_more old new p e was row there c items = record {
   others = ends_kept old new p (Some row) c;
 }
 
-pub one_end_less : (old new : EndLists) (p : Point) (e : End) (was row : SmallVec End) → Some was ≡ at old.rows p
-    → Changes old.rows new.rows p (Some row) → was.items ≡ row.items ++ e ∷ [] → OneEndMore new old p e
-one_end_less old new p e was row there c items = record {
-  last = rw (ends_written old new p row c, ends_of_row old p was there) items;
-  others = λ x other. sym (ends_kept old new p (Some row) c x other);
+pub end_is_taken : (old new : EndLists) (p : Point) (i : ℕ) (e : End) (was row : SmallVec End) → Some was ≡ at old.rows p
+    → Changes old.rows new.rows p (Some row) → e ≡ slice_index_or was.items i e → row.items ≡ swap_remove was.items i e
+    → i < length (ends_at old p) → EndIsTaken old new p i e
+end_is_taken old new p i e was row there c read items within = record {
+  was = let inside = rw (ends_of_row old p was there) at within in
+      rw (ends_of_row old p was there) (slice_get-get_or was.items i e inside ∙ ap (λ d. Some d) (sym read));
+  changed = rw (ends_written old new p row c, ends_of_row old p was there) items;
+  others = ends_kept old new p (Some row) c;
+}
+
+-- the last end taken off
+pub last_is_taken : (old new : EndLists) (p : Point) (e : End) (was row : SmallVec End) → Some was ≡ at old.rows p
+    → Changes old.rows new.rows p (Some row) → was.items ≡ row.items ++ e ∷ [] → EndIsTaken old new p (length (ends_at new p)) e
+last_is_taken old new p e was row there c items = record {
+  was = rw (ends_of_row old p was there, ends_written old new p row c, items) (get_append_last row.items e);
+  changed = rw (ends_of_row old p was there, ends_written old new p row c, items) (sym (swap_last row.items e e));
+  others = ends_kept old new p (Some row) c;
 }
 
 pub ends_unwritten : (old new : EndLists) (p : Point) (was row : SmallVec End) → Some was ≡ at old.rows p

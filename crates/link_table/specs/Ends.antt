@@ -1,5 +1,5 @@
 -- The ends of links at each point, and how two sides know each other.
-use Rattle.std.specs.Prelude.{◌≡◌, ◌≢◌, ℕ, List, [], ◌∷◌, ◌++◌, ◌+◌, length, map, flat_map, Option, Some, None, option_map, slice_get, slice_set}
+use Rattle.std.specs.Prelude.{◌≡◌, ◌≢◌, ℕ, List, [], ◌∷◌, ◌++◌, ◌+◌, ◌-◌, length, map, flat_map, Option, Some, None, option_map, slice_get, slice_set, swap_remove}
 use Rattle.inc_value.specs.declared.node.Point.{Point}
 use Rattle.smallvec.specs.SmallVec.{SmallVec}
 use Rattle.point_map.specs.Rows.{Place, at, StandsOnce}
@@ -59,6 +59,22 @@ pub record OneEndMoreWith (fewer more : EndLists) (p q : Point) : Type 0 where
 pub record EndIsSet (old new : EndLists) (p : Point) (i : ℕ) (e : End) : Type 0 where
   pub changed : ends_at new p ≡ slice_set (ends_at old p) i e
   pub others : (x : Point) → x ≢ p → ends_at new x ≡ ends_at old x
+
+-- the end at a place of p is off, and the last one stands there, unless it was the last itself
+pub record EndIsTaken (old new : EndLists) (p : Point) (i : ℕ) (e : End) : Type 0 where
+  pub was : end_at old p i ≡ Some e
+  pub changed : ends_at new p ≡ swap_remove (ends_at old p) i e
+  pub others : (x : Point) → x ≢ p → ends_at new x ≡ ends_at old x
+
+-- the last end of p leads to its end on the other side, unless it is the one at the place
+abbrev pub LastIsKnown : EndLists → EndLists → Point → ℕ → Type 0
+LastIsKnown side other p i = (e : End) → i ≢ length (ends_at side p) - 1 → end_at side p (length (ends_at side p) - 1) ≡ Some e
+    → end_at other e.point e.back ≡ Some (end p (length (ends_at side p) - 1))
+
+-- the other side is told that an end stands at this place of p now, if one does
+abbrev pub IsTold : Option End → EndLists → EndLists → Point → ℕ → Type 0
+IsTold None old new p i = KeepsEnds old new
+IsTold (Some moved) old new p i = EndIsSet old new moved.point moved.back (end p i)
 
 -- every point has as many ends as before, as often with each other point
 pub record KeepsPoints (old new : EndLists) : Type 0 where

@@ -1,8 +1,8 @@
 //! The ends of links at each point.
-ghost use Rattle.std.specs.Prelude.{[], ◌≡◌, ◌≢◌, ◌<◌, length, None, Some, OnOk, OnErr};
+ghost use Rattle.std.specs.Prelude.{[], ◌≡◌, ◌≢◌, ◌<◌, length, None, Some, IsTrue, IsFalse, IfSome, IfNone, OnSome, OnOk, OnErr};
 ghost use Rattle.point_map.specs.Rows.{at, Holds};
 ghost use Rattle.inc_value.specs.declared.node.Point.{Point};
-ghost use Rattle.link_table.specs.Ends.{ends_at, HasNoEmptyRow, KeepsEnds, OneEndMore, EndIsSet};
+ghost use Rattle.link_table.specs.Ends.{ends_at, end_at, HasNoEmptyRow, KeepsEnds, OneEndMore, EndIsSet, EndIsTaken};
 
 use inc_value::{NodeId, Part, Point};
 use point_map::PointMap;
@@ -28,6 +28,15 @@ impl Default for End {
             back: 0,
         }
     }
+}
+
+/// What is told of an end that was taken off.
+#[derive(Clone, Copy)]
+pub(crate) struct Taken {
+    pub(crate) end: End,
+    /// The end that came into its place, unless it was the last itself.
+    pub(crate) moved: Option<End>,
+    was_only: bool,
 }
 
 /// The ends of links at each point. A point at which there are none takes no room.
@@ -71,24 +80,42 @@ impl EndLists {
         ensures err { OnErr result (KeepsEnds self.old self.new) }
         ensures tight { HasNoEmptyRow self.old → HasNoEmptyRow self.new }
     {
-        if self.rows.holds(p) {
-            self.push_next(p, end)
-        } else {
-            self.push_first(p, end)
+        match self.rows.get_mut(p) {
+            Some(row) => {
+                row.push(end)?;
+                Ok(())
+            }
+            None => self.push_first(p, end),
         }
     }
 
-    /// Takes the last end of a point off.
-    pub fn pop(&mut self, p: Point) -> End
-        requires some { 0 < length (ends_at self.old p) }
-        ensures less { OneEndMore self.new self.old p result }
+    /// Takes the i-th end of a point off. The last one comes into its place.
+    pub fn take(&mut self, p: Point, i: usize) -> Taken
+        requires there { i < length (ends_at self.old p) }
+        ensures taken { EndIsTaken self.old self.new p i result.end }
+        ensures moved { result.moved ≡ end_at self.new p i }
         ensures tight { HasNoEmptyRow self.old → HasNoEmptyRow self.new }
     {
-        let end = self.pop_last(p);
-        if self.of(p).is_empty() {
+        let taken = self.take_at(p, i);
+        if taken.was_only {
             self.rows.remove(p);
         }
-        end
+        taken
+    }
+
+    /// Takes the last end of a point off, if there is one.
+    pub fn pop(&mut self, p: Point) -> Option<End>
+        requires tight { HasNoEmptyRow self.old }
+        ensures taken { IfSome result (λ e. EndIsTaken self.old self.new p (length (ends_at self.new p)) e) }
+        ensures none { IfNone result (ends_at self.old p ≡ []) }
+        ensures unchanged { IfNone result (self.new ≡ self.old) }
+        ensures tight { HasNoEmptyRow self.new }
+    {
+        let taken = self.pop_last(p)?;
+        if taken.was_only {
+            self.rows.remove(p);
+        }
+        Some(taken.end)
     }
 
     /// Puts another end in place of one.
@@ -99,17 +126,6 @@ impl EndLists {
     {
         let row = self.rows.get_mut(p).unwrap();
         row[i] = end;
-    }
-
-    fn push_next(&mut self, p: Point, end: End) -> Result<(), AllocError>
-        requires there { Holds self.old.rows p }
-        ensures more { OnOk result (OneEndMore self.old self.new p end) }
-        ensures err { OnErr result (KeepsEnds self.old self.new) }
-        ensures tight { HasNoEmptyRow self.old → HasNoEmptyRow self.new }
-    {
-        let row = self.rows.get_mut(p).unwrap();
-        row.push(end)?;
-        Ok(())
     }
 
     fn push_first(&mut self, p: Point, end: End) -> Result<(), AllocError>
@@ -125,14 +141,42 @@ impl EndLists {
         Ok(())
     }
 
-    // Takes the last end of a point off, and leaves the point its row.
-    fn pop_last(&mut self, p: Point) -> End
-        requires some { 0 < length (ends_at self.old p) }
-        ensures less { OneEndMore self.new self.old p result }
+    // Takes the i-th end of a point off, and leaves the point its row.
+    fn take_at(&mut self, p: Point, i: usize) -> Taken
+        requires there { i < length (ends_at self.old p) }
+        ensures taken { EndIsTaken self.old self.new p i result.end }
+        ensures moved { result.moved ≡ end_at self.new p i }
+        ensures only { IsTrue result.was_only → ends_at self.new p ≡ [] }
+        ensures more { IsFalse result.was_only → ends_at self.new p ≢ [] }
         ensures there { Holds self.new.rows p }
         ensures others { (x : Point) → x ≢ p → at self.new.rows x ≡ at self.old.rows x }
     {
         let row = self.rows.get_mut(p).unwrap();
-        row.pop().unwrap()
+        let end = row.swap_remove(i);
+        Taken {
+            end,
+            moved: row.as_slice().get(i).copied(),
+            was_only: row.is_empty(),
+        }
+    }
+
+    // Takes the last end of a point off, if there is one, and leaves the point its row.
+    fn pop_last(&mut self, p: Point) -> Option<Taken>
+        requires tight { HasNoEmptyRow self.old }
+        ensures taken { IfSome result (λ t. EndIsTaken self.old self.new p (length (ends_at self.new p)) t.end) }
+        ensures only { IfSome result (λ t. IsTrue t.was_only → ends_at self.new p ≡ []) }
+        ensures more { IfSome result (λ t. IsFalse t.was_only → ends_at self.new p ≢ []) }
+        ensures there { OnSome result (Holds self.new.rows p) }
+        ensures others { (x : Point) → x ≢ p → at self.new.rows x ≡ at self.old.rows x }
+        ensures none { IfNone result (ends_at self.old p ≡ []) }
+        ensures unchanged { IfNone result (self.new ≡ self.old) }
+    {
+        let row = self.rows.get_mut(p)?;
+        let end = row.pop().unwrap();
+        Some(Taken {
+            end,
+            moved: None,
+            was_only: row.is_empty(),
+        })
     }
 }

@@ -1,6 +1,6 @@
 //! The two sides of a table of links: the ends at each reader, and the ends at each kid.
-ghost use Rattle.std.specs.Prelude.{[], ◌≡◌, ◌-◌, ◌<◌, length, IfSome, IfNone, OnOk, OnErr};
-ghost use Rattle.link_table.specs.Ends.{ends_at, end_at, ends_with, LeadsTo, HasNoEmptyRow, KeepsEnds, KeepsPoints, OneEndMoreWith, IsTwoWay};
+ghost use Rattle.std.specs.Prelude.{[], ◌≡◌, ◌<◌, length, IfSome, IfNone, OnOk, OnErr};
+ghost use Rattle.link_table.specs.Ends.{ends_at, end_at, ends_with, LeadsTo, HasNoEmptyRow, KeepsEnds, OneEndMoreWith, EndIsTaken, LastIsKnown, IsTold, IsTwoWay};
 
 use crate::ends::{End, EndLists};
 use inc_value::Point;
@@ -24,7 +24,7 @@ pub(crate) fn add_ends(
     let back = readers.of(q).len();
     kids.push(p, End { point: q, back })?;
     if let Err(e) = readers.push(q, End { point: p, back: i }) {
-        kids.pop(p);
+        kids.take(p, i);
         return Err(e);
     }
     Ok(())
@@ -39,11 +39,24 @@ pub(crate) fn remove_ends(kids: &mut EndLists, readers: &mut EndLists, p: Point,
     ensures tight { HasNoEmptyRow kids.old → HasNoEmptyRow kids.new }
     ensures tight_readers { HasNoEmptyRow readers.old → HasNoEmptyRow readers.new }
 {
-    let back = kids.of(p)[i].back;
-    make_last(kids, readers, p, i);
-    make_last(readers, kids, q, back);
-    kids.pop(p);
-    readers.pop(q);
+    let taken = take_end(kids, readers, p, i);
+    take_end(readers, kids, q, taken.back);
+}
+
+/// Takes the last link of p off, and gives its kid, if there is one. No list is searched.
+pub(crate) fn pop_ends(kids: &mut EndLists, readers: &mut EndLists, p: Point) -> Option<Point>
+    requires two_way { IsTwoWay kids.old readers.old }
+    requires tight { HasNoEmptyRow kids.old }
+    ensures two_way { IsTwoWay kids.new readers.new }
+    ensures removed { IfSome result (λ q. OneEndMoreWith kids.new kids.old p q) }
+    ensures none { IfNone result (ends_at kids.old p ≡ []) }
+    ensures unchanged { IfNone result ((kids.new ≡ kids.old) × (readers.new ≡ readers.old)) }
+    ensures tight { HasNoEmptyRow kids.new }
+    ensures tight_readers { HasNoEmptyRow readers.old → HasNoEmptyRow readers.new }
+{
+    let end = kids.pop(p)?;
+    take_end(readers, kids, end.point, end.back);
+    Some(end.point)
 }
 
 /// The place of q among the kids of p, if it is one. The shorter of the two lists is searched.
@@ -62,45 +75,22 @@ pub(crate) fn kid_place(kids: &EndLists, readers: &EndLists, p: Point, q: Point)
     }
 }
 
-/// The last of p's kids and its place, if there is one.
-pub(crate) fn last_kid(kids: &EndLists, p: Point) -> Option<(Point, usize)>
-    ensures some { IfSome result (λ e. LeadsTo (ends_at kids.now p) e.0 e.1) }
-    ensures none { IfNone result (ends_at kids.now p ≡ []) }
-{
-    let ends = kids.of(p);
-    let last = ends.len().checked_sub(1)?;
-    Some((ends[last].point, last))
-}
-
-// Puts the i-th end of p behind the others, in exchange for the last. The other side is told the new places.
-fn make_last(side: &mut EndLists, other: &mut EndLists, p: Point, i: usize)
-    requires two_way { IsTwoWay side.old other.old }
+// Takes the i-th end of p off one side, and gives it. The last end of p comes into its place, and the other side is told so.
+// What belongs to the end that went stays there.
+fn take_end(side: &mut EndLists, other: &mut EndLists, p: Point, i: usize) -> End
     requires there { i < length (ends_at side.old p) }
-    ensures two_way { IsTwoWay side.new other.new }
-    ensures last { end_at side.new p (length (ends_at side.old p) - 1) ≡ end_at side.old p i }
-    ensures points { KeepsPoints side.old side.new }
-    ensures other_points { KeepsPoints other.old other.new }
+    requires known { LastIsKnown side.old other.old p i }
+    ensures taken { EndIsTaken side.old side.new p i result }
+    ensures told { IsTold (end_at side.new p i) other.old other.new p i }
     ensures tight { HasNoEmptyRow side.old → HasNoEmptyRow side.new }
     ensures other_tight { HasNoEmptyRow other.old → HasNoEmptyRow other.new }
 {
-    let ends = side.of(p);
-    let last = ends.len() - 1;
-    if i == last {
-        return;
-    }
-    let moved = ends[i];
-    let displaced = ends[last];
-    side.set(p, i, displaced);
-    side.set(p, last, moved);
-    other.set(
-        moved.point,
-        moved.back,
-        End {
-            point: p,
-            back: last,
-        },
-    );
-    other.set(displaced.point, displaced.back, End { point: p, back: i });
+    let taken = side.take(p, i);
+    let Some(moved) = taken.moved else {
+        return taken.end;
+    };
+    other.set(moved.point, moved.back, End { point: p, back: i });
+    taken.end
 }
 
 // A place of an end of a link with q.

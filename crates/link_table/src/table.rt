@@ -5,7 +5,7 @@ ghost use Rattle.link_table.specs.Links.{times, Reads, KeepsLinks, OneLinkMore, 
 ghost use Rattle.link_table.specs.Walks.{kids_left, readers_left};
 
 use crate::ends::EndLists;
-use crate::sides::{add_ends, kid_place, last_kid, remove_ends};
+use crate::sides::{add_ends, kid_place, pop_ends, remove_ends};
 use crate::walks::{Kids, Readers};
 use inc_value::Point;
 use std::alloc::{AllocError, Global};
@@ -83,11 +83,10 @@ impl LinkTable {
         ensures none { IfNone result ((q : Point) → times self.old p q ≡ 0) }
         ensures unchanged { IfNone result (self.new ≡ self.old) }
     {
-        let (q, last) = last_kid(&self.kids, p)?;
-        remove_ends(&mut self.kids, &mut self.readers, p, q, last);
+        let kid = pop_ends(&mut self.kids, &mut self.readers, p)?;
         // The walk over its places is what says that each point has one row.
         let _places = self.kids.rows.places();
-        Some(q)
+        Some(kid)
     }
 
     /// Whether p reads q.

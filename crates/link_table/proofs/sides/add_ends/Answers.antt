@@ -1,15 +1,18 @@
 use Rattle.std.proofs.Common.{length, ap}
-use Rattle.link_table.proofs.Put.{two_way_more, two_way_kept, put_and_taken}
+use Rattle.link_table.proofs.Put.{two_way_more, two_way_kept}
+use Rattle.link_table.proofs.Taking.{put_and_taken}
 use Rattle.link_table.proofs.sides.add_ends.Goals as goal
 
 pub returns-in-Err-clause-two_way : goal.returns-in-Err-clause-two_way
 returns-in-Err-clause-two_way c =
-    let kept = put_and_taken c.args.kids.now c.push.new.self c.pop.new.self c.args.p _ _ c.in_ok-push.ensures.more c.pop.ensures.less in
-    two_way_kept c.args.kids.now c.args.readers.now c.pop.new.self c.push-2.new.self kept c.in-Err.ensures.err c.requires.two_way
+    let kept = put_and_taken c.args.kids.now c.push.new.self c.take.new.self c.args.p (length c.of-i.result.now) _ c.take.result.end
+    c.in_ok-push.ensures.more (ap length c.of-i.ensures) c.take.ensures.taken in
+    two_way_kept c.args.kids.now c.args.readers.now c.take.new.self c.push-2.new.self kept c.in-Err.ensures.err c.requires.two_way
 
 pub returns-in-Err-clause-err : goal.returns-in-Err-clause-err
 returns-in-Err-clause-err c =
-    put_and_taken c.args.kids.now c.push.new.self c.pop.new.self c.args.p _ _ c.in_ok-push.ensures.more c.pop.ensures.less
+    put_and_taken c.args.kids.now c.push.new.self c.take.new.self c.args.p (length c.of-i.result.now) _ c.take.result.end
+    c.in_ok-push.ensures.more (ap length c.of-i.ensures) c.take.ensures.taken
 
 pub returns-clause-two_way : goal.returns-clause-two_way
 returns-clause-two_way c =
