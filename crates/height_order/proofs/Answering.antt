@@ -9,12 +9,12 @@ use Rattle.height_order.specs.declared.lifts.Lift.{Lift}
 use Rattle.height_order.specs.declared.heights.LinkFault.{LinkFault}
 use Rattle.height_order.specs.declared.heights.LinkFault.TheVariants.{Path, Over, Memory}
 use Rattle.height_order.specs.Chains.{ReadsWith, IsChain, IsPath, Leads}
-use Rattle.height_order.specs.Levels.{Web, level, AllLow, Ends, IsSound, levelled, KeepsPoints, IsBelow, IsExactBelow, Tells, AreLevels, AddsBelow}
+use Rattle.height_order.specs.Levels.{Web, level, AllLow, Ends, IsSound, levelled, KeepsPoints, IsBelow, IsExactBelow, Tells, bound, AreLevels, AddsBelow}
 use Rattle.height_order.specs.Climbs.{IsClimbed, IsRanked}
 use Rattle.height_order.specs.Answers.{IsNear, IsLinkAnswer, IsFitted, AreEndsLevelled}
 use Rattle.height_order.proofs.Points.{not_both, some_there, there_cases}
 use Rattle.height_order.proofs.Chaining.{chain_once, leads_more, leads_self, leads_split, along}
-use Rattle.height_order.proofs.Levelling.{none_at}
+use Rattle.height_order.proofs.Levelling.{none_at, height_under}
 use Rattle.height_order.proofs.Sounding.{tells_none, linked_no_path, linked_no_over, leads_reader, reads_from}
 use Rattle.height_order.proofs.Ranking.{leads_there, sound_levels, sound_again, now_longest, changed_there}
 
@@ -153,17 +153,17 @@ fitted_near heights links more p q lifts sound climbed one top x there leads =
 
 module _ {A E : Type 0} (old : Rows ℕ) (links : Links) (p q : Point) (before : List Point) (sound : IsSound old links) where
   -- the ends are levelled
-  pub ends_adopted : (r : Result A E) (levels new : Rows ℕ) (after : List Point) → AreLevels links levels
+  pub ends_adopted : (r : Result A E) (levels new : Rows ℕ) (after : List Point) → AreLevels links (bound old old) levels
       → ((x : Point) → IsBelow links p q x → Holds levels x)
       → ((x : Point) → Holds levels x → IsBelow links p q x)
       → OnOk r ((x : Point) → level new x ≡ levelled old levels x) → OnErr r (new ≡ old) → OnErr r (after ≡ before)
       → KeepsPoints old new → Tells (level old) (level new) before after → AreEndsLevelled old new links p q before after r
   ends_adopted (Ok u) levels new after so all below written err untold kept moved = record {
-    sound = sound_again old levels new links so written sound kept;
-    exact = λ x leads. now_longest old levels new links so written x (all x leads);
+    sound = sound_again old levels new links (bound old old) so written (height_under old old sound.low) sound kept;
+    exact = λ x leads. now_longest old levels new links (bound old old) so written x (all x leads);
     err = tt;
     points = kept;
-    below = λ x differs. below x (changed_there old levels new links so written x differs);
+    below = λ x differs. below x (changed_there old levels new links (bound old old) so written x differs);
     moved = moved;
   }
   ends_adopted (Err e) levels new after so all below written err untold kept moved = record {
@@ -176,7 +176,8 @@ module _ {A E : Type 0} (old : Rows ℕ) (links : Links) (p q : Point) (before :
   }
 
 -- what is levelled below two points, one after the other
-module _ (links : Links) (none first both : Rows ℕ) (p q : Point) (n m : ℕ) (empty : none.places ≡ []) (so : AreLevels links both)
+module _ (links : Links) (none first both : Rows ℕ) (p q : Point) (n m : ℕ) (empty : none.places ≡ [])
+    (closed : (a b : Point) → Holds both a → Reads links a b → Holds both b)
     (at_p : at first p ≡ Some n) (at_q : at both q ≡ Some m) (adds_p : AddsBelow links none first p) (adds_q : AddsBelow links first both q) where
   first_by : (x : Point) → Holds none x ⊎ Leads (Reads links) p x → Leads (Reads links) p x
   first_by x (inl there) = absurd (not_both (at none x) (none_at none x empty) there)
@@ -192,8 +193,8 @@ module _ (links : Links) (none first both : Rows ℕ) (p q : Point) (n m : ℕ) 
 
   -- and all that they lead to is there
   pub both_all : (x : Point) → IsBelow links p q x → Holds both x
-  both_all x (inl leads) = along (Reads links) (Holds both) so.closed p x (some_there (at both p) n (adds_q.kept p n at_p)) leads
-  both_all x (inr leads) = along (Reads links) (Holds both) so.closed q x (some_there (at both q) m at_q) leads
+  both_all x (inl leads) = along (Reads links) (Holds both) closed p x (some_there (at both p) n (adds_q.kept p n at_p)) leads
+  both_all x (inr leads) = along (Reads links) (Holds both) closed q x (some_there (at both q) m at_q) leads
 
   pub both_there : (heights : Rows ℕ) → Ends heights links → Holds heights p → Holds heights q → (x : Point) → Holds both x → Holds heights x
   both_there heights ends hp hq x there = by (both_below x there)
@@ -203,20 +204,20 @@ module _ (links : Links) (none first both : Rows ℕ) (p q : Point) (n m : ℕ) 
       by (inr leads) = leads_there heights links q x ends hq leads
 
 -- lifted points are levelled, and fit
-pub fitted_told : {E : Type 0} (old levels new : Rows ℕ) (links : Links) (lifts : Rows Lift) (before after : List Point) → AreLevels links levels
-    → ((x : Point) → level new x ≡ levelled old levels x) → IsRanked (Reads links) old lifts → ((x : Point) → Holds lifts x → Holds levels x)
+pub fitted_told : {E : Type 0} (old levels new : Rows ℕ) (links : Links) (lifts : Rows Lift) (before after : List Point)
+    → AreLevels links (bound old lifts) levels → ((x : Point) → level new x ≡ levelled old levels x) → IsRanked (Reads links) old lifts → ((x : Point) → Holds lifts x → Holds levels x)
     → ((x : Point) → Holds levels x → (top : Point) × Holds lifts top × Leads (Reads links) top x)
     → Ends old links → AllLow (level old) → ((x : Point) → level levels x ≤ 128) → KeepsPoints old new → Tells (level old) (level new) before after
     → IsFitted {E = E} old new links lifts before after (Ok None)
 fitted_told old levels new links lifts before after so written ranked each below ends low fits kept moved = record {
-  sound = sound_levels old levels new links so written ranked.rank ranked.rises (λ x none. ranked.same x (no_lift x none (there_cases lifts x))) ends kept low
-      (λ x there. fits x);
+  sound = sound_levels old levels new links (bound old lifts) so written (height_under old lifts low) ranked.rank ranked.rises
+      (λ x none. ranked.same x (no_lift x none (there_cases lifts x))) ends kept low (λ x there. fits x);
   chain = tt;
   chain_length = tt;
   kept = tt;
   err = tt;
   points = kept;
-  near = λ x differs. below x (changed_there old levels new links so written x differs);
+  near = λ x differs. below x (changed_there old levels new links (bound old lifts) so written x differs);
   moved = moved;
 }
   where

@@ -100,9 +100,9 @@ module _ (R : Reading) where
       let h = so.none_longer (p ∷ of_k.list) (chain_before p k of_k.list reads of_k.starts of_k.chain) refl in
       let e = of_k.long in omega (arith, h, e)
 
-  -- all that p reads has longest chains over fewer than m links
+  -- no chain of what p reads goes over m links
   abbrev pub AllShorter : Point → ℕ → Type 0
-  AllShorter p m = (k : Point) → R p k → (n : ℕ) × IsLongest R k n × (n < m)
+  AllShorter p m = (k : Point) → R p k → (n : ℕ) × NoneLonger R k n × (n < m)
 
   -- a point that p reads has a longest chain over at most one link less than m
   pub record IsNearest (p : Point) (m : ℕ) : Type 0 where
@@ -117,7 +117,7 @@ module _ (R : Reading) where
   over_none_longer p m all (x ∷ []) chain starts = omega arith
   over_none_longer p m all (x ∷ y ∷ rest) chain starts =
       let w = all y (subst (λ z. R z y) starts chain.0) in
-      let h = w.1.none_longer (y ∷ rest) chain.1 refl in
+      let h = w.1 (y ∷ rest) chain.1 refl in
       let lt = w.2 in omega (arith, h, lt)
 
   zero_or_more : (m : ℕ) → (m ≡ 0) ⊎ (0 < m)
@@ -142,7 +142,7 @@ module _ (R : Reading) where
             let a = s.longest.long in
             let b = s.near in
             let c = w.2 in
-            let d = longest_under s.kid s.level w.0 s.longest w.1.none_longer in omega (arith, a, b, c, d)
+            let d = longest_under s.kid s.level w.0 s.longest w.1 in omega (arith, a, b, c, d)
             );
         none_longer = over_none_longer p m all;
       }
@@ -150,20 +150,6 @@ module _ (R : Reading) where
   -- one link more than the longest chain of all that p reads
   pub longest_over : (p : Point) (m : ℕ) → AllShorter p m → (0 < m → IsNearest p m) → IsLongest R p m
   longest_over p m all near = over_by p m all near (zero_or_more m)
-
-  next_by : (p : Point) (n : ℕ) (list : List Point) → IsChain R list → StartsAt list p → length list ≡ n + 1 → 0 < n
-      → (k : Point) × R p k × ((m : ℕ) → IsLongest R k m → n ≤ m + 1)
-  next_by p n [] chain starts long some = absurd starts
-  next_by p n (x ∷ []) chain starts long some = absurd (omega (arith, long, some))
-  next_by p n (x ∷ y ∷ rest) chain starts long some = (
-    y,
-    subst (λ z. R z y) starts chain.0,
-    λ m so. let h = so.none_longer (y ∷ rest) chain.1 refl in omega (arith, h, long),
-  )
-
-  -- the next point of a longest chain
-  pub longest_next : (p : Point) (n : ℕ) → IsLongest R p n → 0 < n → (k : Point) × R p k × ((m : ℕ) → IsLongest R k m → n ≤ m + 1)
-  longest_next p n so some = next_by p n so.list so.chain so.starts so.long some
 
   pub leads_self : (p : Point) → Leads R p p
   leads_self p = (p ∷ [], record { chain = (tt, tt); starts = refl; ends = refl })

@@ -1,5 +1,5 @@
 -- Points that are the same or not, and what is there after a change.
-use Rattle.std.proofs.Common.{◌≡◌, ◌≢◌, ℕ, true, refl, ap, inl, inr, is_some}
+use Rattle.std.proofs.Common.{◌≡◌, ◌≢◌, ◌∙◌, ℕ, true, refl, ap, sym, inl, inr, is_some}
 use Rattle.std.specs.Prelude.{◌⊎◌, Option, Some, None, IsSome}
 use denote.Enum.Bare.{sameb}
 use Rattle.inc_value.specs.contracts.node.Part.{the_type}
@@ -53,3 +53,7 @@ module _ {R : Type 0} where
   pub not_both : (o : Option R) → o ≡ None → IsSome o → ⊥
   not_both None e h = let f = h in cc
   not_both (Some r) e h = let f = e in cc
+
+  -- what was looked for and not found isn't there
+  pub none_found : (m : Rows R) (p : Point) (seen found : Option R) → seen ≡ at m p → found ≡ seen → found ≡ None → at m p ≡ None
+  none_found m p seen found is same none = sym is ∙ (sym same ∙ none)

@@ -1,16 +1,16 @@
 -- Heights by levels, where some numbers rise along all links.
 use Rattle.std.proofs.Common.{◌≡◌, ◌≢◌, ◌∙◌, ℕ, ◌+◌, ◌<◌, ◌≤◌, [], refl, ap, sym, subst, inl, inr, arith}
-use Rattle.std.specs.Prelude.{◌⊎◌, None, Result, Ok, Err, OnOk, OnErr}
+use Rattle.std.specs.Prelude.{◌⊎◌, Some, None, Result, Ok, Err, OnOk, OnErr}
 use Rattle.inc_value.specs.declared.node.Point.{Point}
 use Rattle.point_map.specs.Rows.{Rows, at, Holds}
 use Rattle.link_table.specs.Links.{Links, Reads, OneLinkMore}
 use Rattle.height_order.specs.declared.lifts.Lift.{Lift}
 use Rattle.height_order.specs.Chains.{ReadsWith, Leads, NoneLonger, IsLongest}
-use Rattle.height_order.specs.Levels.{level, levelled, Rises, AllLow, Ends, IsSound, KeepsPoints, IsExact, AreLevels}
+use Rattle.height_order.specs.Levels.{level, levelled, Rises, AllLow, Ends, IsSound, KeepsPoints, IsExact, bound, AreBounds, AreLevels}
 use Rattle.height_order.specs.Climbs.{lifted, IsClimbed, IsRanked}
-use Rattle.height_order.proofs.Points.{there_cases, not_both, still_there}
+use Rattle.height_order.proofs.Points.{row_there, there_cases, not_both, some_there, still_there}
 use Rattle.height_order.proofs.Chaining.{none_longer_by, longest_under, longest_falls, along}
-use Rattle.height_order.proofs.Levelling.{none_at, levelled_none, levelled_there, longest_there}
+use Rattle.height_order.proofs.Levelling.{none_at, level_at, levelled_none, levelled_there, longest_there, bound_free, are_bounds}
 use Rattle.height_order.proofs.Lifting.{lifted_none}
 use Rattle.height_order.proofs.Sounding.{reads_from}
 
@@ -18,7 +18,7 @@ use Rattle.height_order.proofs.Sounding.{reads_from}
 pub leads_there : (heights : Rows ℕ) (links : Links) (p x : Point) → Ends heights links → Holds heights p → Leads (Reads links) p x → Holds heights x
 leads_there heights links p x ends there leads = along (Reads links) (Holds heights) (λ a b h r. (ends a b r).1) p x there leads
 
-module _ (old levels new : Rows ℕ) (links : Links) (so : AreLevels links levels) (written : (x : Point) → level new x ≡ levelled old levels x) where
+module _ (old levels new : Rows ℕ) (links : Links) (bounds : Point → ℕ) (so : AreLevels links bounds levels) (written : (x : Point) → level new x ≡ levelled old levels x) where
   now_there : (x : Point) → Holds levels x → level new x ≡ level levels x
   now_there x there = written x ∙ levelled_there old levels x there
 
@@ -27,7 +27,7 @@ module _ (old levels new : Rows ℕ) (links : Links) (so : AreLevels links level
 
   -- the height of a point that has a level is the length of its longest chain
   pub now_longest : (x : Point) → Holds levels x → IsLongest (Reads links) x (level new x)
-  now_longest x there = subst (IsLongest (Reads links) x) (sym (now_there x there)) (longest_there links levels x so there)
+  now_longest x there = subst (IsLongest (Reads links) x) (sym (now_there x there)) (longest_there links bounds levels x so there)
 
   changed_by : (x : Point) → (at levels x ≡ None) ⊎ Holds levels x → level new x ≢ level old x → Holds levels x
   changed_by x (inr there) differs = there
@@ -37,14 +37,24 @@ module _ (old levels new : Rows ℕ) (links : Links) (so : AreLevels links level
   pub changed_there : (x : Point) → level new x ≢ level old x → Holds levels x
   changed_there x differs = changed_by x (there_cases levels x) differs
 
-  module _ (rank : Point → ℕ) (rises : Rises (Reads links) rank) (apart : (x : Point) → at levels x ≡ None → rank x ≡ level old x) where
+  module _ (over : (x : Point) → level old x ≤ bounds x) (rank : Point → ℕ) (rises : Rises (Reads links) rank)
+      (apart : (x : Point) → at levels x ≡ None → rank x ≡ level old x) where
     -- no level is above the rank
     pub under : (x : Point) → Holds levels x → level levels x ≤ rank x
-    under x there = longest_under (Reads links) x (level levels x) (rank x) (longest_there links levels x so there) (none_longer_by (Reads links) rank rises x)
+    under x there = longest_under (Reads links) x (level levels x) (rank x) (longest_there links bounds levels x so there) (none_longer_by (Reads links) rank rises x)
+
+    -- a point that was passed over stands lower than what has a level and reads it
+    passed_by : (a b : Point) (n : ℕ) → at levels a ≡ Some n → at levels b ≡ None → Holds levels b ⊎ (bounds b < n) → level new b < level new a
+    passed_by a b n here none (inl there) = absurd (not_both (at levels b) none there)
+    passed_by a b n here none (inr under) =
+        let e = now_there a (some_there (at levels a) n here) in let f = level_at levels a n here in
+        let g = now_none b none in let o = over b in omega (arith, under, e, f, g, o)
 
     rises_by : (a b : Point) → Reads links a b → (at levels a ≡ None) ⊎ Holds levels a → (at levels b ≡ None) ⊎ Holds levels b → level new b < level new a
-    rises_by a b reads (inr there) either =
-        longest_falls (Reads links) a b (level new a) (level new b) (now_longest a there) (now_longest b (so.closed a b there reads)) reads
+    rises_by a b reads (inr there) (inr there_b) =
+        longest_falls (Reads links) a b (level new a) (level new b) (now_longest a there) (now_longest b there_b) reads
+    rises_by a b reads (inr there) (inl none_b) =
+        let r = row_there levels a there in passed_by a b r.0 r.1 none_b (so.closed a b r.0 r.1 reads)
     rises_by a b reads (inl none) (inr there) =
         let u = under b there in let r = rises a b reads in let e = apart a none in
         let f = now_none a none in let g = now_there b there in omega (arith, u, r, e, f, g)
@@ -65,21 +75,22 @@ module _ (old levels new : Rows ℕ) (links : Links) (so : AreLevels links level
     }
 
   -- over links along which heights rise already
-  pub sound_again : IsSound old links → KeepsPoints old new → IsSound new links
-  sound_again s kept = sound_levels (level old) s.rises (λ x none. refl) s.ends kept s.low
-      (λ x there. let u = under (level old) s.rises (λ y none. refl) x there in let l = s.low x in omega (arith, u, l))
+  pub sound_again : ((x : Point) → level old x ≤ bounds x) → IsSound old links → KeepsPoints old new → IsSound new links
+  sound_again over s kept = sound_levels over (level old) s.rises (λ x none. refl) s.ends kept s.low
+      (λ x there. let u = under over (level old) s.rises (λ y none. refl) x there in let l = s.low x in omega (arith, u, l))
 
-module _ {A E : Type 0} (old levels new : Rows ℕ) (links : Links) (so : AreLevels links levels) where
+module _ {A E : Type 0} (old levels new : Rows ℕ) (links : Links) (bounds : Point → ℕ) (so : AreLevels links bounds levels) where
   -- heights that were taken over, or kept, stand between calls
-  pub sound_adopted : (r : Result A E) → OnOk r ((x : Point) → level new x ≡ levelled old levels x) → OnErr r (new ≡ old) → IsSound old links → KeepsPoints old new
-      → IsSound new links
-  sound_adopted (Ok u) written err s kept = sound_again old levels new links so written s kept
-  sound_adopted (Err e) written err s kept = subst (λ m. IsSound m links) (sym err) s
+  pub sound_adopted : (r : Result A E) → ((x : Point) → level old x ≤ bounds x) → OnOk r ((x : Point) → level new x ≡ levelled old levels x) → OnErr r (new ≡ old)
+      → IsSound old links → KeepsPoints old new → IsSound new links
+  sound_adopted (Ok u) over written err s kept = sound_again old levels new links bounds so written over s kept
+  sound_adopted (Err e) over written err s kept = subst (λ m. IsSound m links) (sym err) s
 
   -- where all points have levels, heights that were taken over are exact
   pub exact_adopted : (r : Result A E) → OnOk r ((x : Point) → level new x ≡ levelled old levels x) → KeepsPoints old new → ((x : Point) → Holds old x → Holds levels x)
       → OnOk r (IsExact new links)
-  exact_adopted (Ok u) written kept all = λ x there. now_longest old levels new links so written x (all x (still_there new old x (λ y. sym (kept y)) there))
+  exact_adopted (Ok u) written kept all =
+      λ x there. now_longest old levels new links bounds so written x (all x (still_there new old x (λ y. sym (kept y)) there))
   exact_adopted (Err e) written kept all = tt
 
 -- where heights rise no chain goes over more than 128 links
@@ -91,6 +102,25 @@ short_by_heights heights links s p list chain starts =
 pub short_by_rank : (heights : Rows ℕ) (lifts : Rows Lift) (links : Links) → IsRanked (Reads links) heights lifts → (p : Point) → NoneLonger (Reads links) p 257
 short_by_rank heights lifts links s p list chain starts =
     let h = none_longer_by (Reads links) s.rank s.rises p list chain starts in let l = s.low p in omega (arith, h, l)
+
+-- what bounds levels where heights rise, and where some points are lifted
+pub bounded_by_heights : {R : Type 0} (heights : Rows ℕ) (free : Rows R) (links : Links) → IsSound heights links → AreBounds links (bound heights free)
+bounded_by_heights heights free links s =
+    are_bounds heights free links (level heights) s.rises (λ p. let l = s.low p in omega (arith, l)) (λ p none. refl)
+
+pub bounded_by_rank : (heights : Rows ℕ) (lifts : Rows Lift) (links : Links) → IsRanked (Reads links) heights lifts → AreBounds links (bound heights lifts)
+bounded_by_rank heights lifts links s = are_bounds heights lifts links s.rank s.rises s.low s.same
+
+-- where all points are free, what a point that has a level reads has its own
+pub all_closed : (heights levels : Rows ℕ) (links : Links) → IsSound heights links → AreLevels links (bound heights heights) levels
+    → (a b : Point) → Holds levels a → Reads links a b → Holds levels b
+all_closed heights levels links s so a b there reads = let r = row_there levels a there in by r.0 r.1 (so.closed a b r.0 r.1 reads)
+  where
+    by : (n : ℕ) → at levels a ≡ Some n → Holds levels b ⊎ (bound heights heights b < n) → Holds levels b
+    by n here (inl has) = has
+    by n here (inr under) =
+        let l = longest_under (Reads links) a n 128 (so.longest a n here) (short_by_heights heights links s a) in
+        let e = bound_free heights heights b (s.ends a b reads).1 in absurd (omega (arith, under, l, e))
 
 module _ {R : Type 0} (points : Rows R) (none levels : Rows ℕ) (links : Links) (empty : none.places ≡ [])
     (below : (x : Point) → Holds levels x → Holds none x ⊎ ((y : Point) × Holds points y × Leads (Reads links) y x)) where

@@ -1,9 +1,9 @@
 -- Heights of points, and how they stand to links.
-use Rattle.std.specs.Prelude.{◌≡◌, ◌≢◌, ◌⊎◌, ℕ, ◌<◌, ◌≤◌, List, ◌++◌, Option, None, Some, is_some, Contains}
+use Rattle.std.specs.Prelude.{◌≡◌, ◌≢◌, ◌⊎◌, ℕ, ◌+◌, ◌<◌, ◌≤◌, List, ◌++◌, Option, None, Some, is_some, Contains}
 use Rattle.inc_value.specs.declared.node.Point.{Point}
 use Rattle.point_map.specs.Rows.{Rows, at, Holds}
 use Rattle.link_table.specs.Links.{Links, Reads}
-use Rattle.height_order.specs.Chains.{Reading, Leads, NoRepeats, IsLongest}
+use Rattle.height_order.specs.Chains.{Reading, Leads, NoRepeats, NoneLonger, IsLongest}
 
 -- points with their heights, and the links between them
 pub record Web : Type 0 where
@@ -65,10 +65,35 @@ pub record Tells (old new : Point → ℕ) (before after : List Point) : Type 0 
   pub appended : after ≡ before ++ list
   pub moved : IsMoved old new list
 
--- some points' levels: each is the length of its point's longest chain, and what such a point reads has its own
-pub record AreLevels (links : Links) (levels : Rows ℕ) : Type 0 where
+-- a height, or 257 where the point is free
+abbrev pub bound_by : {R : Type 0} → ℕ → Option R → ℕ
+bound_by h None = h
+bound_by h (Some r) = 257
+
+-- the greatest level that a point may have: its height, and 257 where it is free
+abbrev pub bound : {R : Type 0} → Rows ℕ → Rows R → Point → ℕ
+bound heights free p = bound_by (level heights p) (at free p)
+
+-- no chain goes over more links than the bound of its first point
+abbrev pub AreBounds : Links → (Point → ℕ) → Type 0
+AreBounds links bounds = (p : Point) → NoneLonger (Reads links) p (bounds p)
+
+-- p reads a point that has a level, and n is at most one more
+pub record IsNext (links : Links) (levels : Rows ℕ) (p : Point) (n : ℕ) : Type 0 where
+  pub kid : Point
+  pub reads : Reads links p kid
+  pub there : Holds levels kid
+  pub near : n ≤ level levels kid + 1
+
+-- this is so of each level above 0
+abbrev pub HaveNext : Links → Rows ℕ → Type 0
+HaveNext links levels = (p : Point) (n : ℕ) → at levels p ≡ Some n → 0 < n → IsNext links levels p n
+
+-- Some points' levels: each is the length of its point's longest chain. What such a point reads has its own, or is bounded below that level.
+pub record AreLevels (links : Links) (bounds : Point → ℕ) (levels : Rows ℕ) : Type 0 where
   pub longest : (p : Point) (n : ℕ) → at levels p ≡ Some n → IsLongest (Reads links) p n
-  pub closed : (p q : Point) → Holds levels p → Reads links p q → Holds levels q
+  pub next : HaveNext links levels
+  pub closed : (p q : Point) (n : ℕ) → at levels p ≡ Some n → Reads links p q → Holds levels q ⊎ (bounds q < n)
 
 -- levels that were there stay, and p leads to each point that was added
 pub record AddsBelow (links : Links) (old new : Rows ℕ) (p : Point) : Type 0 where

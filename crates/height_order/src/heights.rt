@@ -136,7 +136,8 @@ impl Heights {
     /// and all but `Over` the heights. Where `p` is higher than `q` already heights stay.
     ///
     /// Points that lead to `p` and stand too low are lifted. Where one of them would pass 128 they are
-    /// levelled, with all that they lead to. No other points but the readers of these are looked at.
+    /// levelled, with those that they lead to and that their levels rest on. No other points but the
+    /// readers of the lifted ones and the kids of the levelled ones are looked at.
     pub fn link(&mut self, p: Point, q: Point, moved: &mut Vec<Point>) -> Result<(), LinkFault>
         requires reader { Holds self.old.heights p }
         requires kid { Holds self.old.heights q }

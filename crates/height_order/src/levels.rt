@@ -4,7 +4,7 @@ ghost use Rattle.inc_value.specs.declared.node.Point.{Point};
 ghost use Rattle.point_map.specs.Rows.{at, Holds, Changes, KeepsRows};
 ghost use Rattle.link_table.specs.Links.{Reads};
 ghost use Rattle.height_order.specs.Chains.{IsChain, Leads, NoneLonger};
-ghost use Rattle.height_order.specs.Levels.{level, levelled, KeepsPoints, IsMoved, AreLevels, AddsBelow};
+ghost use Rattle.height_order.specs.Levels.{level, levelled, KeepsPoints, IsMoved, bound, AreBounds, HaveNext, AreLevels, AddsBelow};
 
 use inc_value::Point;
 use link_table::LinkTable;
@@ -29,41 +29,93 @@ pub fn add_at(heights: &mut PointMap<u32>, p: Point, height: u32) -> Result<(), 
     Ok(())
 }
 
-/// The level of a point, over at most so many links. It is kept, with those of all points that this one
-/// leads to; nothing else is looked at.
-pub fn level_below(
+/// The greatest level that a point may have: its height. The height of a free point tells nothing of its level,
+/// but no level is above 257.
+fn bound_of<R>(heights: &PointMap<u32>, free: &PointMap<R>, p: Point) -> u32
+    ensures { result ≡ bound heights.now free.now p }
+{
+    if free.holds(p) {
+        return 257;
+    }
+    level_of(heights, p)
+}
+
+/// A point that this one reads, of greatest bound.
+fn highest_kid<R>(
     links: &LinkTable,
+    heights: &PointMap<u32>,
+    free: &PointMap<R>,
+    p: Point,
+) -> Option<Point>
+    ensures kid { IfSome result (λ k. Reads links.now p k) }
+    ensures highest { IfSome result (λ k. (q : Point) → Reads links.now p q
+        → bound heights.now free.now q ≤ bound heights.now free.now k) }
+    ensures none { IfNone result ((q : Point) → Reads links.now p q → ⊥) }
+{
+    let mut kids = links.kids(p);
+    let Some(mut highest) = kids.next() else {
+        return None;
+    };
+    let mut most = bound_of(heights, free, highest);
+    for kid in kids {
+        let bound = bound_of(heights, free, kid);
+        if bound <= most {
+            continue;
+        }
+        highest = kid;
+        most = bound;
+    }
+    Some(highest)
+}
+
+/// The level of a point, over at most so many links. It is kept, with those of the points that it rests on.
+/// The kid of greatest bound is looked at first, and then those whose bound isn't below the level that was
+/// found: no other can raise it.
+pub fn level_below<R>(
+    links: &LinkTable,
+    heights: &PointMap<u32>,
+    free: &PointMap<R>,
     levels: &mut PointMap<u32>,
     p: Point,
     most: u32,
 ) -> Result<u32, AllocError>
-    requires levels { AreLevels links.now levels.old }
+    requires levels { AreLevels links.now (bound heights.now free.now) levels.old }
+    requires bounds { AreBounds links.now (bound heights.now free.now) }
     requires short { NoneLonger (Reads links.now) p most }
     ensures level { IfOk result (λ n. at levels.new p ≡ Some n) }
-    ensures levels { OnOk result (AreLevels links.now levels.new) }
+    ensures levels { OnOk result (AreLevels links.now (bound heights.now free.now) levels.new) }
     ensures adds { OnOk result (AddsBelow links.now levels.old levels.new p) }
 {
     if let Some(level) = levels.get(p).copied() {
         return Ok(level);
     }
-    let mut level = 0;
+    let Some(highest) = highest_kid(links, heights, free, p) else {
+        add_at(levels, p, 0)?;
+        return Ok(0);
+    };
+    let mut level = level_below(links, heights, free, levels, highest, most - 1)? + 1;
     for kid in links.kids(p) {
-        level = level.max(level_below(links, levels, kid, most - 1)? + 1);
+        if bound_of(heights, free, kid) < level {
+            continue;
+        }
+        level = level.max(level_below(links, heights, free, levels, kid, most - 1)? + 1);
     }
     add_at(levels, p, level)?;
     Ok(level)
 }
 
-/// Levels the points of a map and all that these lead to.
+/// Levels the points of a map, which are free, and what these rest on.
 pub fn level_each<R>(
     links: &LinkTable,
+    heights: &PointMap<u32>,
     points: &PointMap<R>,
     levels: &mut PointMap<u32>,
     most: u32,
 ) -> Result<(), AllocError>
-    requires levels { AreLevels links.now levels.old }
+    requires levels { AreLevels links.now (bound heights.now points.now) levels.old }
+    requires bounds { AreBounds links.now (bound heights.now points.now) }
     requires short { (p : Point) → NoneLonger (Reads links.now) p most }
-    ensures levels { OnOk result (AreLevels links.now levels.new) }
+    ensures levels { OnOk result (AreLevels links.now (bound heights.now points.now) levels.new) }
     ensures each { OnOk result ((p : Point) → Holds points.now p → Holds levels.new p) }
     ensures below { OnOk result ((x : Point) → Holds levels.new x
         → Holds levels.old x ⊎ ((p : Point) × Holds points.now p × Leads (Reads links.now) p x)) }
@@ -72,7 +124,7 @@ pub fn level_each<R>(
         let Some(p) = points.point_at(i) else {
             continue;
         };
-        level_below(links, levels, p, most)?;
+        level_below(links, heights, points, levels, p, most)?;
     }
     Ok(())
 }
@@ -135,7 +187,7 @@ pub fn long_chain(
     levels: &PointMap<u32>,
     top: Point,
 ) -> Result<Vec<Point>, AllocError>
-    requires levels { AreLevels links.now levels.now }
+    requires next { HaveNext links.now levels.now }
     requires high { 128 < level levels.now top }
     ensures chain { IfOk result (λ list. IsChain (Reads links.now) list.items) }
     ensures length { IfOk result (λ list. length list.items ≡ 130) }

@@ -46,8 +46,7 @@ pub fn make_link(
     linked
 }
 
-/// Lifts points until the link fits. Where some are lifted too high they are levelled, with all that they
-/// lead to.
+/// Lifts points until the link fits. Where some are lifted too high they are levelled, with what they rest on.
 fn link_climbing(
     alloc: Global,
     heights: &mut PointMap<u32>,
@@ -110,8 +109,8 @@ fn link_lifted(
     }
 }
 
-/// Makes the link and levels the lifted points over it, with all that they lead to. Where this doesn't fit
-/// the link is taken off again, and what stands below its two ends is levelled without it.
+/// Makes the link and levels the lifted points over it, with what they rest on. Where this doesn't fit the link
+/// is taken off again, and all that stands below its two ends is levelled without it.
 fn link_levelled(
     alloc: Global,
     heights: &mut PointMap<u32>,
@@ -149,7 +148,7 @@ fn link_levelled(
     }
 }
 
-/// Levels points that are to be lifted, and all that they lead to, or tells a chain that is too long.
+/// Levels points that are to be lifted, and what they rest on, or tells a chain that is too long.
 fn fit(
     alloc: Global,
     heights: &mut PointMap<u32>,
@@ -185,7 +184,7 @@ fn fit_levels(
     requires none { levels.old.places ≡ [] }
     ensures { IsFitted heights.old heights.new links.now lifts.now moved.old.items moved.new.items result }
 {
-    level_each(links, lifts, levels, 257)?;
+    level_each(links, heights, lifts, levels, 257)?;
     if let Some(top) = too_long(levels) {
         let chain = long_chain(alloc, links, levels, top)?;
         return Ok(Some(chain));
@@ -231,8 +230,9 @@ fn adopt_ends(
     ensures { AreEndsLevelled heights.old heights.new links.now new.reader new.kid
         moved.old.items moved.new.items result }
 {
-    level_below(links, levels, new.reader, 128)?;
-    level_below(links, levels, new.kid, 128)?;
+    // (all points are free, so each that is led to gets its level)
+    level_below(links, heights, heights, levels, new.reader, 128)?;
+    level_below(links, heights, heights, levels, new.kid, 128)?;
     adopt(alloc, heights, levels, moved)
 }
 
@@ -252,7 +252,7 @@ pub fn adopt_all(
     ensures moved { Tells (level heights.old) (level heights.new) moved.old.items moved.new.items }
     ensures err { OnErr result (heights.new ≡ heights.old) }
 {
-    level_each(links, heights, levels, 128)?;
+    level_each(links, heights, heights, levels, 128)?;
     adopt(alloc, heights, levels, moved)
 }
 

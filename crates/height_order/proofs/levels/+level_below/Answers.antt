@@ -1,81 +1,136 @@
-use Rattle.std.proofs.Common.{◌∙◌, ◌+◌, ◌<◌, ap, sym, subst, arith}
-use Rattle.point_map.specs.Rows.{Holds}
+use Rattle.std.proofs.Common.{◌+◌, ap, sym, subst, arith}
 use Rattle.link_table.specs.Links.{Reads}
 use Rattle.link_table.specs.Walks.{kids_left}
-use Rattle.height_order.specs.Levels.{level}
-use Rattle.height_order.proofs.Covering.{Covers, kids_cover, occurs_first}
+use Rattle.height_order.specs.Levels.{bound}
+use Rattle.height_order.proofs.Covering.{kids_cover, occurs_first}
+use Rattle.height_order.proofs.Points.{none_found}
 use Rattle.height_order.proofs.Chaining.{shorter, some_link}
-use Rattle.height_order.proofs.Levelling.{LevelsKids, is_greater, adds_none, kids_more, kid_low, kids_there, kids_longest, levels_more, adds_here}
+use Rattle.height_order.proofs.Levelling.{IsUnder, LevelsKids, is_greater, first_greater, kids_none, kids_start, kids_pass, kids_more, kid_low, level_more, level_adds}
 use Rattle.height_order.proofs.levels.+level_below.Goals as goal
 
-pub loop-kid-init : goal.loop-kid-init
-loop-kid-init t c =
-    let links = c.args.links.now in
-    let levels = c.args.levels.now in
-    let left = kids_left c.kids-kid-items.result in
-    record {
-      levels_so = c.requires.levels;
-      adds = adds_none links levels c.args.p;
-      absent = sym c.get.ensures ∙ (sym c.copied.ensures ∙ c.in_default.is);
-      covers = subst (Covers (Reads links c.args.p) (λ k. Holds levels k × (level levels k < 0))) (ap kids_left (sym c.into_iter-kid-iterator.ensures.into_iter_gives))
-          (kids_cover (λ k. Holds levels k × (level levels k < 0)) links c.args.p left c.kids-kid-items.ensures);
-      near = λ some. absurd (omega (arith, some));
-      low = omega arith;
-    }
+-- no kid
+pub add_at-requires : goal.add_at-requires
+add_at-requires g t c = record { absent = none_found c.args.levels.now c.args.p _ c.copied.result c.get.ensures c.copied.ensures c.in_default.is }
 
-pub overflow_sub-most : goal.overflow_sub-most
-overflow_sub-most t c =
+pub returns-in_default-highest_kid-clause-levels : goal.returns-in_default-highest_kid-clause-levels
+returns-in_default-highest_kid-clause-levels g t c =
     let links = c.args.links.now in
+    let bounds = bound c.args.heights.now c.args.free.now in
+    let absent = none_found c.args.levels.now c.args.p _ c.copied.result c.get.ensures c.copied.ensures c.in_default.is in
+    level_more links bounds c.args.levels.now c.args.levels.now c.args.p c.args.most 0 c.requires.bounds
+    (kids_none links bounds c.args.levels.now c.args.p c.args.most c.requires.levels absent c.in_default-highest_kid.ensures.none) c.add_at.new.heights
+    c.in_ok-add_at.ensures.added
+
+pub returns-in_default-highest_kid-clause-adds : goal.returns-in_default-highest_kid-clause-adds
+returns-in_default-highest_kid-clause-adds g t c =
+    let links = c.args.links.now in
+    let bounds = bound c.args.heights.now c.args.free.now in
+    let absent = none_found c.args.levels.now c.args.p _ c.copied.result c.get.ensures c.copied.ensures c.in_default.is in
+    level_adds links bounds c.args.levels.now c.args.levels.now c.args.p c.args.most 0 c.requires.bounds
+    (kids_none links bounds c.args.levels.now c.args.p c.args.most c.requires.levels absent c.in_default-highest_kid.ensures.none) c.add_at.new.heights
+    c.in_ok-add_at.ensures.added
+
+-- the kid of greatest bound
+pub overflow_sub-most : goal.overflow_sub-most
+overflow_sub-most g t c =
+    let some = some_link (Reads c.args.links.now) c.args.p c.in-Some-highest_kid.highest c.args.most c.requires.short c.in-Some-highest_kid.ensures.kid in omega (arith, some)
+
+pub level_below-requires : goal.level_below-requires
+level_below-requires g t c lifetimes alive =
+    let reads = c.in-Some-highest_kid.ensures.kid in
+    let some = some_link (Reads c.args.links.now) c.args.p c.in-Some-highest_kid.highest c.args.most c.requires.short reads in
+    let is = c.decreases in
+    (omega (arith, some, is), (alive, (c.requires.levels, (c.requires.bounds, shorter (Reads c.args.links.now) c.args.p c.in-Some-highest_kid.highest c.args.most c.requires.short reads))))
+
+pub overflow_add-level : goal.overflow_add-level
+overflow_add-level g t c =
+    let highest = c.in-Some-highest_kid.highest in
+    let n = c.in_ok-level.field-0 in
+    let done = c.in_ok-level.ensures in
+    let low = kid_low c.args.links.now c.args.p highest c.args.most n c.requires.short c.in-Some-highest_kid.ensures.kid (done.levels.longest highest n done.level) in
+    let fits = c.ranges.most.fits in omega (arith, low, fits)
+
+pub loop-kid-init : goal.loop-kid-init
+loop-kid-init g t c =
+    let links = c.args.links.now in
+    let bounds = bound c.args.heights.now c.args.free.now in
+    let levels = c.args.levels.now in
+    let p = c.args.p in
+    let most = c.args.most in
+    let highest = c.in-Some-highest_kid.highest in
+    let n = c.in_ok-level.field-0 in
+    let done = c.in_ok-level.ensures in
+    let absent = none_found c.args.levels.now c.args.p _ c.copied.result c.get.ensures c.copied.ensures c.in_default.is in
+    let left = kids_left c.kids-kid-items.result in
+    let start = kids_start links bounds levels p most c.requires.levels absent highest left c.in-Some-highest_kid.ensures.kid
+    (kids_cover (IsUnder links bounds levels 0) links p left c.kids-kid-items.ensures) in
+    subst (LevelsKids links bounds levels c.level_below.new.levels p most (n + 1)) (ap kids_left (sym c.into_iter-kid-iterator.ensures.into_iter_gives))
+    (kids_more links bounds levels levels c.level_below.new.levels p highest left most 0 n start c.requires.short done.level done.levels done.adds (n + 1)
+    (first_greater n))
+
+-- the others
+pub loop-kid-preserved-then-bound_of-level : goal.loop-kid-preserved-then-bound_of-level
+loop-kid-preserved-then-bound_of-level g t c =
+    let links = c.args.links.now in
+    let bounds = bound c.args.heights.now c.args.free.now in
+    let so = subst (LevelsKids links bounds c.args.levels.now c.loop-kid.levels c.args.p c.args.most c.loop-kid.level) c.in-Some-kid.ensures.steps c.loop-kid.invariant in
+    kids_pass links bounds c.args.levels.now c.loop-kid.levels c.args.p c.in-Some-kid.kid (kids_left c.next.new.self) c.args.most c.loop-kid.level
+    (let e = c.bound_of.ensures in let t = c.if-bound_of-level.true in omega (arith, e, t)) so
+
+pub overflow_sub-most-in-loop-kid : goal.overflow_sub-most-in-loop-kid
+overflow_sub-most-in-loop-kid g t c =
+    let links = c.args.links.now in
+    let bounds = bound c.args.heights.now c.args.free.now in
     let kid = c.in-Some-kid.kid in
-    let so = subst (LevelsKids links c.args.levels.now c.loop-kid.levels c.args.p c.args.most c.loop-kid.level) c.in-Some-kid.ensures.steps c.loop-kid.invariant in
+    let so = subst (LevelsKids links bounds c.args.levels.now c.loop-kid.levels c.args.p c.args.most c.loop-kid.level) c.in-Some-kid.ensures.steps c.loop-kid.invariant in
     let some = some_link (Reads links) c.args.p kid c.args.most c.requires.short (so.covers.among kid (occurs_first kid (kids_left c.next.new.self))) in
     omega (arith, some)
 
-pub level_below-requires : goal.level_below-requires
-level_below-requires t c =
+pub level_below-requires-in-loop-kid : goal.level_below-requires-in-loop-kid
+level_below-requires-in-loop-kid g t c lifetimes alive =
     let links = c.args.links.now in
+    let bounds = bound c.args.heights.now c.args.free.now in
     let kid = c.in-Some-kid.kid in
-    let so = subst (LevelsKids links c.args.levels.now c.loop-kid.levels c.args.p c.args.most c.loop-kid.level) c.in-Some-kid.ensures.steps c.loop-kid.invariant in
+    let so = subst (LevelsKids links bounds c.args.levels.now c.loop-kid.levels c.args.p c.args.most c.loop-kid.level) c.in-Some-kid.ensures.steps c.loop-kid.invariant in
     let reads = so.covers.among kid (occurs_first kid (kids_left c.next.new.self)) in
     let some = some_link (Reads links) c.args.p kid c.args.most c.requires.short reads in
     let is = c.decreases in
-    (omega (arith, some, is), (c.loop-kid.invariant.levels_so, shorter (Reads links) c.args.p kid c.args.most c.requires.short reads))
+    (omega (arith, some, is), (alive, (c.loop-kid.invariant.levels_so, (c.requires.bounds, shorter (Reads links) c.args.p kid c.args.most c.requires.short reads))))
 
 pub overflow_add-branch : goal.overflow_add-branch
-overflow_add-branch t c =
+overflow_add-branch g t c =
     let links = c.args.links.now in
+    let bounds = bound c.args.heights.now c.args.free.now in
     let kid = c.in-Some-kid.kid in
-    let rest = kids_left c.next.new.self in
-    let so = subst (LevelsKids links c.args.levels.now c.loop-kid.levels c.args.p c.args.most c.loop-kid.level) c.in-Some-kid.ensures.steps c.loop-kid.invariant in
-    let low = kid_low links c.args.levels.now c.loop-kid.levels c.level_below.new.levels c.args.p kid rest c.args.most c.loop-kid.level c.in_ok-level_below.field-0 so
-    c.requires.short c.in_ok-level_below.ensures.level c.in_ok-level_below.ensures.levels c.in_ok-level_below.ensures.adds in
+    let n = c.in_ok-level_below.field-0 in
+    let done = c.in_ok-level_below.ensures in
+    let so = subst (LevelsKids links bounds c.args.levels.now c.loop-kid.levels c.args.p c.args.most c.loop-kid.level) c.in-Some-kid.ensures.steps c.loop-kid.invariant in
+    let low = kid_low links c.args.p kid c.args.most n c.requires.short (so.covers.among kid (occurs_first kid (kids_left c.next.new.self)))
+    (done.levels.longest kid n done.level) in
     let fits = c.ranges.most.fits in omega (arith, low, fits)
 
 pub loop-kid-preserved : goal.loop-kid-preserved
-loop-kid-preserved t c =
+loop-kid-preserved g t c =
     let links = c.args.links.now in
-    let kid = c.in-Some-kid.kid in
-    let rest = kids_left c.next.new.self in
-    let so = subst (LevelsKids links c.args.levels.now c.loop-kid.levels c.args.p c.args.most c.loop-kid.level) c.in-Some-kid.ensures.steps c.loop-kid.invariant in
-    kids_more links c.args.levels.now c.loop-kid.levels c.level_below.new.levels c.args.p kid rest c.args.most c.loop-kid.level c.in_ok-level_below.field-0 so
-    c.requires.short c.in_ok-level_below.ensures.level c.in_ok-level_below.ensures.levels c.in_ok-level_below.ensures.adds
-    c.max-level.result (is_greater c.loop-kid.level (c.in_ok-level_below.field-0 + 1) c.max-level.result c.max-level.ensures)
-
-pub add_at-requires : goal.add_at-requires
-add_at-requires t c = record { absent = c.loop-kid.invariant.absent }
+    let bounds = bound c.args.heights.now c.args.free.now in
+    let n = c.in_ok-level_below.field-0 in
+    let done = c.in_ok-level_below.ensures in
+    let so = subst (LevelsKids links bounds c.args.levels.now c.loop-kid.levels c.args.p c.args.most c.loop-kid.level) c.in-Some-kid.ensures.steps c.loop-kid.invariant in
+    kids_more links bounds c.args.levels.now c.loop-kid.levels c.level_below-in-loop-kid.new.levels c.args.p c.in-Some-kid.kid (kids_left c.next.new.self) c.args.most c.loop-kid.level n so
+    c.requires.short done.level done.levels done.adds c.max-level.result (is_greater c.loop-kid.level (n + 1) c.max-level.result c.max-level.ensures)
 
 pub returns-clause-levels : goal.returns-clause-levels
-returns-clause-levels t c =
+returns-clause-levels g t c =
     let links = c.args.links.now in
-    let so = subst (LevelsKids links c.args.levels.now c.loop-kid.levels c.args.p c.args.most c.loop-kid.level) c.in-None.ensures.steps.0 c.loop-kid.invariant in
-    levels_more links c.loop-kid.levels c.add_at.new.heights c.args.p c.loop-kid.level so.levels_so so.absent c.in_ok-add_at.ensures.added
-    (kids_longest links c.args.levels.now c.loop-kid.levels c.args.p c.args.most c.loop-kid.level so)
-    (kids_there links c.args.levels.now c.loop-kid.levels c.args.p c.args.most c.loop-kid.level so)
+    let bounds = bound c.args.heights.now c.args.free.now in
+    let so = subst (LevelsKids links bounds c.args.levels.now c.loop-kid.levels c.args.p c.args.most c.loop-kid.level) c.in-None.ensures.steps.0 c.loop-kid.invariant in
+    level_more links bounds c.args.levels.now c.loop-kid.levels c.args.p c.args.most c.loop-kid.level c.requires.bounds so c.add_at-2.new.heights
+    c.in_ok-add_at-2.ensures.added
 
 pub returns-clause-adds : goal.returns-clause-adds
-returns-clause-adds t c =
+returns-clause-adds g t c =
     let links = c.args.links.now in
-    let so = subst (LevelsKids links c.args.levels.now c.loop-kid.levels c.args.p c.args.most c.loop-kid.level) c.in-None.ensures.steps.0 c.loop-kid.invariant in
-    adds_here links c.loop-kid.levels c.add_at.new.heights c.args.p c.loop-kid.level so.levels_so so.absent c.in_ok-add_at.ensures.added
-    (kids_longest links c.args.levels.now c.loop-kid.levels c.args.p c.args.most c.loop-kid.level so)
-    (kids_there links c.args.levels.now c.loop-kid.levels c.args.p c.args.most c.loop-kid.level so) c.args.levels.now so.adds
+    let bounds = bound c.args.heights.now c.args.free.now in
+    let so = subst (LevelsKids links bounds c.args.levels.now c.loop-kid.levels c.args.p c.args.most c.loop-kid.level) c.in-None.ensures.steps.0 c.loop-kid.invariant in
+    level_adds links bounds c.args.levels.now c.loop-kid.levels c.args.p c.args.most c.loop-kid.level c.requires.bounds so c.add_at-2.new.heights
+    c.in_ok-add_at-2.ensures.added

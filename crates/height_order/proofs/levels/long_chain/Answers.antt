@@ -9,7 +9,7 @@ use Rattle.height_order.proofs.levels.long_chain.Goals as goal
 
 pub unwrap-last-requires : goal.unwrap-last-requires
 unwrap-last-requires c =
-    kid_some c.args.links.now c.args.levels.now c.loop-last.last c.kid_below.result c.requires.levels
+    kid_some c.args.links.now c.args.levels.now c.loop-last.last c.kid_below.result c.requires.next
     (let h = c.loop-last.invariant.high in let t = c.loop-last-test.true in let n = c.len.ensures in let ok = c.loop-last.list.ok.0 in omega (arith, h, t, n, ok))
     c.kid_below.ensures.none
 

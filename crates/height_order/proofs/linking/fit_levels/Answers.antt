@@ -1,6 +1,14 @@
-use Rattle.height_order.proofs.Ranking.{short_by_rank, below_only, below_there}
+use Rattle.height_order.specs.Levels.{bound}
+use Rattle.height_order.proofs.Levelling.{no_levels}
+use Rattle.height_order.proofs.Ranking.{short_by_rank, bounded_by_rank, below_only, below_there}
 use Rattle.height_order.proofs.Answering.{fitted_told}
 use Rattle.height_order.proofs.linking.fit_levels.Goals as goal
+
+pub level_each-requires-clause-levels : goal.level_each-requires-clause-levels
+level_each-requires-clause-levels c = no_levels c.args.links.now (bound c.args.heights.now c.args.lifts.now) c.args.levels.now c.requires.none
+
+pub level_each-requires-clause-bounds : goal.level_each-requires-clause-bounds
+level_each-requires-clause-bounds c = bounded_by_rank c.args.heights.now c.args.lifts.now c.args.links.now c.requires.ranked
 
 pub level_each-requires-clause-short : goal.level_each-requires-clause-short
 level_each-requires-clause-short c = short_by_rank c.args.heights.now c.args.lifts.now c.args.links.now c.requires.ranked

@@ -1,0 +1,13 @@
+use Rattle.std.proofs.Common.{◌≡◌, ◌≤◌}
+use Rattle.link_table.specs.Links.{Reads}
+use Rattle.link_table.specs.Walks.{kids_left}
+use Rattle.height_order.specs.Levels.{bound}
+use Rattle.height_order.proofs.Covering.{Covers}
+use Rattle.height_order.proofs.levels.highest_kid.Given as goal
+
+abbrev pub invariant-loop-kid : goal.invariant-loop-kid
+invariant-loop-kid g l = record {
+  kid : Reads l.links l.fn.p l.highest;
+  most : l.most ≡ bound l.heights l.free l.highest;
+  covers : Covers (Reads l.links l.fn.p) (λ k. bound l.heights l.free k ≤ l.most) (kids_left l.kid-iterator);
+}
