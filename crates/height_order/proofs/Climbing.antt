@@ -4,7 +4,7 @@ use Rattle.std.specs.Prelude.{◌⊎◌, Option, Some, None, IsSome, min}
 use Rattle.inc_value.specs.declared.node.Point.{Point}
 use Rattle.point_map.specs.Rows.{Rows, at, Holds, Changes}
 use Rattle.point_map.proofs.Places.{point_cases}
-use Rattle.recompute_heap.specs.Agree.{IsLeast}
+use Rattle.recompute_heap.specs.Agree.{IsLeast, IsEmpty}
 use Rattle.link_table.specs.Links.{Links, Reads, AreReaders}
 use Rattle.height_order.specs.declared.lifts.Lift.{Lift}
 use Rattle.height_order.specs.Levels.{level, IsSound}
@@ -28,13 +28,13 @@ two_cases n = grind arith
 
 module _ (heights : Rows ℕ) (links : Links) (p q : Point) (sound : IsSound heights links) where
   -- nothing needs to be lifted
-  pub climbing_none : (lifts : Rows Lift) (queue : Rows ℕ) → lifts.places ≡ [] → queue.places ≡ [] → level heights q < level heights p
+  pub climbing_none : (lifts : Rows Lift) (queue : Rows ℕ) → lifts.places ≡ [] → IsEmpty queue → level heights q < level heights p
       → IsClimbing heights links p q lifts queue 0 p []
   climbing_none lifts queue none empty high = record {
     there = λ y there. absurd (not_both (at lifts y) (none_at lifts y none) there);
     raised = λ y l e. absurd (not_both (at lifts y) (none_at lifts y none) (some_there (at lifts y) l e));
     asked = λ y l e. absurd (not_both (at lifts y) (none_at lifts y none) (some_there (at lifts y) l e));
-    queued = λ y h e. absurd (not_both (at queue y) (none_at queue y empty) (some_there (at queue y) h e));
+    queued = λ y h e. absurd (not_both (at queue y) (empty y) (some_there (at queue y) h e));
     not_below = λ y there. absurd (not_both (at lifts y) (none_at lifts y none) there);
     unmet = none_at lifts q none;
     start = (let e = lifted_none heights lifts p (none_at lifts p none) in omega (arith, e, high));
@@ -43,7 +43,7 @@ module _ (heights : Rows ℕ) (links : Links) (p q : Point) (sound : IsSound hei
     waiting = λ y h e. omega arith;
   }
 
-  module _ (old lifts : Rows Lift) (queue_old queue : Rows ℕ) (none : old.places ≡ []) (empty : queue_old.places ≡ []) (l : Lift) (kid : l.kid ≡ q)
+  module _ (old lifts : Rows Lift) (queue_old queue : Rows ℕ) (none : old.places ≡ []) (empty : IsEmpty queue_old) (l : Lift) (kid : l.kid ≡ q)
       (height : l.height ≡ level heights q + 1) (low : level heights p ≤ level heights q) (there_p : Holds heights p) (other : p ≢ q)
       (first : IsLifted heights old lifts queue_old queue p l) where
     queue_at : at queue p ≡ Some (level heights p)
@@ -70,7 +70,7 @@ module _ (heights : Rows ℕ) (links : Links) (p q : Point) (sound : IsSound hei
         let f : ◌≡◌ {A = Option ℕ} (Some h) (Some (level heights p)) = sym e ∙ ap (at queue) same ∙ queue_at in
         let g : h ≡ level heights p = cc in (g ∙ ap (level heights) (sym same), same)
     first_queued y h e (inr differs) =
-        absurd (not_both (at queue y) ((first.first (none_at old p none)).others y differs ∙ none_at queue_old y empty) (some_there (at queue y) h e))
+        absurd (not_both (at queue y) ((first.first (none_at old p none)).others y differs ∙ empty y) (some_there (at queue y) h e))
 
     unmet_q : at lifts q ≡ None
     unmet_q = first.lifts.others q (λ e. other (sym e)) ∙ none_at old q none

@@ -3,6 +3,7 @@ ghost use Rattle.std.specs.Prelude.{[], ◌≡◌, ◌≢◌, ◌+◌, ◌<◌, 
 ghost use Rattle.inc_value.specs.declared.node.Point.{Point};
 ghost use Rattle.point_map.specs.Rows.{at, Holds};
 ghost use Rattle.link_table.specs.Links.{Reads, AreReaders};
+ghost use Rattle.recompute_heap.specs.Agree.{IsEmpty};
 ghost use Rattle.height_order.specs.Chains.{IsPath};
 ghost use Rattle.height_order.specs.Levels.{level, IsSound};
 ghost use Rattle.height_order.specs.Climbs.{AllAsked, IsDone, IsClimbing, IsClimbed, IsLifted, ComesAbove, KeepsDone};
@@ -14,6 +15,40 @@ use link_table::{Link, LinkTable};
 use point_map::PointMap;
 use recompute_heap::RecomputeHeap;
 use std::alloc::{AllocError, Global};
+use std::marker::Model;
+
+/// The points that a climb lifted and whose readers weren't looked at. Between climbs there are none, and the
+/// queue is kept for its room.
+pub struct ClimbQueue {
+    points: RecomputeHeap,
+}
+
+// (written out: whoever drops one proves one call, and no drop of its parts)
+impl Drop for ClimbQueue {
+    fn drop(self) {
+        let ClimbQueue { points } = self;
+        drop(points);
+    }
+}
+
+impl Model for ClimbQueue {
+    ghost use Rattle.recompute_heap.specs.Agree.{IsEmpty};
+
+    ghost Value = { Unit {0} };
+
+    ghost view = { λ _. tt };
+
+    ghost invariant = { λ q. IsEmpty q.points };
+}
+
+impl ClimbQueue {
+    /// An empty queue. This takes no memory.
+    pub fn new(alloc: Global) -> ClimbQueue {
+        ClimbQueue {
+            points: RecomputeHeap::new(alloc),
+        }
+    }
+}
 
 /// Lifts points until heights rise along the links with the new one, or tells the path from its kid to its
 /// reader, if there is one: that path is met on the way, since all its points are lifted.
@@ -23,6 +58,7 @@ pub fn climb(
     heights: &PointMap<u32>,
     new: Link,
     lifts: &mut PointMap<Lift>,
+    queue: &mut ClimbQueue,
 ) -> Result<Option<Vec<Point>>, AllocError>
     requires sound { IsSound heights.now links.now }
     requires reader { Holds heights.now new.reader }
@@ -35,7 +71,7 @@ pub fn climb(
     if new.reader == new.kid {
         return Ok(Some(list));
     }
-    let Some(met) = lift_all(alloc, links, heights, new, lifts)? else {
+    let Some(met) = lift_all(links, heights, new, lifts, queue)? else {
         return Ok(None);
     };
     let mut last = met;
@@ -50,11 +86,11 @@ pub fn climb(
 /// Lifts the new link's reader above its kid, and then readers above what they read, until heights rise or a
 /// point is met that the kid reads. Only readers of lifted points are looked at, each point's once.
 fn lift_all(
-    alloc: Global,
     links: &LinkTable,
     heights: &PointMap<u32>,
     new: Link,
     lifts: &mut PointMap<Lift>,
+    queue: &mut ClimbQueue,
 ) -> Result<Option<Point>, AllocError>
     requires sound { IsSound heights.now links.now }
     requires reader { Holds heights.now new.reader }
@@ -64,13 +100,12 @@ fn lift_all(
     ensures asked { IfOk result (λ _. AllAsked links.now new.reader new.kid lifts.new) }
     ensures climbed { IfOk result (λ o. IfNone o (IsClimbed heights.now links.now new.reader new.kid lifts.new)) }
 {
-    let mut queue = RecomputeHeap::new(alloc);
-    let met = lift_queued(links, heights, new, lifts, &mut queue);
-    drop(queue);
+    let met = lift_queued(links, heights, new, lifts, &mut queue.points);
+    clear(&mut queue.points);
     met
 }
 
-/// Does so over a queue of the points that are lifted and whose readers weren't looked at.
+/// Does so over a queue, in which points are left where one is met that the kid reads or there is no memory.
 fn lift_queued(
     links: &LinkTable,
     heights: &PointMap<u32>,
@@ -82,7 +117,7 @@ fn lift_queued(
     requires reader { Holds heights.now new.reader }
     requires other { new.reader ≢ new.kid }
     requires none { lifts.old.places ≡ [] }
-    requires empty { queue.old.places ≡ [] }
+    requires empty { IsEmpty queue.old }
     ensures met { IfOk result (λ o. IfSome o (λ x. Reads links.now new.kid x × Holds lifts.new x)) }
     ensures asked { IfOk result (λ _. AllAsked links.now new.reader new.kid lifts.new) }
     ensures climbed { IfOk result (λ o. IfNone o (IsClimbed heights.now links.now new.reader new.kid lifts.new)) }
@@ -98,6 +133,13 @@ fn lift_queued(
         }
     }
     Ok(None)
+}
+
+/// Takes all points out.
+fn clear(queue: &mut RecomputeHeap)
+    ensures { IsEmpty queue.new }
+{
+    while let Some(_left) = queue.pop_least() {}
 }
 
 /// Lifts each reader of a point above it. Where the new link's kid reads it, that is the answer, and the rest is left.

@@ -6,6 +6,7 @@ ghost use Rattle.link_table.specs.Links.{times, Reads, OneLinkMore};
 ghost use Rattle.height_order.specs.Levels.{level, Rises, KeepsPoints, IsExact, Tells};
 ghost use Rattle.height_order.specs.Answers.{IsLinkAnswer};
 
+use crate::climb::ClimbQueue;
 use crate::levels::{add_at, level_of};
 use crate::linking::{adopt_all, make_link};
 use inc_value::Point;
@@ -41,6 +42,7 @@ pub struct Heights {
     alloc: Global,
     heights: PointMap<u32>,
     links: LinkTable,
+    queue: ClimbQueue,
 }
 
 // (written out: whoever drops one proves one call, and no drop of its parts)
@@ -50,9 +52,11 @@ impl Drop for Heights {
             alloc: _,
             heights,
             links,
+            queue,
         } = self;
         drop(heights);
         drop(links);
+        drop(queue);
     }
 }
 
@@ -76,6 +80,7 @@ impl Heights {
             alloc,
             heights: PointMap::new(alloc),
             links: LinkTable::new(alloc),
+            queue: ClimbQueue::new(alloc),
         }
     }
 
@@ -144,7 +149,14 @@ impl Heights {
         ensures { IsLinkAnswer self.old self.new p q moved.old.items moved.new.items result }
     {
         let new = Link { reader: p, kid: q };
-        make_link(self.alloc, &mut self.heights, &mut self.links, new, moved)
+        make_link(
+            self.alloc,
+            &mut self.heights,
+            &mut self.links,
+            &mut self.queue,
+            new,
+            moved,
+        )
     }
 
     /// Takes one link off. Heights stay.

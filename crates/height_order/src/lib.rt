@@ -1,7 +1,7 @@
 //! Heights of points that rise along every link, so that each point stands higher than what it
 //! reads. A link that would close a cycle, or make a chain too long, is refused with its witness.
 //!
-//! [`Heights`] has its own table of links. `make_link` does the same over heights and links that are lent.
+//! [`Heights`] has its own table of links. `make_link` does the same over heights, links and a queue that are lent.
 #![tactic(auto)]
 
 mod climb;
@@ -10,6 +10,7 @@ mod levels;
 mod lifts;
 mod linking;
 
+pub use climb::ClimbQueue;
 pub use heights::{Heights, LinkFault};
 pub use levels::{add_at, level_of};
 pub use linking::make_link;

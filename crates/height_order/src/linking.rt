@@ -7,7 +7,7 @@ ghost use Rattle.height_order.specs.Levels.{level, levelled, AllLow, Ends, IsSou
 ghost use Rattle.height_order.specs.Climbs.{lifted, IsClimbed, IsRanked};
 ghost use Rattle.height_order.specs.Answers.{IsLinkAnswer, IsFitted, AreEndsLevelled};
 
-use crate::climb::climb;
+use crate::climb::{ClimbQueue, climb};
 use crate::heights::LinkFault;
 use crate::levels::{
     changed, level_below, level_each, level_of, long_chain, too_long, write_levels,
@@ -23,6 +23,7 @@ pub fn make_link(
     alloc: Global,
     heights: &mut PointMap<u32>,
     links: &mut LinkTable,
+    queue: &mut ClimbQueue,
     new: Link,
     moved: &mut Vec<Point>,
 ) -> Result<(), LinkFault>
@@ -41,7 +42,7 @@ pub fn make_link(
         };
     }
     let mut lifts = PointMap::new(alloc);
-    let linked = link_climbing(alloc, heights, links, new, &mut lifts, moved);
+    let linked = link_climbing(alloc, heights, links, queue, new, &mut lifts, moved);
     drop(lifts);
     linked
 }
@@ -51,6 +52,7 @@ fn link_climbing(
     alloc: Global,
     heights: &mut PointMap<u32>,
     links: &mut LinkTable,
+    queue: &mut ClimbQueue,
     new: Link,
     lifts: &mut PointMap<Lift>,
     moved: &mut Vec<Point>,
@@ -65,7 +67,7 @@ fn link_climbing(
         (record { heights = heights.new; links = links.new })
         new.reader new.kid moved.old.items moved.new.items result }
 {
-    match climb(alloc, links, heights, new, lifts) {
+    match climb(alloc, links, heights, new, lifts, queue) {
         Ok(None) => {}
         Ok(Some(path)) => return Err(LinkFault::Path(path)),
         Err(AllocError) => return Err(LinkFault::Memory),
