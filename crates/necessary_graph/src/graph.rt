@@ -16,7 +16,7 @@ ghost use Rattle.necessary_graph.specs.Sweep.{IsUnlinked, IsReduced, IsUnrooted}
 use crate::readers::{Skip, put, put_readers};
 use crate::roots::{add_root, is_held, remove_root, root_count};
 use crate::sweep::{Leaves, kid_beside, raise_moved, sweep, take_out};
-use height_order::{LinkFault, add_at, level_of, make_link};
+use height_order::{ClimbQueue, LinkFault, add_at, level_of, make_link};
 use inc_value::Point;
 use link_table::{Kids, Link, LinkTable, Readers};
 use point_map::PointMap;
@@ -35,6 +35,7 @@ pub struct NecessaryGraph {
     roots: PointMap<usize>,
     heap: RecomputeHeap,
     points: usize,
+    climb: ClimbQueue,
     moved: Vec<Point>,
 }
 
@@ -48,12 +49,14 @@ impl Drop for NecessaryGraph {
             roots,
             heap,
             points: _,
+            climb,
             moved,
         } = self;
         drop(links);
         drop(heights);
         drop(roots);
         drop(heap);
+        drop(climb);
         drop(moved);
     }
 }
@@ -88,6 +91,7 @@ impl NecessaryGraph {
             roots: PointMap::new(alloc),
             heap: RecomputeHeap::new(alloc),
             points: 0,
+            climb: ClimbQueue::new(alloc),
             moved: Vec::new(alloc),
         }
     }
@@ -194,6 +198,7 @@ impl NecessaryGraph {
             self.alloc,
             &mut self.heights,
             &mut self.links,
+            &mut self.climb,
             Link { reader: p, kid: q },
             &mut self.moved,
         );
