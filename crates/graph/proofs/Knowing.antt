@@ -101,7 +101,7 @@ module _ (F F' : Functions) (known : FnRef → Bool) (values : (f : FnRef) → I
     settled = e.settled;
     owed = e.owed;
     todo = e.todo;
-    strict = e.strict;
+    retries = e.retries;
     ran = e.ran;
     taken = e.taken;
     died = e.died;

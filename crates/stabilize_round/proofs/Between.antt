@@ -18,7 +18,7 @@ use Rattle.stabilize_round.specs.State.{State, Start, Stage, Bare, Gated, Static
 use Rattle.stabilize_round.specs.Invariant.{Invariant, IsDone}
 use Rattle.stabilize_round.specs.Wire.{linked, dropped, Drop, Sweep, IsConfirmed}
 use Rattle.stabilize_round.specs.Machine.{Move, step_main, step_change, link, link_new, root, root_new, raise, finish, schedule, cut, rebuild}
-use Rattle.stabilize_round.specs.Machine.{level, turn_strict, Moves}
+use Rattle.stabilize_round.specs.Machine.{level, spend, Moves}
 use Rattle.stabilize_round.specs.StepLaws.{RoundIsMoves, RoundEnds, Waiting, for_gate, for_change, NeededAreFresh, LowAreFinal, TakenIsDue}
 use Rattle.stabilize_round.specs.StepLaws.{SettledReadsLive, NewLinksConfirmed}
 use Rattle.stabilize_round.proofs.Points.{same_or_other, at_same, at_other, count_among}
@@ -114,7 +114,7 @@ move_depends F z s t inv (rebuild {b} {now} {m} r made count e) p q st d =
     let k = inv.settled.done p st in
     still_depends F s _ t e p q (dep_grows F z s inv b now m r p q (r.given.names.live p.node k.row k.is_row) d)
 move_depends F z s t inv (level m e) p q st d = still_depends F s _ t e p q d
-move_depends F z s t inv (turn_strict u k e) p q st d = still_depends F s _ t e p q d
+move_depends F z s t inv (spend u k e) p q st d = still_depends F s _ t e p q d
 
 moves_depend : (F : Functions) (z : Start) (s t : State) → Invariant F z s → Moves F z s t → (p q : Point) → s.settled p ≡ true
     → Depends F s.graph s.died p q → Depends F t.graph t.died p q
@@ -193,4 +193,4 @@ new_links_confirmed F z s t (cut {p = a} {r} {st} {row'} {needed'} {links'} {hea
     no_link s _ t e p q (λ l. cut_back s a r st row' d needed' links' heap' owed' w p q l)
 new_links_confirmed F z s t (rebuild r made count e) p q = no_link s _ t e p q (λ l. l)
 new_links_confirmed F z s t (level m e) p q = no_link s _ t e p q (λ l. l)
-new_links_confirmed F z s t (turn_strict u k e) p q = no_link s _ t e p q (λ l. l)
+new_links_confirmed F z s t (spend u k e) p q = no_link s _ t e p q (λ l. l)

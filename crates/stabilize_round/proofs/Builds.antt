@@ -25,7 +25,7 @@ use Rattle.stabilize_round.specs.State.{State, Start, Full}
 use Rattle.stabilize_round.specs.Invariant.{Invariant}
 use Rattle.stabilize_round.specs.Moves.{Quiet, changed, StepChange}
 use Rattle.stabilize_round.specs.Machine.{Move, step_main, step_change, link, link_new, root, root_new, raise, finish, schedule, cut, rebuild, level}
-use Rattle.stabilize_round.specs.Machine.{turn_strict, Moves}
+use Rattle.stabilize_round.specs.Machine.{spend, Moves}
 use Rattle.stabilize_round.specs.Laws.{BuiltRight}
 use Rattle.stabilize_round.proofs.Points.{node_or_other}
 use Rattle.stabilize_round.proofs.Low.{plan_links}
@@ -86,7 +86,7 @@ move_built F z s t b (rebuild {b = c} {now} {m = made} m built count e) p h = at
           )
     ]
 move_built F z s t b (level m e) p h = at F b _ t e h
-move_built F z s t b (turn_strict u k e) p h = at F b _ t e h
+move_built F z s t b (spend u k e) p h = at F b _ t e h
 
 moves_built : (F : Functions) (z : Start) (s t : State) (b : NodeId) → Moves F z s t → Given s.given b → BuiltRight F s.graph b
     → BuiltRight F t.graph b

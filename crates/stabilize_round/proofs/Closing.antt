@@ -285,7 +285,7 @@ module _ (F : Functions) (z : Start) (t : State) (inv : Invariant F z t) (quiet 
     settled = λ p. refl;
     owed = λ p h. inv.rows.owed p (quiet p);
     todo = λ p need h. absurd (let x = quiet p in cc);
-    strict = refl;
+    retries = refl;
     ran = refl;
     taken = refl;
     died = λ n. refl;

@@ -56,7 +56,7 @@ module _ (F : Functions) (z : Start) (s : State) (inv : Invariant F z s) where
         plan_depends F G s.out s.died p q r row (stands r.scope refl) (λ part k sub. (done.exact r row).1 k sub)
         (among_right q (gate_of r.scope) _ (among_right q (fixed_reads G p.node r.def p.part) _ a))
 
-module _ (F : Functions) (z : Start) (s : State) (inv : Invariant F z s) (strict : s.strict ≡ true) where
+module _ (F : Functions) (z : Start) (s : State) (inv : Invariant F z s) (strict : s.retries ≡ 0) where
   planned_of : (p q : Point) → Linked s p q → Among q (planned s p)
   planned_of p q l = let e = inv.rows.links p q (inv.web.from p q l) in count_among q (planned s p) (omega arith)
 
@@ -111,7 +111,7 @@ module _ (F : Functions) (z : Start) (s : State) (inv : Invariant F z s) (strict
 
 -- ---- what refusals list
 
-module _ (F : Functions) (z : Start) (s : State) (inv : Invariant F z s) (strict : s.strict ≡ true) (p q : Point) (tried : Depends F s.graph s.died p q) where
+module _ (F : Functions) (z : Start) (s : State) (inv : Invariant F z s) (strict : s.retries ≡ 0) (p q : Point) (tried : Depends F s.graph s.died p q) where
   one_depends : (a b : Point) → LinkedOr s p q a b → Depends F s.graph s.died a b
   one_depends a b (inl l) = strict_depends F z s inv strict a b l
   one_depends a b (inr is) = subst (λ (y : Point). Depends F s.graph s.died y b) is.0 (subst (λ (y : Point). Depends F s.graph s.died p y) is.1 tried)

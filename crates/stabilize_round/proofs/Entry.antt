@@ -1,5 +1,5 @@
 -- A round begins with the invariant.
-use Rattle.std.proofs.Common.{◌≡◌, inl, inr, true, Option, None, refl, sym, ap, ◌∙◌}
+use Rattle.std.proofs.Common.{◌≡◌, inl, inr, true, Option, None, refl, sym, ap, ◌∙◌, arith}
 use Rattle.inc_value.specs.declared.node.NodeId.{NodeId}
 use Rattle.inc_value.specs.declared.node.Point.{Point}
 use Rattle.inc_value.specs.Choice.{Among, here}
@@ -17,8 +17,8 @@ module _ (F : Functions) (z : Start) (s : State) (entry : Entry F z s) where
   not_settled : {P : Type 0} → (p : Point) → s.settled p ≡ true → P
   not_settled p h = absurd (let x = entry.settled p in cc)
 
-  not_strict : {P : Type 0} → s.strict ≡ true → P
-  not_strict h = absurd (let x = entry.strict in cc)
+  not_strict : {P : Type 0} → s.retries ≡ 0 → P
+  not_strict h = absurd (let x : 1024 ≡ 0 = sym entry.retries ∙ h in omega (arith, x))
 
   none_ran : {P : Type 0} → (n : NodeId) → Among n s.ran → P
   none_ran n h = absurd (let x = rw entry.ran at h in x)

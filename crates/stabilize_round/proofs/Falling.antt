@@ -12,9 +12,9 @@ use Rattle.stabilize_round.specs.State.{State, Start, Stage, Bare, Gated, Static
 use Rattle.stabilize_round.specs.Invariant.{Invariant}
 use Rattle.stabilize_round.specs.Moves.{Quiet, changed, StepChange}
 use Rattle.stabilize_round.specs.Machine.{Move, step_main, step_change, link, link_new, root, root_new, raise, finish, schedule, cut, rebuild}
-use Rattle.stabilize_round.specs.Machine.{level, turn_strict, Moves}
+use Rattle.stabilize_round.specs.Machine.{level, spend, Moves}
 use Rattle.stabilize_round.specs.Ended.{unsettled}
-use Rattle.stabilize_round.specs.Steps.{Settles, Wires, Turns, Wiring, Wired, plainly, after_refusal}
+use Rattle.stabilize_round.specs.Steps.{Settles, Wires, Spends, Wiring, TakingOff, Wired, plainly, after_refusal}
 use Rattle.stabilize_round.specs.StepLaws.{is_full, is_loose, Falls, StepsFall, unneeded, WiringFalls}
 use Rattle.stabilize_round.proofs.Counts.{no_more, fewer_than}
 use Rattle.stabilize_round.proofs.Points.{same_or_other, at_same, at_other}
@@ -23,47 +23,58 @@ use Rattle.stabilize_round.proofs.End.{falls, turned}
 use Rattle.stabilize_round.proofs.Machine.{moves_settled}
 use Rattle.stabilize_round.proofs.Main.{at_false}
 use Rattle.stabilize_round.proofs.Changing.{again_wakes}
-use Rattle.stabilize_round.proofs.Steps.{joined, before_moves, off_moves, wiring_moves, wired_moves, step_moves}
+use Rattle.stabilize_round.proofs.Steps.{before_moves, off_moves, wiring_moves, wired_moves, step_moves}
 use Rattle.stabilize_round.proofs.Meanings.{round_keeps}
 
--- ---- refusals stay final
+-- ---- no more links may be tried again than before
 
-strict_at : (s u t : State) → t ≡ u → u.strict ≡ true → t.strict ≡ true
-strict_at s u t e h = subst (λ (x : State). x.strict ≡ true) (sym e) h
+same_retries : (s u t : State) → t ≡ u → u.retries ≡ s.retries → t.retries ≤ s.retries
+same_retries s u t e same = let x : t.retries ≡ u.retries = ap (λ (y : State). y.retries) e in omega (arith, x, same)
 
-move_strict : (F : Functions) (z : Start) (s t : State) → Move F z s t → s.strict ≡ true → t.strict ≡ true
-move_strict F z s t (step_main quiet m e) h = strict_at s _ t e h
-move_strict F z s t (step_change quiet m e) h = strict_at s _ t e h
-move_strict F z s t (link m need e) h = strict_at s _ t e h
-move_strict F z s t (link_new m need k e) h = strict_at s _ t e h
-move_strict F z s t (root need e) h = strict_at s _ t e h
-move_strict F z s t (root_new given need k e) h = strict_at s _ t e h
-move_strict F z s t (raise m e) h = strict_at s _ t e h
-move_strict F z s t (finish m e) h = strict_at s _ t e h
-move_strict F z s t (schedule m e) h = strict_at s _ t e h
-move_strict F z s t (cut d w e) h = strict_at s _ t e h
-move_strict F z s t (rebuild r made count e) h = strict_at s _ t e h
-move_strict F z s t (level m e) h = strict_at s _ t e h
-move_strict F z s t (turn_strict u k e) h = strict_at s _ t e refl
+move_retries : (F : Functions) (z : Start) (s t : State) → Move F z s t → t.retries ≤ s.retries
+move_retries F z s t (step_main quiet m e) = same_retries s _ t e refl
+move_retries F z s t (step_change quiet m e) = same_retries s _ t e refl
+move_retries F z s t (link m need e) = same_retries s _ t e refl
+move_retries F z s t (link_new m need k e) = same_retries s _ t e refl
+move_retries F z s t (root need e) = same_retries s _ t e refl
+move_retries F z s t (root_new given need k e) = same_retries s _ t e refl
+move_retries F z s t (raise m e) = same_retries s _ t e refl
+move_retries F z s t (finish m e) = same_retries s _ t e refl
+move_retries F z s t (schedule m e) = same_retries s _ t e refl
+move_retries F z s t (cut d w e) = same_retries s _ t e refl
+move_retries F z s t (rebuild r made count e) = same_retries s _ t e refl
+move_retries F z s t (level m e) = same_retries s _ t e refl
+move_retries F z s t (spend {left} u k e) = let x : t.retries ≡ left = ap (λ (y : State). y.retries) e in omega (arith, x, u)
 
-moves_strict : (F : Functions) (z : Start) (s t : State) → Moves F z s t → s.strict ≡ true → t.strict ≡ true
-moves_strict F z s t here h = h
-moves_strict F z s t (step {b = u} m rest) h = moves_strict F z u t rest (move_strict F z s u m h)
+pub moves_retries : (F : Functions) (z : Start) (s t : State) → Moves F z s t → t.retries ≤ s.retries
+moves_retries F z s t here = omega arith
+moves_retries F z s t (step {b = u} m rest) =
+    let one = move_retries F z s u m in let more = moves_retries F z u t rest in omega (arith, one, more)
 
-turned_from : (F : Functions) (z : Start) (s t : State) (m : Move F z s t) → Turns m → (s.strict ≡ false) × (t.strict ≡ true)
-turned_from F z s t (turn_strict u k e) it = (u, ap (λ (x : State). x.strict) e)
-turned_from F z s t (step_main quiet m e) it = absurd it
-turned_from F z s t (step_change quiet m e) it = absurd it
-turned_from F z s t (link m need e) it = absurd it
-turned_from F z s t (link_new m need k e) it = absurd it
-turned_from F z s t (root need e) it = absurd it
-turned_from F z s t (root_new given need k e) it = absurd it
-turned_from F z s t (raise m e) it = absurd it
-turned_from F z s t (finish m e) it = absurd it
-turned_from F z s t (schedule m e) it = absurd it
-turned_from F z s t (cut d w e) it = absurd it
-turned_from F z s t (rebuild r made count e) it = absurd it
-turned_from F z s t (level m e) it = absurd it
+pub fewer_retries : (F : Functions) (z : Start) (s t : State) (m : Move F z s t) → Spends m → t.retries < s.retries
+fewer_retries F z s t (spend {left} u k e) it = let x : t.retries ≡ left = ap (λ (y : State). y.retries) e in omega (arith, x, u)
+fewer_retries F z s t (step_main quiet m e) it = absurd it
+fewer_retries F z s t (step_change quiet m e) it = absurd it
+fewer_retries F z s t (link m need e) it = absurd it
+fewer_retries F z s t (link_new m need k e) it = absurd it
+fewer_retries F z s t (root need e) it = absurd it
+fewer_retries F z s t (root_new given need k e) it = absurd it
+fewer_retries F z s t (raise m e) it = absurd it
+fewer_retries F z s t (finish m e) it = absurd it
+fewer_retries F z s t (schedule m e) it = absurd it
+fewer_retries F z s t (cut d w e) it = absurd it
+fewer_retries F z s t (rebuild r made count e) it = absurd it
+fewer_retries F z s t (level m e) it = absurd it
+
+-- where a link was tried again fewer may be
+pub retried : (F : Functions) (z : Start) (s u v w t : State) → Reaches (Wiring F z) s u → Reaches (TakingOff F z) u v → (m : Move F z v w)
+    → Spends m → Wired F z w t → t.retries < s.retries
+retried F z s u v w t on off m it rest =
+    let a = moves_retries F z s u (wiring_moves F z s u on) in
+    let b = moves_retries F z u v (off_moves F z u v off) in
+    let c = fewer_retries F z v w m it in
+    let d = moves_retries F z w t (wired_moves F z w t rest) in
+    omega (arith, a, b, c, d)
 
 settled_by : (F : Functions) (z : Start) (s t : State) (p : Point) (m : Move F z s t) → Settles p m → t.settled p ≡ true
 settled_by F z s t p (step_main {n} quiet m e) it =
@@ -82,13 +93,13 @@ settled_by F z s t p (schedule m e) it = absurd it
 settled_by F z s t p (cut d w e) it = absurd it
 settled_by F z s t p (rebuild r made count e) it = absurd it
 settled_by F z s t p (level m e) it = absurd it
-settled_by F z s t p (turn_strict u k e) it = absurd it
+settled_by F z s t p (spend u k e) it = absurd it
 
 -- ---- what wiring leaves
 
 -- links, stages, need and the worklist apart: nothing is settled, no main loses its links, and what is newly in the worklist is newly needed
 record Kept (s t : State) : Type 0 where
-  strict : t.strict ≡ s.strict
+  retries : t.retries ≡ s.retries
   settled : (p : Point) → t.settled p ≡ s.settled p
   needed : (p : Point) → s.needed p ≡ true → t.needed p ≡ true
   full : (p : Point) → s.needed p ≡ true → s.stage p ≡ Full → t.stage p ≡ Full
@@ -98,13 +109,13 @@ kept_at : (s u t : State) → t ≡ u → Kept s u → Kept s t
 kept_at s u t e k = subst (λ (x : State). Kept s x) (sym e) k
 
 same_kept : (s : State) → Kept s s
-same_kept s = record { strict = refl; settled = λ p. refl; needed = λ p h. h; full = λ p h f. f; todo = λ p h. inl h }
+same_kept s = record { retries = refl; settled = λ p. refl; needed = λ p h. h; full = λ p h f. f; todo = λ p h. inl h }
 
 wire_kept : (F : Functions) (z : Start) (s t : State) (m : Move F z s t) → Wires m → Kept s t
 wire_kept F z s t (link m need e) it = kept_at s _ t e
-    (record { strict = refl; settled = λ p. refl; needed = λ p h. h; full = λ p h f. f; todo = λ p h. inl h })
+    (record { retries = refl; settled = λ p. refl; needed = λ p h. h; full = λ p h f. f; todo = λ p h. inl h })
 wire_kept F z s t (link_new {p} {q} m need k e) it = kept_at s _ t e (record {
-  strict = refl;
+  retries = refl;
   settled = λ p. refl;
   needed = λ p h. elim (same_or_other q p) [
     | inl is ↦ subst (λ (y : Point). at_point q true s.needed y ≡ true) is (at_same q true s.needed)
@@ -124,7 +135,7 @@ wire_kept F z s t (link_new {p} {q} m need k e) it = kept_at s _ t e (record {
   ];
 })
 wire_kept F z s t (raise {p = a} {st} m e) it = kept_at s _ t e (record {
-  strict = refl;
+  retries = refl;
   settled = λ p. refl;
   needed = λ p h. h;
   full = λ p h f. elim (same_or_other a p) [
@@ -134,27 +145,27 @@ wire_kept F z s t (raise {p = a} {st} m e) it = kept_at s _ t e (record {
   todo = λ p h. inl h;
 })
 wire_kept F z s t (finish {p = a} m e) it = kept_at s _ t e (record {
-  strict = refl;
+  retries = refl;
   settled = λ p. refl;
   needed = λ p h. h;
   full = λ p h f. f;
   todo = λ p h. inl (at_false a s.todo p h).0;
 })
 wire_kept F z s t (schedule m e) it = kept_at s _ t e
-    (record { strict = refl; settled = λ p. refl; needed = λ p h. h; full = λ p h f. f; todo = λ p h. inl h })
+    (record { retries = refl; settled = λ p. refl; needed = λ p h. h; full = λ p h f. f; todo = λ p h. inl h })
 wire_kept F z s t (level m e) it = kept_at s _ t e
-    (record { strict = refl; settled = λ p. refl; needed = λ p h. h; full = λ p h f. f; todo = λ p h. inl h })
+    (record { retries = refl; settled = λ p. refl; needed = λ p h. h; full = λ p h f. f; todo = λ p h. inl h })
 wire_kept F z s t (step_main quiet m e) it = absurd it
 wire_kept F z s t (step_change quiet m e) it = absurd it
 wire_kept F z s t (root need e) it = absurd it
 wire_kept F z s t (root_new given need k e) it = absurd it
 wire_kept F z s t (cut d w e) it = absurd it
 wire_kept F z s t (rebuild r made count e) it = absurd it
-wire_kept F z s t (turn_strict u k e) it = absurd it
+wire_kept F z s t (spend u k e) it = absurd it
 
 kept_on : (s u t : State) → Kept s u → Kept u t → Kept s t
 kept_on s u t a b = record {
-  strict = b.strict ∙ a.strict;
+  retries = b.retries ∙ a.retries;
   settled = λ p. b.settled p ∙ a.settled p;
   needed = λ p h. b.needed p (a.needed p h);
   full = λ p h f. b.full p (a.needed p h) (a.full p h f);
@@ -213,14 +224,14 @@ is_full_means Static h = absurd (cc)
 
 -- of these what speaks of mains and of what is settled
 record Holds (s t : State) : Type 0 where
-  strict : t.strict ≡ s.strict
+  retries : t.retries ≡ s.retries
   settled : (p : Point) → t.settled p ≡ s.settled p
   needed : (p : Point) → s.needed p ≡ true → t.needed p ≡ true
   full : (p : Point) → s.needed p ≡ true → s.stage p ≡ Full → t.stage p ≡ Full
 
 holds_on : (s u t : State) → Holds s u → Kept u t → Holds s t
 holds_on s u t a b = record {
-  strict = b.strict ∙ a.strict;
+  retries = b.retries ∙ a.retries;
   settled = λ p. b.settled p ∙ a.settled p;
   needed = λ p h. b.needed p (a.needed p h);
   full = λ p h f. b.full p (a.needed p h) (a.full p h f);
@@ -290,7 +301,7 @@ idle_wire F z s t quiet owed (root need e) it = absurd it
 idle_wire F z s t quiet owed (root_new given need k e) it = absurd it
 idle_wire F z s t quiet owed (cut d w e) it = absurd it
 idle_wire F z s t quiet owed (rebuild r made count e) it = absurd it
-idle_wire F z s t quiet owed (turn_strict u k e) it = absurd it
+idle_wire F z s t quiet owed (spend u k e) it = absurd it
 
 idle_run : (F : Functions) (z : Start) (s t : State) → Quiet s → ((p : Point) → s.owed p ≡ []) → Reaches (Wiring F z) s t → Idle s t
 idle_run F z s t quiet owed here = record { quiet = quiet; owed = owed; heap = λ p h. inl h }
@@ -309,14 +320,14 @@ idle_run F z s t quiet owed (step {b = u} m rest) =
 module _ (F : Functions) (z : Start) (s : State) (inv : Invariant F z s) (quiet : Quiet s) (n : NodeId) (o : Outcome) (todo' : Point → Bool)
     (move : StepChange F s n o todo') (st : s.settled (change n) ≡ true) (t : State) (run : Reaches (Wiring F z) (changed s n o todo') t)
     (attaches : s.needed (main n) ≡ true → s.stage (main n) ≡ Static
-    → ((t.needed (main n) ≡ true) × (t.stage (main n) ≡ Full)) ⊎ ((s.strict ≡ false) × (t.strict ≡ true)))
+    → ((t.needed (main n) ≡ true) × (t.stage (main n) ≡ Full)) ⊎ (t.retries < s.retries))
     (points : List Point) (nodes : List NodeId) (among : Among (change n) points) (among_nodes : Among n nodes) where
   abbrev next : State
   next = changed s n o todo'
 
   first : Holds s next
   first = record {
-    strict = refl;
+    retries = refl;
     settled = λ p. elim (same_or_other (change n) p) [
       | inl is ↦ subst (λ (y : Point). at_point (change n) true s.settled y ≡ s.settled y) is (at_same (change n) true s.settled ∙ sym st)
       | inr ne ↦ at_other (change n) true s.settled p ne
@@ -336,19 +347,19 @@ module _ (F : Functions) (z : Start) (s : State) (inv : Invariant F z s) (quiet 
 
   waits : s.needed (main n) ≡ true → s.stage (main n) ≡ Static → Falls s t points nodes
   waits need stage = elim (attaches need stage) [
-    | inr turn ↦ inl turn
+    | inr fewer ↦ inl fewer
     | inl all ↦
         let lacks : has_all s n ≡ false = and_false (s.needed (main n)) (is_full (s.stage (main n))) (ap is_full stage) in
         let has = and_from (t.needed (main n)) (is_full (t.stage (main n))) all.0 (full_is (t.stage (main n)) all.1) in
         let was : is_loose s n ≡ true = and_from (s.settled (change n)) (cond (has_all s n) false true) st (rw lacks refl) in
         let now : is_loose t n ≡ false = and_false (t.settled (change n)) (cond (has_all t n) false true) (rw has refl) in
-        inr (inr (inl (holds.strict, number, fewer_than (is_loose s) (is_loose t) (λ m. loose_was s t holds m) n nodes was now among_nodes)))
+        inr (inr (inl (holds.retries, number, fewer_than (is_loose s) (is_loose t) (λ m. loose_was s t holds m) n nodes was now among_nodes)))
   ]
 
   none_woken : (s.needed (main n) ≡ true → s.stage (main n) ≡ Static → ⊥) → Falls s t points nodes
   none_woken not =
       inr (inr (inr (
-        holds.strict,
+        holds.retries,
         number,
         no_more (is_loose s) (is_loose t) (λ m. loose_was s t holds m) nodes,
         fewer_than (λ (p : Point). s.settled p && s.heap p) (λ (p : Point). t.settled p && t.heap p) back (change n) points was now among,
@@ -403,7 +414,7 @@ module _ (F : Functions) (z : Start) (s : State) (inv : Invariant F z s) (quiet 
     (taken : s.heap p ≡ true)
     (next t : State) (run : Reaches (Wiring F z) next t)
     (attaches : (n : NodeId) → p ≡ change n → s.needed (main n) ≡ true → s.stage (main n) ≡ Static
-    → ((t.needed (main n) ≡ true) × (t.stage (main n) ≡ Full)) ⊎ ((s.strict ≡ false) × (t.strict ≡ true)))
+    → ((t.needed (main n) ≡ true) × (t.stage (main n) ≡ Full)) ⊎ (t.retries < s.retries))
     (points : List Point) (nodes : List NodeId) (among : Among p points) (among_nodes : Among p.node nodes) where
   settles_again : (m : Move F z s next) → Settles p m → Falls s t points nodes
   settles_again (step_change {n} {o} {todo'} q m e) it =
@@ -422,7 +433,7 @@ module _ (F : Functions) (z : Start) (s : State) (inv : Invariant F z s) (quiet 
   settles_again (cut d w e) it = absurd it
   settles_again (rebuild r made count e) it = absurd it
   settles_again (level m e) it = absurd it
-  settles_again (turn_strict u k e) it = absurd it
+  settles_again (spend u k e) it = absurd it
 
 pub steps_fall : StepsFall
 steps_fall F z begun s t entry run k points nodes among among_nodes = by_settled (bool_cases (s.settled k.point))
@@ -439,14 +450,11 @@ steps_fall F z begun s t entry run k points nodes among among_nodes = by_settled
     more : s.settled k.point ≡ false → unsettled t.settled points < unsettled s.settled points
     more was = falls s.settled t.settled k.point points (λ q h. moves_settled F z s t moves q h) was settled_then among
 
-    by_strict : s.settled k.point ≡ false → (s.strict ≡ true) ⊎ (s.strict ≡ false) → (t.strict ≡ true) ⊎ (t.strict ≡ false) → Falls s t points nodes
-    by_strict was (inl a) (inl b) = inr (inl (b ∙ sym a, more was))
-    by_strict was (inl a) (inr b) = absurd (let x = moves_strict F z s t moves a in cc)
-    by_strict was (inr a) (inl b) = inl (a, b)
-    by_strict was (inr a) (inr b) = inr (inl (b ∙ sym a, more was))
-
-    earlier : (u : State) → Moves F z s u → u.strict ≡ false → s.strict ≡ false
-    earlier u on e = elim (bool_cases s.strict) [ inr h ↦ h | inl h ↦ absurd (let x = moves_strict F z s u on h in cc) ]
+    first : s.settled k.point ≡ false → Falls s t points nodes
+    first was = elim (cases_lt t.retries s.retries) [
+      | inl fewer ↦ inl fewer
+      | inr same ↦ inr (inl (let at_most = moves_retries F z s t moves in omega (arith, same, at_most), more was))
+    ]
 
     by_wired : s.settled k.point ≡ true → (w : Wired F z k.next t) → Falls s t points nodes
     by_wired was (plainly on) =
@@ -455,11 +463,11 @@ steps_fall F z begun s t entry run k points nodes among among_nodes = by_settled
         settles_again F z s inv k.begins k.point was k.least.heap k.next t on
         (λ n is need stage. k.attaches n is was need stage) points nodes among among_nodes x.0 x.1
     by_wired was (after_refusal {u} {v} {w} on off m it rest) =
-        let turn = turned_from F z v w m it in
-        let to_next = joined (Move F z) s k.ready k.next (before_moves F z s t k) (step {b = k.next} k.settles here) in
-        let to_v = joined (Move F z) s k.next v to_next (joined (Move F z) k.next u v (wiring_moves F z k.next u on) (off_moves F z u v off)) in
-        inl (earlier v to_v turn.0, moves_strict F z w t (wiring_moves F z w t rest) turn.1)
+        let before = moves_retries F z s k.ready (before_moves F z s t k) in
+        let settles = move_retries F z k.ready k.next k.settles in
+        let fewer = retried F z k.next u v w t on off m it rest in
+        inl (omega (arith, before, settles, fewer))
 
     by_settled : (s.settled k.point ≡ true) ⊎ (s.settled k.point ≡ false) → Falls s t points nodes
     by_settled (inl was) = by_wired was k.wired
-    by_settled (inr was) = by_strict was (bool_cases s.strict) (bool_cases t.strict)
+    by_settled (inr was) = first was

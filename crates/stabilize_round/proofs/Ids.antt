@@ -13,7 +13,7 @@ use Rattle.stabilize_round.specs.Ids.{IsStartOf, AllGiven}
 use Rattle.stabilize_round.specs.Rebuilding.{Remade, remade, Rebuild}
 use Rattle.stabilize_round.specs.Wire.{Link}
 use Rattle.stabilize_round.specs.Machine.{Move, step_main, step_change, link, link_new, root, root_new, raise, finish, schedule, cut, rebuild, level}
-use Rattle.stabilize_round.specs.Machine.{turn_strict, Moves, Stops, as_it_is, unbuilt, unkept}
+use Rattle.stabilize_round.specs.Machine.{spend, Moves, Stops, as_it_is, unbuilt, unkept}
 use Rattle.stabilize_round.specs.Stopped.{GivenStays, StartStays}
 use Rattle.stabilize_round.proofs.Points.{same_or_other, at_other, node_other}
 use Rattle.stabilize_round.proofs.Staying.{moves_give}
@@ -109,7 +109,7 @@ module _ (F : Functions) (z : Start) (s : State) (g : AllGiven F z s) where
   move_given t (cut d w e) = same t _ e refl refl refl refl g.stale g.last (λ p h. g.needed p (w.was p h)) g.rooted
   move_given t (rebuild {b} {now} {m} r made count e) = at t _ e (remade_given b now m r)
   move_given t (level m e) = same t _ e refl refl refl refl g.stale g.last g.needed g.rooted
-  move_given t (turn_strict u k e) = same t _ e refl refl refl refl g.stale g.last g.needed g.rooted
+  move_given t (spend u k e) = same t _ e refl refl refl refl g.stale g.last g.needed g.rooted
 
   stop_given : (t : State) → Stops F z s t → AllGiven F z t
   stop_given t (as_it_is e) = at t s e g

@@ -7,12 +7,12 @@ use Rattle.inc_terms.specs.Depend.{main, change}
 use Rattle.stabilize_round.specs.State.{State, Start, at_point}
 use Rattle.stabilize_round.specs.Invariant.{Invariant}
 use Rattle.stabilize_round.specs.Machine.{Move, step_main, step_change, link, link_new, root, root_new, raise, finish, schedule, cut, rebuild, level}
-use Rattle.stabilize_round.specs.Machine.{turn_strict, Moves}
+use Rattle.stabilize_round.specs.Machine.{spend, Moves}
 use Rattle.stabilize_round.proofs.Points.{same_or_other, at_same, at_other}
 use Rattle.stabilize_round.proofs.Main.{main_keeps}
 use Rattle.stabilize_round.proofs.Changing.{change_keeps}
 use Rattle.stabilize_round.proofs.Linking.{link_keeps, link_new_keeps, root_keeps, root_new_keeps}
-use Rattle.stabilize_round.proofs.Staging.{raise_keeps, finish_keeps, schedule_keeps, level_keeps, strict_keeps}
+use Rattle.stabilize_round.proofs.Staging.{raise_keeps, finish_keeps, schedule_keeps, level_keeps, spend_keeps}
 use Rattle.stabilize_round.proofs.Sweeping.{cut_keeps}
 use Rattle.stabilize_round.proofs.Rebuilding.{rebuild_keeps}
 
@@ -35,7 +35,7 @@ move_keeps F z s t (cut {p} {r} {st} {row'} {needed'} {links'} {heap'} {owed'} d
     (cut_keeps F z s inv p r st row' d needed' links' heap' owed' w)
 move_keeps F z s t (rebuild {b} {now} {m} r built count e) inv = back F z t _ e (rebuild_keeps F z s inv b now m r (inr built))
 move_keeps F z s t (level {height'} m e) inv = back F z t _ e (level_keeps F z s inv height' m)
-move_keeps F z s t (turn_strict u h e) inv = back F z t _ e (strict_keeps F z s inv h)
+move_keeps F z s t (spend {left} u h e) inv = back F z t _ e (spend_keeps F z s inv left h)
 
 pub moves_keep : (F : Functions) (z : Start) (s t : State) → Moves F z s t → Invariant F z s → Invariant F z t
 moves_keep F z s t here inv = inv
@@ -63,7 +63,7 @@ move_settled F z s t (schedule m e) q h = stays t _ e q h
 move_settled F z s t (cut d w e) q h = stays t _ e q h
 move_settled F z s t (rebuild m made count e) q h = stays t _ e q h
 move_settled F z s t (level m e) q h = stays t _ e q h
-move_settled F z s t (turn_strict u k e) q h = stays t _ e q h
+move_settled F z s t (spend u k e) q h = stays t _ e q h
 
 pub moves_settled : (F : Functions) (z : Start) (s t : State) → Moves F z s t → (q : Point) → s.settled q ≡ true → t.settled q ≡ true
 moves_settled F z s t here q h = h

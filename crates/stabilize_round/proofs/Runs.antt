@@ -26,7 +26,7 @@ use Rattle.stabilize_round.specs.State.{State, Start}
 use Rattle.stabilize_round.specs.Invariant.{Invariant, MetNow, from_held}
 use Rattle.stabilize_round.specs.Rebuilding.{Remade, remade, builds_of, Rebuild, rebuilds, IsBuiltAnew}
 use Rattle.stabilize_round.specs.Machine.{Move, step_main, step_change, link, link_new, root, root_new, raise, finish, schedule, cut, rebuild}
-use Rattle.stabilize_round.specs.Machine.{level, turn_strict, Moves, called_more, as_it_is, unbuilt, unkept}
+use Rattle.stabilize_round.specs.Machine.{level, spend, Moves, called_more, as_it_is, unbuilt, unkept}
 use Rattle.stabilize_round.specs.Runs.{built_by, built_in, LeftDiffers, BuildsAre, RunBuilds, IsBuiltRight, BuiltStays, RunAdds, RunKills}
 use Rattle.stabilize_round.specs.Runs.{NewNodesStand, DeathsAreKnown, RefusedKeeps}
 use Rattle.stabilize_round.proofs.Counts.{none_yet, rose_on}
@@ -77,7 +77,7 @@ kind_of F z s t (schedule m e) = inl (still s _ t e (record { graph = refl; give
 kind_of F z s t (cut d w e) = inl (still s _ t e (record { graph = refl; given = refl; builds = refl; adds = refl; died = refl }), refl)
 kind_of F z s t (rebuild {b} {now} {m} r made count e) = inr (record { bind = b; outcome = now; made = m; rebuild = r; built = made; count = count; is = e }, refl)
 kind_of F z s t (level m e) = inl (still s _ t e (record { graph = refl; given = refl; builds = refl; adds = refl; died = refl }), refl)
-kind_of F z s t (turn_strict u k e) = inl (still s _ t e (record { graph = refl; given = refl; builds = refl; adds = refl; died = refl }), refl)
+kind_of F z s t (spend u k e) = inl (still s _ t e (record { graph = refl; given = refl; builds = refl; adds = refl; died = refl }), refl)
 
 -- ---- what is added
 
@@ -434,7 +434,7 @@ move_met F z s t inv (schedule m e) p h = still_met F z s _ t e p h
 move_met F z s t inv (cut d w e) p h = still_met F z s _ t e p h
 move_met F z s t inv (rebuild {b} {now} {m} r made count e) p h = still_met F z s _ t e p (met_after F z s inv b now m r p h)
 move_met F z s t inv (level m e) p h = still_met F z s _ t e p h
-move_met F z s t inv (turn_strict u k e) p h = still_met F z s _ t e p h
+move_met F z s t inv (spend u k e) p h = still_met F z s _ t e p h
 
 moves_met : (F : Functions) (z : Start) (s t : State) → Invariant F z s → Moves F z s t → (p : Point) → MetNow F z s.graph s.died s.root p
     → MetNow F z t.graph t.died t.root p

@@ -1,4 +1,4 @@
--- A point goes up a stage, or leaves the worklist; more is in the heap; the round turns strict.
+-- A point goes up a stage, or leaves the worklist; more is in the heap; fewer links may be tried again.
 use Rattle.std.proofs.Common.{◌≡◌, ◌⊎◌, inl, inr, ◌+◌, ℕ, Bool, true, false, List, [], Some, sym, ap, subst, ◌∙◌, arith}
 use Rattle.inc_value.specs.declared.node.NodeId.{NodeId}
 use Rattle.inc_value.specs.declared.node.Part.TheVariants.{Main}
@@ -10,7 +10,7 @@ use Rattle.inc_terms.specs.Depend.{main, change}
 use Rattle.inc_terms.specs.Plan.{targets}
 use Rattle.stabilize_round.specs.State.{State, Start, Stage, Bare, Gated, Static, Full, count, planned, at_point}
 use Rattle.stabilize_round.specs.Invariant.{Invariant, Strict}
-use Rattle.stabilize_round.specs.Wire.{raised, Raise, levelled, Level, finished, Finish, heaped, Schedule, made_strict}
+use Rattle.stabilize_round.specs.Wire.{raised, Raise, levelled, Level, finished, Finish, heaped, Schedule, spent}
 use Rattle.stabilize_round.proofs.Points.{same_or_other, at_same, at_other}
 
 module _ (F : Functions) (z : Start) (s : State) (inv : Invariant F z s) where
@@ -27,7 +27,7 @@ module _ (F : Functions) (z : Start) (s : State) (inv : Invariant F z s) where
         let l = rw move.owed at (inv.rows.links p b need) in
         rw (o, t) (omega arith)
 
-    gates_at : s.strict ≡ true → (a : Point) (r' : Row) (b : NodeId) → s.graph.row a.node ≡ Some r' → s.needed a ≡ true → r'.scope ≡ Some b
+    gates_at : s.retries ≡ 0 → (a : Point) (r' : Row) (b : NodeId) → s.graph.row a.node ≡ Some r' → s.needed a ≡ true → r'.scope ≡ Some b
         → (at_point p st s.stage a ≡ Static) ⊎ (at_point p st s.stage a ≡ Full) → s.settled (change b) ≡ true
     gates_at strict a r' b row need sc stage = elim (same_or_other p a) [
       | inl e ↦
@@ -44,7 +44,7 @@ module _ (F : Functions) (z : Start) (s : State) (inv : Invariant F z s) where
           inv.strict.gates strict a r' b row need sc (elim stage [ inl k ↦ inl (sym t ∙ k) | inr k ↦ inr (sym t ∙ k) ])
     ]
 
-    rights_at : s.strict ≡ true → (n : NodeId) (r' : Row) (q : Point) → s.graph.row n ≡ Some r' → s.needed (main n) ≡ true
+    rights_at : s.retries ≡ 0 → (n : NodeId) (r' : Row) (q : Point) → s.graph.row n ≡ Some r' → s.needed (main n) ≡ true
         → at_point p st s.stage (main n) ≡ Full
         → Among q (targets s.graph n r'.def (s.out (change n))) → s.settled (change n) ≡ true
     rights_at strict n r' q row need stage among = elim (same_or_other p (main n)) [
@@ -205,9 +205,9 @@ module _ (F : Functions) (z : Start) (s : State) (inv : Invariant F z s) where
     accounts = inv.accounts;
   }
 
-  -- where nothing unconfirmed is linked
-  pub strict_keeps : Strict (made_strict s) → Invariant F z (made_strict s)
-  strict_keeps strict = record {
+  -- where nothing unconfirmed is linked, or links may be tried again still
+  pub spend_keeps : (left : ℕ) → Strict (spent s left) → Invariant F z (spent s left)
+  spend_keeps left strict = record {
     web = inv.web;
     alive = inv.alive;
     rows = inv.rows;

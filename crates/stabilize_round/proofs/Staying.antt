@@ -9,7 +9,7 @@ use Rattle.inc_terms.proofs.Within.{functions_within}
 use Rattle.inc_terms.proofs.Rebuild.{same_after, same_before}
 use Rattle.stabilize_round.specs.State.{State, Start, Bare, Full, at_point}
 use Rattle.stabilize_round.specs.Machine.{Move, step_main, step_change, link, link_new, root, root_new, raise, finish, schedule, cut, rebuild, level}
-use Rattle.stabilize_round.specs.Machine.{turn_strict, Moves, Stops, as_it_is, unbuilt, unkept}
+use Rattle.stabilize_round.specs.Machine.{spend, Moves, Stops, as_it_is, unbuilt, unkept}
 use Rattle.stabilize_round.specs.Rebuilding.{Remade, Rebuild}
 use Rattle.inc_value.specs.declared.outcome.Outcome.{Outcome}
 use Rattle.inc_value.specs.declared.node.Point.{Point}
@@ -44,7 +44,7 @@ move_gives F z s t (rebuild {b} {now} {m = made} m built count e) = same F s _ t
   ),
 )
 move_gives F z s t (level m e) = same F s _ t e (alike F s)
-move_gives F z s t (turn_strict u k e) = same F s _ t e (alike F s)
+move_gives F z s t (spend u k e) = same F s _ t e (alike F s)
 
 pub move_given : (F : Functions) (z : Start) (s t : State) → Move F z s t → s.given ≤ t.given
 move_given F z s t m = (move_gives F z s t m).0
@@ -94,7 +94,7 @@ move_rest F z s t (schedule m e) = moved s _ t e (still s)
 move_rest F z s t (cut d w e) = moved s _ t e (still s)
 move_rest F z s t (rebuild {b} {now} {m = made} m built count e) = moved s _ t e (rebuilt_rest F z s b now made m)
 move_rest F z s t (level m e) = moved s _ t e (still s)
-move_rest F z s t (turn_strict u k e) = moved s _ t e (still s)
+move_rest F z s t (spend u k e) = moved s _ t e (still s)
 
 -- what stays and then stays
 pub rest_then : {a b c : ℕ} {G H I : Graph} → GraphStays a b G H → GraphStays b c H I → GraphStays a c G I
@@ -152,7 +152,7 @@ attached_stays F z s t (rebuild {m = made} m built count e) not n h = keep n s _
   | inr live ↦ let row = live.1 ∙ h.3 in (h.0, m.beside.stage (main n) h.2 row h.0 ∙ h.1, h.2, row)
 ])
 attached_stays F z s t (level m e) not n h = keep n s _ t e h
-attached_stays F z s t (turn_strict u k e) not n h = keep n s _ t e h
+attached_stays F z s t (spend u k e) not n h = keep n s _ t e h
 
 -- ---- where a round stops
 

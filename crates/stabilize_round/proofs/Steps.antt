@@ -12,9 +12,9 @@ use Rattle.stabilize_round.specs.Counts.{RoseBy}
 use Rattle.stabilize_round.specs.State.{State, Start}
 use Rattle.stabilize_round.specs.Moves.{Quiet}
 use Rattle.stabilize_round.specs.Machine.{Move, step_main, step_change, link, link_new, root, root_new, raise, finish, schedule, cut, rebuild}
-use Rattle.stabilize_round.specs.Machine.{level, turn_strict, Moves}
+use Rattle.stabilize_round.specs.Machine.{level, spend, Moves}
 use Rattle.stabilize_round.specs.Runs.{built_by, built_in}
-use Rattle.stabilize_round.specs.Steps.{Prepares, Settles, Wires, TakesOff, Turns, Preparing, Wiring, TakingOff, Wired, plainly, after_refusal, Step}
+use Rattle.stabilize_round.specs.Steps.{Prepares, Settles, Wires, TakesOff, Spends, Preparing, Wiring, TakingOff, Wired, plainly, after_refusal, Step}
 use Rattle.stabilize_round.specs.Steps.{Opening, by_root, by_links, Round}
 use Rattle.stabilize_round.proofs.Runs.{run_builds}
 
@@ -38,7 +38,7 @@ module _ (F : Functions) (z : Start) where
   abbrev pub wired_moves : (s t : State) → Wired F z s t → Moves F z s t
   wired_moves s t (plainly w) = wiring_moves s t w
   wired_moves s t (after_refusal {u} {v} {w} first off m is rest) =
-      joined (Move F z) s u t (wiring_moves s u first) (joined (Move F z) u v t (off_moves u v off) (step {b = w} m (wiring_moves w t rest)))
+      joined (Move F z) s u t (wiring_moves s u first) (joined (Move F z) u v t (off_moves u v off) (step {b = w} m (wired_moves w t rest)))
 
   abbrev pub before_moves : (s t : State) (k : Step F z s t) → Moves F z s k.ready
   before_moves s t k = prepared_moves k.point s k.ready k.prepared
@@ -70,7 +70,7 @@ module _ (F : Functions) (z : Start) where
   prepares_own p s t (schedule m e) it n h = absurd h
   prepares_own p s t (cut d w e) it n h = absurd h
   prepares_own p s t (level m e) it n h = absurd h
-  prepares_own p s t (turn_strict u k e) it n h = absurd h
+  prepares_own p s t (spend u k e) it n h = absurd h
 
   prepared_own : (p : Point) (s t : State) (w : Reaches (Preparing F z p) s t) (n : NodeId) → Among n (built_in (prepared_moves p s t w))
       → p ≡ change n
@@ -97,7 +97,7 @@ module _ (F : Functions) (z : Start) where
   settles_none p s t (schedule m e) it n h = h
   settles_none p s t (cut d w e) it n h = h
   settles_none p s t (level m e) it n h = h
-  settles_none p s t (turn_strict u k e) it n h = h
+  settles_none p s t (spend u k e) it n h = h
 
   wires_none : (s t : State) (m : Move F z s t) → Wires m → BuildsNone s t m
   wires_none s t (rebuild r made count e) it n h = it
@@ -112,7 +112,7 @@ module _ (F : Functions) (z : Start) where
   wires_none s t (schedule m e) it n h = h
   wires_none s t (cut d w e) it n h = h
   wires_none s t (level m e) it n h = h
-  wires_none s t (turn_strict u k e) it n h = h
+  wires_none s t (spend u k e) it n h = h
 
   off_none : (s t : State) (m : Move F z s t) → TakesOff m → BuildsNone s t m
   off_none s t (rebuild r made count e) it n h = it
@@ -127,22 +127,22 @@ module _ (F : Functions) (z : Start) where
   off_none s t (schedule m e) it n h = h
   off_none s t (cut d w e) it n h = h
   off_none s t (level m e) it n h = h
-  off_none s t (turn_strict u k e) it n h = h
+  off_none s t (spend u k e) it n h = h
 
-  turns_none : (s t : State) (m : Move F z s t) → Turns m → BuildsNone s t m
-  turns_none s t (rebuild r made count e) it n h = it
-  turns_none s t (step_main quiet m e) it n h = h
-  turns_none s t (step_change quiet m e) it n h = h
-  turns_none s t (link m need e) it n h = h
-  turns_none s t (link_new m need k e) it n h = h
-  turns_none s t (root need e) it n h = h
-  turns_none s t (root_new given need k e) it n h = h
-  turns_none s t (raise m e) it n h = h
-  turns_none s t (finish m e) it n h = h
-  turns_none s t (schedule m e) it n h = h
-  turns_none s t (cut d w e) it n h = h
-  turns_none s t (level m e) it n h = h
-  turns_none s t (turn_strict u k e) it n h = h
+  spends_none : (s t : State) (m : Move F z s t) → Spends m → BuildsNone s t m
+  spends_none s t (rebuild r made count e) it n h = it
+  spends_none s t (step_main quiet m e) it n h = h
+  spends_none s t (step_change quiet m e) it n h = h
+  spends_none s t (link m need e) it n h = h
+  spends_none s t (link_new m need k e) it n h = h
+  spends_none s t (root need e) it n h = h
+  spends_none s t (root_new given need k e) it n h = h
+  spends_none s t (raise m e) it n h = h
+  spends_none s t (finish m e) it n h = h
+  spends_none s t (schedule m e) it n h = h
+  spends_none s t (cut d w e) it n h = h
+  spends_none s t (level m e) it n h = h
+  spends_none s t (spend u k e) it n h = h
 
   wiring_none : (s t : State) (w : Reaches (Wiring F z) s t) (n : NodeId) → Among n (built_in (wiring_moves s t w)) → ⊥
   wiring_none s t here n h = h
@@ -161,14 +161,14 @@ module _ (F : Functions) (z : Start) where
   wired_none : (s t : State) (w : Wired F z s t) (n : NodeId) → Among n (built_in (wired_moves s t w)) → ⊥
   wired_none s t (plainly w) n h = wiring_none s t w n h
   wired_none s t (after_refusal {u} {v} {w} first off m is rest) n h =
-      let turn = step {b = w} m (wiring_moves w t rest) in
-      elim (built_joined s u t (wiring_moves s u first) (joined (Move F z) u v t (off_moves u v off) turn) n h) [
+      let after = step {b = w} m (wired_moves w t rest) in
+      elim (built_joined s u t (wiring_moves s u first) (joined (Move F z) u v t (off_moves u v off) after) n h) [
         | inl i ↦ wiring_none s u first n i
-        | inr k ↦ elim (built_joined u v t (off_moves u v off) turn n k) [
+        | inr k ↦ elim (built_joined u v t (off_moves u v off) after n k) [
           | inl i ↦ taking_none u v off n i
-          | inr j ↦ elim (among_parts n (built_by m) (built_in (wiring_moves w t rest)) j) [
-            | inl i ↦ turns_none v w m is n i
-            | inr i ↦ wiring_none w t rest n i
+          | inr j ↦ elim (among_parts n (built_by m) (built_in (wired_moves w t rest)) j) [
+            | inl i ↦ spends_none v w m is n i
+            | inr i ↦ wired_none w t rest n i
           ]
         ]
       ]

@@ -10,7 +10,7 @@ use Rattle.inc_terms.specs.Depend.{main, none_died}
 use Rattle.inc_terms.specs.Need.{IsRoot}
 use Rattle.inc_terms.specs.Plan.{gate_of}
 use Rattle.stabilize_round.specs.Freezing.{fires_at, graph_after}
-use Rattle.stabilize_round.specs.State.{State, Start, Reached, count}
+use Rattle.stabilize_round.specs.State.{State, Start, all_retries, Reached, count}
 
 -- the state after it
 abbrev pub closed : State → (Point → ℕ) → (Point → Point → ℕ) → (Point → Bool) → State
@@ -22,7 +22,7 @@ closed t root' links' needed' = record t {
   taken = None;
   died = none_died;
   settled = λ (p : Point). false;
-  strict = false;
+  retries = all_retries;
   ran = [];
 }
 

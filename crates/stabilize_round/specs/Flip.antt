@@ -8,7 +8,7 @@ use Rattle.inc_value.specs.declared.value.Value.TheVariants.{Int, Bool}
 use Rattle.inc_terms.specs.Term.{Functions}
 use Rattle.inc_terms.specs.Graph.{Row, Const, Var, If}
 use Rattle.inc_terms.specs.Depend.{main, change, none_died}
-use Rattle.stabilize_round.specs.State.{State, Start, Full, Linked, count, at_point, at_node}
+use Rattle.stabilize_round.specs.State.{State, Start, all_retries, Full, Linked, count, at_point, at_node}
 use Rattle.stabilize_round.specs.Ended.{Ended}
 use Rattle.stabilize_round.specs.Steps.{Round}
 
@@ -73,7 +73,7 @@ before = record {
   owed = λ p. [];
   todo = λ p. false;
   taken = None;
-  strict = false;
+  retries = all_retries;
   died = none_died;
   ran = [];
   calls = 0;

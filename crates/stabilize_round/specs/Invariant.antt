@@ -118,16 +118,16 @@ Settled F s = SettledOf F s.graph s.out s.died s.last s.settled s.heap
 
 -- ---- what was tried
 
--- once strict, what is linked beyond a gate has a settled gate, and a right link a settled change
-pub record StrictOf (G : Graph) (out : Point → Option Outcome) (needed settled : Point → Bool) (stage : Point → Stage) (strict : Bool) : Type 0 where
-  pub gates : strict ≡ true → (p : Point) (r : Row) (b : NodeId) → G.row p.node ≡ Some r → needed p ≡ true → r.scope ≡ Some b
+-- once strict, where no link may be tried again, what is linked beyond a gate has a settled gate, and a right link a settled change
+pub record StrictOf (G : Graph) (out : Point → Option Outcome) (needed settled : Point → Bool) (stage : Point → Stage) (retries : ℕ) : Type 0 where
+  pub gates : retries ≡ 0 → (p : Point) (r : Row) (b : NodeId) → G.row p.node ≡ Some r → needed p ≡ true → r.scope ≡ Some b
       → (stage p ≡ Static) ⊎ (stage p ≡ Full) → settled (change b) ≡ true
-  pub rights : strict ≡ true → (n : NodeId) (r : Row) (q : Point) → G.row n ≡ Some r → needed (main n) ≡ true → stage (main n) ≡ Full
+  pub rights : retries ≡ 0 → (n : NodeId) (r : Row) (q : Point) → G.row n ≡ Some r → needed (main n) ≡ true → stage (main n) ≡ Full
       → Among q (targets G n r.def (out (change n))) → settled (change n) ≡ true
 
 -- those of a state
 abbrev pub Strict : State → Type 0
-Strict s = StrictOf s.graph s.out s.needed s.settled s.stage s.strict
+Strict s = StrictOf s.graph s.out s.needed s.settled s.stage s.retries
 
 -- what was settled last is settled
 abbrev pub LastSettled : State → Type 0

@@ -33,7 +33,7 @@ RoundIsRight = (F : Functions) (z : Start) (s t : State) (observed : List NodeId
 
 -- once strict, each link is in Depends, and what is needed is met
 abbrev pub StrictIsMet : Type 0
-StrictIsMet = (F : Functions) (z : Start) (s t : State) → Entry F z s → Moves F z s t → t.strict ≡ true
+StrictIsMet = (F : Functions) (z : Start) (s t : State) → Entry F z s → Moves F z s t → t.retries ≡ 0
     → ((p q : Point) → Linked t p q → Depends F t.graph t.died p q) × ((p : Point) → t.needed p ≡ true → MetNow F z t.graph t.died t.root p)
 
 -- what dies wasn't settled

@@ -1,5 +1,5 @@
 -- A round: what it begins with, its moves, and runs of them.
-use Rattle.std.specs.Prelude.{◌≡◌, ◌⊎◌, ◌+◌, ℕ, true, false, Bool, List, [], Option, None, Some}
+use Rattle.std.specs.Prelude.{◌≡◌, ◌⊎◌, ◌<◌, ◌+◌, ℕ, true, false, Bool, List, [], Option, None, Some}
 use Rattle.inc_value.specs.declared.node.NodeId.{NodeId}
 use Rattle.inc_value.specs.declared.node.Point.{Point}
 use Rattle.inc_value.specs.declared.outcome.Outcome.{Outcome}
@@ -13,12 +13,12 @@ use Rattle.inc_terms.specs.Work.{taken_by}
 use Rattle.stabilize_round.specs.Calling.{IsAnswer, cost_at}
 use Rattle.stabilize_round.specs.Freezing.{fires_at}
 use Rattle.stabilize_round.specs.Counts.{RoseBy, RoseAtMost}
-use Rattle.stabilize_round.specs.State.{State, Start, Call, Stage, Bare, Full, count, planned}
+use Rattle.stabilize_round.specs.State.{State, Start, Call, Stage, Bare, Full, all_retries, count, planned}
 use Rattle.stabilize_round.specs.Invariant.{Recalls, IsUnmarked, Web, Alive, Rooted, BuiltFor, Strict}
 use Rattle.stabilize_round.specs.Moves.{Quiet, IsLeast, Enqueues, computed, StepMain, changed, StepChange}
 use Rattle.stabilize_round.specs.Rebuilding.{Remade, remade, builds_of, Rebuild, IsBuiltAnew}
 use Rattle.stabilize_round.specs.Wire.{linked, newly, rooted, IsIt, Link, levelled, Level, raised, Raise, finished, Finish, heaped, Schedule}
-use Rattle.stabilize_round.specs.Wire.{made_strict, dropped, Drop, swept, Sweep}
+use Rattle.stabilize_round.specs.Wire.{spent, dropped, Drop, swept, Sweep}
 
 -- a round begins: all that is needed has the links of the last stage, but for those of the worklist, which are owed some (a list of children that grew
 -- since); and it is in the heap or agrees
@@ -36,7 +36,7 @@ pub record Entry (F : Functions) (z : Start) (s : State) : Type 0 where
   pub settled : (p : Point) → s.settled p ≡ false
   pub owed : (p : Point) → s.todo p ≡ false → s.owed p ≡ []
   pub todo : (p : Point) → s.needed p ≡ true → s.todo p ≡ true → (r : Row) × (s.graph.row p.node ≡ Some r) × (r.scope ≡ None)
-  pub strict : s.strict ≡ false
+  pub retries : s.retries ≡ all_retries
   pub ran : s.ran ≡ []
   pub taken : s.taken ≡ None
   pub died : (n : NodeId) → s.died n ≡ None
@@ -51,7 +51,7 @@ pub record Entry (F : Functions) (z : Start) (s : State) : Type 0 where
   pub unfired : (n : NodeId) → fires_at s n ≡ None
 
 -- a move: a main is computed, a change is settled, a link or a root is put on, a point of the worklist goes up a stage or leaves it, more is put into
--- the heap, a point goes back to a lower stage, a bind is built anew, heights change, refusals become final
+-- the heap, a point goes back to a lower stage, a bind is built anew, heights change, or fewer links may be tried again from then on
 pub data Move (F : Functions) (z : Start) (s t : State) : Type 0 where
   step_main : {n : NodeId} {o : Outcome} {heap' : Point → Bool} {last' : Option Call} {called : Bool} {calls' : ℕ} → Quiet s
       → StepMain F s n o heap' last' called calls' → t ≡ computed s n o heap' last' called calls' → Move F z s t
@@ -75,7 +75,7 @@ pub data Move (F : Functions) (z : Start) (s t : State) : Type 0 where
       → IsBuiltAnew F m.graph b r.due.function r.due.captures now → RoseBy s.builds (builds_of now) m.builds → t ≡ remade s m
       → Move F z s t
   level : {height' : Point → ℕ} → Level s height' → t ≡ levelled s height' → Move F z s t
-  turn_strict : s.strict ≡ false → Strict (made_strict s) → t ≡ made_strict s → Move F z s t
+  spend : {left : ℕ} → left < s.retries → Strict (spent s left) → t ≡ spent s left → Move F z s t
 
 -- the count of calls is another
 abbrev pub called_more : State → ℕ → State

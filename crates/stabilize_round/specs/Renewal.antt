@@ -11,7 +11,7 @@ use Rattle.inc_terms.specs.Term as term
 use Rattle.inc_terms.specs.Term.{Functions}
 use Rattle.inc_terms.specs.Graph.{Row, Built, Const, Var, Bind}
 use Rattle.inc_terms.specs.Depend.{main, change, none_died}
-use Rattle.stabilize_round.specs.State.{State, Start, Full, count, at_point, at_node}
+use Rattle.stabilize_round.specs.State.{State, Start, all_retries, Full, count, at_point, at_node}
 use Rattle.stabilize_round.specs.Ended.{Ended}
 use Rattle.stabilize_round.specs.Ids.{AllGiven}
 use Rattle.stabilize_round.specs.Steps.{Round}
@@ -88,7 +88,7 @@ before = record {
   owed = λ p. [];
   todo = λ p. false;
   taken = None;
-  strict = false;
+  retries = all_retries;
   died = none_died;
   ran = [];
   calls = 0;

@@ -7,7 +7,7 @@ use Rattle.inc_value.specs.declared.value.Value.TheVariants.{Int}
 use Rattle.inc_terms.specs.Term.{Functions}
 use Rattle.inc_terms.specs.Graph.{Row, Const}
 use Rattle.inc_terms.specs.Depend.{main, none_died}
-use Rattle.stabilize_round.specs.State.{State, Start, Full, at_node}
+use Rattle.stabilize_round.specs.State.{State, Start, all_retries, Full, at_node}
 use Rattle.stabilize_round.specs.Ended.{Ended}
 use Rattle.stabilize_round.specs.Machine.{Moves, Entry}
 
@@ -34,7 +34,7 @@ empty_state = record {
   stage = λ p. Full;
   owed = λ p. [];
   todo = λ p. false;
-  strict = false;
+  retries = all_retries;
   died = none_died;
   taken = None;
   ran = [];

@@ -52,9 +52,14 @@ pub record Call : Type 0 where
   pub arguments : List Value
   pub result : Value
 
+-- how often refused links may be tried again in a round
+abbrev pub all_retries : ℕ
+all_retries = 1024
+
 -- a state of a round: the graph; per point its outcome, its links, how often it is a root, whether it is needed, its height, whether it is in the
 -- heap, whether it was settled in the round, its stage, the links that it is yet to be given, and whether it is in the worklist; per node its
--- last call; the point that was settled last; whether the round takes refusals as final; the nodes that died in the round, with their scopes;
+-- last call; the point that was settled last; how often refused links may still be tried again in the round: where never, the round is strict, and
+-- refusals are final; the nodes that died in the round, with their scopes;
 -- the nodes whose functions were called in it; the counts of calls, of builds, of nodes that were added, and of ids that were given; the nodes
 -- whose outcomes are told to their readers even where they stay: those of cutoff Never; and the experts that were made stale and didn't run since
 pub record State : Type 0 where
@@ -71,7 +76,7 @@ pub record State : Type 0 where
   pub owed : Point → List Point
   pub todo : Point → Bool
   pub taken : Option Point
-  pub strict : Bool
+  pub retries : ℕ
   pub died : NodeId → Option NodeId
   pub ran : List NodeId
   pub calls : ℕ

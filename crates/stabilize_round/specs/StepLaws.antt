@@ -100,14 +100,14 @@ loose s nodes = number_of (is_loose s) nodes
 abbrev pub again : State → List Point → ℕ
 again s points = number_of (λ (p : Point). s.settled p && s.heap p) points
 
--- fewer of the first, or as many of it and fewer of the second, and so on: refusals became final; points that aren't settled; changes that are, with
--- mains that lack links; settled points in the heap
+-- fewer of the first, or as many of it and fewer of the second, and so on: links that may be tried again; points that aren't settled; changes that are,
+-- with mains that lack links; settled points in the heap
 abbrev pub Falls : State → State → List Point → List NodeId → Type 0
 Falls s t points nodes =
-    ((s.strict ≡ false) × (t.strict ≡ true))
-    ⊎ ((t.strict ≡ s.strict) × (unsettled t.settled points < unsettled s.settled points))
-    ⊎ ((t.strict ≡ s.strict) × (unsettled t.settled points ≡ unsettled s.settled points) × (loose t nodes < loose s nodes))
-    ⊎ ((t.strict ≡ s.strict) × (unsettled t.settled points ≡ unsettled s.settled points) × (loose t nodes ≤ loose s nodes)
+    (t.retries < s.retries)
+    ⊎ ((t.retries ≡ s.retries) × (unsettled t.settled points < unsettled s.settled points))
+    ⊎ ((t.retries ≡ s.retries) × (unsettled t.settled points ≡ unsettled s.settled points) × (loose t nodes < loose s nodes))
+    ⊎ ((t.retries ≡ s.retries) × (unsettled t.settled points ≡ unsettled s.settled points) × (loose t nodes ≤ loose s nodes)
     × (again t points < again s points))
 
 -- each step makes this less, over any points and nodes among which the one is that it takes
@@ -143,7 +143,7 @@ LinkedOr s p q a b = Linked s a b ⊎ ((p ≡ a) × (q ≡ b))
 -- first is needed
 abbrev pub ListedAreMet : Type 0
 ListedAreMet =
-    (F : Functions) (z : Start) (s t : State) → Entry F z s → Moves F z s t → t.strict ≡ true → (p q : Point) → Depends F t.graph t.died p q
+    (F : Functions) (z : Start) (s t : State) → Entry F z s → Moves F z s t → t.retries ≡ 0 → (p q : Point) → Depends F t.graph t.died p q
     → (x : Point) (rest : List Point) → t.needed x ≡ true → IsWalk (LinkedOr t p q) (x ∷ rest)
     → IsWalk (Depends F t.graph t.died) (x ∷ rest) × ((y : Point) → Among y (x ∷ rest) → MetNow F z t.graph t.died t.root y)
 

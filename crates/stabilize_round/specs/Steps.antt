@@ -1,5 +1,5 @@
 -- Steps, and rounds of them.
-use Rattle.std.specs.Prelude.{◌≡◌, ◌⊎◌, true, false}
+use Rattle.std.specs.Prelude.{◌≡◌, ◌⊎◌, ◌<◌, true}
 use Rattle.inc_value.specs.declared.node.NodeId.{NodeId}
 use Rattle.inc_value.specs.declared.node.Point.{Point}
 use Rattle.inc_value.specs.Choice.{Reaches}
@@ -8,7 +8,7 @@ use Rattle.inc_terms.specs.Depend.{main, change}
 use Rattle.stabilize_round.specs.State.{State, Start, Static, Full}
 use Rattle.stabilize_round.specs.Moves.{Quiet, IsLeast}
 use Rattle.stabilize_round.specs.Machine.{Entry, Move, step_main, step_change, link, link_new, root, root_new, raise, finish, schedule, cut, rebuild}
-use Rattle.stabilize_round.specs.Machine.{level, turn_strict}
+use Rattle.stabilize_round.specs.Machine.{level, spend}
 
 -- a move that comes before the point is settled that was taken: more is put into the heap, a point goes back to a lower stage, or the bind is built
 -- anew whose change was taken
@@ -40,10 +40,10 @@ TakesOff (schedule m e) = Unit {0}
 TakesOff (cut d w e) = Unit {0}
 TakesOff m = ⊥
 
--- the move after which refusals are final
-abbrev pub Turns : {F : Functions} {z : Start} {s t : State} → Move F z s t → Type 0
-Turns (turn_strict u k e) = Unit {0}
-Turns m = ⊥
+-- the move after which fewer links may be tried again
+abbrev pub Spends : {F : Functions} {z : Start} {s t : State} → Move F z s t → Type 0
+Spends (spend u k e) = Unit {0}
+Spends m = ⊥
 
 -- a move that puts a root on
 abbrev pub Roots : {F : Functions} {z : Start} {s t : State} → Move F z s t → Type 0
@@ -63,12 +63,12 @@ Wiring F z s t = (m : Move F z s t) × Wires m
 abbrev pub TakingOff : Functions → Start → State → State → Type 0
 TakingOff F z s t = (m : Move F z s t) × TakesOff m
 
--- points get their links; where a link is refused the links are taken off whose gates or changes didn't run, once in a round, and points go on
--- getting theirs
-pub data Wired (F : Functions) (z : Start) (s t : State) : Type 0 where
-  plainly : Reaches (Wiring F z) s t → Wired F z s t
-  after_refusal : {u v w : State} → Reaches (Wiring F z) s u → Reaches (TakingOff F z) u v → (m : Move F z v w) → Turns m
-      → Reaches (Wiring F z) w t → Wired F z s t
+-- points get their links; where a link is refused, some of the links are taken off whose gates or changes didn't run, or all, and points go on getting
+-- theirs, while fewer links may be tried again
+pub data Wired (F : Functions) (z : Start) : State → State → Type 0 where
+  plainly : {s t : State} → Reaches (Wiring F z) s t → Wired F z s t
+  after_refusal : {s u v w t : State} → Reaches (Wiring F z) s u → Reaches (TakingOff F z) u v → (m : Move F z v w) → Spends m
+      → Wired F z w t → Wired F z s t
 
 -- one step: a least point of the heap is taken, settled, and what follows from it gets its links. Before it is settled for the first time links are
 -- taken off and its bind is built anew, where it is the change of one. Where it is taken again its main, if it waits, gets its right side
@@ -85,7 +85,7 @@ pub record Step (F : Functions) (z : Start) (s t : State) : Type 0 where
   pub ends : Quiet t
   pub again : s.settled point ≡ true → ready ≡ s
   pub attaches : (n : NodeId) → point ≡ change n → s.settled point ≡ true → s.needed (main n) ≡ true → s.stage (main n) ≡ Static
-      → ((t.needed (main n) ≡ true) × (t.stage (main n) ≡ Full)) ⊎ ((s.strict ≡ false) × (t.strict ≡ true))
+      → ((t.needed (main n) ≡ true) × (t.stage (main n) ≡ Full)) ⊎ (t.retries < s.retries)
 
 -- a root is put on, and points get their links
 pub record Rooting (F : Functions) (z : Start) (s t : State) : Type 0 where

@@ -111,9 +111,9 @@ pub record Schedule (s : State) (heap' : Point → Bool) : Type 0 where
   pub new : (q : Point) → heap' q ≡ true → (s.heap q ≡ true) ⊎ ((r : Row) × (s.graph.row q.node ≡ Some r) × (s.needed q ≡ true)
       × ((s.settled q ≡ false) ⊎ ((q.part ≡ Change) × (s.todo (main q.node) ≡ true) × (s.stage (main q.node) ≡ Static))))
 
--- from now on refusals are final
-abbrev pub made_strict : State → State
-made_strict s = record s { strict = true }
+-- links may be tried again so often from now on
+abbrev pub spent : State → ℕ → State
+spent s left = record s { retries = left }
 
 -- ---- links fewer
 

@@ -247,7 +247,7 @@ module _ (before arena : Arena) (old work : Work) (id : NodeId) (row : Row) (hei
     entered = λ n b r e scope. (r, scoped_was n b r e scope, scope);
     deaths = round.deaths;
     ran = round.ran;
-    strict = round.strict;
+    retries = round.retries;
     round = round.round;
     todo = todo;
   }
@@ -290,7 +290,7 @@ back_stays arena old work same = record {
   entered = λ n b r e scope. (r, e, scope);
   deaths = same.round.deaths;
   ran = same.round.ran;
-  strict = same.round.strict;
+  retries = same.round.retries;
   round = same.round.round;
   todo = same.todo;
 }
@@ -303,7 +303,7 @@ round_then old mid new a b = record {
   roots = b.roots ∙ a.roots;
   deaths = b.deaths ∙ a.deaths;
   ran = b.ran ∙ a.ran;
-  strict = b.strict ∙ a.strict;
+  retries = b.retries ∙ a.retries;
   round = b.round ∙ a.round;
 }
 

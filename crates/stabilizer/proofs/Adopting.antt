@@ -32,12 +32,12 @@ rounds_kept old mid new s t = record {
   roots = t.roots ∙ s.roots;
   deaths = t.deaths ∙ s.deaths;
   ran = t.ran ∙ s.ran;
-  strict = t.strict ∙ s.strict;
+  retries = t.retries ∙ s.retries;
   round = t.round ∙ s.round;
 }
 
 pub round_same : (work : Work) → KeepsRound work work
-round_same work = record { roots = refl; deaths = refl; ran = refl; strict = refl; round = refl }
+round_same work = record { roots = refl; deaths = refl; ran = refl; retries = refl; round = refl }
 
 pub same_items : (old new : Work) → new.todo ≡ old.todo → new.todo.items ≡ old.todo.items
 same_items old new e = rw e refl

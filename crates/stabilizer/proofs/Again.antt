@@ -79,7 +79,7 @@ module _ (arena : Arena) (old new : Work) (rest : new ≡ record old { graph = n
     stage = st.stage;
     owed = st.owed;
     todo = st.todo;
-    strict = st.strict;
+    retries = st.retries;
     died = st.died;
     ran = st.ran;
     counts = st.counts;
@@ -175,7 +175,7 @@ module _ (old : Parts) (todo : Vec Point Global) (idle : old.work.todo.items ≡
       owed = b.stands.owed;
       todo = λ p t. subst (λ (xs : List Point). Among p xs ⊎ ⊥)
           (sym (ap (λ (w : Work). w.todo.items) b.taken.rest) ∙ (idle ∙ sym none)) (b.stands.todo p t);
-      strict = b.stands.strict;
+      retries = b.stands.retries;
       died = b.stands.died;
       ran = b.stands.ran;
       counts = b.stands.counts;

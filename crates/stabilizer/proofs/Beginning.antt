@@ -150,7 +150,7 @@ module _ (M : Meaning) (parts : Parts) (ready : IsReady M parts) (counts : Count
     stage = ready.stands.stage;
     owed = ready.stands.owed;
     todo = ready.stands.todo;
-    strict = ready.stands.strict;
+    retries = ready.stands.retries;
     died = ready.stands.died;
     ran = ready.stands.ran;
     counts = refl;
@@ -179,7 +179,7 @@ module _ (M : Meaning) (parts : Parts) (ready : IsReady M parts) (counts : Count
     settled = ready.entry.settled;
     owed = ready.entry.owed;
     todo = ready.entry.todo;
-    strict = ready.entry.strict;
+    retries = ready.entry.retries;
     ran = ready.entry.ran;
     taken = ready.entry.taken;
     died = ready.entry.died;

@@ -34,7 +34,7 @@ use Rattle.node_outcomes.specs.Computing.{has_part}
 use Rattle.node_outcomes.proofs.Held.{built_live, built_parts}
 use Rattle.node_outcomes.specs.Row.{outcome_in, settled_in, stage_of, never_in}
 use Rattle.stabilize_round.specs.State as machine
-use Rattle.stabilize_round.specs.State.{State, Start, count, planned, plan_at, live_plan}
+use Rattle.stabilize_round.specs.State.{State, Start, count, planned, plan_at, live_plan, all_retries}
 use Rattle.stabilize_round.proofs.Freezing.{other_rests}
 use Rattle.stabilize_round.specs.Invariant.{Recalls, Rooted}
 use Rattle.stabilize_round.specs.Machine.{Entry as Begins}
@@ -231,7 +231,7 @@ module _ (M : Meaning) (parts : Parts) (ready : IsReady M parts) where
     unsettled = λ p. sym (ready.stands.settled p) ∙ ready.entry.settled p;
     deaths = λ n. sym (ready.stands.died n) ∙ ready.entry.died n;
     numbered = ready.numbered;
-    strict = sym ready.stands.strict ∙ ready.entry.strict;
+    retries = sym ready.stands.retries ∙ ready.entry.retries;
     todo = ready.todo;
     ran = ready.ran;
   }
@@ -257,7 +257,7 @@ state_of need arena work = record {
   owed = λ p. [];
   todo = λ p. false;
   taken = None;
-  strict = false;
+  retries = all_retries;
   died = λ n. None;
   ran = [];
   calls = 0;
@@ -331,7 +331,7 @@ module _ (M : Meaning) (arena : Arena) (work : Work) (b : IsBetween M.functions 
     stage = λ p k e. ap stage_or_full e;
     owed = λ p. refl;
     todo = λ p t. absurd (let e = t in cc);
-    strict = sym b.strict;
+    retries = sym b.retries;
     died = λ n. sym (b.deaths n);
     ran = sym (ap reverse b.ran);
     counts = refl;
@@ -363,7 +363,7 @@ module _ (M : Meaning) (arena : Arena) (work : Work) (b : IsBetween M.functions 
     settled = b.unsettled;
     owed = λ p h. refl;
     todo = λ p needed h. absurd (let e = h in cc);
-    strict = refl;
+    retries = refl;
     ran = refl;
     taken = refl;
     died = λ n. refl;
@@ -543,7 +543,7 @@ module _ (F : Functions) (before arena : Arena) (old work : Work) (b : IsBetween
     unsettled = unsettled_still;
     deaths = λ n. died_same old work stays.deaths n ∙ b.deaths n;
     numbered = let r = stays.round in let n = b.numbered in omega (arith, r, n);
-    strict = stays.strict ∙ b.strict;
+    retries = stays.retries ∙ b.retries;
     todo = stays.todo ∙ b.todo;
     ran = stays.ran ∙ b.ran;
   }

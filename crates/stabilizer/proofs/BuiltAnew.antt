@@ -66,7 +66,7 @@ pub record IsRebuilt (old new : Work) (n : NodeId) (now : Outcome) (root : Optio
   pub todo : new.todo.items ≡ old.todo.items
   pub deaths : new.deaths ≡ old.deaths
   pub ran : new.ran.items ≡ old.ran.items
-  pub strict : new.strict ≡ old.strict
+  pub retries : new.retries ≡ old.retries
   pub round : new.round ≡ old.round
 
 abbrev nothing : Point → List Point
@@ -198,7 +198,7 @@ module _ (s : State) (arena : Arena) (old new : Work) (counts : Counts) (st : St
       | inl h ↦ inr (sym h)
       | inr ne ↦ absurd (let f = at_other (main n) (s.needed (main n) && is_static (s.stage (main n))) nowhere a ne in cc)
     ];
-    strict = st.strict ∙ sym run.strict;
+    retries = st.retries ∙ sym run.retries;
     died = λ m. st.died m ∙ sym (ap (λ (d : Deaths). at d.scopes (main m)) run.deaths);
     ran = st.ran ∙ ap reverse (sym run.ran);
     counts = st.counts;

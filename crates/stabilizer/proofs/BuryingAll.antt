@@ -57,7 +57,7 @@ none_buried arena old sound = record {
   scoped = refl;
   todo = refl;
   ran = refl;
-  strict = refl;
+  retries = refl;
   round = refl;
 }
 
@@ -226,7 +226,7 @@ module _ (before mid : Arena) (old now : Work) (all left rest : List NodeId) (n 
       scoped = b.scoped ∙ so.buried.scoped;
       todo = rw b.todo so.buried.todo;
       ran = rw b.ran so.buried.ran;
-      strict = b.strict ∙ so.buried.strict;
+      retries = b.retries ∙ so.buried.retries;
       round = b.round ∙ so.buried.round;
     }
 

@@ -1,5 +1,5 @@
 -- A step of the stabilizer that settles a change is a step of the machine.
-use Rattle.std.proofs.Common.{◌≡◌, ◌⊎◌, inl, inr, true, false, List, [], Option, None, Some, refl, sym, ap, subst, ◌∙◌, arith}
+use Rattle.std.proofs.Common.{◌≡◌, ◌⊎◌, inl, inr, ◌<◌, true, List, [], Option, None, Some, refl, sym, ap, subst, ◌∙◌, arith}
 use Rattle.std.specs.Prelude.{is_some, IsSome}
 use Rattle.std.proofs.lemmas.Option.{none-some}
 use Rattle.inc_value.specs.declared.function.FnRef.{FnRef}
@@ -26,6 +26,7 @@ use Rattle.stabilize_round.specs.State.{State, Start}
 use Rattle.stabilize_round.specs.Steps.{Settles, Preparing, Wiring, Wired, Step}
 use Rattle.stabilize_round.proofs.Machine.{moves_keep}
 use Rattle.stabilize_round.proofs.Steps.{joined, wired_moves}
+use Rattle.stabilize_round.proofs.Falling.{moves_retries}
 use Rattle.node_outcomes.specs.Computing.{has_part, seen}
 use Rattle.node_outcomes.specs.Meaning.{Meaning}
 use Rattle.node_outcomes.specs.Row.{with_stage, with_outcome, stage_in, stage_of, outcome_in}
@@ -41,7 +42,7 @@ use Rattle.wiring.specs.Wiring.{IsTurnedIn}
 use Rattle.wiring.specs.declared.refused.Refused.{Refused}
 use Rattle.wiring.specs.declared.refused.Refused.TheVariants as cause
 use Rattle.wiring.specs.declared.work.Work.{Work}
-use Rattle.wiring.proofs.Raising.{wired_then, wiring_strict}
+use Rattle.wiring.proofs.Raising.{wired_then, wiring_retries}
 use Rattle.wiring.proofs.Sight.{row_is, sees, change_is}
 use Rattle.wiring.proofs.Trying.{rewritten_there}
 use Rattle.stabilizer.specs.Dying.{TakesLeast, StandsBefore}
@@ -64,18 +65,15 @@ preparing_moves : (F : Functions) (z : Start) (p : Point) (s t : State) → Reac
 preparing_moves F z p s t here = here
 preparing_moves F z p s t (step {b = u} m rest) = step {b = u} m.0 (preparing_moves F z p u t rest)
 
--- twice points get their links: without a refusal, or refusals become final
+-- twice points get their links: without a refusal, or fewer links may be tried again
 both_wired : (F : Functions) (z : Start) (s t u : State) → Wired F z s t → Wired F z t u
-    → (Reaches (Wiring F z) s t × Reaches (Wiring F z) t u) ⊎ ((s.strict ≡ false) × (u.strict ≡ true))
+    → (Reaches (Wiring F z) s t × Reaches (Wiring F z) t u) ⊎ (u.retries < s.retries)
 both_wired F z s t u a b = elim (wired_cases F z s t a) [
   | inl one ↦ elim (wired_cases F z t u b) [
     | inl two ↦ inl (one, two)
-    | inr turn ↦ inr (sym (wiring_strict F z s t one) ∙ turn.0, turn.1)
+    | inr fewer ↦ inr (let e = wiring_retries F z s t one in omega (arith, e, fewer))
   ]
-  | inr turn ↦ elim (wired_cases F z t u b) [
-    | inl two ↦ inr (turn.0, wiring_strict F z t u two ∙ turn.1)
-    | inr again ↦ absurd (let e = turn.1 in let f = again.0 in let x : true ≡ false = sym e ∙ f in cc)
-  ]
+  | inr fewer ↦ inr (let at_most = moves_retries F z t u (wired_moves F z t u b) in omega (arith, fewer, at_most))
 ]
 
 -- ---- a change that turns
@@ -234,7 +232,7 @@ module _ (M : Meaning) (old : Parts) (g : NecessaryPart) (p : Point) (n : NodeId
       -- ---- and got its right side
 
       module _ (attached new : Work) (arena : Arena)
-          (full : IsWaiting turned.work n → (stage_in (at attached.rows (main n)) ≡ Some code.Full) ⊎ ((turned.work.strict ≡ false) × (attached.strict ≡ true)))
+          (full : IsWaiting turned.work n → (stage_in (at attached.rows (main n)) ≡ Some code.Full) ⊎ (attached.retries < turned.work.retries))
           (u v : State) (attaches : Wired F z k.next u) (on_u : Stands turned.arena attached after None u) (wires : Wired F z u v)
           (on_v : Stands arena new after None v) (ends : new.todo.items ≡ []) where
         settles_own : s.settled (change n) ≡ true → SettlesChange F s k.next n
@@ -257,12 +255,11 @@ module _ (M : Meaning) (old : Parts) (g : NecessaryPart) (p : Point) (n : NodeId
               last.needed (main n) n_u,
               last.full (main n) n_u (elim (full waits) [
                 | inl f ↦ full_in u turned.arena attached after None (main n) on_u (at attached.rows (main n)) refl f
-                | inr turn ↦ absurd (
-                    let a = k.in_turn.stands.strict in
-                    let b = on_u.strict in
-                    let d = wiring_strict F z k.next u one in
-                    let x : false ≡ true = sym turn.0 ∙ (sym a ∙ (sym d ∙ (b ∙ turn.1))) in
-                    cc)
+                | inr fewer ↦ absurd (
+                    let a = k.in_turn.stands.retries in
+                    let b = on_u.retries in
+                    let d = wiring_retries F z k.next u one in
+                    omega (arith, fewer, a, b, d))
               ]),
             )
 
@@ -281,11 +278,13 @@ module _ (M : Meaning) (old : Parts) (g : NecessaryPart) (p : Point) (n : NodeId
           again = k.again;
           attaches = λ b e settled need stage.
               let is : n ≡ b = ap (λ (x : Point). x.node) e in
-              subst (λ (x : NodeId). ((v.needed (main x) ≡ true) × (v.stage (main x) ≡ machine.Full)) ⊎ ((s.strict ≡ false) × (v.strict ≡ true))) is
+              subst (λ (x : NodeId). ((v.needed (main x) ≡ true) × (v.stage (main x) ≡ machine.Full)) ⊎ (v.retries < s.retries)) is
               (elim (both_wired F z k.next u v attaches wires) [
                 | inl runs ↦ inl (gets_right runs.0 runs.1 settled (subst (λ (x : NodeId). s.needed (main x) ≡ true) (sym is) need)
                     (subst (λ (x : NodeId). s.stage (main x) ≡ machine.Static) (sym is) stage))
-                | inr turn ↦ inr (ap (λ (x : State). x.strict) (sym (settles_own settled).now) ∙ turn.0, turn.1)
+                | inr fewer ↦ inr (
+                    let e : k.next.retries ≡ s.retries = ap (λ (x : State). x.retries) (settles_own settled).now in
+                    omega (arith, e, fewer))
               ]);
         }
 

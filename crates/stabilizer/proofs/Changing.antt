@@ -152,7 +152,7 @@ module _ (arena : Arena) (taken turned : Work) (n : NodeId) (counts : Counts) (k
           roots = ap (λ (w : Work). w.roots) only;
           deaths = ap (λ (w : Work). w.deaths) only;
           ran = ap (λ (w : Work). w.ran.items) only;
-          strict = ap (λ (w : Work). w.strict) only;
+          retries = ap (λ (w : Work). w.retries) only;
           round = ap (λ (w : Work). w.round) only;
         };
       }
@@ -254,7 +254,7 @@ module _ (arena : Arena) (taken turned : Work) (n : NodeId) (counts : Counts) (k
           roots = ap (λ (w : Work). w.roots) t.rest ∙ (ap (λ (w : Work). w.roots) loose.last ∙ ap (λ (w : Work). w.roots) loose.rest);
           deaths = ap (λ (w : Work). w.deaths) t.rest ∙ (ap (λ (w : Work). w.deaths) loose.last ∙ ap (λ (w : Work). w.deaths) loose.rest);
           ran = ap (λ (w : Work). w.ran.items) t.rest ∙ (ap (λ (w : Work). w.ran.items) loose.last ∙ ap (λ (w : Work). w.ran.items) loose.rest);
-          strict = ap (λ (w : Work). w.strict) t.rest ∙ (ap (λ (w : Work). w.strict) loose.last ∙ ap (λ (w : Work). w.strict) loose.rest);
+          retries = ap (λ (w : Work). w.retries) t.rest ∙ (ap (λ (w : Work). w.retries) loose.last ∙ ap (λ (w : Work). w.retries) loose.rest);
           round = ap (λ (w : Work). w.round) t.rest ∙ rest_round;
         };
       }
@@ -409,7 +409,7 @@ module _ (arena : Arena) (work taken : Work) (n : NodeId) (counts : Counts) (s :
     stage = st.stage;
     owed = st.owed;
     todo = st.todo;
-    strict = st.strict;
+    retries = st.retries;
     died = st.died;
     ran = st.ran;
     counts = st.counts;

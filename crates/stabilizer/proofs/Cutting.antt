@@ -117,7 +117,7 @@ module _ (old new : Parts) (id : NodeId) (c : Cutoff) (kept : PartsKept old) (w 
       stage = λ p k e. let b = was p k e in ready.stands.stage p b.row b.was ∙ ap stage_of (sym b.stage);
       owed = ready.stands.owed;
       todo = ready.stands.todo;
-      strict = ready.stands.strict;
+      retries = ready.stands.retries;
       died = ready.stands.died;
       ran = ready.stands.ran;
       counts = refl;
@@ -149,7 +149,7 @@ module _ (old new : Parts) (id : NodeId) (c : Cutoff) (kept : PartsKept old) (w 
       settled = ready.entry.settled;
       owed = ready.entry.owed;
       todo = ready.entry.todo;
-      strict = ready.entry.strict;
+      retries = ready.entry.retries;
       ran = ready.entry.ran;
       taken = ready.entry.taken;
       died = ready.entry.died;

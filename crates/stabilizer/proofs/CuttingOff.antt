@@ -107,7 +107,7 @@ module _ (old : Parts) (b : NodeId) (kept : PartsKept old) (there : Holds old.wo
         roots = ap (λ (w : Work). w.roots) work_before;
         deaths = ap (λ (w : Work). w.deaths) work_before;
         ran = ap (λ (w : Work). w.ran.items) work_before;
-        strict = ap (λ (w : Work). w.strict) work_before;
+        retries = ap (λ (w : Work). w.retries) work_before;
         round = ap (λ (w : Work). w.round) work_before;
       };
     }

@@ -271,7 +271,7 @@ module _ (old : Parts) (listed forgot : Work) (b : NodeId) (nodes : List NodeId)
       scoped = buried.scoped ∙ (ap (λ (w : Work). w.scoped.nodes) rest ∙ ap (λ (w : Work). w.scoped.nodes) list.rest);
       todo = buried.todo ∙ (ap (λ (w : Work). w.todo.items) rest ∙ ap (λ (w : Work). w.todo.items) list.rest);
       called = buried.ran ∙ (ap (λ (w : Work). w.ran.items) rest ∙ ap (λ (w : Work). w.ran.items) list.rest);
-      strict = buried.strict ∙ (ap (λ (w : Work). w.strict) rest ∙ ap (λ (w : Work). w.strict) list.rest);
+      retries = buried.retries ∙ (ap (λ (w : Work). w.retries) rest ∙ ap (λ (w : Work). w.retries) list.rest);
       round = buried.round ∙ round_is;
       ran = ran;
     }

@@ -334,7 +334,7 @@ module _ (old : Parts) (b : NodeId) (count : ℕ) (may : MayDisown old b count) 
             roots = left_older.round.roots;
             deaths = left_older.round.deaths;
             ran = left_older.round.ran;
-            strict = left_older.round.strict;
+            retries = left_older.round.retries;
             round = left_older.round.round;
           };
         });

@@ -184,7 +184,7 @@ module _ (before arena : Arena) (old work : Work) (id : NodeId) (kept : IsKept b
     entered = λ n b r e scope. (r, was_row n r e, scope);
     deaths = deaths;
     ran = ap (λ (x : Work). x.ran.items) rest;
-    strict = ap (λ (x : Work). x.strict) rest;
+    retries = ap (λ (x : Work). x.retries) rest;
     round = round;
     todo = ap (λ (x : Work). x.todo.items) rest;
   }
@@ -302,7 +302,7 @@ module _ (old new : Parts) (kept : PartsKept old)
     entered = λ n b r e scope. (r, e, scope);
     deaths = refl;
     ran = refl;
-    strict = refl;
+    retries = refl;
     round = refl;
     todo = refl;
   }

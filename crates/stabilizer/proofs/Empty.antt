@@ -1,5 +1,5 @@
 -- Without nodes a round may begin.
-use Rattle.std.proofs.Common.{◌≡◌, false, [], Option, None, sym, ap, subst, ◌∙◌, arith}
+use Rattle.std.proofs.Common.{◌≡◌, [], Option, None, sym, ap, subst, ◌∙◌, arith}
 use Rattle.std.specs.Prelude.{is_some}
 use Rattle.std.proofs.lemmas.Option.{none-some}
 use Rattle.inc_value.specs.declared.node.NodeId.{NodeId}
@@ -26,6 +26,7 @@ use Rattle.scopes.specs.Scopes.{Scopes, member}
 use Rattle.stabilizer.specs.Kept.{KeepsScopes, PartsKept}
 use Rattle.stabilizer.specs.declared.parts.Parts.{Parts}
 use Rattle.wiring.specs.Graph.{died_at}
+use Rattle.stabilize_round.specs.State.{all_retries}
 
 module _ (arena : Arena) (work : Work) (sound : IsSound arena) (step : IsInStep work.graph) (nodes : (n : NodeId) → row_at arena n ≡ None)
     (rows : (p : Point) → at work.rows p ≡ None) (points : (p : Point) → at work.graph.heights p ≡ None)
@@ -60,7 +61,7 @@ module _ (arena : Arena) (work : Work) (sound : IsSound arena) (step : IsInStep 
     scoped = λ n r e some. absurd (none-some r (sym (nodes n) ∙ e));
   }
 
-  module _ (todo : work.todo.items ≡ []) (ran : work.ran.items ≡ []) (strict : work.strict ≡ false) (round : work.round ≡ 1) where
+  module _ (todo : work.todo.items ≡ []) (ran : work.ran.items ≡ []) (retries : work.retries ≡ all_retries) (round : work.round ≡ 1) where
     pub empty_between : (F : Functions) → IsBetween F arena work
     empty_between F = record {
       kept = empty_kept;
@@ -72,7 +73,7 @@ module _ (arena : Arena) (work : Work) (sound : IsSound arena) (step : IsInStep 
       unsettled = λ p. ap (settled_in work.round) (rows p);
       deaths = undied;
       numbered = omega (arith, round);
-      strict = strict;
+      retries = retries;
       todo = todo;
       ran = ran;
     }

@@ -51,7 +51,7 @@ use Rattle.stabilize_round.specs.Invariant as invariant
 use Rattle.stabilize_round.specs.Invariant.{Invariant, MetNow, HasCalled, Recalls, IsUnmarked}
 use Rattle.stabilize_round.specs.Machine.{Entry, Moves, Stops, as_it_is}
 use Rattle.stabilize_round.specs.Moves.{Quiet}
-use Rattle.stabilize_round.specs.State.{State, Start, Call, Full, count, planned}
+use Rattle.stabilize_round.specs.State.{State, Start, Call, Full, count, planned, all_retries}
 use Rattle.stabilize_round.proofs.Freezing.{other_rests, graph_rests}
 use Rattle.stabilize_round.proofs.Low.{low_points, links_are}
 use Rattle.stabilize_round.proofs.Meanings.{round_keeps, round_is_right, round_again}
@@ -210,7 +210,7 @@ rested t links' needed' = record t {
   taken = None;
   died = none_died;
   settled = λ (p : Point). false;
-  strict = false;
+  retries = all_retries;
   ran = [];
 }
 
@@ -272,7 +272,7 @@ module _ (F : Functions) (z : Start) (t : State) (inv : Invariant F z t) (quiet 
     settled = λ p. refl;
     owed = λ p h. inv.rows.owed p (quiet p);
     todo = λ p need h. absurd (let x = quiet p in cc);
-    strict = refl;
+    retries = refl;
     ran = refl;
     taken = refl;
     died = λ n. refl;
@@ -366,12 +366,12 @@ module _ (M : Meaning) (old mid : Parts) (before after : Counts) (first : PartsK
   later n m le = grind (arith, common_steps)
 
   module _ (end : Parts) (r : IsReleased mid.work end.work) (in_step : IsInStep end.work.graph) (ran : end.work.ran.items ≡ [])
-      (strict : end.work.strict ≡ false) (round : end.work.round ≡ mid.work.round + 1) where
+      (retries : end.work.retries ≡ all_retries) (round : end.work.round ≡ mid.work.round + 1) where
     abbrev new : Work
     new = end.work
 
     abbrev next : Work
-    next = record mid.work { graph = end.work.graph; deaths = end.work.deaths; ran = end.work.ran; strict = end.work.strict; round = end.work.round }
+    next = record mid.work { graph = end.work.graph; deaths = end.work.deaths; ran = end.work.ran; retries = end.work.retries; round = end.work.round }
 
     abbrev next_parts : Parts
     next_parts = record mid { work = next; ran = end.ran }
@@ -425,7 +425,7 @@ module _ (M : Meaning) (old mid : Parts) (before after : Counts) (first : PartsK
       stage = stands.stage;
       owed = stands.owed;
       todo = stands.todo;
-      strict = sym strict;
+      retries = sym retries;
       died = λ n. sym (r.deaths n);
       ran = sym (ap reverse ran);
       counts = refl;

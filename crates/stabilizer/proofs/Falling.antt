@@ -1,5 +1,6 @@
 -- Steps end.
-use Rattle.std.proofs.Common.{◌≡◌, ◌⊎◌, inl, inr, ◌<◌, Bool, true, false, List, refl, sym, subst, ap, ◌∙◌}
+use Rattle.std.proofs.Common.{◌≡◌, ◌⊎◌, inl, inr, ◌<◌, Bool, true, false, List, refl, sym, subst, ap, ◌∙◌, arith}
+use Rattle.std.proofs.lemmas.Bool.{cases_lt}
 use Rattle.inc_value.specs.declared.node.NodeId.{NodeId}
 use Rattle.inc_value.specs.declared.node.Part.{Part}
 use Rattle.inc_value.specs.declared.node.Part.TheVariants.{Change}
@@ -12,7 +13,7 @@ use Rattle.point_map.specs.Rows.{Holds}
 use Rattle.stabilize_round.specs.State.{State, Start, Bare, Full, at_point}
 use Rattle.stabilize_round.specs.Invariant.{Invariant}
 use Rattle.stabilize_round.specs.Moves.{Quiet, changed, StepChange}
-use Rattle.stabilize_round.specs.Machine.{Move, Moves, step_main, step_change, link, link_new, root, root_new, raise, finish, schedule, cut, rebuild, level, turn_strict}
+use Rattle.stabilize_round.specs.Machine.{Move, Moves, step_main, step_change, link, link_new, root, root_new, raise, finish, schedule, cut, rebuild, level, spend}
 use Rattle.stabilize_round.specs.Ended.{unsettled}
 use Rattle.stabilize_round.specs.Steps.{Settles, Wires, Wiring, Wired, plainly, after_refusal, Step}
 use Rattle.stabilize_round.specs.StepLaws.{Falls}
@@ -25,17 +26,14 @@ use Rattle.stabilize_round.proofs.Steps.{step_moves, wired_moves}
 use Rattle.node_outcomes.specs.Meaning.{Meaning}
 use Rattle.wiring.specs.Kept.{IsKept}
 use Rattle.wiring.specs.Stands.{Counts}
-use Rattle.wiring.proofs.Raising.{wiring_strict, off_strict, turns_was}
 use Rattle.stabilizer.specs.Stepping.{Steps, StepFalls}
 use Rattle.stabilizer.specs.declared.parts.Parts.{Parts}
 use Rattle.stabilizer.proofs.Left.{less_left}
 
--- points get their links without a refusal, or refusals become final
-pub wired_cases : (F : Functions) (z : Start) (s t : State) → Wired F z s t → Reaches (Wiring F z) s t ⊎ ((s.strict ≡ false) × (t.strict ≡ true))
+-- points get their links without a refusal, or fewer links may be tried again
+pub wired_cases : (F : Functions) (z : Start) (s t : State) → Wired F z s t → Reaches (Wiring F z) s t ⊎ (t.retries < s.retries)
 wired_cases F z s t (plainly run) = inl run
-wired_cases F z s t (after_refusal {u} {v} {w} on off m turns rest) =
-    let k = turns_was F z v w m turns in
-    inr (sym (off_strict F z u v off ∙ wiring_strict F z s u on) ∙ k.0, wiring_strict F z w t rest ∙ k.1)
+wired_cases F z s t (after_refusal {u} {v} {w} on off m it rest) = inr (machine.retried F z s u v w t on off m it rest)
 
 -- ---- what wiring leaves
 
@@ -81,7 +79,7 @@ wire_kept F z s t (root need e) it = absurd it
 wire_kept F z s t (root_new given need k e) it = absurd it
 wire_kept F z s t (cut d w e) it = absurd it
 wire_kept F z s t (rebuild r made count e) it = absurd it
-wire_kept F z s t (turn_strict u k e) it = absurd it
+wire_kept F z s t (spend u k e) it = absurd it
 
 kept_on : (s u t : State) → Kept s u → Kept u t → Kept s t
 kept_on s u t a b = record {
@@ -93,30 +91,6 @@ kept_on s u t a b = record {
 pub wiring_kept : (F : Functions) (z : Start) (s t : State) → Reaches (Wiring F z) s t → Kept s t
 wiring_kept F z s t here = same_kept s
 wiring_kept F z s t (step {b = u} m rest) = kept_on s u t (wire_kept F z s u m.0 m.1) (wiring_kept F z u t rest)
-
--- ---- refusals stay final
-
-strict_at : (s u t : State) → t ≡ u → u.strict ≡ true → t.strict ≡ true
-strict_at s u t e h = subst (λ (x : State). x.strict ≡ true) (sym e) h
-
-move_strict : (F : Functions) (z : Start) (s t : State) → Move F z s t → s.strict ≡ true → t.strict ≡ true
-move_strict F z s t (step_main quiet m e) h = strict_at s _ t e h
-move_strict F z s t (step_change quiet m e) h = strict_at s _ t e h
-move_strict F z s t (link m need e) h = strict_at s _ t e h
-move_strict F z s t (link_new m need k e) h = strict_at s _ t e h
-move_strict F z s t (root need e) h = strict_at s _ t e h
-move_strict F z s t (root_new given need k e) h = strict_at s _ t e h
-move_strict F z s t (raise m e) h = strict_at s _ t e h
-move_strict F z s t (finish m e) h = strict_at s _ t e h
-move_strict F z s t (schedule m e) h = strict_at s _ t e h
-move_strict F z s t (cut d w e) h = strict_at s _ t e h
-move_strict F z s t (rebuild r made count e) h = strict_at s _ t e h
-move_strict F z s t (level m e) h = strict_at s _ t e h
-move_strict F z s t (turn_strict u k e) h = strict_at s _ t e refl
-
-moves_strict : (F : Functions) (z : Start) (s t : State) → Moves F z s t → s.strict ≡ true → t.strict ≡ true
-moves_strict F z s t here h = h
-moves_strict F z s t (step {b = u} m rest) h = moves_strict F z u t rest (move_strict F z s u m h)
 
 -- ---- the move that settles a change
 
@@ -148,7 +122,7 @@ change_settled F z s t n (schedule m e) it = absurd it
 change_settled F z s t n (cut d w e) it = absurd it
 change_settled F z s t n (rebuild r made count e) it = absurd it
 change_settled F z s t n (level m e) it = absurd it
-change_settled F z s t n (turn_strict u k e) it = absurd it
+change_settled F z s t n (spend u k e) it = absurd it
 
 -- what is settled so is settled
 settled_by : (F : Functions) (z : Start) (s t : State) (p : Point) (m : Move F z s t) → Settles p m → t.settled p ≡ true
@@ -168,7 +142,7 @@ settled_by F z s t p (schedule m e) it = absurd it
 settled_by F z s t p (cut d w e) it = absurd it
 settled_by F z s t p (rebuild r made count e) it = absurd it
 settled_by F z s t p (level m e) it = absurd it
-settled_by F z s t p (turn_strict u k e) it = absurd it
+settled_by F z s t p (spend u k e) it = absurd it
 
 -- ---- steps end
 
@@ -187,11 +161,11 @@ module _ (F : Functions) (z : Start) (s t : State) (inv : Invariant F z s) (k : 
   more : s.settled k.point ≡ false → unsettled t.settled points < unsettled s.settled points
   more was = falls s.settled t.settled k.point points (λ q h. moves_settled F z s t moves q h) was settled_then among
 
-  by_strict : s.settled k.point ≡ false → (s.strict ≡ true) ⊎ (s.strict ≡ false) → (t.strict ≡ true) ⊎ (t.strict ≡ false) → Falls s t points nodes
-  by_strict was (inl a) (inl b) = inr (inl (b ∙ sym a, more was))
-  by_strict was (inl a) (inr b) = absurd (let x = moves_strict F z s t moves a in cc)
-  by_strict was (inr a) (inl b) = inl (a, b)
-  by_strict was (inr a) (inr b) = inr (inl (b ∙ sym a, more was))
+  first : s.settled k.point ≡ false → Falls s t points nodes
+  first was = elim (cases_lt t.retries s.retries) [
+    | inl fewer ↦ inl fewer
+    | inr same ↦ inr (inl (let at_most = machine.moves_retries F z s t moves in omega (arith, same, at_most), more was))
+  ]
 
   -- what is settled and taken again is a change
   own : s.settled k.point ≡ true → k.point ≡ change k.point.node
@@ -208,18 +182,15 @@ module _ (F : Functions) (z : Start) (s t : State) (inv : Invariant F z s) (k : 
       (subst (λ (x : State). Reaches (Wiring F z) x t) m.now on)
       (λ need stage. k.attaches k.point.node (own was) was need stage) points nodes (subst (λ (y : Point). Among y points) (own was) among) among_nodes
   by_wired was (after_refusal {u} {v} {w} on off m it rest) =
-      let turn = turns_was F z v w m it in
-      let own_move = settles_own was in
-      inl (
-        ap (λ (x : State). x.strict) (sym own_move.now) ∙ (sym (off_strict F z u v off ∙ wiring_strict F z k.next u on) ∙ turn.0),
-        wiring_strict F z w t rest ∙ turn.1,
-      )
+      let e : k.next.retries ≡ s.retries = ap (λ (x : State). x.retries) (settles_own was).now in
+      let fewer = machine.retried F z k.next u v w t on off m it rest in
+      inl (omega (arith, e, fewer))
 
   -- each step leaves less
   pub step_falls : Falls s t points nodes
   step_falls = elim (bool_cases (s.settled k.point)) [
     | inl was ↦ by_wired was k.wired
-    | inr was ↦ by_strict was (bool_cases s.strict) (bool_cases t.strict)
+    | inr was ↦ first was
   ]
 
 -- so it is of the parts

@@ -217,7 +217,7 @@ module _ (old new : Work) (p gate : Point) (step : IsInStep old.graph) (rest : n
         roots = ap (λ (w : Work). w.roots) rest;
         deaths = ap (λ (w : Work). w.deaths) rest;
         ran = ap (λ (w : Work). w.ran.items) rest;
-        strict = ap (λ (w : Work). w.strict) rest;
+        retries = ap (λ (w : Work). w.retries) rest;
         round = ap (λ (w : Work). w.round) rest;
       };
     }
@@ -244,7 +244,7 @@ same_looks old = record {
   heap = λ a. refl;
   todo = refl;
   lists = record { pairs = refl; scoped = refl };
-  round = record { roots = refl; deaths = refl; ran = refl; strict = refl; round = refl };
+  round = record { roots = refl; deaths = refl; ran = refl; retries = refl; round = refl };
 }
 
 module _ (old new : Work) (p gate : Point) (step : IsInStep old.graph) (k : KeepsGate old new p gate) where

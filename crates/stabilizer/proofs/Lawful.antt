@@ -81,7 +81,7 @@ module _ (F : Functions) (old new : Parts) (before counts : Counts) (b : Begun F
   inv : Invariant F b.start last
   inv = round_keeps F b.start b.state last b.entry moves
 
-  module _ (p q : Point) (need : t.needed p ≡ true) (tried : Depends F t.graph t.died p q) (strict : new.work.strict ≡ true) where
+  module _ (p q : Point) (need : t.needed p ≡ true) (tried : Depends F t.graph t.died p q) (strict : new.work.retries ≡ 0) where
     depends : Depends F G D p q
     depends = subst (λ (x : State). Depends F x.graph x.died p q) is_last tried
 
@@ -105,7 +105,7 @@ module _ (F : Functions) (old new : Parts) (before counts : Counts) (b : Begun F
     listed [] long chain = absurd (omega arith)
     listed (a ∷ []) long chain = absurd (omega arith)
     listed (a ∷ c ∷ rest) long chain =
-        let l = listed_are_met F b.start b.state last b.entry moves (stands.strict ∙ strict) p q depends a (c ∷ rest)
+        let l = listed_are_met F b.start b.state last b.entry moves (stands.retries ∙ strict) p q depends a (c ∷ rest)
         (reader_needed a c (linked a c chain.0)) (walk (a ∷ c ∷ rest) chain) in
         record {
           walk = l.0;

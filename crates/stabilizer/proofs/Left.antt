@@ -140,14 +140,10 @@ module _ (P N : ℕ) where
   less_last h h' u u' l l' a a' same equal few less =
       digit_after _ _ a' a P (digit_most _ _ l' l N (digit_most h' h u' u P (omega (arith, same)) (omega (arith, equal))) few) less
 
--- 1 where refusals aren't final
-abbrev weak : Bool → ℕ
-weak strict = cond strict 0 1
-
 module _ (arena arena' : Arena) (old new : Work) (counts counts' : Counts) (s t : State) (kept : IsKept arena old) (kept' : IsKept arena' new)
     (st : Stands arena old counts None s) (on : Stands arena' new counts' None t) (points : List Point) (nodes : List NodeId) where
-  same_strict : t.strict ≡ s.strict → weak new.strict ≡ weak old.strict
-  same_strict e = ap weak (sym on.strict ∙ (e ∙ st.strict))
+  same_retries : t.retries ≡ s.retries → new.retries ≡ old.retries
+  same_retries e = sym on.retries ∙ (e ∙ st.retries)
 
   u : number_of (is_unsettled old) points ≡ unsettled s.settled points
   u = unsettled_as arena old counts s kept st points
@@ -174,17 +170,17 @@ module _ (arena arena' : Arena) (old new : Work) (counts counts' : Counts) (s t 
   few_a = number_few (is_again new) points
 
   pub less_left : Falls s t points nodes → left_to_settle new points nodes < left_to_settle old points nodes
-  less_left (inl turn) =
-      let f : weak new.strict ≡ 0 = ap weak (sym on.strict ∙ turn.1) in
-      let g : weak old.strict ≡ 1 = ap weak (sym st.strict ∙ turn.0) in
-      less_first (length points) (length nodes) (weak old.strict) (weak new.strict) _ _ _ _ _ _ (omega (arith, f, g))
+  less_left (inl fewer) =
+      let f = on.retries in
+      let g = st.retries in
+      less_first (length points) (length nodes) old.retries new.retries _ _ _ _ _ _ (omega (arith, f, g, fewer))
       (number_few (is_unsettled new) points) few_l few_a
   less_left (inr (inl k)) =
-      less_second (length points) (length nodes) (weak old.strict) (weak new.strict) _ _ _ _ _ _ (same_strict k.0)
+      less_second (length points) (length nodes) old.retries new.retries _ _ _ _ _ _ (same_retries k.0)
       (let x = k.1 in let p = u in let q = u' in omega (arith, x, p, q)) few_l few_a
   less_left (inr (inr (inl k))) =
-      less_third (length points) (length nodes) (weak old.strict) (weak new.strict) _ _ _ _ _ _ (same_strict k.0)
+      less_third (length points) (length nodes) old.retries new.retries _ _ _ _ _ _ (same_retries k.0)
       (u' ∙ (k.1 ∙ sym u)) (let x = k.2 in let p = l in let q = l' in omega (arith, x, p, q)) few_a
   less_left (inr (inr (inr k))) =
-      less_last (length points) (length nodes) (weak old.strict) (weak new.strict) _ _ _ _ _ _ (same_strict k.0)
+      less_last (length points) (length nodes) old.retries new.retries _ _ _ _ _ _ (same_retries k.0)
       (u' ∙ (k.1 ∙ sym u)) (let x = k.2 in let p = l in let q = l' in omega (arith, x, p, q)) (let x = k.3 in let p = a in let q = a' in omega (arith, x, p, q))

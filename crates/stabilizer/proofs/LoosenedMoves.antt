@@ -536,7 +536,7 @@ module _ (arena : Arena) (old mid : Work) (g : NecessaryPart) (n : NodeId) (r : 
         };
         gone = ap (λ (x : NecessaryPart). at x.heap (change n)) graph ∙ out_of_heap;
         heap = λ a ne. ap (λ (x : NecessaryPart). is_some (at x.heap a)) graph ∙ sym (ap is_some (put_mid.others a ne));
-        round = record { roots = round.roots; deaths = round.deaths; ran = round.ran; strict = round.strict; round = round.round };
+        round = record { roots = round.roots; deaths = round.deaths; ran = round.ran; retries = round.retries; round = round.round };
       }
 
       still_gated : (a : Point) → stage_in (at mid.rows a) ≡ Some code.Gated → stage_in (at old.rows a) ≡ Some code.Gated

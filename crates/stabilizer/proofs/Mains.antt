@@ -48,7 +48,7 @@ pub record KeepsRest (old new : Work) : Type 0 where
   pub graph : new.graph ≡ old.graph
   pub roots : new.roots ≡ old.roots
   pub todo : new.todo.items ≡ old.todo.items
-  pub strict : new.strict ≡ old.strict
+  pub retries : new.retries ≡ old.retries
   pub round : new.round ≡ old.round
   pub deaths : new.deaths ≡ old.deaths
   pub lists : KeepsLists old new
@@ -128,7 +128,7 @@ module _ (F : Functions) (arena : Arena) (old mid new : Work) (n : NodeId) (p : 
     deaths = round.deaths ∙ rest.deaths;
     ran = round.ran ∙ c.ran;
     todo = rw todo rest.todo;
-    strict = round.strict ∙ rest.strict;
+    retries = round.retries ∙ rest.retries;
     round = round.round ∙ round_is;
   }
     where
@@ -165,7 +165,7 @@ only_noted work places ran = record {
   graph = refl;
   roots = refl;
   todo = refl;
-  strict = refl;
+  retries = refl;
   round = refl;
   deaths = refl;
   lists = record { pairs = refl; scoped = refl };
@@ -206,7 +206,7 @@ main_left arena old mid n before after rest c more = record {
   deaths = rest.deaths;
   todo = rest.todo;
   ran = c.ran;
-  strict = rest.strict;
+  retries = rest.retries;
   round = rest.round;
   count = c.count;
   rest = more;

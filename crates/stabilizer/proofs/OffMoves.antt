@@ -65,7 +65,7 @@ off_leaves_one F z s t (move.raise x e) h = absurd h
 off_leaves_one F z s t (move.finish x e) h = absurd h
 off_leaves_one F z s t (move.rebuild r b k e) h = absurd h
 off_leaves_one F z s t (move.level x e) h = absurd h
-off_leaves_one F z s t (move.turn_strict u k e) h = absurd h
+off_leaves_one F z s t (move.spend u k e) h = absurd h
 
 pub off_leaves : (F : Functions) (z : Start) (s t : State) → Reaches (TakingOff F z) s t → Leaves s t
 off_leaves F z s t here = leaves_self s
@@ -85,7 +85,7 @@ prepares_one F z p s t (move.raise x e) h = absurd h
 prepares_one F z p s t (move.finish x e) h = absurd h
 prepares_one F z p s t (move.rebuild r b k e) h = absurd h
 prepares_one F z p s t (move.level x e) h = absurd h
-prepares_one F z p s t (move.turn_strict u k e) h = absurd h
+prepares_one F z p s t (move.spend u k e) h = absurd h
 
 pub off_prepares : (F : Functions) (z : Start) (p : Point) (s t : State) → Reaches (TakingOff F z) s t → Reaches (Preparing F z p) s t
 off_prepares F z p s t off = reaches_map (TakingOff F z) (Preparing F z p) (λ a b m. (m.0, prepares_one F z p a b m.0 m.1)) s t off

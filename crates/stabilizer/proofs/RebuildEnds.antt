@@ -85,7 +85,7 @@ settled_rebuilt old new roots n given root put rows graph heap rest = record {
   todo = ap (λ (w : Work). w.todo.items) rest;
   deaths = ap (λ (w : Work). w.deaths) rest;
   ran = ap (λ (w : Work). w.ran.items) rest;
-  strict = ap (λ (w : Work). w.strict) rest;
+  retries = ap (λ (w : Work). w.retries) rest;
   round = ap (λ (w : Work). w.round) rest;
 }
 

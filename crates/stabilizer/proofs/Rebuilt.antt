@@ -205,7 +205,7 @@ module _ (F : Functions) (z : Start) (t : State) (b : NodeId) (now : Outcome) (c
       stage = λ p k e. stage_is p k (row_case p k e);
       owed = a.stands.owed;
       todo = λ p td. absurd (let q = a.quiet p in cc);
-      strict = a.stands.strict ∙ sym (a.grown.round.strict ∙ a.died.strict);
+      retries = a.stands.retries ∙ sym (a.grown.round.retries ∙ a.died.retries);
       died = λ n. refl;
       ran = a.stands.ran ∙ ap reverse (sym (a.grown.round.ran ∙ a.died.called));
       counts = counts_as;

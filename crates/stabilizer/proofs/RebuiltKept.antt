@@ -237,7 +237,7 @@ module _ (arena : Arena) (old : Work) (deaths : Deaths) (roots : Rows NodeId) (s
     stage = st.stage;
     owed = st.owed;
     todo = st.todo;
-    strict = st.strict;
+    retries = st.retries;
     died = λ n. st.died n ∙ sym (same_deaths (main n));
     ran = st.ran;
     counts = st.counts;
@@ -313,7 +313,7 @@ died_roomy cut dead b roots same d = record {
   scoped = d.scoped;
   todo = d.todo;
   called = d.called;
-  strict = d.strict;
+  retries = d.retries;
   round = d.round;
   ran = d.ran;
 }
@@ -356,7 +356,7 @@ module _ (parts : Parts) (b : NodeId) (kept : IsKept parts.arena parts.work) whe
     roots = refl;
     heap = λ p. refl;
     todo = refl;
-    round = record { roots = refl; deaths = refl; ran = refl; strict = refl; round = refl };
+    round = record { roots = refl; deaths = refl; ran = refl; retries = refl; round = refl };
     ran = refl;
   }
 

@@ -219,7 +219,7 @@ module _ (F : Functions) (z : Start) (t : State) (inv : Invariant F z t) (quiet 
 
   -- all but the graph, the deaths and the round's own stays
   abbrev pub next : Work
-  next = record mid { graph = new.graph; deaths = new.deaths; ran = new.ran; strict = new.strict; round = new.round }
+  next = record mid { graph = new.graph; deaths = new.deaths; ran = new.ran; retries = new.retries; round = new.round }
 
   abbrev KeptHeight : Point → Type 0
   KeptHeight p = Holds new.graph.heights p → at new.graph.heights p ≡ at mid.graph.heights p
@@ -281,7 +281,7 @@ module _ (F : Functions) (z : Start) (t : State) (inv : Invariant F z t) (quiet 
 
 -- it is all that the round's end leaves
 pub is_next : (mid new : Work) → new.rows ≡ mid.rows → new.roots ≡ mid.roots → new.pairs ≡ mid.pairs → new.scoped ≡ mid.scoped → new.todo ≡ mid.todo
-    → record mid { graph = new.graph; deaths = new.deaths; ran = new.ran; strict = new.strict; round = new.round } ≡ new
+    → record mid { graph = new.graph; deaths = new.deaths; ran = new.ran; retries = new.retries; round = new.round } ≡ new
 is_next mid new rows roots pairs scoped todo =
     ap (λ x. record new { rows = x; roots = mid.roots; pairs = mid.pairs; scoped = mid.scoped; todo = mid.todo }) (sym rows)
     ∙ (ap (λ x. record new { roots = x; pairs = mid.pairs; scoped = mid.scoped; todo = mid.todo }) (sym roots)

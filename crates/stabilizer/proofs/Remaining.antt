@@ -11,7 +11,7 @@ use Rattle.inc_terms.specs.Graph.{Row}
 use Rattle.inc_terms.specs.Term.{Functions}
 use Rattle.inc_terms.specs.Within.{Given}
 use Rattle.stabilize_round.specs.Machine.{Move, step_main, step_change, link, link_new, root, root_new, raise, finish, schedule, cut, rebuild, level}
-use Rattle.stabilize_round.specs.Machine.{turn_strict, Moves, Stops, as_it_is, unbuilt, unkept}
+use Rattle.stabilize_round.specs.Machine.{spend, Moves, Stops, as_it_is, unbuilt, unkept}
 use Rattle.stabilize_round.specs.State.{State, Start, at_point}
 use Rattle.stabilize_round.proofs.Machine.{moves_settled}
 use Rattle.stabilize_round.proofs.Points.{same_or_other, at_same, at_other}
@@ -49,7 +49,7 @@ module _ (F : Functions) (z : Start) where
   move_out s t n (cut d w e) = moved s _ t n e (λ r row given. inr refl)
   move_out s t n (rebuild {b} k built count e) = moved s _ t n e (λ r row given. inr (k.beside.out (main n) r row given (other_part b n)))
   move_out s t n (level k e) = moved s _ t n e (λ r row given. inr refl)
-  move_out s t n (turn_strict u h e) = moved s _ t n e (λ r row given. inr refl)
+  move_out s t n (spend u h e) = moved s _ t n e (λ r row given. inr refl)
 
   pub moves_out : (s t : State) (n : NodeId) (r : Row) → Moves F z s t → t.graph.row n ≡ Some r → Given s.given n
       → (t.settled (main n) ≡ true) ⊎ (t.out (main n) ≡ s.out (main n))

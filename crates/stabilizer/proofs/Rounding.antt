@@ -186,7 +186,7 @@ more_calls parts counts u st builds adds = record {
   stage = st.stage;
   owed = st.owed;
   todo = st.todo;
-  strict = st.strict;
+  retries = st.retries;
   died = st.died;
   ran = st.ran;
   counts = λ i. record { calls = counts.calls; builds = builds i; adds = adds i };

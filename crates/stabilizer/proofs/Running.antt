@@ -67,7 +67,7 @@ off_prepares F z p s t (move.raise x e) it = absurd it
 off_prepares F z p s t (move.finish x e) it = absurd it
 off_prepares F z p s t (move.rebuild r b k e) it = absurd it
 off_prepares F z p s t (move.level x e) it = absurd it
-off_prepares F z p s t (move.turn_strict u k e) it = absurd it
+off_prepares F z p s t (move.spend u k e) it = absurd it
 
 pub all_off_prepare : (F : Functions) (z : Start) (p : Point) (s t : State) → Reaches (TakingOff F z) s t → Reaches (Preparing F z p) s t
 all_off_prepare F z p s t here = here
@@ -91,7 +91,7 @@ off_stays_one F z s t (move.raise x e) it = absurd it
 off_stays_one F z s t (move.finish x e) it = absurd it
 off_stays_one F z s t (move.rebuild r b k e) it = absurd it
 off_stays_one F z s t (move.level x e) it = absurd it
-off_stays_one F z s t (move.turn_strict u k e) it = absurd it
+off_stays_one F z s t (move.spend u k e) it = absurd it
 
 pub off_stays : (F : Functions) (z : Start) (s t : State) → Reaches (TakingOff F z) s t → StaysAbove s t
 off_stays F z s t here = record { height = refl; todo = refl }
@@ -317,7 +317,7 @@ module _ (s : State) (arena : Arena) (old new : Work) (counts : Counts) (st : St
       | inl h ↦ inr (sym h)
       | inr ne ↦ inl (woken a (awaits s n a t) (λ h. ne (sym h)))
     ];
-    strict = st.strict ∙ sym run.round.strict;
+    retries = st.retries ∙ sym run.round.retries;
     died = λ m. st.died m ∙ sym (died_same old new run.round.deaths m);
     ran = st.ran ∙ ap reverse (sym run.round.ran);
     counts = st.counts;

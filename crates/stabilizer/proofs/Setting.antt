@@ -276,7 +276,7 @@ module _ (before arena : Arena) (old work : Work) (id : NodeId) (v : Value) (kep
     entered = λ n b r row scope. let w = row_was n r row in (w.was, w.is_was, w.scope ∙ scope);
     deaths = round.deaths;
     ran = round.ran;
-    strict = round.strict;
+    retries = round.retries;
     round = round.round;
     todo = todo;
   }
@@ -293,7 +293,7 @@ module _ (old new : Parts) (id : NodeId) (v : Value) (kept : PartsKept old) (set
   parts = record old { arena = new.arena; work = work }
 
   round_stays : KeepsRound old.work work
-  round_stays = record { roots = refl; deaths = refl; ran = refl; strict = refl; round = refl }
+  round_stays = record { roots = refl; deaths = refl; ran = refl; retries = refl; round = refl }
 
   lists_stay : KeepsLists old.work work
   lists_stay = record { pairs = refl; scoped = refl }

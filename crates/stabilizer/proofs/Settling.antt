@@ -104,7 +104,7 @@ module _ (s : State) (arena : Arena) (old new : Work) (counts counts' : Counts) 
     ];
     owed = st.owed;
     todo = λ a t. subst (λ (xs : List Point). Among a xs ⊎ ⊥) (sym w.todo) (st.todo a t);
-    strict = st.strict ∙ sym w.strict;
+    retries = st.retries ∙ sym w.retries;
     died = λ m. st.died m ∙ sym (died_same old new w.deaths m);
     ran = ap (λ (G : Graph). ran_more n (calls_of called (cost_at G n)) s.ran) st.graph ∙ (ap (ran_more n made) st.ran
         ∙ (ran_is made n old.ran.items ∙ ap reverse (sym w.ran)));

@@ -73,7 +73,7 @@ module _ (old new : Work) (g : NecessaryPart) (p : Point) (n : NodeId) (o : Outc
     deaths = w.deaths;
     ran = w.ran;
     todo = w.todo;
-    strict = w.strict;
+    retries = w.retries;
     round = w.round;
   }
 
@@ -254,7 +254,7 @@ module _ (arena : Arena) (old mid : Work) (g g' : NecessaryPart) (p : Point) (n 
     stage = λ a k e. st.stage a k (sym (left.rows a) ∙ e);
     owed = st.owed;
     todo = λ a t. subst (λ (xs : List Point). Among a xs ⊎ ⊥) (sym left.todo) (st.todo a t);
-    strict = st.strict ∙ sym left.strict;
+    retries = st.retries ∙ sym left.retries;
     died = λ m. st.died m ∙ sym (died_same old back left.deaths m);
     ran = st.ran ∙ ap reverse (sym left.ran);
     counts = st.counts;

@@ -82,7 +82,7 @@ off_prepares F z p s t (move.raise x e) it = absurd it
 off_prepares F z p s t (move.finish x e) it = absurd it
 off_prepares F z p s t (move.rebuild r b k e) it = absurd it
 off_prepares F z p s t (move.level x e) it = absurd it
-off_prepares F z p s t (move.turn_strict u k e) it = absurd it
+off_prepares F z p s t (move.spend u k e) it = absurd it
 
 all_prepare : (F : Functions) (z : Start) (p : Point) (s t : State) → Reaches (TakingOff F z) s t → Reaches (Preparing F z p) s t
 all_prepare F z p s t here = here
@@ -265,7 +265,7 @@ module _ (s : State) (arena : Arena) (old new : Work) (counts : Counts) (st : St
       | inr ne ↦ sym (at_other (main n) [] nothing a ne)
     ];
     todo = listed;
-    strict = st.strict ∙ sym run.round.strict;
+    retries = st.retries ∙ sym run.round.retries;
     died = λ m. st.died m ∙ sym (died_same old new run.round.deaths m);
     ran = st.ran ∙ ap reverse (sym run.round.ran);
     counts = st.counts;
@@ -409,7 +409,7 @@ module _ (M : Meaning) (old turned : Parts) (n : NodeId) (counts : Counts) (all 
       roots = ap (λ (w : Work). w.roots) b.rest;
       deaths = ap (λ (w : Work). w.deaths) b.rest;
       ran = ap (λ (w : Work). w.ran.items) b.rest;
-      strict = ap (λ (w : Work). w.strict) b.rest;
+      retries = ap (λ (w : Work). w.retries) b.rest;
       round = ap (λ (w : Work). w.round) b.rest;
     };
   }
@@ -461,7 +461,7 @@ module _ (M : Meaning) (old turned : Parts) (n : NodeId) (counts : Counts) (all 
     roots = ap (λ (w : Work). w.roots) t.rest;
     deaths = ap (λ (w : Work). w.deaths) t.rest;
     ran = ap (λ (w : Work). w.ran.items) t.rest;
-    strict = ap (λ (w : Work). w.strict) t.rest;
+    retries = ap (λ (w : Work). w.retries) t.rest;
     round = ap (λ (w : Work). w.round) t.rest;
   }
 
@@ -480,7 +480,7 @@ module _ (M : Meaning) (old turned : Parts) (n : NodeId) (counts : Counts) (all 
           roots = round_last.roots ∙ ap (λ (w : Work). w.roots) k.0;
           deaths = round_last.deaths ∙ ap (λ (w : Work). w.deaths) k.0;
           ran = round_last.ran ∙ ap (λ (w : Work). w.ran.items) k.0;
-          strict = round_last.strict ∙ ap (λ (w : Work). w.strict) k.0;
+          retries = round_last.retries ∙ ap (λ (w : Work). w.retries) k.0;
           round = round_last.round ∙ ap (λ (w : Work). w.round) k.0;
         })
         F z s counts st (elim k.1 [ inl e ↦ inl e | inr not ↦ inr (λ a. not (record { needed = a.needed; stage = a.stage })) ]) idle least
@@ -488,7 +488,7 @@ module _ (M : Meaning) (old turned : Parts) (n : NodeId) (counts : Counts) (all 
         (record { needed = k.1.needed; stage = k.1.stage })
         (loosened_frame whole g m.woken t.mid n (right_in old.work.rows old.work.roots n m.row.def) k.0)
         F z s counts inv st m.given seen_now k.2 turned.work t.rows graph_last
-        (record { roots = round_last.roots; deaths = round_last.deaths; ran = round_last.ran; strict = round_last.strict; round = round_last.round })
+        (record { roots = round_last.roots; deaths = round_last.deaths; ran = round_last.ran; retries = round_last.retries; round = round_last.round })
         idle least
   ]
 

@@ -122,7 +122,7 @@ module _ (old : Work) (g : NecessaryPart) (id : NodeId) (off : IsUnrooted (rowle
       entered = λ n b r row scope. (r, row, scope);
       deaths = refl;
       ran = refl;
-      strict = refl;
+      retries = refl;
       round = refl;
       todo = refl;
     }

@@ -1,5 +1,5 @@
 -- A whole round: from where it begins over its roots to where its steps end.
-use Rattle.std.proofs.Common.{◌≡◌, ◌+◌, ◌++◌, false, List, [], map, None, refl, sym, ap, subst, ◌∙◌, arith}
+use Rattle.std.proofs.Common.{◌≡◌, ◌+◌, ◌++◌, List, [], map, None, refl, sym, ap, subst, ◌∙◌, arith}
 use Rattle.std.proofs.lemmas.List.{map-append}
 use Rattle.inc_value.specs.declared.node.NodeId.{NodeId}
 use Rattle.inc_terms.specs.Depend.{main}
@@ -13,7 +13,7 @@ use Rattle.node_outcomes.specs.Meaning.{Meaning}
 use Rattle.stabilize_round.specs.Calling.{costs_of}
 use Rattle.stabilize_round.specs.Counts.{RoseBy}
 use Rattle.stabilize_round.specs.Machine.{Move, Moves, as_it_is}
-use Rattle.stabilize_round.specs.State.{State, count}
+use Rattle.stabilize_round.specs.State.{State, count, all_retries}
 use Rattle.stabilize_round.proofs.Points.{count_append}
 use Rattle.stabilize_round.proofs.Steps.{joined}
 use Rattle.std.specs.Prelude.{is_some}
@@ -68,7 +68,7 @@ module _ (M : Meaning) (old : Parts) (rooted : Work) (before : Counts) (ready : 
     round_counts = counted M old settled before after ready.kept begins kept last.0 last.1 last.2 idle empty
 
     module _ (end : Parts) (r : IsReleased settled.work end.work) (in_step : IsInStep end.work.graph) (ran : end.work.ran.items ≡ [])
-        (strict : end.work.strict ≡ false) (round : end.work.round ≡ settled.work.round + 1) (rows : end.work.rows ≡ settled.work.rows)
+        (retries : end.work.retries ≡ all_retries) (round : end.work.round ≡ settled.work.round + 1) (rows : end.work.rows ≡ settled.work.rows)
         (roots_same : end.work.roots ≡ settled.work.roots) (pairs : end.work.pairs ≡ settled.work.pairs)
         (scoped : end.work.scoped ≡ settled.work.scoped)
         (todo : end.work.todo ≡ settled.work.todo) where
@@ -80,7 +80,7 @@ module _ (M : Meaning) (old : Parts) (rooted : Work) (before : Counts) (ready : 
         graph = end.work.graph;
         deaths = end.work.deaths;
         ran = end.work.ran;
-        strict = end.work.strict;
+        retries = end.work.retries;
         round = end.work.round;
       }
 
@@ -89,7 +89,7 @@ module _ (M : Meaning) (old : Parts) (rooted : Work) (before : Counts) (ready : 
 
       pub round_readies : AllCallFit M.known M.ids settled.arena → IsReady M result
       round_readies fit = ready_end M old settled before after ready.kept begins kept last.0 last.1 last.2 idle empty end r in_step ran
-          strict round is ready.laws fit
+          retries round is ready.laws fit
 
       pub round_calls : end.ran.items ≡ settled.work.ran.items → RoseBy before.calls (costs_of (left_by old result) end.ran.items) after.calls
       round_calls ran_is = subst (λ (G : Graph). RoseBy before.calls (costs_of G end.ran.items) after.calls) (ap (graph_at settled.arena) is)
@@ -124,5 +124,5 @@ module _ (M : Meaning) (old : Parts) (rooted : Work) (before : Counts) (ready : 
             omega (arith, roots p, more p, looks p, e, count_append p (map main nodes) (map main observed))
 
         pub round_rights : end.ran.items ≡ settled.work.ran.items → IsUpToDate F old result (nodes ++ observed)
-        round_rights ran_is = up_end M old settled before after ready.kept begins kept last.0 last.1 last.2 idle empty end r in_step ran strict round
+        round_rights ran_is = up_end M old settled before after ready.kept begins kept last.0 last.1 last.2 idle empty end r in_step ran retries round
             same_round (nodes ++ observed) all_rooted is ran_is

@@ -14,7 +14,7 @@ use Rattle.link_table.specs.Links.{times}
 use Rattle.necessary_graph.specs.Part.{Needed}
 use Rattle.node_arena.specs.Arena.{Arena, row_at, with_value}
 use Rattle.inc_terms.specs.Work.{taken_by}
-use Rattle.stabilize_round.specs.State.{Call, count}
+use Rattle.stabilize_round.specs.State.{Call, count, all_retries}
 use Rattle.stabilize_round.specs.Invariant.{Recalls}
 use Rattle.node_outcomes.specs.Computing.{KeepsAnswers}
 use Rattle.node_outcomes.specs.Meaning.{Meaning}
@@ -49,7 +49,7 @@ pub record IsBetween (F : Functions) (arena : Arena) (work : Work) : Type 0 wher
   pub unsettled : (p : Point) → settled_in work.round (at work.rows p) ≡ false
   pub deaths : (n : NodeId) → died_at work n ≡ None
   pub numbered : 0 < work.round
-  pub strict : work.strict ≡ false
+  pub retries : work.retries ≡ all_retries
   pub todo : work.todo.items ≡ []
   pub ran : work.ran.items ≡ []
 
@@ -91,7 +91,7 @@ pub record Stays (before arena : Arena) (old work : Work) : Type 0 where
       → (was : Row) × (row_at before n ≡ Some was) × (was.scope ≡ Some b)
   pub deaths : work.deaths ≡ old.deaths
   pub ran : work.ran.items ≡ old.ran.items
-  pub strict : work.strict ≡ old.strict
+  pub retries : work.retries ≡ old.retries
   pub round : work.round ≡ old.round
   pub todo : work.todo.items ≡ old.todo.items
 

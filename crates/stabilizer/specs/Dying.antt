@@ -221,7 +221,7 @@ pub record HasDied (old new : Parts) (b : NodeId) : Type 0 where
   pub scoped : new.work.scoped.nodes ≡ old.work.scoped.nodes
   pub todo : new.work.todo.items ≡ old.work.todo.items
   pub called : new.work.ran.items ≡ old.work.ran.items
-  pub strict : new.work.strict ≡ old.work.strict
+  pub retries : new.work.retries ≡ old.work.retries
   pub round : new.work.round ≡ old.work.round
   pub ran : new.ran ≡ old.ran
 
@@ -272,5 +272,5 @@ pub record AreBuried (before arena : Arena) (old new : Work) (nodes : List NodeI
   pub scoped : new.scoped.nodes ≡ old.scoped.nodes
   pub todo : new.todo.items ≡ old.todo.items
   pub ran : new.ran.items ≡ old.ran.items
-  pub strict : new.strict ≡ old.strict
+  pub retries : new.retries ≡ old.retries
   pub round : new.round ≡ old.round

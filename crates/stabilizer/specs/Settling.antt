@@ -34,5 +34,5 @@ pub record IsSettled (old new : Work) (n : NodeId) (o : Outcome) (last : Option 
   pub deaths : new.deaths ≡ old.deaths
   pub ran : new.ran.items ≡ ran_then calls old.ran.items n
   pub todo : new.todo.items ≡ old.todo.items
-  pub strict : new.strict ≡ old.strict
+  pub retries : new.retries ≡ old.retries
   pub round : new.round ≡ old.round

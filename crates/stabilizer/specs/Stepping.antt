@@ -1,5 +1,5 @@
 -- What a step does.
-use Rattle.std.specs.Prelude.{◌≡◌, ◌≢◌, ◌⊎◌, ◌↔◌, ◌<◌, ◌≤◌, ◌+◌, ◌*◌, ℕ, Bool, true, false, cond, not, ◌&&◌, List, [], length, Option, None, Some, is_some}
+use Rattle.std.specs.Prelude.{◌≡◌, ◌≢◌, ◌⊎◌, ◌↔◌, ◌<◌, ◌≤◌, ◌+◌, ◌*◌, ℕ, Bool, true, not, ◌&&◌, List, [], length, Option, None, Some, is_some}
 use Rattle.inc_value.specs.declared.node.NodeId.{NodeId}
 use Rattle.inc_value.specs.declared.node.Point.{Point}
 use Rattle.inc_value.specs.declared.outcome.Outcome.{Outcome}
@@ -64,7 +64,7 @@ pub record MainIsLeft (arena : Arena) (old new : Work) (n : NodeId) (before afte
   pub deaths : new.deaths ≡ old.deaths
   pub todo : new.todo.items ≡ old.todo.items
   pub ran : new.ran.items ≡ old.ran.items
-  pub strict : new.strict ≡ old.strict
+  pub retries : new.retries ≡ old.retries
   pub round : new.round ≡ old.round
   pub count : (after.calls ≡ before.calls) ⊎ HasCalledSome (graph_at arena old) n before.calls after.calls
   pub rest : IsOfBuilds before after
@@ -119,7 +119,7 @@ pub record ChangeIsSettled (M : Meaning) (old new : Parts) (n : NodeId) (before 
   pub turns : IsTurned M old turned n before after
   pub attached : Work
   pub attaches : Attaches turned.arena turned.work attached n
-  pub full : IsWaiting turned.work n → (stage_in (at attached.rows (main n)) ≡ Some Full) ⊎ ((turned.work.strict ≡ false) × (attached.strict ≡ true))
+  pub full : IsWaiting turned.work n → (stage_in (at attached.rows (main n)) ≡ Some Full) ⊎ (attached.retries < turned.work.retries)
   pub wires : Wires turned.arena attached new.work None
   pub rest : new ≡ record turned { work = new.work }
 
@@ -185,11 +185,11 @@ is_again work p = settled_in work.round (at work.rows p) && is_some (at work.gra
 abbrev pub is_unsettled : Work → Point → Bool
 is_unsettled work p = not (settled_in work.round (at work.rows p))
 
--- a number for each of these in the order in which they count: refusals aren't final; points to settle; settled changes whose mains lack links; settled
--- points that are in the heap again
+-- a number for each of these in the order in which they count: links that may be tried again; points to settle; settled changes whose mains lack links;
+-- settled points that are in the heap again
 abbrev pub left_to_settle : Work → List Point → List NodeId → ℕ
 left_to_settle work points nodes =
-    ((cond work.strict 0 1 * (length points + 1) + number_of (is_unsettled work) points) * (length nodes + 1) + number_of (is_loose work) nodes)
+    ((work.retries * (length points + 1) + number_of (is_unsettled work) points) * (length nodes + 1) + number_of (is_loose work) nodes)
     * (length points + 1) + number_of (is_again work) points
 
 -- each point that has a row is of these, and its node

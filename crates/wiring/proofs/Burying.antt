@@ -165,7 +165,7 @@ pub record IsElsewhere (old new : Work) : Type 0 where
   pub scoped : new.scoped.nodes ≡ old.scoped.nodes
   pub todo : new.todo ≡ old.todo
   pub ran : new.ran ≡ old.ran
-  pub strict : new.strict ≡ old.strict
+  pub retries : new.retries ≡ old.retries
   pub round : new.round ≡ old.round
 
 -- rows stay while readers are told
@@ -233,7 +233,7 @@ module _ (old told gone : Work) (n : NodeId) (died : IsSome (died_at old n)) (t 
     scoped = beside.scoped;
     todo = beside.todo;
     ran = beside.ran;
-    strict = beside.strict;
+    retries = beside.retries;
     round = beside.round;
   }
     where
@@ -294,7 +294,7 @@ module _ (old told gone : Work) (n : NodeId) (died : IsSome (died_at old n)) (t 
       scoped = beside.scoped;
       todo = beside.todo;
       ran = beside.ran;
-      strict = beside.strict;
+      retries = beside.retries;
       round = beside.round;
     }
 
@@ -315,7 +315,7 @@ module _ (old told gone : Work) (first : told ≡ with_graph old told.graph) (se
     scoped = same ∙ (ap (λ (w : Work). w.scoped.nodes) second ∙ ap (λ (w : Work). w.scoped.nodes) first);
     todo = ap (λ (w : Work). w.todo) second ∙ ap (λ (w : Work). w.todo) first;
     ran = ap (λ (w : Work). w.ran) second ∙ ap (λ (w : Work). w.ran) first;
-    strict = ap (λ (w : Work). w.strict) second ∙ ap (λ (w : Work). w.strict) first;
+    retries = ap (λ (w : Work). w.retries) second ∙ ap (λ (w : Work). w.retries) first;
     round = ap (λ (w : Work). w.round) second ∙ ap (λ (w : Work). w.round) first;
   }
 
@@ -332,7 +332,7 @@ module _ (old told gone : Work) (first : told ≡ with_graph old told.graph) (se
           scoped = ap (λ (w : Work). w.scoped.nodes) fourth ∙ (ap (λ (w : Work). w.scoped.nodes) third ∙ before.scoped);
           todo = ap (λ (w : Work). w.todo) fourth ∙ (ap (λ (w : Work). w.todo) third ∙ before.todo);
           ran = ap (λ (w : Work). w.ran) fourth ∙ (ap (λ (w : Work). w.ran) third ∙ before.ran);
-          strict = ap (λ (w : Work). w.strict) fourth ∙ (ap (λ (w : Work). w.strict) third ∙ before.strict);
+          retries = ap (λ (w : Work). w.retries) fourth ∙ (ap (λ (w : Work). w.retries) third ∙ before.retries);
           round = ap (λ (w : Work). w.round) fourth ∙ (ap (λ (w : Work). w.round) third ∙ before.round);
         }
 

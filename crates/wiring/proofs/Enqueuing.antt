@@ -111,7 +111,7 @@ woken old mid todo rows q w e rest there more =
         roots = ap (λ (k : Work). k.roots) rest;
         deaths = ap (λ (k : Work). k.deaths) rest;
         ran = ap (λ (k : Work). k.ran.items) rest;
-        strict = ap (λ (k : Work). k.strict) rest;
+        retries = ap (λ (k : Work). k.retries) rest;
         round = ap (λ (k : Work). k.round) rest;
       };
       step = e.step;
@@ -145,7 +145,7 @@ module _ (old : Work) (q : Point) (step_is : IsInStep old.graph) (dead : at old.
     leaf = λ none. leaf;
     todo = before;
     lists = record { pairs = refl; scoped = refl };
-    round = record { roots = refl; deaths = refl; ran = refl; strict = refl; round = refl };
+    round = record { roots = refl; deaths = refl; ran = refl; retries = refl; round = refl };
     step = step_is;
   }
 

@@ -145,7 +145,7 @@ more_wires arena work p rowed need not_bare not_gated F z s counts inv on unlink
         | inl k ↦ inl k
         | inr e ↦ absurd (out (ap s.todo (sym e) ∙ t))
       ];
-      strict = on.strict;
+      retries = on.retries;
       died = on.died;
       ran = on.ran;
       counts = on.counts;

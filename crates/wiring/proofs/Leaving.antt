@@ -51,7 +51,7 @@ popped_of work todo p items = record {
   graph = refl;
   rows = refl;
   lists = record { pairs = refl; scoped = refl };
-  round = record { roots = refl; deaths = refl; ran = refl; strict = refl; round = refl };
+  round = record { roots = refl; deaths = refl; ran = refl; retries = refl; round = refl };
   items = items;
 }
 
@@ -120,7 +120,7 @@ module _ (arena : Arena) (old new : Work) (p : Point) (popped : IsPopped old new
   popped_shorter : (points : List Point) → left_to_wire new points < left_to_wire old points
   popped_shorter points =
       let long = ap length popped.items in let parts = length-append new.todo.items (p ∷ []) in
-      rw (popped.graph, popped.round.strict) (omega (arith, long, parts))
+      rw (popped.graph, popped.round.retries) (omega (arith, long, parts))
 
 -- ---- what holds while points of the worklist get their links
 
@@ -206,5 +206,5 @@ looks_empty work todo items = record {
   heap = λ p. refl;
   todo = sym items;
   lists = record { pairs = refl; scoped = refl };
-  round = record { roots = refl; deaths = refl; ran = refl; strict = refl; round = refl };
+  round = record { roots = refl; deaths = refl; ran = refl; retries = refl; round = refl };
 }

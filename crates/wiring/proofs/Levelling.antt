@@ -57,7 +57,7 @@ module _ (F : Functions) (z : Start) (s : State) (arena : Arena) (old new : Work
     stage = λ a k e. st.stage a k (sym (l.rows a) ∙ e);
     owed = st.owed;
     todo = λ a t. subst (λ (xs : List Point). Among a xs ⊎ IsInHand held a) (sym l.todo) (st.todo a t);
-    strict = st.strict ∙ sym l.round.strict;
+    retries = st.retries ∙ sym l.round.retries;
     died = λ n. st.died n ∙ sym (died_same old new l.round.deaths n);
     ran = st.ran ∙ ap reverse (sym l.round.ran);
     counts = st.counts;

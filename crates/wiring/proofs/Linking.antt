@@ -163,7 +163,7 @@ module _ (F : Functions) (z : Start) (s : State) (arena : Arena) (old : Work) (g
     stage = st.stage;
     owed = owed_after;
     todo = st.todo;
-    strict = st.strict;
+    retries = st.retries;
     died = st.died;
     ran = st.ran;
     counts = st.counts;
@@ -268,7 +268,7 @@ module _ (F : Functions) (z : Start) (s : State) (arena : Arena) (mid new : Work
     stage = stage_is;
     owed = owed_is;
     todo = todo_is;
-    strict = st.strict ∙ sym w.round.strict;
+    retries = st.retries ∙ sym w.round.retries;
     died = λ n. st.died n ∙ sym (died_same mid new w.round.deaths n);
     ran = st.ran ∙ ap reverse (sym w.round.ran);
     counts = st.counts;

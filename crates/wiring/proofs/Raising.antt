@@ -22,7 +22,7 @@ use Rattle.stabilize_round.specs.Machine as move
 use Rattle.stabilize_round.specs.State as machine
 use Rattle.stabilize_round.specs.State.{State, Start, at_point, count, planned, plan_at, live_plan}
 use Rattle.stabilize_round.specs.Machine.{Move}
-use Rattle.stabilize_round.specs.Steps.{Wires as WiringMove, TakesOff as OffMove, TakingOff, Turns, Wiring, Wired, plainly, after_refusal}
+use Rattle.stabilize_round.specs.Steps.{Wires as WiringMove, TakesOff as OffMove, TakingOff, Spends, Wiring, Wired, plainly, after_refusal}
 use Rattle.stabilize_round.specs.Wire.{raised, Raise, finished, Finish}
 use Rattle.stabilize_round.proofs.Parts.{bool_cases}
 use Rattle.stabilize_round.proofs.Points.{same_or_other, at_same, at_other, count_append}
@@ -49,18 +49,23 @@ wired_before F z s u t a (after_refusal {u = x} {v = v} {w = w} b c m h d) = aft
 
 pub wired_after : (F : Functions) (z : Start) (s u t : State) → Wired F z s u → Reaches (Wiring F z) u t → Wired F z s t
 wired_after F z s u t (plainly a) b = plainly (joined (Wiring F z) s u t a b)
-wired_after F z s u t (after_refusal {u = x} {v = v} {w = w} a c m h d) b = after_refusal {u = x} {v = v} {w = w} a c m h (joined (Wiring F z) w u t d b)
+wired_after F z s u t (after_refusal {u = x} {v = v} {w = w} a c m h d) b = after_refusal {u = x} {v = v} {w = w} a c m h (wired_after F z w u t d b)
 
--- refusals are as final as before, and the same is settled
+pub wired_then : (F : Functions) (z : Start) (s t u : State) → Wired F z s t → Wired F z t u → Wired F z s u
+wired_then F z s t u (plainly a) b = wired_before F z s t u a b
+wired_then F z s t u (after_refusal {u = x} {v = v} {w = w} a off m h c) b =
+    after_refusal {u = x} {v = v} {w = w} a off m h (wired_then F z w t u c b)
+
+-- links may be tried again as often as before, and the same is settled
 record IsAsSettled (s t : State) : Type 0 where
-  strict : t.strict ≡ s.strict
+  retries : t.retries ≡ s.retries
   settled : t.settled ≡ s.settled
 
-as_settled : (s t : State) (u : State) → t ≡ u → u.strict ≡ s.strict → u.settled ≡ s.settled → IsAsSettled s t
-as_settled s t u e strict settled = record { strict = ap (λ (x : State). x.strict) e ∙ strict; settled = ap (λ (x : State). x.settled) e ∙ settled }
+as_settled : (s t : State) (u : State) → t ≡ u → u.retries ≡ s.retries → u.settled ≡ s.settled → IsAsSettled s t
+as_settled s t u e retries settled = record { retries = ap (λ (x : State). x.retries) e ∙ retries; settled = ap (λ (x : State). x.settled) e ∙ settled }
 
 settled_then : (s t u : State) → IsAsSettled s t → IsAsSettled t u → IsAsSettled s u
-settled_then s t u a b = record { strict = b.strict ∙ a.strict; settled = b.settled ∙ a.settled }
+settled_then s t u a b = record { retries = b.retries ∙ a.retries; settled = b.settled ∙ a.settled }
 
 wiring_one : (F : Functions) (z : Start) (s t : State) (m : Move F z s t) → WiringMove m → IsAsSettled s t
 wiring_one F z s t (move.link x n e) h = as_settled s t _ e refl refl
@@ -75,7 +80,7 @@ wiring_one F z s t (move.step_change q x e) h = absurd h
 wiring_one F z s t (move.root n e) h = absurd h
 wiring_one F z s t (move.root_new g n k e) h = absurd h
 wiring_one F z s t (move.rebuild r b c e) h = absurd h
-wiring_one F z s t (move.turn_strict u k e) h = absurd h
+wiring_one F z s t (move.spend u k e) h = absurd h
 
 off_one : (F : Functions) (z : Start) (s t : State) (m : Move F z s t) → OffMove m → IsAsSettled s t
 off_one F z s t (move.link x n e) h = absurd h
@@ -90,59 +95,39 @@ off_one F z s t (move.step_change q x e) h = absurd h
 off_one F z s t (move.root n e) h = absurd h
 off_one F z s t (move.root_new g n k e) h = absurd h
 off_one F z s t (move.rebuild r b c e) h = absurd h
-off_one F z s t (move.turn_strict u k e) h = absurd h
+off_one F z s t (move.spend u k e) h = absurd h
 
-turn_one : (F : Functions) (z : Start) (s t : State) (m : Move F z s t) → Turns m → (s.strict ≡ false) × (t.strict ≡ true) × (t.settled ≡ s.settled)
-turn_one F z s t (move.link x n e) h = absurd h
-turn_one F z s t (move.link_new x n k e) h = absurd h
-turn_one F z s t (move.raise x e) h = absurd h
-turn_one F z s t (move.finish x e) h = absurd h
-turn_one F z s t (move.schedule x e) h = absurd h
-turn_one F z s t (move.level x e) h = absurd h
-turn_one F z s t (move.cut d w e) h = absurd h
-turn_one F z s t (move.step_main q x e) h = absurd h
-turn_one F z s t (move.step_change q x e) h = absurd h
-turn_one F z s t (move.root n e) h = absurd h
-turn_one F z s t (move.root_new g n k e) h = absurd h
-turn_one F z s t (move.rebuild r b c e) h = absurd h
-turn_one F z s t (move.turn_strict u k e) h = (u, ap (λ (x : State). x.strict) e, ap (λ (x : State). x.settled) e)
-
-pub turns_was : (F : Functions) (z : Start) (s t : State) (m : Move F z s t) → Turns m → (s.strict ≡ false) × (t.strict ≡ true)
-turns_was F z s t m h = let a = turn_one F z s t m h in (a.0, a.1)
+spend_settled : (F : Functions) (z : Start) (s t : State) (m : Move F z s t) → Spends m → t.settled ≡ s.settled
+spend_settled F z s t (move.link x n e) h = absurd h
+spend_settled F z s t (move.link_new x n k e) h = absurd h
+spend_settled F z s t (move.raise x e) h = absurd h
+spend_settled F z s t (move.finish x e) h = absurd h
+spend_settled F z s t (move.schedule x e) h = absurd h
+spend_settled F z s t (move.level x e) h = absurd h
+spend_settled F z s t (move.cut d w e) h = absurd h
+spend_settled F z s t (move.step_main q x e) h = absurd h
+spend_settled F z s t (move.step_change q x e) h = absurd h
+spend_settled F z s t (move.root n e) h = absurd h
+spend_settled F z s t (move.root_new g n k e) h = absurd h
+spend_settled F z s t (move.rebuild r b c e) h = absurd h
+spend_settled F z s t (move.spend u k e) h = ap (λ (x : State). x.settled) e
 
 wiring_same : (F : Functions) (z : Start) (s t : State) → Reaches (Wiring F z) s t → IsAsSettled s t
-wiring_same F z s t here = record { strict = refl; settled = refl }
+wiring_same F z s t here = record { retries = refl; settled = refl }
 wiring_same F z s t (step {b = u} m rest) = settled_then s u t (wiring_one F z s u m.0 m.1) (wiring_same F z u t rest)
 
 off_same : (F : Functions) (z : Start) (s t : State) → Reaches (TakingOff F z) s t → IsAsSettled s t
-off_same F z s t here = record { strict = refl; settled = refl }
+off_same F z s t here = record { retries = refl; settled = refl }
 off_same F z s t (step {b = u} m rest) = settled_then s u t (off_one F z s u m.0 m.1) (off_same F z u t rest)
 
-pub wiring_strict : (F : Functions) (z : Start) (s t : State) → Reaches (Wiring F z) s t → t.strict ≡ s.strict
-wiring_strict F z s t w = (wiring_same F z s t w).strict
-
-pub off_strict : (F : Functions) (z : Start) (s t : State) → Reaches (TakingOff F z) s t → t.strict ≡ s.strict
-off_strict F z s t w = (off_same F z s t w).strict
+pub wiring_retries : (F : Functions) (z : Start) (s t : State) → Reaches (Wiring F z) s t → t.retries ≡ s.retries
+wiring_retries F z s t w = (wiring_same F z s t w).retries
 
 -- what was settled is, and no more
 pub wired_settled : (F : Functions) (z : Start) (s t : State) → Wired F z s t → t.settled ≡ s.settled
 wired_settled F z s t (plainly a) = (wiring_same F z s t a).settled
-wired_settled F z s t (after_refusal {u = u} {v = v} {w = w} a off m turns b) =
-    (wiring_same F z w t b).settled ∙ ((turn_one F z v w m turns).2 ∙ ((off_same F z u v off).settled ∙ (wiring_same F z s u a).settled))
-
--- where refusals are final no more is taken off
-pub strict_plainly : (F : Functions) (z : Start) (s t : State) → s.strict ≡ true → Wired F z s t → Reaches (Wiring F z) s t
-strict_plainly F z s t strict (plainly a) = a
-strict_plainly F z s t strict (after_refusal {u = u} {v = v} {w = w} a off m turns b) =
-    let weak = (turns_was F z v w m turns).0 in
-    let same = off_strict F z u v off ∙ wiring_strict F z s u a in
-    absurd (let x = sym weak ∙ (same ∙ strict) in cc)
-
-pub wired_then : (F : Functions) (z : Start) (s t u : State) → Wired F z s t → Wired F z t u → Wired F z s u
-wired_then F z s t u (plainly a) b = wired_before F z s t u a b
-wired_then F z s t u (after_refusal {u = x} {v = v} {w = w} a off m turns c) b =
-    let strict = wiring_strict F z w t c ∙ (turns_was F z v w m turns).1 in
-    wired_after F z s t u (after_refusal {u = x} {v = v} {w = w} a off m turns c) (strict_plainly F z t u strict b)
+wired_settled F z s t (after_refusal {u = u} {v = v} {w = w} a off m h b) =
+    wired_settled F z w t b ∙ (spend_settled F z v w m h ∙ ((off_same F z u v off).settled ∙ (wiring_same F z s u a).settled))
 
 -- where the error is this one
 pub if_refusal : {T E : Type 0} (P : E → Type 0) (e : E) (r : Result T E) → IsErrAnd r (λ y. y ≡ e) → P e → IfErr r P
@@ -181,7 +166,7 @@ pub record IsRowed (old new : Work) : Type 0 where
 pub only_rows : (old : Work) (rows : Rows Progress) → IsRowed old (record old { rows = rows })
 only_rows old rows = record {
   graph = refl;
-  round = record { roots = refl; deaths = refl; ran = refl; strict = refl; round = refl };
+  round = record { roots = refl; deaths = refl; ran = refl; retries = refl; round = refl };
   lists = record { pairs = refl; scoped = refl };
   todo = refl;
 }
@@ -227,7 +212,7 @@ module _ (old new : Work) (p : Point) (st : Stage) (w : IsRewritten old.rows new
   pub staged_grows : (next : Work) → Grows new next → Grows old next
   staged_grows next grows points covers =
       let more = grows points (λ a h. covers a (has_links_same new old (λ x. sym (staged_there x)) (sym same.round.deaths) a h)) in
-      let as_before : left_to_wire new points ≡ left_to_wire old points = rw (same.round.strict, same.todo, same.graph) refl in
+      let as_before : left_to_wire new points ≡ left_to_wire old points = rw (same.round.retries, same.todo, same.graph) refl in
       omega (arith, more, as_before)
 
   pub staged_kept : (arena : Arena) → IsKept arena old → IsKept arena new
@@ -286,7 +271,7 @@ module _ (old new : Work) (p : Point) (st : Stage) (w : IsRewritten old.rows new
       stage = stage_now old.rows new.rows p st w s.stage on.stage;
       owed = owed_raised s p links (stage_of st) on.owed;
       todo = λ a t. subst (λ (xs : List Point). Among a xs ⊎ (a ≡ p)) (sym same.todo) (on.todo a t);
-      strict = on.strict ∙ sym same.round.strict;
+      retries = on.retries ∙ sym same.round.retries;
       died = λ n. on.died n ∙ sym (died_same old new same.round.deaths n);
       ran = on.ran ∙ ap reverse (sym same.round.ran);
       counts = on.counts;
@@ -315,7 +300,7 @@ module _ (F : Functions) (z : Start) (s : State) (arena : Arena) (work : Work) (
     ];
     owed = owed_raised s p links st on.owed;
     todo = on.todo;
-    strict = on.strict;
+    retries = on.retries;
     died = on.died;
     ran = on.ran;
     counts = on.counts;
@@ -349,7 +334,7 @@ leaves_hand F z s arena work counts p on unlinked finishes = (
           cc)
       | inr ne ↦ elim (on.todo a (sym (at_other p false s.todo a ne) ∙ t)) [ inl k ↦ inl k | inr k ↦ absurd (ne (sym k)) ]
     ];
-    strict = on.strict;
+    retries = on.retries;
     died = on.died;
     ran = on.ran;
     counts = on.counts;

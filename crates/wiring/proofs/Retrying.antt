@@ -1,6 +1,7 @@
--- A link that was refused is tried again, once what wasn't confirmed is off.
-use Rattle.std.proofs.Common.{◌≡◌, inl, inr, ℕ, ◌≤◌, Bool, true, false, cond, List, [], ◌∷◌, length, Option, None, Some, refl, sym, ap, subst, ◌∙◌, arith}
+-- A link that was refused is tried again, once some of what wasn't confirmed is off, or all.
+use Rattle.std.proofs.Common.{◌≡◌, inl, inr, ℕ, ◌+◌, ◌<◌, ◌≤◌, Bool, true, false, cond, List, [], ◌∷◌, length, Option, None, Some, refl, sym, ap, subst, ◌∙◌, arith}
 use Rattle.std.specs.Prelude.{not, option_map}
+use Rattle.std.proofs.lemmas.Nat.{mul-le}
 use Rattle.std.proofs.lemmas.Option.{none-some}
 use Rattle.inc_value.specs.declared.node.NodeId.{NodeId}
 use Rattle.inc_value.specs.declared.node.Point.{Point}
@@ -17,11 +18,11 @@ use Rattle.necessary_graph.specs.Part.{NecessaryPart, Needed, IsInStep}
 use Rattle.necessary_graph.proofs.Reaching.{needed_more}
 use Rattle.node_arena.specs.Arena.{Arena, row_at}
 use Rattle.stabilize_round.specs.Invariant.{Invariant}
-use Rattle.stabilize_round.specs.Machine.{Move, step_main, step_change, link, link_new, root, root_new, raise, finish, schedule, cut, rebuild, turn_strict}
+use Rattle.stabilize_round.specs.Machine.{Move, step_main, step_change, link, link_new, root, root_new, raise, finish, schedule, cut, rebuild, spend}
 use Rattle.stabilize_round.specs.Machine as move
 use Rattle.stabilize_round.specs.State as machine
 use Rattle.stabilize_round.specs.State.{State, Start, at_point, count, planned, plan_at, live_plan}
-use Rattle.stabilize_round.specs.Steps.{TakesOff as OffMove, TakingOff, Turns, Wiring, Wired, after_refusal}
+use Rattle.stabilize_round.specs.Steps.{TakesOff as OffMove, TakingOff, Spends, Wiring, Wired, plainly, after_refusal}
 use Rattle.stabilize_round.specs.Wire.{IsConfirmed, levelled, finished, Finish}
 use Rattle.stabilize_round.proofs.Machine.{moves_keep}
 use Rattle.stabilize_round.proofs.Steps.{off_moves, wiring_moves}
@@ -30,22 +31,26 @@ use Rattle.stabilize_round.proofs.Points.{same_or_other, at_same, at_other}
 use Rattle.stabilize_round.specs.Counts.{number_of}
 use Rattle.wiring.specs.Deciding.{is_needed}
 use Rattle.wiring.specs.Growing.{Grows, unneeded}
-use Rattle.wiring.specs.Refusing.{RefusedBy, TellsWhy, by_link}
+use Rattle.wiring.specs.Graph.{HasLinks}
+use Rattle.wiring.specs.Kept.{IsKept}
+use Rattle.wiring.specs.Refusing.{RefusedBy}
 use Rattle.node_outcomes.specs.Row.{with_stage, settled_in, stage_in}
 use Rattle.node_outcomes.specs.declared.row.Progress.{Progress}
 use Rattle.node_outcomes.specs.declared.row.Stage.{Stage}
 use Rattle.node_outcomes.specs.declared.row.Stage.TheVariants as code
 use Rattle.wiring.specs.Stands.{Stands, Hand, hand, Counts}
-use Rattle.wiring.specs.Wiring.{IsDue, IsLevelled, IsSpared, IsPutBack, HasMore, IsTarget, MayRead, KeepsPlaces, TakesOff, Links, is_gated, is_still, hand_now, AreUnlinked}
+use Rattle.wiring.specs.Wiring.{IsDue, IsLevelled, IsSpared, IsPutBack, HasMore, IsTarget, MayRead, KeepsPlaces, TakesOff, Links, Connects, ConnectRefused, LosesNeed, is_gated, is_still, hand_now, AreUnlinked}
 use Rattle.wiring.specs.declared.refused.Refused.{Refused}
 use Rattle.wiring.specs.declared.work.Work.{Work}
 use Rattle.wiring.proofs.Deciding.{decides_needed}
-use Rattle.wiring.proofs.Holding.{links_same}
-use Rattle.wiring.proofs.InHand.{still_same, still_not, still_needed, nothing, nothing_at, change_settled}
-use Rattle.wiring.proofs.Levelling.{low_wiring, low_stands, low_confirmed}
+use Rattle.wiring.proofs.Growing.{grows_then}
+use Rattle.wiring.proofs.Holding.{has_links_same, links_same}
+use Rattle.wiring.proofs.InHand.{still_same, still_not, still_needed, still_spared, nothing, nothing_at, change_settled}
+use Rattle.wiring.proofs.Levelling.{low_wiring, low_stands, refused_at_once}
 use Rattle.wiring.proofs.PuttingBack.{gate_once, gated_now, more_isnt_gated}
+use Rattle.wiring.proofs.Raising.{wired_then, wired_after}
 use Rattle.wiring.proofs.TakingAll.{RowsSpared, rows_keep, places_then}
-use Rattle.wiring.proofs.Unlinked.{off_unlinked, turn_unlinked, finished_unlinked}
+use Rattle.wiring.proofs.Unlinked.{off_unlinked, spend_unlinked, finished_unlinked}
 
 -- ---- what the moves that take off keep
 
@@ -81,26 +86,26 @@ off_keeps_one F z s t (raise x e) h = absurd h
 off_keeps_one F z s t (finish x e) h = absurd h
 off_keeps_one F z s t (rebuild r b k e) h = absurd h
 off_keeps_one F z s t (move.level x e) h = absurd h
-off_keeps_one F z s t (turn_strict u k e) h = absurd h
+off_keeps_one F z s t (spend u k e) h = absurd h
 
 pub off_keeps : (F : Functions) (z : Start) (s t : State) → Reaches (TakingOff F z) s t → Keeps s t
 off_keeps F z s t here = keeps_self s
 off_keeps F z s t (step {b = u} m rest) = keeps_then s u t (off_keeps_one F z s u m.0 m.1) (off_keeps F z u t rest)
 
-turns_keep : (F : Functions) (z : Start) (s t : State) (m : Move F z s t) → Turns m → Keeps s t
-turns_keep F z s t (turn_strict u k e) h = subst (λ (x : State). Keeps s x) (sym e) (record { graph = refl; died = refl; settled = refl; out = refl; taken = refl })
-turns_keep F z s t (schedule x e) h = absurd h
-turns_keep F z s t (cut d w e) h = absurd h
-turns_keep F z s t (step_main q x e) h = absurd h
-turns_keep F z s t (step_change q x e) h = absurd h
-turns_keep F z s t (link x n e) h = absurd h
-turns_keep F z s t (link_new x n k e) h = absurd h
-turns_keep F z s t (root n e) h = absurd h
-turns_keep F z s t (root_new g n k e) h = absurd h
-turns_keep F z s t (raise x e) h = absurd h
-turns_keep F z s t (finish x e) h = absurd h
-turns_keep F z s t (rebuild r b k e) h = absurd h
-turns_keep F z s t (move.level x e) h = absurd h
+spends_keep : (F : Functions) (z : Start) (s t : State) (m : Move F z s t) → Spends m → Keeps s t
+spends_keep F z s t (spend u k e) h = subst (λ (x : State). Keeps s x) (sym e) (record { graph = refl; died = refl; settled = refl; out = refl; taken = refl })
+spends_keep F z s t (schedule x e) h = absurd h
+spends_keep F z s t (cut d w e) h = absurd h
+spends_keep F z s t (step_main q x e) h = absurd h
+spends_keep F z s t (step_change q x e) h = absurd h
+spends_keep F z s t (link x n e) h = absurd h
+spends_keep F z s t (link_new x n k e) h = absurd h
+spends_keep F z s t (root n e) h = absurd h
+spends_keep F z s t (root_new g n k e) h = absurd h
+spends_keep F z s t (raise x e) h = absurd h
+spends_keep F z s t (finish x e) h = absurd h
+spends_keep F z s t (rebuild r b k e) h = absurd h
+spends_keep F z s t (move.level x e) h = absurd h
 
 still_confirmed : (s t : State) (p q : Point) → Keeps s t → IsConfirmed s p q → IsConfirmed t p q
 still_confirmed s t p q k c = record {
@@ -164,7 +169,7 @@ kept_row arena old new p rows spared still = elim (rows p spared) [
 ]
 
 module _ (F : Functions) (z : Start) (s : State) (arena : Arena) (old mid new : Work) (counts : Counts) (p q : Point) (rest : List Point)
-    (due : IsDue F z s arena old counts p q rest) (l : IsLevelled old mid) (weak : old.strict ≡ false) (need : Needed mid.graph p)
+    (due : IsDue F z s arena old counts p q rest) (l : IsLevelled old mid) (some : 0 < old.retries) (need : Needed mid.graph p)
     (spared : IsSpared arena mid p) (off : TakesOff arena mid new) (in_step : IsInStep new.graph) (rows : RowsSpared arena mid new)
     (round : new.round ≡ mid.round) where
   abbrev pub held : Option Hand
@@ -188,8 +193,8 @@ module _ (F : Functions) (z : Start) (s : State) (arena : Arena) (old mid new : 
       ∙ (ap (settled_in old.round) (l.rows (change b))
       ∙ due.gate r b row scope among (subst (λ (x : Option Progress). HasMore (stage_in x)) (l.rows p) more))
 
-  pub was : (t u : State) × Reaches (TakingOff F z) first t × ((m : Move F z t u) × Turns m) × Stands arena new counts (hand_now mid new held) u
-  was = off F z first counts held first_inv (due.stands.strict ∙ weak)
+  pub was : (t u : State) × Reaches (TakingOff F z) first t × ((m : Move F z t u) × Spends m) × Stands arena new counts (hand_now mid new held) u
+  was = off F z first counts held first_inv (subst (λ (i : ℕ). 0 < i) (sym due.stands.retries) some)
       (record { spared = spared; needed = inr need; gate = gate_ran }) first_stands
 
   abbrev pub then : State
@@ -197,16 +202,16 @@ module _ (F : Functions) (z : Start) (s : State) (arena : Arena) (old mid new : 
 
   keeps : Keeps s then
   keeps = keeps_then s was.0 then (keeps_then s first was.0 (record { graph = refl; died = refl; settled = refl; out = refl; taken = refl })
-      (off_keeps F z first was.0 was.2)) (turns_keep F z was.0 then was.3.0 was.3.1)
+      (off_keeps F z first was.0 was.2)) (spends_keep F z was.0 then was.3.0 was.3.1)
 
   then_inv : Invariant F z then
   then_inv = moves_keep F z was.0 then (step was.3.0 here) (moves_keep F z first was.0 (off_moves F z first was.0 was.2) first_inv)
 
   wired_on : (t : State) → Reaches (Wiring F z) then t → Wired F z s t
-  wired_on t more = after_refusal {u = first} {v = was.0} {w = then} first_wiring was.2 was.3.0 was.3.1 more
+  wired_on t more = after_refusal {u = first} {v = was.0} {w = then} first_wiring was.2 was.3.0 was.3.1 (plainly more)
 
   unlinked : AreUnlinked (Some (hand p [])) then
-  unlinked = turn_unlinked F z (Some (hand p [])) was.0 then was.3.0 was.3.1 (off_unlinked F z (Some (hand p [])) first was.0 was.2 due.unlinked)
+  unlinked = spend_unlinked F z (Some (hand p [])) was.0 then was.3.0 was.3.1 (off_unlinked F z (Some (hand p [])) first was.0 was.2 due.unlinked)
 
   settled_still : (b : NodeId) → settled_in new.round (at new.rows (change b)) ≡ settled_in mid.round (at mid.rows (change b))
   settled_still b = change_settled arena mid new (rows_keep arena mid new rows) round (change b)
@@ -227,18 +232,9 @@ module _ (F : Functions) (z : Start) (s : State) (arena : Arena) (old mid new : 
       unlinked = unlinked;
     }
 
-    pub linked_again : (last : Work) → Links arena new last p q
-        → (t : State) × Wired F z s t × Stands arena last counts (Some (hand p rest)) t × AreUnlinked (Some (hand p [])) t
-    linked_again last links = let a = links F z then counts rest due_again in (a.0, wired_on a.0 a.1, a.2, a.3)
-
-    pub refused_again : (last : Work) (e : Refused) → IsLevelled new last → RefusedBy last p q e
-        → (t : State) × Wired F z s t × Stands arena last counts held t × TellsWhy F t last held e
-    refused_again last e k why = (
-      _,
-      wired_on _ (low_wiring F z then arena new last counts held due_again.stands k),
-      low_stands F z then arena new last counts held due_again.stands k,
-      by_link ((due_again.stands.needed p).1 still) due_again.depends (low_confirmed then _ p q due_again.confirmed) why,
-    )
+    -- the link may be tried again
+    pub again : (t : State) × Wired F z s t × IsDue F z t arena new counts p q rest
+    again = (then, wired_on then here, due_again)
 
   -- it isn't needed any more, or waits for its gate, and leaves the worklist
   module _ (gone : is_still mid new p ≡ false) where
@@ -273,7 +269,7 @@ module _ (F : Functions) (z : Start) (s : State) (arena : Arena) (old mid new : 
               cc)
           | inr ne ↦ elim (at_hand.todo a (sym (at_other p false then.todo a ne) ∙ t)) [ inl k ↦ inl k | inr k ↦ absurd (ne (sym k)) ]
         ];
-        strict = at_hand.strict;
+        retries = at_hand.retries;
         died = at_hand.died;
         ran = at_hand.ran;
         counts = at_hand.counts;
@@ -364,13 +360,14 @@ unneeded_few : (g : NecessaryPart) (points : List Point) → unneeded g points �
 unfolding unneeded
 unneeded_few g points = few_of (λ (p : Point). not (is_needed g p)) points
 
--- what is left to wire where refusals become final
-pub turned_grows : (old mid new : Work) → mid.strict ≡ old.strict → mid.todo.items ≡ old.todo.items → old.strict ≡ false → new.strict ≡ true
+-- what is left to wire where fewer links may be tried again
+pub spent_grows : (old mid new : Work) → mid.retries ≡ old.retries → mid.todo.items ≡ old.todo.items → new.retries < mid.retries
     → new.todo.items ≡ mid.todo.items → Grows old new
-turned_grows old mid new same todo weak strict listed points covers =
+spent_grows old mid new same todo fewer listed points covers =
     let few = unneeded_few new.graph points in
     let a = ap length (listed ∙ todo) in
-    rw (strict, weak) (omega (arith, few, a))
+    let m = mul-le (new.retries + 1) (length points + 2) old.retries (length points + 2) (omega (arith, fewer, same)) (omega arith) in
+    omega (arith, few, a, m)
 
 -- other heights spare the same points, and leave who is needed
 pub levelled_spared : (arena : Arena) (old new : Work) → IsLevelled old new → (p : Point) → IsSpared arena old p → IsSpared arena new p
@@ -381,10 +378,10 @@ levelled_spared arena old new l p spared e full r row sub =
 pub levelled_need : (old new : Work) → IsLevelled old new → (p : Point) → Needed old.graph p → Needed new.graph p
 levelled_need old new l p n = needed_more old.graph new.graph (λ a r. let e = l.roots a in omega (arith, e, r)) (λ a b x. let e = l.links a b in omega (arith, e, x)) p n
 
--- a link was refused that may be tried again, and what wasn't confirmed is off
+-- a link was refused that may be tried again, and some of what wasn't confirmed is off, or all
 pub record IsOffNow (arena : Arena) (old mid new : Work) (p : Point) : Type 0 where
   pub levelled : IsLevelled old mid
-  pub weak : old.strict ≡ false
+  pub some : 0 < old.retries
   pub need : Needed mid.graph p
   pub spared : IsSpared arena mid p
   pub off : TakesOff arena mid new
@@ -393,13 +390,15 @@ pub record IsOffNow (arena : Arena) (old mid new : Work) (p : Point) : Type 0 wh
   pub round : new.round ≡ mid.round
   pub places : KeepsPlaces old new
   pub grows : Grows old new
+  pub fewer : new.retries < old.retries
 
-pub is_off_now : (arena : Arena) (old mid new : Work) (p : Point) → IsLevelled old mid → mid.strict ≡ old.strict → mid.strict ≡ false
-    → Needed old.graph p → IsSpared arena old p → KeepsPlaces old mid → TakesOff arena mid new → IsInStep new.graph → RowsSpared arena mid new
-    → KeepsPlaces mid new → new.strict ≡ true → new ≡ record mid { graph = new.graph; rows = new.rows; strict = new.strict } → IsOffNow arena old mid new p
-is_off_now arena old mid new p l same weak need spared first off in_step rows places strict rest = record {
+pub is_off_now : (arena : Arena) (old mid new : Work) (p : Point) → IsLevelled old mid → mid.retries ≡ old.retries → Needed old.graph p
+    → IsSpared arena old p → KeepsPlaces old mid → TakesOff arena mid new → IsInStep new.graph → RowsSpared arena mid new
+    → KeepsPlaces mid new → new.retries < mid.retries → new ≡ record mid { graph = new.graph; rows = new.rows; retries = new.retries }
+    → IsOffNow arena old mid new p
+is_off_now arena old mid new p l same need spared first off in_step rows places fewer rest = record {
   levelled = l;
-  weak = sym same ∙ weak;
+  some = omega (arith, fewer, same);
   need = levelled_need old mid l p need;
   spared = levelled_spared arena old mid l p spared;
   off = off;
@@ -407,5 +406,87 @@ is_off_now arena old mid new p l same weak need spared first off in_step rows pl
   rows = rows;
   round = places.round;
   places = places_then old mid new first places;
-  grows = turned_grows old mid new same l.todo (sym same ∙ weak) strict (ap (λ (w : Work). w.todo.items) rest);
+  grows = spent_grows old mid new same l.todo fewer (ap (λ (w : Work). w.todo.items) rest);
+  fewer = omega (arith, fewer, same);
 }
+
+-- ---- what holds while a link is tried again
+
+-- so it is of a point in hand, whose link was refused so far
+pub record IsTrying (arena : Arena) (old now : Work) (p q : Point) : Type 0 where
+  pub due : (F : Functions) (z : Start) (s : State) (counts : Counts) (rest : List Point) → IsDue F z s arena old counts p q rest
+      → (t : State) × Wired F z s t × IsDue F z t arena now counts p q rest
+  pub places : KeepsPlaces old now
+  pub kept : IsKept arena now
+  pub needed : Needed now.graph p
+  pub spared : IsSpared arena now p
+  pub row : at now.rows p ≡ at old.rows p
+  pub grows : Grows old now
+  pub retries : now.retries ≤ old.retries
+
+-- at first
+pub first_trying : (arena : Arena) (work : Work) (p q : Point) → IsKept arena work → Needed work.graph p → IsSpared arena work p → IsTrying arena work work p q
+first_trying arena work p q kept needed spared = record {
+  due = λ F z s counts rest due. (s, plainly here, due);
+  places = record { rows = λ a. refl; roots = λ a. refl; deaths = refl; round = refl };
+  kept = kept;
+  needed = needed;
+  spared = spared;
+  row = refl;
+  grows = λ points covers. omega arith;
+  retries = omega arith;
+}
+
+module _ (arena : Arena) (old now : Work) (p q : Point) (so : IsTrying arena old now p q) where
+  has_links : (a : Point) → HasLinks now a → HasLinks old a
+  has_links = has_links_same now old (λ a. sym (so.places.rows a)) (sym so.places.deaths)
+
+  -- it is needed still, and wasn't put back
+  pub more_trying : (mid new : Work) → IsOffNow arena now mid new p → IsKept arena new → IsStill mid new p → IsTrying arena old new p q
+  more_trying mid new o kept still =
+      let same = kept_row arena mid new p o.rows o.spared still in record {
+        due = λ F z s counts rest due.
+            let a = so.due F z s counts rest due in
+            let b = again F z a.0 arena now mid new counts p q rest a.2 o.levelled o.some o.need o.spared o.off o.step o.rows o.round still.0 same in
+            (b.0, wired_then F z s a.0 b.0 a.1 b.1, b.2);
+        places = places_then old now new so.places o.places;
+        kept = kept;
+        needed = still.0;
+        spared = still_spared arena mid new (rows_keep arena mid new o.rows) o.round p o.spared;
+        row = same ∙ (o.levelled.rows p ∙ so.row);
+        grows = grows_then old now new has_links so.grows o.grows;
+        retries = let a = so.retries in let b = o.fewer in omega (arith, a, b);
+      }
+
+  -- it isn't, or waits for its gate
+  pub lost_trying : (mid new : Work) → IsOffNow arena now mid new p → (IsStill mid new p → ⊥)
+      → LosesNeed arena old new p q × KeepsPlaces old new × Grows old new × (new.retries < old.retries)
+  lost_trying mid new o lost = (
+    λ F z s counts rest due.
+        let a = so.due F z s counts rest due in
+        let b = left_hand F z a.0 arena now mid new counts p q rest a.2 o.levelled o.some o.need o.spared o.off o.step o.rows o.round lost in
+        (b.0, wired_then F z s a.0 b.0 a.1 b.1, b.2, b.3),
+    places_then old now new so.places o.places,
+    grows_then old now new has_links so.grows o.grows,
+    let a = so.retries in let b = o.fewer in omega (arith, a, b),
+  )
+
+  -- the link is on
+  pub on_trying : (new : Work) → Links arena now new p q → Connects arena old new p q
+  on_trying new links F z s counts rest due =
+      let a = so.due F z s counts rest due in
+      let b = links F z a.0 counts rest a.2 in
+      (b.0, wired_after F z s a.0 b.0 a.1 b.1, b.2, b.3)
+
+  -- its refusal is final
+  pub refused_trying : (new : Work) → IsLevelled now new → (e : Refused) → RefusedBy new p q e → ConnectRefused arena old new p q e
+  refused_trying new l e why F z s counts rest due =
+      let a = so.due F z s counts rest due in
+      let b = refused_at_once F z a.0 arena now new counts p q rest a.2 l so.needed e why in
+      (b.0, wired_then F z s a.0 b.0 a.1 b.1, b.2, b.3)
+
+  pub later_places : (new : Work) → KeepsPlaces now new → KeepsPlaces old new
+  later_places new places = places_then old now new so.places places
+
+  pub later_grows : (new : Work) → Grows now new → Grows old new
+  later_grows new grows = grows_then old now new has_links so.grows grows

@@ -55,7 +55,7 @@ module _ (F : Functions) (z : Start) (s : State) (arena : Arena) (old : Work) (g
     stage = st.stage;
     owed = st.owed;
     todo = st.todo;
-    strict = st.strict;
+    retries = st.retries;
     died = st.died;
     ran = st.ran;
     counts = st.counts;

@@ -58,9 +58,9 @@ module _ (q : Point) (old new : Work) (marked : IsMarked old.graph new.graph q) 
   pub marked_grows : IsInStep old.graph → IsInStep new.graph → Grows old new
   marked_grows before after points covers =
       let fewer = no_more_unneeded old.graph new.graph before after (λ a. (marked_need a).1) points in
-      let strict = ap (λ (x : Work). x.strict) rest in
+      let retries = ap (λ (x : Work). x.retries) rest in
       let todo = ap (λ (x : Work). length x.todo.items) rest in
-      rw strict (omega (arith, fewer, todo))
+      rw retries (omega (arith, fewer, todo))
 
   module _ (arena : Arena) (rowed : Holds old.rows q) (step_new : IsInStep new.graph) where
     pub marked_kept : IsKept arena old → IsKept arena new
@@ -117,7 +117,7 @@ module _ (q : Point) (old new : Work) (marked : IsMarked old.graph new.graph q) 
       stage = λ a k e. on.stage a k (sym (row_as a) ∙ e);
       owed = on.owed;
       todo = λ a t. subst (λ (xs : List Point). Among a xs ⊎ IsInHand held a) (sym (ap (λ (w : Work). w.todo.items) rest)) (on.todo a t);
-      strict = on.strict ∙ sym (ap (λ (w : Work). w.strict) rest);
+      retries = on.retries ∙ sym (ap (λ (w : Work). w.retries) rest);
       died = λ n. on.died n ∙ sym (died_same old new same_deaths n);
       ran = on.ran ∙ ap reverse (sym (ap (λ (w : Work). w.ran.items) rest));
       counts = on.counts;

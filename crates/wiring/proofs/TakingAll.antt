@@ -1,4 +1,4 @@
--- All that wasn't confirmed is taken off, and refusals become final.
+-- What wasn't confirmed is taken off, and fewer links may be tried again: none where all of it was.
 use Rattle.std.proofs.Common.{◌≡◌, ◌⊎◌, inl, inr, ℕ, zero, suc, ◌+◌, ◌<◌, true, false, List, [], ◌∷◌, length, Option, None, Some, refl, sym, ap, subst, ◌∙◌, arith}
 use Rattle.std.specs.Prelude.{is_some, option_map}
 use Rattle.std.specs.List.{slice_get}
@@ -21,7 +21,7 @@ use Rattle.stabilize_round.specs.Machine as move
 use Rattle.stabilize_round.specs.State as machine
 use Rattle.stabilize_round.specs.State.{State}
 use Rattle.stabilize_round.specs.Steps.{TakingOff}
-use Rattle.stabilize_round.specs.Wire.{made_strict}
+use Rattle.stabilize_round.specs.Wire.{spent}
 use Rattle.stabilize_round.proofs.Machine.{moves_keep}
 use Rattle.stabilize_round.proofs.Steps.{off_moves, joined}
 use Rattle.node_outcomes.specs.Computing.{has_part}
@@ -139,6 +139,28 @@ one_there ns i j n m e at_i at_j = same (sym at_i ∙ (ap (slice_get ns) (sym e)
     same : ◌≡◌ {A = Option NodeId} (Some n) (Some m) → n ≡ m
     same h = cc
 
+-- one after the other
+module _ (arena : Arena) (old mid new : Work) (first : RowsSpared arena old mid) (round : mid.round ≡ old.round) (loses : OnlyLoses mid.graph new.graph)
+    (rows : RowsSpared arena mid new) where
+  spared_first : KeepsSpared arena old mid
+  spared_first = rows_keep arena old mid first
+
+  pub rows_then : RowsSpared arena old new
+  rows_then p s = elim (first p s) [
+    | inl e ↦ elim (rows p (still_spared arena old mid spared_first round p s)) [
+      | inl f ↦ inl (f ∙ e)
+      | inr b ↦ inr (record {
+        bind = b.bind;
+        back = then_back arena old mid new p b.bind e b.back;
+        unsettled = sym (change_settled arena old mid spared_first round (change b.bind)) ∙ b.unsettled;
+      })
+    ]
+    | inr a ↦ elim (rows p (still_spared arena old mid spared_first round p s)) [
+      | inl f ↦ inr (record { bind = a.bind; back = back_then arena old mid new p a.bind a.back f loses; unsettled = a.unsettled })
+      | inr b ↦ absurd (not_back_twice arena old mid new p a.bind b.bind a.back b.back)
+    ]
+  ]
+
 -- one more was looked at
 module _ (arena : Arena) (old mid new : Work) (gates changes : ℕ) (so : AreTaken arena old mid gates changes) (kept : IsKept arena new)
     (places : KeepsPlaces mid new) (taken : TakesOne arena mid new) (loses : OnlyLoses mid.graph new.graph) (rows : RowsSpared arena mid new)
@@ -150,23 +172,23 @@ module _ (arena : Arena) (old mid new : Work) (gates changes : ℕ) (so : AreTak
   taken_both = takes_then arena old mid new keeps so.places.round (rows_keep arena mid new rows) so.kept.step kept.step loses.less so.taken taken
 
   rows_both : RowsSpared arena old new
-  rows_both p s = elim (so.rows p s) [
-    | inl e ↦ elim (rows p (still_spared arena old mid keeps so.places.round p s)) [
-      | inl f ↦ inl (f ∙ e)
-      | inr b ↦ inr (record {
-        bind = b.bind;
-        back = then_back arena old mid new p b.bind e b.back;
-        unsettled = sym (change_settled arena old mid keeps so.places.round (change b.bind)) ∙ b.unsettled;
-      })
-    ]
-    | inr a ↦ elim (rows p (still_spared arena old mid keeps so.places.round p s)) [
-      | inl f ↦ inr (record { bind = a.bind; back = back_then arena old mid new p a.bind a.back f loses; unsettled = a.unsettled })
-      | inr b ↦ absurd (not_back_twice arena old mid new p a.bind b.bind a.back b.back)
-    ]
-  ]
+  rows_both = rows_then arena old mid new so.rows so.places.round loses rows
 
   rest_both : new ≡ record old { graph = new.graph; rows = new.rows }
   rest_both = rest ∙ ap (λ (w : Work). record w { graph = new.graph; rows = new.rows }) so.rest
+
+  -- a node of any kind
+  pub more_taken : AreTaken arena old new 0 0
+  more_taken = record {
+    kept = kept;
+    places = places_then old mid new so.places places;
+    taken = taken_both;
+    loses = loses_then old.graph mid.graph new.graph so.loses loses;
+    rows = rows_both;
+    behind = λ i n l. absurd (omega (arith, l));
+    confirmed = λ i n l. absurd (omega (arith, l));
+    rest = rest_both;
+  }
 
   -- a node in a scope
   pub more_behind : (n : NodeId) → slice_get old.scoped.nodes gates ≡ Some n → ((p : Point) → p.node ≡ n → IsBehindGate arena new p)
@@ -203,6 +225,98 @@ module _ (arena : Arena) (old mid new : Work) (gates changes : ℕ) (so : AreTak
     rest = rest_both;
   }
 
+-- some was taken off
+pub some_taken : (arena : Arena) (old mid : Work) → IsKept arena old → IsKept arena mid → KeepsPlaces old mid → TakesOne arena old mid
+    → OnlyLoses old.graph mid.graph → RowsSpared arena old mid → mid ≡ record old { graph = mid.graph; rows = mid.rows } → AreTaken arena old mid 0 0
+some_taken arena old mid kept kept1 places taken loses rows rest = more_taken arena old old mid 0 0 (none_taken arena old kept) kept1 places taken loses rows rest
+
+-- a node in a scope was looked at, and then its right side
+pub node_off : (arena : Arena) (old mid new : Work) → IsKept arena old → IsKept arena mid → KeepsPlaces old mid → TakesOne arena old mid
+    → OnlyLoses old.graph mid.graph → RowsSpared arena old mid → mid ≡ record old { graph = mid.graph; rows = mid.rows } → IsKept arena new
+    → KeepsPlaces mid new → TakesOne arena mid new → OnlyLoses mid.graph new.graph → RowsSpared arena mid new
+    → new ≡ record mid { graph = new.graph; rows = new.rows } → AreTaken arena old new 0 0
+node_off arena old mid new kept kept1 places1 taken1 loses1 rows1 rest1 kept2 places2 taken2 loses2 rows2 rest2 =
+    more_taken arena old mid new 0 0 (some_taken arena old mid kept kept1 places1 taken1 loses1 rows1 rest1)
+    kept2 places2 taken2 loses2 rows2 rest2
+
+-- some was taken off, and then the rest
+module _ (arena : Arena) (old mid new : Work) (so : AreTaken arena old mid 0 0) (rows : RowsSpared arena mid new) (in_step : IsInStep new.graph)
+    (loses : OnlyLoses mid.graph new.graph) where
+  spared_some : KeepsSpared arena old mid
+  spared_some = rows_keep arena old mid so.rows
+
+  pub off_then : TakesOff arena mid new → TakesOff arena old new
+  off_then next F z s counts held inv some spared st =
+      let a = so.taken F z s counts held inv spared st in
+      let same : mid.retries ≡ old.retries = ap (λ (w : Work). w.retries) so.rest in
+      let left : 0 < a.0.retries = let e = a.2.retries in let f = st.retries in omega (arith, e, f, same, some) in
+      let b = next F z a.0 counts (hand_now old mid held) (moves_keep F z s a.0 (off_moves F z s a.0 a.1) inv) left
+      (hand_spared arena old mid spared_some so.places.round so.kept.step held spared) a.2 in (
+        b.0,
+        b.1,
+        joined (TakingOff F z) s a.0 b.0 a.1 b.2,
+        b.3,
+        subst (λ (h : Option Hand). Stands arena new counts h b.1)
+            (same_hand arena old mid spared_some so.places.round new (rows_keep arena mid new rows) so.kept.step in_step loses.less held spared) b.4,
+      )
+
+-- ---- fewer links may be tried again
+
+module _ (arena : Arena) (old last new : Work) (left : ℕ) (taken : TakesOne arena old last) (same : last.retries ≡ old.retries)
+    (fewer : 0 < old.retries → left < old.retries) (only : new ≡ record last { retries = left })
+    (strict : (counts : Counts) (held : Option Hand) (t : State) → Stands arena last counts held t → Strict (spent t left)) where
+  abbrev spending : Work
+  spending = record last { retries = left }
+
+  spent_stands : (counts : Counts) (held : Option Hand) (t : State) → Stands arena last counts held t → Stands arena spending counts held (spent t left)
+  spent_stands counts held t k = record {
+    graph = k.graph;
+    out = k.out;
+    last = k.last;
+    never = k.never;
+    stale = k.stale;
+    links = k.links;
+    root = k.root;
+    needed = k.needed;
+    height = k.height;
+    heap = k.heap;
+    settled = k.settled;
+    stage = k.stage;
+    owed = k.owed;
+    todo = k.todo;
+    retries = refl;
+    died = k.died;
+    ran = k.ran;
+    counts = k.counts;
+    given = k.given;
+  }
+
+  pub taken_spent : TakesOff arena old new
+  taken_spent F z s counts held inv some spared st =
+      let a = taken F z s counts held inv spared st in
+      let less : left < a.0.retries =
+      let e = a.2.retries in let f = st.retries in let g = fewer (let h = st.retries in omega (arith, some, h)) in omega (arith, e, f, g, same) in (
+        a.0,
+        spent a.0 left,
+        a.1,
+        (move.spend less (strict counts (hand_now old last held) a.0 a.2) refl, tt),
+        subst (λ (w : Work). Stands arena w counts (hand_now old w held) (spent a.0 left)) (sym only)
+            (spent_stands counts (hand_now old last held) a.0 a.2),
+      )
+
+-- while links may be tried again, what wasn't confirmed may be linked still
+pub some_left : (s : State) (left : ℕ) → 0 < left → Strict (spent s left)
+some_left s left some = record {
+  gates = λ none p r b row need scope stage. absurd (omega (arith, some, none));
+  rights = λ none n r p row need full among. absurd (omega (arith, some, none));
+}
+
+pub some_spent : (arena : Arena) (old mid new : Work) (left : ℕ) → AreTaken arena old mid 0 0 → new ≡ record mid { retries = left } → 0 < left
+    → left < mid.retries → TakesOff arena old new
+some_spent arena old mid new left so only some fewer =
+    let same : mid.retries ≡ old.retries = ap (λ (w : Work). w.retries) so.rest in
+    taken_spent arena old mid new left so.taken same (λ any. omega (arith, same, fewer)) only (λ counts held t k. some_left t left some)
+
 -- ---- refusals become final
 
 no_subject_no_right : (G : Graph) (n : NodeId) (def : Def) (x : Option Outcome) (p : Point) → Among p (targets G n def x) → subject_of def ≡ None → ⊥
@@ -233,34 +347,8 @@ stage_full code.Static e = absurd (cc)
 stage_full code.Full e = refl
 
 module _ (arena : Arena) (old last new : Work) (gates changes : ℕ) (so : AreTaken arena old last gates changes) (all_gates : gates ≡ length old.scoped.nodes)
-    (all_changes : changes ≡ length old.pairs.nodes) (kept : IsKept arena old) (only : new ≡ record last { strict = true }) where
-  abbrev turned : Work
-  turned = record last { strict = true }
-
+    (all_changes : changes ≡ length old.pairs.nodes) (kept : IsKept arena old) (only : new ≡ record last { retries = 0 }) where
   module _ (counts : Counts) (held : Option Hand) (t : State) (k : Stands arena last counts held t) where
-    turn : Stands arena turned counts held (made_strict t)
-    turn = record {
-      graph = k.graph;
-      out = k.out;
-      last = k.last;
-      never = k.never;
-      stale = k.stale;
-      links = k.links;
-      root = k.root;
-      needed = k.needed;
-      height = k.height;
-      heap = k.heap;
-      settled = k.settled;
-      stage = k.stage;
-      owed = k.owed;
-      todo = k.todo;
-      strict = refl;
-      died = k.died;
-      ran = k.ran;
-      counts = k.counts;
-      given = k.given;
-    }
-
     node_row : (n : NodeId) (r : Row) → t.graph.row n ≡ Some r → row_at arena n ≡ Some r
     node_row n r e = sym (ap (λ (G : Graph). G.row n) k.graph) ∙ e
 
@@ -309,33 +397,25 @@ module _ (arena : Arena) (old last new : Work) (gates changes : ℕ) (so : AreTa
         (subst (λ (x : Option Outcome). Among p (targets (graph_at arena last) n r.def x)) (out_is n (at last.rows (change n)) refl own)
         (subst (λ (G : Graph). Among p (targets G n r.def (t.out (change n)))) k.graph among))
 
-    is_strict : Strict (made_strict t)
+    is_strict : Strict (spent t 0)
     is_strict = record {
       gates = λ e p r b row need scope stage. gated p r b (node_row p.node r row) scope ((k.needed p).0 need) stage;
       rights = λ e n r p row need full among. confirmed n r p (node_row n r row) need full among;
     }
 
   pub all_taken : TakesOff arena old new
-  all_taken F z s counts held inv not_yet spared st =
-      let a = so.taken F z s counts held inv spared st in
-      let weak : a.0.strict ≡ false = a.2.strict ∙ (ap (λ (w : Work). w.strict) so.rest ∙ (sym st.strict ∙ not_yet)) in (
-        a.0,
-        made_strict a.0,
-        a.1,
-        (move.turn_strict weak (is_strict counts (hand_now old last held) a.0 a.2) refl, tt),
-        subst (λ (w : Work). Stands arena w counts (hand_now old w held) (made_strict a.0)) (sym only) (turn counts (hand_now old last held) a.0 a.2),
-      )
+  all_taken = taken_spent arena old last new 0 so.taken (ap (λ (w : Work). w.retries) so.rest) (λ some. some) only is_strict
 
--- what the second loop begins with is what the first leaves
-pub taken_rest : (old last new : Work) → last ≡ record old { graph = last.graph; rows = last.rows } → new ≡ record last { strict = true }
-    → new ≡ record old { graph = new.graph; rows = new.rows; strict = new.strict }
-taken_rest old last new first only =
-    subst (λ (w : Work). w ≡ record old { graph = w.graph; rows = w.rows; strict = w.strict }) (sym only)
-    (ap (λ (w : Work). record w { strict = true }) first)
+-- what may be tried again apart, what was taken off leaves all else
+pub taken_rest : (old last new : Work) (left : ℕ) → last ≡ record old { graph = last.graph; rows = last.rows } → new ≡ record last { retries = left }
+    → new ≡ record old { graph = new.graph; rows = new.rows; retries = new.retries }
+taken_rest old last new left first only =
+    subst (λ (w : Work). w ≡ record old { graph = w.graph; rows = w.rows; retries = w.retries }) (sym only)
+    (ap (λ (w : Work). record w { retries = left }) first)
 
--- what becomes final leaves the rest kept
-pub strict_kept : (arena : Arena) (last new : Work) → new ≡ record last { strict = true } → IsKept arena last → IsKept arena new
-strict_kept arena last new only k = subst (λ (w : Work). IsKept arena w) (sym only) (record {
+-- how many links may be tried again leaves the rest kept
+pub spent_kept : (arena : Arena) (last new : Work) (left : ℕ) → new ≡ record last { retries = left } → IsKept arena last → IsKept arena new
+spent_kept arena last new left only k = subst (λ (w : Work). IsKept arena w) (sym only) (record {
   step = k.step;
   rows = k.rows;
   leaves = k.leaves;
@@ -358,13 +438,13 @@ strict_kept arena last new only k = subst (λ (w : Work). IsKept arena w) (sym o
 })
 
 -- and where rows and roots are
-pub strict_places : (old last new : Work) → new ≡ record last { strict = true } → KeepsPlaces old last → KeepsPlaces old new
-strict_places old last new only k = subst (λ (w : Work). KeepsPlaces old w) (sym only)
+pub spent_places : (old last new : Work) (left : ℕ) → new ≡ record last { retries = left } → KeepsPlaces old last → KeepsPlaces old new
+spent_places old last new left only k = subst (λ (w : Work). KeepsPlaces old w) (sym only)
     (record { rows = k.rows; roots = k.roots; deaths = k.deaths; round = k.round })
 
 -- and what was put back
-pub strict_rows : (arena : Arena) (old last new : Work) → new ≡ record last { strict = true } → RowsSpared arena old last → RowsSpared arena old new
-strict_rows arena old last new only rows p s = subst (λ (w : Work). (at w.rows p ≡ at old.rows p) ⊎ IsPutBack arena old w p) (sym only) (elim (rows p s) [
+pub spent_rows : (arena : Arena) (old last new : Work) (left : ℕ) → new ≡ record last { retries = left } → RowsSpared arena old last → RowsSpared arena old new
+spent_rows arena old last new left only rows p s = subst (λ (w : Work). (at w.rows p ≡ at old.rows p) ⊎ IsPutBack arena old w p) (sym only) (elim (rows p s) [
   | inl e ↦ inl e
   | inr b ↦ inr (record {
     bind = b.bind;

@@ -244,7 +244,7 @@ module _ (F : Functions) (z : Start) (s : State) (arena : Arena) (old new : Work
       | inl listed ↦ inl (subst (λ (w : Work). Among a w.todo.items) (sym l.rest) listed)
       | inr h ↦ inr (in_hand_now old new held a h)
     ];
-    strict = st.strict ∙ sym (ap (λ (w : Work). w.strict) l.rest);
+    retries = st.retries ∙ sym (ap (λ (w : Work). w.retries) l.rest);
     died = λ n. st.died n ∙ sym (died_same old new (ap (λ (w : Work). w.deaths) l.rest) n);
     ran = st.ran ∙ ap (λ (w : Work). reverse w.ran.items) (sym l.rest);
     counts = st.counts;

@@ -1,6 +1,5 @@
 -- What a refused link says.
 use Rattle.std.proofs.Common.{◌≡◌, ◌⊎◌, inl, inr, ℕ, ◌≤◌, ◌++◌, List, [], ◌∷◌, length, refl, sym, ap, subst, ◌∙◌, arith, length-append}
-use Rattle.std.specs.Prelude.{IsTrue}
 use Rattle.inc_value.specs.declared.node.Point.{Point}
 use Rattle.link_table.specs.Links.{Links, Reads, KeepsLinks}
 use Rattle.height_order.specs.Chains.{Reading, ReadsWith, IsChain, IsPath, Leads, NoRepeats, StartsAt, EndsAt}
@@ -34,7 +33,7 @@ long_back : (list : List Point) (q : Point) → StartsAt list q → 2 ≤ length
 long_back [] q h = absurd h
 long_back (a ∷ rest) q h = let l = length-append rest (q ∷ []) in omega arith
 
-module _ (work : Work) (p q : Point) (strict : IsTrue work.strict) where
+module _ (work : Work) (p q : Point) (strict : work.retries ≡ 0) where
   told_height : (e : Refused) (list : List Point) → IsHeightOf list e → IsChain (ReadsWith work.graph.links p q) list → length list ≡ 130 → NoRepeats list
       → RefusedBy work p q e
   told_height (Height points) list items chain long once = record {
@@ -65,7 +64,7 @@ module _ (work : Work) (p q : Point) (strict : IsTrue work.strict) where
   told_cycle Memory list items path once = tt
 
 -- where refusals are final, or there was no memory, a refusal says what the fault says
-pub told : (work : Work) (p q : Point) (f : LinkFault) (e : Refused) → IsTrue work.strict ⊎ (f ≡ fault.Memory) → TellsFault work p q f → IsWhy q f e
+pub told : (work : Work) (p q : Point) (f : LinkFault) (e : Refused) → (work.retries ≡ 0) ⊎ (f ≡ fault.Memory) → TellsFault work p q f → IsWhy q f e
     → RefusedBy work p q e
 told work p q fault.Memory e final tells why = subst (RefusedBy work p q) (sym why) tt
 told work p q (fault.Over list) e (inl strict) tells why = told_height work p q strict e list.items why tells.0 tells.1 tells.2

@@ -1,5 +1,5 @@
 -- A link is tried: what stays where it is refused, and how the state follows where it is made.
-use Rattle.std.proofs.Common.{◌≡◌, ◌≢◌, ◌⊎◌, inl, inr, ℕ, ◌≤◌, ◌+◌, Bool, true, false, cond, [], ◌∷◌, Option, None, Some, refl, sym, ap, subst, ◌∙◌, arith, length-append}
+use Rattle.std.proofs.Common.{◌≡◌, ◌≢◌, ◌⊎◌, inl, inr, ℕ, ◌≤◌, ◌+◌, Bool, true, false, [], ◌∷◌, Option, None, Some, refl, sym, ap, subst, ◌∙◌, arith, length-append, ◌*◌}
 use Rattle.std.specs.Prelude.{length, is_some, option_map, ◌↔◌, IsTrue, IsFalse}
 use Rattle.inc_value.specs.declared.node.Part.{Part}
 use Rattle.inc_value.specs.declared.node.Point.{Point}
@@ -153,7 +153,7 @@ module _ (old mid closed : Work) (g : NecessaryPart) (q : Point) (opened : Bool)
       roots = ap (λ (x : Work). x.roots) rest ∙ looks.round.roots;
       deaths = ap (λ (x : Work). x.deaths) rest ∙ looks.round.deaths;
       ran = ap (λ (x : Work). x.ran.items) rest ∙ looks.round.ran;
-      strict = ap (λ (x : Work). x.strict) rest ∙ looks.round.strict;
+      retries = ap (λ (x : Work). x.retries) rest ∙ looks.round.retries;
       round = ap (λ (x : Work). x.round) rest ∙ looks.round.round;
     };
   }
@@ -389,10 +389,10 @@ module _ (old mid new : Work) (g : NecessaryPart) (p q : Point) (newly : Bool) (
     ];
   }
 
-  pub put_on_strict : new.strict ≡ old.strict
-  put_on_strict = elim (bool_cases newly) [
-    | inl t ↦ (woken t).round.strict ∙ looks.round.strict
-    | inr f ↦ ap (λ (x : Work). x.strict) (same f) ∙ looks.round.strict
+  pub put_on_retries : new.retries ≡ old.retries
+  put_on_retries = elim (bool_cases newly) [
+    | inl t ↦ (woken t).round.retries ∙ looks.round.retries
+    | inr f ↦ ap (λ (x : Work). x.retries) (same f) ∙ looks.round.retries
   ]
 
   -- rows of what was needed stay
@@ -406,12 +406,12 @@ module _ (old mid new : Work) (g : NecessaryPart) (p q : Point) (newly : Bool) (
   pub put_on_grows : IsInStep old.graph → IsInStep new.graph → Grows old new
   put_on_grows before after points covers =
       let fewer = no_more_unneeded old.graph new.graph before after now_needed points in
-      let strict = put_on_strict in
-      rw strict (by newly refl fewer)
+      let retries = put_on_retries in
+      rw retries (by newly refl fewer)
     where
       pushed : newly ≡ true → unneeded new.graph points ≤ unneeded old.graph points → HasLinks mid q
-          → cond old.strict 0 (length points + 2) + (length new.todo.items + unneeded new.graph points)
-          ≤ cond old.strict 0 (length points + 2) + (length old.todo.items + unneeded old.graph points)
+          → old.retries * (length points + 2) + (length new.todo.items + unneeded new.graph points)
+          ≤ old.retries * (length points + 2) + (length old.todo.items + unneeded old.graph points)
       pushed t fewer has =
           let less = fewer_unneeded old.graph new.graph before after now_needed points q
           (covers q (has_links_same mid old (λ a. sym (ap is_some (looks.rows a))) (sym looks.round.deaths) q has))
@@ -421,8 +421,8 @@ module _ (old mid new : Work) (g : NecessaryPart) (p q : Point) (newly : Bool) (
           omega (arith, m, e, less)
 
       by : (b : Bool) → newly ≡ b → unneeded new.graph points ≤ unneeded old.graph points
-          → cond old.strict 0 (length points + 2) + (length new.todo.items + unneeded new.graph points)
-          ≤ cond old.strict 0 (length points + 2) + (length old.todo.items + unneeded old.graph points)
+          → old.retries * (length points + 2) + (length new.todo.items + unneeded new.graph points)
+          ≤ old.retries * (length points + 2) + (length old.todo.items + unneeded old.graph points)
       by false f fewer = let e = ap (λ (x : Work). length x.todo.items) (same f) ∙ ap length looks.todo in omega (arith, e, fewer)
       by true t fewer = elim (some_or_none (at mid.rows q)) [
         | inl k ↦ pushed t fewer (inl (ap is_some k.1))

@@ -8,7 +8,7 @@ use Rattle.stabilize_round.specs.Machine.{Move}
 use Rattle.stabilize_round.specs.Machine as move
 use Rattle.stabilize_round.specs.State as machine
 use Rattle.stabilize_round.specs.State.{State, Start, at_point}
-use Rattle.stabilize_round.specs.Steps.{TakesOff as OffMove, TakingOff, Turns}
+use Rattle.stabilize_round.specs.Steps.{TakesOff as OffMove, TakingOff, Spends}
 use Rattle.stabilize_round.specs.Wire.{newly, raised, finished}
 use Rattle.stabilize_round.proofs.Points.{same_or_other, at_same, at_other}
 use Rattle.wiring.specs.Stands.{Stands, Hand, hand, IsInHand}
@@ -115,24 +115,24 @@ module _ (F : Functions) (z : Start) (held : Option Hand) where
   off_one s t (move.finish x e) h un = absurd h
   off_one s t (move.rebuild r b c e) h un = absurd h
   off_one s t (move.level x e) h un = absurd h
-  off_one s t (move.turn_strict u k e) h un = absurd h
+  off_one s t (move.spend u k e) h un = absurd h
 
   pub off_unlinked : (s t : State) → Reaches (TakingOff F z) s t → AreUnlinked held s → AreUnlinked held t
   off_unlinked s t here un = un
   off_unlinked s t (step {b = u} m rest) un = off_unlinked u t rest (off_one s u m.0 m.1 un)
 
-  -- and refusals become final
-  pub turn_unlinked : (s t : State) (m : Move F z s t) → Turns m → AreUnlinked held s → AreUnlinked held t
-  turn_unlinked s t (move.turn_strict u k e) h un = subst (λ (v : State). AreUnlinked held v) (sym e) un
-  turn_unlinked s t (move.schedule x e) h un = absurd h
-  turn_unlinked s t (move.cut d w e) h un = absurd h
-  turn_unlinked s t (move.step_main q x e) h un = absurd h
-  turn_unlinked s t (move.step_change q x e) h un = absurd h
-  turn_unlinked s t (move.link x n e) h un = absurd h
-  turn_unlinked s t (move.link_new x n k e) h un = absurd h
-  turn_unlinked s t (move.root n e) h un = absurd h
-  turn_unlinked s t (move.root_new g n k e) h un = absurd h
-  turn_unlinked s t (move.raise x e) h un = absurd h
-  turn_unlinked s t (move.finish x e) h un = absurd h
-  turn_unlinked s t (move.rebuild r b c e) h un = absurd h
-  turn_unlinked s t (move.level x e) h un = absurd h
+  -- and fewer links may be tried again
+  pub spend_unlinked : (s t : State) (m : Move F z s t) → Spends m → AreUnlinked held s → AreUnlinked held t
+  spend_unlinked s t (move.spend u k e) h un = subst (λ (v : State). AreUnlinked held v) (sym e) un
+  spend_unlinked s t (move.schedule x e) h un = absurd h
+  spend_unlinked s t (move.cut d w e) h un = absurd h
+  spend_unlinked s t (move.step_main q x e) h un = absurd h
+  spend_unlinked s t (move.step_change q x e) h un = absurd h
+  spend_unlinked s t (move.link x n e) h un = absurd h
+  spend_unlinked s t (move.link_new x n k e) h un = absurd h
+  spend_unlinked s t (move.root n e) h un = absurd h
+  spend_unlinked s t (move.root_new g n k e) h un = absurd h
+  spend_unlinked s t (move.raise x e) h un = absurd h
+  spend_unlinked s t (move.finish x e) h un = absurd h
+  spend_unlinked s t (move.rebuild r b c e) h un = absurd h
+  spend_unlinked s t (move.level x e) h un = absurd h

@@ -52,7 +52,7 @@ taken_stands s arena old new counts p st graph rows round listed = record {
     | inr ne ↦ sym (at_other p [] nothing a ne)
   ];
   todo = λ a t. elim (st.todo a t) [ inl k ↦ listed a k | inr k ↦ absurd k ];
-  strict = st.strict ∙ sym round.strict;
+  retries = st.retries ∙ sym round.retries;
   died = λ n. st.died n ∙ sym (died_same old new round.deaths n);
   ran = st.ran ∙ ap reverse (sym round.ran);
   counts = st.counts;
@@ -78,7 +78,7 @@ looks_stands s arena old new counts held same st = record {
   stage = λ a k e. st.stage a k (sym (same.rows a) ∙ e);
   owed = st.owed;
   todo = λ a t. subst (λ (xs : List Point). Among a xs ⊎ IsInHand held a) (sym same.todo) (st.todo a t);
-  strict = st.strict ∙ sym same.round.strict;
+  retries = st.retries ∙ sym same.round.retries;
   died = λ n. st.died n ∙ sym (died_same old new same.round.deaths n);
   ran = st.ran ∙ ap reverse (sym same.round.ran);
   counts = st.counts;

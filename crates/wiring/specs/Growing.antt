@@ -1,5 +1,5 @@
 -- How long the worklist gets, by who is newly needed.
-use Rattle.std.specs.Prelude.{◌≤◌, ◌+◌, ℕ, cond, not, List, length}
+use Rattle.std.specs.Prelude.{◌≤◌, ◌+◌, ◌*◌, ℕ, not, List, length}
 use Rattle.inc_value.specs.declared.node.Point.{Point}
 use Rattle.inc_value.specs.Choice.{Among}
 use Rattle.necessary_graph.specs.Part.{NecessaryPart}
@@ -16,9 +16,9 @@ unneeded g points = number_of (λ (p : Point). not (is_needed g p)) points
 abbrev pub Covers : Work → List Point → Type 0
 Covers work points = (p : Point) → HasLinks work p → Among p points
 
--- how much is left to wire: what may be taken off, the worklist, and the points that aren't needed
+-- how much is left to wire: what may be taken off each time that a link is tried again, the worklist, and the points that aren't needed
 abbrev pub left_to_wire : Work → List Point → ℕ
-left_to_wire work points = cond work.strict 0 (length points + 2) + (length work.todo.items + unneeded work.graph points)
+left_to_wire work points = work.retries * (length points + 2) + (length work.todo.items + unneeded work.graph points)
 
 -- no more is left to wire
 abbrev pub Grows : Work → Work → Type 0

@@ -19,7 +19,7 @@ pub record IsTooLong (work : Work) (p q : Point) (points : List Point) : Type 0 
   pub chain : IsChain (ReadsWith work.graph.links p q) points
   pub long : length points ≡ 130
   pub once : NoRepeats points
-  pub strict : IsTrue work.strict
+  pub strict : work.retries ≡ 0
 
 -- with the link from p to q the points are a walk from q that ends at q, over one link at least, and refusals are final
 pub record IsCircle (work : Work) (p q : Point) (points : List Point) : Type 0 where
@@ -28,7 +28,7 @@ pub record IsCircle (work : Work) (p q : Point) (points : List Point) : Type 0 w
   pub comes_back : points ≡ front ++ q ∷ []
   pub once : NoRepeats front
   pub long : 2 ≤ length points
-  pub strict : IsTrue work.strict
+  pub strict : work.retries ≡ 0
 
 -- the refusal is a chain of these points
 abbrev pub IsHeightOf : List Point → Refused → Type 0

@@ -61,7 +61,7 @@ pub record IsBuried (old new : Work) (n : NodeId) : Type 0 where
   pub scoped : new.scoped.nodes ≡ old.scoped.nodes
   pub todo : new.todo ≡ old.todo
   pub ran : new.ran ≡ old.ran
-  pub strict : new.strict ≡ old.strict
+  pub retries : new.retries ≡ old.retries
   pub round : new.round ≡ old.round
 
 -- the points of nodes that died lost one link to their gates each, and what is no longer reached lost all

@@ -57,7 +57,7 @@ pub record StandsWith (IsNeeded : Point → Type 0) (arena : Arena) (work : Work
   pub stage : (p : Point) (k : Progress) → at work.rows p ≡ Some k → s.stage p ≡ stage_of k.stage
   pub owed : (p : Point) → s.owed p ≡ owed_in hand p
   pub todo : (p : Point) → s.todo p ≡ true → Among p work.todo.items ⊎ IsInHand hand p
-  pub strict : s.strict ≡ work.strict
+  pub retries : s.retries ≡ work.retries
   pub died : (n : NodeId) → s.died n ≡ died_at work n
   pub ran : s.ran ≡ reverse work.ran.items
   pub counts : counts_of s ≡ tally

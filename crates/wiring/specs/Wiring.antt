@@ -1,5 +1,5 @@
 -- What is done to a point that is newly needed, and to one that is linked.
-use Rattle.std.specs.Prelude.{◌≡◌, ◌≢◌, ◌⊎◌, ◌↔◌, ◌≤◌, Bool, true, false, cond, not, ◌&&◌, List, ◌∷◌, Option, None, Some, IsSome, is_some, option_map, ◌++◌, []}
+use Rattle.std.specs.Prelude.{◌≡◌, ◌≢◌, ◌⊎◌, ◌↔◌, ◌<◌, ◌≤◌, Bool, true, false, cond, not, ◌&&◌, List, ◌∷◌, Option, None, Some, IsSome, is_some, option_map, ◌++◌, []}
 use Rattle.inc_value.specs.declared.node.NodeId.{NodeId}
 use Rattle.inc_value.specs.declared.node.Point.{Point}
 use Rattle.inc_value.specs.declared.outcome.Outcome.{Outcome}
@@ -19,7 +19,7 @@ use Rattle.necessary_graph.specs.Part.{NecessaryPart, Needed, IsInStep, AlsoNeed
 use Rattle.node_arena.specs.Arena.{Arena, row_at}
 use Rattle.stabilize_round.specs.Invariant.{Invariant}
 use Rattle.stabilize_round.specs.Machine.{Move, Moves}
-use Rattle.stabilize_round.specs.Steps.{TakingOff, Turns, Wiring, Wired}
+use Rattle.stabilize_round.specs.Steps.{TakingOff, Spends, Wiring, Wired}
 use Rattle.stabilize_round.specs.State as machine
 use Rattle.stabilize_round.specs.State.{State, Start}
 use Rattle.stabilize_round.specs.Wire.{IsConfirmed}
@@ -40,7 +40,7 @@ pub record KeepsRound (old new : Work) : Type 0 where
   pub roots : new.roots ≡ old.roots
   pub deaths : new.deaths ≡ old.deaths
   pub ran : new.ran.items ≡ old.ran.items
-  pub strict : new.strict ≡ old.strict
+  pub retries : new.retries ≡ old.retries
   pub round : new.round ≡ old.round
 
 -- which nodes are of two points, and which stand in scopes, is listed as before
@@ -221,12 +221,12 @@ IsConfirmedAt arena work n =
     (r : Row) (p : Point) → row_at arena n ≡ Some r → Needed work.graph (main n) → stage_in (at work.rows (main n)) ≡ Some Full
     → Among p (targets (graph_at arena work) n r.def (outcome_in (at work.rows (change n)))) → settled_in work.round (at work.rows (change n)) ≡ true
 
--- what wasn't confirmed was taken off as moves, and refusals are final
+-- some of what wasn't confirmed, or all, was taken off as moves, and fewer links may be tried again
 abbrev pub TakesOff : Arena → Work → Work → Type 0
 TakesOff arena old new =
-    (F : Functions) (z : Start) (s : State) (counts : Counts) (held : Option Hand) → Invariant F z s → s.strict ≡ false → HandIsSpared arena old held
+    (F : Functions) (z : Start) (s : State) (counts : Counts) (held : Option Hand) → Invariant F z s → 0 < s.retries → HandIsSpared arena old held
     → Stands arena old counts held s
-    → (t u : State) × Reaches (TakingOff F z) s t × ((m : Move F z t u) × Turns m) × Stands arena new counts (hand_now old new held) u
+    → (t u : State) × Reaches (TakingOff F z) s t × ((m : Move F z t u) × Spends m) × Stands arena new counts (hand_now old new held) u
 
 -- each needed point of the worklist, but for the one in hand, has no link yet, or its gate's alone
 abbrev pub AreUnlinked : Option Hand → State → Type 0

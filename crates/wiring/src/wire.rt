@@ -22,6 +22,7 @@ ghost use Rattle.wiring.specs.Stands.{hand};
 ghost use Rattle.wiring.specs.Turning.{IsWaiting};
 ghost use Rattle.wiring.specs.Wiring.{GateRan, LacksLinks, MayRead, StaysInHand, WiresTaken};
 ghost use Rattle.wiring.specs.Wiring.{Links, Connects, LosesNeed, ConnectRefused, Wires, WireRefused, IsWoken, Looks, IsSpared, IsTarget};
+ghost use Rattle.wiring.specs.Wiring.{TakesOne, TakesOff, OnlyLoses, IsPutBack};
 ghost use Rattle.wiring.specs.Wiring.{PutsRoots, RootRefused, KeepsPlaces, IsLevelled, Attaches, AttachRefused};
 
 use crate::refused::Refused;
@@ -31,7 +32,7 @@ use inc_value::{NodeId, Part, Point};
 use necessary_graph::LinkFault;
 use node_arena::Arena;
 use node_outcomes::{
-    Progress, Stage, change_point, is_bare, is_gated, main_point, right_side, set_stage,
+    Progress, Stage, change_point, is_bare, is_full, is_gated, main_point, right_side, set_stage,
     was_settled,
 };
 use point_map::PointMap;
@@ -284,7 +285,7 @@ impl Work {
         ensures places { KeepsPlaces self.old self.new }
         ensures kept { IsKept arena.now self.new }
         ensures full { OnOk result (IsWaiting self.old node → (stage_in (at self.new.rows (main node)) ≡ Some Stage.Full)
-            ⊎ (IsFalse self.old.strict × IsTrue self.new.strict)) }
+            ⊎ (self.new.retries < self.old.retries)) }
         ensures stays { (IsWaiting self.old node → ⊥) → self.new ≡ self.old }
     {
         if !self.is_waiting(node) {
@@ -301,9 +302,9 @@ impl Work {
         Ok(())
     }
 
-    /// Links a needed point to what it reads. Where a link is refused for the first time in a round, those that weren't
-    /// confirmed are taken off, and the link is tried again. False where the reader isn't needed any more then, or waits for
-    /// its gate.
+    /// Links a needed point to what it reads. Where the link is refused, links that weren't confirmed in this round are taken
+    /// off, and it is tried again. It is refused for good once all of them are off. False where the reader isn't needed any
+    /// more then, or waits for its gate.
     pub fn connect(&mut self, arena: &Arena, p: Point, q: Point) -> Result<bool, Refused>
         requires needed { Needed self.old.graph p }
         requires reader { MayRead self.old p q }
@@ -313,30 +314,95 @@ impl Work {
         ensures linked { IfOk result (λ on. IsTrue on → Connects arena.now self.old self.new p q) }
         ensures needed { IfOk result (λ on. IsTrue on → Needed self.new.graph p × Needed self.new.graph q) }
         ensures reads { IfOk result (λ on. IsTrue on → Reads self.new.graph.links p q) }
-        ensures gone { IfOk result (λ on. IsFalse on → LosesNeed arena.now self.old self.new p q × IsTrue self.new.strict × IsFalse self.old.strict) }
+        ensures gone { IfOk result (λ on. IsFalse on → LosesNeed arena.now self.old self.new p q × (self.new.retries < self.old.retries)) }
         ensures refused { IfErr result (ConnectRefused arena.now self.old self.new p q) }
         ensures row { IfOk result (λ on. IsTrue on → at self.new.rows p ≡ at self.old.rows p) }
         ensures kept { IsKept arena.now self.new }
         ensures places { KeepsPlaces self.old self.new }
         ensures pushed { OnOk result (Grows self.old self.new) }
     {
-        match self.try_link(arena, p, q) {
-            Ok(()) => Ok(true),
-            Err(fault) => {
-                if self.strict || matches!(fault, LinkFault::Memory) {
-                    return Err(refusal(q, fault));
-                }
-                let gated = is_gated(&self.rows, p);
-                self.take_off_unconfirmed(arena);
-                if !self.is_still(p, gated) {
-                    return Ok(false);
-                }
-                match self.try_link(arena, p, q) {
-                    Ok(()) => Ok(true),
-                    Err(fault) => Err(refusal(q, fault)),
-                }
+        while let Err(fault) = self.try_link(arena, p, q) {
+            if self.is_final(&fault) {
+                return Err(refusal(q, fault));
+            }
+            let gated = is_gated(&self.rows, p);
+            self.make_way(arena, points_of(&fault));
+            drop(fault);
+            if !self.is_still(p, gated) {
+                return Ok(false);
             }
         }
+        Ok(true)
+    }
+
+    /// Whether a link that is refused so isn't tried again.
+    fn is_final(&self, fault: &LinkFault) -> bool
+        ensures strict { IsTrue result → (self.now.retries ≡ 0) ⊎ (fault.now ≡ LinkFault.Memory) }
+        ensures retried { IsFalse result → 0 < self.now.retries }
+    {
+        match fault {
+            LinkFault::Memory => true,
+            LinkFault::Path(_) | LinkFault::Over(_) => self.retries == 0,
+        }
+    }
+
+    /// Takes off links that weren't confirmed in this round, and lets fewer links be tried again: those of these points'
+    /// nodes, or all, where that leaves the points as they were, or links were tried again too often.
+    fn make_way(&mut self, arena: &Arena, points: &[Point])
+        requires kept { IsKept arena.now self.old }
+        requires some { 0 < self.old.retries }
+        ensures taken { TakesOff arena.now self.old self.new }
+        ensures fewer { self.new.retries < self.old.retries }
+        ensures kept { IsKept arena.now self.new }
+        ensures places { KeepsPlaces self.old self.new }
+        ensures rest { self.new ≡ record self.old { graph = self.new.graph; rows = self.new.rows; retries = self.new.retries } }
+        ensures rows { (a : APoint) → IsSpared arena.now self.old a → (at self.new.rows a ≡ at self.old.rows a)
+            ⊎ IsPutBack arena.now self.old self.new a }
+    {
+        let took = self.take_off_along(arena, points);
+        if took && self.retries > 1 {
+            self.retries -= 1;
+        } else {
+            self.take_off_unconfirmed(arena);
+        }
+    }
+
+    /// Takes off the links that weren't confirmed in this round of these points' nodes. Answers whether one of the points has
+    /// fewer links then.
+    fn take_off_along(&mut self, arena: &Arena, points: &[Point]) -> bool
+        requires kept { IsKept arena.now self.old }
+        ensures taken { TakesOne arena.now self.old self.new }
+        ensures kept { IsKept arena.now self.new }
+        ensures places { KeepsPlaces self.old self.new }
+        ensures loses { OnlyLoses self.old.graph self.new.graph }
+        ensures rest { self.new ≡ record self.old { graph = self.new.graph; rows = self.new.rows } }
+        ensures rows { (a : APoint) → IsSpared arena.now self.old a → (at self.new.rows a ≡ at self.old.rows a)
+            ⊎ IsPutBack arena.now self.old self.new a }
+    {
+        let mut took = false;
+        for p in points {
+            let full = is_full(&self.rows, *p);
+            let lacking = lacks_links(&self.rows, *p);
+            self.take_off_at(arena, p.node);
+            took |= full != is_full(&self.rows, *p);
+            took |= lacking != lacks_links(&self.rows, *p);
+        }
+        took
+    }
+
+    /// Takes off the links of a node that weren't confirmed in this round.
+    fn take_off_at(&mut self, arena: &Arena, node: NodeId)
+        requires kept { IsKept arena.now self.old }
+        ensures taken { TakesOne arena.now self.old self.new }
+        ensures kept { IsKept arena.now self.new }
+        ensures places { KeepsPlaces self.old self.new }
+        ensures loses { OnlyLoses self.old.graph self.new.graph }
+        ensures rest { self.new ≡ record self.old { graph = self.new.graph; rows = self.new.rows } }
+        ensures rows { (a : APoint) → IsSpared arena.now self.old a → (at self.new.rows a ≡ at self.old.rows a)
+            ⊎ IsPutBack arena.now self.old self.new a }
+    {
+        self.put_back_unconfirmed(arena, node);
+        self.take_off(arena, node);
     }
 
     /// Whether a point is needed and, if it had more than its gate's link, wasn't put back to that.
@@ -361,7 +427,7 @@ impl Work {
         ensures why { IfErr result (TellsFault self.new p q) }
         ensures kept { IsKept arena.now self.new }
         ensures places { KeepsPlaces self.old self.new }
-        ensures strict { self.new.strict ≡ self.old.strict }
+        ensures retries { self.new.retries ≡ self.old.retries }
         ensures pushed { OnOk result (Grows self.old self.new) }
     {
         let _ = arena;
@@ -419,6 +485,14 @@ fn lacks_links(rows: &PointMap<Progress>, p: Point) -> bool
     ensures { IsTrue result ↔ ((stage_in (at rows.now p) ≡ Some Stage.Bare) ⊎ (stage_in (at rows.now p) ≡ Some Stage.Gated)) }
 {
     is_bare(rows, p) || is_gated(rows, p)
+}
+
+/// The points that a fault tells.
+fn points_of(fault: &LinkFault) -> &[Point] {
+    match fault {
+        LinkFault::Path(points) | LinkFault::Over(points) => points.as_slice(),
+        LinkFault::Memory => &[],
+    }
 }
 
 /// Why a stabilize is refused where a link to the point is.

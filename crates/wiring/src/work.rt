@@ -16,6 +16,7 @@ ghost use Rattle.necessary_graph.specs.Sweep.{IsUnlinked, IsUnrooted};
 ghost use Rattle.node_arena.specs.Arena.{IsLive};
 ghost use Rattle.node_outcomes.specs.Choosing.{right_in};
 ghost use Rattle.node_outcomes.specs.Row.{IsRewritten, with_outcome};
+ghost use Rattle.stabilize_round.specs.State.{all_retries};
 ghost use Rattle.wiring.specs.Kept.{IsKept};
 ghost use Rattle.wiring.specs.Places.{ChangesNode, for_parts, pairs_with};
 ghost use Rattle.wiring.specs.Turning.{IsAttached, IsWaiting, IsLoosened, HasTurned};
@@ -38,6 +39,9 @@ use node_outcomes::{
 use point_map::PointMap;
 use std::alloc::{AllocError, Global};
 
+/// How often refused links may be tried again in a round.
+const ALL_RETRIES: u32 = 1024;
+
 /// What a stabilize works on beside the nodes.
 pub struct Work {
     /// Need, heights, and what is to be recomputed.
@@ -56,8 +60,9 @@ pub struct Work {
     pub todo: Vec<Point>,
     /// The nodes whose functions were called in this round, each once. A fold of no nodes takes no call.
     pub ran: Vec<NodeId>,
-    /// Whether refusals are final in this round.
-    pub strict: bool,
+    /// How often refused links may still be tried again in this round. At 0 all that wasn't confirmed is off, and refusals
+    /// are final.
+    pub retries: u32,
     /// The number of this round. The first is 1.
     pub round: u64,
 }
@@ -74,7 +79,7 @@ impl Drop for Work {
             deaths,
             todo,
             ran,
-            strict: _,
+            retries: _,
             round: _,
         } = self;
         drop(graph);
@@ -104,7 +109,7 @@ impl Work {
         ensures deaths { result.deaths.nodes ≡ [] }
         ensures died { (n : ANode) → died_at result n ≡ None }
         ensures round { result.round ≡ 1 }
-        ensures strict { IsFalse result.strict }
+        ensures retries { result.retries ≡ all_retries }
         ensures step { IsInStep result.graph }
     {
         Work {
@@ -116,7 +121,7 @@ impl Work {
             deaths: Deaths::new(alloc),
             todo: Vec::new(alloc),
             ran: Vec::new(alloc),
-            strict: false,
+            retries: ALL_RETRIES,
             round: 1,
         }
     }
@@ -390,15 +395,16 @@ impl Work {
 
     /// Takes off the links that weren't confirmed in this round, and puts the changes that are to confirm them into the heap:
     /// of a point in a scope whose gate didn't run all but that to the gate, and the right side of a node whose change didn't
-    /// run. From now on refusals are final. Each node in a scope and each node of two points is looked at once. This takes
+    /// run. No link may be tried again then: refusals are final. Each node in a scope and each node of two points is looked at once. This takes
     /// no memory.
     pub fn take_off_unconfirmed(&mut self, arena: &Arena)
         requires kept { IsKept arena.now self.old }
         ensures taken { TakesOff arena.now self.old self.new }
-        ensures strict { IsTrue self.new.strict }
+        ensures strict { self.new.retries ≡ 0 }
         ensures kept { IsKept arena.now self.new }
         ensures places { KeepsPlaces self.old self.new }
-        ensures rest { self.new ≡ record self.old { graph = self.new.graph; rows = self.new.rows; strict = self.new.strict } }
+        ensures loses { OnlyLoses self.old.graph self.new.graph }
+        ensures rest { self.new ≡ record self.old { graph = self.new.graph; rows = self.new.rows; retries = self.new.retries } }
         ensures rows { (p : APoint) → IsSpared arena.now self.old p → (at self.new.rows p ≡ at self.old.rows p)
             ⊎ IsPutBack arena.now self.old self.new p }
     {
@@ -410,11 +416,11 @@ impl Work {
             let pair = self.pairs.at(index);
             self.take_off(arena, pair);
         }
-        self.strict = true;
+        self.retries = 0;
     }
 
     /// Takes a node's right side off, if its change didn't run in this round, and puts the change into the heap.
-    fn take_off(&mut self, arena: &Arena, node: NodeId)
+    pub(crate) fn take_off(&mut self, arena: &Arena, node: NodeId)
         requires kept { IsKept arena.now self.old }
         ensures kept { IsKept arena.now self.new }
         ensures places { KeepsPlaces self.old self.new }
@@ -529,7 +535,7 @@ impl Work {
     pub fn end_round(&mut self, next: u64)
         requires step { IsInStep self.old.graph }
         ensures ran { self.new.ran.items ≡ [] }
-        ensures strict { IsFalse self.new.strict }
+        ensures retries { self.new.retries ≡ all_retries }
         ensures round { self.new.round ≡ next }
         ensures released { IsReleased self.old self.new }
         ensures step { IsInStep self.new.graph }
@@ -541,7 +547,7 @@ impl Work {
     {
         self.release_dead();
         self.ran.clear();
-        self.strict = false;
+        self.retries = ALL_RETRIES;
         self.round = next;
     }
 }

@@ -109,7 +109,7 @@ module _ (c : goal.After-forget_since) where
       roots = dropped.round.roots;
       deaths = dropped.round.deaths;
       ran = dropped.round.ran;
-      strict = dropped.round.strict;
+      retries = dropped.round.retries;
       round = dropped.round.round;
     };
   })

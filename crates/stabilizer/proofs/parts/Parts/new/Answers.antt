@@ -23,4 +23,4 @@ kept c = let w = c.new-3.ensures in record {
 pub returns-clause-ready : goal.returns-clause-ready
 returns-clause-ready c M laws = let w = c.new-3.ensures in empty_ready M (parts c) (kept c) laws c.new.ensures.empty
     (empty_between c.new.result c.new-3.result c.new.ensures.sound w.step c.new.ensures.empty w.rows w.heights w.links w.heap w.right_sides w.died
-    w.todo w.ran w.strict w.round M.functions)
+    w.todo w.ran w.retries w.round M.functions)

@@ -340,7 +340,7 @@ returns-clause-calls g c =
     round_calls M old c.put_roots.new.work before c.requires.ready c.in_ok-put_roots.ensures.wired settled after c.in_ok-settle_all.ensures.settled
     c.settle_all.ensures.kept c.in_ok-settle_all.ensures.quiet c.in_ok-settle_all.ensures.empty end released c.end_round.ensures.step
     c.end_round.ensures.ran
-    c.end_round.ensures.strict round c.end_round.ensures.rows c.end_round.ensures.right_sides c.end_round.ensures.pairs c.end_round.ensures.scoped
+    c.end_round.ensures.retries round c.end_round.ensures.rows c.end_round.ensures.right_sides c.end_round.ensures.pairs c.end_round.ensures.scoped
     c.end_round.ensures.todo (ap (λ v. v.items) c.swap.ensures.x_after)
 
 pub returns-clause-right : goal.returns-clause-right
@@ -359,7 +359,7 @@ returns-clause-right g c =
     c.in_ok-settle_all.ensures.settled
     c.settle_all.ensures.kept c.in_ok-settle_all.ensures.quiet c.in_ok-settle_all.ensures.empty end released c.end_round.ensures.step
     c.end_round.ensures.ran
-    c.end_round.ensures.strict round c.end_round.ensures.rows c.end_round.ensures.right_sides c.end_round.ensures.pairs c.end_round.ensures.scoped
+    c.end_round.ensures.retries round c.end_round.ensures.rows c.end_round.ensures.right_sides c.end_round.ensures.pairs c.end_round.ensures.scoped
     c.end_round.ensures.todo
     (c.settle_all.ensures.round ∙ c.put_roots.ensures.round) c.args.roots.now observed c.settle_all.ensures.roots
     c.in_ok-put_roots.ensures.rooted looks
@@ -380,7 +380,7 @@ returns-clause-left g c =
     round_left M old c.put_roots.new.work before c.requires.ready c.in_ok-put_roots.ensures.wired settled after c.in_ok-settle_all.ensures.settled
     c.settle_all.ensures.kept c.in_ok-settle_all.ensures.quiet c.in_ok-settle_all.ensures.empty end released c.end_round.ensures.step
     c.end_round.ensures.ran
-    c.end_round.ensures.strict round c.end_round.ensures.rows c.end_round.ensures.right_sides c.end_round.ensures.pairs c.end_round.ensures.scoped
+    c.end_round.ensures.retries round c.end_round.ensures.rows c.end_round.ensures.right_sides c.end_round.ensures.pairs c.end_round.ensures.scoped
     c.end_round.ensures.todo
 
 pub returns-clause-built : goal.returns-clause-built
@@ -399,7 +399,7 @@ returns-clause-built g c =
     c.in_ok-settle_all.ensures.settled
     c.settle_all.ensures.kept c.in_ok-settle_all.ensures.quiet c.in_ok-settle_all.ensures.empty end released c.end_round.ensures.step
     c.end_round.ensures.ran
-    c.end_round.ensures.strict round c.end_round.ensures.rows c.end_round.ensures.right_sides c.end_round.ensures.pairs c.end_round.ensures.scoped
+    c.end_round.ensures.retries round c.end_round.ensures.rows c.end_round.ensures.right_sides c.end_round.ensures.pairs c.end_round.ensures.scoped
     c.end_round.ensures.todo c.args.roots.now observed
     (only_still old.work.graph.roots c.put_roots.new.work.graph.roots settled.work.graph.roots _ c.put_roots.ensures.roots
     c.settle_all.ensures.roots) looks
@@ -424,5 +424,5 @@ returns-clause-ready g c =
     c.in_ok-put_roots.ensures.wired settled after c.in_ok-settle_all.ensures.settled
     c.settle_all.ensures.kept c.in_ok-settle_all.ensures.quiet c.in_ok-settle_all.ensures.empty end released c.end_round.ensures.step
     c.end_round.ensures.ran
-    c.end_round.ensures.strict round c.end_round.ensures.rows c.end_round.ensures.right_sides c.end_round.ensures.pairs c.end_round.ensures.scoped
+    c.end_round.ensures.retries round c.end_round.ensures.rows c.end_round.ensures.right_sides c.end_round.ensures.pairs c.end_round.ensures.scoped
     c.end_round.ensures.todo fit)

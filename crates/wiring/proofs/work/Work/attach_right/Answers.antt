@@ -1,4 +1,4 @@
-use Rattle.std.proofs.Common.{◌≡◌, ◌⊎◌, inl, inr, Option, None, Some, true, false, sym, ap, subst, ◌∙◌, refl}
+use Rattle.std.proofs.Common.{◌≡◌, ◌<◌, ◌⊎◌, inl, inr, Option, None, Some, true, false, sym, ap, subst, ◌∙◌, refl}
 use Rattle.std.specs.Prelude.{IsTrue, IsFalse, Bool}
 use Rattle.inc_value.specs.declared.node.NodeId.{NodeId}
 use Rattle.inc_value.specs.declared.node.Point.{Point}
@@ -152,11 +152,11 @@ returns-clause-full c =
     elim c.match-right_side.branch [
       | in-Some-right_side+in_ok-_on b ↦
           let con = b.connect.new.self in
-          subst (λ (x : Work). IsWaiting old n → (stage_in (at x.rows (main n)) ≡ Some code.Full) ⊎ (IsFalse old.strict × IsTrue x.strict)) (sym b.self-is)
+          subst (λ (x : Work). IsWaiting old n → (stage_in (at x.rows (main n)) ≡ Some code.Full) ⊎ (x.retries < old.retries)) (sym b.self-is)
           (λ waiting. by_answer b.in_ok-_on._on
           (λ t. inl (ap stage_in (subst (λ (x : Point). at con.rows x ≡ at rows x) c.main_point-p.ensures (b.in_ok-_on.ensures.row t)) ∙ is_full))
-          (λ f. let gone = b.in_ok-_on.ensures.gone f in inr (gone.2, gone.1)))
+          (λ f. inr (b.in_ok-_on.ensures.gone f).1))
       | in_default-right_side b ↦
-          subst (λ (x : Work). IsWaiting old n → (stage_in (at x.rows (main n)) ≡ Some code.Full) ⊎ (IsFalse old.strict × IsTrue x.strict)) (sym b.self-is)
+          subst (λ (x : Work). IsWaiting old n → (stage_in (at x.rows (main n)) ≡ Some code.Full) ⊎ (x.retries < old.retries)) (sym b.self-is)
           (λ waiting. inl is_full)
     ]

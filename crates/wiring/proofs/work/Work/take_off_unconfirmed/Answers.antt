@@ -1,7 +1,7 @@
 use Rattle.std.proofs.Common.{◌≡◌, inl, inr, length, Some, refl, sym, ap, subst, ◌∙◌, arith, ℕ}
 use Rattle.std.specs.List.{slice_get}
 use Rattle.wiring.specs.declared.work.Work.{Work}
-use Rattle.wiring.proofs.TakingAll.{AreTaken, none_taken, more_behind, more_confirmed, all_taken, taken_rest, strict_kept, strict_places, strict_rows}
+use Rattle.wiring.proofs.TakingAll.{AreTaken, none_taken, more_behind, more_confirmed, all_taken, taken_rest, spent_kept, spent_places, spent_rows}
 use Rattle.wiring.proofs.work.Work.take_off_unconfirmed.Goals as goal
 
 pub loop-place-init : goal.loop-place-init
@@ -56,13 +56,13 @@ returns-clause-taken c =
     all_taken c.args.arena.now c.args.self.now c.loop-index.self _ (length c.args.self.now.scoped.nodes) c.loop-index.index so refl all c.requires.kept refl
 
 pub returns-clause-kept : goal.returns-clause-kept
-returns-clause-kept c = strict_kept c.args.arena.now c.loop-index.self _ refl c.loop-index.invariant.kept
+returns-clause-kept c = spent_kept c.args.arena.now c.loop-index.self _ 0 refl c.loop-index.invariant.kept
 
 pub returns-clause-places : goal.returns-clause-places
-returns-clause-places c = strict_places c.args.self.now c.loop-index.self _ refl c.loop-index.invariant.places
+returns-clause-places c = spent_places c.args.self.now c.loop-index.self _ 0 refl c.loop-index.invariant.places
 
 pub returns-clause-rest : goal.returns-clause-rest
-returns-clause-rest c = taken_rest c.args.self.now c.loop-index.self _ c.loop-index.invariant.rest refl
+returns-clause-rest c = taken_rest c.args.self.now c.loop-index.self _ 0 c.loop-index.invariant.rest refl
 
 pub returns-clause-rows : goal.returns-clause-rows
-returns-clause-rows c = strict_rows c.args.arena.now c.args.self.now c.loop-index.self _ refl c.loop-index.invariant.rows
+returns-clause-rows c = spent_rows c.args.arena.now c.args.self.now c.loop-index.self _ 0 refl c.loop-index.invariant.rows
