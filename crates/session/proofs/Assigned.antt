@@ -1,5 +1,5 @@
 -- The node that is set, and the value that it is given.
-use Rattle.std.proofs.Common.{◌≡◌, ◌<◌, ℕ, length, sym, subst, ◌∙◌, arith}
+use Rattle.std.proofs.Common.{◌≡◌, ◌<◌, ℕ, length, slice_get, Some, sym, subst, ◌∙◌, arith}
 use Rattle.formula_lang.specs.Fits.{AssignmentFits}
 use Rattle.script_model.specs.Leaves.{EveryReference}
 use Rattle.formula_elab.specs.Opened.{node_at}
@@ -7,7 +7,6 @@ use Rattle.formula_elab.proofs.Writes.{value_same}
 use Rattle.inc_value.specs.declared.node.NodeId.{NodeId}
 use Rattle.inc_value.specs.declared.value.Value.{Value as GraphValue}
 use Rattle.node_arena.specs.Sound.{IsSound as IsSoundArena}
-use Rattle.std.specs.Prelude.{slice_index_or}
 use Rattle.script_model.specs.Values.{Value, Int, Bool, Text, Reference}
 use Rattle.script_graph.specs.Kept.{Kept, arena_of, node_in}
 use Rattle.script_graph.specs.Sound.{IsSound}
@@ -38,8 +37,8 @@ module _ (k : Kept) (sound : IsSound k) (target : ℕ) (v : Value) (fits : Assig
 
   -- the node that is read at a target's place is a variable that takes what is assigned
   pub node_takes : IsSoundArena (arena_of k) → (w : GraphValue) → w ≡ graph_value (node_at k.nodes) v
-      → (node : NodeId) → node ≡ slice_index_or k.nodes target node → TakesValue (arena_of k) node w
+      → (node : NodeId) → slice_get k.nodes target ≡ Some node → TakesValue (arena_of k) node w
   node_takes arena w is_value node is =
       subst (λ (x : GraphValue). TakesValue (arena_of k) node x) (sym (is_value ∙ sym value_is))
-      (subst (λ (n : NodeId). TakesValue (arena_of k) n (graph_value (node_in k.nodes) v)) (sym (target_node k sound target fits.name.earlier node is))
+      (subst (λ (n : NodeId). TakesValue (arena_of k) n (graph_value (node_in k.nodes) v)) (sym (target_node k.nodes target node is))
       (assigned_takes (arena_of k) k.names k.nodes arena sound.one_node_each sound.has_nodes target v fits))

@@ -9,6 +9,7 @@ mod InTurn
 mod Keeping
 mod Passing
 mod Observed
+mod OwnNodes
 mod Owned
 mod Referred
 mod Requests

@@ -24,7 +24,7 @@ use Rattle.node_arena.specs.Sound.{IsSound as IsSoundArena}
 use Rattle.script_model.specs.Check.{Names, Declared, Kind, Grab, Observe, is_among}
 use Rattle.script_model.specs.Formula.{Meanings}
 use Rattle.script_model.specs.Step.{Moment, moved}
-use Rattle.script_graph.specs.Kept.{Kept, arena_of, no_node, node_in, without_functions}
+use Rattle.script_graph.specs.Kept.{Kept, arena_of, node_in, without_functions}
 use Rattle.script_graph.specs.Sound.{AreFew, HasNode, HaveNodes, IsSound}
 use Rattle.script_graph.specs.Shown.{ShowsIt, ShowsNothing}
 use Rattle.script_graph.specs.State.{MatchesMoment}
@@ -110,11 +110,6 @@ as_before_sound k sound name between after os g fresh between_is after_is os_is 
 
 -- ---- lists by places
 
-or_same : {A : Type 0} (xs : List A) (i : ℕ) (d e : A) → i < length xs → slice_index_or xs i d ≡ slice_index_or xs i e
-or_same [] i d e less = absurd (omega (arith, less))
-or_same (x ∷ xs) zero d e less = refl
-or_same (x ∷ xs) (suc i) d e less = or_same xs i d e (omega (arith, less))
-
 get_at : {A : Type 0} (xs : List A) (i : ℕ) (d : A) → i < length xs → slice_get xs i ≡ Some (slice_index_or xs i d)
 get_at [] i d less = absurd (omega (arith, less))
 get_at (x ∷ xs) zero d less = refl
@@ -180,17 +175,17 @@ target_given k sound arena target less = given_of declared.0 declared.1
         let t = (sound.has_nodes target d is).target in
         subst (Given (arena_of k).given) t.node (of_itself d.target t.target (sound.has_nodes d.target t.target t.is_target) t.itself)
 
--- the node that stands at a target's place, whatever is read elsewhere
-pub target_node : (k : Kept) → IsSound k → (target : ℕ) → target < length k.names.declared → (node : NodeId) → node ≡ slice_index_or k.nodes target node
-    → node ≡ node_in k.nodes target
-target_node k sound target less node is =
-    is ∙ or_same k.nodes target node no_node (let same = sound.one_node_each in omega (arith, less, same))
+-- the node that stands at a target's place
+pub target_node : (nodes : List NodeId) (target : ℕ) (node : NodeId) → slice_get nodes target ≡ Some node → node ≡ node_in nodes target
+target_node [] target node is = absurd (cc)
+target_node (n ∷ nodes) zero node is = cc
+target_node (n ∷ nodes) (suc target) node is = target_node nodes target node is
 
 -- it was given
 pub given_node : (k : Kept) → IsSound k → IsSoundArena (arena_of k) → (target : ℕ) → target < length k.names.declared → (node : NodeId)
-    → node ≡ slice_index_or k.nodes target node → Given (arena_of k).given node
+    → slice_get k.nodes target ≡ Some node → Given (arena_of k).given node
 given_node k sound arena target less node is =
-    subst (Given (arena_of k).given) (sym (target_node k sound target less node is)) (target_given k sound arena target less)
+    subst (Given (arena_of k).given) (sym (target_node k.nodes target node is)) (target_given k sound arena target less)
 
 -- a graph that is observed, but for its functions
 pub observes_so : {F : Type 0} (old new : Standing F) (o : ObsId) (node other : NodeId) → Observes old new o node → node ≡ other

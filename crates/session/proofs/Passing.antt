@@ -122,13 +122,12 @@ module _ {A : Type 0} (g : Standing A) (declared : List Declared) (nodes : List 
   without (p ∷ points) targets passes = from_without p points targets passes
 
 -- what the points of the cycle that was met pass, that cycle passes
-pub cycle_told : {A : Type 0} (g : Standing A) (declared : List Declared) (nodes own : List NodeId) (points : _) (items : List Point) (targets : List ℕ)
-    → g.refused ≡ Some (Cycle points) → own ≡ nodes → items ≡ points.items → PassesAll g declared own items targets
+pub cycle_told : {A : Type 0} (g : Standing A) (declared : List Declared) (nodes : List NodeId) (points : _) (items : List Point) (targets : List ℕ)
+    → g.refused ≡ Some (Cycle points) → items ≡ points.items → PassesAll g declared nodes items targets
     → CyclePasses (without_functions g) declared nodes targets
-cycle_told g declared nodes own points items targets met same_nodes same_items passes =
+cycle_told g declared nodes points items targets met same_items passes =
     let here : PassesAll g declared nodes points.items targets =
-    subst (λ (ps : List Point). PassesAll g declared nodes ps targets) same_items
-    (subst (λ (ns : List NodeId). PassesAll g declared ns items targets) same_nodes passes) in
+    subst (λ (ps : List Point). PassesAll g declared nodes ps targets) same_items passes in
     subst (λ (r : Option Refused). PassesMet (without_functions g) declared nodes r targets) (sym met) (without g declared nodes points.items targets here)
 
 -- ---- the line

@@ -37,7 +37,7 @@ use Rattle.script_graph.proofs.Refusing.{IsSessions}
 use Rattle.script_graph.specs.Growing.{functions_over}
 use Rattle.script_graph.specs.Kept.{Kept, arena_of, node_in, without_functions}
 use Rattle.script_graph.specs.Sound.{AreFew, HasLiveNode, HaveNodes, IsLiveBind, IsSound, weight_at, weight_of}
-use Rattle.script_graph.specs.Stabilizing.{ChainBegins, IsCircular, IsCycleMet, IsTold, NoneTold, closed}
+use Rattle.script_graph.specs.Stabilizing.{ChainBegins, IsCircular, IsCycleMet, IsTold, closed}
 use Rattle.script_model.specs.Check.{Declared}
 use Rattle.script_model.specs.Formula.{Meanings}
 use Rattle.script_model.specs.Step.{Moment}
@@ -211,16 +211,11 @@ circular_closed F m k targets first more called calls is circular =
 
 -- ---- where a chain begins
 
-module _ (declared : List Declared) (nodes others : List NodeId) (same : others ≡ nodes) where
-  pub told_over : {A : Type 0} (g : Standing A) (found target : ℕ) → found ≡ target
-      → ((p : Point) → ChainBegins g.refused p → IsTold declared others g p.node found) → (p : Point) → ChainBegins g.refused p
-      → IsTold declared nodes g p.node target
-  told_over g found target is told p begins =
-      subst (λ (ns : List NodeId). IsTold declared ns g p.node target) same (subst (IsTold declared others g p.node) is (told p begins))
-
-  pub none_over : {A : Type 0} (g : Standing A) → ((p : Point) → ChainBegins g.refused p → NoneTold declared others g p.node) → (p : Point)
-      → ChainBegins g.refused p → NoneTold declared nodes g p.node
-  none_over g none p begins = subst (λ (ns : List NodeId). NoneTold declared ns g p.node) same (none p begins)
+-- the declaration that is told of it
+pub told_of : {A : Type 0} (declared : List Declared) (nodes : List NodeId) (g : Standing A) (found target : ℕ) → found ≡ target
+    → ((p : Point) → ChainBegins g.refused p → IsTold declared nodes g p.node found) → (p : Point) → ChainBegins g.refused p
+    → IsTold declared nodes g p.node target
+told_of declared nodes g found target is told p begins = subst (IsTold declared nodes g p.node) is (told p begins)
 
 -- ---- the library
 

@@ -9,6 +9,7 @@ use Rattle.inc_value.specs.declared.outcome.Outcome.{Outcome}
 use Rattle.inc_value.specs.declared.outcome.Outcome.TheVariants.{Val}
 use Rattle.inc_value.specs.declared.value.Value.TheVariants as held
 use Rattle.script_graph.specs.Kept.{node_in}
+use Rattle.script_graph.specs.Sound.{HasTarget}
 
 -- a line, with its newline
 abbrev pub line_of : List ℕ → List ℕ
@@ -56,6 +57,10 @@ pub record IsOwnNode (names : Names) (nodes : List NodeId) (n : NodeId) (positio
   pub is_declared : slice_get names.declared position ≡ Some declared
   pub own : declared.target ≡ position
   pub is_node : node_in nodes position ≡ n
+
+-- what each declaration stands for has its node
+abbrev pub HaveTargets : List Declared → List NodeId → Type 0
+HaveTargets declared nodes = (n : ℕ) (d : Declared) → slice_get declared n ≡ Some d → HasTarget declared nodes n d
 
 -- the node that a reference is to; none of what is no reference
 abbrev pub referred_node : Outcome → Option NodeId

@@ -15,7 +15,8 @@ mod stabilizing;
 
 use formula_lang::Names;
 use graph::{Graph, GraphFault};
-use inc_value::{NodeId, ObsId};
+use inc_value::ObsId;
+use indexed_nodes::IndexedNodes;
 use naming::name_at;
 use node_arena::Library;
 use script_functions::ScriptFns;
@@ -26,14 +27,14 @@ use std::marker::Model;
 /// The most places that a script may have.
 const PLACE_LIMIT: usize = 1_048_575;
 
-/// The names of a script; its graph, with the node of each declaration and the observer of each observer's name in use; the
+/// The names of a script; its graph, with the node of each declaration, indexed by node, and the observer of each observer's name in use; the
 /// room that is left for places; how many stabilizes were accepted; and the number of what broke the session, if something did.
 #[derive(Drop)]
 pub(crate) struct Script<L: Library> {
     alloc: Global,
     graph: Graph<ScriptFns<L>>,
     names: Names,
-    nodes: Vec<NodeId>,
+    nodes: IndexedNodes,
     observers: Vec<ObsId>,
     room: usize,
     accepted: u64,
@@ -89,7 +90,7 @@ impl<L: Library> Script<L> {
             alloc,
             graph: Graph::new(alloc, ScriptFns::new(alloc, library)),
             names: Names::new(alloc),
-            nodes: Vec::new(alloc),
+            nodes: IndexedNodes::new(alloc),
             observers: Vec::new(alloc),
             room: PLACE_LIMIT,
             accepted: 0,

@@ -33,6 +33,7 @@ use formula_lang::{Declaration, Formula, Kind, Names};
 use graph::{Graph, GraphFault};
 use inc_terms::Def;
 use inc_value::{NodeId, Ty};
+use indexed_nodes::IndexedNodes;
 use node_arena::Library;
 use script_functions::{Body, ScriptFns};
 use std::alloc::{AllocError, Global};
@@ -90,7 +91,7 @@ fn add_declared<L: Library>(
     alloc: Global,
     graph: &mut Graph<ScriptFns<L>>,
     names: &mut Names,
-    nodes: &mut Vec<NodeId>,
+    nodes: &mut IndexedNodes,
     name: &[u8],
     ty: Ty,
     body: &Declaration,
@@ -122,16 +123,16 @@ fn add_declared<L: Library>(
     ensures functions { KeepsFunctions graph.old.functions.library graph.new.functions.library graph.old.functions.builds graph.new.functions.builds
         graph.old.functions.bodies.items graph.new.functions.bodies.items 64 }
 {
-    match make_declared(alloc, graph, names, nodes, body) {
+    match make_declared(alloc, graph, names, nodes.as_slice(), body) {
         Ok(node) => {
-            nodes.push(node)?;
+            nodes.reserve(1)?;
             let target = body.target(names.len());
             match names.declare(name, ty, kind_of(body), target) {
-                Ok(()) => Ok(()),
-                Err(fault) => {
-                    nodes.pop();
-                    Err(fault)
+                Ok(()) => {
+                    nodes.push(node);
+                    Ok(())
                 }
+                Err(fault) => Err(fault),
             }
         }
         Err(fault) => Err(fault),

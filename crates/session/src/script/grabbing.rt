@@ -1,5 +1,5 @@
 //! Grabs: names of the right sides that binds have.
-ghost use Rattle.std.specs.Prelude.{◌≡◌, ℕ, List, length, None, IfSome, IfNone, IsTrue, IsFalse, OnOk, OnErr};
+ghost use Rattle.std.specs.Prelude.{◌≡◌, ◌<◌, ℕ, List, length, None, IfSome, IfNone, IsTrue, IsFalse, OnOk, OnErr};
 ghost use Rattle.formula_lang.specs.Fits.{GrabFits};
 ghost use Rattle.formula_lang.specs.NamesView.{kind_view};
 ghost use Rattle.inc_value.specs.declared.ty.Ty.{Ty as ATy};
@@ -10,11 +10,13 @@ ghost use Rattle.script_model.specs.Formula.{Meanings, built_at, meanings_of};
 ghost use Rattle.script_model.specs.Step.{Moment, is_built, moved};
 ghost use Rattle.session.specs.Carried.{IsBeside};
 ghost use Rattle.session.specs.Grabbed.{IsGrabbedAs, IsOwnOfType};
+ghost use Rattle.session.specs.Replies.{HaveTargets, IsOwnNode};
 
 use super::Script;
-use super::naming::is_own_node;
+use super::naming::own_declaration;
 use formula_lang::{Kind, Names};
 use inc_value::{NodeId, Ty};
+use indexed_nodes::IndexedNodes;
 use node_arena::Library;
 use std::alloc::AllocError;
 
@@ -29,7 +31,7 @@ impl<L: Library> Script<L> {
         ensures none { IfNone result ((F : Meanings) (m : Moment) → MatchesMoment F self.now.kept m → IsFalse (is_built (built_at m.present bind))) }
     {
         self.graph.keeps_sound();
-        match self.graph.right_side(self.nodes[bind]) {
+        match self.graph.right_side(self.nodes.at(bind)) {
             Ok(root) => root,
             Err(_) => unreachable!(),
         }
@@ -48,21 +50,22 @@ impl<L: Library> Script<L> {
     {
         self.graph.keeps_sound();
         let (kind, target) = grabbed_as(&self.names, &self.nodes, root, ty);
-        self.nodes.push(root)?;
+        self.nodes.reserve(1)?;
         match self.names.declare(name, ty, kind, target) {
-            Ok(()) => Ok(()),
-            Err(fault) => {
-                self.nodes.pop();
-                Err(fault)
+            Ok(()) => {
+                self.nodes.push(root);
+                Ok(())
             }
+            Err(fault) => Err(fault),
         }
     }
 }
 
 /// How a name for a node is declared, and its target: that of the declaration whose own node it is, if it is one's, else itself.
-fn grabbed_as(names: &Names, nodes: &[NodeId], node: NodeId, ty: Ty) -> (Kind, usize)
-    requires one_each { length nodes.now ≡ length names.now.declared }
-    ensures { IsGrabbedAs names.entry.now nodes.now node ty (kind_view result.0) result.1 }
+fn grabbed_as(names: &Names, nodes: &IndexedNodes, node: NodeId, ty: Ty) -> (Kind, usize)
+    requires one_each { length nodes.now.items ≡ length names.now.declared }
+    requires targets { HaveTargets names.now.declared nodes.now.items }
+    ensures { IsGrabbedAs names.entry.now nodes.now.items node ty (kind_view result.0) result.1 }
 {
     match own_of_type(names, nodes, node, ty) {
         Some(target) => (Kind::Let, target),
@@ -71,7 +74,24 @@ fn grabbed_as(names: &Names, nodes: &[NodeId], node: NodeId, ty: Ty) -> (Kind, u
 }
 
 /// The declaration of the type that stands for itself whose node it is.
-fn own_of_type(names: &Names, nodes: &[NodeId], node: NodeId, ty: Ty) -> Option<usize>
+fn own_of_type(names: &Names, nodes: &IndexedNodes, node: NodeId, ty: Ty) -> Option<usize>
+    requires one_each { length nodes.now.items ≡ length names.now.declared }
+    requires targets { HaveTargets names.now.declared nodes.now.items }
+    ensures some { IfSome result (IsOwnOfType names.entry.now nodes.now.items node ty) }
+    ensures none { IfNone result ((position : ℕ) → IsOwnOfType names.entry.now nodes.now.items node ty position → ⊥) }
+{
+    let Some(position) = own_declaration(names, nodes, node) else {
+        return None;
+    };
+    if names.get(position).ty == ty {
+        return Some(position);
+    }
+    // A node is of one type, so that this never comes.
+    search_of_type(names, nodes.as_slice(), node, ty)
+}
+
+/// The declaration of the type that stands for itself whose node it is, looked for among all.
+fn search_of_type(names: &Names, nodes: &[NodeId], node: NodeId, ty: Ty) -> Option<usize>
     requires one_each { length nodes.now ≡ length names.now.declared }
     ensures some { IfSome result (IsOwnOfType names.entry.now nodes.now node ty) }
     ensures none { IfNone result ((position : ℕ) → IsOwnOfType names.entry.now nodes.now node ty position → ⊥) }
@@ -82,4 +102,14 @@ fn own_of_type(names: &Names, nodes: &[NodeId], node: NodeId, ty: Ty) -> Option<
         }
     }
     None
+}
+
+/// Whether the declaration at a position stands for itself and has the node.
+fn is_own_node(names: &Names, nodes: &[NodeId], node: NodeId, position: usize) -> bool
+    requires one_each { length nodes.now ≡ length names.now.declared }
+    requires within { position < length nodes.now }
+    ensures yes { IsTrue result → IsOwnNode names.entry.now nodes.now node position }
+    ensures no { IsFalse result → IsOwnNode names.entry.now nodes.now node position → ⊥ }
+{
+    names.get(position).target == position && nodes[position] == node
 }

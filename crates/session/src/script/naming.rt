@@ -1,14 +1,15 @@
 //! The declarations whose nodes a graph tells: those that references are to, and those that a cycle passes.
-ghost use Rattle.std.specs.Prelude.{ℕ, ◌≡◌, ◌↔◌, ◌<◌, ◌++◌, List, [], length, slice_get, IfOk, IfSome, IfNone, OnOk, OnErr, IsTrue, IsFalse, None, Some};
+ghost use Rattle.std.specs.Prelude.{ℕ, ◌≡◌, ◌↔◌, ◌<◌, ◌++◌, List, [], length, slice_get, IfOk, IfSome, IfNone, OnOk, OnErr, IsTrue, None, Some};
 ghost use Rattle.std.specs.List.{flat_map};
 ghost use Rattle.script_graph.specs.Stabilizing.{CyclePasses, IsCycleMet, IsOwnRoot, IsPassed, PassesAll, closed};
 ghost use Rattle.session.specs.Naming.{closing_name, either_of};
-ghost use Rattle.session.specs.Replies.{IsOwnNode, IsReferredName, cycle_line, name_in, named_of, referred_node};
+ghost use Rattle.session.specs.Replies.{HaveTargets, IsOwnNode, IsReferredName, cycle_line, name_in, named_of, referred_node};
 
 use super::Script;
 use formula_lang::Names;
 use graph::{Graph, Refused};
 use inc_value::{NodeId, Outcome, Part, Point, Value};
+use indexed_nodes::IndexedNodes;
 use node_arena::Library;
 use script_functions::ScriptFns;
 use std::alloc::{AllocError, Global};
@@ -62,28 +63,17 @@ fn referred_node(outcome: &Outcome) -> Option<NodeId>
     }
 }
 
-/// The declaration that stands for itself whose node it is.
-pub(super) fn own_declaration(names: &Names, nodes: &[NodeId], node: NodeId) -> Option<usize>
-    requires one_each { length nodes.now ≡ length names.now.declared }
-    ensures some { IfSome result (IsOwnNode names.entry.now nodes.now node) }
-    ensures none { IfNone result ((position : ℕ) → IsOwnNode names.entry.now nodes.now node position → ⊥) }
+/// The declaration that stands for itself whose node it is: the first that has the node, as no other name comes before the one that
+/// it stands for.
+pub(super) fn own_declaration(names: &Names, nodes: &IndexedNodes, node: NodeId) -> Option<usize>
+    requires one_each { length nodes.now.items ≡ length names.now.declared }
+    requires targets { HaveTargets names.now.declared nodes.now.items }
+    ensures some { IfSome result (IsOwnNode names.entry.now nodes.now.items node) }
+    ensures within { IfSome result (λ i. i < length names.entry.now.declared) }
+    ensures none { IfNone result ((position : ℕ) → IsOwnNode names.entry.now nodes.now.items node position → ⊥) }
 {
-    for position in 0..nodes.len() {
-        if is_own_node(names, nodes, node, position) {
-            return Some(position);
-        }
-    }
-    None
-}
-
-/// Whether the declaration at a position stands for itself and has the node.
-pub(super) fn is_own_node(names: &Names, nodes: &[NodeId], node: NodeId, position: usize) -> bool
-    requires one_each { length nodes.now ≡ length names.now.declared }
-    requires within { position < length nodes.now }
-    ensures yes { IsTrue result → IsOwnNode names.entry.now nodes.now node position }
-    ensures no { IsFalse result → IsOwnNode names.entry.now nodes.now node position → ⊥ }
-{
-    names.get(position).target == position && nodes[position] == node
+    names.keeps_order();
+    nodes.first(node)
 }
 
 /// The declaration whose main the point is, which stands for itself, and which a cycle passes there that comes from another
@@ -91,13 +81,14 @@ pub(super) fn is_own_node(names: &Names, nodes: &[NodeId], node: NodeId, positio
 fn passed<L: Library>(
     graph: &Graph<ScriptFns<L>>,
     names: &Names,
-    nodes: &[NodeId],
+    nodes: &IndexedNodes,
     before: Point,
     point: Point,
 ) -> Option<usize>
-    requires one_each { length nodes.now ≡ length names.now.declared }
-    ensures some { IfSome result (IsPassed graph.now names.entry.now.declared nodes.now before point) }
-    ensures none { IfNone result ((n : ℕ) → IsPassed graph.now names.entry.now.declared nodes.now before point n → ⊥) }
+    requires one_each { length nodes.now.items ≡ length names.now.declared }
+    requires targets { HaveTargets names.now.declared nodes.now.items }
+    ensures some { IfSome result (IsPassed graph.now names.entry.now.declared nodes.now.items before point) }
+    ensures none { IfNone result ((n : ℕ) → IsPassed graph.now names.entry.now.declared nodes.now.items before point n → ⊥) }
 {
     match point.part {
         Part::Main if !is_own_root(graph, before, point.node) => {
@@ -123,12 +114,13 @@ fn write_passed<L: Library>(
     alloc: Global,
     graph: &Graph<ScriptFns<L>>,
     names: &Names,
-    nodes: &[NodeId],
+    nodes: &IndexedNodes,
     points: &[Point],
     out: &mut Vec<u8>,
 ) -> Result<(), AllocError>
-    requires one_each { length nodes.now ≡ length names.now.declared }
-    ensures ok { OnOk result ((targets : List ℕ) × PassesAll graph.now names.entry.now.declared nodes.now points.now targets
+    requires one_each { length nodes.now.items ≡ length names.now.declared }
+    requires targets { HaveTargets names.now.declared nodes.now.items }
+    ensures ok { OnOk result ((targets : List ℕ) × PassesAll graph.now names.entry.now.declared nodes.now.items points.now targets
         × (out.new.items ≡ out.old.items ++ cycle_line (name_in names.entry.now) (closed targets))) }
     ensures err { OnErr result (out.new.items ≡ out.old.items) }
 {
@@ -144,12 +136,13 @@ fn write_passed<L: Library>(
 fn write_each_passed<L: Library>(
     graph: &Graph<ScriptFns<L>>,
     names: &Names,
-    nodes: &[NodeId],
+    nodes: &IndexedNodes,
     points: &[Point],
     line: &mut Vec<u8>,
 ) -> Result<Option<usize>, AllocError>
-    requires one_each { length nodes.now ≡ length names.now.declared }
-    ensures { IfOk result (λ first. (targets : List ℕ) × PassesAll graph.now names.entry.now.declared nodes.now points.now targets
+    requires one_each { length nodes.now.items ≡ length names.now.declared }
+    requires targets { HaveTargets names.now.declared nodes.now.items }
+    ensures { IfOk result (λ first. (targets : List ℕ) × PassesAll graph.now names.entry.now.declared nodes.now.items points.now targets
         × (first ≡ slice_get targets 0) × (line.new.items ≡ line.old.items ++ flat_map (named_of (name_in names.entry.now)) targets)) }
 {
     let mut first = None;

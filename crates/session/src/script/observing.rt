@@ -32,7 +32,7 @@ impl<L: Library> Script<L> {
         ensures beside { IsBeside 0 1 self.old self.new }
     {
         self.graph.keeps_sound();
-        let node = self.nodes[target];
+        let node = self.nodes.at(target);
         match self.names.observe(name) {
             Ok(()) => match observe_node(&mut self.graph, &mut self.observers, node) {
                 Ok(()) => Ok(()),

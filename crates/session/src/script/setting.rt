@@ -25,10 +25,10 @@ impl<L: Library> Script<L> {
         ensures kept { OnErr result (self.new ≡ self.old) }
         ensures beside { IsBeside 0 0 self.old self.new }
     {
-        match value_of(self.alloc, value, &self.nodes) {
+        match value_of(self.alloc, value, self.nodes.as_slice()) {
             Ok(value) => {
                 self.graph.keeps_sound();
-                self.graph.assign(self.nodes[target], value);
+                self.graph.assign(self.nodes.at(target), value);
                 self.graph.keeps_sound();
                 Ok(())
             }

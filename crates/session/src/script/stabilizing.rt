@@ -5,12 +5,14 @@ ghost use Rattle.script_model.specs.Formula.{meanings_of};
 ghost use Rattle.script_graph.specs.Kept.{arena_of};
 ghost use Rattle.script_graph.specs.Stabilizing.{AllOlder, ChainBegins, IsFirstNotOlder, IsTold, NoneTold};
 ghost use Rattle.session.specs.Carried.{EndsStabilize};
+ghost use Rattle.session.specs.Replies.{HaveTargets};
 
 use super::Script;
 use super::naming::own_declaration;
 use formula_lang::Names;
 use graph::{Graph, Kept, Refused, StabilizeFault};
 use inc_value::NodeId;
+use indexed_nodes::IndexedNodes;
 use node_arena::Library;
 use script_functions::ScriptFns;
 use std::alloc::AllocError;
@@ -77,12 +79,13 @@ impl<L: Library> Script<L> {
 fn deep_owner<L: Library>(
     graph: &Graph<ScriptFns<L>>,
     names: &Names,
-    nodes: &[NodeId],
+    nodes: &IndexedNodes,
 ) -> Option<usize>
-    requires one_each { length nodes.now ≡ length names.now.declared }
-    ensures found { IfSome result (λ i. (p : Point) → ChainBegins graph.now.refused p → IsTold names.entry.now.declared nodes.now graph.now p.node i) }
-    ensures within { IfSome result (λ i. i < length nodes.now) }
-    ensures none { IfNone result ((p : Point) → ChainBegins graph.now.refused p → NoneTold names.entry.now.declared nodes.now graph.now p.node) }
+    requires one_each { length nodes.now.items ≡ length names.now.declared }
+    requires targets { HaveTargets names.now.declared nodes.now.items }
+    ensures found { IfSome result (λ i. (p : Point) → ChainBegins graph.now.refused p → IsTold names.entry.now.declared nodes.now.items graph.now p.node i) }
+    ensures within { IfSome result (λ i. i < length nodes.now.items) }
+    ensures none { IfNone result ((p : Point) → ChainBegins graph.now.refused p → NoneTold names.entry.now.declared nodes.now.items graph.now p.node) }
 {
     match graph.broken() {
         Some(Refused::Height(points)) => match points.first() {
@@ -97,16 +100,17 @@ fn deep_owner<L: Library>(
 fn owned_by<L: Library>(
     graph: &Graph<ScriptFns<L>>,
     names: &Names,
-    nodes: &[NodeId],
+    nodes: &IndexedNodes,
     node: NodeId,
 ) -> Option<usize>
-    requires one_each { length nodes.now ≡ length names.now.declared }
-    ensures found { IfSome result (IsTold names.entry.now.declared nodes.now graph.now node) }
-    ensures within { IfSome result (λ i. i < length nodes.now) }
-    ensures none { IfNone result (NoneTold names.entry.now.declared nodes.now graph.now node) }
+    requires one_each { length nodes.now.items ≡ length names.now.declared }
+    requires targets { HaveTargets names.now.declared nodes.now.items }
+    ensures found { IfSome result (IsTold names.entry.now.declared nodes.now.items graph.now node) }
+    ensures within { IfSome result (λ i. i < length nodes.now.items) }
+    ensures none { IfNone result (NoneTold names.entry.now.declared nodes.now.items graph.now node) }
 {
     match graph.owner(node) {
-        Some(top) => first_not_older(nodes, top),
+        Some(top) => first_not_older(nodes.as_slice(), top),
         None => own_declaration(names, nodes, node),
     }
 }

@@ -7,13 +7,13 @@ use Rattle.session.proofs.script.Script.observe.Goals as goal
 pub observe_node-requires-clause-given : goal.observe_node-requires-clause-given
 observe_node-requires-clause-given g c =
     let fits = rw (← c.self.view_is) at c.requires.fits in
-    given_node _ c.self.invariant c.keeps_sound.ensures.sound.nodes c.args.target fits.earlier c.index-node.result.now c.index-node.ensures
+    given_node _ c.self.invariant c.keeps_sound.ensures.sound.nodes c.args.target fits.earlier c.at-node.result c.at-node.ensures
 
 pub invariant_of-self : goal.invariant_of-self
 invariant_of-self g c =
     let fits = rw (← c.self.view_is) at c.requires.fits in
     let made = c.in-Ok-observe_node.ensures.ok in
-    let node = target_node _ c.self.invariant c.args.target fits.earlier c.index-node.result.now c.index-node.ensures in
+    let node = target_node _ c.args.target c.at-node.result c.at-node.ensures in
     let bodies = ap (λ (h : Standing _). h.functions.bodies.items) made.1.rest in
     rw bodies (observed_sound _ c.args.name.now c.args.target made.0 _ c.self.invariant (observes_so _ _ made.0 _ _ made.1 node) c.observe.new.self
     c.observe_node.new.observers.items c.in-Ok.ensures.ok made.2)
@@ -33,7 +33,7 @@ returns-in-Ok-observe_node-clause-observed g c =
     let fits = rw (← c.self.view_is) at c.requires.fits in
     let unbroken = rw (← c.self.view_is) at c.requires.unbroken in
     let made = c.in-Ok-observe_node.ensures.ok in
-    let node = target_node _ c.self.invariant c.args.target fits.earlier c.index-node.result.now c.index-node.ensures in
+    let node = target_node _ c.args.target c.at-node.result c.at-node.ensures in
     let bodies = ap (λ (h : Standing _). h.functions.bodies.items) made.1.rest in
     rw (← c.self.view_is, bodies) (observed_stands _ c.args.name.now c.args.target made.0 _ c.self.invariant (observes_so _ _ made.0 _ _ made.1 node)
     c.observe.new.self c.observe_node.new.observers.items c.in-Ok.ensures.ok made.2 unbroken fits c.keeps_sound.ensures.sound.earlier)

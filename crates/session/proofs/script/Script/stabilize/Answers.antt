@@ -9,9 +9,10 @@ use Rattle.script_graph.proofs.Functions.{same_meanings}
 use Rattle.script_graph.proofs.TooDeep.{session_too_deep, session_none_told}
 use Rattle.session.proofs.Makers.{accepted_now, circular_now, cut_short_now, sound_now, too_deep_now}
 use Rattle.session.proofs.Observed.{not_broken}
+use Rattle.session.proofs.OwnNodes.{have_targets}
 use Rattle.session.proofs.Room.{gives_few, never_full}
 use Rattle.session.proofs.SameMakers.{as_many, same_makers}
-use Rattle.session.proofs.Stabilized.{circular_closed, cycle_met, left_sound, library_still_knows, memory_met, none_over, not_fallen, of_sessions, refused_for, told_over}
+use Rattle.session.proofs.Stabilized.{circular_closed, cycle_met, left_sound, library_still_knows, memory_met, not_fallen, of_sessions, refused_for, told_of}
 use Rattle.session.proofs.script.Script.stabilize.Goals as goal
 
 -- ---- accepted
@@ -60,6 +61,9 @@ returns-in-Ok g c =
 
 -- ---- refused for depth
 
+pub deep_owner-requires-clause-targets : goal.deep_owner-requires-clause-targets
+deep_owner-requires-clause-targets g c = have_targets _ c.self.invariant
+
 pub invariant_of-self-in-Some : goal.invariant_of-self-in-Some
 invariant_of-self-in-Some g c =
     let h = c.in-Err-Refused-Height in
@@ -90,14 +94,14 @@ returns-in-Some g c =
           too_deep_now _ _ _ made m target _ _
           (session_too_deep (g.L.Library.named l) (g.L.Library.value l) _ c.self.inside.graph new sessions done m stands target
           (g.L.Library.calls l) (g.L.Library.calls new.functions.library)
-          (told_over _ c.self.inside.nodes.items c.deref.result.now c.deref.ensures.value new c.in-Some.target target same c.in-Some.ensures.found)
+          (told_of _ _ new c.in-Some.target target same c.in-Some.ensures.found)
           (c.stabilize-stabilized.ensures.few cause.Height for));
       circular = λ is. absurd (cc);
       unwritten = λ is. absurd (cc);
       target = λ target is.
           let same : c.in-Some.target ≡ target = cc in
           let many = c.self.invariant.one_node_each in
-          let within = rw c.deref.ensures.value at c.in-Some.ensures.within in
+          let within = c.in-Some.ensures.within in
           omega (arith, same, many, within);
       cut_short = tt;
       for_memory = tt;
@@ -149,7 +153,7 @@ returns-in-None g c =
           (g.L.Library.calls l) (g.L.Library.calls new.functions.library) done (c.stabilize-stabilized.ensures.few cause.Height for));
       for_memory = λ m stands. absurd (
           session_none_told (g.L.Library.named l) (g.L.Library.value l) _ c.self.inside.graph new sessions done m stands
-          (none_over _ c.self.inside.nodes.items c.deref.result.now c.deref.ensures.value new c.in-None.ensures.none));
+          c.in-None.ensures.none);
       count = omega arith;
       names = refl;
       given = gives_few _ _ _ (sound_now _ _ made (left_sound _ c.self.inside.graph new _ _ c.keeps_sound.ensures.sound.nodes done.stays left _
