@@ -237,7 +237,13 @@ impl Chooser {
         if view.model.links.is_empty() {
             return None;
         }
-        let (p, q) = self.any_link(view);
+        let mut link = self.any_link(view);
+        if let (Shape::Chains, true) = (self.shape, self.chance.percent(70)) {
+            // (mostly near a chain's end, so that it stays long)
+            let drawn = (0..DRAWN).map(|_| self.any_link(view));
+            link = drawn.min_by_key(|link| view.below[link.0]).unwrap_or(link);
+        }
+        let (p, q) = link;
         if self.chance.percent(20) {
             self.planned.extend((1..view.model.links[&(p, q)]).map(|_| Act::Unlink(p, q)));
         }
