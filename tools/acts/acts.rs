@@ -202,7 +202,7 @@ fn done((): ()) -> Answer {
 
 impl Leaves for Points {
     fn has(&self, p: Point) -> bool {
-        self.leaves.contains(&self.number(p))
+        self.numbers.get(&key(p)).is_some_and(|p| self.leaves.contains(p))
     }
 }
 

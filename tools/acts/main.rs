@@ -1,8 +1,8 @@
 //! Random acts on necessary graphs. Each is judged beside a plain model of maps and sets, which was written from the
 //! contracts of `NecessaryGraph`.
 //!
-//! The crates are translated to plain Rust (`plain.py`), so that bodies are tried before they are proved, and wrong ones
-//! too. The same seed gives the same acts.
+//! The crates are translated to plain Rust (`plain.py`), so that bodies are tried before they are proved, and wrong
+//! ones too. The same seed gives the same acts, over the same sources.
 
 mod acts;
 mod chooser;
@@ -53,7 +53,7 @@ fn main() -> ExitCode {
         return ExitCode::from(2);
     };
     std::panic::set_hook(Box::new(|panic| {
-        *PANICKED.lock().expect("one thread alone") = panic.to_string();
+        *PANICKED.lock().expect("one thread alone") = panic.to_string().replace('\n', " ");
     }));
     let mut counts = Counts::default();
     let mut wrong = None;
