@@ -36,8 +36,9 @@ fn number_of(outcome: &Outcome) -> Result<i64, Fault>
 {
     match outcome {
         Outcome::Val(Value::Int(number)) => Ok(*number),
-        Outcome::Val(Value::Bool(_) | Value::Text(_) | Value::Node(..)) | Outcome::Invalid =>
-            Err(Fault::Refused),
+        Outcome::Val(Value::Bool(_) | Value::Text(_) | Value::Node(..)) | Outcome::Invalid => Err(
+            Fault::Refused,
+        ),
     }
 }
 

@@ -85,12 +85,7 @@ fn tell_time(
 }
 
 /// Tells the times of rounds: by nodes built, by rounds and by calls.
-fn tell_times(
-    alloc: Global,
-    times: &mut String,
-    job: Job,
-    rounds: Rounds,
-) -> Result<(), AllocError>
+fn tell_times(alloc: Global, times: &mut String, job: Job, rounds: Rounds) -> Result<(), AllocError>
     ensures { OnOk result (string_bytes times.new ≡ with_times (string_bytes times.old) job rounds) }
 {
     tell_time(alloc, times, "built", rounds.building, job.size as u64)?;
