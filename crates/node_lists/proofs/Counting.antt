@@ -1,5 +1,5 @@
 -- How many of the nodes in a list are live, and how many are counted dead.
-use Rattle.std.proofs.Common.{◌≡◌, ◌≢◌, ◌∙◌, inl, inr, ℕ, suc, zero, ◌+◌, ◌*◌, ◌^◌, ◌<◌, ◌≤◌, ltb, Bool, true, false, cond, List, [], ◌∷◌, length, Some, IsSome, is_some, slice_get, refl, sym, ap, subst, arith}
+use Rattle.std.proofs.Common.{◌≡◌, ◌≢◌, ◌∙◌, inl, inr, ℕ, suc, zero, ◌+◌, ◌-◌, ◌*◌, ◌^◌, ◌<◌, ◌≤◌, ltb, Bool, true, false, cond, List, [], ◌∷◌, length, Some, IsSome, is_some, slice_get, refl, sym, ap, subst, arith}
 use Rattle.std.specs.List.{filter, count_by}
 use Rattle.std.proofs.lemmas.Bool.{cond_both, ltb-true, lt-ltb}
 use Rattle.std.proofs.lemmas.Bool.Decides.{leb_tells}
@@ -103,6 +103,16 @@ count_different f (d ∷ ds) xs once listed =
     let k = w.fewer in
     omega (arith, k, rest)
 
+-- of some of them no more pass
+filtered_fewer : {A : Type 0} (f p : A → Bool) (xs : List A) → count_by f (filter p xs) ≤ count_by f xs
+filtered_fewer f p [] = omega arith
+filtered_fewer f p (x ∷ xs) =
+    let rest = filtered_fewer f p xs in
+    let one = sum_by-cons (λ y. cond (f y) 1 0) x xs in
+    cond_both (p x) (x ∷ filter p xs) (filter p xs) (λ zs. count_by f zs ≤ count_by f (x ∷ xs))
+    (λ _. let more = sum_by-cons (λ y. cond (f y) 1 0) x (filter p xs) in omega (arith, rest, one, more))
+    (λ _. omega (arith, rest, one))
+
 -- ---- nodes that are listed
 
 -- where none is counted dead, no more are counted dead than there are dead ones
@@ -154,27 +164,39 @@ buried_live a b n l l' same dead small dies counts =
 live_left : (a : Arena) (l : Listed) → CountsLive a l → length (live_ones a l.nodes) ≤ most_live l
 live_left a l counts = let e = length-filter (λ n. is_some (row_at a n)) l.nodes in omega (arith, e, counts)
 
--- and so where some of the live ones are left
-pub some_left : (f : NodeId → Bool) (a : Arena) (l : Listed) → CountsLive a l → length (filter f (live_ones a l.nodes)) ≤ most_live l
-some_left f a l counts =
-    let e = length-filter f (live_ones a l.nodes) in
-    let few = count_by-le-length f (live_ones a l.nodes) in
-    let left = live_left a l counts in
-    omega (arith, e, few, left)
+-- the nodes of before a count
+module _ (count : ℕ) (n : NodeId) (ns : List NodeId) where
+  pub left_kept : n.gen_ < count → Among n ns → Among n (given_before count ns)
+  left_kept before i = among_filter (λ (m : NodeId). ltb m.gen_ count) n ns (lt-ltb n.gen_ count before) i
 
--- the live nodes of before a count
-module _ (a : Arena) (count : ℕ) (n : NodeId) (ns : List NodeId) where
-  pub left_kept : n.gen_ < count → IsLive a n → Among n ns → Among n (given_before count (live_ones a ns))
-  left_kept before lives i =
-      among_filter (λ (m : NodeId). ltb m.gen_ count) n (live_ones a ns) (lt-ltb n.gen_ count before)
-      (among_filter (λ m. is_some (row_at a m)) n ns lives i)
+  pub left_before : Among n (given_before count ns) → n.gen_ < count
+  left_before i = ltb-true n.gen_ count (filter_among (λ (m : NodeId). ltb m.gen_ count) n ns i).1
 
-  pub left_before : Among n (given_before count (live_ones a ns)) → n.gen_ < count
-  left_before i = ltb-true n.gen_ count (filter_among (λ (m : NodeId). ltb m.gen_ count) n (live_ones a ns) i).1
+  pub left_listed : Among n (given_before count ns) → Among n ns
+  left_listed i = (filter_among (λ (m : NodeId). ltb m.gen_ count) n ns i).0
 
-  pub left_listed : Among n (given_before count (live_ones a ns)) → Among n ns
-  left_listed i =
-      (filter_among (λ m. is_some (row_at a m)) n ns (filter_among (λ (m : NodeId). ltb m.gen_ count) n (live_ones a ns) i).0).0
+-- no more are live, and no more are left, where those that are gone are counted dead no longer
+module _ (l new : Listed) (count : ℕ) (nodes : new.nodes ≡ given_before count l.nodes) where
+  pub left_fewer : length new.nodes ≤ length l.nodes
+  left_fewer =
+      let e = length-filter (λ (m : NodeId). ltb m.gen_ count) l.nodes in
+      let few = count_by-le-length (λ (m : NodeId). ltb m.gen_ count) l.nodes in
+      let n_items = ap (λ (ns : List NodeId). length ns) nodes in
+      omega (arith, e, few, n_items)
+
+  left_live : (a : Arena) → live_count a new.nodes ≤ live_count a l.nodes
+  left_live a = rw nodes (filtered_fewer (λ m. is_some (row_at a m)) (λ (m : NodeId). ltb m.gen_ count) l.nodes)
+
+  module _ (dead : new.dead ≡ l.dead - (length l.nodes - length new.nodes)) where
+    pub left_counts : (a : Arena) → CountsLive a l → CountsLive a new
+    left_counts a counts =
+        let few = left_fewer in
+        let fewer = left_live a in
+        let at_most = count_by-le-length (λ m. is_some (row_at a m)) new.nodes in
+        omega (arith, few, fewer, at_most, counts, dead)
+
+    pub left_most : most_live new ≤ most_live l
+    left_most = let few = left_fewer in omega (arith, few, dead)
 
 -- the dead are gone, or nothing changed
 module _ (a : Arena) (old new : Listed) (tidied : IsTidied a old new) where

@@ -1,5 +1,6 @@
 -- What a contract sees of nodes in a list.
 use Rattle.std.specs.Prelude.{◌≡◌, ◌+◌, ◌-◌, ◌*◌, ◌<◌, ◌≤◌, ℕ, List, length, ltb, filter, count_by, None, is_some}
+use Rattle.std.specs.List.Sorted.{IsNonDecreasingBy}
 use Rattle.inc_value.specs.Choice.{Among}
 use Rattle.inc_value.specs.declared.node.NodeId.{NodeId}
 use Rattle.node_arena.specs.Arena.{Arena, Changes, IsLive, row_at}
@@ -21,6 +22,10 @@ live_ones a ns = filter (λ n. is_some (row_at a n)) ns
 -- those of the nodes whose ids were given before the count
 abbrev pub given_before : ℕ → List NodeId → List NodeId
 given_before count ns = filter (λ n. ltb n.gen_ count) ns
+
+-- the nodes stand in the order in which their ids were given
+abbrev pub AreInOrder : List NodeId → Type 0
+AreInOrder ns = IsNonDecreasingBy (λ n. n.gen_) ns
 
 -- how many of the nodes are live
 abbrev pub live_count : Arena → List NodeId → ℕ

@@ -1,10 +1,10 @@
 //! Nodes in a list from which the dead go once they are many.
-ghost use Rattle.std.specs.Prelude.{◌≡◌, ◌<◌, ◌≤◌, ◌++◌, ◌+◌, ◌^◌, [], ◌∷◌, length, slice_get, is_some, Some, IsOk, OnOk};
+ghost use Rattle.std.specs.Prelude.{◌≡◌, ◌<◌, ◌≤◌, ◌++◌, ◌+◌, ◌-◌, ◌^◌, [], ◌∷◌, length, take, slice_get, is_some, Some, IsOk, IsTrue, OnOk};
 ghost use Rattle.inc_value.specs.Choice.{Among};
 ghost use Rattle.inc_value.specs.Counts.{raised};
 ghost use Rattle.inc_value.specs.declared.node.NodeId.{NodeId as ANode};
 ghost use Rattle.node_arena.specs.Arena.{IsLive, row_at, Arena as AnArena};
-ghost use Rattle.node_lists.specs.Listed.{most_live, CountsLive, IsTidied, Dies, live_ones, given_before};
+ghost use Rattle.node_lists.specs.Listed.{most_live, CountsLive, IsTidied, AreInOrder, Dies, live_ones, given_before};
 
 use inc_value::NodeId;
 use node_arena::Arena;
@@ -16,23 +16,31 @@ use std::marker::Model;
 pub struct Listed {
     nodes: Vec<NodeId>,
     dead: usize,
+    // Whether the nodes stand in the order in which their ids were given. Then those of since a count are the last.
+    in_order: bool,
 }
 
 // (written out: whoever drops one proves one call, and no drop of its parts)
 impl Drop for Listed {
     fn drop(self) {
-        let Listed { nodes, dead: _ } = self;
+        let Listed {
+            nodes,
+            dead: _,
+            in_order: _,
+        } = self;
         drop(nodes);
     }
 }
 
 impl Model for Listed {
-    ghost use Rattle.std.specs.Prelude.{◌-◌, vec_len, vec_capacity};
-    ghost use Rattle.node_lists.specs.Listed.{Listed as Seen};
+    ghost use Rattle.std.specs.Prelude.{◌-◌, IsTrue, vec_len, vec_capacity};
+    ghost use Rattle.node_lists.specs.Listed.{Listed as Seen, AreInOrder};
 
     ghost Value = { Seen };
 
     ghost view = { λ l. record { nodes = l.nodes.items; dead = l.dead; spare = vec_capacity l.nodes - vec_len l.nodes } };
+
+    ghost invariant = { λ l. IsTrue l.in_order → AreInOrder l.nodes.items };
 }
 
 /// Whether a node is live.
@@ -40,6 +48,28 @@ fn is_live(arena: &Arena, node: NodeId) -> bool
     ensures { result ≡ is_some (row_at arena.now node) }
 {
     arena.is_live(node)
+}
+
+/// Whether the nodes are still in order once another is put behind them.
+fn still_in_order(in_order: bool, nodes: &[NodeId], node: NodeId) -> bool
+    requires order { IsTrue in_order → AreInOrder nodes.now }
+    ensures order { IsTrue result → AreInOrder (nodes.now ++ node ∷ []) }
+{
+    if !in_order {
+        return false;
+    }
+    match nodes.last() {
+        Some(last) => last.gen_ <= node.gen_,
+        None => true,
+    }
+}
+
+/// Where the nodes begin whose ids weren't given before the count.
+fn start_of(nodes: &[NodeId], count: u64) -> usize
+    requires order { AreInOrder nodes.now }
+    ensures { take result nodes.now ≡ given_before count nodes.now }
+{
+    nodes.partition_point(|node| node.gen_ < count)
 }
 
 impl Listed {
@@ -53,6 +83,7 @@ impl Listed {
         Listed {
             nodes: Vec::new(alloc),
             dead: 0,
+            in_order: true,
         }
     }
 
@@ -123,6 +154,7 @@ impl Listed {
         ensures counts { (a : AnArena) → CountsLive a self.old → CountsLive a self.new }
         ensures live { most_live self.new ≤ most_live self.old + 1 }
     {
+        self.in_order = still_in_order(self.in_order, self.nodes.as_slice(), node);
         self.nodes.push_reserved(node);
     }
 
@@ -138,19 +170,21 @@ impl Listed {
         self.dead = self.dead.saturating_add(1);
     }
 
-    /// Just the live nodes stay whose ids were given before the count.
-    pub fn forget_since(&mut self, arena: &Arena, count: u64)
-        ensures nodes { self.new.nodes ≡ given_before count (live_ones arena.now self.old.nodes) }
-        ensures kept { (n : ANode) → n.gen_ < count → IsLive arena.now n → Among n self.old.nodes → Among n self.new.nodes }
+    /// Just the nodes stay whose ids were given before the count. Where the nodes are in order this looks at few others.
+    pub fn forget_since(&mut self, count: u64)
+        ensures nodes { self.new.nodes ≡ given_before count self.old.nodes }
+        ensures kept { (n : ANode) → n.gen_ < count → Among n self.old.nodes → Among n self.new.nodes }
         ensures forgotten { (n : ANode) → Among n self.new.nodes → n.gen_ < count }
         ensures fewer { (n : ANode) → Among n self.new.nodes → Among n self.old.nodes }
-        ensures dead { self.new.dead ≡ 0 }
-        ensures counts { (a : AnArena) → CountsLive a self.new }
-        ensures live { CountsLive arena.now self.old → most_live self.new ≤ most_live self.old }
+        ensures dead { self.new.dead ≡ self.old.dead - (length self.old.nodes - length self.new.nodes) }
+        ensures counts { (a : AnArena) → CountsLive a self.old → CountsLive a self.new }
+        ensures live { most_live self.new ≤ most_live self.old }
         ensures spare { self.old.spare ≤ self.new.spare }
     {
-        self.keep_live(arena);
+        let before = self.len();
         self.keep_before(count);
+        let gone = before.saturating_sub(self.len());
+        self.uncount(gone);
     }
 
     /// Just the nodes stay whose ids were given before the count.
@@ -159,6 +193,20 @@ impl Listed {
         ensures dead { self.new.dead ≡ self.old.dead }
         ensures spare { self.old.spare ≤ self.new.spare }
     {
+        if self.in_order {
+            let start = start_of(self.nodes.as_slice(), count);
+            self.nodes.truncate(start);
+            return;
+        }
         self.nodes.retain(|node| node.gen_ < count);
+    }
+
+    /// So many nodes fewer are counted dead, or none.
+    fn uncount(&mut self, gone: usize)
+        ensures nodes { self.new.nodes ≡ self.old.nodes }
+        ensures dead { self.new.dead ≡ self.old.dead - gone }
+        ensures spare { self.new.spare ≡ self.old.spare }
+    {
+        self.dead = self.dead.saturating_sub(gone);
     }
 }

@@ -1,6 +1,7 @@
 -- A node that isn't needed is dropped.
-use Rattle.std.proofs.Common.{◌≡◌, ◌≢◌, ◌⊎◌, inl, inr, ℕ, ◌<◌, ◌≤◌, Option, None, Some, refl, sym, ap, subst, ◌∙◌, arith}
+use Rattle.std.proofs.Common.{◌≡◌, ◌≢◌, ◌⊎◌, inl, inr, ℕ, ◌+◌, ◌^◌, ◌<◌, ◌≤◌, Option, None, Some, IsSome, refl, sym, ap, subst, ◌∙◌, arith}
 use Rattle.std.specs.Prelude.{is_some}
+use Rattle.std.proofs.lemmas.Bool.{cases_lt}
 use Rattle.std.proofs.lemmas.Option.{none-some}
 use Rattle.inc_value.specs.declared.node.NodeId.{NodeId}
 use Rattle.inc_value.specs.declared.node.Part.TheVariants.{Main}
@@ -12,12 +13,12 @@ use Rattle.point_map.specs.Rows.{Rows, at, Holds}
 use Rattle.link_table.specs.Links.{Links, times, Reads}
 use Rattle.necessary_graph.specs.Part.{Needed, IsInStep}
 use Rattle.node_arena.specs.Arena as nodes
-use Rattle.node_arena.specs.Arena.{Arena, row_at}
+use Rattle.node_arena.specs.Arena.{Arena, row_at, IsLive}
 use Rattle.node_outcomes.specs.Computing.{has_part}
 use Rattle.node_outcomes.specs.Row.{cutoff_in, outcome_in}
 use Rattle.stabilize_round.proofs.Points.{node_or_other}
 use Rattle.stabilizer.specs.Between.{Stays, HasDropped}
-use Rattle.node_arena.specs.Sound.{IsSound}
+use Rattle.node_arena.specs.Sound.{IsSound, IsFirstSince}
 use Rattle.node_outcomes.specs.Meaning.{Meaning}
 use Rattle.wiring.specs.Kept.{IsKept, IsDead}
 use Rattle.stabilizer.specs.Kept.{PartsKept}
@@ -257,7 +258,46 @@ apart_since old mid count id so_far since n b r e scope = let u = so_far.unscope
     other : (m : NodeId) → m.gen_ < count → m ≢ id
     other m h is = let f = ap (λ (x : NodeId). x.gen_) is in absurd (omega (arith, f, h, since))
 
--- ---- dead nodes are listed no more
+-- no live node was given since the count and before the next
+pub record AreWalked (a : Arena) (count next : ℕ) : Type 0 where
+  pub low : count ≤ next
+  pub later : (n : NodeId) → IsLive a n → count ≤ n.gen_ → next ≤ n.gen_
+
+pub walk_begins : (a : Arena) (count : ℕ) → AreWalked a count count
+walk_begins a count = record { low = omega arith; later = λ n live since. since }
+
+module _ (a : Arena) (count next : ℕ) (walked : AreWalked a count next) where
+  -- the first one since the next is dropped
+  pub walk_goes_on : (new : Arena) (id : NodeId) → IsSound a → IsFirstSince a next id → nodes.Changes a new id None
+      → AreWalked new count (id.gen_ + 1)
+  walk_goes_on new id sound first dropped = record {
+    low = let s = first.since in let l = walked.low in omega (arith, s, l);
+    later = λ n live since.
+        let other : n ≢ id = λ is. let e = subst IsSome (ap (row_at new) is ∙ dropped.changed) live in absurd (cc) in
+        let was : IsLive a n = subst IsSome (dropped.others n other) live in
+        let least = first.first n was (walked.later n was since) in
+        let apart : id.gen_ ≢ n.gen_ = λ e. other (sym (sound.generations id n first.live was e)) in
+        omega (arith, least, apart);
+  }
+
+  -- where none is left since the next, none is since the count
+  pub walk_ends : ((n : NodeId) → IsLive a n → n.gen_ < next) → (n : NodeId) → IsLive a n → n.gen_ < count
+  walk_ends none n live = elim (cases_lt n.gen_ count) [
+    | inl before ↦ before
+    | inr since ↦ absurd (let l = walked.later n live since in let h = none n live in omega (arith, l, h))
+  ]
+
+  pub walk_leaves_none : ((n : NodeId) → IsLive a n → n.gen_ < next) → (n : NodeId) → count ≤ n.gen_ → row_at a n ≡ None
+  walk_leaves_none none n since = elim (some_or_none (row_at a n)) [
+    | inl r ↦ absurd (let h = walk_ends none n (ap is_some r.1) in omega (arith, h, since))
+    | inr gone ↦ gone
+  ]
+
+-- a live node's number isn't the last
+pub next_fits : (a : Arena) (id : NodeId) → IsSound a → IsLive a id → id.gen_ + 1 < 2 ^ 64
+next_fits a id sound live = let g = sound.given id live in let f = sound.count in omega (arith, g, f)
+
+-- ---- nodes since a count are listed no more
 
 module _ (old new : Parts) (kept : PartsKept old)
     (pairs : (n : NodeId) (r : Row) → row_at old.arena n ≡ Some r → Among n old.work.pairs.nodes → Among n new.work.pairs.nodes)

@@ -158,7 +158,7 @@ impl Parts {
             Ok(()) => Ok(id),
             Err(AllocError) => {
                 self.work.drop_node(id);
-                self.work.forget_since(&self.arena, self.arena.given());
+                self.work.forget_since(self.arena.given());
                 Err(AddFault::Memory)
             }
         }
@@ -253,10 +253,12 @@ impl Parts {
         ensures kept { PartsKept self.new }
         ensures ready { (M : Meaning) → IsReady M self.old → IsReady M self.new }
     {
-        while let Some(id) = self.arena.first_since(count) {
+        let mut next = count;
+        while let Some(id) = self.arena.first_since(next) {
             self.drop_node(id);
+            next = id.gen_ + 1;
         }
-        self.work.forget_since(&self.arena, count);
+        self.work.forget_since(count);
     }
 
     /// Drops a node that isn't needed.

@@ -376,7 +376,7 @@ impl Parts {
         ensures disowned { HasDisowned self.old self.new bind count }
     {
         self.drop_entered(bind);
-        self.work.forget_since(&self.arena, count);
+        self.work.forget_since(count);
         drop_since(&mut self.arena, count);
     }
 

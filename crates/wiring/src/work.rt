@@ -278,18 +278,18 @@ impl Work {
         drop(self.rows.remove(p));
     }
 
-    /// Live nodes stay listed whose ids were given before the count, and no others.
-    pub fn forget_since(&mut self, arena: &Arena, count: u64)
-        ensures kept { (n : ANode) → n.gen_ < count → IsLive arena.now n → Among n self.old.pairs.nodes
-            → Among n self.new.pairs.nodes }
+    /// Nodes stay listed whose ids were given before the count, and no others. This looks at few others, as they are
+    /// listed in the order in which they were made.
+    pub fn forget_since(&mut self, count: u64)
+        ensures kept { (n : ANode) → n.gen_ < count → Among n self.old.pairs.nodes → Among n self.new.pairs.nodes }
         ensures forgotten { (n : ANode) → Among n self.new.pairs.nodes → n.gen_ < count }
-        ensures kept_scoped { (n : ANode) → n.gen_ < count → IsLive arena.now n → Among n self.old.scoped.nodes
+        ensures kept_scoped { (n : ANode) → n.gen_ < count → Among n self.old.scoped.nodes
             → Among n self.new.scoped.nodes }
         ensures forgotten_scoped { (n : ANode) → Among n self.new.scoped.nodes → n.gen_ < count }
         ensures rest { self.new ≡ record self.old { pairs = self.new.pairs; scoped = self.new.scoped } }
     {
-        self.pairs.forget_since(arena, count);
-        self.scoped.forget_since(arena, count);
+        self.pairs.forget_since(count);
+        self.scoped.forget_since(count);
     }
 
     /// Puts a needed point into the heap, unless it was settled.

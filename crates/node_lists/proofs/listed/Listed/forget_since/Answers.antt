@@ -1,32 +1,30 @@
-use Rattle.std.proofs.Common.{◌≡◌, ◌∙◌, List, length, ltb, ap, sym, subst, arith}
+use Rattle.std.proofs.Common.{◌≡◌, ◌∙◌, ◌-◌, List, length, sym, subst, ap, refl}
 use Rattle.inc_value.specs.Choice.{Among}
 use Rattle.inc_value.specs.declared.node.NodeId.{NodeId}
-use Rattle.node_lists.specs.Listed.{live_ones, given_before}
-use Rattle.node_lists.proofs.Counting.{left_kept, left_before, left_listed, some_left}
+use Rattle.node_lists.specs.Listed.{given_before}
+use Rattle.node_lists.proofs.Counting.{left_kept, left_before, left_listed, left_counts, left_most}
 use Rattle.node_lists.proofs.listed.Listed.forget_since.Goals as goal
 
+module _ (c : goal.After-uncount) where
+  nodes : c.uncount.new.self.nodes ≡ given_before c.args.count c.args.self.now.nodes
+  nodes = c.uncount.ensures.nodes ∙ c.keep_before.ensures.nodes
+
+  dead : c.uncount.new.self.dead ≡ c.args.self.now.dead - (length c.args.self.now.nodes - length c.uncount.new.self.nodes)
+  dead =
+      let n_items = ap (λ (ns : List NodeId). length ns) c.uncount.ensures.nodes in
+      rw (n_items, c.uncount.ensures.dead, c.keep_before.ensures.dead, c.saturating_sub-gone.ensures, c.len-before.ensures, c.len.ensures) refl
+
 pub returns-clause-kept : goal.returns-clause-kept
-returns-clause-kept c n before lives i =
-    let nodes : c.keep_before.new.self.nodes ≡ given_before c.args.count (live_ones c.args.arena.now c.args.self.now.nodes)
-    = c.keep_before.ensures.nodes ∙ ap (λ (ns : List NodeId). given_before c.args.count ns) c.keep_live.ensures.nodes in
-    subst (λ ns. Among n ns) (sym nodes) (left_kept c.args.arena.now c.args.count n c.args.self.now.nodes before lives i)
+returns-clause-kept c n before i = subst (λ ns. Among n ns) (sym (nodes c)) (left_kept c.args.count n c.args.self.now.nodes before i)
 
 pub returns-clause-forgotten : goal.returns-clause-forgotten
-returns-clause-forgotten c n i =
-    let nodes : c.keep_before.new.self.nodes ≡ given_before c.args.count (live_ones c.args.arena.now c.args.self.now.nodes)
-    = c.keep_before.ensures.nodes ∙ ap (λ (ns : List NodeId). given_before c.args.count ns) c.keep_live.ensures.nodes in
-    left_before c.args.arena.now c.args.count n c.args.self.now.nodes (subst (λ ns. Among n ns) nodes i)
+returns-clause-forgotten c n i = left_before c.args.count n c.args.self.now.nodes (subst (λ ns. Among n ns) (nodes c) i)
 
 pub returns-clause-fewer : goal.returns-clause-fewer
-returns-clause-fewer c n i =
-    let nodes : c.keep_before.new.self.nodes ≡ given_before c.args.count (live_ones c.args.arena.now c.args.self.now.nodes)
-    = c.keep_before.ensures.nodes ∙ ap (λ (ns : List NodeId). given_before c.args.count ns) c.keep_live.ensures.nodes in
-    left_listed c.args.arena.now c.args.count n c.args.self.now.nodes (subst (λ ns. Among n ns) nodes i)
+returns-clause-fewer c n i = left_listed c.args.count n c.args.self.now.nodes (subst (λ ns. Among n ns) (nodes c) i)
+
+pub returns-clause-counts : goal.returns-clause-counts
+returns-clause-counts c a counts = left_counts c.args.self.now c.uncount.new.self c.args.count (nodes c) (dead c) a counts
 
 pub returns-clause-live : goal.returns-clause-live
-returns-clause-live c counts =
-    let nodes : c.keep_before.new.self.nodes ≡ given_before c.args.count (live_ones c.args.arena.now c.args.self.now.nodes)
-    = c.keep_before.ensures.nodes ∙ ap (λ (ns : List NodeId). given_before c.args.count ns) c.keep_live.ensures.nodes in
-    let n_items = ap (λ (ns : List NodeId). length ns) nodes in
-    let left = some_left (λ (n : NodeId). ltb n.gen_ c.args.count) c.args.arena.now c.args.self.now counts in
-    omega (arith, n_items, left)
+returns-clause-live c = left_most c.args.self.now c.uncount.new.self c.args.count (nodes c) (dead c)

@@ -118,24 +118,21 @@ module _ (c : goal.After-forget_since) where
   arena_is = c.in-Err-insert.ensures.err
 
   -- who lives was given before
-  older : (n : NodeId) → IsLive start.arena n → (n.gen_ < c.given.result) × IsLive c.insert.new.self n
-  older n live = (
-    rw (c.given.ensures, arena_is) (live_below start.arena start.work c.requires.kept.work n live),
-    subst (λ (a : Arena). IsLive a n) (sym arena_is) live,
-  )
+  older : (n : NodeId) → IsLive start.arena n → n.gen_ < c.given.result
+  older n live = rw (c.given.ensures, arena_is) (live_below start.arena start.work c.requires.kept.work n live)
 
   -- and is listed still
   pairs : (n : NodeId) → IsLive start.arena n → Among n start.work.pairs.nodes → Among n last.pairs.nodes
   pairs n live among =
       let at_mid : Among n mid.pairs.nodes =
       c.in-Ok.ensures.pairs n (inl live) (pair_stays (subject_of (def_of c.args.def)) start.work.pairs.nodes c.next_id-id.result n among) in
-      c.forget_since.ensures.kept n (older n live).0 (older n live).1
+      c.forget_since.ensures.kept n (older n live)
       (subst (λ (w : Work). Among n w.pairs.nodes) (sym c.drop_node.ensures.rest) at_mid)
 
   scoped_still : (n : NodeId) → IsLive start.arena n → Among n start.work.scoped.nodes → Among n last.scoped.nodes
   scoped_still n live among =
       let at_mid : Among n mid.scoped.nodes = subst (λ (l : Listed). Among n l.nodes) (sym c.in-Ok.ensures.scoped) among in
-      c.forget_since.ensures.kept_scoped n (older n live).0 (older n live).1
+      c.forget_since.ensures.kept_scoped n (older n live)
       (subst (λ (w : Work). Among n w.scoped.nodes) (sym c.drop_node.ensures.rest) at_mid)
 
   step : IsInStep last.graph
