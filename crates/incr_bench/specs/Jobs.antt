@@ -37,7 +37,7 @@ most_of _ = 1000000
 
 -- a word writes the number, or none below 2^64: digits, before which a plus may stand
 abbrev pub Writes : List ℕ → Option ℕ → Type 0
-Writes word (Some n) = IsNumeral 10 (without_leading_plus word) × (digits_value 10 (without_leading_plus word) ≡ n)
+Writes word (Some n) = IsNumeral 10 (without_leading_plus word) × ((digits_value 10 (without_leading_plus word) ≡ n) × (n < 2 ^ 64))
 Writes word None = IsNumeral 10 (without_leading_plus word) → digits_value 10 (without_leading_plus word) < 2 ^ 64 → ⊥
 
 -- a graph of the job's size can be built

@@ -113,6 +113,7 @@ fn number(word: &Word) -> Option<u64>
 /// A job of a shape, where its size is from 1 to the shape's largest.
 fn sized(shape: Shape, size: u64, rounds: u64) -> Option<Job>
     ensures some { IfSome result (λ job. job ≡ record { shape = shape; size = size; rounds = rounds }) }
+    ensures fits { IfSome result (λ job. job.size ≤ most_of job.shape) }
     ensures within { IfSome result IsWithin }
     ensures none { result ≡ None → 0 < size → size ≤ most_of shape → ⊥ }
 {
