@@ -1,15 +1,15 @@
 -- Counts of links, by the ends of their readers.
-use Rattle.std.proofs.Common.{◌≡◌, ◌∙◌, inl, inr, ℕ, zero, suc, ◌<◌, false, List, [], ◌∷◌, map, refl, ap, sym, arith, IsSome}
+use Rattle.std.proofs.Common.{◌≡◌, ◌≢◌, ◌∙◌, inl, inr, ℕ, zero, suc, ◌<◌, false, List, [], ◌∷◌, map, refl, ap, sym, arith, IsSome}
 use Rattle.std.specs.Prelude.{Option, Some, None, IfSome, IfNone, is_some, IsTrue, ◌↔◌, count_by, flat_map, cond}
 use Rattle.std.proofs.lemmas.List.Sums.{sum_by-cons, sum_by-append}
 use Rattle.std.proofs.lemmas.Option.{none-some, same_Some}
 use Rattle.inc_value.specs.declared.node.Point.{Point}
 use Rattle.smallvec.specs.SmallVec.{SmallVec}
-use Rattle.point_map.specs.Rows.{Place, same_point, row_in, StandsOnce}
+use Rattle.point_map.specs.Rows.{Place, same_point, row_in, at, StandsOnce}
 use Rattle.point_map.proofs.Places.{same_point_eq, same_point_self, row_found}
 use Rattle.link_table.specs.declared.ends.End.{End}
 use Rattle.link_table.specs.declared.ends.EndLists.{EndLists}
-use Rattle.link_table.specs.Links.{link, same_link, is_point, times, Reads, OneLinkMore, KeepsLinks}
+use Rattle.link_table.specs.Links.{link, same_link, is_point, times, Reads, IsRead, OneLinkMore, KeepsLinks}
 use Rattle.link_table.specs.Ends.{row_ends, ends_at, ends_with, points, links_from, links_of, LeadsTo, IsLinked, KeepsEnds, OneEndMoreWith}
 use Rattle.link_table.proofs.Lists.{split}
 
@@ -110,3 +110,26 @@ told_place kids once p q (Some i) some none =
 pub place_there : (kids : EndLists) → StandsOnce kids.rows.places → (p q : Point) (x : Option ℕ) → IfSome x (LeadsTo (ends_at kids p) q)
     → IfNone x (ends_with (ends_at kids p) q ≡ 0) → Reads (record { all = links_of kids }) p q → IsSome x
 place_there kids once p q x some none r = (told_place kids once p q x some none).1 r
+
+-- where there are ends, one leads somewhere
+leads_somewhere : (ends : List End) → ends ≢ [] → (r : Point) × (0 < ends_with ends r)
+leads_somewhere [] some = absurd (some refl)
+leads_somewhere (e ∷ rest) some = (e.point, leads_counted (e ∷ rest) e.point 0 refl)
+
+-- a point is read exactly where it has a row of readers
+pub row_is_read : (kids readers : EndLists) → IsLinked kids readers → (q : Point) → IsTrue (is_some (at readers.rows q)) ↔ IsRead (record { all = links_of kids }) q
+row_is_read kids readers l q = by_row (at readers.rows q) refl
+  where
+    by_row : (row : Option (SmallVec End)) → at readers.rows q ≡ row → IsTrue (is_some row) ↔ IsRead (record { all = links_of kids }) q
+    by_row None absent = (
+      λ t. absurd (let e = t in cc),
+      λ read. absurd (
+          let none : ends_with (ends_at readers q) read.0 ≡ 0 = ap (λ row. ends_with (row_ends row) read.0) absent in
+          let t = times_of_readers kids readers l read.0 q in omega (arith, t, none, read.1)),
+    )
+    by_row (Some row) there = (
+      λ t.
+          let reader = leads_somewhere (ends_at readers q) (λ none. absurd (let absent = l.tight_readers q none in cc)) in
+          (reader.0, let t = times_of_readers kids readers l reader.0 q in omega (arith, t, reader.1)),
+      λ read. refl,
+    )

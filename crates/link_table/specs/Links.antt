@@ -32,6 +32,10 @@ times l p q = count_by (same_link p q) l.all
 abbrev pub Reads : Links → Point → Point → Type 0
 Reads l p q = 0 < times l p q
 
+-- some point reads q
+abbrev pub IsRead : Links → Point → Type 0
+IsRead l q = (reader : Point) × Reads l reader q
+
 -- each link is there as often as before
 abbrev pub KeepsLinks : Links → Links → Type 0
 KeepsLinks old new = (a b : Point) → times new a b ≡ times old a b

@@ -1,7 +1,7 @@
 //! The table of links.
 ghost use Rattle.std.specs.Prelude.{[], ◌≡◌, ◌↔◌, IsTrue, IfSome, IfNone, OnOk, OnErr};
 ghost use Rattle.inc_value.specs.declared.node.Point.{Point};
-ghost use Rattle.link_table.specs.Links.{times, Reads, KeepsLinks, OneLinkMore, AreKids, AreReaders};
+ghost use Rattle.link_table.specs.Links.{times, Reads, IsRead, KeepsLinks, OneLinkMore, AreKids, AreReaders};
 ghost use Rattle.link_table.specs.Walks.{kids_left, readers_left};
 
 use crate::ends::EndLists;
@@ -94,6 +94,14 @@ impl LinkTable {
         ensures { IsTrue result ↔ Reads self.now p q }
     {
         kid_place(&self.kids, &self.readers, p, q).is_some()
+    }
+
+    /// Whether some point reads q.
+    pub fn is_read(&self, q: Point) -> bool
+        ensures { IsTrue result ↔ IsRead self.now q }
+    {
+        // No row is empty, so a point is read where it has a row.
+        self.readers.rows.holds(q)
     }
 
     /// The points that p reads, each once for each link.
