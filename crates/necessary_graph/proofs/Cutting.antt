@@ -6,11 +6,11 @@ use Rattle.inc_value.specs.declared.node.Point.{Point}
 use Rattle.inc_value.specs.Choice.{Reaches, here}
 use Rattle.point_map.specs.Rows.{at}
 use Rattle.point_map.proofs.Places.{point_cases}
-use Rattle.link_table.specs.Links.{times, Reads, KeepsLinks, OneLinkMore}
+use Rattle.link_table.specs.Links.{times, Reads, IsRead, KeepsLinks, OneLinkMore}
 use Rattle.necessity.specs.Need.{root_times, KeepsRoots, OneRootMore}
 use Rattle.height_order.specs.Levels.{level}
 use Rattle.necessary_graph.specs.Part.{NecessaryPart, Needed, IsInStep}
-use Rattle.necessary_graph.specs.Sweep.{Sweep, DropsLeaves, IsSwept, IsBare, IsRead, IsHeld, IsUnlinked, IsUnrooted}
+use Rattle.necessary_graph.specs.Sweep.{Sweep, DropsLeaves, IsSwept, IsBare, IsHeld, IsUnlinked, IsUnrooted}
 use Rattle.necessary_graph.proofs.Reaching.{leads_more, root_needed, read_needed, needed_held, led_needed, needed_more, thinned_need, thinned_up, thinned_down}
 use Rattle.necessary_graph.proofs.Sweeping.{link_cases, again_swept, swept_then, held_stays}
 

@@ -7,11 +7,11 @@ use Rattle.inc_value.specs.declared.node.Point.{Point}
 use Rattle.inc_value.specs.Choice.{Reaches, here, step}
 use Rattle.point_map.specs.Rows.{Rows, at, Holds, Changes}
 use Rattle.point_map.proofs.Places.{point_cases}
-use Rattle.link_table.specs.Links.{Links, times, Reads}
+use Rattle.link_table.specs.Links.{Links, times, Reads, IsRead}
 use Rattle.height_order.specs.Levels.{level, Rises, Ends}
 use Rattle.necessary_graph.specs.Part.{NecessaryPart, Needed}
 use Rattle.necessary_graph.specs.Room.{HasRoom}
-use Rattle.necessary_graph.specs.Sweep.{IsSwept, IsRead, IsHeld, IsBare, IsGone, IsLeft}
+use Rattle.necessary_graph.specs.Sweep.{IsSwept, IsHeld, IsBare, IsGone, IsLeft}
 use Rattle.necessary_graph.proofs.Reaching.{thinned_down}
 use Rattle.necessary_graph.proofs.Room.{room_dropped}
 use Rattle.necessary_graph.proofs.Sweeping.{IsOff, off_fewer, off_read, again_swept, swept_then, more_swept, out_still}

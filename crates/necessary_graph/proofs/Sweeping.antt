@@ -7,11 +7,11 @@ use Rattle.inc_value.specs.declared.node.Point.{Point}
 use Rattle.inc_value.specs.Choice.{Reaches, here, step}
 use Rattle.point_map.specs.Rows.{at}
 use Rattle.point_map.proofs.Places.{point_cases}
-use Rattle.link_table.specs.Links.{link, times, Reads, KeepsLinks, OneLinkMore}
+use Rattle.link_table.specs.Links.{link, times, Reads, IsRead, KeepsLinks, OneLinkMore}
 use Rattle.necessity.specs.Need.{KeepsRoots}
 use Rattle.height_order.specs.Levels.{Rises}
 use Rattle.necessary_graph.specs.Part.{NecessaryPart, Needed}
-use Rattle.necessary_graph.specs.Sweep.{IsThinned, IsSwept, IsBare, IsRead, IsHeld}
+use Rattle.necessary_graph.specs.Sweep.{IsThinned, IsSwept, IsBare, IsHeld}
 use Rattle.necessary_graph.proofs.Reaching.{reaches_on, leads_more, thinned_up, thinned_down, thinned_then}
 
 -- two links are the same, or not

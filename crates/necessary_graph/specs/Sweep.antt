@@ -3,7 +3,7 @@ use Rattle.std.specs.Prelude.{◌≡◌, ◌≢◌, ◌⊎◌, ◌+◌, ◌<◌,
 use Rattle.inc_value.specs.declared.node.Point.{Point}
 use Rattle.inc_value.specs.Choice.{Reaches}
 use Rattle.point_map.specs.Rows.{Rows, at, Changes}
-use Rattle.link_table.specs.Links.{Links, times, Reads, OneLinkMore}
+use Rattle.link_table.specs.Links.{Links, times, Reads, IsRead, OneLinkMore}
 use Rattle.necessity.specs.Need.{Roots, root_times, KeepsRoots, OneRootMore}
 use Rattle.necessary_graph.specs.Part.{NecessaryPart, Needed}
 
@@ -55,10 +55,6 @@ pub record IsUnrooted (leaf : Point → Bool) (old new : NecessaryPart) (p : Poi
   pub off : OneRootMore roots old.roots p
   pub sweep : Sweep (record old { roots = roots }) new
   pub drops : DropsLeaves leaf old new
-
--- some point reads it
-abbrev pub IsRead : Links → Point → Type 0
-IsRead links p = (reader : Point) × Reads links reader p
 
 -- the point is a root, or some point reads it
 abbrev pub IsHeld : Links → Roots → Point → Type 0

@@ -1,16 +1,16 @@
 //! Roots, and who is held by a root or a reader.
 ghost use Rattle.std.specs.Prelude.{◌≡◌, ◌<◌, ◌↔◌, IsTrue, OnOk, OnErr};
-ghost use Rattle.link_table.specs.Links.{Reads};
 ghost use Rattle.necessity.specs.Need.{root_times, KeepsRoots, OneRootMore};
 ghost use Rattle.necessary_graph.specs.Part.{seen_roots};
-ghost use Rattle.necessary_graph.specs.Sweep.{IsRead, IsHeld};
+ghost use Rattle.necessary_graph.specs.Sweep.{IsHeld};
 
 use inc_value::Point;
 use link_table::LinkTable;
 use point_map::PointMap;
 use std::alloc::AllocError;
 
-/// How often a point is a root.
+/// How often a point is a root. Few points are asked for that nobody reads, so this look stays out of line.
+#[inline(never)]
 pub fn root_count(roots: &PointMap<usize>, p: Point) -> usize
     ensures { result ≡ root_times (seen_roots roots.now) p }
 {
@@ -46,16 +46,11 @@ pub fn remove_root(roots: &mut PointMap<usize>, p: Point)
     }
 }
 
-/// Whether some point reads this one.
-pub fn is_read(links: &LinkTable, p: Point) -> bool
-    ensures { IsTrue result ↔ IsRead links.now p }
-{
-    links.readers(p).next().is_some()
-}
-
-/// Whether a point is a root, or some point reads it.
+/// Whether a point is a root, or some point reads it. Most points that are asked for are read, so that comes first, and it
+/// takes one look.
+#[inline]
 pub fn is_held(links: &LinkTable, roots: &PointMap<usize>, p: Point) -> bool
     ensures { IsTrue result ↔ IsHeld links.now (seen_roots roots.now) p }
 {
-    root_count(roots, p) > 0 || is_read(links, p)
+    links.is_read(p) || root_count(roots, p) > 0
 }

@@ -8,7 +8,7 @@ ghost use Rattle.necessary_graph.specs.Room.{HasRoom};
 ghost use Rattle.necessary_graph.specs.Part.{part_of, Needed};
 ghost use Rattle.necessary_graph.specs.Sweep.{IsSwept, IsBare, IsGone, IsLeft};
 
-use crate::roots::{is_held, is_read};
+use crate::roots::is_held;
 use height_order::level_of;
 use inc_value::Point;
 use link_table::LinkTable;
@@ -73,7 +73,7 @@ fn drop_leaf<L: Leaves>(
     ensures leaf { IsGone (L.is_leaf leaves.now) links.now p heights.old heights.new points.old points.new
         ⊎ IsLeft (L.is_leaf leaves.now) links.now p heights.old heights.new points.old points.new }
 {
-    if leaves.has(p) && !is_read(links, p) {
+    if leaves.has(p) && !links.is_read(p) {
         heights.remove(p);
         *points -= 1;
     }
