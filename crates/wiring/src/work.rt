@@ -395,8 +395,8 @@ impl Work {
 
     /// Takes off the links that weren't confirmed in this round, and puts the changes that are to confirm them into the heap:
     /// of a point in a scope whose gate didn't run all but that to the gate, and the right side of a node whose change didn't
-    /// run. No link may be tried again then: refusals are final. Each node in a scope and each node of two points is looked at once. This takes
-    /// no memory.
+    /// run. No link may be tried again then: refusals are final. Each node in a scope and each node of two points is looked
+    /// at once. This takes no memory.
     pub fn take_off_unconfirmed(&mut self, arena: &Arena)
         requires kept { IsKept arena.now self.old }
         ensures taken { TakesOff arena.now self.old self.new }
