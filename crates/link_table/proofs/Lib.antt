@@ -1,3 +1,4 @@
+pub mod Beside
 pub mod Counts
 pub mod Lists
 pub mod Places

@@ -1,5 +1,6 @@
 //! The two sides of a table of links: the ends at each reader, and the ends at each kid.
-ghost use Rattle.std.specs.Prelude.{[], ◌≡◌, ◌<◌, length, IfSome, IfNone, OnOk, OnErr};
+ghost use Rattle.std.specs.Prelude.{[], ◌≡◌, ◌≢◌, ◌<◌, length, IfSome, IfNone, OnOk, OnErr};
+ghost use Rattle.inc_value.specs.declared.node.Point.{Point as APoint};
 ghost use Rattle.link_table.specs.Ends.{ends_at, end_at, ends_with, LeadsTo, HasNoEmptyRow, KeepsEnds, OneEndMoreWith, EndIsTaken, LastIsKnown, IsTold, IsTwoWay};
 
 use crate::ends::{End, EndLists};
@@ -104,4 +105,31 @@ fn place_of(ends: &[End], q: Point) -> Option<usize>
         }
     }
     None
+}
+
+/// The place of the last end that leads to another point than this one, with the point that it leads to.
+pub(crate) fn last_beside(ends: &[End], kept: Point) -> Option<(usize, Point)>
+    ensures there { IfSome result (λ r. LeadsTo ends.now r.1 r.0) }
+    ensures other { IfSome result (λ r. r.1 ≢ kept) }
+    ensures none { IfNone result ((q : APoint) → q ≢ kept → ends_with ends.now q ≡ 0) }
+{
+    let mut i = ends.len();
+    while i > 0 {
+        i -= 1;
+        if let Some(q) = other_at(ends, i, kept) {
+            return Some((i, q));
+        }
+    }
+    None
+}
+
+// The point to which the end at a place leads, unless it is this one.
+fn other_at(ends: &[End], i: usize, kept: Point) -> Option<Point>
+    requires within { i < length ends.now }
+    ensures there { IfSome result (λ q. LeadsTo ends.now q i) }
+    ensures other { IfSome result (λ q. q ≢ kept) }
+    ensures none { IfNone result (LeadsTo ends.now kept i) }
+{
+    let q = ends[i].point;
+    if q == kept { None } else { Some(q) }
 }

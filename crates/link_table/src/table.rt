@@ -1,11 +1,11 @@
 //! The table of links.
-ghost use Rattle.std.specs.Prelude.{[], ◌≡◌, ◌↔◌, IsTrue, IfSome, IfNone, OnOk, OnErr};
+ghost use Rattle.std.specs.Prelude.{[], ◌≡◌, ◌≢◌, ◌↔◌, IsTrue, IfSome, IfNone, OnOk, OnErr};
 ghost use Rattle.inc_value.specs.declared.node.Point.{Point};
 ghost use Rattle.link_table.specs.Links.{times, Reads, IsRead, KeepsLinks, OneLinkMore, AreKids, AreReaders};
 ghost use Rattle.link_table.specs.Walks.{kids_left, readers_left};
 
 use crate::ends::EndLists;
-use crate::sides::{add_ends, kid_place, pop_ends, remove_ends};
+use crate::sides::{add_ends, kid_place, last_beside, pop_ends, remove_ends};
 use crate::walks::{Kids, Readers};
 use inc_value::Point;
 use std::alloc::{AllocError, Global};
@@ -84,6 +84,21 @@ impl LinkTable {
         ensures unchanged { IfNone result (self.new ≡ self.old) }
     {
         let kid = pop_ends(&mut self.kids, &mut self.readers, p)?;
+        // The walk over its places is what says that each point has one row.
+        let _places = self.kids.rows.places();
+        Some(kid)
+    }
+
+    /// Takes the last link of p off that leads to another point than this one, and gives the point that it led to. None
+    /// where p reads no other. This takes no memory.
+    pub fn pop_kid_beside(&mut self, p: Point, kept: Point) -> Option<Point>
+        ensures removed { IfSome result (λ q. OneLinkMore self.new self.old p q) }
+        ensures other { IfSome result (λ q. q ≢ kept) }
+        ensures none { IfNone result ((q : Point) → Reads self.old p q → q ≡ kept) }
+        ensures unchanged { IfNone result (self.new ≡ self.old) }
+    {
+        let (i, kid) = last_beside(self.kids.of(p), kept)?;
+        remove_ends(&mut self.kids, &mut self.readers, p, kid, i);
         // The walk over its places is what says that each point has one row.
         let _places = self.kids.rows.places();
         Some(kid)
