@@ -10,13 +10,9 @@ use Rattle.link_table.specs.Links.{times, Reads, IsRead, KeepsLinks, OneLinkMore
 use Rattle.necessity.specs.Need.{root_times, KeepsRoots, OneRootMore}
 use Rattle.height_order.specs.Levels.{level}
 use Rattle.necessary_graph.specs.Part.{NecessaryPart, Needed, IsInStep}
-use Rattle.necessary_graph.specs.Sweep.{Sweep, DropsLeaves, IsSwept, IsBare, IsHeld, IsUnlinked, IsUnrooted}
+use Rattle.necessary_graph.specs.Sweep.{Sweep, DropsLeaves, IsSwept, IsBare, IsHeld, IsDealtWith, IsUnlinked, IsUnrooted}
 use Rattle.necessary_graph.proofs.Reaching.{leads_more, root_needed, read_needed, needed_held, led_needed, needed_more, thinned_need, thinned_up, thinned_down}
 use Rattle.necessary_graph.proofs.Sweeping.{link_cases, again_swept, swept_then, held_stays}
-
--- a root or read still, or without links and out of the heap
-abbrev pub IsDealtWith : (Point → Bool) → NecessaryPart → Point → Type 0
-IsDealtWith leaf u p = IsHeld u.links u.roots p ⊎ IsBare leaf u p
 
 -- less than before, and what was needed by it is dealt with
 pub record IsCut (leaf : Point → Bool) (old t u : NecessaryPart) : Type 0 where
@@ -204,14 +200,3 @@ unrooted leaf old t u p inv off links heights heap w done =
       record { roots = t.roots; off = off; sweep = cut_sweep leaf p old s u inv was cut all; drops = cut_drops leaf p old s u inv was cut all },
       cut_in_step leaf p old s u inv was cut all,
     )
-
--- and where the kid, or the point, is held still nothing is swept
-pub unlinked_alone : (leaf : Point → Bool) (old t : NecessaryPart) (p q : Point) → IsInStep old → OneLinkMore t.links old.links p q
-    → KeepsRoots old.roots t.roots → t.heights ≡ old.heights → t.heap ≡ old.heap → IsHeld t.links t.roots q → IsUnlinked leaf old t p q × IsInStep t
-unlinked_alone leaf old t p q inv off roots heights heap held =
-    unlinked leaf old t t p q inv off roots heights heap (again_swept leaf q t t (λ a. refl) (λ a b. refl) refl refl) (inl held)
-
-pub unrooted_alone : (leaf : Point → Bool) (old t : NecessaryPart) (p : Point) → IsInStep old → OneRootMore t.roots old.roots p
-    → KeepsLinks old.links t.links → t.heights ≡ old.heights → t.heap ≡ old.heap → IsHeld t.links t.roots p → IsUnrooted leaf old t p × IsInStep t
-unrooted_alone leaf old t p inv off links heights heap held =
-    unrooted leaf old t t p inv off links heights heap (again_swept leaf p t t (λ a. refl) (λ a b. refl) refl refl) (inl held)

@@ -66,6 +66,10 @@ pub record IsBare (leaf : Point → Bool) (g : NecessaryPart) (p : Point) : Type
   pub out : at g.heap p ≡ None
   pub left : leaf p ≡ true → IsRead g.links p ⊎ (at g.heights p ≡ None)
 
+-- a root or read still, or without links and out of the heap
+abbrev pub IsDealtWith : (Point → Bool) → NecessaryPart → Point → Type 0
+IsDealtWith leaf g p = IsHeld g.links g.roots p ⊎ IsBare leaf g p
+
 -- no roots, no links but such as were there, and all that a needed point reads
 pub record IsThinned (old new : NecessaryPart) : Type 0 where
   pub roots : KeepsRoots old.roots new.roots

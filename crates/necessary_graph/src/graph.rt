@@ -1,6 +1,6 @@
 //! The necessary part of a graph.
-ghost use Rattle.std.specs.Prelude.{◌≡◌, ◌<◌, ◌≤◌, ◌↔◌, None, Some, is_some, IsTrue, IsFalse, IfOk, OnOk, OnErr, IfErr, IfSome, IfNone, length};
-ghost use Rattle.inc_value.specs.declared.node.Point.{Point};
+ghost use Rattle.std.specs.Prelude.{◌≡◌, ◌≢◌, ◌<◌, ◌≤◌, ◌↔◌, None, Some, is_some, IsTrue, IsFalse, IfOk, OnOk, OnErr, IfErr, IfSome, IfNone, length};
+ghost use Rattle.inc_value.specs.declared.node.Point.{Point, Point as APoint};
 ghost use Rattle.point_map.specs.Rows.{at, Holds, Changes, KeepsRows};
 ghost use Rattle.link_table.specs.Links.{times, Reads, KeepsLinks, OneLinkMore, AreReaders, AreKids};
 ghost use Rattle.link_table.specs.Walks.{readers_left, kids_left};
@@ -15,7 +15,7 @@ ghost use Rattle.necessary_graph.specs.Sweep.{IsUnlinked, IsReduced, IsUnrooted}
 
 use crate::readers::{Skip, put, put_readers};
 use crate::roots::{add_root, is_held, remove_root, root_count};
-use crate::sweep::{Leaves, kid_beside, raise_moved, sweep, take_out};
+use crate::sweep::{Leaves, raise_moved, sweep_unheld, take_out};
 use height_order::{ClimbQueue, LinkFault, add_at, level_of, make_link};
 use inc_value::Point;
 use link_table::{Kids, Link, LinkTable, Readers};
@@ -153,17 +153,15 @@ impl NecessaryGraph {
         ensures in_step { IsInStep self.new }
     {
         remove_root(&mut self.roots, p);
-        if !is_held(&self.links, &self.roots, p) {
-            sweep(
-                &mut self.links,
-                &mut self.heights,
-                &self.roots,
-                &mut self.heap,
-                &mut self.points,
-                p,
-                leaves,
-            );
-        }
+        sweep_unheld(
+            &mut self.links,
+            &mut self.heights,
+            &self.roots,
+            &mut self.heap,
+            &mut self.points,
+            p,
+            leaves,
+        );
     }
 
     /// Makes `p` read `q`, once more, and answers whether `q` wasn't needed before. Heights may change of points that
@@ -215,17 +213,15 @@ impl NecessaryGraph {
         ensures in_step { IsInStep self.new }
     {
         self.links.remove(p, q);
-        if !is_held(&self.links, &self.roots, q) {
-            sweep(
-                &mut self.links,
-                &mut self.heights,
-                &self.roots,
-                &mut self.heap,
-                &mut self.points,
-                q,
-                leaves,
-            );
-        }
+        sweep_unheld(
+            &mut self.links,
+            &mut self.heights,
+            &self.roots,
+            &mut self.heap,
+            &mut self.points,
+            q,
+            leaves,
+        );
     }
 
     /// Takes all links of a needed point off but those to one point. What is no longer needed then loses its links and
@@ -235,9 +231,30 @@ impl NecessaryGraph {
         ensures reduced { IsReduced (L.is_leaf leaves.now) self.old self.new p kept }
         ensures in_step { IsInStep self.new }
     {
-        while let Some(kid) = kid_beside(&self.links, p, kept) {
-            self.unlink(p, kid, leaves);
-        }
+        while let Some(_kid) = self.unlink_beside(p, kept, leaves) {}
+    }
+
+    // Takes the last link of `p` off that leads to another point than `kept`, as `unlink` does, and gives that point. None
+    // where `p` reads no other.
+    fn unlink_beside<L: Leaves>(&mut self, p: Point, kept: Point, leaves: &L) -> Option<Point>
+        ensures unlinked { IfSome result (λ q. IsUnlinked (L.is_leaf leaves.now) self.old self.new p q) }
+        ensures other { IfSome result (λ q. q ≢ kept) }
+        ensures none { IfNone result ((q : APoint) → Reads self.old.links p q → q ≡ kept) }
+        ensures unchanged { IfNone result (self.new ≡ self.old) }
+        ensures was_in_step { IsInStep self.old }
+        ensures in_step { IsInStep self.new }
+    {
+        let kid = self.links.pop_kid_beside(p, kept)?;
+        sweep_unheld(
+            &mut self.links,
+            &mut self.heights,
+            &self.roots,
+            &mut self.heap,
+            &mut self.points,
+            kid,
+            leaves,
+        );
+        Some(kid)
     }
 
     /// Puts a needed point into the heap at its height, unless it is in. This takes no memory.

@@ -1,12 +1,12 @@
 //! Taking off what is no longer needed, and following new heights.
-ghost use Rattle.std.specs.Prelude.{◌≡◌, ◌≢◌, ◌⊎◌, ◌<◌, ◌↔◌, ℕ, None, Some, IsTrue, IfSome, IfNone, Contains};
-ghost use Rattle.inc_value.specs.declared.node.Point.{Point, Point as APoint};
+ghost use Rattle.std.specs.Prelude.{◌≡◌, ◌⊎◌, ◌<◌, ℕ, None, Some, Contains};
+ghost use Rattle.inc_value.specs.declared.node.Point.{Point};
 ghost use Rattle.point_map.specs.Rows.{Rows, at, count, Holds, Changes};
 ghost use Rattle.link_table.specs.Links.{Reads};
 ghost use Rattle.height_order.specs.Levels.{level, AllLow, Rises, Ends, KeepsPoints};
 ghost use Rattle.necessary_graph.specs.Room.{HasRoom};
 ghost use Rattle.necessary_graph.specs.Part.{part_of, Needed};
-ghost use Rattle.necessary_graph.specs.Sweep.{IsSwept, IsBare, IsGone, IsLeft};
+ghost use Rattle.necessary_graph.specs.Sweep.{IsSwept, IsBare, IsDealtWith, IsGone, IsLeft};
 
 use crate::roots::is_held;
 use height_order::level_of;
@@ -60,6 +60,29 @@ pub fn sweep<L: Leaves>(
     drop_leaf(links, heights, points, p, leaves);
 }
 
+/// Sweeps a point that lost a root or a reader, unless it is held still.
+pub fn sweep_unheld<L: Leaves>(
+    links: &mut LinkTable,
+    heights: &mut PointMap<u32>,
+    roots: &PointMap<usize>,
+    heap: &mut RecomputeHeap,
+    points: &mut usize,
+    p: Point,
+    leaves: &L,
+)
+    requires ends { Ends heights.old links.old }
+    requires rises { Rises (Reads links.old) (level heights.old) }
+    requires there { Holds heights.old p }
+    requires room { HasRoom heights.old heap.old points.old }
+    ensures swept { IsSwept (L.is_leaf leaves.now) p (part_of links.old heights.old roots.now heap.old) (part_of links.new heights.new roots.now heap.new) }
+    ensures dealt { IsDealtWith (L.is_leaf leaves.now) (part_of links.new heights.new roots.now heap.new) p }
+    ensures room { HasRoom heights.new heap.new points.new }
+{
+    if !is_held(links, roots, p) {
+        sweep(links, heights, roots, heap, points, p, leaves);
+    }
+}
+
 /// Drops a point that reads none, if it is a leaf that nobody reads.
 fn drop_leaf<L: Leaves>(
     links: &LinkTable,
@@ -77,20 +100,6 @@ fn drop_leaf<L: Leaves>(
         heights.remove(p);
         *points -= 1;
     }
-}
-
-/// A point that `p` reads beside `kept`, if there is one.
-pub fn kid_beside(links: &LinkTable, p: Point, kept: Point) -> Option<Point>
-    ensures reads { IfSome result (λ kid. Reads links.now p kid) }
-    ensures other { IfSome result (λ kid. kid ≢ kept) }
-    ensures none { IfNone result ((b : APoint) → Reads links.now p b → b ≡ kept) }
-{
-    for kid in links.kids(p) {
-        if kid != kept {
-            return Some(kid);
-        }
-    }
-    None
 }
 
 /// Takes a point from the heap, if it is in.
