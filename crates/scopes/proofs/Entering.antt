@@ -82,6 +82,7 @@ module _ (v w : Lists Member) (own : NodeId → Option ℕ) (name : ℕ → Opti
   pub entered_sound : IsByNumber w own name
   entered_sound = record {
     named = sound.named;
+    numbered = sound.numbered;
     wide = λ s j h.
         let l = sound.wide s j h in
         let n = ap length pushed in

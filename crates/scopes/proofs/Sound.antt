@@ -47,7 +47,7 @@ module _ (v w : Lists Member) (own own' : NodeId → Option ℕ) (name name' : �
     (sound : IsByNumber v own name)
     (is : own scope ≡ Some k) (moved : Moved v w (suc k)) (off : own' scope ≡ None)
     (own_others : (s : NodeId) → s ≢ scope → own' s ≡ own s)
-    (name_others : (j : ℕ) → j ≢ k → name' j ≡ name j) where
+    (name_others : (j : ℕ) → j ≢ k → name' j ≡ name j) (name_off : name' k ≡ None) where
   back : (o p : ℕ) (r : Member) → Has (list_at w o) p r → (i : ℕ) × Has (list_at v i) p r
   back o p r h =
       elim (cases_eq o 0) [
@@ -76,6 +76,12 @@ module _ (v w : Lists Member) (own own' : NodeId → Option ℕ) (name name' : �
 
   pub released_sound : IsByNumber w own' name'
   released_sound = record {
+    numbered = λ s j h. elim (cases_eq j k) [
+      | inl same ↦ absurd (not_some s (sym name_off ∙ ap name' (sym same) ∙ h))
+      | inr differs ↦
+          let old = sound.numbered s j (sym (name_others j differs) ∙ h) in
+          own_others s (λ e. differs (some_same j k (sym old ∙ ap own e ∙ is))) ∙ old
+    ];
     named = λ s j h. elim (cases_node s scope) [
       | inl same ↦ absurd (not_some j (sym off ∙ ap own' (sym same) ∙ h))
       | inr other ↦
@@ -168,6 +174,7 @@ module _ (v w : Lists Member) (own own' : NodeId → Option ℕ) (name name' : �
 
   pub kept_sound : ((s : NodeId) → own' s ≡ own s) → ((j : ℕ) → name' j ≡ name j) → IsByNumber w own' name'
   kept_sound owns names = record {
+    numbered = λ s j h. owns s ∙ sound.numbered s j (sym (names j) ∙ h);
     named = λ s j h. names j ∙ sound.named s j (sym (owns s) ∙ h);
     wide = λ s j h. (let l = sound.wide s j (sym (owns s) ∙ h) in omega (arith, l, more));
     placed = λ j p r h. owns r.scope ∙ sound.placed j p r (same_has (suc j) p r h);
@@ -179,6 +186,14 @@ module _ (v w : Lists Member) (own own' : NodeId → Option ℕ) (name name' : �
       → ((s : NodeId) → s ≢ scope → own' s ≡ own s) → ((j : ℕ) → j ≢ k → name' j ≡ name j) → suc k < length w.lists
       → IsByNumber w own' name'
   numbered_sound scope k none vacant now_is name_is owns names wide = record {
+    numbered = λ s j h. elim (cases_eq j k) [
+      | inl same ↦
+          let s_is : s ≡ scope = some_same s scope (sym h ∙ ap name' same ∙ name_is) in
+          ap own' s_is ∙ now_is ∙ ap Some (sym same)
+      | inr differs ↦
+          let old = sound.numbered s j (sym (names j differs) ∙ h) in
+          owns s (λ e. not_some j (sym none ∙ ap own (sym e) ∙ old)) ∙ old
+    ];
     named = λ s j h. elim (cases_node s scope) [
       | inl e ↦
           let j_is : j ≡ k = some_same j k (sym h ∙ ap own' e ∙ now_is) in ap name' j_is ∙ name_is ∙ ap Some (sym e)

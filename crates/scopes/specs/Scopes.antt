@@ -73,9 +73,10 @@ point_of scope = record { node = scope; part = Main }
 abbrev pub own_in : Rows ℕ → NodeId → Option ℕ
 own_in numbers scope = at numbers (point_of scope)
 
--- each scope's nodes are in the list of its number, and no node is at two places
+-- each scope's nodes are in the list of its number, no node is at two places, and just the numbers that scopes have are taken
 pub record IsByNumber (lists : Lists Member) (own : NodeId → Option ℕ) (name : ℕ → Option NodeId) : Type 0 where
   pub named : (scope : NodeId) (k : ℕ) → own scope ≡ Some k → name k ≡ Some scope
+  pub numbered : (scope : NodeId) (k : ℕ) → name k ≡ Some scope → own scope ≡ Some k
   pub wide : (scope : NodeId) (k : ℕ) → own scope ≡ Some k → suc k < length lists.lists
   pub placed : (k place : ℕ) (r : Member) → Has (list_at lists (suc k)) place r → own r.scope ≡ Some k
   pub once : (i j p q : ℕ) (r s : Member) → Has (list_at lists i) p r → Has (list_at lists j) q s → r.node ≡ s.node

@@ -22,7 +22,7 @@ returns-clause-sound c =
     let others : (s : NodeId) → s ≢ scope → own_in now s ≡ own_in was s =
     λ s d. c.remove-number.ensures.changes.others (point_of s) (λ e. d (ap (λ p. p.node) (e ∙ point))) in
     released_sound v w (own_in was) (own_in now) (get c.args.names.now) (get c.try_remove-name.new.self) scope k
-    c.requires.sound is moved off others c.try_remove-name.ensures.updates.others
+    c.requires.sound is moved off others c.try_remove-name.ensures.updates.others c.try_remove-name.ensures.updates.changed
 
 pub returns-clause-releases : goal.returns-clause-releases
 returns-clause-releases c =
@@ -40,4 +40,4 @@ returns-clause-releases c =
     let others : (s : NodeId) → s ≢ scope → own_in now s ≡ own_in was s =
     λ s d. c.remove-number.ensures.changes.others (point_of s) (λ e. d (ap (λ p. p.node) (e ∙ point))) in
     released v w (own_in was) (own_in now) (get c.args.names.now) (get c.try_remove-name.new.self) scope k
-    c.requires.sound is moved off others c.try_remove-name.ensures.updates.others
+    c.requires.sound is moved off others c.try_remove-name.ensures.updates.others c.try_remove-name.ensures.updates.changed
