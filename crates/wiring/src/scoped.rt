@@ -1,6 +1,7 @@
 //! Nodes in the scopes of binds: what waits for a gate, and what dies.
 ghost use Rattle.std.specs.Prelude.{◌≡◌, ◌≢◌, ◌⊎◌, ◌↔◌, ◌++◌, ℕ, [], ◌∷◌, None, Some, false, true, IsTrue, OnOk, OnErr, IsSome};
 ghost use Rattle.inc_value.specs.Choice.{Among};
+ghost use Rattle.inc_value.specs.Counts.{raised};
 ghost use Rattle.inc_value.specs.declared.node.NodeId.{NodeId as ANode};
 ghost use Rattle.inc_value.specs.declared.node.Part.{Part};
 ghost use Rattle.inc_value.specs.declared.node.Point.{Point, Point as APoint};
@@ -218,6 +219,8 @@ impl Work {
         requires step { IsInStep self.old.graph }
         ensures buried { IsBuried self.old self.new node }
         ensures absent { (p : APoint) → at self.old.graph.heights p ≡ None → at self.new.graph.heights p ≡ None }
+        ensures counted { self.new.scoped.dead ≡ raised self.old.scoped.dead }
+        ensures pair_counted { Holds self.old.rows (change node) → self.new.pairs.dead ≡ raised self.old.pairs.dead }
         ensures step { IsInStep self.new.graph }
     {
         self.tell_survivors(main_point(node));
