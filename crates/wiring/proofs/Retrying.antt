@@ -1,5 +1,5 @@
 -- A link that was refused is tried again, once some of what wasn't confirmed is off, or all.
-use Rattle.std.proofs.Common.{◌≡◌, inl, inr, ℕ, ◌+◌, ◌<◌, ◌≤◌, Bool, true, false, cond, List, [], ◌∷◌, length, Option, None, Some, refl, sym, ap, subst, ◌∙◌, arith}
+use Rattle.std.proofs.Common.{◌≡◌, ◌⊎◌, inl, inr, ℕ, ◌+◌, ◌<◌, ◌≤◌, Bool, true, false, cond, List, [], ◌∷◌, length, Option, None, Some, refl, sym, ap, subst, ◌∙◌, arith}
 use Rattle.std.specs.Prelude.{not, option_map}
 use Rattle.std.proofs.lemmas.Nat.{mul-le}
 use Rattle.std.proofs.lemmas.Option.{none-some}
@@ -33,7 +33,7 @@ use Rattle.wiring.specs.Deciding.{is_needed}
 use Rattle.wiring.specs.Growing.{Grows, unneeded}
 use Rattle.wiring.specs.Graph.{HasLinks}
 use Rattle.wiring.specs.Kept.{IsKept}
-use Rattle.wiring.specs.Refusing.{RefusedBy}
+use Rattle.wiring.specs.Refusing.{IsBarred, RefusedBy}
 use Rattle.node_outcomes.specs.Row.{with_stage, settled_in, stage_in}
 use Rattle.node_outcomes.specs.declared.row.Progress.{Progress}
 use Rattle.node_outcomes.specs.declared.row.Stage.{Stage}
@@ -49,6 +49,7 @@ use Rattle.wiring.proofs.InHand.{still_same, still_not, still_needed, still_spar
 use Rattle.wiring.proofs.Levelling.{low_wiring, low_stands, refused_at_once}
 use Rattle.wiring.proofs.PuttingBack.{gate_once, gated_now, more_isnt_gated}
 use Rattle.wiring.proofs.Raising.{wired_then, wired_after}
+use Rattle.wiring.proofs.Telling.{barred_before}
 use Rattle.wiring.proofs.TakingAll.{RowsSpared, rows_keep, places_then}
 use Rattle.wiring.proofs.Unlinked.{off_unlinked, spend_unlinked, finished_unlinked}
 
@@ -423,6 +424,7 @@ pub record IsTrying (arena : Arena) (old now : Work) (p q : Point) : Type 0 wher
   pub row : at now.rows p ≡ at old.rows p
   pub grows : Grows old now
   pub retries : now.retries ≤ old.retries
+  pub barred : (now ≡ old) ⊎ IsBarred old p q
 
 -- at first
 pub first_trying : (arena : Arena) (work : Work) (p q : Point) → IsKept arena work → Needed work.graph p → IsSpared arena work p → IsTrying arena work work p q
@@ -435,15 +437,31 @@ first_trying arena work p q kept needed spared = record {
   row = refl;
   grows = λ points covers. omega arith;
   retries = omega arith;
+  barred = inl refl;
 }
 
 module _ (arena : Arena) (old now : Work) (p q : Point) (so : IsTrying arena old now p q) where
+  -- the first refusal was for the links as they were
+  pub first_barred : (mid : Work) → IsLevelled now mid → IsBarred mid p q → IsBarred old p q
+  first_barred mid l bar = elim so.barred [
+    | inl same ↦ subst (λ (w : Work). IsBarred w p q) same (barred_before now mid l.links p q bar)
+    | inr before ↦ before
+  ]
+
+  -- where fewer links may be tried again, there was one
+  pub was_barred : (new : Work) → new.retries ≡ now.retries → new.retries < old.retries → IsBarred old p q
+  was_barred new as_now fewer = elim so.barred [
+    | inl same ↦ absurd (let e = ap (λ (w : Work). w.retries) same in omega (arith, e, as_now, fewer))
+    | inr before ↦ before
+  ]
+
   has_links : (a : Point) → HasLinks now a → HasLinks old a
   has_links = has_links_same now old (λ a. sym (so.places.rows a)) (sym so.places.deaths)
 
   -- it is needed still, and wasn't put back
-  pub more_trying : (mid new : Work) → IsOffNow arena now mid new p → IsKept arena new → IsStill mid new p → IsTrying arena old new p q
-  more_trying mid new o kept still =
+  pub more_trying : (mid new : Work) → IsOffNow arena now mid new p → IsBarred mid p q → IsKept arena new → IsStill mid new p
+      → IsTrying arena old new p q
+  more_trying mid new o bar kept still =
       let same = kept_row arena mid new p o.rows o.spared still in record {
         due = λ F z s counts rest due.
             let a = so.due F z s counts rest due in
@@ -456,6 +474,7 @@ module _ (arena : Arena) (old now : Work) (p q : Point) (so : IsTrying arena old
         row = same ∙ (o.levelled.rows p ∙ so.row);
         grows = grows_then old now new has_links so.grows o.grows;
         retries = let a = so.retries in let b = o.fewer in omega (arith, a, b);
+        barred = inr (first_barred mid o.levelled bar);
       }
 
   -- it isn't, or waits for its gate

@@ -1,5 +1,5 @@
 -- What a refused link says.
-use Rattle.std.proofs.Common.{◌≡◌, ◌⊎◌, inl, inr, ℕ, ◌≤◌, ◌++◌, List, [], ◌∷◌, length, refl, sym, ap, subst, ◌∙◌, arith, length-append}
+use Rattle.std.proofs.Common.{◌≡◌, ◌≢◌, ◌⊎◌, inl, inr, ℕ, ◌≤◌, ◌++◌, List, [], ◌∷◌, length, refl, sym, ap, subst, ◌∙◌, arith, length-append}
 use Rattle.inc_value.specs.declared.node.Point.{Point}
 use Rattle.link_table.specs.Links.{Links, Reads, KeepsLinks}
 use Rattle.height_order.specs.Chains.{Reading, ReadsWith, IsChain, IsPath, Leads, NoRepeats, StartsAt, EndsAt}
@@ -8,7 +8,7 @@ use Rattle.height_order.specs.Levels.{Rises}
 use Rattle.height_order.specs.declared.heights.LinkFault.{LinkFault}
 use Rattle.height_order.specs.declared.heights.LinkFault.TheVariants as fault
 use Rattle.necessary_graph.proofs.Linking.{chain_as}
-use Rattle.wiring.specs.Refusing.{IsHeightOf, IsCycleOf, IsWhy, TellsFault, RefusedBy}
+use Rattle.wiring.specs.Refusing.{IsHeightOf, IsCycleOf, IsWhy, TellsFault, IsBarred, by_chain, by_path, RefusedBy}
 use Rattle.wiring.specs.declared.refused.Refused.{Refused}
 use Rattle.wiring.specs.declared.refused.Refused.TheVariants.{Height, Cycle, Full, Memory}
 use Rattle.wiring.specs.declared.work.Work.{Work}
@@ -73,8 +73,7 @@ told work p q (fault.Path list) e (inl strict) tells why = told_cycle work p q s
 told work p q (fault.Path list) e (inr none) tells why = absurd (let n = none in cc)
 
 -- a fault says the same of the same links
-module _ (work : Work) (links : Links) (height : Point → ℕ) (rises : Rises (Reads links) height) (p q : Point)
-    (same : KeepsLinks links work.graph.links) where
+module _ (work : Work) (links : Links) (p q : Point) (same : KeepsLinks links work.graph.links) where
   read_still : (a b : Point) → Reads links a b → Reads work.graph.links a b
   read_still a b r = let e = same a b in omega (arith, e, r)
 
@@ -82,15 +81,35 @@ module _ (work : Work) (links : Links) (height : Point → ℕ) (rises : Rises (
   with_still a b (inl r) = inl (read_still a b r)
   with_still a b (inr e) = inr e
 
+module _ (work : Work) (links : Links) (height : Point → ℕ) (rises : Rises (Reads links) height) (p q : Point)
+    (same : KeepsLinks links work.graph.links) where
   pub tells : (f : LinkFault) → IfPath (λ list. IsPath (Reads links) list q p) f → IfPath NoRepeats f → IfOver (λ list. IsChain (ReadsWith links p q) list) f
       → IfOver (λ list. length list ≡ 130) f → IfOver (λ list. Leads (Reads links) q p → ⊥) f → TellsFault work p q f
   tells fault.Memory path once over long apart = tt
   tells (fault.Over list) path once over long apart = (
-    chain_as (ReadsWith links p q) (ReadsWith work.graph.links p q) with_still list.items over,
+    chain_as (ReadsWith links p q) (ReadsWith work.graph.links p q) (with_still work links p q same) list.items over,
     long,
     chain_once links height rises p q apart list.items over,
   )
   tells (fault.Path list) path once over long apart = (
-    record { chain = chain_as (Reads links) (Reads work.graph.links) read_still list.items path.chain; starts = path.starts; ends = path.ends },
+    record { chain = chain_as (Reads links) (Reads work.graph.links) (read_still work links p q same) list.items path.chain; starts = path.starts; ends = path.ends },
     once,
   )
+
+-- what a fault bars, if it isn't want of memory
+pub barred : (work : Work) (p q : Point) (f : LinkFault) → f ≢ fault.Memory → TellsFault work p q f → IsBarred work p q
+barred work p q fault.Memory walked tells = absurd (walked refl)
+barred work p q (fault.Over list) walked tells = by_chain list.items tells.0 tells.1 tells.2
+barred work p q (fault.Path list) walked tells = by_path list.items tells.0 tells.1
+
+-- the same links bar the same
+pub barred_before : (old new : Work) → KeepsLinks old.graph.links new.graph.links → (p q : Point) → IsBarred new p q → IsBarred old p q
+barred_before old new same p q (by_chain points chain long once) = by_chain points
+    (chain_as (ReadsWith new.graph.links p q) (ReadsWith old.graph.links p q) (with_still old new.graph.links p q (λ c d. sym (same c d)))
+    points chain) long once
+barred_before old new same p q (by_path points path once) = by_path points (record {
+  chain = chain_as (Reads new.graph.links) (Reads old.graph.links) (read_still old new.graph.links p q (λ c d. sym (same c d))) points
+      path.chain;
+  starts = path.starts;
+  ends = path.ends;
+}) once

@@ -53,6 +53,12 @@ TellsFault work p q fault.Memory = Unit {0}
 TellsFault work p q (fault.Over list) = IsChain (ReadsWith work.graph.links p q) list.items × (length list.items ≡ 130) × NoRepeats list.items
 TellsFault work p q (fault.Path list) = IsPath (Reads work.graph.links) list.items q p × NoRepeats list.items
 
+-- the link from p to q can't be put on: with it a chain has too many points, or p is reached from q
+pub data IsBarred (work : Work) (p q : Point) : Type 0 where
+  by_chain : (points : List Point) → IsChain (ReadsWith work.graph.links p q) points → length points ≡ 130 → NoRepeats points
+      → IsBarred work p q
+  by_path : (points : List Point) → IsPath (Reads work.graph.links) points q p → NoRepeats points → IsBarred work p q
+
 -- what a refusal of the link from p to q says
 abbrev pub RefusedBy : Work → Point → Point → Refused → Type 0
 RefusedBy work p q (Height points) = IsTooLong work p q points.items

@@ -17,7 +17,7 @@ ghost use Rattle.node_outcomes.specs.Row.{stage_in, settled_in};
 ghost use Rattle.link_table.specs.Links.{Reads};
 ghost use Rattle.wiring.specs.Growing.{Grows};
 ghost use Rattle.wiring.specs.Kept.{IsKept};
-ghost use Rattle.wiring.specs.Refusing.{IsWhy, TellsFault};
+ghost use Rattle.wiring.specs.Refusing.{IsBarred, IsWhy, TellsFault};
 ghost use Rattle.wiring.specs.Stands.{hand};
 ghost use Rattle.wiring.specs.Turning.{IsWaiting};
 ghost use Rattle.wiring.specs.Wiring.{GateRan, LacksLinks, MayRead, StaysInHand, WiresTaken};
@@ -302,9 +302,9 @@ impl Work {
         Ok(())
     }
 
-    /// Links a needed point to what it reads. Where the link is refused, links that weren't confirmed in this round are taken
-    /// off, and it is tried again. It is refused for good once all of them are off. False where the reader isn't needed any
-    /// more then, or waits for its gate.
+    /// Links a needed point to what it reads. Where the link makes a circle or a chain that is too long, links that weren't
+    /// confirmed in this round are taken off, and it is tried again. It is refused for good once all of them are off. False
+    /// where the reader isn't needed any more then, or waits for its gate.
     pub fn connect(&mut self, arena: &Arena, p: Point, q: Point) -> Result<bool, Refused>
         requires needed { Needed self.old.graph p }
         requires reader { MayRead self.old p q }
@@ -316,6 +316,7 @@ impl Work {
         ensures reads { IfOk result (λ on. IsTrue on → Reads self.new.graph.links p q) }
         ensures gone { IfOk result (λ on. IsFalse on → LosesNeed arena.now self.old self.new p q × (self.new.retries < self.old.retries)) }
         ensures refused { IfErr result (ConnectRefused arena.now self.old self.new p q) }
+        ensures barred { self.new.retries < self.old.retries → IsBarred self.old p q }
         ensures row { IfOk result (λ on. IsTrue on → at self.new.rows p ≡ at self.old.rows p) }
         ensures kept { IsKept arena.now self.new }
         ensures places { KeepsPlaces self.old self.new }
@@ -339,6 +340,7 @@ impl Work {
     fn is_final(&self, fault: &LinkFault) -> bool
         ensures strict { IsTrue result → (self.now.retries ≡ 0) ⊎ (fault.now ≡ LinkFault.Memory) }
         ensures retried { IsFalse result → 0 < self.now.retries }
+        ensures walked { IsFalse result → fault.now ≢ LinkFault.Memory }
     {
         match fault {
             LinkFault::Memory => true,

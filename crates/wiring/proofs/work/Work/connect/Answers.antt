@@ -1,7 +1,7 @@
 use Rattle.std.proofs.Common.{◌∙◌, arith}
-use Rattle.wiring.proofs.Retrying.{first_trying, more_trying, lost_trying, on_trying, refused_trying, later_places, later_grows}
+use Rattle.wiring.proofs.Retrying.{first_trying, more_trying, lost_trying, on_trying, refused_trying, first_barred, was_barred, later_places, later_grows}
 use Rattle.wiring.proofs.Retrying.{not_both, may_read, is_target, is_off_now, IsStill}
-use Rattle.wiring.proofs.Telling.{told}
+use Rattle.wiring.proofs.Telling.{told, barred}
 use Rattle.wiring.proofs.work.Work.connect.Goals as goal
 
 pub loop-fault-init : goal.loop-fault-init
@@ -24,7 +24,18 @@ returns-then-is_final-clause-refused c =
     (told c.try_link.new.self c.args.p c.args.q c.in-Err.fault c.refusal.result (c.is_final.ensures.strict c.if-is_final.true) c.in-Err.ensures.why
     c.refusal.ensures)
 
+pub returns-then-is_final-clause-barred : goal.returns-then-is_final-clause-barred
+returns-then-is_final-clause-barred c fewer =
+    was_barred c.args.arena.now c.args.self.now c.loop-fault.self c.args.p c.args.q c.loop-fault.invariant c.try_link.new.self
+    c.try_link.ensures.retries fewer
+
 -- ---- some of what wasn't confirmed is off, or all
+
+pub returns-then-not-is_still-clause-barred : goal.returns-then-not-is_still-clause-barred
+returns-then-not-is_still-clause-barred c fewer =
+    let mid = c.try_link.new.self in
+    first_barred c.args.arena.now c.args.self.now c.loop-fault.self c.args.p c.args.q c.loop-fault.invariant mid c.in-Err.ensures.levelled
+    (barred mid c.args.p c.args.q c.in-Err.fault (c.is_final.ensures.walked c.if-is_final.false) c.in-Err.ensures.why)
 
 pub returns-then-not-is_still-clause-gone : goal.returns-then-not-is_still-clause-gone
 returns-then-not-is_still-clause-gone c f =
@@ -91,7 +102,8 @@ loop-fault-preserved c =
     m.fewer m.rest in
     let s = c.is_still.ensures.0 c.if-not-is_still.false in
     let still : IsStill mid new c.args.p = (s.0, λ g. c.is_gated-gated.ensures.0 (s.1 g)) in
-    more_trying arena old now c.args.p c.args.q so mid new off m.kept still
+    more_trying arena old now c.args.p c.args.q so mid new off
+    (barred mid c.args.p c.args.q c.in-Err.fault (c.is_final.ensures.walked c.if-is_final.false) c.in-Err.ensures.why) m.kept still
 
 pub loop-fault-smaller : goal.loop-fault-smaller
 loop-fault-smaller c = let a = c.try_link.ensures.retries in let b = c.make_way.ensures.fewer in omega (arith, a, b)
@@ -105,6 +117,11 @@ returns-clause-linked c t =
 
 pub returns-clause-row : goal.returns-clause-row
 returns-clause-row c t = c.try_link.ensures.rows c.args.p c.loop-fault.invariant.needed ∙ c.loop-fault.invariant.row
+
+pub returns-clause-barred : goal.returns-clause-barred
+returns-clause-barred c fewer =
+    was_barred c.args.arena.now c.args.self.now c.loop-fault.self c.args.p c.args.q c.loop-fault.invariant c.try_link.new.self
+    c.try_link.ensures.retries fewer
 
 pub returns-clause-places : goal.returns-clause-places
 returns-clause-places c =
