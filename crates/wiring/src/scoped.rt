@@ -61,6 +61,8 @@ impl Work {
         ensures err_heights { OnErr result (KeepsRows self.old.graph.heights self.new.graph.heights) }
         ensures err_pairs { OnErr result ((n : ANode) → IsLive arena.now n → Among n self.old.pairs.nodes
             → Among n self.new.pairs.nodes) }
+        ensures err_fewer_pairs { OnErr result ((n : ANode) → Among n self.new.pairs.nodes → Among n self.old.pairs.nodes) }
+        ensures err_fewer_scoped { OnErr result ((n : ANode) → Among n self.new.scoped.nodes → Among n self.old.scoped.nodes) }
         ensures links { self.new.graph.links ≡ self.old.graph.links }
         ensures roots { self.new.graph.roots ≡ self.old.graph.roots }
         ensures heap { KeepsRows self.old.graph.heap self.new.graph.heap }

@@ -175,6 +175,7 @@ impl Work {
         ensures err_heights { OnErr result (KeepsRows self.old.graph.heights self.new.graph.heights) }
         ensures err_pairs { OnErr result ((n : ANode) → IsLive arena.now n → Among n self.old.pairs.nodes
             → Among n self.new.pairs.nodes) }
+        ensures err_fewer_pairs { OnErr result ((n : ANode) → Among n self.new.pairs.nodes → Among n self.old.pairs.nodes) }
         ensures links { self.new.graph.links ≡ self.old.graph.links }
         ensures roots { self.new.graph.roots ≡ self.old.graph.roots }
         ensures heap { KeepsRows self.old.graph.heap self.new.graph.heap }
@@ -212,6 +213,7 @@ impl Work {
         ensures err_heights { OnErr result (KeepsRows self.old.graph.heights self.new.graph.heights) }
         ensures err_pairs { OnErr result ((n : ANode) → IsLive arena.now n → Among n self.old.pairs.nodes
             → Among n self.new.pairs.nodes) }
+        ensures err_fewer_pairs { OnErr result ((n : ANode) → Among n self.new.pairs.nodes → Among n self.old.pairs.nodes) }
         ensures links { self.new.graph.links ≡ self.old.graph.links }
         ensures roots { self.new.graph.roots ≡ self.old.graph.roots }
         ensures heap { KeepsRows self.old.graph.heap self.new.graph.heap }

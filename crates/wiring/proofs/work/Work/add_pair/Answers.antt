@@ -5,7 +5,9 @@ use Rattle.inc_value.specs.declared.node.NodeId.{NodeId}
 use Rattle.inc_value.specs.declared.node.Point.{Point}
 use Rattle.inc_terms.specs.Depend.{change}
 use Rattle.point_map.specs.Rows.{Changes}
+use Rattle.link_table.proofs.Lists.{on_err}
 use Rattle.necessary_graph.specs.Part.{Needed}
+use Rattle.node_lists.specs.Listed.{Listed}
 use Rattle.wiring.proofs.Deciding.{need_same}
 use Rattle.wiring.proofs.Placing.{unsettled, by_part, both_points, both_rows, on_and_off, among_before, among_last}
 use Rattle.wiring.proofs.work.Work.add_pair.Goals as goal
@@ -59,3 +61,14 @@ returns-in-Ok-clause-rows c =
     both_rows old mid new c.args.node unsettled
     (subst (λ (p : Point). Changes old mid p (Some unsettled)) c.change_point.ensures c.in_ok-add.ensures.row)
     (subst (λ (p : Point). Changes mid new p (Some unsettled)) c.main_point.ensures c.in-Ok.ensures.row)
+
+-- without memory no node is listed
+
+pub returns-in_err-add-clause-err_fewer_pairs : goal.returns-in_err-add-clause-err_fewer_pairs
+returns-in_err-add-clause-err_fewer_pairs c = on_err c.from_residual-in_err-add.result (λ n listed.
+    c.reserve.ensures.fewer n (subst (λ (l : Listed). Among n l.nodes) c.add.ensures.pairs listed))
+
+pub returns-in-Err-clause-err_fewer_pairs : goal.returns-in-Err-clause-err_fewer_pairs
+returns-in-Err-clause-err_fewer_pairs c n listed =
+    let same = c.drop_point.ensures.pairs ∙ (c.add-2.ensures.pairs ∙ c.add.ensures.pairs) in
+    c.reserve.ensures.fewer n (subst (λ (l : Listed). Among n l.nodes) same listed)
