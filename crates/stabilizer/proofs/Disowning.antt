@@ -314,6 +314,8 @@ module _ (old : Parts) (b : NodeId) (count : ℕ) (may : MayDisown old b count) 
     module _ (new : Parts) (forgot : new.work ≡ record left.work { pairs = new.work.pairs; scoped = new.work.scoped })
         (pairs : (n : NodeId) → n.gen_ < count → IsLive left.arena n → Among n left.work.pairs.nodes → Among n new.work.pairs.nodes)
         (scoped : (n : NodeId) → n.gen_ < count → IsLive left.arena n → Among n left.work.scoped.nodes → Among n new.work.scoped.nodes)
+        (no_pair : (n : NodeId) → Among n new.work.pairs.nodes → n.gen_ < count)
+        (no_scoped : (n : NodeId) → Among n new.work.scoped.nodes → n.gen_ < count)
         (drops : DropsSince left.arena new.arena count) (scopes : new.scopes ≡ left.scopes) (dying : new.dying.items ≡ left.dying.items)
         (ran : new.ran ≡ left.ran) where
       alive : (n : NodeId) → IsLive old.arena n → IsLive left.arena n
@@ -342,6 +344,8 @@ module _ (old : Parts) (b : NodeId) (count : ℕ) (may : MayDisown old b count) 
           pairs = λ n h live x. pairs n h (alive n live) (subst (λ (l : Listed). Among n l.nodes) (sym has.rest.pairs) x);
           scoped = λ n h live x. scoped n h (alive n live) (subst (λ (l : Listed). Among n l.nodes) (sym has.rest.scoped) x);
         };
+        no_pair = no_pair;
+        no_scoped = no_scoped;
         no_row = λ p since. ap (λ (w : Work). at w.rows p) forgot ∙ row_gone p since;
         no_point = λ p since. ap (λ (w : Work). at w.graph.heights p) forgot ∙ point_gone p since;
         stands = subst (λ (x : Scopes). (n s : NodeId) → StandsIn x n s ↔ (StandsIn old.scopes n s × (s ≢ b))) (sym scopes) has.stands;

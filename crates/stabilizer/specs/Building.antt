@@ -214,12 +214,14 @@ pub record DropsSince (old new : Arena) (count : ℕ) : Type 0 where
   pub gone : (n : NodeId) → count ≤ n.gen_ → row_at new n ≡ None
   pub room : live old ≤ live new + (old.given - count)
 
--- of the nodes whose ids were given since the count nothing is left, and all else is as it was
+-- of the nodes whose ids were given since the count nothing is left, nor is one of them listed, and all else is as it was
 pub record HasDisowned (old new : Parts) (b : NodeId) (count : ℕ) : Type 0 where
   pub arena : DropsSince old.arena new.arena count
   pub step : IsInStep new.work.graph
   pub older : KeepsOlder count old.work new.work
   pub lists : KeepsListed old.arena count old.work new.work
+  pub no_pair : (n : NodeId) → Among n new.work.pairs.nodes → n.gen_ < count
+  pub no_scoped : (n : NodeId) → Among n new.work.scoped.nodes → n.gen_ < count
   pub no_row : (p : Point) → count ≤ p.node.gen_ → at new.work.rows p ≡ None
   pub no_point : (p : Point) → count ≤ p.node.gen_ → at new.work.graph.heights p ≡ None
   pub stands : (n s : NodeId) → StandsIn new.scopes n s ↔ (StandsIn old.scopes n s × (s ≢ b))

@@ -1,6 +1,7 @@
 //! The nodes of a graph with all that a stabilizer keeps of them.
 ghost use Rattle.std.specs.Prelude.{ℕ, ◌≡◌, ◌≢◌, ◌⊎◌, ◌↔◌, ◌+◌, ◌<◌, ◌≤◌, ◌++◌, [], ◌∷◌, List, None, Some};
 ghost use Rattle.std.specs.Prelude.{IfOk, OnOk, OnErr, IsErrOf, option_copied};
+ghost use Rattle.inc_value.specs.Choice.{Among};
 ghost use Rattle.inc_value.specs.declared.node.NodeId.{NodeId};
 ghost use Rattle.inc_value.specs.declared.node.Part.{Part};
 ghost use Rattle.inc_value.specs.declared.node.Point.{Point};
@@ -240,6 +241,8 @@ impl Parts {
         ensures older { (n : NodeId) → n.gen_ < count → row_at self.new.arena n ≡ row_at self.old.arena n }
         ensures dropped { (n : NodeId) → count ≤ n.gen_ → row_at self.new.arena n ≡ None }
         ensures given { self.new.arena.given ≡ self.old.arena.given }
+        ensures no_pair { (n : NodeId) → Among n self.new.work.pairs.nodes → n.gen_ < count }
+        ensures no_scoped { (n : NodeId) → Among n self.new.work.scoped.nodes → n.gen_ < count }
         ensures rows { (p : Point) → p.node.gen_ < count → at self.new.work.rows p ≡ at self.old.work.rows p }
         ensures cutoffs { (n : NodeId) → n.gen_ < count → cutoff_at self.new.work n ≡ cutoff_at self.old.work n }
         ensures other_cutoffs { (n : NodeId) → (cutoff_at self.new.work n ≡ cutoff_at self.old.work n)
