@@ -1,5 +1,6 @@
 mod First
 pub mod Graph
+mod Once
 mod Order
 mod Rows
 mod Sound

@@ -9,6 +9,7 @@ use Rattle.inc_value.specs.declared.node.NodeId.{NodeId}
 use Rattle.inc_terms.specs.Within.{Given}
 use Rattle.node_arena.specs.Arena.{Arena, row_at}
 use Rattle.node_arena.specs.Sound.{IsOrder}
+use Rattle.node_arena.proofs.Once.{rises_filter}
 
 -- what passes the test stays
 pub Contains-filter : {X : Type 0} (p : X → Bool) (xs : List X) (x : X) → p x ≡ true → Contains xs x → Contains (filter p xs) x
@@ -27,6 +28,7 @@ Contains-filter {X} p (y ∷ ys) x t c =
 -- the ids of live nodes are in order too
 pub order_filter : (a : Arena) (ids : List NodeId) → IsOrder a ids → IsOrder a (filter (λ n. is_some (row_at a n)) ids)
 order_filter a ids h = record {
+  once = rises_filter (λ n. is_some (row_at a n)) ids h.once;
   rising = IsNonDecreasingBy-filter (λ (n : NodeId). n.gen_) (λ n. is_some (row_at a n)) ids h.rising;
   given = All-filter (λ n. is_some (row_at a n)) (Given a.given) ids h.given;
   covers = λ n live. Contains-filter (λ n. is_some (row_at a n)) ids n live (h.covers n live);

@@ -1,6 +1,6 @@
 -- Adding and dropping keep an arena sound.
 use Rattle.std.proofs.Common.{arith, ◌≡◌, ◌<◌, ◌≤◌, ◌+◌, ◌-◌, ◌^◌, ℕ, List, [], ◌∷◌, ◌++◌, ◌⊎◌, inl, inr, length, Option, Some, None, refl, sym, subst, ap, ◌∙◌, IsSome, IfSome, slice_index_or}
-use Rattle.std.specs.List.{AllZip, Contains}
+use Rattle.std.specs.List.{All, AllZip, Contains}
 use Rattle.std.proofs.lemmas.List.Elements.{All-push, Contains-append_left, Contains-push}
 use Rattle.std.proofs.lemmas.List.Sorted.{IsNonDecreasingBy-push}
 use Rattle.inc_value.specs.declared.node.NodeId.{NodeId}
@@ -18,6 +18,7 @@ use Rattle.inc_terms.specs.Within.{ValueWithin}
 use Rattle.node_arena.specs.Arena.{Arena, row_at, IsLive, live, NamesGiven, with_value}
 use Rattle.node_arena.specs.Sound.{IsSound, IsOrder, IsKept}
 use Rattle.node_arena.specs.Typing.{Fits, FitsNode, BindTakes, FoldTakes, ReferenceFits, HasType, Makes}
+use Rattle.node_arena.proofs.Once.{all_below, rises_push}
 
 -- ---- what was given stays given
 
@@ -143,6 +144,7 @@ module _ (a a' : Arena) (ids : List NodeId) (kept : IsKept a ids) (less : (n : N
 
   order_dropped : IsOrder a' ids
   order_dropped = record {
+    once = kept.order.once;
     rising = kept.order.rising;
     given = λ i d lt. same_given (slice_index_or ids i d) (kept.order.given i d lt);
     covers = λ n is. kept.order.covers n (was_live n is);
@@ -220,6 +222,7 @@ module _ (a a' : Arena) (ids : List NodeId) (kept : IsKept a ids) (id : NodeId) 
 
   order_added : IsOrder a' (ids ++ id ∷ [])
   order_added = record {
+    once = rises_push ids id kept.order.once (all_below ids id (subst (λ (x : ℕ). All (Given x) ids) (sym gen) kept.order.given));
     rising = IsNonDecreasingBy-push (λ (n : NodeId). n.gen_) ids id kept.order.rising
         (λ d some. let h = kept.order.given (length ids - 1) d (omega (arith, some)) in omega (arith, h, gen));
     given = All-push (Given a'.given) ids id (λ i d lt. still (slice_index_or ids i d) (kept.order.given i d lt)) id_given;
@@ -290,6 +293,7 @@ module _ (a a' : Arena) (ids : List NodeId) (kept : IsKept a ids) (id : NodeId) 
 
   order_set : IsOrder a' ids
   order_set = record {
+    once = kept.order.once;
     rising = kept.order.rising;
     given = λ i d lt. same_given_set (slice_index_or ids i d) (kept.order.given i d lt);
     covers = λ n is. kept.order.covers n (was_live_set n is);

@@ -1,7 +1,8 @@
 -- What every arena keeps.
-use Rattle.std.specs.Prelude.{◌≡◌, ◌≤◌, ◌<◌, ◌^◌, ℕ, List, Some, None, length, slice_index_or}
+use Rattle.std.specs.Prelude.{◌≡◌, ◌≤◌, ◌<◌, ◌+◌, ◌*◌, ◌^◌, ℕ, List, [], ◌∷◌, Some, None, length, slice_index_or}
 use Rattle.std.specs.List.{All, AllWithin, Contains}
 use Rattle.std.specs.List.Sorted.{IsNonDecreasingBy}
+use Rattle.inc_value.specs.Choice.{Every}
 use Rattle.inc_value.specs.declared.node.NodeId.{NodeId}
 use Rattle.inc_terms.specs.Graph.{Row}
 use Rattle.inc_terms.specs.Within.{Given}
@@ -35,11 +36,21 @@ pub record IsFirstLive (a : Arena) (order : List NodeId) (start : ℕ) (id : Nod
   pub live : IsLive a id
   pub dead_before : AllWithin (λ n. row_at a n ≡ None) order start place
 
--- given ids in the order in which they were given, with all that are live
+-- each id was given before all that follow
+abbrev pub Rises : List NodeId → Type 0
+Rises [] = Unit {0}
+Rises (n ∷ ns) = Every (λ (m : NodeId). n.gen_ < m.gen_) ns × Rises ns
+
+-- given ids in the order in which they were given, each once, with all that are live
 pub record IsOrder (a : Arena) (order : List NodeId) : Type 0 where
   pub rising : IsNonDecreasingBy (λ n. n.gen_) order
+  pub once : Rises order
   pub given : All (Given a.given) order
   pub covers : (n : NodeId) → IsLive a n → Contains order n
+
+-- no more ids are kept than are twice as many as nodes live, and a few
+abbrev pub AreFew : Arena → List NodeId → Type 0
+AreFew a ids = length ids ≤ 2 * (live a + 32) + 1
 
 -- what the fields of an arena keep
 pub record IsKept (a : Arena) (ids : List NodeId) : Type 0 where

@@ -4,8 +4,8 @@ ghost use Rattle.std.specs.List.{AllWithin};
 ghost use Rattle.std.specs.List.Sorted.{IsNonDecreasingBy, IsPartitionPoint};
 ghost use Rattle.inc_value.specs.declared.node.NodeId.{NodeId};
 ghost use Rattle.node_arena.specs.Arena as spec;
-ghost use Rattle.node_arena.specs.Arena.{row_at};
-ghost use Rattle.node_arena.specs.Sound.{IsOrder, IsFirstLive};
+ghost use Rattle.node_arena.specs.Arena.{row_at, live};
+ghost use Rattle.node_arena.specs.Sound.{AreFew, IsOrder, IsFirstLive};
 
 use super::{Arena, Entry};
 use inc_value::NodeId;
@@ -38,6 +38,7 @@ pub(super) fn first_live(arena: &Arena, order: &[NodeId], start: usize) -> Optio
 /// Makes room for one more id.
 pub(super) fn make_room(nodes: &Slab<Entry>, order: &mut Vec<NodeId>) -> Result<(), AllocError>
     ensures order { (a : spec.Arena) → a.slots ≡ nodes.now.slots → IsOrder a order.old.items → IsOrder a order.new.items }
+    ensures few { (a : spec.Arena) → a.slots ≡ nodes.now.slots → IsOrder a order.old.items → AreFew a order.new.items }
     ensures room { OnOk result (vec_len order.new < vec_capacity order.new) }
 {
     tidy(nodes, order);
@@ -46,7 +47,8 @@ pub(super) fn make_room(nodes: &Slab<Entry>, order: &mut Vec<NodeId>) -> Result<
 
 /// Takes off the ids of dropped nodes where they are more than half.
 fn tidy(nodes: &Slab<Entry>, order: &mut Vec<NodeId>)
-    ensures { (a : spec.Arena) → a.slots ≡ nodes.now.slots → IsOrder a order.old.items → IsOrder a order.new.items }
+    ensures few { (a : spec.Arena) → a.slots ≡ nodes.now.slots → IsOrder a order.old.items → AreFew a order.new.items }
+    ensures order { (a : spec.Arena) → a.slots ≡ nodes.now.slots → IsOrder a order.old.items → IsOrder a order.new.items }
 {
     if order.len() / 2 > nodes.len().saturating_add(32) {
         keep_live(nodes, order);
@@ -55,7 +57,8 @@ fn tidy(nodes: &Slab<Entry>, order: &mut Vec<NodeId>)
 
 /// Takes off the ids of dropped nodes.
 fn keep_live(nodes: &Slab<Entry>, order: &mut Vec<NodeId>)
-    ensures { (a : spec.Arena) → a.slots ≡ nodes.now.slots → IsOrder a order.old.items → IsOrder a order.new.items }
+    ensures few { (a : spec.Arena) → a.slots ≡ nodes.now.slots → IsOrder a order.old.items → length order.new.items ≤ live a }
+    ensures order { (a : spec.Arena) → a.slots ≡ nodes.now.slots → IsOrder a order.old.items → IsOrder a order.new.items }
 {
     order.retain(|id| has(nodes, *id));
 }
