@@ -1,6 +1,7 @@
 //! Binds, whose right sides functions build, and functions that are kept beside the others.
-ghost use Rattle.std.specs.Prelude.{◌≡◌, ◌⊎◌, ◌↔◌, ◌<◌, Some, IfOk, IfErr, OnErr, IsErrOf, IsTrue, IsOk};
+ghost use Rattle.std.specs.Prelude.{◌≡◌, ◌⊎◌, ◌↔◌, ◌<◌, Some, IfOk, IfErr, OnOk, OnErr, IsErrOf, IsTrue, IsOk};
 ghost use Rattle.inc_value.specs.declared.node.NodeId.{NodeId};
+ghost use Rattle.inc_value.specs.declared.function.FnRef.{FnRef as AFunction};
 ghost use Rattle.inc_terms.specs.Graph.{Bind};
 ghost use Rattle.inc_terms.specs.Within.{Given};
 ghost use Rattle.node_arena.specs.Meanings.{SameNames, KeepsKnown};
@@ -71,7 +72,10 @@ impl<F: Functions> Graph<F> {
         ensures keeps_meanings { KeepsMeanings (F.known self.old.functions) (F.value self.old.functions) (F.value self.new.functions)
             (F.right self.old.functions) (F.right self.new.functions) }
         ensures same_names { SameNames (F.named self.old.functions) (F.named self.new.functions) }
-        ensures tally { IsUnbroken self.old → F.tally self.new.functions ≡ one_taken result (F.tally self.old.functions) }
+        ensures unbroken { OnOk result (IsUnbroken self.old) }
+        ensures room { OnOk result ((F.tally self.old.functions).taken < (F.tally self.old.functions).most) }
+        ensures no_more { OnErr result ((f : AFunction) → F.known self.new.functions f ≡ F.known self.old.functions f) }
+        ensures tally { F.tally self.new.functions ≡ one_taken result (F.tally self.old.functions) }
         ensures calls { F.calls self.new.functions ≡ F.calls self.old.functions }
         ensures back { IfErr result (λ e. e.1 ≡ function) }
         ensures rest { self.new ≡ record self.old { functions = self.new.functions } }
@@ -126,7 +130,9 @@ impl<F: Keeper> Graph<F> {
         ensures keeps { F.keeps self.old.functions self.new.functions }
         ensures keeping { IfErr result (λ e. (e.0 ≡ GraphFault.TooMany) ⊎ (e.0 ≡ GraphFault.Memory)) }
         ensures too_many { IfErr result (λ e. (e.0 ≡ GraphFault.TooMany)
-            → (F.tally self.old.functions).taken ≡ (F.tally self.old.functions).most) }
+            ↔ ((F.tally self.old.functions).taken ≡ (F.tally self.old.functions).most)) }
+        ensures room { OnOk result ((F.tally self.old.functions).taken < (F.tally self.old.functions).most) }
+        ensures no_more { OnErr result ((f : AFunction) → F.known self.new.functions f ≡ F.known self.old.functions f) }
         ensures known { IfOk result (λ f. IsTrue (F.known self.new.functions f)) }
         ensures means { IfOk result (λ f. Means (F.value self.new.functions) (F.right self.new.functions) f (F.brings function)) }
         ensures keeps_known { KeepsKnown (F.known self.old.functions) (F.known self.new.functions) }
