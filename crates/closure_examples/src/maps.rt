@@ -9,11 +9,14 @@ use std::alloc::{AllocError, Global};
 pub struct Neg {}
 
 impl MapFn for Neg {
+    ghost use Rattle.node_arena.specs.Meanings.{uncounted};
     ghost use Rattle.closure_examples.specs.Arithmetic.{int_to_int, negation_of};
 
     ghost map_sig = { λ s. int_to_int };
 
     ghost map_value = { λ s args. negation_of args };
+
+    ghost map_calls = { λ s. uncounted };
 
     fn sig(&self) -> Sig {
         Sig::new(&[Ty::Int], Ty::Int)
@@ -33,11 +36,14 @@ impl MapFn for Neg {
 pub struct Sum {}
 
 impl MapFn for Sum {
+    ghost use Rattle.node_arena.specs.Meanings.{uncounted};
     ghost use Rattle.closure_examples.specs.Arithmetic.{ints_to_int, sum_of};
 
     ghost map_sig = { λ s. ints_to_int };
 
     ghost map_value = { λ s args. sum_of args };
+
+    ghost map_calls = { λ s. uncounted };
 
     fn sig(&self) -> Sig {
         Sig::new(&[Ty::Int, Ty::Int], Ty::Int)

@@ -56,12 +56,15 @@ impl NegOfLeft {
 }
 
 impl RhsFn for NegOfLeft {
+    ghost use Rattle.node_arena.specs.Meanings.{uncounted};
     ghost use Rattle.closure_examples.specs.Arithmetic.{int_to_int};
     ghost use Rattle.closure_examples.specs.Sides.{negation_side};
 
     ghost rhs_sig = { λ s. int_to_int };
 
     ghost rhs = { λ s. negation_side s.neg };
+
+    ghost rhs_builds = { λ s. uncounted };
 
     fn sig(&self) -> Sig {
         Sig::new(&[Ty::Int], Ty::Int)

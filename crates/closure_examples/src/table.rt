@@ -172,11 +172,14 @@ impl Table {
 }
 
 impl RhsFn for Table {
+    ghost use Rattle.node_arena.specs.Meanings.{uncounted};
     ghost use Rattle.closure_examples.specs.Sides.{table_side, table_sig};
 
     ghost rhs_sig = { λ s. table_sig };
 
     ghost rhs = { λ s. table_side s.neg s.add s.of_left };
+
+    ghost rhs_builds = { λ s. uncounted };
 
     fn sig(&self) -> Sig {
         Sig::new(&[Ty::Int, Ty::Int, Ty::Bool, Ty::Node(Base::Int)], Ty::Int)

@@ -1,3 +1,4 @@
+pub mod Counting
 pub mod Signature
 pub mod TableLaws
 pub mod Tables

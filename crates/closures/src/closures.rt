@@ -182,6 +182,7 @@ impl Closures {
 
 impl Functions for Closures {
     ghost use Rattle.std.specs.Prelude.{◌+◌, length, map, None};
+    ghost use Rattle.closures.specs.Counting.{IsCalledOnce};
     ghost use Rattle.closures.specs.Tables.{map_of, side_of, is_known, value_in, side_in};
     ghost use Rattle.closures.specs.Tables.{AreSound, map_brought, side_brought};
     ghost use Rattle.closures.specs.TableLaws.{maps_known, maps_typed, maps_proper, maps_base, sides_hold};
@@ -215,6 +216,12 @@ impl Functions for Closures {
       taken = length s.maps.items + length s.sides.items;
       most = 65535;
     } };
+
+    ghost calls_once = { λ old new f. IsCalledOnce f
+        (map (λ b. (MapFn-box b).map_calls b.value) old.maps.items)
+        (map (λ b. (RhsFn-box b).rhs_builds b.value) old.sides.items)
+        (map (λ b. (MapFn-box b).map_calls b.value) new.maps.items)
+        (map (λ b. (RhsFn-box b).rhs_builds b.value) new.sides.items) };
 
     ghost brings = { λ m. elim m [
       | new.Map b ↦ map_brought (map_of ((MapFn-box b).map_sig b.value) ((MapFn-box b).map_value b.value))

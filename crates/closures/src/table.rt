@@ -1,9 +1,11 @@
 //! Boxed functions of one kind, by number.
 ghost use Rattle.std.specs.Prelude.{◌≡◌, ◌<◌, length, map, slice_get, Some, IfOk, IsErrOf};
+ghost use Rattle.inc_value.specs.Counts.{raised};
 ghost use Rattle.inc_value.specs.Value.{type_of, HaveTypes};
 ghost use Rattle.node_arena.specs.Arena.{IsFull};
 ghost use Rattle.node_arena.specs.Building.{Grows};
 ghost use Rattle.node_arena.specs.RightSide.{MayBuild, IsRoot};
+ghost use Rattle.closures.specs.Counting.{raised_at};
 ghost use Rattle.closures.specs.Tables.{map_of, side_of, has_map, has_side};
 
 use crate::signature::are_same;
@@ -54,6 +56,7 @@ fn apply_box(
     requires fit { HaveTypes args.now (map_sig function.old).takes }
     ensures value { IfOk result (λ v. v ≡ map_value function.old args.now) }
     ensures typed { IfOk result (λ v. type_of v ≡ (map_sig function.old).gives) }
+    ensures called { map_calls function.new ≡ raised (map_calls function.old) }
     ensures same { map_of (map_sig function.new) (map_value function.new)
         ≡ map_of (map_sig function.old) (map_value function.old) }
 {
@@ -74,6 +77,7 @@ pub(crate) fn apply_at(
         → IfOk result (λ v. v ≡ m.value args.now) }
     ensures typed { (m : _) → slice_get (map (λ b. map_of (map_sig b) (map_value b)) maps.old.items) number ≡ Some m
         → IfOk result (λ v. type_of v ≡ m.sig.gives) }
+    ensures called { map (λ b. map_calls b) maps.new.items ≡ raised_at number (map (λ b. map_calls b) maps.old.items) }
     ensures len { length maps.new.items ≡ length maps.old.items }
     ensures same { map (λ b. map_of (map_sig b) (map_value b)) maps.new.items
         ≡ map (λ b. map_of (map_sig b) (map_value b)) maps.old.items }
@@ -94,6 +98,7 @@ fn build_box(
     ensures root { IfOk result (λ n. IsRoot builder.new captures.now n
         ((rhs function.old).term left.now) (rhs_sig function.old).gives) }
     ensures full { IsErrOf result BuildFault.Full → IsFull builder.new.arena }
+    ensures called { rhs_builds function.new ≡ raised (rhs_builds function.old) }
     ensures same { side_of (rhs_sig function.new) (rhs function.new)
         ≡ side_of (rhs_sig function.old) (rhs function.old) }
 {
@@ -117,6 +122,7 @@ pub(crate) fn build_at(
     ensures root { (m : _) → slice_get (map (λ b. side_of (rhs_sig b) (rhs b)) sides.old.items) number ≡ Some m
         → IfOk result (λ n. IsRoot builder.new captures.now n (m.side.term left.now) m.sig.gives) }
     ensures full { IsErrOf result BuildFault.Full → IsFull builder.new.arena }
+    ensures called { map (λ b. rhs_builds b) sides.new.items ≡ raised_at number (map (λ b. rhs_builds b) sides.old.items) }
     ensures len { length sides.new.items ≡ length sides.old.items }
     ensures same { map (λ b. side_of (rhs_sig b) (rhs b)) sides.new.items
         ≡ map (λ b. side_of (rhs_sig b) (rhs b)) sides.old.items }

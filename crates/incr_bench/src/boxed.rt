@@ -9,11 +9,14 @@ use std::alloc::{AllocError, Global};
 pub struct Negation {}
 
 impl MapFn for Negation {
+    ghost use Rattle.node_arena.specs.Meanings.{uncounted};
     ghost use Rattle.incr_bench.specs.Boxed.{int_to_int, negation_of};
 
     ghost map_sig = { λ s. int_to_int };
 
     ghost map_value = { λ s args. negation_of args };
+
+    ghost map_calls = { λ s. uncounted };
 
     fn sig(&self) -> Sig {
         Sig::new(&[Ty::Int], Ty::Int)

@@ -1,5 +1,5 @@
 -- What every keeper of functions promises of the maps that it knows, and of what a call leaves alone.
-use Rattle.std.specs.Prelude.{◌≡◌, ℕ, Bool, List, Option, All, IsTrue}
+use Rattle.std.specs.Prelude.{◌≡◌, ◌-◌, ◌^◌, ℕ, Bool, List, Option, All, IsTrue}
 use Rattle.inc_value.specs.Sig.{Signature, IsMapSig}
 use Rattle.inc_value.specs.Ty.{IsBase}
 use Rattle.inc_value.specs.Value.{type_of, HaveTypes, IsProper}
@@ -55,3 +55,7 @@ pub record IsLawfulMap (sig : Signature) (value : List Value → Value) : Type 0
   pub types : (args : List Value) → All IsProper args → HaveTypes args sig.takes → type_of (value args) ≡ sig.gives
   pub proper : (args : List Value) → All IsProper args → HaveTypes args sig.takes → IsProper (value args)
   pub no_reference : (args : List Value) → IsBase (type_of (value args))
+
+-- the count of a function that doesn't count its calls: the last one, which stays
+abbrev pub uncounted : ℕ
+uncounted = 2 ^ 64 - 1

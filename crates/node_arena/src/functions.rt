@@ -52,6 +52,10 @@ pub trait Functions: Drop {
     // the most that it takes
     ghost tally: { Self → Tally };
 
+    // what one call of a function, by `apply` or `build`, does to what the functions themselves count: where they
+    // count their calls, that it called this one once, and no other
+    ghost calls_once: { Self → Self → FnRef → Type 0 };
+
     // what the function that can be kept is
     ghost brings: { Self.More → NewFunction };
 
@@ -95,6 +99,7 @@ pub trait Functions: Drop {
 
         ensures calls { calls self.new ≡ raised (calls self.old) }
         ensures calls_grow { calls self.old ≤ calls self.new }
+        ensures once { calls_once self.old self.new f }
         ensures wants { wants self.new ≡ raised_on_err result (wants self.old) }
 
         ensures same_names { SameNames (named self.old) (named self.new) }
@@ -130,6 +135,7 @@ pub trait Functions: Drop {
             ≡ one_built (builder.new.arena.given - builder.old.arena.given) (tally self.old) }
         ensures calls { calls self.new ≡ calls self.old }
         ensures wants { wants self.new ≡ wants self.old }
+        ensures once { calls_once self.old self.new f }
 
         ensures same_names { SameNames (named self.old) (named self.new) }
         ensures same_known { SameKnown (known self.old) (known self.new) }

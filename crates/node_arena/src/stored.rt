@@ -47,7 +47,8 @@ pub enum MoreFault {
 /// A map: a function of values. For all values of the types that it takes it gives a value, the same
 /// at each call.
 pub trait MapFn: Drop {
-    ghost use Rattle.std.specs.Prelude.{◌≡◌, List, IfOk};
+    ghost use Rattle.std.specs.Prelude.{◌≡◌, ℕ, List, IfOk};
+    ghost use Rattle.inc_value.specs.Counts.{raised};
     ghost use Rattle.inc_value.specs.Sig.{Signature};
     ghost use Rattle.inc_value.specs.Value.{type_of, HaveTypes};
     ghost use Rattle.inc_value.specs.declared.value.Value.{Value};
@@ -59,17 +60,22 @@ pub trait MapFn: Drop {
     // what it gives for its arguments
     ghost map_value: { Self → List Value → Value };
 
+    // how often `apply` was called; stays at 2 ^ 64 - 1. A map that keeps no count may say `uncounted`
+    ghost map_calls: { Self → ℕ };
+
     /// The types that it takes, and the one that it gives. Of proper values of these types it gives
     /// a proper value of that one; it never gives a reference to a node.
     fn sig(&self) -> Sig
         ensures value { result ≡ map_sig self.now }
         ensures lawful { IsLawfulMap (map_sig self.now) (map_value self.now) };
 
-    /// What it gives for the arguments, or want of memory. It goes on to give what it gave.
+    /// What it gives for the arguments, or want of memory. It goes on to give what it gave, and was
+    /// called once more.
     fn apply(&mut self, alloc: Global, args: &[Value]) -> Result<Value, AllocError>
         requires fit { HaveTypes args.now (map_sig self.old).takes }
         ensures value { IfOk result (λ v. v ≡ map_value self.old args.now) }
         ensures typed { IfOk result (λ v. type_of v ≡ (map_sig self.old).gives) }
+        ensures called { map_calls self.new ≡ raised (map_calls self.old) }
         ensures same_sig { map_sig self.new ≡ map_sig self.old }
         ensures same_value { map_value self.new ≡ map_value self.old };
 }
@@ -77,7 +83,8 @@ pub trait MapFn: Drop {
 /// A function that makes right sides of binds: of each left value a term over captured nodes, the
 /// same at each call.
 pub trait RhsFn: Drop {
-    ghost use Rattle.std.specs.Prelude.{◌≡◌, IfOk, IsErrOf};
+    ghost use Rattle.std.specs.Prelude.{◌≡◌, ℕ, IfOk, IsErrOf};
+    ghost use Rattle.inc_value.specs.Counts.{raised};
     ghost use Rattle.inc_value.specs.Sig.{Signature};
     ghost use Rattle.node_arena.specs.Arena.{IsFull};
     ghost use Rattle.node_arena.specs.Building.{Grows};
@@ -90,6 +97,9 @@ pub trait RhsFn: Drop {
     // the terms that it makes, what these call and name, and how many nodes they take
     ghost rhs: { Self → RightSide };
 
+    // how often `build` was called; stays at 2 ^ 64 - 1. A function that keeps no count may say `uncounted`
+    ghost rhs_builds: { Self → ℕ };
+
     /// The types of the left value and of the captures, and the one of the right sides. Whatever the
     /// left value, its term calls listed functions alone, and names listed nodes and the one that the
     /// left value names; for a proper one of its type the term is of the right sides' type.
@@ -101,7 +111,7 @@ pub trait RhsFn: Drop {
     /// root, which reads back as the term with the captures put in. Ids that were given keep their
     /// rows; new nodes, also those that a refused call leaves, stand in the scope, call listed
     /// functions and are few enough. It is refused as full only where no further node can be added.
-    /// It goes on to build what it built.
+    /// It goes on to build what it built, and was called once more.
     fn build(
         &mut self,
         alloc: Global,
@@ -114,6 +124,7 @@ pub trait RhsFn: Drop {
         ensures root { IfOk result (λ n. IsRoot builder.new captures.now n
             ((rhs self.old).term left.now) (rhs_sig self.old).gives) }
         ensures full { IsErrOf result Full → IsFull builder.new.arena }
+        ensures called { rhs_builds self.new ≡ raised (rhs_builds self.old) }
         ensures same_sig { rhs_sig self.new ≡ rhs_sig self.old }
         ensures same_rhs { rhs self.new ≡ rhs self.old };
 }
@@ -122,6 +133,8 @@ impl MapFn for Box<dyn MapFn> {
     ghost map_sig = { λ b. (MapFn-box b).map_sig b.value };
 
     ghost map_value = { λ b. (MapFn-box b).map_value b.value };
+
+    ghost map_calls = { λ b. (MapFn-box b).map_calls b.value };
 
     fn sig(&self) -> Sig {
         (**self).sig()
@@ -136,6 +149,8 @@ impl RhsFn for Box<dyn RhsFn> {
     ghost rhs_sig = { λ b. (RhsFn-box b).rhs_sig b.value };
 
     ghost rhs = { λ b. (RhsFn-box b).rhs b.value };
+
+    ghost rhs_builds = { λ b. (RhsFn-box b).rhs_builds b.value };
 
     fn sig(&self) -> Sig {
         (**self).sig()

@@ -75,11 +75,14 @@ impl Body {
 }
 
 impl RhsFn for Body {
+    ghost use Rattle.node_arena.specs.Meanings.{uncounted};
     ghost use Rattle.script_functions.specs.Bodies.{side_of};
 
     ghost rhs_sig = { λ b. b.draft.sig };
 
     ghost rhs = { λ b. side_of b };
+
+    ghost rhs_builds = { λ b. uncounted };
 
     fn sig(&self) -> Sig {
         self.draft.sig()

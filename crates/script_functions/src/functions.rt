@@ -129,6 +129,9 @@ impl<L: Library> Functions for ScriptFns<L> {
       most = 1099511627776;
     } };
 
+    // (maps are the library's, whose calls `calls` are; bodies don't count)
+    ghost calls_once = { λ old new f. Unit {0} };
+
     ghost brings = { λ b. brought (maker_of b) };
 
     fn more(&mut self, alloc: Global, m: Body) -> Result<FnRef, (MoreFault, Body)> {

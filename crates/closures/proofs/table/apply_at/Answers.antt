@@ -1,7 +1,7 @@
 use Rattle.std.proofs.Common.{◌≡◌, subst, IfOk}
 use Rattle.inc_value.specs.Value.{type_of}
 use Rattle.closures.specs.Tables.{MapMeaning}
-use Rattle.closures.proofs.Tables.{map_same, means_read, read_is}
+use Rattle.closures.proofs.Tables.{map_raised, map_same, means_read, read_is}
 use Rattle.closures.proofs.table.apply_at.Goals as goal
 
 pub apply_box-requires : goal.apply_box-requires
@@ -20,3 +20,6 @@ returns-clause-typed g c m there =
 
 pub returns-clause-same : goal.returns-clause-same
 returns-clause-same g c = map_same _ _ _ _ c.requires.within c.index_mut.ensures.value _ c.apply_box.ensures.same
+
+pub returns-clause-called : goal.returns-clause-called
+returns-clause-called g c = map_raised _ _ _ _ c.requires.within c.index_mut.ensures.value _ c.apply_box.ensures.called

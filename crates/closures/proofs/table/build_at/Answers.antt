@@ -2,7 +2,7 @@ use Rattle.std.proofs.Common.{subst, IfOk}
 use Rattle.node_arena.specs.Building.{Grows}
 use Rattle.node_arena.specs.RightSide.{IsRoot}
 use Rattle.closures.specs.Tables.{SideMeaning}
-use Rattle.closures.proofs.Tables.{map_same, means_read, read_is}
+use Rattle.closures.proofs.Tables.{map_raised, map_same, means_read, read_is}
 use Rattle.closures.proofs.table.build_at.Goals as goal
 
 pub build_box-requires : goal.build_box-requires
@@ -22,3 +22,6 @@ returns-clause-root g c m there =
 
 pub returns-clause-same : goal.returns-clause-same
 returns-clause-same g c = map_same _ _ _ _ c.requires.within c.index_mut.ensures.value _ c.build_box.ensures.same
+
+pub returns-clause-called : goal.returns-clause-called
+returns-clause-called g c = map_raised _ _ _ _ c.requires.within c.index_mut.ensures.value _ c.build_box.ensures.called

@@ -4,7 +4,7 @@ use Rattle.node_arena.specs.Building.{Grows}
 use Rattle.node_arena.specs.RightSide.{RightSide, MayBuild}
 use Rattle.closures.specs.Tables.{SideMeaning}
 use Rattle.closures.specs.TableLaws.{side_there, side_at}
-use Rattle.closures.proofs.Tables.{one_there, same_root}
+use Rattle.closures.proofs.Tables.{one_there, same_root, side_called}
 use Rattle.closures.proofs.closures.ClosuresFunctions.build.Goals as goal
 
 pub build_at-root-requires-clause-ready : goal.build_at-root-requires-clause-ready
@@ -35,3 +35,6 @@ returns-clause-root g c =
     let k = side_there _ _ c.args.f c.requires.known c.requires.kind in
     same_root c.build_at-root.result c.build_at-root.new.builder c.args.captures.now c.args.left.now
     (side_at _ c.args.f k.0 c.requires.kind k.1) k.2 (c.build_at-root.ensures.root k.0 k.1)
+
+pub returns-clause-once : goal.returns-clause-once
+returns-clause-once g c = side_called c.args.f _ _ _ c.requires.kind c.build_at-root.ensures.called
