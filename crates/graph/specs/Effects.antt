@@ -144,9 +144,12 @@ module _ {F : Type 0} where
     pub fewer_links : (p q : Point) → times_linked new p q ≤ times_linked old p q
     pub fewer_roots : (p : Point) → times_rooted new p ≤ times_rooted old p
 
--- why a node may not be added, set or observed; why an observer may not be ended, and why not asked
+-- why a node may not be added, set or observed, and why no function is kept; why an observer may not be ended, and why not asked
 abbrev pub IsAddFault : GraphFault → Type 0
 IsAddFault e = ((cause : Kept) × (e ≡ fault.Broken cause)) ⊎ (e ≡ fault.Unknown) ⊎ (e ≡ fault.WrongType) ⊎ (e ≡ fault.Full) ⊎ (e ≡ fault.Memory)
+
+abbrev pub IsKeepFault : GraphFault → Type 0
+IsKeepFault e = ((cause : Kept) × (e ≡ fault.Broken cause)) ⊎ (e ≡ fault.TooMany) ⊎ (e ≡ fault.Memory)
 
 abbrev pub IsSetFault : GraphFault → Type 0
 IsSetFault e = ((cause : Kept) × (e ≡ fault.Broken cause)) ⊎ (e ≡ fault.Unknown) ⊎ (e ≡ fault.NotVar) ⊎ (e ≡ fault.WrongType)

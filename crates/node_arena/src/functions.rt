@@ -59,6 +59,9 @@ pub trait Functions: Drop {
     // what the function that can be kept is
     ghost brings: { Self.More → NewFunction };
 
+    // what keeping one function more leaves as it was, beside what is known and what that means
+    ghost keeps: { Self → Self → Type 0 } = { λ old new. Unit {0} };
+
     /// Keeps one more function, and gives its name. Functions that were known stay so, and mean what
     /// they meant. It is refused as one too many exactly where as many were taken as can be, and else
     /// where there is no memory. A refused call hands the function back, and makes none known.
@@ -73,6 +76,7 @@ pub trait Functions: Drop {
         ensures keeps_meanings { KeepsMeanings (known self.old) (value self.old) (value self.new)
             (right self.old) (right self.new) }
         ensures same_names { SameNames (named self.old) (named self.new) }
+        ensures keeps { keeps self.old self.new }
         ensures tally { tally self.new ≡ one_taken result (tally self.old) }
         ensures calls { calls self.new ≡ calls self.old }
         ensures wants { wants self.new ≡ wants self.old }

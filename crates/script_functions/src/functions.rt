@@ -4,7 +4,6 @@ ghost use Rattle.script_functions.specs.Keeping.{maker_of, side_made};
 
 use crate::Body;
 use crate::keeping::{build_at, has_body};
-use function_keepers::Keeper;
 use inc_value::{FnId, FnKind, FnRef, NodeId, Value};
 use node_arena::{BuildFault, Builder, Functions, Library, MoreFault, RhsFn};
 use std::alloc::{AllocError, Global};
@@ -99,9 +98,9 @@ impl<L: Library> ScriptFns<L> {
 }
 
 impl<L: Library> Functions for ScriptFns<L> {
-    ghost use Rattle.std.specs.Prelude.{length};
+    ghost use Rattle.std.specs.Prelude.{◌≡◌, length};
     ghost use Rattle.script_model.specs.Values.{seen_value};
-    ghost use Rattle.script_functions.specs.Keeping.{maker_of, makers, is_known, side_in, AreSound, brought};
+    ghost use Rattle.script_functions.specs.Keeping.{maker_of, makers, is_known, side_in, AreSound, brought, KeepsBodies};
     ghost use Rattle.script_functions.specs.KeepingLaws.{maps_have_sigs, maps_typed, maps_proper, maps_base};
     ghost use Rattle.script_functions.specs.KeepingLaws.{sides_hold};
     ghost use Rattle.script_functions.specs.UnnamedLaws.{still_typed, still_proper, none_seen};
@@ -134,8 +133,26 @@ impl<L: Library> Functions for ScriptFns<L> {
 
     ghost brings = { λ b. brought (maker_of b) };
 
+    ghost keeps = { λ old new. (new.library ≡ old.library) × (new.builds ≡ old.builds) × KeepsBodies old.bodies.items new.bodies.items 1 };
+
     fn more(&mut self, alloc: Global, m: Body) -> Result<FnRef, (MoreFault, Body)> {
-        self.keep(alloc, m)
+        let _ = alloc;
+        if self.bodies.len() >= MOST {
+            return Err((MoreFault::TooMany, m));
+        }
+        if self.bodies.reserve(1).is_err() {
+            return Err((MoreFault::Memory, m));
+        }
+        let sig = m.sig();
+        let number = self.bodies.len() as u64;
+        self.bodies.push_reserved(m);
+        Ok(FnRef {
+            id: FnId {
+                kind: FnKind::Rhs,
+                number,
+            },
+            sig,
+        })
     }
 
     fn knows(&self, f: FnRef) -> bool {
@@ -180,31 +197,4 @@ impl<L: Library> Functions for ScriptFns<L> {
     ghost no_reference = { λ s sound. maps_base _ _ _ (none_seen (L.known s.library) (L.value s.library)) };
 
     ghost sides = { λ s sound. sides_hold _ _ sound };
-}
-
-impl<L: Library> Keeper for ScriptFns<L> {
-    ghost use Rattle.std.specs.Prelude.{◌≡◌};
-    ghost use Rattle.script_functions.specs.Keeping.{KeepsBodies};
-
-    ghost keeps = { λ old new. (new.library ≡ old.library) × (new.builds ≡ old.builds) × KeepsBodies old.bodies.items new.bodies.items 1 };
-
-    fn keep(&mut self, alloc: Global, m: Body) -> Result<FnRef, (MoreFault, Body)> {
-        let _ = alloc;
-        if self.bodies.len() >= MOST {
-            return Err((MoreFault::TooMany, m));
-        }
-        if self.bodies.reserve(1).is_err() {
-            return Err((MoreFault::Memory, m));
-        }
-        let sig = m.sig();
-        let number = self.bodies.len() as u64;
-        self.bodies.push_reserved(m);
-        Ok(FnRef {
-            id: FnId {
-                kind: FnKind::Rhs,
-                number,
-            },
-            sig,
-        })
-    }
 }

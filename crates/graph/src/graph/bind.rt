@@ -8,12 +8,11 @@ ghost use Rattle.node_arena.specs.Meanings.{SameNames, KeepsKnown};
 ghost use Rattle.node_arena.specs.RightSide.{AreFit, IsKeepable, Means, KeepsMeanings, one_taken};
 ghost use Rattle.node_arena.specs.Typing.{Fits};
 ghost use Rattle.graph.specs.Standing.{IsUnbroken, IsBroken, graph, root_in};
-ghost use Rattle.graph.specs.Effects.{top, NamesUnknown, IsMistyped, HasNoRoom, KeepsAll, IsAddFault, Adds};
+ghost use Rattle.graph.specs.Effects.{top, NamesUnknown, IsMistyped, HasNoRoom, KeepsAll, IsAddFault, IsKeepFault, Adds};
 ghost use Rattle.graph.specs.declared.fault.Kept.{Kept as ACause};
 
 use super::Graph;
 use crate::fault::{GraphFault, more_fault};
-use function_keepers::Keeper;
 use inc_terms::{Def, Nodes};
 use inc_value::{FnRef, NodeId, Ty};
 use node_arena::Functions;
@@ -64,6 +63,7 @@ impl<F: Functions> Graph<F> {
         requires keepable { IsKeepable (F.known self.old.functions) (F.right self.old.functions)
             (F.brings function).kind (F.brings function).sig (F.brings function).side }
         ensures broken { IfErr result (λ e. (cause : ACause) → (e.0 ≡ GraphFault.Broken cause) ↔ IsBroken self.old cause) }
+        ensures keeping { IfErr result (λ e. IsKeepFault e.0) }
         ensures too_many { IfErr result (λ e. (e.0 ≡ GraphFault.TooMany)
             ↔ (IsUnbroken self.old × ((F.tally self.old.functions).taken ≡ (F.tally self.old.functions).most))) }
         ensures known { IfOk result (λ f. IsTrue (F.known self.new.functions f)) }
@@ -72,6 +72,7 @@ impl<F: Functions> Graph<F> {
         ensures keeps_meanings { KeepsMeanings (F.known self.old.functions) (F.value self.old.functions) (F.value self.new.functions)
             (F.right self.old.functions) (F.right self.new.functions) }
         ensures same_names { SameNames (F.named self.old.functions) (F.named self.new.functions) }
+        ensures keeps { IsUnbroken self.old → F.keeps self.old.functions self.new.functions }
         ensures unbroken { OnOk result (IsUnbroken self.old) }
         ensures room { OnOk result ((F.tally self.old.functions).taken < (F.tally self.old.functions).most) }
         ensures no_more { OnErr result ((f : AFunction) → F.known self.new.functions f ≡ F.known self.old.functions f) }
@@ -117,36 +118,6 @@ impl<F: Functions> Graph<F> {
         match row.def {
             Def::Bind { .. } => Ok(self.parts.root_of(node)),
             _ => Ok(None),
-        }
-    }
-}
-
-impl<F: Keeper> Graph<F> {
-    /// Keeps one more function beside the others, as `more` does, where what stays beside it is told.
-    pub fn keep(&mut self, function: F::More) -> Result<FnRef, (GraphFault, F::More)>
-        requires keepable { IsKeepable (F.known self.old.functions) (F.right self.old.functions)
-            (F.brings function).kind (F.brings function).sig (F.brings function).side }
-        requires unbroken { IsUnbroken self.old }
-        ensures keeps { F.keeps self.old.functions self.new.functions }
-        ensures keeping { IfErr result (λ e. (e.0 ≡ GraphFault.TooMany) ⊎ (e.0 ≡ GraphFault.Memory)) }
-        ensures too_many { IfErr result (λ e. (e.0 ≡ GraphFault.TooMany)
-            ↔ ((F.tally self.old.functions).taken ≡ (F.tally self.old.functions).most)) }
-        ensures room { OnOk result ((F.tally self.old.functions).taken < (F.tally self.old.functions).most) }
-        ensures no_more { OnErr result ((f : AFunction) → F.known self.new.functions f ≡ F.known self.old.functions f) }
-        ensures known { IfOk result (λ f. IsTrue (F.known self.new.functions f)) }
-        ensures means { IfOk result (λ f. Means (F.value self.new.functions) (F.right self.new.functions) f (F.brings function)) }
-        ensures keeps_known { KeepsKnown (F.known self.old.functions) (F.known self.new.functions) }
-        ensures keeps_meanings { KeepsMeanings (F.known self.old.functions) (F.value self.old.functions) (F.value self.new.functions)
-            (F.right self.old.functions) (F.right self.new.functions) }
-        ensures same_names { SameNames (F.named self.old.functions) (F.named self.new.functions) }
-        ensures tally { F.tally self.new.functions ≡ one_taken result (F.tally self.old.functions) }
-        ensures calls { F.calls self.new.functions ≡ F.calls self.old.functions }
-        ensures back { IfErr result (λ e. e.1 ≡ function) }
-        ensures rest { self.new ≡ record self.old { functions = self.new.functions } }
-    {
-        match self.functions.keep(self.alloc, function) {
-            Ok(f) => Ok(f),
-            Err((fault, function)) => Err((more_fault(fault), function)),
         }
     }
 }

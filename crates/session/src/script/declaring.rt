@@ -256,7 +256,7 @@ fn keep_body<L: Library>(graph: &mut Graph<ScriptFns<L>>, body: Body) -> Result<
     ensures known { StayKnown (L.known graph.old.functions.library) (L.known graph.new.functions.library)
         graph.old.functions.bodies.items graph.new.functions.bodies.items }
 {
-    match graph.keep(body) {
+    match graph.more(body) {
         Ok(function) => Ok(Made::Fn(function)),
         Err((fault, body)) => {
             drop(body);

@@ -3,8 +3,8 @@ use Rattle.graph.specs.Standing.{without_functions}
 use Rattle.node_arena.specs.RightSide.{RightSide}
 use Rattle.session.proofs.script.declaring.keep_body.Goals as goal
 
-pub keep-requires-clause-keepable : goal.keep-requires-clause-keepable
-keep-requires-clause-keepable g c = c.requires.usable
+pub more-requires-clause-keepable : goal.more-requires-clause-keepable
+more-requires-clause-keepable g c = c.requires.usable
 
 pub returns-in-Ok-clause-made : goal.returns-in-Ok-clause-made
 returns-in-Ok-clause-made g c =
@@ -14,14 +14,14 @@ returns-in-Ok-clause-made g c =
       kind = means.same_kind;
       sig = means.same_sig;
       terms = λ v. ap (λ (r : RightSide). r.term v) (means.same_side refl);
-      rest = ap without_functions c.keep.ensures.rest;
+      rest = ap without_functions c.more.ensures.rest;
     }
 
 pub returns-in-Ok-clause-serves : goal.returns-in-Ok-clause-serves
 returns-in-Ok-clause-serves g c = (c.in-Ok.ensures.known, c.in-Ok.ensures.means.same_side refl)
 
 pub returns-in-Ok-clause-functions : goal.returns-in-Ok-clause-functions
-returns-in-Ok-clause-functions g c = let keeps = c.keep.ensures.keeps in record { library = keeps.0; builds = keeps.1; bodies = keeps.2 }
+returns-in-Ok-clause-functions g c = let keeps = c.more.ensures.keeps c.requires.unbroken in record { library = keeps.0; builds = keeps.1; bodies = keeps.2 }
 
 pub returns-in-Ok-clause-known : goal.returns-in-Ok-clause-known
-returns-in-Ok-clause-known g c = record { known = c.keep.ensures.keeps_known; sides = c.keep.ensures.keeps_meanings.sides }
+returns-in-Ok-clause-known g c = record { known = c.more.ensures.keeps_known; sides = c.more.ensures.keeps_meanings.sides }

@@ -3,7 +3,7 @@ use Rattle.std.proofs.lemmas.Grind.{common_steps}
 use Rattle.script_functions.proofs.MoreBodies.{one_more_sound, one_more_keeps, one_more_means, last_known, last_means}
 use Rattle.script_functions.proofs.Tables.{means_pushed, means_length}
 use Rattle.script_functions.specs.Keeping.{maker_of}
-use Rattle.script_functions.proofs.functions.ScriptFnsKeeper.keep.Goals as goal
+use Rattle.script_functions.proofs.functions.ScriptFnsFunctions.more.Goals as goal
 
 pub returns-clause-sound : goal.returns-clause-sound
 returns-clause-sound g c =
