@@ -66,8 +66,11 @@ module _ (maps : List MapMeaning) (sides : List SideMeaning) (x : MapMeaning) wh
   kept_at kind.Map n s b args h = ap (λ o. value_or o args) (map_at_more n s (slice_get maps n) refl h)
   kept_at kind.Rhs n s b args h = refl
 
-  map_keeps : KeepsMeanings (is_known maps sides) (value_in maps) (value_in longer) (side_in sides) (side_in sides)
-  map_keeps = record {
+  map_keeps : (names : List ℕ → Option FnRef)
+      → KeepsMeanings names names (is_known maps sides) (is_known longer sides) (value_in maps) (value_in longer) (side_in sides) (side_in sides)
+  map_keeps names = record {
+    names = λ name. refl;
+    known = more_maps;
     values = λ f args h. kept_at f.id.kind f.id.number f.sig (has_side (slice_get sides f.id.number) f.sig) args h;
     sides = λ f h. refl;
   }
@@ -104,14 +107,11 @@ module _ (maps : List MapMeaning) (sides : List SideMeaning) (x : MapMeaning) wh
     pub map_sound_as : AreSound maps sides → IsMapSig x.sig → IsLawfulMap x.sig x.value → AreSound new sides
     map_sound_as sound a b = subst (λ l. AreSound l sides) (sym is) (map_sound sound a b)
 
-    pub map_more_as : KeepsKnown (is_known maps sides) (is_known new sides)
-    map_more_as = subst (λ l. KeepsKnown (is_known maps sides) (is_known l sides)) (sym is) more_maps
-
-    pub map_keeps_as :
-        KeepsMeanings (is_known maps sides) (value_in maps) (value_in new) (side_in sides) (side_in sides)
-    map_keeps_as =
-        subst (λ l. KeepsMeanings (is_known maps sides) (value_in maps) (value_in l) (side_in sides) (side_in sides))
-        (sym is) map_keeps
+    pub map_keeps_as : (names : List ℕ → Option FnRef)
+        → KeepsMeanings names names (is_known maps sides) (is_known new sides) (value_in maps) (value_in new) (side_in sides) (side_in sides)
+    map_keeps_as names =
+        subst (λ l. KeepsMeanings names names (is_known maps sides) (is_known l sides) (value_in maps) (value_in l) (side_in sides) (side_in sides))
+        (sym is) (map_keeps names)
 
     module _ (number : ℕ) (s : Signature) (number_is : number ≡ length maps) (sig_is : s ≡ x.sig) where
       pub map_known_as : IsTrue (is_known new sides (named kind.Map number s))
@@ -154,9 +154,10 @@ module _ (maps : List MapMeaning) (sides : List SideMeaning) (x : SideMeaning) w
   side_kept : (f : FnRef) → IsTrue (is_known maps sides f) → side_in longer_sides f ≡ side_in sides f
   side_kept f h = side_kept_at f.id.kind f.id.number f.sig (has_map (slice_get maps f.id.number) f.sig) h
 
-  side_keeps :
-      KeepsMeanings (is_known maps sides) (value_in maps) (value_in maps) (side_in sides) (side_in longer_sides)
-  side_keeps = record { values = λ f args h. refl; sides = side_kept }
+  side_keeps : (names : List ℕ → Option FnRef)
+      → KeepsMeanings names names (is_known maps sides) (is_known maps longer_sides) (value_in maps) (value_in maps)
+      (side_in sides) (side_in longer_sides)
+  side_keeps names = record { names = λ name. refl; known = more_sides; values = λ f args h. refl; sides = side_kept }
 
   still_usable : (ids : List Listed) (u : Use) → IsUsable (is_known maps sides) (side_in sides) ids u
       → IsUsable (is_known maps longer_sides) (side_in longer_sides) ids u
@@ -206,14 +207,11 @@ module _ (maps : List MapMeaning) (sides : List SideMeaning) (x : SideMeaning) w
         → AreUsable (is_known maps sides) (side_in sides) x.side → AreSound maps new
     side_sound_as sound a b = subst (λ l. AreSound maps l) (sym is) (side_sound sound a b)
 
-    pub side_more_as : KeepsKnown (is_known maps sides) (is_known maps new)
-    side_more_as = subst (λ l. KeepsKnown (is_known maps sides) (is_known maps l)) (sym is) more_sides
-
-    pub side_keeps_as :
-        KeepsMeanings (is_known maps sides) (value_in maps) (value_in maps) (side_in sides) (side_in new)
-    side_keeps_as =
-        subst (λ l. KeepsMeanings (is_known maps sides) (value_in maps) (value_in maps) (side_in sides) (side_in l))
-        (sym is) side_keeps
+    pub side_keeps_as : (names : List ℕ → Option FnRef)
+        → KeepsMeanings names names (is_known maps sides) (is_known maps new) (value_in maps) (value_in maps) (side_in sides) (side_in new)
+    side_keeps_as names =
+        subst (λ l. KeepsMeanings names names (is_known maps sides) (is_known maps l) (value_in maps) (value_in maps) (side_in sides) (side_in l))
+        (sym is) (side_keeps names)
 
     module _ (number : ℕ) (s : Signature) (number_is : number ≡ length sides) (sig_is : s ≡ x.sig) where
       pub side_known_as : IsTrue (is_known maps new (named kind.Rhs number s))

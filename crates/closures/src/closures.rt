@@ -58,7 +58,6 @@ pub enum NewFn {
 impl Closures {
     ghost use Rattle.std.specs.Prelude.{◌≡◌, ◌<◌, ◌+◌, ◌↔◌, false, IfOk, IfErr, OnOk, OnErr, IsTrue};
     ghost use Rattle.inc_value.specs.Sig.{IsMapSig};
-    ghost use Rattle.node_arena.specs.Meanings.{KeepsKnown};
     ghost use Rattle.node_arena.specs.RightSide.{AreUsable, Means, KeepsMeanings, one_taken};
     ghost use Rattle.inc_value.specs.declared.function.FnRef.{FnRef};
     ghost use Rattle.node_arena.specs.declared.stored.MoreFault.{MoreFault};
@@ -100,9 +99,8 @@ impl Closures {
         ensures known { IfOk result (λ f. IsTrue (⟦<Closures as Functions>⟧.known self.new f)) }
         ensures means { IfOk result (λ f. Means (⟦<Closures as Functions>⟧.value self.new)
             (⟦<Closures as Functions>⟧.right self.new) f (map_brought (map_of (map_sig map) (map_value map)))) }
-        ensures keeps_known { KeepsKnown (⟦<Closures as Functions>⟧.known self.old)
-            (⟦<Closures as Functions>⟧.known self.new) }
-        ensures keeps_meanings { KeepsMeanings (⟦<Closures as Functions>⟧.known self.old)
+        ensures keeps_meanings { KeepsMeanings (⟦<Closures as Functions>⟧.named self.old) (⟦<Closures as Functions>⟧.named self.new)
+            (⟦<Closures as Functions>⟧.known self.old) (⟦<Closures as Functions>⟧.known self.new)
             (⟦<Closures as Functions>⟧.value self.old) (⟦<Closures as Functions>⟧.value self.new)
             (⟦<Closures as Functions>⟧.right self.old) (⟦<Closures as Functions>⟧.right self.new) }
         ensures tally { ⟦<Closures as Functions>⟧.tally self.new
@@ -145,9 +143,8 @@ impl Closures {
         ensures known { IfOk result (λ f. IsTrue (⟦<Closures as Functions>⟧.known self.new f)) }
         ensures means { IfOk result (λ f. Means (⟦<Closures as Functions>⟧.value self.new)
             (⟦<Closures as Functions>⟧.right self.new) f (side_brought (side_of (rhs_sig side) (rhs side)))) }
-        ensures keeps_known { KeepsKnown (⟦<Closures as Functions>⟧.known self.old)
-            (⟦<Closures as Functions>⟧.known self.new) }
-        ensures keeps_meanings { KeepsMeanings (⟦<Closures as Functions>⟧.known self.old)
+        ensures keeps_meanings { KeepsMeanings (⟦<Closures as Functions>⟧.named self.old) (⟦<Closures as Functions>⟧.named self.new)
+            (⟦<Closures as Functions>⟧.known self.old) (⟦<Closures as Functions>⟧.known self.new)
             (⟦<Closures as Functions>⟧.value self.old) (⟦<Closures as Functions>⟧.value self.new)
             (⟦<Closures as Functions>⟧.right self.old) (⟦<Closures as Functions>⟧.right self.new) }
         ensures tally { ⟦<Closures as Functions>⟧.tally self.new

@@ -116,8 +116,8 @@ module _ (F F' : Functions) (known : FnRef → Bool) (values : (f : FnRef) → I
 
 -- ---- of a keeper
 
-module _ (known known' : FnRef → Bool) (value value' : FnRef → List Value → Value) (right right' : FnRef → RightSide)
-    (keeps : KeepsMeanings known value value' right right') (laws : FunctionLaws (meaning value' right') known' (ids_of right')) (parts : Parts)
+module _ {named named' : List ℕ → Option FnRef} (known known' : FnRef → Bool) (value value' : FnRef → List Value → Value) (right right' : FnRef → RightSide)
+    (keeps : KeepsMeanings named named' known known' value value' right right') (laws : FunctionLaws (meaning value' right') known' (ids_of right')) (parts : Parts)
     (fit : AllFit known right parts.arena) (fit' : AllFit known' right' parts.arena) where
   abbrev before : Functions
   before = meaning value right

@@ -7,3 +7,4 @@ mod Sound
 mod Setting
 pub mod Growing
 pub mod RightSides
+pub mod SameMeanings

@@ -1,5 +1,5 @@
 -- Functions that make right sides of binds: what they mean, what they promise, and what they are called on.
-use Rattle.std.specs.Prelude.{◌≡◌, ◌≤◌, ◌⊎◌, ◌+◌, ◌-◌, ◌^◌, ℕ, min, Bool, List, [], ◌∷◌, Some, Result, Ok, Err, IsTrue, slice_get}
+use Rattle.std.specs.Prelude.{◌≡◌, ◌≤◌, ◌⊎◌, ◌+◌, ◌-◌, ◌^◌, ℕ, min, Bool, List, [], ◌∷◌, Option, Some, Result, Ok, Err, IsTrue, slice_get}
 use Rattle.std.specs.List.{AllZip}
 use Rattle.inc_value.specs.Choice.{Among, Every}
 use Rattle.inc_value.specs.Ty.{type_of_base}
@@ -22,6 +22,7 @@ use Rattle.node_arena.specs.Arena.{Arena, row_at}
 use Rattle.node_arena.specs.Building.{Building, Use, IsListed}
 use Rattle.node_arena.specs.Graph.{graph_of, nothing_held}
 use Rattle.node_arena.specs.Listing.{Listed, IsNamed}
+use Rattle.node_arena.specs.Meanings.{SameNames, KeepsKnown, SameKnown, SameValues}
 use Rattle.node_arena.specs.Typing.{Fits, HasType}
 
 -- what a function makes of a left value: a term over captures; the functions that its nodes may call; the nodes that its
@@ -161,6 +162,15 @@ pub record SidesHold (known : FnRef → Bool) (right : FnRef → RightSide) : Ty
 abbrev pub SameSides : (FnRef → RightSide) → (FnRef → RightSide) → Type 0
 SameSides old new = (f : FnRef) → new f ≡ old f
 
+-- names stand for the functions that they stood for, the same functions are known, maps give what they gave, and right
+-- sides are what they were
+pub record SameMeaning (named named' : List ℕ → Option FnRef) (knows knows' : FnRef → Bool) (value value' : FnRef → List Value → Value)
+    (right right' : FnRef → RightSide) : Type 0 where
+  pub names : SameNames named named'
+  pub known : SameKnown knows knows'
+  pub values : SameValues value value'
+  pub sides : SameSides right right'
+
 -- a function that a keeper is to keep
 pub record NewFunction : Type 0 where
   pub kind : FnKind
@@ -180,11 +190,13 @@ pub record Means (value : FnRef → List Value → Value) (right : FnRef → Rig
   pub values : m.kind ≡ kind.Map → (args : List Value) → value f args ≡ m.value args
   pub same_side : m.kind ≡ kind.Rhs → right f ≡ m.side
 
--- known functions mean what they meant
-pub record KeepsMeanings (known : FnRef → Bool) (value value' : FnRef → List Value → Value)
+-- names stand for the functions that they stood for, and known functions stay so and mean what they meant
+pub record KeepsMeanings (named named' : List ℕ → Option FnRef) (knows knows' : FnRef → Bool) (value value' : FnRef → List Value → Value)
     (right right' : FnRef → RightSide) : Type 0 where
-  pub values : (f : FnRef) (args : List Value) → IsTrue (known f) → value' f args ≡ value f args
-  pub sides : (f : FnRef) → IsTrue (known f) → right' f ≡ right f
+  pub names : SameNames named named'
+  pub known : KeepsKnown knows knows'
+  pub values : (f : FnRef) (args : List Value) → IsTrue (knows f) → value' f args ≡ value f args
+  pub sides : (f : FnRef) → IsTrue (knows f) → right' f ≡ right f
 
 -- how often right sides were built, and how many ids their builders gave; each stays at 2 ^ 64 - 1. How many functions
 -- were taken, and the most that are

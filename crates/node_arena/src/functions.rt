@@ -15,11 +15,10 @@ pub trait Functions: Drop {
     ghost use Rattle.inc_value.specs.declared.function.FnKind.TheVariants.{Map, Rhs};
     ghost use Rattle.inc_value.specs.declared.value.Value.{Value};
     ghost use Rattle.inc_value.specs.Counts.{raised, raised_on_err};
-    ghost use Rattle.node_arena.specs.Meanings.{SameNames, KeepsKnown, SameKnown, SameValues, HaveMapSigs};
-    ghost use Rattle.node_arena.specs.Meanings.{GiveTypes, GiveProper, GiveNoReference};
+    ghost use Rattle.node_arena.specs.Meanings.{HaveMapSigs, GiveTypes, GiveProper, GiveNoReference};
     ghost use Rattle.node_arena.specs.Arena.{IsFull};
     ghost use Rattle.node_arena.specs.Building.{Grows};
-    ghost use Rattle.node_arena.specs.RightSide.{RightSide, MayBuild, IsRoot, SidesHold, SameSides, NewFunction};
+    ghost use Rattle.node_arena.specs.RightSide.{RightSide, MayBuild, IsRoot, SidesHold, SameMeaning, NewFunction};
     ghost use Rattle.node_arena.specs.RightSide.{IsKeepable, Means, KeepsMeanings, Tally, one_built, one_taken};
     ghost use Rattle.node_arena.specs.declared.stored.BuildFault.TheVariants.{Full};
     ghost use Rattle.node_arena.specs.declared.stored.MoreFault.TheVariants.{TooMany};
@@ -72,10 +71,8 @@ pub trait Functions: Drop {
         ensures sound { is_sound self.new }
         ensures known { IfOk result (λ f. IsTrue (known self.new f)) }
         ensures means { IfOk result (λ f. Means (value self.new) (right self.new) f (brings m)) }
-        ensures keeps_known { KeepsKnown (known self.old) (known self.new) }
-        ensures keeps_meanings { KeepsMeanings (known self.old) (value self.old) (value self.new)
-            (right self.old) (right self.new) }
-        ensures same_names { SameNames (named self.old) (named self.new) }
+        ensures keeps_meanings { KeepsMeanings (named self.old) (named self.new) (known self.old) (known self.new)
+            (value self.old) (value self.new) (right self.old) (right self.new) }
         ensures keeps { keeps self.old self.new }
         ensures tally { tally self.new ≡ one_taken result (tally self.old) }
         ensures calls { calls self.new ≡ calls self.old }
@@ -106,10 +103,8 @@ pub trait Functions: Drop {
         ensures once { calls_once self.old self.new f }
         ensures wants { wants self.new ≡ raised_on_err result (wants self.old) }
 
-        ensures same_names { SameNames (named self.old) (named self.new) }
-        ensures same_known { SameKnown (known self.old) (known self.new) }
-        ensures same_values { SameValues (value self.old) (value self.new) }
-        ensures same_sides { SameSides (right self.old) (right self.new) }
+        ensures same { SameMeaning (named self.old) (named self.new) (known self.old) (known self.new)
+            (value self.old) (value self.new) (right self.old) (right self.new) }
         ensures tally { tally self.new ≡ tally self.old };
 
     /// Builds the right side that the function makes of the left value, in a scope in which no node
@@ -141,10 +136,8 @@ pub trait Functions: Drop {
         ensures wants { wants self.new ≡ wants self.old }
         ensures once { calls_once self.old self.new f }
 
-        ensures same_names { SameNames (named self.old) (named self.new) }
-        ensures same_known { SameKnown (known self.old) (known self.new) }
-        ensures same_values { SameValues (value self.old) (value self.new) }
-        ensures same_sides { SameSides (right self.old) (right self.new) };
+        ensures same { SameMeaning (named self.old) (named self.new) (known self.old) (known self.new)
+            (value self.old) (value self.new) (right self.old) (right self.new) };
 
     // a known map has the types of a map
     ghost known_maps: { (s : Self) → is_sound s → HaveMapSigs (known s) };

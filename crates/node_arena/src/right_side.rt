@@ -4,9 +4,8 @@ ghost use Rattle.inc_value.specs.declared.function.FnKind.TheVariants.{Rhs};
 ghost use Rattle.inc_terms.specs.Within.{Given};
 ghost use Rattle.node_arena.specs.Arena.{IsFull};
 ghost use Rattle.node_arena.specs.Building.{building_in, Grows};
-ghost use Rattle.node_arena.specs.Meanings.{SameNames, SameKnown, SameValues};
 ghost use Rattle.node_arena.specs.Sound.{IsSound};
-ghost use Rattle.node_arena.specs.RightSide.{MayBuild, IsRoot, SameSides, one_built};
+ghost use Rattle.node_arena.specs.RightSide.{MayBuild, IsRoot, SameMeaning, one_built};
 
 use crate::{Arena, BuildFault, Builder, Functions};
 use inc_value::{FnRef, NodeId, Value};
@@ -43,10 +42,8 @@ impl Arena {
         ensures tally { F.tally functions.new ≡ one_built (self.new.given - self.old.given) (F.tally functions.old) }
         ensures calls { F.calls functions.new ≡ F.calls functions.old }
         ensures wants { F.wants functions.new ≡ F.wants functions.old }
-        ensures same_names { SameNames (F.named functions.old) (F.named functions.new) }
-        ensures same_known { SameKnown (F.known functions.old) (F.known functions.new) }
-        ensures same_values { SameValues (F.value functions.old) (F.value functions.new) }
-        ensures same_sides { SameSides (F.right functions.old) (F.right functions.new) }
+        ensures same { SameMeaning (F.named functions.old) (F.named functions.new) (F.known functions.old) (F.known functions.new)
+            (F.value functions.old) (F.value functions.new) (F.right functions.old) (F.right functions.new) }
     {
         let held = mem::replace(self, Arena::new(alloc));
         let mut builder = Builder::new(alloc, held, scope);

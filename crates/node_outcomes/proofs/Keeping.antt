@@ -1,6 +1,7 @@
 -- What calls leave of a keeper's functions.
 use Rattle.std.proofs.Common.{◌≡◌, refl, ◌∙◌}
 use Rattle.std.proofs.Math.Path.{fun_ext}
+use Rattle.node_arena.proofs.SameMeanings.{same_itself, same_on}
 use Rattle.node_arena.specs.declared.functions.Functions.{Ghosts}
 use Rattle.node_outcomes.specs.Meaning.{KeepsFunctions, meaning_of}
 
@@ -9,10 +10,7 @@ module _ {F More : Type 0} (keeper : Ghosts F More) where
   pub nothing_called : (functions : F) → keeper.is_sound functions → KeepsFunctions keeper functions functions
   nothing_called functions sound = record {
     sound = sound;
-    names = λ name. refl;
-    known = λ f. refl;
-    values = λ f xs. refl;
-    sides = λ f. refl;
+    same = same_itself (keeper.named functions) (keeper.known functions) (keeper.value functions) (keeper.right functions);
     tally = refl;
   }
 
@@ -20,14 +18,11 @@ module _ {F More : Type 0} (keeper : Ghosts F More) where
   pub functions_on : (first mid last : F) → KeepsFunctions keeper first mid → KeepsFunctions keeper mid last → KeepsFunctions keeper first last
   functions_on first mid last h k = record {
     sound = k.sound;
-    names = λ name. k.names name ∙ h.names name;
-    known = λ f. k.known f ∙ h.known f;
-    values = λ f xs. k.values f xs ∙ h.values f xs;
-    sides = λ f. k.sides f ∙ h.sides f;
+    same = same_on h.same k.same;
     tally = k.tally ∙ h.tally;
   }
 
   -- kept functions mean what they meant
   pub still_means : (old new : F) → KeepsFunctions keeper old new → meaning_of keeper new ≡ meaning_of keeper old
   still_means old new k =
-      rw (fun_ext (λ f. k.known f), fun_ext (λ f. fun_ext (λ xs. k.values f xs)), fun_ext (λ f. k.sides f)) refl
+      rw (fun_ext k.same.known, fun_ext (λ f. fun_ext (k.same.values f)), fun_ext k.same.sides) refl

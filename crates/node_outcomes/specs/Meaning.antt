@@ -3,8 +3,7 @@ use Rattle.std.specs.Prelude.{◌≡◌, Bool, List}
 use Rattle.inc_value.specs.declared.function.FnRef.{FnRef}
 use Rattle.inc_value.specs.declared.node.NodeId.{NodeId}
 use Rattle.inc_terms.specs.Term.{Functions}
-use Rattle.node_arena.specs.Meanings.{SameNames, SameKnown, SameValues}
-use Rattle.node_arena.specs.RightSide.{SameSides}
+use Rattle.node_arena.specs.RightSide.{SameMeaning}
 use Rattle.node_arena.specs.RightSideLaws.{meaning, ids_of}
 use Rattle.node_arena.specs.declared.functions.Functions.{Ghosts}
 
@@ -23,12 +22,9 @@ module _ {F More : Type 0} (keeper : Ghosts F More) where
   abbrev pub meaning_of : F → Meaning
   meaning_of s = record { functions = functions_of s; known = keeper.known s; ids = ids_of (keeper.right s) }
 
-  -- the keeper is still sound. Names stand for the functions that they stood for, the same functions are known, maps give what they gave, and right
-  -- sides are made as they were. Nothing more was built or taken
+  -- the keeper is still sound and means what it meant, and nothing more was built or taken
   pub record KeepsFunctions (old new : F) : Type 0 where
     pub sound : keeper.is_sound new
-    pub names : SameNames (keeper.named old) (keeper.named new)
-    pub known : SameKnown (keeper.known old) (keeper.known new)
-    pub values : SameValues (keeper.value old) (keeper.value new)
-    pub sides : SameSides (keeper.right old) (keeper.right new)
+    pub same : SameMeaning (keeper.named old) (keeper.named new) (keeper.known old) (keeper.known new) (keeper.value old) (keeper.value new)
+        (keeper.right old) (keeper.right new)
     pub tally : keeper.tally new ≡ keeper.tally old

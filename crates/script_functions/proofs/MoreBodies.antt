@@ -156,14 +156,11 @@ module _ (maps : FnRef → Bool) (sides : List Maker) (x : Maker) where
         → AreSound maps sides'
     one_more_sound old lawful usable = subst (AreSound maps) (sym is) (sound old lawful usable)
 
-    pub one_more_keeps : KeepsKnown (is_known maps sides) (is_known maps sides')
-    one_more_keeps = subst (λ l. KeepsKnown (is_known maps sides) (is_known maps l)) (sym is) more
-
-    pub one_more_means : (value : FnRef → List Value → Value)
-        → KeepsMeanings (is_known maps sides) value value (side_in sides) (side_in sides')
-    one_more_means value =
-        subst (λ l. KeepsMeanings (is_known maps sides) value value (side_in sides) (side_in l)) (sym is)
-        (record { values = λ f args h. refl; sides = same_side })
+    pub one_more_means : (names : List ℕ → Option FnRef) (value : FnRef → List Value → Value)
+        → KeepsMeanings names names (is_known maps sides) (is_known maps sides') value value (side_in sides) (side_in sides')
+    one_more_means names value =
+        subst (λ l. KeepsMeanings names names (is_known maps sides) (is_known maps l) value value (side_in sides) (side_in l)) (sym is)
+        (record { names = λ name. refl; known = more; values = λ f args h. refl; sides = same_side })
 
     module _ (number : ℕ) (s : Signature) (e : number ≡ length sides) (e' : s ≡ x.sig) where
       pub last_known :

@@ -16,7 +16,6 @@ use Rattle.necessity.specs.Need.{Roots, root_times, KeepsRoots}
 use Rattle.necessary_graph.specs.Part.{NecessaryPart, Needed, IsInStep}
 use Rattle.node_arena.specs.Arena.{Arena, row_at}
 use Rattle.node_arena.specs.RightSide.{RightSide}
-use Rattle.node_arena.specs.declared.functions.Functions.{Ghosts}
 use Rattle.node_outcomes.specs.Computing.{has_part}
 use Rattle.node_outcomes.specs.Meaning.{Meaning}
 use Rattle.stabilize_round.proofs.Points.{same_or_other}
@@ -32,7 +31,7 @@ use Rattle.wiring.proofs.GoingBack.{heap_needed}
 use Rattle.wiring.proofs.Leaving.{todo_kept}
 use Rattle.wiring.proofs.Scheduling.{marked_kept}
 use Rattle.stabilizer.specs.Dying.{StandsBefore}
-use Rattle.stabilizer.specs.Kept.{PartsKept, KeepsMeaning}
+use Rattle.stabilizer.specs.Kept.{PartsKept}
 use Rattle.stabilizer.specs.Rebuilding as rebuilding
 use Rattle.stabilizer.specs.Rebuilding.{BuildRefused}
 use Rattle.stabilizer.specs.Stepping as stepping
@@ -41,16 +40,6 @@ use Rattle.stabilizer.specs.declared.parts.Parts.{Parts}
 use Rattle.stabilizer.proofs.Changing.{before_stands}
 use Rattle.stabilizer.proofs.Running.{some_same}
 use Rattle.stabilizer.proofs.Waiting.{with_change, put_back}
-
--- a keeper that isn't called keeps what it means
-pub keeps_meaning : {F More : Type 0} (keeper : Ghosts F More) (s : F) → keeper.is_sound s → KeepsMeaning keeper s s
-keeps_meaning keeper s sound = record {
-  sound = sound;
-  names = λ name. refl;
-  known = λ f. refl;
-  values = λ f args. refl;
-  sides = λ f. refl;
-}
 
 -- ---- another heap
 

@@ -1,6 +1,7 @@
 -- What steps leave of a keeper's functions, which builds count.
 use Rattle.std.proofs.Common.{◌≡◌, refl, sym, ap, ◌∙◌}
 use Rattle.std.proofs.Math.Path.{fun_ext}
+use Rattle.node_arena.proofs.SameMeanings.{same_itself, same_on}
 use Rattle.node_arena.specs.Arena.{Arena, row_at}
 use Rattle.node_arena.specs.declared.functions.Functions.{Ghosts}
 use Rattle.node_outcomes.specs.Meaning.{meaning_of}
@@ -11,26 +12,20 @@ module _ {F More : Type 0} (keeper : Ghosts F More) where
   pub nothing_meant : (functions : F) → keeper.is_sound functions → KeepsMeaning keeper functions functions
   nothing_meant functions sound = record {
     sound = sound;
-    names = λ name. refl;
-    known = λ f. refl;
-    values = λ f xs. refl;
-    sides = λ f. refl;
+    same = same_itself (keeper.named functions) (keeper.known functions) (keeper.value functions) (keeper.right functions);
   }
 
   -- what was kept of functions, and is kept on, is kept
   pub meaning_on : (first mid last : F) → KeepsMeaning keeper first mid → KeepsMeaning keeper mid last → KeepsMeaning keeper first last
   meaning_on first mid last h k = record {
     sound = k.sound;
-    names = λ name. k.names name ∙ h.names name;
-    known = λ f. k.known f ∙ h.known f;
-    values = λ f xs. k.values f xs ∙ h.values f xs;
-    sides = λ f. k.sides f ∙ h.sides f;
+    same = same_on h.same k.same;
   }
 
   -- kept functions mean what they meant
   pub means_still : (old new : F) → KeepsMeaning keeper old new → meaning_of keeper new ≡ meaning_of keeper old
   means_still old new k =
-      rw (fun_ext (λ f. k.known f), fun_ext (λ f. fun_ext (λ xs. k.values f xs)), fun_ext (λ f. k.sides f)) refl
+      rw (fun_ext k.same.known, fun_ext (λ f. fun_ext (k.same.values f)), fun_ext k.same.sides) refl
 
 -- what stays flat goes on so
 pub stays_flat : (old mid new : Arena) → StaysFlat old mid → StaysFlat mid new → StaysFlat old new

@@ -49,6 +49,7 @@ use Rattle.stabilizer.specs.Weights.{IsInScope, SidesFit}
 use Rattle.stabilizer.specs.declared.parts.Parts.{Parts}
 use Rattle.stabilizer.proofs.BuiltAnew.{IsRebuilt, HasRoot, run_settled}
 use Rattle.stabilizer.proofs.Giving.{none_gives, none_few}
+use Rattle.stabilizer.proofs.MeaningKept.{nothing_meant}
 use Rattle.stabilizer.proofs.RebuildAsks.{dead_fit, dead_given, bind_stays, is_bind_of, is_known, may_build, gives_type, fit_then, built_root, no_root_built}
 use Rattle.stabilizer.proofs.RebuildCounts.{tally_adds, tally_builds, tally_rises}
 use Rattle.stabilizer.proofs.Rebuilds.{builds_anew, stops_unbuilt}
@@ -175,9 +176,6 @@ module _ {K More : Type 0} (keeper : Ghosts K More) (fs : K) where
     from = λ counts s stands. roomy_before old deaths old.work.roots same (λ p. refl) dying items counts s b stands;
   }
 
-  same_meaning : keeper.is_sound fs → KeepsMeaning keeper fs fs
-  same_meaning sound = record { sound = sound; names = λ n. refl; known = λ f. refl; values = λ f a. refl; sides = λ f. refl }
-
   -- where there was no room for the deaths all stays
   pub roomy_stays : (old : Parts) (deaths : Deaths) (same : KeepsRows old.work.deaths.scopes deaths.scopes) (dying : Vec NodeId Global)
       (items : dying.items ≡ old.dying.items) (b : NodeId) → Holds old.work.rows (change b) → old.work.todo.items ≡ [] → keeper.is_sound fs
@@ -191,7 +189,7 @@ module _ {K More : Type 0} (keeper : Ghosts K More) (fs : K) where
     round = refl;
     quiet = quiet;
     fit = fit;
-    meaning = same_meaning sound;
+    meaning = nothing_meant keeper fs sound;
   }
 
   -- a right side was built, or couldn't be
@@ -264,7 +262,7 @@ module _ {K More : Type 0} (keeper : Ghosts K More) (fs : K) where
       round = h.died.round ∙ (h.cuts.places.round ∙ h.round);
       quiet = h.died.todo ∙ (ap (λ (w : Work). w.todo.items) h.cuts.rest ∙ h.quiet);
       fit = fits_dead;
-      meaning = same_meaning h.sound;
+      meaning = nothing_meant keeper fs h.sound;
     }
 
     -- there was room for a root
@@ -317,7 +315,7 @@ module _ {K More : Type 0} (keeper : Ghosts K More) (fs : K) where
         has_built = tally_rises number (keeper.tally fs) (keeper.tally fs') w.tally
 
         calls_fit_then : AllCallFit known (ids_of right) grown.arena
-        calls_fit_then = fit_then known (keeper.known fs') right (keeper.right fs') grown.arena w.meaning.known w.meaning.sides w.fit
+        calls_fit_then = fit_then known (keeper.known fs') right (keeper.right fs') grown.arena w.meaning.same.known w.meaning.same.sides w.fit
 
         -- a right side couldn't be built
         pub stops_building : (z : Start) (s : State) → IsRoundOf M z s → Quiet s → StandsBefore first before s b → StopsThere M b grown after z s
@@ -350,7 +348,7 @@ module _ {K More : Type 0} (keeper : Ghosts K More) (fs : K) where
             is_row = row_grown h.to.row h.to.is_row;
             is_bind = h.to.is_bind;
             empty = nobody;
-            most = let size : (keeper.right fs' f).size ≡ (right f).size = ap (λ (s : RightSide). s.size) (w.meaning.sides f) in omega (arith, size, few);
+            most = let size : (keeper.right fs' f).size ≡ (right f).size = ap (λ (s : RightSide). s.size) (w.meaning.same.sides f) in omega (arith, size, few);
           }
 
           spent_few : grown.arena.given - ready.arena.given ≤ (right f).size

@@ -4,8 +4,7 @@ use Rattle.inc_value.specs.declared.node.NodeId.{NodeId}
 use Rattle.inc_terms.specs.Graph.{Graph, Row}
 use Rattle.scopes.specs.Scopes.{Scopes, StandsIn}
 use Rattle.node_arena.specs.Arena.{Arena, row_at}
-use Rattle.node_arena.specs.Meanings.{SameNames, SameKnown, SameValues}
-use Rattle.node_arena.specs.RightSide.{SameSides}
+use Rattle.node_arena.specs.RightSide.{SameMeaning}
 use Rattle.node_arena.specs.declared.functions.Functions.{Ghosts}
 use Rattle.stabilize_round.specs.Counts.{last_count}
 use Rattle.wiring.specs.Graph.{graph_at}
@@ -49,11 +48,8 @@ module _ {F More : Type 0} (keeper : Ghosts F More) where
     adds = min (keeper.tally s).adds last_count;
   }
 
-  -- the keeper is still sound. Names stand for the functions that they stood for, the same functions are known, maps give what they gave, and right
-  -- sides are made as they were
+  -- the keeper is still sound and means what it meant
   pub record KeepsMeaning (old new : F) : Type 0 where
     pub sound : keeper.is_sound new
-    pub names : SameNames (keeper.named old) (keeper.named new)
-    pub known : SameKnown (keeper.known old) (keeper.known new)
-    pub values : SameValues (keeper.value old) (keeper.value new)
-    pub sides : SameSides (keeper.right old) (keeper.right new)
+    pub same : SameMeaning (keeper.named old) (keeper.named new) (keeper.known old) (keeper.known new) (keeper.value old) (keeper.value new)
+        (keeper.right old) (keeper.right new)

@@ -4,7 +4,6 @@ ghost use Rattle.inc_value.specs.declared.node.NodeId.{NodeId};
 ghost use Rattle.inc_value.specs.declared.function.FnRef.{FnRef as AFunction};
 ghost use Rattle.inc_terms.specs.Graph.{Bind};
 ghost use Rattle.inc_terms.specs.Within.{Given};
-ghost use Rattle.node_arena.specs.Meanings.{SameNames, KeepsKnown};
 ghost use Rattle.node_arena.specs.RightSide.{AreFit, IsKeepable, Means, KeepsMeanings, one_taken};
 ghost use Rattle.node_arena.specs.Typing.{Fits};
 ghost use Rattle.graph.specs.Standing.{IsUnbroken, IsBroken, graph, root_in};
@@ -68,10 +67,9 @@ impl<F: Functions> Graph<F> {
             ↔ (IsUnbroken self.old × ((F.tally self.old.functions).taken ≡ (F.tally self.old.functions).most))) }
         ensures known { IfOk result (λ f. IsTrue (F.known self.new.functions f)) }
         ensures means { IfOk result (λ f. Means (F.value self.new.functions) (F.right self.new.functions) f (F.brings function)) }
-        ensures keeps_known { KeepsKnown (F.known self.old.functions) (F.known self.new.functions) }
-        ensures keeps_meanings { KeepsMeanings (F.known self.old.functions) (F.value self.old.functions) (F.value self.new.functions)
+        ensures keeps_meanings { KeepsMeanings (F.named self.old.functions) (F.named self.new.functions)
+            (F.known self.old.functions) (F.known self.new.functions) (F.value self.old.functions) (F.value self.new.functions)
             (F.right self.old.functions) (F.right self.new.functions) }
-        ensures same_names { SameNames (F.named self.old.functions) (F.named self.new.functions) }
         ensures keeps { IsUnbroken self.old → F.keeps self.old.functions self.new.functions }
         ensures unbroken { OnOk result (IsUnbroken self.old) }
         ensures room { OnOk result ((F.tally self.old.functions).taken < (F.tally self.old.functions).most) }

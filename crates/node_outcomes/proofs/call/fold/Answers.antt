@@ -11,7 +11,7 @@ loop-value-preserved g c =
     let value = g.F.Functions.value c.args.functions.now f in
     let given = c.in-Ok-call_with.ensures in
     record {
-      gathered = given.value ∙ inv.functions.values f _ ∙ of_two value _ _ _ _ inv.gathered c.value-item.is
+      gathered = given.value ∙ inv.functions.same.values f _ ∙ of_two value _ _ _ _ inv.gathered c.value-item.is
           ∙ sym (folded_take value c.args.initial.now c.args.values.now c.loop-value.value-index c.value-item.result c.loop-value-test.true);
       type = given.typed;
       calls = rose_on inv.calls given.calls;

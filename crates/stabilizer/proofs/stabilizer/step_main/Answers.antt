@@ -30,7 +30,7 @@ returns-in-Err-clause-kept g c =
 pub returns-in-Err-clause-functions : goal.returns-in-Err-clause-functions
 returns-in-Err-clause-functions g c =
     let k = c.compute-computed.ensures.functions in
-    record { sound = k.sound; names = k.names; known = k.known; values = k.values; sides = k.sides }
+    record { sound = k.sound; same = k.same }
 
 pub returns-in-Err-clause-refused : goal.returns-in-Err-clause-refused
 returns-in-Err-clause-refused g c =
@@ -67,4 +67,4 @@ returns-in-Ok-clause-kept g c =
 pub returns-in-Ok-clause-functions : goal.returns-in-Ok-clause-functions
 returns-in-Ok-clause-functions g c =
     let k = c.compute-computed.ensures.functions in
-    record { sound = k.sound; names = k.names; known = k.known; values = k.values; sides = k.sides }
+    record { sound = k.sound; same = k.same }

@@ -1,6 +1,6 @@
 use Rattle.std.proofs.Common.{rules, ◌≡◌, [], length}
 use Rattle.std.proofs.lemmas.Grind.{common_steps}
-use Rattle.closures.proofs.Adding.{map_sound_as, map_known_as, map_means_as, map_more_as, map_keeps_as}
+use Rattle.closures.proofs.Adding.{map_sound_as, map_known_as, map_means_as, map_keeps_as}
 use Rattle.closures.proofs.Tables.{map_push, length_of}
 use Rattle.closures.proofs.closures.Closures.add_map.Goals as goal
 
@@ -21,10 +21,6 @@ returns-clause-means g c =
     map_means_as _ [] _ _ (map_push _ _ _ _ _ c.reserve.ensures.items c.push_reserved.ensures.items)
     c.len-number.result c.sig-sig.result (length_of _ _ _ number) c.sig-sig.ensures.value _
 
-pub returns-clause-keeps_known : goal.returns-clause-keeps_known
-returns-clause-keeps_known g c =
-    map_more_as _ _ _ _ (map_push _ _ _ _ _ c.reserve.ensures.items c.push_reserved.ensures.items)
-
 pub returns-clause-keeps_meanings : goal.returns-clause-keeps_meanings
 returns-clause-keeps_meanings g c =
-    map_keeps_as _ _ _ _ (map_push _ _ _ _ _ c.reserve.ensures.items c.push_reserved.ensures.items)
+    map_keeps_as _ _ _ _ (map_push _ _ _ _ _ c.reserve.ensures.items c.push_reserved.ensures.items) _

@@ -1,6 +1,6 @@
 use Rattle.std.proofs.Common.{rules, ◌≡◌, [], length}
 use Rattle.std.proofs.lemmas.Grind.{common_steps}
-use Rattle.closures.proofs.Adding.{side_sound_as, side_known_as, side_means_as, side_more_as, side_keeps_as}
+use Rattle.closures.proofs.Adding.{side_sound_as, side_known_as, side_means_as, side_keeps_as}
 use Rattle.closures.proofs.Tables.{map_push, length_of}
 use Rattle.closures.proofs.closures.Closures.add_rhs.Goals as goal
 
@@ -21,10 +21,6 @@ returns-clause-means g c =
     side_means_as [] _ _ _ (map_push _ _ _ _ _ c.reserve.ensures.items c.push_reserved.ensures.items)
     c.len-number.result c.sig-sig.result (length_of _ _ _ number) c.sig-sig.ensures.value _
 
-pub returns-clause-keeps_known : goal.returns-clause-keeps_known
-returns-clause-keeps_known g c =
-    side_more_as _ _ _ _ (map_push _ _ _ _ _ c.reserve.ensures.items c.push_reserved.ensures.items)
-
 pub returns-clause-keeps_meanings : goal.returns-clause-keeps_meanings
 returns-clause-keeps_meanings g c =
-    side_keeps_as _ _ _ _ (map_push _ _ _ _ _ c.reserve.ensures.items c.push_reserved.ensures.items)
+    side_keeps_as _ _ _ _ (map_push _ _ _ _ _ c.reserve.ensures.items c.push_reserved.ensures.items) _

@@ -15,7 +15,7 @@ invariant_of-self g c =
     let laws : FunctionLaws M'.functions M'.known M'.ids
     = sides_are_lawful _ _ _ (g.met.F.Functions.no_reference f' m.sound) (g.met.F.Functions.sides f' m.sound) in
     let fit : SidesFit (g.F.Functions.known f') (g.F.Functions.right f') c.self.inside.parts.arena
-    = fit_more (g.F.Functions.known f) (g.F.Functions.known f') (g.F.Functions.right f) (g.F.Functions.right f') c.self.inside.parts.arena (record { keeps = m.keeps_known; same = m.keeps_meanings.sides })
+    = fit_more (g.F.Functions.known f) (g.F.Functions.known f') (g.F.Functions.right f) (g.F.Functions.right f') c.self.inside.parts.arena (record { keeps = m.keeps_meanings.known; same = m.keeps_meanings.sides })
     c.self.invariant.3 in (
       c.self.invariant.0,
       sound_more (meaning_of g.F.Functions f) M' c.self.inside.parts c.self.inside.observers.items c.self.inside.rooted c.self.inside.refused

@@ -1,7 +1,7 @@
-use Rattle.std.proofs.Common.{◌≡◌, IfOk, subst}
+use Rattle.std.proofs.Common.{◌≡◌, IfOk, refl, subst}
 use Rattle.script_functions.specs.KeepingLaws.{map_known}
 use Rattle.script_functions.proofs.MoreBodies.{same_maps, same_maps_sound}
-use Rattle.script_functions.specs.UnnamedLaws.{same_given}
+use Rattle.script_functions.specs.UnnamedLaws.{same_given, same_seen}
 use Rattle.script_functions.proofs.functions.ScriptFnsFunctions.apply.Goals as goal
 
 pub apply-requires-clause-known : goal.apply-requires-clause-known
@@ -20,5 +20,10 @@ returns-clause-value g c =
 pub returns-clause-sound : goal.returns-clause-sound
 returns-clause-sound g c = same_maps_sound _ _ c.apply.ensures.same_known _ c.requires.sound
 
-pub returns-clause-same_known : goal.returns-clause-same_known
-returns-clause-same_known g c = same_maps _ _ c.apply.ensures.same_known _
+pub returns-clause-same : goal.returns-clause-same
+returns-clause-same g c = record {
+  names = c.apply.ensures.same_names;
+  known = same_maps _ _ c.apply.ensures.same_known _;
+  values = same_seen _ _ c.apply.ensures.same_values;
+  sides = λ f. refl;
+}

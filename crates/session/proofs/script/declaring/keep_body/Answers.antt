@@ -24,4 +24,4 @@ pub returns-in-Ok-clause-functions : goal.returns-in-Ok-clause-functions
 returns-in-Ok-clause-functions g c = let keeps = c.more.ensures.keeps c.requires.unbroken in record { library = keeps.0; builds = keeps.1; bodies = keeps.2 }
 
 pub returns-in-Ok-clause-known : goal.returns-in-Ok-clause-known
-returns-in-Ok-clause-known g c = record { known = c.more.ensures.keeps_known; sides = c.more.ensures.keeps_meanings.sides }
+returns-in-Ok-clause-known g c = record { known = c.more.ensures.keeps_meanings.known; sides = c.more.ensures.keeps_meanings.sides }

@@ -62,7 +62,7 @@ returns-in-Ok-adopt_since-clause-fit g c =
     (fit_built (g.F.Functions.known c.args.functions.now) (g.F.Functions.known c.build-built.new.functions)
     (g.F.Functions.right c.args.functions.now) (g.F.Functions.right c.build-built.new.functions) c.args.bind c.args.self.now.arena
     c.build-built.new.self c.args.recipe.now.function (g.met.F.Functions.sides c.args.functions.now c.requires.sound) c.requires.known
-    c.build-built.ensures.same_known c.build-built.ensures.same_sides c.requires.ready.fit c.args.self.now.work c.requires.kept.work
+    c.build-built.ensures.same.known c.build-built.ensures.same.sides c.requires.ready.fit c.args.self.now.work c.requires.kept.work
     c.requires.live c.requires.ready.empty c.requires.own c.build-built.ensures.grows c.requires.fit)
 
 pub returns-in-Err-adopt_since-clause-kept : goal.returns-in-Err-adopt_since-clause-kept
@@ -84,7 +84,7 @@ returns-in-Err-adopt_since-clause-fit g c =
     (fit_built (g.F.Functions.known c.args.functions.now) (g.F.Functions.known c.build-built.new.functions)
     (g.F.Functions.right c.args.functions.now) (g.F.Functions.right c.build-built.new.functions) c.args.bind c.args.self.now.arena
     c.build-built.new.self c.args.recipe.now.function (g.met.F.Functions.sides c.args.functions.now c.requires.sound) c.requires.known
-    c.build-built.ensures.same_known c.build-built.ensures.same_sides c.requires.ready.fit c.args.self.now.work c.requires.kept.work
+    c.build-built.ensures.same.known c.build-built.ensures.same.sides c.requires.ready.fit c.args.self.now.work c.requires.kept.work
     c.requires.live c.requires.ready.empty c.requires.own c.build-built.ensures.grows c.requires.fit)
 
 pub returns-in-Err-clause-kept : goal.returns-in-Err-clause-kept
@@ -112,7 +112,7 @@ returns-in-Err-clause-fit g c =
     (fit_built (g.F.Functions.known c.args.functions.now) (g.F.Functions.known c.build-built.new.functions)
     (g.F.Functions.right c.args.functions.now) (g.F.Functions.right c.build-built.new.functions) c.args.bind c.args.self.now.arena
     c.build-built.new.self c.args.recipe.now.function (g.met.F.Functions.sides c.args.functions.now c.requires.sound) c.requires.known
-    c.build-built.ensures.same_known c.build-built.ensures.same_sides c.requires.ready.fit c.args.self.now.work c.requires.kept.work
+    c.build-built.ensures.same.known c.build-built.ensures.same.sides c.requires.ready.fit c.args.self.now.work c.requires.kept.work
     c.requires.live c.requires.ready.empty c.requires.own c.build-built.ensures.grows c.requires.fit)
 
 pub returns-in-Err-adopt_since-clause-unbuilt : goal.returns-in-Err-adopt_since-clause-unbuilt

@@ -162,7 +162,7 @@ returns-in-Ok-clause-fit g c =
     subst (λ (a : Arena). SidesFit (keeper.known c.step_main.new.functions) (keeper.right c.step_main.new.functions) a)
     (sym (arena_kept c.args.parts.now c.step_main.new.parts c.step_main.ensures.rest))
     (same_fit (keeper.known c.args.functions.now) (keeper.known c.step_main.new.functions) (keeper.right c.args.functions.now)
-    (keeper.right c.step_main.new.functions) c.args.parts.now.arena k.known k.sides c.requires.fit)
+    (keeper.right c.step_main.new.functions) c.args.parts.now.arena k.same.known k.same.sides c.requires.fit)
 
 pub returns-in-Err-clause-fit : goal.returns-in-Err-clause-fit
 returns-in-Err-clause-fit g c =
@@ -171,7 +171,7 @@ returns-in-Err-clause-fit g c =
     subst (λ (a : Arena). SidesFit (keeper.known c.step_main.new.functions) (keeper.right c.step_main.new.functions) a)
     (sym (arena_kept c.args.parts.now c.step_main.new.parts c.step_main.ensures.rest))
     (same_fit (keeper.known c.args.functions.now) (keeper.known c.step_main.new.functions) (keeper.right c.args.functions.now)
-    (keeper.right c.step_main.new.functions) c.args.parts.now.arena k.known k.sides c.requires.fit)
+    (keeper.right c.step_main.new.functions) c.args.parts.now.arena k.same.known k.same.sides c.requires.fit)
 
 pub returns-in-Err-clause-roots : goal.returns-in-Err-clause-roots
 returns-in-Err-clause-roots g c = same_roots c.args.parts.now.work.graph c.pop_least.new.self c.insert.new.self c.pop_least.ensures.rest
