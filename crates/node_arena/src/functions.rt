@@ -62,8 +62,9 @@ pub trait Functions: Drop {
     ghost keeps: { Self → Self → Type 0 } = { λ old new. Unit {0} };
 
     /// Keeps one more function, and gives its name. Functions that were known stay so, and mean what
-    /// they meant. It is refused as one too many exactly where as many were taken as can be, and else
-    /// where there is no memory. A refused call hands the function back, and makes none known.
+    /// they meant; what else stays, each keeper tells by itself. It is refused as one too many exactly
+    /// where as many were taken as can be, and else where there is no memory. A refused call hands the
+    /// function back, and makes none known.
     fn more(&mut self, alloc: Global, m: Self::More) -> Result<FnRef, (MoreFault, Self::More)>
         requires sound { is_sound self.old }
         requires keepable { IsKeepable (known self.old) (right self.old)

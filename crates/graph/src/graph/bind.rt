@@ -57,7 +57,7 @@ impl<F: Functions> Graph<F> {
     }
 
     /// Keeps one more function beside the others, and gives its name. Functions that were known stay so and mean what they
-    /// meant. A refused call hands the function back, and changes nothing.
+    /// meant; what else stays, the functions tell by themselves. A refused call hands the function back, and changes nothing.
     pub fn more(&mut self, function: F::More) -> Result<FnRef, (GraphFault, F::More)>
         requires keepable { IsKeepable (F.known self.old.functions) (F.right self.old.functions)
             (F.brings function).kind (F.brings function).sig (F.brings function).side }
