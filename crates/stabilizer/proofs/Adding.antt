@@ -49,6 +49,10 @@ pub other_node : (arena : Arena) (work : Work) (id : NodeId) → IsKept arena wo
 other_node arena work id kept gen p h is =
     let g = kept.given p h in let e = ap (λ (x : NodeId). x.gen_) is in absurd (omega (arith, g, e, gen))
 
+-- who was given is another than a node that is given next
+pub given_other : (given : ℕ) (id n : NodeId) → id.gen_ ≡ given → Given given n → n ≢ id
+given_other given id n next g is = let e = ap (λ (x : NodeId). x.gen_) is in absurd (omega (arith, g, e, next))
+
 none_where : {A : Type 0} (x : Option A) → (is_some x ≡ true → ⊥) → x ≡ None
 none_where None h = refl
 none_where (Some a) h = absurd (h refl)

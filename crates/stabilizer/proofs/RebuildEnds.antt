@@ -1,6 +1,6 @@
 -- How building a bind anew ends: what the calls left, put together.
 use Rattle.std.proofs.Common.{◌≡◌, inl, inr, ℕ, ◌+◌, ◌-◌, ◌<◌, ◌≤◌, Bool, true, List, [], Option, None, Some, refl, sym, ap, subst, ◌∙◌, arith, Vec, Global}
-use Rattle.std.specs.Prelude.{is_some, option_map, Result, Ok, Err, OnErr}
+use Rattle.std.specs.Prelude.{is_some, option_map, Result, Ok, Err, IfErr, OnErr}
 use Rattle.std.proofs.lemmas.Bool.{cases_lt}
 use Rattle.std.proofs.lemmas.Option.{none-some, same_Some}
 use Rattle.inc_value.specs.Choice.{Reaches}
@@ -16,10 +16,10 @@ use Rattle.inc_terms.specs.Graph.{Row}
 use Rattle.inc_terms.specs.Within.{Given, KnownAs}
 use Rattle.point_map.specs.Rows.{Rows, at, Holds, Changes, KeepsRows}
 use Rattle.necessity.specs.Need.{Roots, KeepsRoots}
-use Rattle.node_arena.specs.Arena.{Arena, row_at}
+use Rattle.node_arena.specs.Arena.{Arena, row_at, IsLive}
 use Rattle.node_arena.specs.Building.{building_in}
 use Rattle.node_arena.specs.Graph.{AllCallFit}
-use Rattle.node_arena.specs.RightSide.{RightSide, MayBuild, IsRoot, one_built}
+use Rattle.node_arena.specs.RightSide.{RightSide, MayBuild, IsRoot}
 use Rattle.node_arena.specs.RightSideLaws.{ids_of}
 use Rattle.node_arena.specs.Typing.{Fits}
 use Rattle.node_arena.specs.declared.functions.Functions.{Ghosts}
@@ -41,10 +41,11 @@ use Rattle.wiring.specs.declared.refused.Refused.{Refused}
 use Rattle.wiring.specs.declared.refused.Refused.TheVariants.{Height, Cycle, Full, Memory}
 use Rattle.wiring.specs.declared.work.Work.{Work}
 use Rattle.stabilizer.specs.Building.{HasGrown, StopsBuilding}
-use Rattle.stabilizer.specs.Dying.{IsBindOf, IsCutOff, HasDied, StandsBefore}
+use Rattle.stabilizer.specs.Dying.{IsBindNode, IsBindOf, IsCutOff, HasDied, StandsBefore}
 use Rattle.stabilizer.specs.Giving.{GivesLive, GivesFew, LeavesRoom, HasBuilt, StopsFull}
 use Rattle.stabilizer.specs.Kept.{PartsKept, KeepsMeaning, counts_by}
-use Rattle.stabilizer.specs.Rebuilding.{IsToBuild, BuildsAnew, BuildRefused, as_it_was, IsSettledOn, IsToSettle, RebuildStays}
+use Rattle.stabilizer.specs.Rebuilding.{IsToBuild, BuildsAnew, BuildRefused, as_it_was, unbuilt, IsSettledOn, IsToSettle, RebuildStays}
+use Rattle.stabilizer.specs.Rooted.{WasBuilt, GetsRoot, GetsNoRoot, no_room, stopped, with_roots}
 use Rattle.stabilizer.specs.Weights.{IsInScope, SidesFit}
 use Rattle.stabilizer.specs.declared.parts.Parts.{Parts}
 use Rattle.stabilizer.proofs.BuiltAnew.{IsRebuilt, HasRoot, run_settled}
@@ -100,6 +101,11 @@ no_root_put old n none = record { changed = none; others = λ p ne. refl }
 pub on_err : {A E P : Type 0} (r : Result A E) → P → OnErr r P
 on_err (Ok x) h = tt
 on_err (Err e) h = h
+
+-- so it is of a refusal of which it follows
+pub if_on_err : {T E P : Type 0} {Q : E → Type 0} (r : Result T E) → ((e : E) → Q e → P) → IfErr r Q → OnErr r P
+if_on_err (Ok x) f h = tt
+if_on_err (Err e) f h = f e h
 
 -- parts in which the deaths have room were built as they were
 pub left_roomy : (M : Meaning) (right : FnRef → RightSide) (old : Parts) (deaths : Deaths) (roots : Rows NodeId) (same_deaths : KeepsRows old.work.deaths.scopes deaths.scopes)
@@ -192,15 +198,6 @@ module _ {K More : Type 0} (keeper : Ghosts K More) (fs : K) where
     meaning = nothing_meant keeper fs sound;
   }
 
-  -- a right side was built, or couldn't be
-  pub record WasBuilt (ready grown : Parts) (b : NodeId) (fs' : K) : Type 0 where
-    pub grew : HasGrown ready grown b
-    pub kept : PartsKept grown
-    pub meaning : KeepsMeaning keeper fs fs'
-    pub fit : SidesFit (keeper.known fs') (keeper.right fs') grown.arena
-    pub calls : keeper.calls fs' ≡ keeper.calls fs
-    pub tally : keeper.tally fs' ≡ one_built (grown.arena.given - ready.arena.given) (keeper.tally fs)
-
   module _ {first old cut dead : Parts} {b : NodeId} {f : FnRef} {captures : List NodeId} {given : Outcome}
       (h : AreCut first old cut dead b f captures given) where
     own_cut : Holds cut.work.rows (change b)
@@ -237,6 +234,12 @@ module _ {K More : Type 0} (keeper : Ghosts K More) (fs : K) where
     -- the bind's function is known, and a right side can be built for a value
     pub asks_known : KnownAs known Rhs f
     asks_known = is_known old cut dead b h.cuts.arena h.died own_cut h.kept.work f captures given h.to known right h.fit
+
+    pub asks_bind : IsBindNode dead.arena b
+    asks_bind = (h.to.row, h.to.left, f, captures, same_row ∙ h.to.is_row, h.to.is_bind)
+
+    pub asks_live : IsLive dead.arena b
+    asks_live = ap is_some (same_row ∙ h.to.is_row)
 
     pub asks_own : IsBindOf dead.arena b f
     asks_own = is_bind_of old cut dead b h.cuts.arena h.died own_cut h.kept.work f captures given h.to
@@ -296,7 +299,7 @@ module _ {K More : Type 0} (keeper : Ghosts K More) (fs : K) where
           ready_kept.work calls_fit before refl (no_adds dead.arena.given before.adds) (no_builds given before.builds) z s begun quiet
           (h.from before s stands)
 
-      module _ (left : Value) (is : given ≡ Val left) {grown : Parts} {fs' : K} (w : WasBuilt ready grown b fs') where
+      module _ (left : Value) (is : given ≡ Val left) {grown : Parts} {fs' : K} (w : WasBuilt keeper fs fs' ready grown b) where
         abbrev after : Counts
         after = counts_by keeper fs'
 
@@ -444,6 +447,36 @@ module _ {K More : Type 0} (keeper : Ghosts K More) (fs : K) where
             fit = w.fit;
             meaning = w.meaning;
           }
+
+    -- by how a root was got, or wasn't
+    module _ (left : Value) (is : given ≡ Val left) {fs' : K} {new : Parts} where
+      pub root_settles : GetsRoot keeper fs fs' dead new b f captures left → IsToSettle keeper fs fs' first new b given
+      root_settles r = subst (λ (x : Parts). IsToSettle keeper fs fs' first x b given) (sym r.rest)
+          (settles_root r.roomy r.room left is r.built r.root r.is_root r.roots r.put r.gives)
+
+      pub stays_rooted : GetsRoot keeper fs fs' dead new b f captures left → RebuildStays keeper fs fs' first new b
+      stays_rooted r = subst (λ (x : Parts). RebuildStays keeper fs fs' first x b) (sym r.rest)
+          (root_stays r.roomy r.room left is r.built r.root r.is_root r.roots r.put)
+
+      pub kept_rootless : (e : Refused) → GetsNoRoot keeper fs fs' dead new b f e → PartsKept new
+      kept_rootless e (no_room {roomy} room rest same memory) = subst PartsKept (sym rest) (roots_roomy dead roomy room h.lasts)
+      kept_rootless e (stopped room built none stops few) = built.kept
+
+      pub stays_rootless : (e : Refused) → GetsNoRoot keeper fs fs' dead new b f e → RebuildStays keeper fs fs' first new b
+      stays_rootless e (no_room {roomy} room rest same memory) = subst (λ (x : Parts). RebuildStays keeper fs fs' first x b) (sym rest)
+          (subst (λ (k : K). RebuildStays keeper fs k first (with_roots dead roomy) b) (sym same) (ready_stays roomy room))
+      stays_rootless e (stopped {roomy} room built none stops few) = grown_stays roomy room left is built
+
+      pub rootless_refused : (e : Refused) → GetsNoRoot keeper fs fs' dead new b f e
+          → BuildRefused M (keeper.right fs') first new b before (counts_by keeper fs') e
+      rootless_refused e (no_room {roomy} room rest same memory) =
+          subst (λ (x : Parts). BuildRefused M (keeper.right fs') first x b before (counts_by keeper fs') e) (sym rest)
+          (subst (λ (k : K). BuildRefused M (keeper.right k) first (with_roots dead roomy) b before (counts_by keeper k) e) (sym same)
+          (subst (λ (x : Refused). BuildRefused M right first (with_roots dead roomy) b before before x) (sym memory)
+          (unbuilt {count = dead.arena.given} (stops_roomless roomy room) refl given_first tt (dead_few right) tt)))
+      rootless_refused e (stopped {roomy} room built none stops few) =
+          unbuilt {count = dead.arena.given} (stops_building roomy room left is built) built.calls given_first stops
+          (spends_few roomy room left is built none few) (spends_full roomy room left is built none few e stops)
 
     -- there is no right side of Invalid
     module _ (is : given ≡ Invalid) where

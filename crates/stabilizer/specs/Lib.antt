@@ -8,3 +8,5 @@ pub mod Round
 pub mod Between
 pub mod Weights
 pub mod Giving
+pub mod Adding
+pub mod Rooted

@@ -17,9 +17,10 @@ ghost use Rattle.necessary_graph.specs.Part.{web, Needed};
 ghost use Rattle.necessary_graph.specs.Sweep.{IsUnrooted};
 ghost use Rattle.node_arena.specs.Arena.{row_at, live, IsLive, Changes, NamesGiven, IsFull, IsVariable, IsSet};
 ghost use Rattle.node_arena.specs.Graph.{CallsFit};
-ghost use Rattle.node_arena.specs.Typing.{Makes, FitsNode};
+ghost use Rattle.node_arena.specs.Typing.{Makes, FitsNode, IsAddable};
 ghost use Rattle.node_outcomes.specs.Meaning.{Meaning};
 ghost use Rattle.node_outcomes.specs.Row.{IsRewritten, outcome_in, with_cutoff};
+ghost use Rattle.stabilizer.specs.Adding.{HasNode, HasNoMemory};
 ghost use Rattle.stabilizer.specs.Between.{KeepsWork};
 ghost use Rattle.wiring.specs.Graph.{rowless};
 ghost use Rattle.stabilizer.specs.Kept.{PartsKept};
@@ -142,12 +143,27 @@ impl Parts {
             return Err(fault);
         }
         let id = self.arena.next_id();
+        match self.place(id, def, ty) {
+            Ok(()) => Ok(id),
+            Err(AllocError) => Err(AddFault::Memory),
+        }
+    }
+
+    /// Adds a node that can be added, outside any scope, under the id that the nodes give next. Without memory all nodes
+    /// stay, and all that is kept of them.
+    fn place(&mut self, id: NodeId, def: Def, ty: Ty) -> Result<(), AllocError>
+        requires kept { PartsKept self.old }
+        requires fits { IsAddable self.old.arena (def_of def) ty }
+        requires next { id.gen_ ≡ self.old.arena.given }
+        ensures placed { OnOk result (HasNode self.old self.new id (record { def = def_of def; ty = ty; scope = None })) }
+        ensures left { OnErr result (HasNoMemory self.old self.new) }
+    {
         let added = self.work.add_node(&self.arena, id, &def, None);
         match added {
             Ok(()) => {}
             Err(AllocError) => {
                 drop(def);
-                return Err(AddFault::Memory);
+                return Err(AllocError);
             }
         }
         let row = Row {
@@ -156,11 +172,11 @@ impl Parts {
             scope: None,
         };
         match self.arena.insert(id, row) {
-            Ok(()) => Ok(id),
+            Ok(()) => Ok(()),
             Err(AllocError) => {
                 self.work.drop_node(id);
                 self.work.forget_since(self.arena.given());
-                Err(AddFault::Memory)
+                Err(AllocError)
             }
         }
     }

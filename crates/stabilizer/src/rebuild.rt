@@ -27,6 +27,7 @@ ghost use Rattle.stabilizer.specs.Building.{HasGrown, IsUnbuilt, StopsBuilding};
 ghost use Rattle.stabilizer.specs.Building.{AdoptsBefore, NoneSince, MayAdopt, GetsPoints, KeepsRest};
 ghost use Rattle.stabilizer.specs.Building.{MayDisown, MayLeave, HaveLeft, HasDisowned, DropsSince};
 ghost use Rattle.stabilizer.specs.Rebuilding.{IsToBuild, BuildsAnew, BuildRefused, IsToSettle, RebuildStays};
+ghost use Rattle.stabilizer.specs.Rooted.{GetsRoot, GetsNoRoot};
 ghost use Rattle.stabilizer.specs.Giving.{GivesLive};
 ghost use Rattle.stabilizer.specs.Weights.{SidesFit};
 
@@ -34,6 +35,7 @@ use crate::parts::Parts;
 use inc_terms::Nodes;
 use inc_value::{FnRef, NodeId, Outcome, Point, Value};
 use node_arena::{Arena, BuildFault, Functions};
+use node_lists::Deaths;
 use node_outcomes::{change_point, main_point};
 use std::alloc::{AllocError, Global};
 use wiring::Refused;
@@ -129,18 +131,13 @@ impl Parts {
         ensures kept { OnErr result (PartsKept self.new) }
         ensures stays { RebuildStays F.Functions functions.old functions.new self.old self.new node }
     {
-        let most = self.scopes.len();
-        self.dying.reserve(most)?;
-        self.work.deaths.reserve(most)?;
+        make_room(&mut self.dying, &mut self.work.deaths, self.scopes.len())?;
         self.cut_off(node);
         self.let_die(node);
         let Outcome::Val(left) = given else {
             return Ok(());
         };
-        self.work.roots.reserve(1)?;
-        let root = self.build(functions, node, recipe, left)?;
-        self.work.roots.insert(change_point(node), root);
-        Ok(())
+        self.build_root(functions, node, recipe, left)
     }
 
     /// The main of a bind loses its right side, and the nodes of the bind's scope, and of scopes within it, all links but
@@ -269,6 +266,35 @@ impl Parts {
         }
     }
 
+    /// Builds the right side of a left value, and keeps its root. A refused call leaves no node of it, and no root.
+    fn build_root<F: Functions>(
+        &mut self,
+        functions: &mut F,
+        bind: NodeId,
+        recipe: &Recipe,
+        left: &Value,
+    ) -> Result<(), Refused>
+        requires kept { PartsKept self.old }
+        requires live { IsLive self.old.arena bind }
+        requires bind { IsBindNode self.old.arena bind }
+        requires own { IsBindOf self.old.arena bind recipe.now.function }
+        requires sound { F.is_sound functions.old }
+        requires known { KnownAs (F.known functions.old) Rhs recipe.now.function }
+        requires ready { MayBuild (building_in bind self.old.arena) recipe.now.function.sig
+            (F.right functions.old recipe.now.function) left.now recipe.now.captures }
+        requires fit { SidesFit (F.known functions.old) (F.right functions.old) self.old.arena }
+        requires rootless { at self.old.work.roots (change bind) ≡ None }
+        ensures root { OnOk result (GetsRoot F.Functions functions.old functions.new self.old self.new bind
+            recipe.now.function recipe.now.captures left.now) }
+        ensures refused { IfErr result (GetsNoRoot F.Functions functions.old functions.new self.old self.new bind
+            recipe.now.function) }
+    {
+        self.work.roots.reserve(1)?;
+        let root = self.build(functions, bind, recipe, left)?;
+        self.work.roots.insert(change_point(bind), root);
+        Ok(())
+    }
+
     /// Builds the right side of a left value, and makes the points of its nodes. A refused call leaves no node of it.
     fn build<F: Functions>(
         &mut self,
@@ -390,6 +416,17 @@ impl Parts {
             self.work.drop_node(node);
         }
     }
+}
+
+/// Makes room for so many deaths.
+fn make_room(dying: &mut Vec<NodeId>, deaths: &mut Deaths, most: usize) -> Result<(), AllocError>
+    ensures dying { dying.new.items ≡ dying.old.items }
+    ensures deaths { KeepsRows deaths.old.scopes deaths.new.scopes }
+    ensures room { OnOk result (most ≤ vec_capacity dying.new) }
+    ensures spare { OnOk result (most ≤ deaths.new.spare) }
+{
+    dying.reserve(most)?;
+    deaths.reserve(most)
 }
 
 /// Drops the nodes whose ids were given since the count.

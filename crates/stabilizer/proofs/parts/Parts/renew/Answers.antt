@@ -1,230 +1,128 @@
-use Rattle.std.proofs.Common.{Some, refl, subst}
-use Rattle.point_map.specs.Rows.{Changes}
+use Rattle.std.proofs.Common.{refl}
+use Rattle.std.proofs.lemmas.Result.{on_ok_weaker, IfErr-weaker}
 use Rattle.node_outcomes.specs.Meaning.{meaning_of}
 use Rattle.wiring.specs.declared.refused.Refused.TheVariants.{Memory}
 use Rattle.wiring.proofs.Raising.{if_refusal}
 use Rattle.stabilizer.specs.Kept.{counts_by}
-use Rattle.stabilizer.specs.Rebuilding.{BuildRefused, unbuilt}
+use Rattle.stabilizer.specs.Rebuilding.{BuildRefused}
+use Rattle.stabilizer.specs.Rooted.{GetsNoRoot}
+use Rattle.stabilizer.proofs.Again.{by_result}
 use Rattle.stabilizer.proofs.RebuildAsks.{stands_but}
-use Rattle.stabilizer.proofs.RebuildEnds.{on_err, left_roomy, roomy_stays, are_cut, WasBuilt, fits_dead, given_first, dead_few, spends_few, spends_full}
-use Rattle.stabilizer.proofs.RebuildEnds.{dead_stays, ready_stays, grown_stays, root_stays}
-use Rattle.stabilizer.proofs.RebuildEnds.{asks_known, asks_own, asks_ready, ready, stops_roomless, stops_building, settles_root, settles_none}
-use Rattle.stabilizer.proofs.RebuiltKept.{roomy_kept, roots_roomy}
+use Rattle.stabilizer.proofs.RebuildEnds.{on_err, if_on_err, left_roomy, roomy_stays, AreCut, are_cut, fits_dead, asks_live, asks_bind, asks_known, asks_own, asks_ready}
+use Rattle.stabilizer.proofs.RebuildEnds.{dead_stays, settles_none, root_settles, stays_rooted, kept_rootless, stays_rootless, rootless_refused}
+use Rattle.stabilizer.proofs.RebuiltKept.{roomy, roomy_kept}
+use Rattle.stabilizer.proofs.parts.Parts.renew.Given.{Over}
+use Rattle.stabilizer.proofs.parts.Parts.renew.Goals.{After-let_die}
 use Rattle.stabilizer.proofs.parts.Parts.renew.Goals as goal
 
-pub returns-in_err-reserve-clause-refused : goal.returns-in_err-reserve-clause-refused
-returns-in_err-reserve-clause-refused g c =
+-- ---- there was no memory for the deaths
+
+pub returns-in_err-make_room-clause-refused : goal.returns-in_err-make_room-clause-refused
+returns-in_err-make_room-clause-refused g c =
     let old = c.args.self.now in
     let counts = counts_by g.F.Functions c.args.functions.now in
     let M = meaning_of g.F.Functions c.args.functions.now in
     let right = g.F.Functions.right c.args.functions.now in
     if_refusal (BuildRefused M right old _ c.args.node counts counts) Memory c.from_residual.result c.from_residual.ensures.1
-    (left_roomy M right old old.work.deaths old.work.roots (λ p. refl) (λ p. refl) c.reserve.new.self c.reserve.ensures.items c.args.node counts)
+    (left_roomy M right old c.make_room.new.deaths old.work.roots c.make_room.ensures.deaths (λ p. refl) c.make_room.new.dying
+    c.make_room.ensures.dying c.args.node counts)
 
-pub returns-in_err-reserve-2-clause-refused : goal.returns-in_err-reserve-2-clause-refused
-returns-in_err-reserve-2-clause-refused g c =
+pub returns-in_err-make_room-clause-kept : goal.returns-in_err-make_room-clause-kept
+returns-in_err-make_room-clause-kept g c =
     let old = c.args.self.now in
-    let counts = counts_by g.F.Functions c.args.functions.now in
-    let M = meaning_of g.F.Functions c.args.functions.now in
-    let right = g.F.Functions.right c.args.functions.now in
-    if_refusal (BuildRefused M right old _ c.args.node counts counts) Memory c.from_residual-in_err-reserve-2.result
-    c.from_residual-in_err-reserve-2.ensures.1
-    (left_roomy M right old c.reserve-2.new.self old.work.roots c.reserve-2.ensures.scopes (λ p. refl) c.reserve.new.self c.reserve.ensures.items
-    c.args.node counts)
+    on_err c.from_residual.result (roomy_kept old c.make_room.new.deaths old.work.roots c.make_room.ensures.deaths (λ p. refl)
+    c.make_room.new.dying c.make_room.ensures.dying c.requires.kept)
 
-pub returns-in_err-reserve-2-clause-kept : goal.returns-in_err-reserve-2-clause-kept
-returns-in_err-reserve-2-clause-kept g c =
-    let old = c.args.self.now in
-    on_err c.from_residual-in_err-reserve-2.result (roomy_kept old c.reserve-2.new.self old.work.roots c.reserve-2.ensures.scopes (λ p. refl)
-    c.reserve.new.self c.reserve.ensures.items c.requires.kept)
+pub returns-in_err-make_room-clause-stays : goal.returns-in_err-make_room-clause-stays
+returns-in_err-make_room-clause-stays g c =
+    roomy_stays g.F.Functions c.args.functions.now c.args.self.now c.make_room.new.deaths c.make_room.ensures.deaths c.make_room.new.dying
+    c.make_room.ensures.dying c.args.node c.requires.row c.requires.quiet c.requires.sound c.requires.fit
+
+-- ---- all in the scope dies
 
 pub cut_off-requires-clause-kept : goal.cut_off-requires-clause-kept
 cut_off-requires-clause-kept g c =
     let old = c.args.self.now in
-    roomy_kept old c.reserve-2.new.self old.work.roots c.reserve-2.ensures.scopes (λ p. refl) c.reserve.new.self c.reserve.ensures.items
+    roomy_kept old c.make_room.new.deaths old.work.roots c.make_room.ensures.deaths (λ p. refl) c.make_room.new.dying c.make_room.ensures.dying
     c.requires.kept
 
 pub let_die-requires-clause-scopes : goal.let_die-requires-clause-scopes
 let_die-requires-clause-scopes g c =
     stands_but _ c.cut_off.new.self c.args.node c.requires.kept.scopes c.cut_off.ensures.scopes c.cut_off.ensures.cut.arena
 
-pub returns-in_err-reserve-clause-stays : goal.returns-in_err-reserve-clause-stays
-returns-in_err-reserve-clause-stays g c =
-    let old = c.args.self.now in
-    roomy_stays g.F.Functions c.args.functions.now old old.work.deaths (λ p. refl) c.reserve.new.self c.reserve.ensures.items c.args.node
-    c.requires.row c.requires.quiet c.requires.sound c.requires.fit
+died : (g : Over) (c : After-let_die g) → AreCut g.F.Functions c.args.functions.now c.args.self.now
+    (roomy c.args.self.now c.make_room.new.deaths c.args.self.now.work.roots c.make_room.ensures.deaths (λ p. refl) c.make_room.new.dying
+    c.make_room.ensures.dying)
+    c.cut_off.new.self c.let_die.new.self c.args.node c.args.recipe.now.function c.args.recipe.now.captures c.args.given.now
+died g c =
+    are_cut g.F.Functions c.args.functions.now c.args.self.now c.make_room.new.deaths c.make_room.ensures.deaths c.make_room.new.dying
+    c.make_room.ensures.dying c.requires.kept c.requires.to_build c.requires.row c.requires.quiet c.requires.sound c.requires.fit
+    c.cut_off.ensures.cut c.let_die.ensures.died c.let_die.ensures.kept
 
-pub returns-in_err-reserve-2-clause-stays : goal.returns-in_err-reserve-2-clause-stays
-returns-in_err-reserve-2-clause-stays g c =
-    roomy_stays g.F.Functions c.args.functions.now c.args.self.now c.reserve-2.new.self c.reserve-2.ensures.scopes c.reserve.new.self
-    c.reserve.ensures.items c.args.node c.requires.row c.requires.quiet c.requires.sound c.requires.fit
+-- ---- there is no right side
 
 pub returns-in_default-clause-ready : goal.returns-in_default-clause-ready
 returns-in_default-clause-ready g c =
-    let K = g.F.Functions in
-    let fs = c.args.functions.now in
-    let h = are_cut K fs c.args.self.now c.reserve-2.new.self c.reserve-2.ensures.scopes c.reserve.new.self c.reserve.ensures.items
-    c.requires.kept c.requires.to_build c.requires.row c.requires.quiet c.requires.sound c.requires.fit c.cut_off.ensures.cut
-    c.let_die.ensures.died c.let_die.ensures.kept in
-    settles_none K fs h c.in_default.is
+    settles_none g.F.Functions c.args.functions.now (died g (goal.at.returns-in_default-clause-ready g c).After-let_die) c.in_default.is
 
 pub returns-in_default-clause-stays : goal.returns-in_default-clause-stays
 returns-in_default-clause-stays g c =
-    let K = g.F.Functions in
-    let fs = c.args.functions.now in
-    let h = are_cut K fs c.args.self.now c.reserve-2.new.self c.reserve-2.ensures.scopes c.reserve.new.self c.reserve.ensures.items
-    c.requires.kept c.requires.to_build c.requires.row c.requires.quiet c.requires.sound c.requires.fit c.cut_off.ensures.cut
-    c.let_die.ensures.died c.let_die.ensures.kept in
-    dead_stays K fs h
+    dead_stays g.F.Functions c.args.functions.now (died g (goal.at.returns-in_default-clause-stays g c).After-let_die)
 
-pub returns-in_err-reserve-3-clause-refused : goal.returns-in_err-reserve-3-clause-refused
-returns-in_err-reserve-3-clause-refused g c =
-    let K = g.F.Functions in
-    let fs = c.args.functions.now in
-    let h = are_cut K fs c.args.self.now c.reserve-2.new.self c.reserve-2.ensures.scopes c.reserve.new.self c.reserve.ensures.items
-    c.requires.kept c.requires.to_build c.requires.row c.requires.quiet c.requires.sound c.requires.fit c.cut_off.ensures.cut
-    c.let_die.ensures.died c.let_die.ensures.kept in
-    let counts = counts_by K fs in
-    if_refusal (BuildRefused (meaning_of K fs) (K.right fs) c.args.self.now (ready K fs h c.reserve-3.new.self c.reserve-3.ensures.rows) c.args.node
-    counts counts) Memory
-    c.from_residual-in_err-reserve-3.result c.from_residual-in_err-reserve-3.ensures.1
-    (unbuilt {count = c.let_die.new.self.arena.given} (stops_roomless K fs h c.reserve-3.new.self c.reserve-3.ensures.rows) refl
-    (given_first K fs h) tt (dead_few K fs h (K.right fs)) tt)
+-- ---- one is built
 
-pub returns-in_err-reserve-3-clause-kept : goal.returns-in_err-reserve-3-clause-kept
-returns-in_err-reserve-3-clause-kept g c =
-    on_err c.from_residual-in_err-reserve-3.result
-    (roots_roomy c.let_die.new.self c.reserve-3.new.self c.reserve-3.ensures.rows c.let_die.ensures.kept)
+pub build_root-requires-clause-live : goal.build_root-requires-clause-live
+build_root-requires-clause-live g c =
+    asks_live g.F.Functions c.args.functions.now (died g (goal.at.build_root-requires-clause-live g c).After-let_die)
 
-pub returns-in_err-reserve-3-clause-stays : goal.returns-in_err-reserve-3-clause-stays
-returns-in_err-reserve-3-clause-stays g c =
-    let K = g.F.Functions in
-    let fs = c.args.functions.now in
-    let h = are_cut K fs c.args.self.now c.reserve-2.new.self c.reserve-2.ensures.scopes c.reserve.new.self c.reserve.ensures.items
-    c.requires.kept c.requires.to_build c.requires.row c.requires.quiet c.requires.sound c.requires.fit c.cut_off.ensures.cut
-    c.let_die.ensures.died c.let_die.ensures.kept in
-    ready_stays K fs h c.reserve-3.new.self c.reserve-3.ensures.rows
+pub build_root-requires-clause-bind : goal.build_root-requires-clause-bind
+build_root-requires-clause-bind g c =
+    asks_bind g.F.Functions c.args.functions.now (died g (goal.at.build_root-requires-clause-bind g c).After-let_die)
 
-pub build-requires-clause-kept : goal.build-requires-clause-kept
-build-requires-clause-kept g c =
-    roots_roomy c.let_die.new.self c.reserve-3.new.self c.reserve-3.ensures.rows c.let_die.ensures.kept
+pub build_root-requires-clause-rootless : goal.build_root-requires-clause-rootless
+build_root-requires-clause-rootless g c = c.let_die.ensures.died.own_root
 
-pub build-requires-clause-known : goal.build-requires-clause-known
-build-requires-clause-known g c =
-    let K = g.F.Functions in
-    let fs = c.args.functions.now in
-    let h = are_cut K fs c.args.self.now c.reserve-2.new.self c.reserve-2.ensures.scopes c.reserve.new.self c.reserve.ensures.items
-    c.requires.kept c.requires.to_build c.requires.row c.requires.quiet c.requires.sound c.requires.fit c.cut_off.ensures.cut
-    c.let_die.ensures.died c.let_die.ensures.kept in
-    asks_known K fs h
+pub build_root-requires-clause-known : goal.build_root-requires-clause-known
+build_root-requires-clause-known g c =
+    asks_known g.F.Functions c.args.functions.now (died g (goal.at.build_root-requires-clause-known g c).After-let_die)
 
-pub build-requires-clause-ready : goal.build-requires-clause-ready
-build-requires-clause-ready g c =
-    let K = g.F.Functions in
-    let fs = c.args.functions.now in
-    let h = are_cut K fs c.args.self.now c.reserve-2.new.self c.reserve-2.ensures.scopes c.reserve.new.self c.reserve.ensures.items
-    c.requires.kept c.requires.to_build c.requires.row c.requires.quiet c.requires.sound c.requires.fit c.cut_off.ensures.cut
-    c.let_die.ensures.died c.let_die.ensures.kept in
-    asks_ready K fs h c.in-Val.left c.in-Val.is
+pub build_root-requires-clause-ready : goal.build_root-requires-clause-ready
+build_root-requires-clause-ready g c =
+    asks_ready g.F.Functions c.args.functions.now (died g (goal.at.build_root-requires-clause-ready g c).After-let_die) c.in-Val.left c.in-Val.is
 
-pub build-requires-clause-own : goal.build-requires-clause-own
-build-requires-clause-own g c =
-    let K = g.F.Functions in
-    let fs = c.args.functions.now in
-    let h = are_cut K fs c.args.self.now c.reserve-2.new.self c.reserve-2.ensures.scopes c.reserve.new.self c.reserve.ensures.items
-    c.requires.kept c.requires.to_build c.requires.row c.requires.quiet c.requires.sound c.requires.fit c.cut_off.ensures.cut
-    c.let_die.ensures.died c.let_die.ensures.kept in
-    asks_own K fs h
+pub build_root-requires-clause-own : goal.build_root-requires-clause-own
+build_root-requires-clause-own g c =
+    asks_own g.F.Functions c.args.functions.now (died g (goal.at.build_root-requires-clause-own g c).After-let_die)
 
-pub build-requires-clause-fit : goal.build-requires-clause-fit
-build-requires-clause-fit g c =
-    let K = g.F.Functions in
-    let fs = c.args.functions.now in
-    let h = are_cut K fs c.args.self.now c.reserve-2.new.self c.reserve-2.ensures.scopes c.reserve.new.self c.reserve.ensures.items
-    c.requires.kept c.requires.to_build c.requires.row c.requires.quiet c.requires.sound c.requires.fit c.cut_off.ensures.cut
-    c.let_die.ensures.died c.let_die.ensures.kept in
-    fits_dead K fs h
-
-pub returns-in_err-root-clause-refused : goal.returns-in_err-root-clause-refused
-returns-in_err-root-clause-refused g c =
-    let K = g.F.Functions in
-    let fs = c.args.functions.now in
-    let h = are_cut K fs c.args.self.now c.reserve-2.new.self c.reserve-2.ensures.scopes c.reserve.new.self c.reserve.ensures.items
-    c.requires.kept c.requires.to_build c.requires.row c.requires.quiet c.requires.sound c.requires.fit c.cut_off.ensures.cut
-    c.let_die.ensures.died c.let_die.ensures.kept in
-    let w : WasBuilt K fs (ready K fs h c.reserve-3.new.self c.reserve-3.ensures.rows) c.build.new.self c.args.node c.build.new.functions = record {
-      grew = c.in_err-root.ensures.unbuilt.grown;
-      kept = c.build.ensures.kept;
-      meaning = c.build.ensures.functions;
-      fit = c.build.ensures.fit;
-      calls = c.build.ensures.calls;
-      tally = c.build.ensures.tally;
-    } in
-    let e = c.in_err-root.field-0.0 in
-    if_refusal (BuildRefused (meaning_of K fs) (K.right c.build.new.functions) c.args.self.now c.build.new.self c.args.node (counts_by K fs)
-    (counts_by K c.build.new.functions)) e
-    c.from_residual-in_err-root.result c.from_residual-in_err-root.ensures.1
-    (unbuilt {count = c.let_die.new.self.arena.given} (stops_building K fs h c.reserve-3.new.self c.reserve-3.ensures.rows c.in-Val.left
-    c.in-Val.is w)
-    c.build.ensures.calls (given_first K fs h) c.in_err-root.ensures.stops
-    (spends_few K fs h c.reserve-3.new.self c.reserve-3.ensures.rows c.in-Val.left c.in-Val.is w c.in_err-root.ensures.unbuilt.none
-    c.build.ensures.spends)
-    (spends_full K fs h c.reserve-3.new.self c.reserve-3.ensures.rows c.in-Val.left c.in-Val.is w c.in_err-root.ensures.unbuilt.none
-    c.build.ensures.spends e c.in_err-root.ensures.stops))
-
-pub returns-in_err-root-clause-stays : goal.returns-in_err-root-clause-stays
-returns-in_err-root-clause-stays g c =
-    let K = g.F.Functions in
-    let fs = c.args.functions.now in
-    let h = are_cut K fs c.args.self.now c.reserve-2.new.self c.reserve-2.ensures.scopes c.reserve.new.self c.reserve.ensures.items
-    c.requires.kept c.requires.to_build c.requires.row c.requires.quiet c.requires.sound c.requires.fit c.cut_off.ensures.cut
-    c.let_die.ensures.died c.let_die.ensures.kept in
-    let w : WasBuilt K fs (ready K fs h c.reserve-3.new.self c.reserve-3.ensures.rows) c.build.new.self c.args.node c.build.new.functions = record {
-      grew = c.in_err-root.ensures.unbuilt.grown;
-      kept = c.build.ensures.kept;
-      meaning = c.build.ensures.functions;
-      fit = c.build.ensures.fit;
-      calls = c.build.ensures.calls;
-      tally = c.build.ensures.tally;
-    } in
-    grown_stays K fs h c.reserve-3.new.self c.reserve-3.ensures.rows c.in-Val.left c.in-Val.is w
+pub build_root-requires-clause-fit : goal.build_root-requires-clause-fit
+build_root-requires-clause-fit g c =
+    fits_dead g.F.Functions c.args.functions.now (died g (goal.at.build_root-requires-clause-fit g c).After-let_die)
 
 pub returns-clause-ready : goal.returns-clause-ready
 returns-clause-ready g c =
+    on_ok_weaker c.build_root.result (root_settles g.F.Functions c.args.functions.now (died g (goal.at.returns-clause-ready g c).After-let_die)
+    c.in-Val.left c.in-Val.is) c.build_root.ensures.root
+
+pub returns-clause-refused : goal.returns-clause-refused
+returns-clause-refused g c =
     let K = g.F.Functions in
     let fs = c.args.functions.now in
-    let h = are_cut K fs c.args.self.now c.reserve-2.new.self c.reserve-2.ensures.scopes c.reserve.new.self c.reserve.ensures.items
-    c.requires.kept c.requires.to_build c.requires.row c.requires.quiet c.requires.sound c.requires.fit c.cut_off.ensures.cut
-    c.let_die.ensures.died c.let_die.ensures.kept in
-    let w : WasBuilt K fs (ready K fs h c.reserve-3.new.self c.reserve-3.ensures.rows) c.build.new.self c.args.node c.build.new.functions = record {
-      grew = c.in_ok-root.ensures.grown;
-      kept = c.build.ensures.kept;
-      meaning = c.build.ensures.functions;
-      fit = c.build.ensures.fit;
-      calls = c.build.ensures.calls;
-      tally = c.build.ensures.tally;
-    } in
-    settles_root K fs h c.reserve-3.new.self c.reserve-3.ensures.rows c.in-Val.left c.in-Val.is w c.in_ok-root.root c.in_ok-root.ensures.root
-    c.insert.new.self
-    (subst (λ (p : _). Changes c.build.new.self.work.roots c.insert.new.self p (Some c.in_ok-root.root)) c.change_point.ensures
-    c.insert.ensures.changes) c.in_ok-root.ensures.gives
+    let fs' = c.build_root.new.functions in
+    let last = c.build_root.new.self in
+    IfErr-weaker c.build_root.result (GetsNoRoot K fs fs' c.let_die.new.self last c.args.node c.args.recipe.now.function)
+    (BuildRefused (meaning_of K fs) (K.right fs') c.args.self.now last c.args.node (counts_by K fs) (counts_by K fs'))
+    (rootless_refused K fs (died g (goal.at.returns-clause-refused g c).After-let_die) c.in-Val.left c.in-Val.is) c.build_root.ensures.refused
+
+pub returns-clause-kept : goal.returns-clause-kept
+returns-clause-kept g c =
+    if_on_err {Q = GetsNoRoot g.F.Functions c.args.functions.now c.build_root.new.functions c.let_die.new.self c.build_root.new.self c.args.node
+    c.args.recipe.now.function} c.build_root.result (kept_rootless g.F.Functions c.args.functions.now (died g (goal.at.returns-clause-kept g c).After-let_die)
+    c.in-Val.left c.in-Val.is) c.build_root.ensures.refused
 
 pub returns-clause-stays : goal.returns-clause-stays
 returns-clause-stays g c =
-    let K = g.F.Functions in
-    let fs = c.args.functions.now in
-    let h = are_cut K fs c.args.self.now c.reserve-2.new.self c.reserve-2.ensures.scopes c.reserve.new.self c.reserve.ensures.items
-    c.requires.kept c.requires.to_build c.requires.row c.requires.quiet c.requires.sound c.requires.fit c.cut_off.ensures.cut
-    c.let_die.ensures.died c.let_die.ensures.kept in
-    let w : WasBuilt K fs (ready K fs h c.reserve-3.new.self c.reserve-3.ensures.rows) c.build.new.self c.args.node c.build.new.functions = record {
-      grew = c.in_ok-root.ensures.grown;
-      kept = c.build.ensures.kept;
-      meaning = c.build.ensures.functions;
-      fit = c.build.ensures.fit;
-      calls = c.build.ensures.calls;
-      tally = c.build.ensures.tally;
-    } in
-    root_stays K fs h c.reserve-3.new.self c.reserve-3.ensures.rows c.in-Val.left c.in-Val.is w c.in_ok-root.root c.in_ok-root.ensures.root
-    c.insert.new.self
-    (subst (λ (p : _). Changes c.build.new.self.work.roots c.insert.new.self p (Some c.in_ok-root.root)) c.change_point.ensures
-    c.insert.ensures.changes)
+    let h = died g (goal.at.returns-clause-stays g c).After-let_die in
+    by_result {Q = GetsNoRoot g.F.Functions c.args.functions.now c.build_root.new.functions c.let_die.new.self c.build_root.new.self c.args.node
+    c.args.recipe.now.function} c.build_root.result c.build_root.ensures.root c.build_root.ensures.refused
+    (stays_rooted g.F.Functions c.args.functions.now h c.in-Val.left c.in-Val.is)
+    (stays_rootless g.F.Functions c.args.functions.now h c.in-Val.left c.in-Val.is)
