@@ -215,6 +215,15 @@ pub two_points : (arena : Arena) (work : Work) (n : NodeId) → IsKept arena wor
     → (r : Row) × (row_at arena n ≡ Some r) × IsSome (subject_of r.def)
 two_points arena work n kept row = two_in (row_at arena n) (sym (kept.rows (change n)) ∙ row)
 
+-- so its definition can't lack one
+pub has_subject : {P : Type 0} (arena : Arena) (work : Work) (n : NodeId) → IsKept arena work → Holds work.rows (change n)
+    → (r : Row) → row_at arena n ≡ Some r → subject_of r.def ≡ None → P
+has_subject arena work n kept row r live none =
+    let two = two_points arena work n kept row in
+    let same : two.0 ≡ r = some_same two.0 r (sym two.1 ∙ live) in
+    let some : IsSome (subject_of r.def) = subst (λ (x : Row). IsSome (subject_of x.def)) same two.2 in
+    absurd (let e = sym some ∙ ap is_some none in cc)
+
 -- ---- results
 
 -- on success and where it is refused

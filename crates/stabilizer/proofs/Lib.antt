@@ -69,3 +69,4 @@ pub mod Weighing
 pub mod Alive
 pub mod Giving
 pub mod GivingSteps
+pub mod Staying

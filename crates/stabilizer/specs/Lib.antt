@@ -10,3 +10,4 @@ pub mod Weights
 pub mod Giving
 pub mod Adding
 pub mod Rooted
+pub mod Staying

@@ -25,6 +25,7 @@ ghost use Rattle.stabilizer.specs.Round.{IsInRound, RootsMore, OnlyRoots, Settle
 ghost use Rattle.stabilizer.specs.Stepping.{MainIsSettled, MainIsLeft, IsUnbuiltBind, IsBuiltFor, IsTurnedAwake, IsAsleep, IsTurned, ChangeIsSettled, ChangeIsLeft, SettlesLeast};
 ghost use Rattle.stabilizer.specs.Stepping.{Steps, StepRefused, StepStopsFull, StepFalls};
 ghost use Rattle.stabilizer.specs.Giving.{GivesLive, GivesFew, StopsFull};
+ghost use Rattle.stabilizer.specs.Staying.{RoundStays};
 ghost use Rattle.stabilizer.specs.Weights.{SidesFit};
 
 use crate::parts::Parts;
@@ -61,16 +62,10 @@ impl Stabilizer {
         ensures spends { OnErr result (GivesFew (F.right functions.new) parts.old.arena.given parts.new.arena) }
         ensures full { IfErr result (StepStopsFull (meaning_of F.Functions functions.old) (F.right functions.new) parts.old parts.new
             (counts_by F.Functions functions.old) (counts_by F.Functions functions.new)) }
-        ensures kept { PartsKept parts.new }
         ensures quiet { OnOk result (parts.new.work.todo.items ≡ []) }
         ensures falls { IfOk result (λ more. IsTrue more → StepFalls (meaning_of F.Functions functions.old)
             parts.old parts.new (counts_by F.Functions functions.old)) }
-        ensures fit { SidesFit (F.known functions.new) (F.right functions.new) parts.new.arena }
-        ensures roots { KeepsRoots parts.old.work.graph.roots parts.new.work.graph.roots }
-        ensures round { parts.new.work.round ≡ parts.old.work.round }
-        ensures ran { parts.new.ran ≡ parts.old.ran }
-        ensures functions { KeepsMeaning F.Functions functions.old functions.new }
-        ensures flat { StaysFlat parts.old.arena parts.new.arena }
+        ensures stays { RoundStays F.Functions functions.old functions.new parts.old parts.new }
     {
         let Some(p) = parts.work.graph.pop_least() else {
             return Ok(false);
@@ -250,14 +245,8 @@ fn step_change<F: Functions>(
         (counts_by F.Functions functions.old) (counts_by F.Functions functions.new)) }
     ensures refused { IfErr result (ChangeIsLeft (meaning_of F.Functions functions.old) (F.right functions.new) parts.old parts.new node
         (counts_by F.Functions functions.old) (counts_by F.Functions functions.new)) }
-    ensures ran { parts.new.ran ≡ parts.old.ran }
-    ensures roots { KeepsRoots parts.old.work.graph.roots parts.new.work.graph.roots }
-    ensures round { parts.new.work.round ≡ parts.old.work.round }
-    ensures kept { PartsKept parts.new }
     ensures quiet { OnOk result (parts.new.work.todo.items ≡ []) }
-    ensures fit { SidesFit (F.known functions.new) (F.right functions.new) parts.new.arena }
-    ensures functions { KeepsMeaning F.Functions functions.old functions.new }
-    ensures flat { StaysFlat parts.old.arena parts.new.arena }
+    ensures stays { RoundStays F.Functions functions.old functions.new parts.old parts.new }
 {
     match turn_change(parts, functions, node) {
         Ok(()) => {}
@@ -292,14 +281,8 @@ fn turn_change<F: Functions>(
     ensures settled { OnOk result (settled_in parts.new.work.round (at parts.new.work.rows (change node)) ≡ true) }
     ensures row { (r : ARow) → row_at parts.old.arena node ≡ Some r → row_at parts.new.arena node ≡ Some r }
     ensures there { Holds parts.new.work.rows (change node) }
-    ensures ran { parts.new.ran ≡ parts.old.ran }
-    ensures roots { KeepsRoots parts.old.work.graph.roots parts.new.work.graph.roots }
-    ensures round { parts.new.work.round ≡ parts.old.work.round }
-    ensures kept { PartsKept parts.new }
     ensures quiet { OnErr result (parts.new.work.todo.items ≡ []) }
-    ensures fit { SidesFit (F.known functions.new) (F.right functions.new) parts.new.arena }
-    ensures functions { KeepsMeaning F.Functions functions.old functions.new }
-    ensures flat { StaysFlat parts.old.arena parts.new.arena }
+    ensures stays { RoundStays F.Functions functions.old functions.new parts.old parts.new }
 {
     let Some(row) = parts.arena.get(node) else {
         return Ok(());

@@ -24,16 +24,16 @@ loop-preserved g c = record {
   so = next_step (meaning_of g.F.Functions c.args.functions.now) (meaning_of g.F.Functions c.loop.functions)
       (means_still g.F.Functions _ _ c.loop.invariant.functions) c.args.parts.now c.loop.parts c.step.new.parts
       (counts_by g.F.Functions c.args.functions.now) (counts_by g.F.Functions c.loop.functions) (counts_by g.F.Functions c.step.new.functions)
-      c.loop.invariant.so c.step.ensures.kept c.in_ok-step.ensures.quiet
-      (c.in_ok-step.ensures.stepped c.if-branch.true) c.step.ensures.roots c.step.ensures.round c.step.ensures.ran;
-  fit = c.step.ensures.fit;
+      c.loop.invariant.so c.step.ensures.stays.kept c.in_ok-step.ensures.quiet
+      (c.in_ok-step.ensures.stepped c.if-branch.true) c.step.ensures.stays.roots c.step.ensures.stays.round c.step.ensures.stays.ran;
+  fit = c.step.ensures.stays.fit;
   gives = gives_next (meaning_of g.F.Functions c.args.functions.now) (meaning_of g.F.Functions c.loop.functions)
       (means_still g.F.Functions _ _ c.loop.invariant.functions) c.args.parts.now c.loop.parts c.step.new.parts
       (counts_by g.F.Functions c.args.functions.now) (counts_by g.F.Functions c.loop.functions) (counts_by g.F.Functions c.step.new.functions)
       c.loop.invariant.so c.requires.in_round c.loop.invariant.gives
       (c.in_ok-step.ensures.stepped c.if-branch.true) (c.in_ok-step.ensures.settled c.if-branch.true);
-  flat = stays_flat c.args.parts.now.arena c.loop.parts.arena c.step.new.parts.arena c.loop.invariant.flat c.step.ensures.flat;
-  functions = meaning_on g.F.Functions _ _ _ c.loop.invariant.functions c.step.ensures.functions;
+  flat = stays_flat c.args.parts.now.arena c.loop.parts.arena c.step.new.parts.arena c.loop.invariant.flat c.step.ensures.stays.flat;
+  functions = meaning_on g.F.Functions _ _ _ c.loop.invariant.functions c.step.ensures.stays.functions;
 }
 
 pub loop-smaller : goal.loop-smaller
@@ -78,22 +78,22 @@ returns-in_err-step-clause-full g c =
 -- ---- what a last step leaves
 
 pub returns-in_err-step-clause-fit : goal.returns-in_err-step-clause-fit
-returns-in_err-step-clause-fit g c = c.step.ensures.fit
+returns-in_err-step-clause-fit g c = c.step.ensures.stays.fit
 
 pub returns-in_err-step-clause-kept : goal.returns-in_err-step-clause-kept
-returns-in_err-step-clause-kept g c = c.step.ensures.kept
+returns-in_err-step-clause-kept g c = c.step.ensures.stays.kept
 
 pub returns-in_err-step-clause-roots : goal.returns-in_err-step-clause-roots
-returns-in_err-step-clause-roots g c p = c.step.ensures.roots p ∙ c.loop.invariant.so.roots p
+returns-in_err-step-clause-roots g c p = c.step.ensures.stays.roots p ∙ c.loop.invariant.so.roots p
 
 pub returns-in_err-step-clause-round : goal.returns-in_err-step-clause-round
-returns-in_err-step-clause-round g c = c.step.ensures.round ∙ c.loop.invariant.so.round
+returns-in_err-step-clause-round g c = c.step.ensures.stays.round ∙ c.loop.invariant.so.round
 
 pub returns-in_err-step-clause-ran : goal.returns-in_err-step-clause-ran
-returns-in_err-step-clause-ran g c = c.step.ensures.ran ∙ c.loop.invariant.so.ran
+returns-in_err-step-clause-ran g c = c.step.ensures.stays.ran ∙ c.loop.invariant.so.ran
 
 pub returns-in_err-step-clause-functions : goal.returns-in_err-step-clause-functions
-returns-in_err-step-clause-functions g c = meaning_on g.F.Functions _ _ _ c.loop.invariant.functions c.step.ensures.functions
+returns-in_err-step-clause-functions g c = meaning_on g.F.Functions _ _ _ c.loop.invariant.functions c.step.ensures.stays.functions
 
 -- ---- the heap is empty
 
@@ -114,30 +114,30 @@ returns-clause-gives g c =
     rw same c.loop.invariant.gives
 
 pub returns-clause-fit : goal.returns-clause-fit
-returns-clause-fit g c = c.step.ensures.fit
+returns-clause-fit g c = c.step.ensures.stays.fit
 
 pub returns-clause-kept : goal.returns-clause-kept
-returns-clause-kept g c = c.step.ensures.kept
+returns-clause-kept g c = c.step.ensures.stays.kept
 
 pub returns-clause-quiet : goal.returns-clause-quiet
 returns-clause-quiet g c = c.in_ok-step.ensures.quiet
 
 pub returns-clause-roots : goal.returns-clause-roots
-returns-clause-roots g c p = c.step.ensures.roots p ∙ c.loop.invariant.so.roots p
+returns-clause-roots g c p = c.step.ensures.stays.roots p ∙ c.loop.invariant.so.roots p
 
 pub returns-clause-round : goal.returns-clause-round
-returns-clause-round g c = c.step.ensures.round ∙ c.loop.invariant.so.round
+returns-clause-round g c = c.step.ensures.stays.round ∙ c.loop.invariant.so.round
 
 pub returns-clause-ran : goal.returns-clause-ran
-returns-clause-ran g c = c.step.ensures.ran ∙ c.loop.invariant.so.ran
+returns-clause-ran g c = c.step.ensures.stays.ran ∙ c.loop.invariant.so.ran
 
 pub returns-clause-functions : goal.returns-clause-functions
-returns-clause-functions g c = meaning_on g.F.Functions _ _ _ c.loop.invariant.functions c.step.ensures.functions
+returns-clause-functions g c = meaning_on g.F.Functions _ _ _ c.loop.invariant.functions c.step.ensures.stays.functions
 
 pub returns-clause-flat : goal.returns-clause-flat
 returns-clause-flat g c =
-    stays_flat c.args.parts.now.arena c.loop.parts.arena c.step.new.parts.arena c.loop.invariant.flat c.step.ensures.flat
+    stays_flat c.args.parts.now.arena c.loop.parts.arena c.step.new.parts.arena c.loop.invariant.flat c.step.ensures.stays.flat
 
 pub returns-in_err-step-clause-flat : goal.returns-in_err-step-clause-flat
 returns-in_err-step-clause-flat g c =
-    stays_flat c.args.parts.now.arena c.loop.parts.arena c.step.new.parts.arena c.loop.invariant.flat c.step.ensures.flat
+    stays_flat c.args.parts.now.arena c.loop.parts.arena c.step.new.parts.arena c.loop.invariant.flat c.step.ensures.stays.flat

@@ -3,11 +3,13 @@ use Rattle.inc_value.specs.declared.node.Point.{Point}
 use Rattle.necessity.specs.Need.{Roots, root_times}
 use Rattle.node_outcomes.specs.Meaning.{meaning_of}
 use Rattle.wiring.specs.Wiring.{IsMarked}
+use Rattle.wiring.specs.declared.work.Work.{Work}
 use Rattle.wiring.proofs.Raising.{if_refusal}
 use Rattle.stabilizer.specs.Kept.{counts_by}
 use Rattle.stabilizer.specs.Stepping.{ChangeIsLeft, unattached, unwired}
-use Rattle.stabilizer.proofs.Again.{left_again, again_kept, parts_with, two_points}
+use Rattle.stabilizer.proofs.Again.{left_again, again_kept, two_points}
 use Rattle.stabilizer.proofs.Changing.{on_ok, if_err}
+use Rattle.stabilizer.proofs.Staying.{work_moved}
 use Rattle.stabilizer.proofs.stabilizer.step_change.Goals as goal
 
 pub returns-in-Err-clause-refused : goal.returns-in-Err-clause-refused
@@ -17,21 +19,8 @@ returns-in-Err-clause-refused g c =
     let n = c.args.node in
     let marked = subst (λ (x : Point). IsMarked mid.work.graph c.schedule.new.self.graph x) c.change_point.ensures c.schedule.ensures.scheduled in
     left_again (meaning_of g.F.Functions c.args.functions.now) old mid n (counts_by g.F.Functions c.args.functions.now)
-    (counts_by g.F.Functions c.turn_change.new.functions) c.schedule.new.self c.turn_change.ensures.kept c.requires.needed marked c.schedule.ensures.rest
+    (counts_by g.F.Functions c.turn_change.new.functions) c.schedule.new.self c.turn_change.ensures.stays.kept c.requires.needed marked c.schedule.ensures.rest
     (g.F.Functions.right c.turn_change.new.functions) c.in-Err.refused c.in-Err.ensures.refused
-
-pub returns-in-Err-clause-kept : goal.returns-in-Err-clause-kept
-returns-in-Err-clause-kept g c =
-    let old = c.args.parts.now in
-    let mid = c.turn_change.new.parts in
-    let n = c.args.node in
-    let marked = subst (λ (x : Point). IsMarked mid.work.graph c.schedule.new.self.graph x) c.change_point.ensures c.schedule.ensures.scheduled in
-    again_kept (meaning_of g.F.Functions c.args.functions.now) old mid n (counts_by g.F.Functions c.args.functions.now)
-    (counts_by g.F.Functions c.turn_change.new.functions) c.schedule.new.self c.turn_change.ensures.kept c.requires.needed marked c.schedule.ensures.rest
-    c.turn_change.ensures.there c.schedule.ensures.step
-
-pub returns-in-Err-clause-roots : goal.returns-in-Err-clause-roots
-returns-in-Err-clause-roots g c = λ p. ap (λ (r : Roots). root_times r p) c.schedule.ensures.scheduled.graph.roots ∙ c.turn_change.ensures.roots p
 
 pub attach_right-requires-clause-row : goal.attach_right-requires-clause-row
 attach_right-requires-clause-row g c =
@@ -50,12 +39,6 @@ returns-in_err-attach_right-clause-refused g c =
     (counts_by g.F.Functions c.turn_change.new.functions)) e
     c.from_residual.result c.from_residual.ensures.1 (unattached {turned = mid} c.in-Ok.ensures.turned c.in_err-attach_right.ensures.refused refl)
 
-pub returns-in_err-attach_right-clause-kept : goal.returns-in_err-attach_right-clause-kept
-returns-in_err-attach_right-clause-kept g c = parts_with c.turn_change.new.parts c.attach_right.new.self c.turn_change.ensures.kept c.attach_right.ensures.kept
-
-pub returns-in_err-attach_right-clause-roots : goal.returns-in_err-attach_right-clause-roots
-returns-in_err-attach_right-clause-roots g c = λ p. c.attach_right.ensures.places.roots p ∙ c.turn_change.ensures.roots p
-
 pub returns-clause-settled : goal.returns-clause-settled
 returns-clause-settled g c = on_ok c.wire.result (λ wires. record {
   turned = c.turn_change.new.parts;
@@ -71,8 +54,29 @@ pub returns-clause-refused : goal.returns-clause-refused
 returns-clause-refused g c = if_err c.wire.result (λ e refused. unwired {turned = c.turn_change.new.parts} {attached = c.attach_right.new.self}
     c.in-Ok.ensures.turned c.in_ok-attach_right.ensures.attached refused refl) c.wire.ensures.refused
 
-pub returns-clause-kept : goal.returns-clause-kept
-returns-clause-kept g c = parts_with c.turn_change.new.parts c.wire.new.self c.turn_change.ensures.kept c.wire.ensures.kept
+-- ---- what stays
 
-pub returns-clause-roots : goal.returns-clause-roots
-returns-clause-roots g c = λ p. c.wire.ensures.places.roots p ∙ (c.attach_right.ensures.places.roots p ∙ c.turn_change.ensures.roots p)
+pub returns-in-Err-clause-stays : goal.returns-in-Err-clause-stays
+returns-in-Err-clause-stays g c =
+    let old = c.args.parts.now in
+    let mid = c.turn_change.new.parts in
+    let stays = c.turn_change.ensures.stays in
+    let marked = subst (λ (x : Point). IsMarked mid.work.graph c.schedule.new.self.graph x) c.change_point.ensures c.schedule.ensures.scheduled in
+    let kept = again_kept (meaning_of g.F.Functions c.args.functions.now) old mid c.args.node (counts_by g.F.Functions c.args.functions.now)
+    (counts_by g.F.Functions c.turn_change.new.functions) c.schedule.new.self stays.kept c.requires.needed marked c.schedule.ensures.rest
+    c.turn_change.ensures.there c.schedule.ensures.step in
+    work_moved g.F.Functions c.args.functions.now old mid c.schedule.new.self stays kept.work
+    (λ p. ap (λ (r : Roots). root_times r p) c.schedule.ensures.scheduled.graph.roots) (ap (λ (w : Work). w.round) c.schedule.ensures.rest)
+
+pub returns-in_err-attach_right-clause-stays : goal.returns-in_err-attach_right-clause-stays
+returns-in_err-attach_right-clause-stays g c =
+    let places = c.attach_right.ensures.places in
+    work_moved g.F.Functions c.args.functions.now c.args.parts.now c.turn_change.new.parts c.attach_right.new.self c.turn_change.ensures.stays
+    c.attach_right.ensures.kept places.roots places.round
+
+pub returns-clause-stays : goal.returns-clause-stays
+returns-clause-stays g c =
+    let places = c.attach_right.ensures.places in
+    let last = c.wire.ensures.places in
+    work_moved g.F.Functions c.args.functions.now c.args.parts.now c.turn_change.new.parts c.wire.new.self c.turn_change.ensures.stays
+    c.wire.ensures.kept (λ p. last.roots p ∙ places.roots p) (last.round ∙ places.round)

@@ -6,15 +6,59 @@ use Rattle.node_arena.specs.Arena.{row_of}
 use Rattle.node_outcomes.specs.Meaning.{meaning_of}
 use Rattle.node_outcomes.specs.Row.{outcome_in}
 use Rattle.point_map.specs.Rows.{at}
+use Rattle.std.proofs.lemmas.Option.{none-some}
+use Rattle.wiring.specs.declared.refused.Refused.TheVariants.{Memory}
+use Rattle.wiring.proofs.Raising.{if_refusal}
 use Rattle.stabilizer.specs.declared.rebuild.Recipe.{Recipe}
 use Rattle.stabilizer.specs.Kept.{counts_by}
-use Rattle.stabilizer.specs.Rebuilding.{BuildsAnew, IsToBuild}
+use Rattle.stabilizer.specs.Rebuilding.{BuildsAnew, BuildRefused, as_it_was, IsToBuild}
 use Rattle.stabilizer.specs.Stepping.{IsUnbuiltBind, IsBuiltFor, built, turned}
-use Rattle.stabilizer.proofs.Again.{woken_refused, woken_own, woken_roots, woken_round, woken_kept, parts_with, by_result, some_of}
+use Rattle.stabilizer.proofs.Again.{woken_refused, woken_own, woken_roots, woken_round, woken_kept, by_result, some_of, two_points, has_subject}
+use Rattle.stabilizer.proofs.RebuildEnds.{if_on_err}
 use Rattle.stabilizer.proofs.Changing.{on_ok, both_ok, if_err}
 use Rattle.stabilizer.proofs.Running.{some_same}
+use Rattle.stabilizer.proofs.Staying.{nothing_done, work_moved}
 use Rattle.stabilizer.proofs.Turned.{turned_own, turned_settled, turned_roots, turned_round, turned_kept, is_turned}
 use Rattle.stabilizer.proofs.stabilizer.turn_change.Goals as goal
+
+-- ---- the change is of a live node that has a subject
+
+pub returns-in_default-clause-turned : goal.returns-in_default-clause-turned
+returns-in_default-clause-turned g c =
+    let two = two_points c.args.parts.now.arena c.args.parts.now.work c.args.node c.requires.kept.work c.requires.row in
+    absurd (none-some two.0 (c.in_default.ensures ∙ two.1))
+
+pub returns-in_default-clause-settled : goal.returns-in_default-clause-settled
+returns-in_default-clause-settled g c =
+    let two = two_points c.args.parts.now.arena c.args.parts.now.work c.args.node c.requires.kept.work c.requires.row in
+    absurd (none-some two.0 (c.in_default.ensures ∙ two.1))
+
+pub returns-in_default-subject-clause-turned : goal.returns-in_default-subject-clause-turned
+returns-in_default-subject-clause-turned g c =
+    has_subject c.args.parts.now.arena c.args.parts.now.work c.args.node c.requires.kept.work c.requires.row (row_of c.in-Some.row.now)
+    (sym c.in-Some.ensures) (sym c.subject.ensures ∙ c.in_default-subject.is)
+
+pub returns-in_default-subject-clause-settled : goal.returns-in_default-subject-clause-settled
+returns-in_default-subject-clause-settled g c =
+    has_subject c.args.parts.now.arena c.args.parts.now.work c.args.node c.requires.kept.work c.requires.row (row_of c.in-Some.row.now)
+    (sym c.in-Some.ensures) (sym c.subject.ensures ∙ c.in_default-subject.is)
+
+-- ---- without memory nothing is done
+
+pub returns-in_err-given-clause-refused : goal.returns-in_err-given-clause-refused
+returns-in_err-given-clause-refused g c =
+    let old = c.args.parts.now in
+    let counts = counts_by g.F.Functions c.args.functions.now in
+    if_refusal (BuildRefused (meaning_of g.F.Functions c.args.functions.now) (g.F.Functions.right c.args.functions.now) old old c.args.node counts counts)
+    Memory c.from_residual.result c.from_residual.ensures.1 (as_it_was (λ s before. before) refl refl refl)
+
+pub returns-in-Err-clause-refused : goal.returns-in-Err-clause-refused
+returns-in-Err-clause-refused g c = as_it_was (λ s before. before) refl refl refl
+
+-- ---- its node is no bind, or is built for the outcome
+
+pub returns-in-Ok-None-clause-quiet : goal.returns-in-Ok-None-clause-quiet
+returns-in-Ok-None-clause-quiet g c = if_on_err c.turn_as_built.result (λ e asleep. asleep.quiet) c.turn_as_built.ensures.refused
 
 pub returns-in-Ok-None-clause-turned : goal.returns-in-Ok-None-clause-turned
 returns-in-Ok-None-clause-turned g c =
@@ -48,36 +92,7 @@ returns-in-Ok-None-clause-there g c =
     t.wakes.rest t.turned)
     (λ e asleep. woken_own old c.turn_as_built.new.work asleep.rest (change c.args.node) c.requires.row)
 
-pub returns-in-Ok-None-clause-roots : goal.returns-in-Ok-None-clause-roots
-returns-in-Ok-None-clause-roots g c =
-    let old = c.args.parts.now in
-    let r = row_of c.in-Some.row.now in
-    by_result c.turn_as_built.result c.turn_as_built.ensures.turned c.turn_as_built.ensures.refused
-    (λ t. turned_roots old.arena old.work t.woken c.turn_as_built.new.work c.args.node c.in-Some-subject.subject r
-    c.in_ok-given.given c.requires.kept.work c.requires.row c.requires.needed (sym c.in-Some.ensures) (sym c.subject.ensures ∙ c.in-Some-subject.is)
-    t.wakes.rest t.turned)
-    (λ e asleep. woken_roots old c.turn_as_built.new.work asleep.rest)
-
-pub returns-in-Ok-None-clause-round : goal.returns-in-Ok-None-clause-round
-returns-in-Ok-None-clause-round g c =
-    let old = c.args.parts.now in
-    let r = row_of c.in-Some.row.now in
-    by_result c.turn_as_built.result c.turn_as_built.ensures.turned c.turn_as_built.ensures.refused
-    (λ t. turned_round old.arena old.work t.woken c.turn_as_built.new.work c.args.node c.in-Some-subject.subject r
-    c.in_ok-given.given c.requires.kept.work c.requires.row c.requires.needed (sym c.in-Some.ensures) (sym c.subject.ensures ∙ c.in-Some-subject.is)
-    t.wakes.rest t.turned)
-    (λ e asleep. woken_round old c.turn_as_built.new.work asleep.rest)
-
-pub returns-in-Ok-None-clause-kept : goal.returns-in-Ok-None-clause-kept
-returns-in-Ok-None-clause-kept g c =
-    let old = c.args.parts.now in
-    let r = row_of c.in-Some.row.now in
-    let ran : IsBuiltFor r.def (outcome_in (at old.work.rows (change c.args.node))) c.in_ok-given.given = c.in-Ok-None.ensures.built c.in-Ok-None.field-0-is in
-    by_result c.turn_as_built.result c.turn_as_built.ensures.turned c.turn_as_built.ensures.refused
-    (λ t. parts_with old c.turn_as_built.new.work c.requires.kept (turned_kept old.arena old.work t.woken c.turn_as_built.new.work c.args.node
-    c.in-Some-subject.subject r c.in_ok-given.given c.requires.kept.work c.requires.row c.requires.needed (sym c.in-Some.ensures)
-    (sym c.subject.ensures ∙ c.in-Some-subject.is) t.wakes.rest t.turned c.in_ok-given.ensures ran))
-    (λ e asleep. woken_kept old c.turn_as_built.new.work asleep.rest c.requires.kept)
+-- ---- a bind is built anew
 
 pub returns-in-Ok-Some-clause-turned : goal.returns-in-Ok-Some-clause-turned
 returns-in-Ok-Some-clause-turned g c =
@@ -100,11 +115,61 @@ returns-in-Ok-Some-clause-turned g c =
     (counts_by g.F.Functions c.args.functions.now) (counts_by g.F.Functions c.rebuild-built.new.functions)} c.rebuild-built.result
     (λ anew gives. built to_build anew c.rebuild-built.ensures.calls gives) c.rebuild-built.ensures.built c.rebuild-built.ensures.gives
 
-pub returns-in-Ok-Some-clause-flat : goal.returns-in-Ok-Some-clause-flat
-returns-in-Ok-Some-clause-flat g c none =
+-- ---- what stays
+
+pub returns-in_default-clause-stays : goal.returns-in_default-clause-stays
+returns-in_default-clause-stays g c =
+    nothing_done g.F.Functions c.args.functions.now c.args.parts.now c.requires.kept c.requires.sound c.requires.fit
+
+pub returns-in_default-subject-clause-stays : goal.returns-in_default-subject-clause-stays
+returns-in_default-subject-clause-stays g c =
+    nothing_done g.F.Functions c.args.functions.now c.args.parts.now c.requires.kept c.requires.sound c.requires.fit
+
+pub returns-in_err-given-clause-stays : goal.returns-in_err-given-clause-stays
+returns-in_err-given-clause-stays g c =
+    nothing_done g.F.Functions c.args.functions.now c.args.parts.now c.requires.kept c.requires.sound c.requires.fit
+
+pub returns-in-Err-clause-stays : goal.returns-in-Err-clause-stays
+returns-in-Err-clause-stays g c =
+    nothing_done g.F.Functions c.args.functions.now c.args.parts.now c.requires.kept c.requires.sound c.requires.fit
+
+pub returns-in-Ok-None-clause-stays : goal.returns-in-Ok-None-clause-stays
+returns-in-Ok-None-clause-stays g c =
+    let old = c.args.parts.now in
+    let new = c.turn_as_built.new.work in
+    let n = c.args.node in
+    let subject = c.in-Some-subject.subject in
+    let given = c.in_ok-given.given in
+    let r = row_of c.in-Some.row.now in
+    let row = sym c.in-Some.ensures in
+    let is_subject = sym c.subject.ensures ∙ c.in-Some-subject.is in
+    let ran : IsBuiltFor r.def (outcome_in (at old.work.rows (change n))) given = c.in-Ok-None.ensures.built c.in-Ok-None.field-0-is in
+    let before = nothing_done g.F.Functions c.args.functions.now old c.requires.kept c.requires.sound c.requires.fit in
+    by_result c.turn_as_built.result c.turn_as_built.ensures.turned c.turn_as_built.ensures.refused
+    (λ t. work_moved g.F.Functions c.args.functions.now old old new before
+    (turned_kept old.arena old.work t.woken new n subject r given c.requires.kept.work c.requires.row c.requires.needed row is_subject t.wakes.rest
+    t.turned c.in_ok-given.ensures ran)
+    (turned_roots old.arena old.work t.woken new n subject r given c.requires.kept.work c.requires.row c.requires.needed row is_subject t.wakes.rest
+    t.turned)
+    (turned_round old.arena old.work t.woken new n subject r given c.requires.kept.work c.requires.row c.requires.needed row is_subject t.wakes.rest
+    t.turned))
+    (λ e asleep. let kept = woken_kept old new asleep.rest c.requires.kept in
+    work_moved g.F.Functions c.args.functions.now old old new before kept.work (woken_roots old new asleep.rest) (woken_round old new asleep.rest))
+
+pub returns-in-Ok-Some-clause-stays : goal.returns-in-Ok-Some-clause-stays
+returns-in-Ok-Some-clause-stays g c =
     let r = row_of c.in-Some.row.now in
     let recipe = c.in-Ok-Some.recipe in
+    let b = c.rebuild-built.ensures in
     let due : IsUnbuiltBind r.def recipe.function recipe.captures (outcome_in (at c.args.parts.now.work.rows (change c.args.node))) c.in_ok-given.given =
     some_of (λ (x : Recipe). IsUnbuiltBind r.def x.function x.captures (outcome_in (at c.args.parts.now.work.rows (change c.args.node))) c.in_ok-given.given)
     c.in-Ok-Some.field-0 recipe c.in-Ok-Some.field-0-is c.in-Ok-Some.ensures.due in
-    absurd (none c.args.node r (sym c.in-Some.ensures) (due.0, recipe.function, recipe.captures, due.1))
+    record {
+      kept = b.kept;
+      fit = b.fit;
+      functions = b.functions;
+      flat = λ none. absurd (none c.args.node r (sym c.in-Some.ensures) (due.0, recipe.function, recipe.captures, due.1));
+      roots = b.roots;
+      round = b.round;
+      ran = b.ran;
+    }

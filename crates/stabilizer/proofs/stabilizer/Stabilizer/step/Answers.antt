@@ -1,4 +1,5 @@
 use Rattle.std.proofs.Common.{refl, sym, ap, subst, ◌∙◌}
+use Rattle.necessity.specs.Need.{root_times}
 use Rattle.necessary_graph.specs.Part.{NecessaryPart, Needed}
 use Rattle.node_arena.specs.Arena.{Arena}
 use Rattle.stabilizer.specs.Weights.{SidesFit}
@@ -14,7 +15,11 @@ use Rattle.stabilizer.proofs.Rounding.{on_err}
 use Rattle.wiring.proofs.Raising.{if_refusal}
 use Rattle.stabilizer.specs.declared.parts.Parts.{Parts}
 use Rattle.stabilizer.proofs.StillFit.{same_fit}
+use Rattle.stabilizer.proofs.Staying.{nothing_done}
+use Rattle.stabilizer.specs.Staying.{RoundStays}
 use Rattle.stabilizer.proofs.Stepping.{not_empty, takes_least, steps, step_refused, main_back, arena_kept, popped_row, popped_needed, popped_taken, same_roots}
+use Rattle.stabilizer.proofs.stabilizer.Stabilizer.step.Given.{Over}
+use Rattle.stabilizer.proofs.stabilizer.Stabilizer.step.Goals.{After-step_change, After-step_main}
 use Rattle.stabilizer.proofs.stabilizer.Stabilizer.step.Goals as goal
 
 -- ---- a change
@@ -97,7 +102,7 @@ returns-in_ok-step_change-in-Change-clause-falls g c = λ more.
     let p = c.in-Some.p in
     let before = counts_by g.F.Functions c.args.functions.now in
     let after = counts_by g.F.Functions c.step_change.new.functions in
-    steps_leave_less M c.args.parts.now c.step_change.new.parts before after c.requires.kept.work c.step_change.ensures.kept.work
+    steps_leave_less M c.args.parts.now c.step_change.new.parts before after c.requires.kept.work c.step_change.ensures.stays.kept.work
     (change_steps M c.args.parts.now c.pop_least.new.self p p.node (is_change p c.in-Change.is) before
     c.requires.kept c.requires.quiet c.in-Some.ensures.was c.in-Some.ensures.least c.pop_least.ensures.rest c.in-Some.ensures.removed
     c.step_change.new.parts after c.in_ok-step_change-in-Change.ensures.settled c.in_ok-step_change-in-Change.ensures.quiet)
@@ -145,44 +150,6 @@ insert-requires g c =
 pub returns-in-Ok-clause-quiet : goal.returns-in-Ok-clause-quiet
 returns-in-Ok-clause-quiet g c = c.in-Ok.ensures.settled.settled.todo ∙ c.requires.quiet
 
-pub returns-in-Ok-clause-roots : goal.returns-in-Ok-clause-roots
-returns-in-Ok-clause-roots g c = same_roots c.args.parts.now.work.graph c.pop_least.new.self c.step_main.new.parts.work.graph c.pop_least.ensures.rest
-    c.in-Ok.ensures.settled.settled.graph.roots
-
-pub returns-in-Ok-clause-round : goal.returns-in-Ok-clause-round
-returns-in-Ok-clause-round g c = c.in-Ok.ensures.settled.settled.round
-
-pub returns-in-Ok-clause-ran : goal.returns-in-Ok-clause-ran
-returns-in-Ok-clause-ran g c = ap (λ (x : Parts). x.ran) c.step_main.ensures.rest
-
-pub returns-in-Ok-clause-fit : goal.returns-in-Ok-clause-fit
-returns-in-Ok-clause-fit g c =
-    let keeper = g.F.Functions in
-    let k = c.step_main.ensures.functions in
-    subst (λ (a : Arena). SidesFit (keeper.known c.step_main.new.functions) (keeper.right c.step_main.new.functions) a)
-    (sym (arena_kept c.args.parts.now c.step_main.new.parts c.step_main.ensures.rest))
-    (same_fit (keeper.known c.args.functions.now) (keeper.known c.step_main.new.functions) (keeper.right c.args.functions.now)
-    (keeper.right c.step_main.new.functions) c.args.parts.now.arena k.same.known k.same.sides c.requires.fit)
-
-pub returns-in-Err-clause-fit : goal.returns-in-Err-clause-fit
-returns-in-Err-clause-fit g c =
-    let keeper = g.F.Functions in
-    let k = c.step_main.ensures.functions in
-    subst (λ (a : Arena). SidesFit (keeper.known c.step_main.new.functions) (keeper.right c.step_main.new.functions) a)
-    (sym (arena_kept c.args.parts.now c.step_main.new.parts c.step_main.ensures.rest))
-    (same_fit (keeper.known c.args.functions.now) (keeper.known c.step_main.new.functions) (keeper.right c.args.functions.now)
-    (keeper.right c.step_main.new.functions) c.args.parts.now.arena k.same.known k.same.sides c.requires.fit)
-
-pub returns-in-Err-clause-roots : goal.returns-in-Err-clause-roots
-returns-in-Err-clause-roots g c = same_roots c.args.parts.now.work.graph c.pop_least.new.self c.insert.new.self c.pop_least.ensures.rest
-    (ap (λ (x : NecessaryPart). x.roots) c.insert.ensures.rest ∙ ap (λ (x : NecessaryPart). x.roots) c.in-Err.ensures.refused.graph)
-
-pub returns-in-Err-clause-round : goal.returns-in-Err-clause-round
-returns-in-Err-clause-round g c = c.in-Err.ensures.refused.round
-
-pub returns-in-Err-clause-ran : goal.returns-in-Err-clause-ran
-returns-in-Err-clause-ran g c = ap (λ (x : Parts). x.ran) c.step_main.ensures.rest
-
 pub returns-in-Ok-clause-stepped : goal.returns-in-Ok-clause-stepped
 returns-in-Ok-clause-stepped g c = λ more.
     let p = c.in-Some.p in
@@ -222,19 +189,6 @@ returns-in-Err-clause-refused g c =
     (arena_kept c.args.parts.now c.step_main.new.parts c.step_main.ensures.rest)
     c.insert.ensures.rest c.insert.ensures.inserted refl (is_main p c.in-Main.is) _ c.in-Err.ensures.memory
 
-pub returns-in-Err-clause-kept : goal.returns-in-Err-clause-kept
-returns-in-Err-clause-kept g c =
-    let p = c.in-Some.p in
-    let mid = c.step_main.new.parts in
-    let k = c.step_main.ensures.kept in record {
-      work = main_back c.args.parts.now mid c.pop_least.new.self c.insert.new.self
-          p p.node (counts_by g.F.Functions c.args.functions.now) (counts_by g.F.Functions c.step_main.new.functions) c.requires.kept.work c.in-Some.ensures.was
-          c.pop_least.ensures.rest c.in-Some.ensures.removed c.in-Err.ensures.refused c.insert.ensures.rest c.insert.ensures.inserted
-          (arena_kept c.args.parts.now mid c.step_main.ensures.rest) k.work;
-      scopes = k.scopes;
-      dying = k.dying;
-    }
-
 pub returns-in-Err-clause-full : goal.returns-in-Err-clause-full
 returns-in-Err-clause-full g c z s begun quiet st =
     memory_full (g.F.Functions.right c.step_main.new.functions) c.step_main.new.parts.arena (counts_by g.F.Functions c.args.functions.now)
@@ -244,3 +198,81 @@ pub returns-in-Err-clause-spends : goal.returns-in-Err-clause-spends
 returns-in-Err-clause-spends g c =
     main_few (g.F.Functions.right c.step_main.new.functions) c.args.parts.now.arena c.step_main.new.parts.arena
     (arena_kept c.args.parts.now c.step_main.new.parts c.step_main.ensures.rest)
+
+-- ---- what stays
+
+pub returns-in_default-clause-stays : goal.returns-in_default-clause-stays
+returns-in_default-clause-stays g c =
+    let old = c.args.parts.now in
+    let keeper = g.F.Functions in
+    let fs = c.args.functions.now in
+    subst (λ (x : NecessaryPart). RoundStays keeper fs fs old (record old { work = record old.work { graph = x } })) (sym c.in_default.ensures.unchanged)
+    (nothing_done keeper fs old c.requires.kept c.requires.sound c.requires.fit)
+
+-- a change was taken: roots, the round and who was called stay in that too
+stays_taken : (g : Over) (c : After-step_change g)
+    → RoundStays g.F.Functions c.args.functions.now c.step_change.new.functions c.args.parts.now c.step_change.new.parts
+stays_taken g c =
+    let s = c.step_change.ensures.stays in record {
+      kept = s.kept;
+      fit = s.fit;
+      functions = s.functions;
+      flat = s.flat;
+      roots = λ p. s.roots p ∙ ap (λ (x : NecessaryPart). root_times x.roots p) c.pop_least.ensures.rest;
+      round = s.round;
+      ran = s.ran;
+    }
+
+pub returns-in_err-step_change-in-Change-clause-stays : goal.returns-in_err-step_change-in-Change-clause-stays
+returns-in_err-step_change-in-Change-clause-stays g c =
+    stays_taken g (goal.at.returns-in_err-step_change-in-Change-clause-stays g c).After-step_change
+
+pub returns-in_ok-step_change-in-Change-clause-stays : goal.returns-in_ok-step_change-in-Change-clause-stays
+returns-in_ok-step_change-in-Change-clause-stays g c =
+    stays_taken g (goal.at.returns-in_ok-step_change-in-Change-clause-stays g c).After-step_change
+
+-- functions fit still after a main
+main_fits : (g : Over) (c : After-step_main g)
+    → SidesFit (g.F.Functions.known c.step_main.new.functions) (g.F.Functions.right c.step_main.new.functions) c.step_main.new.parts.arena
+main_fits g c =
+    let keeper = g.F.Functions in
+    let k = c.step_main.ensures.functions in
+    subst (λ (a : Arena). SidesFit (keeper.known c.step_main.new.functions) (keeper.right c.step_main.new.functions) a)
+    (sym (arena_kept c.args.parts.now c.step_main.new.parts c.step_main.ensures.rest))
+    (same_fit (keeper.known c.args.functions.now) (keeper.known c.step_main.new.functions) (keeper.right c.args.functions.now)
+    (keeper.right c.step_main.new.functions) c.args.parts.now.arena k.same.known k.same.sides c.requires.fit)
+
+pub returns-in-Ok-clause-stays : goal.returns-in-Ok-clause-stays
+returns-in-Ok-clause-stays g c =
+    let m = c.step_main.ensures in record {
+      kept = m.kept;
+      fit = main_fits g (goal.at.returns-in-Ok-clause-stays g c).After-step_main;
+      functions = m.functions;
+      flat = m.flat;
+      roots = same_roots c.args.parts.now.work.graph c.pop_least.new.self c.step_main.new.parts.work.graph c.pop_least.ensures.rest
+          c.in-Ok.ensures.settled.settled.graph.roots;
+      round = c.in-Ok.ensures.settled.settled.round;
+      ran = ap (λ (x : Parts). x.ran) m.rest;
+    }
+
+pub returns-in-Err-clause-stays : goal.returns-in-Err-clause-stays
+returns-in-Err-clause-stays g c =
+    let p = c.in-Some.p in
+    let mid = c.step_main.new.parts in
+    let m = c.step_main.ensures in record {
+      kept = record {
+        work = main_back c.args.parts.now mid c.pop_least.new.self c.insert.new.self
+            p p.node (counts_by g.F.Functions c.args.functions.now) (counts_by g.F.Functions c.step_main.new.functions) c.requires.kept.work c.in-Some.ensures.was
+            c.pop_least.ensures.rest c.in-Some.ensures.removed c.in-Err.ensures.refused c.insert.ensures.rest c.insert.ensures.inserted
+            (arena_kept c.args.parts.now mid m.rest) m.kept.work;
+        scopes = m.kept.scopes;
+        dying = m.kept.dying;
+      };
+      fit = main_fits g (goal.at.returns-in-Err-clause-stays g c).After-step_main;
+      functions = m.functions;
+      flat = m.flat;
+      roots = same_roots c.args.parts.now.work.graph c.pop_least.new.self c.insert.new.self c.pop_least.ensures.rest
+          (ap (λ (x : NecessaryPart). x.roots) c.insert.ensures.rest ∙ ap (λ (x : NecessaryPart). x.roots) c.in-Err.ensures.refused.graph);
+      round = c.in-Err.ensures.refused.round;
+      ran = ap (λ (x : Parts). x.ran) m.rest;
+    }

@@ -1,0 +1,18 @@
+-- What stays in each step of a round.
+use Rattle.std.specs.Prelude.{◌≡◌}
+use Rattle.necessity.specs.Need.{KeepsRoots}
+use Rattle.node_arena.specs.declared.functions.Functions.{Ghosts}
+use Rattle.stabilizer.specs.Kept.{PartsKept, KeepsMeaning, StaysFlat}
+use Rattle.stabilizer.specs.Weights.{SidesFit}
+use Rattle.stabilizer.specs.declared.parts.Parts.{Parts}
+
+-- the parts keep what they keep between any two calls, functions still fit and mean what they meant, no node changes where no live one is a bind; the
+-- roots that were put on stay, and so do the number of the round, and who was called in the last one
+pub record RoundStays {K More : Type 0} (keeper : Ghosts K More) (fs fs' : K) (old new : Parts) : Type 0 where
+  pub kept : PartsKept new
+  pub fit : SidesFit (keeper.known fs') (keeper.right fs') new.arena
+  pub functions : KeepsMeaning keeper fs fs'
+  pub flat : StaysFlat old.arena new.arena
+  pub roots : KeepsRoots old.work.graph.roots new.work.graph.roots
+  pub round : new.work.round ≡ old.work.round
+  pub ran : new.ran ≡ old.ran
