@@ -1,8 +1,10 @@
 use Rattle.std.proofs.Common.{◌≡◌, ◌∙◌, inl, sym, ap, subst, Option, Some, []}
+use Rattle.std.specs.Prelude.{is_some}
 use Rattle.inc_value.specs.declared.node.Part.TheVariants.{Main}
 use Rattle.inc_value.specs.declared.node.Point.{Point}
 use Rattle.inc_terms.specs.Depend.{main, change}
 use Rattle.inc_terms.specs.Graph.{Row}
+use Rattle.necessity.specs.Need.{Roots, root_times}
 use Rattle.point_map.specs.Rows.{Rows, at, Holds}
 use Rattle.node_outcomes.specs.Computing.{has_part}
 use Rattle.node_outcomes.specs.Row.{IsRewritten, with_stage, stage_in}
@@ -11,14 +13,15 @@ use Rattle.node_outcomes.specs.declared.row.Stage.TheVariants as code
 use Rattle.wiring.specs.Growing.{Grows}
 use Rattle.wiring.specs.Kept.{IsKept}
 use Rattle.wiring.specs.Stands.{hand}
-use Rattle.wiring.specs.Wiring.{Wires, WireRefused, IsMarked, IsSpared, IsTarget, MayRead, StaysInHand}
+use Rattle.wiring.specs.Wiring.{Wires, WireRefused, IsMarked, IsSpared, IsTarget, MayRead, StaysInHand, KeepsPlaces}
 use Rattle.wiring.specs.declared.work.Work.{Work}
 use Rattle.wiring.proofs.Gating.{rowed_target, change_rowed}
 use Rattle.wiring.proofs.Growing.{grows_then}
+use Rattle.wiring.proofs.Handed.{places_then}
 use Rattle.wiring.proofs.Holding.{has_links_same}
 use Rattle.wiring.proofs.Lifting.{one_on, one_gone, one_refused, stays_wires}
 use Rattle.wiring.proofs.Pairing.{pair_kept, pair_static, pair_lifts, pair_due, pair_waits}
-use Rattle.wiring.proofs.Raising.{if_refusal, only_rows, staged_there, staged_grows}
+use Rattle.wiring.proofs.Raising.{if_refusal, only_rows, staged_there, staged_places, staged_grows}
 use Rattle.wiring.proofs.Scheduling.{marked_kept, marked_grows}
 use Rattle.wiring.proofs.work.Work.wire_pair.Goals as goal
 use Rattle.wiring.proofs.work.Work.wire_pair.Goals.{then-branch, else-branch}
@@ -158,4 +161,38 @@ returns-clause-pushed c =
           (has_links_same con old (λ a. sym (places.rows a ∙ staged_there old mid (main n) code.Static w (only_rows old rows) a)) (sym places.deaths)) first
           (marked_grows (change n) con next marked b.schedule.ensures.rest c.in_ok-connect.ensures.kept.step b.schedule.ensures.step))
       | else-branch b ↦ subst (λ (x : Work). Grows old x) (sym b.self-is) first
+    ]
+
+-- ---- where all stays
+
+pub returns-in_err-connect-clause-places : goal.returns-in_err-connect-clause-places
+returns-in_err-connect-clause-places c =
+    let n = c.args.node in
+    let old = c.args.self.now in
+    let rows = c.set_stage.new.rows in
+    let w = rewritten old.rows rows c.main_point.result (main n) c.main_point.ensures c.set_stage.ensures in
+    let mid : Work = record old { rows = rows } in
+    places_then old mid c.connect.new.self (staged_places old mid (main n) code.Static w (only_rows old rows)) c.connect.ensures.places
+
+pub returns-clause-places : goal.returns-clause-places
+returns-clause-places c =
+    let n = c.args.node in
+    let old = c.args.self.now in
+    let rows = c.set_stage.new.rows in
+    let w = rewritten old.rows rows c.main_point.result (main n) c.main_point.ensures c.set_stage.ensures in
+    let mid : Work = record old { rows = rows } in
+    let con = c.connect.new.self in
+    let first = places_then old mid con (staged_places old mid (main n) code.Static w (only_rows old rows)) c.connect.ensures.places in
+    elim c.if-branch.branch [
+      | then-branch b ↦
+          let next = b.schedule.new.self in
+          let roots = b.schedule.ensures.scheduled.graph.roots in
+          let rest = b.schedule.ensures.rest in
+          subst (λ (x : Work). KeepsPlaces old x) (sym b.self-is) (places_then old con next first (record {
+            rows = λ a. ap (λ (x : Work). is_some (at x.rows a)) rest;
+            roots = λ a. ap (λ (r : Roots). root_times r a) roots;
+            deaths = ap (λ (x : Work). x.deaths) rest;
+            round = ap (λ (x : Work). x.round) rest;
+          }))
+      | else-branch b ↦ subst (λ (x : Work). KeepsPlaces old x) (sym b.self-is) first
     ]
