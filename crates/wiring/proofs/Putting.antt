@@ -17,6 +17,7 @@ use Rattle.stabilize_round.proofs.Parts.{bool_cases}
 use Rattle.stabilize_round.proofs.Steps.{joined, wired_moves, wiring_moves}
 use Rattle.wiring.specs.Kept.{IsKept}
 use Rattle.wiring.specs.Refusing.{no_memory}
+use Rattle.wiring.specs.Rooting.{Follows, PutsRootOn}
 use Rattle.wiring.specs.Stands.{Stands, Counts}
 use Rattle.wiring.specs.Wiring.{IsWoken, Looks, IsLevelled, IsTarget, AreUnlinked, Wires, WireRefused, PutsRoots, RootRefused}
 use Rattle.wiring.specs.declared.refused.Refused.{Refused}
@@ -24,7 +25,7 @@ use Rattle.wiring.specs.declared.refused.Refused.TheVariants.{Memory}
 use Rattle.wiring.specs.declared.work.Work.{Work}
 use Rattle.wiring.proofs.Levelling.{low, low_wiring, low_stands}
 use Rattle.wiring.proofs.Rooting.{rooted_stands, rooted_new_stands}
-use Rattle.wiring.proofs.Trying.{IsGrown, grown, same_need, target_row}
+use Rattle.wiring.proofs.Trying.{IsGrown, grown, grown_kept, same_need, target_row}
 use Rattle.wiring.proofs.Unlinked.{empty_unlinked}
 use Rattle.wiring.proofs.Wiring.{looks_stands}
 
@@ -33,18 +34,12 @@ pub on_ok : {A E P : Type 0} (r : Result A E) → P → OnOk r P
 on_ok (Ok x) h = h
 on_ok (Err x) h = tt
 
--- whatever the functions mean, moves lead from each state that the parts stood for to one that they stand for then
-abbrev pub Follows : Arena → Work → Work → Type 0
-Follows arena old new =
-    (F : Functions) (z : Start) (s : State) (counts : Counts) → Stands arena old counts None s → AreUnlinked None s
-    → (t : State) × Moves F z s t × Stands arena new counts None t × AreUnlinked None t
-
 module _ (old mid new : Work) (g : NecessaryPart) (p : Point) (newly : Bool) (looks : Looks old mid) (also : AlsoNeeded mid.graph g p)
     (more : OneRootMore mid.graph.roots g.roots p) (links : KeepsLinks mid.graph.links g.links) (heights : g.heights ≡ mid.graph.heights)
     (heap : g.heap ≡ mid.graph.heap) (newly_is : IsFalse newly ↔ Needed mid.graph p)
     (woken : IsTrue newly → IsWoken (record mid { graph = g }) new p) (same : IsFalse newly → new ≡ record mid { graph = g })
     (mid_step : IsInStep mid.graph) where
-  pub root_grown : ((a : Point) → a ≢ p → at mid.graph.heights a ≡ at old.graph.heights a) → IsInStep new.graph → IsGrown old new p
+  root_grown : ((a : Point) → a ≢ p → at mid.graph.heights a ≡ at old.graph.heights a) → IsInStep new.graph → IsGrown old new p
   root_grown others step_is = grown old mid new g p newly looks others (λ a. ap (λ (h : Rows ℕ). is_some (at h a)) heights) also
       (λ a. ap (λ (h : Rows ℕ). is_some (at h a)) heap) (λ a b r. inl (omega (arith, links a b, looks.links a b, r))) woken same step_is
 
@@ -54,10 +49,10 @@ module _ (old mid new : Work) (g : NecessaryPart) (p : Point) (newly : Bool) (lo
     | inr f ↦ ap (λ (x : Work). root_times x.graph.roots a) (same f)
   ]
 
-  pub root_more : (final : Work) → KeepsRoots new.graph.roots final.graph.roots → OneRootMore old.graph.roots final.graph.roots p
-  root_more final roots = record {
-    raised = let a = roots p in let b = new_roots p in let c = more.raised in let d = looks.roots p in omega (arith, a, b, c, d);
-    others = λ a ne. roots a ∙ (new_roots a ∙ (more.others a ne ∙ looks.roots a));
+  root_more : OneRootMore old.graph.roots new.graph.roots p
+  root_more = record {
+    raised = let a = new_roots p in let b = more.raised in let c = looks.roots p in omega (arith, a, b, c);
+    others = λ a ne. new_roots a ∙ (more.others a ne ∙ looks.roots a);
   }
 
   fresh : IsTrue newly → Needed mid.graph p → ⊥
@@ -91,7 +86,7 @@ module _ (old mid new : Work) (g : NecessaryPart) (p : Point) (newly : Bool) (lo
             (rooted_stands F z s arena mid g counts p at_mid also more links heights heap high (newly_is.0 f) unlinked)
       ]
 
-  pub root_follows : (arena : Arena) → IsKept arena old → IsTarget arena old p → Follows arena old new
+  root_follows : (arena : Arena) → IsKept arena old → IsTarget arena old p → Follows arena old new
   root_follows arena kept target F z s counts st unlinked =
       let first = looks_stands s arena old mid counts None looks st in
       let levelled_state = low F z s arena mid mid counts None first as_it_is in
@@ -103,7 +98,23 @@ module _ (old mid new : Work) (g : NecessaryPart) (p : Point) (newly : Bool) (lo
         after.3,
       )
 
+  pub puts_root_on : ((a : Point) → a ≢ p → at mid.graph.heights a ≡ at old.graph.heights a) → IsInStep new.graph → PutsRootOn old new p
+  puts_root_on others step_is arena kept target =
+      let grown_by = root_grown others step_is in record {
+        follows = root_follows arena kept target;
+        kept = grown_kept old new p grown_by arena target kept;
+        more = root_more;
+        round = grown_by.round;
+      }
+
 -- ---- then what is newly needed gets its links
+
+-- one root came on, and no other
+pub more_then : (old mid new : Roots) (p : Point) → OneRootMore old mid p → KeepsRoots mid new → OneRootMore old new p
+more_then old mid new p more same = record {
+  raised = let a = same p in let b = more.raised in omega (arith, a, b);
+  others = λ a ne. same a ∙ more.others a ne;
+}
 
 pub wires_then : (arena : Arena) (old new final : Work) → old.todo.items ≡ [] → Follows arena old new → Wires arena new final None → PutsRoots arena old final
 wires_then arena old new final quiet first next F z s counts inv st =

@@ -9,3 +9,4 @@ pub mod Wiring
 pub mod Turning
 pub mod Growing
 pub mod Scoped
+pub mod Rooting

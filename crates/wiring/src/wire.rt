@@ -18,6 +18,7 @@ ghost use Rattle.link_table.specs.Links.{Reads};
 ghost use Rattle.wiring.specs.Growing.{Grows};
 ghost use Rattle.wiring.specs.Kept.{IsKept};
 ghost use Rattle.wiring.specs.Refusing.{IsBarred, IsWhy, TellsFault};
+ghost use Rattle.wiring.specs.Rooting.{PutsRootOn};
 ghost use Rattle.wiring.specs.Stands.{hand};
 ghost use Rattle.wiring.specs.Turning.{IsWaiting};
 ghost use Rattle.wiring.specs.Wiring.{GateRan, LacksLinks, MayRead, StaysInHand, WiresTaken};
@@ -53,15 +54,30 @@ impl Work {
         ensures kept { IsKept arena.now self.new }
         ensures others { (a : Point) → a ≢ p → root_times self.new.graph.roots a ≡ root_times self.old.graph.roots a }
     {
-        let opened = self.make_room(p)?;
+        match self.root_on(p) {
+            Ok(()) => self.wire(arena),
+            Err(AllocError) => Err(Refused::Memory),
+        }
+    }
+
+    /// Puts a root on, and what is newly needed into the worklist. Without memory no root comes on.
+    fn root_on(&mut self, p: Point) -> Result<(), AllocError>
+        requires step { IsInStep self.old.graph }
+        ensures rooted { OnOk result (PutsRootOn self.old self.new p) }
+        ensures levelled { OnErr result (IsLevelled self.old self.new) }
+    {
+        let opened = match self.make_room(p) {
+            Ok(opened) => opened,
+            Err(AllocError) => return Err(AllocError),
+        };
         match self.graph.root_on(p) {
             Ok(newly) => {
                 self.wake(p, newly);
-                self.wire(arena)
+                Ok(())
             }
             Err(AllocError) => {
                 self.close(p, opened);
-                Err(Refused::Memory)
+                Err(AllocError)
             }
         }
     }
