@@ -8,7 +8,8 @@ use Rattle.stabilizer.specs.Kept.{PartsKept}
 use Rattle.stabilizer.specs.Staying.{RoundStays}
 use Rattle.stabilizer.specs.Weights.{SidesFit}
 use Rattle.stabilizer.specs.declared.parts.Parts.{Parts}
-use Rattle.stabilizer.proofs.Again.{keeps_meaning, parts_with}
+use Rattle.stabilizer.proofs.Again.{parts_with}
+use Rattle.stabilizer.proofs.MeaningKept.{nothing_meant}
 
 module _ {K More : Type 0} (keeper : Ghosts K More) (fs : K) where
   -- where nothing is done all stays
@@ -17,7 +18,7 @@ module _ {K More : Type 0} (keeper : Ghosts K More) (fs : K) where
   nothing_done parts kept sound fit = record {
     kept = kept;
     fit = fit;
-    functions = keeps_meaning keeper fs sound;
+    functions = nothing_meant keeper fs sound;
     flat = λ none. refl;
     roots = λ p. refl;
     round = refl;
