@@ -1,7 +1,25 @@
-use Rattle.std.proofs.Common.{sym}
-use Rattle.node_arena.specs.Arena.{row_of}
+use Rattle.std.proofs.Common.{◌≡◌, None, sym, ap, ◌∙◌}
+use Rattle.std.specs.Prelude.{is_some}
+use Rattle.inc_value.specs.declared.node.NodeId.{NodeId}
+use Rattle.node_arena.specs.Arena.{Arena, row_of, row_at, IsLive}
 use Rattle.stabilizer.proofs.Adopting.{gets_points, gets_rest, back_rest}
 use Rattle.stabilizer.proofs.parts.Parts.adopt.Goals as goal
+
+-- ---- the node is live
+
+live_row : {P : Type 0} (arena : Arena) (n : NodeId) → IsLive arena n → None ≡ row_at arena n → P
+live_row arena n live none = absurd (let e = sym live ∙ ap is_some (sym none) in cc)
+
+pub returns-in_default-clause-points : goal.returns-in_default-clause-points
+returns-in_default-clause-points c = live_row c.args.self.now.arena c.args.node c.requires.live c.in_default.ensures
+
+pub returns-in_default-clause-enters : goal.returns-in_default-clause-enters
+returns-in_default-clause-enters c = live_row c.args.self.now.arena c.args.node c.requires.live c.in_default.ensures
+
+pub returns-in_default-clause-rest : goal.returns-in_default-clause-rest
+returns-in_default-clause-rest c = live_row c.args.self.now.arena c.args.node c.requires.live c.in_default.ensures
+
+-- ---- its points are made
 
 pub returns-in-Ok-clause-points : goal.returns-in-Ok-clause-points
 returns-in-Ok-clause-points c =
@@ -14,6 +32,8 @@ returns-in-Ok-clause-rest c =
     let a = c.in_ok-add_scoped.ensures in
     gets_rest c.args.self.now.arena c.args.self.now.work c.add_scoped.new.self c.args.node (row_of c.in-Some.row.now) (sym c.in-Some.ensures)
     a.rows a.added.0 a.added.1 a.pairs a.scoped a.others_scoped a.links a.roots a.heap a.step a.todo a.round
+
+-- ---- there was no memory for its place in the scope
 
 pub returns-in-Err-clause-rest : goal.returns-in-Err-clause-rest
 returns-in-Err-clause-rest c =
