@@ -1,4 +1,5 @@
 use Rattle.std.proofs.Common.{◌∙◌, arith}
+use Rattle.wiring.proofs.Handed.{places_then}
 use Rattle.wiring.proofs.Retrying.{first_trying, more_trying, lost_trying, on_trying, refused_trying, first_barred, was_barred, later_places, later_grows}
 use Rattle.wiring.proofs.Retrying.{not_both, may_read, is_target, is_off_now, IsStill}
 use Rattle.wiring.proofs.Telling.{told, barred}
@@ -28,6 +29,10 @@ pub returns-then-is_final-clause-barred : goal.returns-then-is_final-clause-barr
 returns-then-is_final-clause-barred c fewer =
     was_barred c.args.arena.now c.args.self.now c.loop-fault.self c.args.p c.args.q c.loop-fault.invariant c.try_link.new.self
     c.try_link.ensures.retries fewer
+
+pub returns-then-is_final-clause-places : goal.returns-then-is_final-clause-places
+returns-then-is_final-clause-places c =
+    places_then c.args.self.now c.loop-fault.self c.try_link.new.self c.loop-fault.invariant.places c.try_link.ensures.places
 
 -- ---- some of what wasn't confirmed is off, or all
 
