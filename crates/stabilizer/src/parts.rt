@@ -207,9 +207,13 @@ impl Parts {
         ensures kept { PartsKept self.new }
         ensures ready { (M : Meaning) → IsReady M self.old → IsReady M self.new }
     {
-        self.arena.set_var(id, value)?;
-        self.work.schedule(main_point(id));
-        Ok(())
+        match self.arena.set_var(id, value) {
+            Ok(()) => {
+                self.work.schedule(main_point(id));
+                Ok(())
+            }
+            Err(fault) => Err(fault),
+        }
     }
 
     /// Sets the cutoff of a node, which is Equal at first. A dead one has none, and nothing changes. This takes no

@@ -1,15 +1,18 @@
-use Rattle.std.proofs.Common.{◌≡◌, Result, Ok, Err, sym, ap, subst}
-use Rattle.std.specs.Prelude.{◌↔◌, IsErrAnd, IsErrOf}
-use Rattle.node_arena.specs.declared.arena.variable.SetFault.TheVariants.{NotVar, Unknown, WrongType}
+use Rattle.std.proofs.Common.{◌≡◌, sym, ap, subst}
 use Rattle.inc_value.specs.declared.node.Point.{Point}
 use Rattle.inc_terms.specs.Depend.{main}
 use Rattle.inc_terms.specs.Within.{Given, ValueWithin}
-use Rattle.node_arena.specs.Arena.{IsVariable}
+use Rattle.node_arena.specs.Arena.{Arena, IsVariable}
 use Rattle.wiring.specs.Wiring.{IsMarked}
 use Rattle.wiring.specs.declared.work.Work.{Work}
+use Rattle.stabilizer.specs.Kept.{PartsKept}
+use Rattle.stabilizer.specs.Round.{IsReady}
 use Rattle.stabilizer.specs.declared.parts.Parts.{Parts}
 use Rattle.stabilizer.proofs.Setting.{set_parts, set_ready}
+use Rattle.stabilizer.proofs.parts.Parts.set_var.Goals.{In-Err}
 use Rattle.stabilizer.proofs.parts.Parts.set_var.Goals as goal
+
+-- ---- it was set
 
 module _ (c : goal.After-schedule) where
   abbrev old : Parts
@@ -27,31 +30,27 @@ module _ (c : goal.After-schedule) where
   not_other : (IsVariable old.arena c.args.id → ⊥) → ⊥
   not_other isnt = absurd (
       let named : (Given old.arena.given c.args.id × ValueWithin (Given old.arena.given) c.args.value) → ⊥ =
-      λ given. absurd (let e = c.in_ok-set_var.ensures.not_var.1 (given.0, given.1, isnt) in cc) in
-      let e = c.in_ok-set_var.ensures.unknown.1 named in cc)
+      λ given. absurd (let e = c.in-Ok.ensures.not_var.1 (given.0, given.1, isnt) in cc) in
+      let e = c.in-Ok.ensures.unknown.1 named in cc)
 
-pub returns-clause-kept : goal.returns-clause-kept
-returns-clause-kept c = set_parts (old c) (new c) c.args.id c.args.value c.requires.kept c.in_ok-set_var.ensures.set (not_other c)
-    c.in_ok-set_var.ensures.given (marked c) c.schedule.ensures.step c.set_var.ensures.sound (rest c)
+pub returns-in-Ok-clause-kept : goal.returns-in-Ok-clause-kept
+returns-in-Ok-clause-kept c = set_parts (old c) (new c) c.args.id c.args.value c.requires.kept c.in-Ok.ensures.set (not_other c)
+    c.in-Ok.ensures.given (marked c) c.schedule.ensures.step c.set_var.ensures.sound (rest c)
 
-pub returns-clause-ready : goal.returns-clause-ready
-returns-clause-ready c M ready = set_ready (old c) (new c) c.args.id c.args.value c.requires.kept c.in_ok-set_var.ensures.set (not_other c)
-    c.in_ok-set_var.ensures.given (marked c) c.schedule.ensures.step c.set_var.ensures.sound (rest c) M ready
+pub returns-in-Ok-clause-ready : goal.returns-in-Ok-clause-ready
+returns-in-Ok-clause-ready c M ready = set_ready (old c) (new c) c.args.id c.args.value c.requires.kept c.in-Ok.ensures.set (not_other c)
+    c.in-Ok.ensures.given (marked c) c.schedule.ensures.step c.set_var.ensures.sound (rest c) M ready
 
--- a fault that is handed on is the one that was met
-fault_as : {T E : Type 0} (r : Result T E) (met fault : E) (Cause : Type 0) → IsErrAnd r (λ (x : E). x ≡ met)
-    → IsErrOf {T = T} (Err met) fault ↔ Cause → IsErrOf r fault ↔ Cause
-fault_as (Ok t) met fault Cause is h = absurd is
-fault_as {T = T} (Err e) met fault Cause is h = subst (λ x. IsErrOf {T = T} (Err x) fault ↔ Cause) (sym is) h
+-- ---- it was refused
 
-pub returns-in_err-set_var-clause-wrong_type : goal.returns-in_err-set_var-clause-wrong_type
-returns-in_err-set_var-clause-wrong_type c =
-    fault_as c.from_residual.result c.in_err-set_var.field-0.0 WrongType _ c.from_residual.ensures.1 c.in_err-set_var.ensures.wrong_type
+same : (c : In-Err) → record c.args.self.now { arena = c.set_var.new.self } ≡ c.args.self.now
+same c = ap (λ (a : Arena). record c.args.self.now { arena = a }) c.in-Err.ensures.err
 
-pub returns-in_err-set_var-clause-unknown : goal.returns-in_err-set_var-clause-unknown
-returns-in_err-set_var-clause-unknown c =
-    fault_as c.from_residual.result c.in_err-set_var.field-0.0 Unknown _ c.from_residual.ensures.1 c.in_err-set_var.ensures.unknown
+pub returns-in-Err-clause-err : goal.returns-in-Err-clause-err
+returns-in-Err-clause-err c = same (goal.at.returns-in-Err-clause-err c).In-Err
 
-pub returns-in_err-set_var-clause-not_var : goal.returns-in_err-set_var-clause-not_var
-returns-in_err-set_var-clause-not_var c =
-    fault_as c.from_residual.result c.in_err-set_var.field-0.0 NotVar _ c.from_residual.ensures.1 c.in_err-set_var.ensures.not_var
+pub returns-in-Err-clause-kept : goal.returns-in-Err-clause-kept
+returns-in-Err-clause-kept c = subst PartsKept (sym (same (goal.at.returns-in-Err-clause-kept c).In-Err)) c.requires.kept
+
+pub returns-in-Err-clause-ready : goal.returns-in-Err-clause-ready
+returns-in-Err-clause-ready c M ready = subst (IsReady M) (sym (same (goal.at.returns-in-Err-clause-ready c).In-Err)) ready
