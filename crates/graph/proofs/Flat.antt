@@ -87,8 +87,8 @@ module _ {F : Type 0} (M : Functions) where
   abbrev pub IsLawful : Standing F → Refused → Type 0
   IsLawful s e = IsLawfulIn M (nodes_alone s) none_died s e
 
-  abbrev pub HasCalledMet : Standing F → ℕ → ℕ → Type 0
-  HasCalledMet s before after = HasCalledMetIn M (nodes_alone s) none_died s before after
+  abbrev pub HasCalledMet : Standing F → Standing F → ℕ → ℕ → Type 0
+  HasCalledMet old new before after = HasCalledMetIn M (nodes_alone old) none_died old new before after
 
   abbrev pub IsRefusedFor : Standing F → Standing F → Kept → Type 0
   IsRefusedFor old new cause = IsRefusedIn M (nodes_alone old) none_died old new cause
@@ -96,9 +96,9 @@ module _ {F : Type 0} (M : Functions) where
   -- ---- so it is of a stabilize of nodes none of which is a bind
 
   module _ (old new : Standing F) (no_binds : HasNoBinds old.nodes) (nodes : new.nodes ≡ old.nodes) where
-    pub still_called : (before after : ℕ) → effect.HasCalledMet M old new before after → HasCalledMet old before after
-    still_called before after h = subst (λ (G : Graph). HasCalledMetIn M G none_died old before after) (is_alone old no_binds)
-        (from_graphs (λ G died later. HasCalledMetIn M G died old before after) (graph old) (graph new) (graph_stays old new no_binds nodes) h)
+    pub still_called : (before after : ℕ) → effect.HasCalledMet M old new before after → HasCalledMet old new before after
+    still_called before after h = subst (λ (G : Graph). HasCalledMetIn M G none_died old new before after) (is_alone old no_binds)
+        (from_graphs (λ G died later. HasCalledMetIn M G died old new before after) (graph old) (graph new) (graph_stays old new no_binds nodes) h)
 
     pub still_stabilizes : effect.Stabilizes M old new → Stabilizes old new
     still_stabilizes done = subst (λ (G : Graph). StabilizesIn M G none_died G old new) (is_alone old no_binds)

@@ -13,13 +13,10 @@ use Rattle.stabilizer.specs.declared.parts.Parts.{Parts}
 -- no call is made
 pub none_met : (F : Functions) (old new : Parts) (observed : List NodeId) (calls : ℕ) → HasCalledMet F old new observed calls calls
 none_met F old new observed calls = record {
-  few = record {
-    nodes = [];
-    once = tt;
-    callers = λ n among. absurd among;
-    count = record { kept = omega arith; within = omega arith };
-  };
-  met = λ n among. absurd among;
+  nodes = [];
+  once = tt;
+  due = λ n among. absurd among;
+  count = record { kept = omega arith; within = omega arith };
 }
 
 -- no node dies, and none is new

@@ -1,5 +1,5 @@
 -- A round of the parts, told of the graph.
-use Rattle.std.proofs.Common.{◌≡◌, ◌⊎◌, inl, inr, ℕ, ◌+◌, ◌<◌, ◌≤◌, true, List, [], ◌∷◌, length, Option, None, Some, refl, sym, ap, subst, ◌∙◌}
+use Rattle.std.proofs.Common.{◌≡◌, ◌⊎◌, inl, inr, ℕ, ◌+◌, ◌<◌, ◌≤◌, Bool, true, List, [], ◌∷◌, length, Option, None, Some, refl, sym, ap, subst, ◌∙◌}
 use Rattle.inc_value.specs.declared.node.NodeId.{NodeId}
 use Rattle.inc_value.specs.declared.node.Point.{Point}
 use Rattle.inc_value.specs.Choice.{here}
@@ -12,19 +12,20 @@ use Rattle.inc_terms.specs.Within.{Given}
 use Rattle.node_arena.specs.Arena.{row_at}
 use Rattle.stabilize_round.specs.Laws.{GraphStays}
 use Rattle.point_map.specs.Rows.{at}
+use Rattle.stabilize_round.proofs.Reasons.{reason_more}
 use Rattle.stabilizer.specs.Round as round
 use Rattle.stabilizer.specs.declared.parts.Parts.{Parts}
 use Rattle.wiring.specs.declared.refused.Refused.{Refused}
 use Rattle.wiring.specs.declared.refused.Refused.TheVariants.{Height, Cycle, Full, Memory}
 use Rattle.graph.specs.Fault.{kept_of}
-use Rattle.graph.specs.Stabilizes.{ComesBack, AllButLast, StoodBeside, WasForced, WasCalledIn, Stabilizes, StabilizesIn, IsListedIn, IsLawfulIn, HasCalledMetIn, IsTried, LeavesTried}
+use Rattle.graph.specs.Stabilizes.{ComesBack, AllButLast, StoodBeside, WasDueIn, WasCalledIn, Stabilizes, StabilizesIn, IsListedIn, IsLawfulIn, HasCalledMetIn, IsTried, LeavesTried}
 use Rattle.graph.specs.Stabilizes.{left_by, died_by, LeavesNodes, StandsAnew, IsBuiltMetIn, IsUnbuiltIn, BuildsRightIn}
 use Rattle.graph.specs.Stabilizes.{IsRefusedFor}
-use Rattle.graph.specs.Standing.{Standing, graph, IsNeeded, in_use, settled_last}
+use Rattle.graph.specs.Standing.{Standing, graph, IsNeeded, in_use, is_settled, settled_last}
 use Rattle.graph.specs.declared.fault.Kept.{Kept}
 use Rattle.graph.specs.declared.observer.Observer.{Observer}
 use Rattle.graph.proofs.Observing.{looked_among}
-use Rattle.graph.proofs.Seeing.{seen_as, needed_in, needed_out, cutoff_never, never_is, settled_once}
+use Rattle.graph.proofs.Seeing.{seen_as, needed_in, needed_out, never_is, settled_once}
 use Rattle.stabilizer.specs.Building.{LeavesNoRoom}
 use Rattle.stabilizer.specs.Kept.{graph_in}
 use Rattle.wiring.specs.Stands.{Counts}
@@ -79,13 +80,29 @@ module _ {F : Type 0} (M : Functions) (G : Graph) (died : NodeId → Option Node
   lawful_in Full l = l
   lawful_in Memory l = l
 
-  pub few_in : (calls after : ℕ) → round.HasCalledMetIn M G died parts.work (in_use observers) calls after → HasCalledMetIn M G died before calls after
-  few_in calls after h = record {
-    nodes = h.few.nodes;
-    once = h.few.once;
-    callers = h.few.callers;
-    count = h.few.count;
-    met = λ n among. met_in (main n) (h.met n among);
+  -- what was due by what was settled in the work was due by what is settled of the graph
+  pub due_in : (settled : Point → Bool) (now : Standing F) → ((q : Point) → settled q ≡ true → is_settled now q ≡ true) → (n : NodeId)
+      → round.WasDueIn M G died parts.work settled (in_use observers) n → WasDueIn M G died before now n
+  due_in settled now more n d = record {
+    row = d.row;
+    kids = d.nodes;
+    values = d.values;
+    is_row = d.is_row;
+    takes = d.takes;
+    gives = d.gives;
+    reason = reason_more more d.reason;
+    met = met_in (main n) d.met;
+  }
+
+  pub few_in : (functions' : F) (new : Parts) (rooted' : ℕ) (met : Refused) (calls after : ℕ)
+      → round.HasCalledMetIn M G died parts.work new.work (in_use observers) calls after
+      → HasCalledMetIn M G died before (seen_as functions' new observers rooted' (Some met)) calls after
+  few_in functions' new rooted' met calls after h = record {
+    nodes = h.nodes;
+    once = h.once;
+    due = λ n among. due_in (round.settled_by new.work.round new.work) (seen_as functions' new observers rooted' (Some met)) (λ q settled. settled) n
+        (h.due n among);
+    count = h.count;
   }
 
   built_in : (b : NodeId) → round.IsBuiltMetIn M G died parts.work (in_use observers) b → IsBuiltMetIn M G died before b
@@ -119,29 +136,19 @@ module _ {F : Type 0} (M : Functions) (functions functions' : F) (old new : Part
   now = seen_as functions' new observers all refused
 
   module _ (G : Graph) (died : NodeId → Option NodeId) (numbered : 0 < old.work.round) (next : new.work.round ≡ old.work.round + 1) where
-    forced_in : (kids : List NodeId) → round.WasForced old.work new.work kids → WasForced was now kids
-    forced_in kids (k, among, never, settled) = (
-      k,
-      among,
-      cutoff_never (at old.work.rows (main k)) never,
-      subst (λ (r : Option Refused). settled_last r new.work.round (at new.work.rows (main k)) ≡ true) (sym still)
-          (subst (λ (i : ℕ). settled_last None i (at new.work.rows (main k)) ≡ true) (sym next)
-          (settled_once old.work.round (at new.work.rows (main k)) numbered settled)),
-    )
+    settled_now : (q : Point) → round.settled_by old.work.round new.work q ≡ true → is_settled now q ≡ true
+    settled_now q settled =
+        subst (λ (r : Option Refused). settled_last r new.work.round (at new.work.rows q) ≡ true) (sym still)
+        (subst (λ (i : ℕ). settled_last None i (at new.work.rows q) ≡ true) (sym next)
+        (settled_once old.work.round (at new.work.rows q) numbered settled))
 
     called_in : (n : NodeId) → round.WasCalledIn M G died old.work new.work (in_use observers) n → WasCalledIn M G died was now n
+    unfolding due_in
     called_in n w = record {
-      row = w.row;
-      kids = w.nodes;
-      values = w.values;
+      due = due_in M G died functions old observers rooted refused (round.settled_by old.work.round new.work) now settled_now n w.due;
       result = w.result;
-      is_row = w.is_row;
-      takes = w.takes;
-      gives = w.gives;
-      reason = elim w.reason [ inl other ↦ inl other | inr forced ↦ inr (forced_in w.nodes forced) ];
       is_last = w.is_last;
       answers = w.answers;
-      met = met_in M G died functions old observers rooted refused (main n) w.met;
     }
 
     pub accepted_in : (after : Graph) → GraphStays old.arena.given new.arena.given (graph_in old) (graph_in new)

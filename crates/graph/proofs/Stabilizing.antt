@@ -1,5 +1,5 @@
 -- What a round gave, over other lists of the same nodes.
-use Rattle.std.proofs.Common.{◌≡◌, inl, inr, ℕ, ◌≤◌, List, ◌++◌, length, map, take, drop, Option, None, Some, Ok, Err, refl, sym, ap, subst, ◌∙◌, arith}
+use Rattle.std.proofs.Common.{◌≡◌, inl, inr, ℕ, ◌≤◌, Bool, List, ◌++◌, length, map, take, drop, Option, None, Some, Ok, Err, refl, sym, ap, subst, ◌∙◌, arith}
 use Rattle.std.specs.Prelude.{Result, OnOk, OnErr, IfErr, IsSome}
 use Rattle.std.proofs.Math.Seq.{take-length}
 use Rattle.inc_value.specs.declared.outcome.Outcome.{Outcome}
@@ -15,7 +15,7 @@ use Rattle.necessary_graph.specs.Part as part
 use Rattle.stabilize_round.specs.State.{count}
 use Rattle.node_outcomes.specs.Computing.{seen}
 use Rattle.node_outcomes.specs.Meaning.{Meaning}
-use Rattle.stabilizer.specs.Round.{AreRooted, IsReady, IsUpToDate, IsUpToDateIn, WasCalledIn, IsLawful, IsLawfulIn, IsListedIn, HasCalledMet, HasCalledMetIn}
+use Rattle.stabilizer.specs.Round.{AreRooted, IsReady, IsUpToDate, IsUpToDateIn, settled_by, WasDueIn, WasCalledIn, IsLawful, IsLawfulIn, IsListedIn, HasCalledMet, HasCalledMetIn}
 use Rattle.stabilizer.specs.Kept.{graph_in}
 use Rattle.stabilizer.specs.Round.{left_by, died_by, IsBuiltMetIn, BuildsRightIn, BuildsAll, BuildsAllBut}
 use Rattle.stabilizer.specs.declared.parts.Parts.{Parts}
@@ -41,20 +41,21 @@ module _ (F : Functions) (G : Graph) (died : NodeId → Option NodeId) (xs ys : 
 
 module _ (F : Functions) (G : Graph) (died : NodeId → Option NodeId) (old : Work) (xs ys : List NodeId) (to : (n : NodeId) → Among n xs → Among n ys)
     (back : (n : NodeId) → Among n ys → Among n xs) where
-  pub called_as : (new : Work) (n : NodeId) → WasCalledIn F G died old new xs n → WasCalledIn F G died old new ys n
-  called_as new n w = record {
-    row = w.row;
-    nodes = w.nodes;
-    values = w.values;
-    result = w.result;
-    is_row = w.is_row;
-    takes = w.takes;
-    answers = w.answers;
-    gives = w.gives;
-    reason = w.reason;
-    is_last = w.is_last;
-    met = met_as F G died xs ys to (λ (p : Point). part.Needed old.graph p) (main n) w.met;
+  due_as : (settled : Point → Bool) (n : NodeId) → WasDueIn F G died old settled xs n → WasDueIn F G died old settled ys n
+  due_as settled n d = record {
+    row = d.row;
+    nodes = d.nodes;
+    values = d.values;
+    is_row = d.is_row;
+    takes = d.takes;
+    gives = d.gives;
+    reason = d.reason;
+    met = met_as F G died xs ys to (λ (p : Point). part.Needed old.graph p) (main n) d.met;
   }
+
+  pub called_as : (new : Work) (n : NodeId) → WasCalledIn F G died old new xs n → WasCalledIn F G died old new ys n
+  unfolding due_as
+  called_as new n w = record { due = due_as (settled_by old.round new) n w.due; result = w.result; is_last = w.is_last; answers = w.answers }
 
   pub up_to_date_as : (after : Graph) (new : Work) (ran : List NodeId) → ((p : Point) → count p (map main xs) ≡ count p (map main ys))
       → IsUpToDateIn F G died after old new xs ran → IsUpToDateIn F G died after old new ys ran
@@ -78,10 +79,12 @@ module _ (F : Functions) (G : Graph) (died : NodeId → Option NodeId) (old : Wo
     work = λ before observers stood all. u.work before observers stood (λ n among. all n (to n among));
   }
 
-  pub few_as : (before after : ℕ) → HasCalledMetIn F G died old xs before after → HasCalledMetIn F G died old ys before after
-  few_as before after h = record {
-    few = h.few;
-    met = λ n among. met_as F G died xs ys to (λ (p : Point). part.Needed old.graph p) (main n) (h.met n among);
+  pub few_as : (new : Work) (before after : ℕ) → HasCalledMetIn F G died old new xs before after → HasCalledMetIn F G died old new ys before after
+  few_as new before after h = record {
+    nodes = h.nodes;
+    once = h.once;
+    due = λ n among. due_as (settled_by new.round new) n (h.due n among);
+    count = h.count;
   }
 
   built_as : (b : NodeId) → IsBuiltMetIn F G died old xs b → IsBuiltMetIn F G died old ys b
@@ -175,7 +178,7 @@ module _ (M : Meaning) (old new : Parts) (os : List Observer) (rooted : ℕ)
   pub all_few : (before after : ℕ) → ((observed : List NodeId) → AreRooted old.work observed
       → HasCalledMet M.functions old new (rest ++ observed) before after)
       → HasCalledMet M.functions old new (in_use os) before after
-  all_few before after few = few_as M.functions (left_by old new) (died_by old new) old.work (rest ++ front) (in_use os) to_all from_all before after (few front can.roots)
+  all_few before after few = few_as M.functions (left_by old new) (died_by old new) old.work (rest ++ front) (in_use os) to_all from_all new.work before after (few front can.roots)
 
   pub all_built : ((observed : List NodeId) → AreRooted old.work observed → BuildsAll M.functions old new (rest ++ observed))
       → BuildsAll M.functions old new (in_use os)

@@ -1,5 +1,5 @@
 -- What a stabilize does.
-use Rattle.std.specs.Prelude.{◌≡◌, ◌⊎◌, ◌↔◌, ◌++◌, ◌<◌, ◌≤◌, ◌+◌, ℕ, true, List, [], ◌∷◌, length, Option, None, Some}
+use Rattle.std.specs.Prelude.{◌≡◌, ◌⊎◌, ◌↔◌, ◌++◌, ◌<◌, ◌≤◌, ◌+◌, ℕ, true, false, List, [], ◌∷◌, length, Option, None, Some}
 use Rattle.inc_value.specs.Choice.{Among, NoRepeats}
 use Rattle.inc_value.specs.Walk.{IsWalk, IsDeep, IsOnCycle}
 use Rattle.inc_value.specs.declared.node.NodeId.{NodeId}
@@ -19,11 +19,9 @@ use Rattle.inc_terms.specs.Term.{Functions}
 use Rattle.inc_terms.specs.Within.{Given}
 use Rattle.inc_terms.specs.Work.{WithinWork, taken_by}
 use Rattle.height_order.specs.Chains.{StartsAt, EndsAt}
-use Rattle.map_nodes.specs.declared.cutoff.Cutoff.TheVariants.{Never}
 use Rattle.node_arena.specs.Arena.{row_at}
-use Rattle.node_outcomes.specs.Computing.{IsCallerAt}
 use Rattle.node_outcomes.specs.Row.{is_never}
-use Rattle.stabilize_round.specs.Calling.{IsAnswer, cost_at, costs_of}
+use Rattle.stabilize_round.specs.Calling.{Reason, IsAnswer, cost_at, costs_of}
 use Rattle.stabilize_round.specs.Calls.{arguments_of}
 use Rattle.stabilize_round.specs.Counts.{RoseBy, RoseAtMost}
 use Rattle.stabilize_round.specs.Laws.{GraphStays}
@@ -60,10 +58,6 @@ module _ {F : Type 0} where
     pub held : (p : Point) → IsNeeded s p → Held before observers p
     pub last : (n : NodeId) → before.last n ≡ arguments_of (called_last s n)
     pub never : (n : NodeId) → before.never n ≡ is_never (cutoff_of s n)
-
-  -- a child of cutoff Never was settled in the stabilize: the function was called even on the values of its last call
-  abbrev pub WasForced : Standing F → Standing F → List NodeId → Type 0
-  WasForced old new kids = (k : NodeId) × Among k kids × (cutoff_of old k ≡ Never) × (is_settled new (main k) ≡ true)
 
   -- ---- over the graph that a stabilize left, and those who died in it
 
@@ -102,21 +96,28 @@ module _ {F : Type 0} where
       pub scoped : (n : NodeId) (r : Row) (b : NodeId) → old.nodes.given ≤ n.gen_ → G.row n ≡ Some r → r.scope ≡ Some b → G.built b ≡ None
           → unbuilt ≡ Some b
 
-    -- ---- accepted
+    -- ---- why a function is called
 
-    -- a node's function was called: the node is met, its children give these values, on which it wasn't called last unless it was forced, and now it was
-    pub record WasCalledIn (old new : Standing F) (n : NodeId) : Type 0 where
+    -- a node's function was due: the node is met, its children give these values, and either it wasn't called on these last before the stabilize, or a
+    -- child of cutoff Never was settled in it; none was made stale
+    pub record WasDueIn (old new : Standing F) (n : NodeId) : Type 0 where
       pub row : Row
       pub kids : List NodeId
       pub values : List Value
-      pub result : Value
       pub is_row : G.row n ≡ Some row
       pub takes : taken_by G n row.def ≡ Some kids
       pub gives : GiveAll M G kids values
-      pub reason : ((c : Call) → called_last old n ≡ Some c → c.arguments ≡ values → ⊥) ⊎ WasForced old new kids
-      pub is_last : called_last new n ≡ Some (record { arguments = values; result = result })
-      pub answers : IsAnswer M row.def values result
+      pub reason : Reason (called_last old) (λ (m : NodeId). is_never (cutoff_of old m)) (is_settled new) (λ (m : NodeId). false) n kids values
       pub met : IsMetIn old (main n)
+
+    -- ---- accepted
+
+    -- a node's function was due, and was called, and that is its last call now
+    pub record WasCalledIn (old new : Standing F) (n : NodeId) : Type 0 where
+      pub due : WasDueIn old new n
+      pub result : Value
+      pub is_last : called_last new n ≡ Some (record { arguments = due.values; result = result })
+      pub answers : IsAnswer M due.row.def due.values result
 
     -- an accepted stabilize: each observer in use shows what its node gives, evaluated from scratch; observers stay, and of nodes what a round leaves;
     -- each bind could be built that was due; and what is needed, linked and called is right: need, links and last calls are those of the graph after it,
@@ -169,13 +170,12 @@ module _ {F : Type 0} where
     abbrev pub ShowsStillIn : Standing F → Standing F → NodeId → Type 0
     ShowsStillIn old new n = (shown_of new n ≡ shown_of old n) ⊎ ((x : Outcome) × (shown_of new n ≡ Some x) × NodeGives M G n x)
 
-    -- at most the calls were made that it takes to compute each of some live maps and folds once, all of them met
-    pub record HasCalledMetIn (s : Standing F) (before after : ℕ) : Type 0 where
+    -- at most the calls were made that it takes to compute each of some live maps and folds once, all of which were due
+    pub record HasCalledMetIn (old new : Standing F) (before after : ℕ) : Type 0 where
       pub nodes : List NodeId
       pub once : NoRepeats nodes
-      pub callers : (n : NodeId) → Among n nodes → IsCallerAt G n
+      pub due : (n : NodeId) → Among n nodes → WasDueIn old new n
       pub count : RoseAtMost before (costs_of G nodes) after
-      pub met : (n : NodeId) → Among n nodes → IsMetIn s (main n)
 
   -- the points are linked each to the next, with one link more
   abbrev pub IsLinkedWith : Standing F → Point → Point → Point → Point → Type 0
@@ -270,4 +270,4 @@ module _ {F : Type 0} where
     IsRefusedFor cause = IsRefusedIn M (left_by old new) (died_by old new) old new cause
 
     abbrev pub HasCalledMet : ℕ → ℕ → Type 0
-    HasCalledMet before after = HasCalledMetIn M (left_by old new) (died_by old new) old before after
+    HasCalledMet before after = HasCalledMetIn M (left_by old new) (died_by old new) old new before after

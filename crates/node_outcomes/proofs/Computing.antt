@@ -38,11 +38,12 @@ use Rattle.stabilize_round.specs.Counts.{RoseBy, RoseAtMost}
 use Rattle.stabilize_round.specs.Moves.{calls_of}
 use Rattle.stabilize_round.specs.State.{Call}
 use Rattle.node_outcomes.specs.Computing.{seen, seen_of, seen_together, value_shown, ShowsValue, IsForcedBy, CallsSeen, Noted, KeepsTypes, IsOfType, LooksAtSeen, has_part}
-use Rattle.node_outcomes.specs.Computing.{ran_then, IsCalled, Calls, IsKnown, AllShow, LastWas, FoldFits, KeepsAllButCount, ComputesCall, CallComputes, Computes, NotComputed, Ends}
+use Rattle.node_outcomes.specs.Computing.{ran_then, IsCalled, Calls, IsKnown, AllShow, LastWas, FoldFits, IsSeenDue, NotCalled, ComputesCall, CallComputes, Computes, NotComputed, Ends}
 use Rattle.node_outcomes.specs.Choosing.{built_by, held_in, right_in}
 use Rattle.node_outcomes.specs.Row.{IsRewritten, with_last, value_of, value_in, outcome_in}
 use Rattle.node_outcomes.specs.declared.row.Progress.{Progress}
 use Rattle.node_outcomes.proofs.Held.{built_live, right_is}
+use Rattle.node_outcomes.proofs.Reasons.{reason_of, no_reason}
 use Rattle.node_outcomes.proofs.Pairs.{IsPair, ShowsRight, gives_own_right, right_shows}
 
 some_is : {A : Type 0} (x : Option A) → IsSome x → (a : A) × (x ≡ Some a)
@@ -236,7 +237,8 @@ module _ (F : Functions) (answer : List Value → Value) (t : Ty) (round : ℕ) 
         call,
         is_last,
         same values (relisted G n old.rows def nodes others values (takes G) its e),
-        λ f. free (subst (IsForcedBy round old.rows) (same_Some others nodes (sym its ∙ takes G)) f),
+        no_reason round old.rows n others values call was (same values (relisted G n old.rows def nodes others values (takes G) its e))
+            (λ f. free (subst (IsForcedBy round old.rows) (same_Some others nodes (sym its ∙ takes G)) f)),
       ),
     );
     gives = λ answers known. gives answers;
@@ -269,40 +271,42 @@ module _ (F : Functions) (answer : List Value → Value) (t : Ty) (round : ℕ) 
   abbrev now_called : Call
   now_called = record { arguments = now_shown; result = answer now_shown }
 
+  shown_together : IsKnown round old.rows n nodes None → seen_together old.rows nodes ≡ Values now_shown
+  shown_together unknown = together_from_shown old.rows nodes now_shown (filter_is_shown old.rows nodes unknown.0)
+
+  -- where its outcome isn't known the function is due
+  now_due : IsKnown round old.rows n nodes None → (G : Graph) → IsSeenDue G n round old.rows def
+  now_due unknown G = record {
+    nodes = nodes;
+    values = now_shown;
+    takes = takes G;
+    shows = shown_together unknown;
+    reason = reason_of round old.rows n nodes now_shown (filter_is_shown old.rows nodes unknown.0) unknown.1;
+  }
+
   -- the function was called
   called_computes : (new : Noted) (o : Outcome) → IsKnown round old.rows n nodes None → IsCalled answer t old new n now_shown o cost
       → ComputesCall F answer t round old new n def nodes o cost
+  unfolding now_due
   called_computes new o unknown called = record {
     kept = kept;
     is_kept = is_kept;
     last = Some now_called;
     called = true;
-    calls = λ G. (nodes, now_shown, answer now_shown, takes G, together, others, refl, is_answer now_shown);
-    gives = λ answers known. ap (given answer) together ∙ sym (ap Some called.outcome);
+    calls = λ G. (now_due unknown G, answer now_shown, refl, is_answer now_shown);
+    gives = λ answers known. ap (given answer) (shown_together unknown) ∙ sym (ap Some called.outcome);
     row = called.row;
     ran = called.ran;
     count = called.count;
     shows = λ v e. (now_called, refl, let h = called.outcome in cc);
     answer_typed = λ c e. inr (ap (λ (x : Call). type_of x.result) (sym (same_Some now_called c e)) ∙ called.type);
-  } where
-    shown : AllZip (ShowsValue old.rows) nodes now_shown
-    shown = filter_is_shown old.rows nodes unknown.0
-
-    together : seen_together old.rows nodes ≡ Values now_shown
-    together = together_from_shown old.rows nodes now_shown shown
-
-    others : ((c : Call) → kept.last ≡ Some c → c.arguments ≡ now_shown → ⊥) ⊎ IsForcedBy round old.rows nodes
-    others = elim unknown.1 [
-      | inl differs ↦ inl (λ c e same. differs c (last_of_kept (at old.rows (main n)) kept is_kept ∙ e)
-          (subst (λ (vs : List Value). AllZip (ShowsValue old.rows) nodes vs) (sym same) shown))
-      | inr f ↦ inr f
-    ]
+  }
 
   -- so the calls' end is
   pub ends_computes : {E : Type 0} (new : Noted) (result : Result Outcome E) → IsKnown round old.rows n nodes None
       → Calls answer t old new n now_shown cost result → CallComputes F answer t round old new n def nodes cost result
   ends_computes new (Ok o) unknown called = called_computes new o unknown called
-  ends_computes new (Err e) unknown m = m
+  ends_computes new (Err e) unknown m = record { rows = m.rows; ran = m.ran; count = inr (now_due unknown, m.count) }
 
 -- ---- what a node gives
 
@@ -570,14 +574,21 @@ module _ (F : Functions) (arena : Arena) (roots : Rows NodeId) (round : ℕ) (ol
       ]
 
     -- it wasn't
-    call_fails : (new : Noted) → KeepsAllButCount old new cost → NotComputed G old new n
+    call_fails : (new : Noted) → NotCalled round old new n def cost → NotComputed G round old new n
     call_fails new m = record {
       rows = m.rows;
       ran = m.ran;
-      count = inr (record {
-        caller = record { row = row; nodes = nodes; is_row = is_row; takes = ap (taken_by G n) is_def ∙ takes };
-        count = subst (λ (k : ℕ). RoseAtMost old.calls k new.calls) cost_here m.count;
-      });
+      count = elim m.count [
+        | inl same ↦ inl same
+        | inr some ↦ inr (record {
+          row = row;
+          is_row = is_row;
+          kept = progress;
+          is_kept = is_progress;
+          due = subst (λ (d : Def). IsSeenDue G n round old.rows d) (sym is_def) (some.0 G);
+          count = subst (λ (k : ℕ). RoseAtMost old.calls k new.calls) cost_here some.1;
+        })
+      ];
     }
 
     -- so it ends

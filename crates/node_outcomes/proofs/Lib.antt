@@ -3,5 +3,6 @@ pub mod Folding
 pub mod Rewriting
 pub mod Held
 pub mod Pairs
+mod Reasons
 pub mod Computing
 pub mod Rights

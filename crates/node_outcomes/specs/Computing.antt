@@ -2,7 +2,7 @@
 use Rattle.std.specs.Prelude.{◌≡◌, ◌||◌, ◌⊎◌, ◌++◌, ℕ, zero, suc, Bool, true, false, List, [], ◌∷◌}
 use Rattle.std.specs.Prelude.{Option, None, Some, IsSome, option_and_then, is_some, Result, Ok, Err}
 use Rattle.std.specs.List.{AllZip}
-use Rattle.inc_value.specs.Choice.{Among, Every}
+use Rattle.inc_value.specs.Choice.{Every}
 use Rattle.inc_value.specs.declared.ty.Ty.{Ty}
 use Rattle.inc_value.specs.declared.function.FnRef.{FnRef}
 use Rattle.inc_value.specs.declared.node.NodeId.{NodeId}
@@ -23,14 +23,14 @@ use Rattle.node_arena.specs.Arena.{Arena, row_at}
 use Rattle.node_arena.specs.Graph.{Holdings, graph_of}
 use Rattle.node_arena.specs.Typing.{Fits, HasType}
 use Rattle.inc_terms.specs.Work.{taken_by}
-use Rattle.stabilize_round.specs.Calling.{IsAnswer, cost_at}
+use Rattle.stabilize_round.specs.Calling.{Reason, IsAnswer, cost_at}
 use Rattle.stabilize_round.specs.Counts.{RoseBy, RoseAtMost}
 use Rattle.stabilize_round.specs.Moves.{calls_of}
 use Rattle.stabilize_round.specs.State.{Call}
 use Rattle.inc_value.specs.Value.{type_of}
 use Rattle.inc_value.specs.declared.outcome.Outcome.TheVariants.{Val}
 use Rattle.point_map.specs.Rows.{KeepsRows}
-use Rattle.node_outcomes.specs.Row.{IsRewritten, with_call, with_last, value_in, passes_in, outcome_in}
+use Rattle.node_outcomes.specs.Row.{IsRewritten, with_call, with_last, value_in, never_in, settled_in, passes_in, outcome_in}
 use Rattle.node_outcomes.specs.declared.row.Progress.{Progress}
 
 -- what is seen of a point by its row: Invalid without one
@@ -65,23 +65,35 @@ abbrev pub forced_by : ℕ → Rows Progress → List NodeId → Bool
 forced_by round rows [] = false
 forced_by round rows (n ∷ ns) = passes_in round (at rows (main n)) || forced_by round rows ns
 
--- one of the nodes has cutoff Never and was settled in the round
-abbrev pub IsForced : (NodeId → Bool) → (Point → Bool) → List NodeId → Type 0
-IsForced never settled kids = (k : NodeId) × Among k kids × (never k ≡ true) × (settled (main k) ≡ true)
-
 -- so it is
 abbrev pub IsForcedBy : ℕ → Rows Progress → List NodeId → Type 0
 IsForcedBy round rows nodes = forced_by round rows nodes ≡ true
 
--- what a node's function was last called on after the node was computed: it was called, on other values than before or as it was forced, or that stays
+-- the last call of a node's function
+abbrev pub last_in : Rows Progress → NodeId → Option Call
+last_in rows n = option_and_then (λ (k : Progress). k.last) (at rows (main n))
+
+-- why a node's function is called, by what is kept of points in a round: none was made stale
+abbrev pub ReasonIn : ℕ → Rows Progress → NodeId → List NodeId → List Value → Type 0
+ReasonIn round rows n nodes values =
+    Reason (last_in rows) (λ (m : NodeId). never_in (at rows (main m))) (λ (p : Point). settled_in round (at rows p)) (λ (m : NodeId). false) n nodes values
+
+-- a node's function is due: its children are seen to show these values, and there is a reason to call it on them
+pub record IsSeenDue (G : Graph) (n : NodeId) (round : ℕ) (rows : Rows Progress) (def : Def) : Type 0 where
+  pub nodes : List NodeId
+  pub values : List Value
+  pub takes : taken_by G n def ≡ Some nodes
+  pub shows : seen_together rows nodes ≡ Values values
+  pub reason : ReasonIn round rows n nodes values
+
+-- what a node's function was last called on after the node was computed: it was due and was called, or that stays
 abbrev pub CallsSeen : Functions → Graph → NodeId → ℕ → Rows Progress → Def → Option Call → Option Call → Bool → Type 0
 CallsSeen F G n round rows def last last' false = (last' ≡ last)
     × ((nodes : List NodeId) (values : List Value) → taken_by G n def ≡ Some nodes → seen_together rows nodes ≡ Values values
-    → (c : Call) × (last ≡ Some c) × (c.arguments ≡ values) × (IsForcedBy round rows nodes → ⊥))
+    → (c : Call) × (last ≡ Some c) × (c.arguments ≡ values) × (ReasonIn round rows n nodes values → ⊥))
 CallsSeen F G n round rows def last last' true =
-    (nodes : List NodeId) × (values : List Value) × (result : Value) × (taken_by G n def ≡ Some nodes) × (seen_together rows nodes ≡ Values values)
-    × (((c : Call) → last ≡ Some c → c.arguments ≡ values → ⊥) ⊎ IsForcedBy round rows nodes) × (last' ≡ Some (record { arguments = values; result = result }))
-    × IsAnswer F def values result
+    (due : IsSeenDue G n round rows def) × (result : Value) × (last' ≡ Some (record { arguments = due.values; result = result }))
+    × IsAnswer F def due.values result
 
 -- something is seen of all that a main's own function looks at: its children, or its own change and the right side that this chose
 pub record LooksAtSeen (rows : Rows Progress) (G : Graph) (n : NodeId) (def : Def) : Type 0 where
@@ -154,21 +166,25 @@ pub record Computes (F : Functions) (arena : Arena) (held : Holdings) (round : �
   pub typed : (r : Row) (v : Value) → row_at arena n ≡ Some r → o ≡ Val v → IsOfType arena v r.ty
   pub answer_typed : (r : Row) (c : Call) → row_at arena n ≡ Some r → last ≡ Some c → IsOfType arena c.result r.ty
 
--- calls of a node's function, some of those that it takes
-pub record HasCalledSome (G : Graph) (n : NodeId) (before after : ℕ) : Type 0 where
-  pub caller : IsCallerAt G n
+-- calls of a node's function, which was due: some of those that it takes
+pub record HasCalledSome (G : Graph) (n : NodeId) (round : ℕ) (rows : Rows Progress) (before after : ℕ) : Type 0 where
+  pub row : Row
+  pub is_row : G.row n ≡ Some row
+  pub kept : Progress
+  pub is_kept : at rows (main n) ≡ Some kept
+  pub due : IsSeenDue G n round rows row.def
   pub count : RoseAtMost before (cost_at G n) after
 
--- without memory nothing is kept of it; some of the calls that it takes may have been made
-pub record NotComputed (G : Graph) (old new : Noted) (n : NodeId) : Type 0 where
+-- without memory nothing is kept of it; where its function was due, some of the calls that it takes may have been made
+pub record NotComputed (G : Graph) (round : ℕ) (old new : Noted) (n : NodeId) : Type 0 where
   pub rows : KeepsRows old.rows new.rows
   pub ran : new.ran ≡ old.ran
-  pub count : (new.calls ≡ old.calls) ⊎ HasCalledSome G n old.calls new.calls
+  pub count : (new.calls ≡ old.calls) ⊎ HasCalledSome G n round old.rows old.calls new.calls
 
 -- how computing a node ends: it is computed, or there was no memory
 abbrev pub Ends : Functions → Arena → Holdings → ℕ → Noted → Noted → NodeId → {E : Type 0} → Result Outcome E → Type 0
 Ends F arena held round old new n (Ok o) = Computes F arena held round old new n o
-Ends F arena held round old new n (Err e) = NotComputed (graph_of arena held) old new n
+Ends F arena held round old new n (Err e) = NotComputed (graph_of arena held) round old new n
 
 -- ---- the parts of it
 
@@ -180,7 +196,7 @@ pub record KeepsAllButCount (old new : Noted) (most : ℕ) : Type 0 where
 
 -- a node's function was last called so
 abbrev pub LastWas : Rows Progress → NodeId → Call → Type 0
-LastWas rows n c = option_and_then (λ (k : Progress). k.last) (at rows (main n)) ≡ Some c
+LastWas rows n c = last_in rows n ≡ Some c
 
 -- the nodes all show a value
 abbrev pub AllShow : Rows Progress → List NodeId → Type 0
@@ -231,8 +247,14 @@ pub record ComputesCall (F : Functions) (answer : List Value → Value) (t : Ty)
   pub shows : (v : Value) → o ≡ Val v → (c : Call) × (last ≡ Some c) × (c.result ≡ v)
   pub answer_typed : (c : Call) → last ≡ Some c → (kept.last ≡ Some c) ⊎ (type_of c.result ≡ t)
 
+-- without memory nothing is kept of calls; where some were made, and no more than it takes, the node's function was due
+pub record NotCalled (round : ℕ) (old new : Noted) (n : NodeId) (def : Def) (cost : ℕ) : Type 0 where
+  pub rows : KeepsRows old.rows new.rows
+  pub ran : new.ran ≡ old.ran
+  pub count : (new.calls ≡ old.calls) ⊎ (((G : Graph) → IsSeenDue G n round old.rows def) × RoseAtMost old.calls cost new.calls)
+
 -- how computing a node of what is seen of its children ends: it is computed, or there was no memory
 abbrev pub CallComputes : Functions → (List Value → Value) → Ty → ℕ → Noted → Noted → NodeId → Def → List NodeId → ℕ
     → {E : Type 0} → Result Outcome E → Type 0
 CallComputes F answer t round old new n def nodes cost (Ok o) = ComputesCall F answer t round old new n def nodes o cost
-CallComputes F answer t round old new n def nodes cost (Err e) = KeepsAllButCount old new cost
+CallComputes F answer t round old new n def nodes cost (Err e) = NotCalled round old new n def cost

@@ -129,5 +129,6 @@ module _ (named : List ℕ → Option FnRef) (value : FnRef → List GraphValue 
   -- a refused stabilize calls no more than one visit of each place would
   pub few_calls : (before after : ℕ) → HasCalledMet (graph_functions F k.bodies) k.graph g before after → after ≤ before + most_calls s
   few_calls before after called =
-      calls_within y (fits_then named value s k g c) c.held.today.plain (Met F m.settled s) met_is_closed called.nodes called.once called.callers
-      (λ n among. meeting_is_covered named value m k g stands unbroken c whole (main n) (called.met n among)) before after called.count
+      calls_within y (fits_then named value s k g c) c.held.today.plain (Met F m.settled s) met_is_closed called.nodes called.once
+      (λ n among. let d = called.due n among in record { row = d.row; nodes = d.kids; is_row = d.is_row; takes = d.takes })
+      (λ n among. meeting_is_covered named value m k g stands unbroken c whole (main n) (called.due n among).met) before after called.count

@@ -8,7 +8,7 @@ use Rattle.inc_terms.specs.Need.{Beside, Observed, Met, from_root, from_held}
 use Rattle.inc_terms.specs.Term.{Functions}
 use Rattle.node_outcomes.specs.Meaning.{Meaning}
 use Rattle.graph.specs.Sound.{IsWhole, IsSound}
-use Rattle.graph.specs.Stabilizes.{StoodBeside, AllButLast, IsTried, LeavesTried, IsMetIn, IsBuiltMetIn, BuildsRightIn, WasCalledIn, IsListedIn, IsLawfulIn, StandsAnew}
+use Rattle.graph.specs.Stabilizes.{StoodBeside, AllButLast, IsTried, LeavesTried, IsMetIn, IsBuiltMetIn, BuildsRightIn, WasDueIn, WasCalledIn, IsListedIn, IsLawfulIn, StandsAnew}
 use Rattle.graph.specs.Stabilizes.{Stabilizes, HasCalledMet, IsRefusedFor, LeavesNodes, left_by, died_by}
 use Rattle.graph.specs.Standing.{Standing, in_use, IsNeeded}
 use Rattle.graph.specs.declared.fault.Kept.{Kept}
@@ -79,21 +79,22 @@ module _ {A : Type 0} where
       scoped = h.scoped;
     }
 
-    called_without : (old new : Standing A) (n : NodeId) → WasCalledIn M G died old new n
-        → WasCalledIn M G died (without_functions old) (without_functions new) n
-    called_without old new n h = record {
+    due_without : (old new : Standing A) (n : NodeId) → WasDueIn M G died old new n → WasDueIn M G died (without_functions old) (without_functions new) n
+    due_without old new n h = record {
       row = h.row;
       kids = h.kids;
       values = h.values;
-      result = h.result;
       is_row = h.is_row;
       takes = h.takes;
       gives = h.gives;
       reason = h.reason;
-      is_last = h.is_last;
-      answers = h.answers;
       met = met_without old (main n) h.met;
     }
+
+    called_without : (old new : Standing A) (n : NodeId) → WasCalledIn M G died old new n
+        → WasCalledIn M G died (without_functions old) (without_functions new) n
+    unfolding due_without
+    called_without old new n h = record { due = due_without old new n h.due; result = h.result; is_last = h.is_last; answers = h.answers }
 
     -- ---- a refused one
 
@@ -141,9 +142,8 @@ module _ {A : Type 0} where
     few_without before after h = record {
       nodes = h.nodes;
       once = h.once;
-      callers = h.callers;
+      due = λ n among. due_without M (left_by old new) (died_by old new) old new n (h.due n among);
       count = h.count;
-      met = λ n among. met_without M (left_by old new) (died_by old new) old (main n) (h.met n among);
     }
 
     -- ---- what it leaves of the nodes

@@ -1,5 +1,5 @@
 -- How many calls a round makes.
-use Rattle.std.proofs.Common.{◌≡◌, inl, inr, ℕ, ◌+◌, List, [], ◌∷◌, Option, None, Some, refl, sym, subst, ap, ◌∙◌, arith}
+use Rattle.std.proofs.Common.{◌≡◌, inl, inr, ℕ, ◌+◌, true, false, List, [], ◌∷◌, map, Option, None, Some, refl, sym, subst, ap, ◌∙◌, arith}
 use Rattle.std.specs.List.{sum_by}
 use Rattle.std.proofs.lemmas.List.Sums.{sum_by-cons}
 use Rattle.inc_value.specs.declared.node.NodeId.{NodeId}
@@ -8,19 +8,28 @@ use Rattle.inc_value.specs.declared.node.Point.{Point}
 use Rattle.inc_value.specs.Choice.{Among, NoRepeats, Every, Reaches, here}
 use Rattle.inc_terms.specs.Term.{Functions}
 use Rattle.inc_terms.specs.Graph.{Row}
-use Rattle.inc_terms.specs.Depend.{Depends, main}
+use Rattle.inc_terms.specs.Depend.{Depends, main, fixed_reads}
 use Rattle.inc_terms.specs.Evaluate.{GiveAll}
+use Rattle.inc_terms.specs.Local.{Sees}
 use Rattle.inc_terms.specs.Need.{Beside, Observed, nodes_of, Held, Met, from_root, from_held}
-use Rattle.inc_terms.specs.Work.{Visit, HasReason, other, stale, passed, taken_by, IsDueVisit}
+use Rattle.inc_terms.specs.Plan.{gate_of}
+use Rattle.inc_terms.specs.Work.{Visit, HasReason, other, stale, passed, IsDueVisit}
+use Rattle.inc_terms.proofs.Local.{main_sees}
+use Rattle.inc_terms.proofs.Plan.{among_left, among_right}
 use Rattle.stabilize_round.specs.Counts.{RoseAtMost}
-use Rattle.stabilize_round.specs.State.{State, Start, Call}
+use Rattle.stabilize_round.specs.State.{State, Start, Call, Full, Linked}
 use Rattle.stabilize_round.specs.Invariant as invariant
 use Rattle.stabilize_round.specs.Invariant.{Invariant, MetNow, HasCalled}
 use Rattle.stabilize_round.specs.Machine.{as_it_is, unbuilt, unkept}
 use Rattle.stabilize_round.specs.Ended.{RootsAre}
-use Rattle.stabilize_round.specs.Moves.{Quiet, IsLeast}
+use Rattle.stabilize_round.specs.Moves.{Quiet, IsLeast, CallIsDue}
+use Rattle.stabilize_round.proofs.Low.{plan_links}
+use Rattle.stabilize_round.proofs.Main.{gathered_gives}
+use Rattle.stabilize_round.proofs.Parts.{bool_cases}
+use Rattle.stabilize_round.proofs.Planned.{reads_taken}
 use Rattle.stabilize_round.proofs.Ready.{ready}
-use Rattle.stabilize_round.specs.Calls.{BeginsFrom, RoundIsWithinWork, RefusedCalls}
+use Rattle.stabilize_round.proofs.Reasons.{since_start}
+use Rattle.stabilize_round.specs.Calls.{BeginsFrom, RoundIsWithinWork, WasDue, RefusedCalls}
 use Rattle.stabilize_round.specs.Calling as reason
 use Rattle.stabilize_round.specs.Calling.{Reason}
 use Rattle.stabilize_round.specs.Calling.{cost_at, costs_of}
@@ -132,20 +141,57 @@ least_met F z s inv quiet p taken = elim (inv.met.needed p (inv.web.heap p taken
   | inr h ↦ let k = ready F z s inv quiet p taken in invariant.from_held h k.is_row k.stands here
 ]
 
-abbrev IsCalled : Functions → Start → State → NodeId → Type 0
-IsCalled F z u n = (r : Row) × (kids : List NodeId) × (u.graph.row n ≡ Some r) × (taken_by u.graph n r.def ≡ Some kids)
-    × MetNow F z u.graph u.died u.root (main n)
+abbrev IsDueIn : Functions → Start → State → NodeId → Type 0
+IsDueIn F z u n = WasDue F z u.graph u.died u.root u.settled n
 
-ran_called : (F : Functions) (z : Start) (u : State) → Invariant F z u → (n : NodeId) → Among n u.ran → IsCalled F z u n
-ran_called F z u inv n a = let c = inv.accounts.called n a in (c.row, c.kids, c.is_row, c.takes, c.met)
+ran_due : (F : Functions) (z : Start) (u : State) → Invariant F z u → (n : NodeId) → Among n u.ran → IsDueIn F z u n
+ran_due F z u inv n a =
+    let c = inv.accounts.called n a in
+    record { row = c.row; kids = c.kids; values = c.values; is_row = c.is_row; takes = c.takes; gives = c.gives; reason = c.reason; met = c.met }
 
 abbrev CalledAtMost : Functions → Start → State → Type 0
 CalledAtMost F z u =
     (called : List NodeId) × NoRepeats called × RoseAtMost z.calls (costs_of u.graph called) u.calls
-    × ((n : NodeId) → Among n called → IsCalled F z u n)
+    × ((n : NodeId) → Among n called → IsDueIn F z u n)
 
 ran_alone : (F : Functions) (z : Start) (u : State) → Invariant F z u → CalledAtMost F z u
-ran_alone F z u inv = (u.ran, inv.accounts.once, at_most inv.accounts.count, (λ n a. ran_called F z u inv n a))
+ran_alone F z u inv = (u.ran, inv.accounts.once, at_most inv.accounts.count, (λ n a. ran_due F z u inv n a))
+
+-- what is due as a least point is due by what the round began with
+module _ (F : Functions) (z : Start) (s : State) (inv : Invariant F z s) (quiet : Quiet s) (n : NodeId) (r : Row) (taken : IsLeast s (main n))
+    (row : s.graph.row n ≡ Some r) (due : CallIsDue s n r.def) where
+  settled_once : s.settled (main n) ≡ true → ⊥
+  settled_once e = let x : Main ≡ Change = inv.settled.twice (main n) e taken.heap in cc
+
+  not_settled : s.settled (main n) ≡ false
+  not_settled = elim (bool_cases (s.settled (main n))) [ inr e ↦ e | inl e ↦ absurd (settled_once e) ]
+
+  last_here : s.last n ≡ z.last n
+  last_here = elim (inv.accounts.kept n r row (λ a. settled_once (inv.accounts.called n a).is_settled)) [
+    | inl e ↦ e
+    | inr c ↦ absurd (settled_once c.0.is_settled)
+  ]
+
+  linked : (q : Point) → Among q (map main due.kids) → Linked s (main n) q
+  linked q a =
+      let k = ready F z s inv quiet (main n) taken in
+      plan_links F z s inv quiet (main n) q r Full row k.full (inv.web.heap (main n) taken.heap)
+      (among_right q (gate_of r.scope) _ (among_left q (fixed_reads s.graph n r.def Main) _ (reads_taken s.graph n r.def due.kids q due.takes a)))
+
+  kid_sees : (k : NodeId) → Among (main k) (map main due.kids) → Sees F s.graph s.out k
+  kid_sees k a = main_sees F s.graph s.out k ((ready F z s inv quiet (main n) taken).exact (main k) (linked (main k) a))
+
+  least_due : IsDueIn F z s n
+  least_due = record {
+    row = r;
+    kids = due.kids;
+    values = due.values;
+    is_row = row;
+    takes = due.takes;
+    gives = gathered_gives F s.graph s.out due.kids due.values kid_sees due.shows;
+    reason = since_start last_here inv.accounts.cutoffs (inv.accounts.marked n not_settled) due.reason;
+    met = least_met F z s inv quiet (main n) taken;
+  }
 
 pub refused_calls : RefusedCalls
 refused_calls F z s t u entry run (as_it_is e) =
@@ -153,7 +199,7 @@ refused_calls F z s t u entry run (as_it_is e) =
 refused_calls F z s t u entry run (unbuilt {b} {now} {m} r none count e) =
     subst (λ (x : State). CalledAtMost F z x) (sym e)
     (ran_alone F z _ (rebuild_keeps F z t (moves_keep F z s t run (entry_holds F z s entry)) b now m r (inl none)))
-refused_calls F z s t u entry run (unkept {n} {r} {kids} {calls'} quiet taken row takes count e) =
+refused_calls F z s t u entry run (unkept {n} {r} {calls'} quiet taken row due count e) =
     subst (λ (x : State). CalledAtMost F z x) (sym e)
     (n ∷ t.ran, (not_ran, inv.accounts.once), counted, called)
   where
@@ -167,6 +213,6 @@ refused_calls F z s t u entry run (unkept {n} {r} {kids} {calls'} quiet taken ro
     counted = subst (λ (k : ℕ). RoseAtMost z.calls k calls') (sym (sum_by-cons (cost_at t.graph) n t.ran))
         (at_most_on (at_most inv.accounts.count) count)
 
-    called : (m : NodeId) → Among m (n ∷ t.ran) → IsCalled F z t m
-    called m (inl is) = subst (λ (y : NodeId). IsCalled F z t y) (sym is) (r, kids, row, takes, least_met F z t inv quiet (main n) taken)
-    called m (inr a) = ran_called F z t inv m a
+    called : (m : NodeId) → Among m (n ∷ t.ran) → IsDueIn F z t m
+    called m (inl is) = subst (λ (y : NodeId). IsDueIn F z t y) (sym is) (least_due F z t inv quiet n r taken row due)
+    called m (inr a) = ran_due F z t inv m a

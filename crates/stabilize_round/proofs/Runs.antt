@@ -556,5 +556,5 @@ refused_keeps F z s t u entry run (as_it_is e) =
 refused_keeps F z s t u entry run (unbuilt {b} {now} {m} r none count e) =
     let inv = moves_keep F z s t run (entry_holds F z s entry) in
     subst (λ (x : State). KeptApart F z x) (sym e) (remade t m, rebuild_keeps F z t inv b now m r (inl none), refl)
-refused_keeps F z s t u entry run (unkept {calls'} quiet taken row takes count e) =
+refused_keeps F z s t u entry run (unkept {calls'} quiet taken row due count e) =
     subst (λ (x : State). KeptApart F z x) (sym e) (t, moves_keep F z s t run (entry_holds F z s entry), refl)

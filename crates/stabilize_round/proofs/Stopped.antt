@@ -211,7 +211,7 @@ stop_cause : (F : Functions) (z : Start) (s u : State) → Stops F z s u → (n 
 stop_cause F z s u (as_it_is e) n r p row dead = absurd (let x = sym (ap (λ (y : State). y.graph.row n) e) ∙ dead in cc)
 stop_cause F z s u (unbuilt {b} {now} {m} move none count e) n r p row dead =
     made_cause F z s b now m move n r p row (sym (ap (λ (y : State). y.graph.row n) e) ∙ dead)
-stop_cause F z s u (unkept quiet taken at takes count e) n r p row dead = absurd (let x = sym (ap (λ (y : State). y.graph.row n) e) ∙ dead in cc)
+stop_cause F z s u (unkept quiet taken at due count e) n r p row dead = absurd (let x = sym (ap (λ (y : State). y.graph.row n) e) ∙ dead in cc)
 
 cause : (F : Functions) (z : Start) (s t u : State) → Moves F z s t → Stops F z t u → (n : NodeId) (r : Row) → Given s.given n
     → s.graph.row n ≡ Some r → u.graph.row n ≡ None → HasCause F s n
@@ -265,7 +265,7 @@ stop_known F z s u (unbuilt {b} {now} {m} move none count e) n p dead = record {
   now = λ r row. ap (λ (y : State). y.died n) e ∙ move.deaths.now n r row (sym (ap (λ (y : State). y.graph.row n) e) ∙ dead);
   earlier = λ row. ap (λ (y : State). y.died n) e ∙ move.deaths.earlier n row;
 }
-stop_known F z s u (unkept quiet taken at takes count e) n p dead = record {
+stop_known F z s u (unkept quiet taken at due count e) n p dead = record {
   now = λ r row. absurd (let x = sym (ap (λ (y : State). y.graph.row n) e) ∙ dead in cc);
   earlier = λ row. ap (λ (y : State). y.died n) e;
 }
@@ -381,12 +381,12 @@ module _ (F : Functions) (z : Start) (s : State) (given : AllGiven F z s) (t : S
   roots_left : (u : State) → Stops F z t u → RootsStay u
   roots_left u (as_it_is e) = subst (λ (x : State). RootsStay x) (sym e) roots_run
   roots_left u (unbuilt {b} {now} {m} move none count e) = subst (λ (x : State). RootsStay x) (sym e) (roots_stopped b now m move none)
-  roots_left u (unkept quiet taken at takes count e) = subst (λ (x : State). RootsStay x) (sym e) roots_run
+  roots_left u (unkept quiet taken at due count e) = subst (λ (x : State). RootsStay x) (sym e) roots_run
 
   new_left : (u : State) → Stops F z t u → NewStand u
   new_left u (as_it_is e) = subst (λ (x : State). NewStand x) (sym e) new_run
   new_left u (unbuilt {b} {now} {m} move none count e) = subst (λ (x : State). NewStand x) (sym e) (new_stopped b now m move none)
-  new_left u (unkept {calls'} quiet taken at takes count e) = subst (λ (x : State). NewStand x) (sym e) (λ n r le row. let a = new_run n r le row in (
+  new_left u (unkept {calls'} quiet taken at due count e) = subst (λ (x : State). NewStand x) (sym e) (λ n r le row. let a = new_run n r le row in (
     record { bind = a.0.bind; row = a.0.row; given = a.0.given; is_row = a.0.is_row; inside = a.0.inside; new = a.0.new },
     a.1,
   ))
@@ -430,7 +430,7 @@ builds_left F z s t u run stop = by_stop stop
     by_stop : Stops F z t u → BuildsFew F s u
     by_stop (as_it_is e) = subst (λ (x : State). BuildsFew F s x) (sym e) few
     by_stop (unbuilt {b} {now} {m} move none count e) = subst (λ (x : State). BuildsFew F s x) (sym e) (more b now m move count)
-    by_stop (unkept quiet taken at takes count e) = subst (λ (x : State). BuildsFew F s x) (sym e) few
+    by_stop (unkept quiet taken at due count e) = subst (λ (x : State). BuildsFew F s x) (sym e) few
 
 abbrev AddsMany : State → State → Type 0
 AddsMany s u = (number : ℕ) × (u.given ≡ s.given + number) × RoseBy s.adds number u.adds
@@ -443,7 +443,7 @@ adds_left F z s t u run stop = by_stop stop
     by_stop (unbuilt {b} {now} {m} move none count e) = subst (λ (x : State). AddsMany s x) (sym e)
         (let first = run_adds F z s t run in let n = move.nodes in let a = first.1 in let c = n.given in
         (first.0 + n.number, omega arith, rose_on first.2 n.adds))
-    by_stop (unkept quiet taken at takes count e) = subst (λ (x : State). AddsMany s x) (sym e) (run_adds F z s t run)
+    by_stop (unkept quiet taken at due count e) = subst (λ (x : State). AddsMany s x) (sym e) (run_adds F z s t run)
 
 pub stops_leave : StopsLeave
 stops_leave F z s t u entry given run stop = record {

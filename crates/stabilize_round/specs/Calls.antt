@@ -1,15 +1,16 @@
 -- How many calls a round makes.
-use Rattle.std.specs.Prelude.{◌≡◌, ◌+◌, ℕ, true, List, Option, None, Some}
+use Rattle.std.specs.Prelude.{◌≡◌, ◌+◌, ℕ, Bool, true, List, Option, None, Some}
 use Rattle.inc_value.specs.declared.node.NodeId.{NodeId}
 use Rattle.inc_value.specs.declared.node.Point.{Point}
 use Rattle.inc_value.specs.declared.value.Value.{Value}
 use Rattle.inc_value.specs.Choice.{Among, NoRepeats}
 use Rattle.inc_terms.specs.Term.{Functions}
-use Rattle.inc_terms.specs.Graph.{Row}
+use Rattle.inc_terms.specs.Evaluate.{GiveAll}
+use Rattle.inc_terms.specs.Graph.{Graph, Row}
 use Rattle.inc_terms.specs.Depend.{main}
 use Rattle.inc_terms.specs.Need.{Beside, Observed, nodes_of, Held}
 use Rattle.inc_terms.specs.Work.{taken_by, WithinWork}
-use Rattle.stabilize_round.specs.Calling.{costs_of}
+use Rattle.stabilize_round.specs.Calling.{Reason, costs_of}
 use Rattle.stabilize_round.specs.Counts.{RoseAtMost}
 use Rattle.stabilize_round.specs.State.{State, Start, Call}
 use Rattle.stabilize_round.specs.Invariant.{MetNow}
@@ -35,10 +36,20 @@ RoundIsWithinWork =
     (F : Functions) (z : Start) (s t : State) (before : Beside) (observers : List Observed) (calls : ℕ) → Entry F z s → Moves F z s t
     → RootsAre t (nodes_of observers) → BeginsFrom z before observers → t.calls ≡ z.calls + calls → WithinWork F t.graph t.died observers before calls
 
--- where a refused round stops, the count of calls rose by at most what it takes to compute each of some live and met nodes that call functions
+-- a node's function was due in a round: the node is met, its children give these values, and there is a reason by what the round began with
+pub record WasDue (F : Functions) (z : Start) (G : Graph) (died : NodeId → Option NodeId) (root : Point → ℕ) (settled : Point → Bool) (n : NodeId) : Type 0 where
+  pub row : Row
+  pub kids : List NodeId
+  pub values : List Value
+  pub is_row : G.row n ≡ Some row
+  pub takes : taken_by G n row.def ≡ Some kids
+  pub gives : GiveAll F G kids values
+  pub reason : Reason z.last z.never settled z.stale n kids values
+  pub met : MetNow F z G died root (main n)
+
+-- where a refused round stops, the count of calls rose by at most what it takes to compute each of some nodes once, whose functions were due
 abbrev pub RefusedCalls : Type 0
 RefusedCalls =
     (F : Functions) (z : Start) (s t u : State) → Entry F z s → Moves F z s t → Stops F z t u
     → (called : List NodeId) × NoRepeats called × RoseAtMost z.calls (costs_of u.graph called) u.calls
-    × ((n : NodeId) → Among n called → (r : Row) × (kids : List NodeId) × (u.graph.row n ≡ Some r) × (taken_by u.graph n r.def ≡ Some kids)
-    × MetNow F z u.graph u.died u.root (main n))
+    × ((n : NodeId) → Among n called → WasDue F z u.graph u.died u.root u.settled n)

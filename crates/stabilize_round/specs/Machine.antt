@@ -15,7 +15,7 @@ use Rattle.stabilize_round.specs.Freezing.{fires_at}
 use Rattle.stabilize_round.specs.Counts.{RoseBy, RoseAtMost}
 use Rattle.stabilize_round.specs.State.{State, Start, Call, Stage, Bare, Full, all_retries, count, planned}
 use Rattle.stabilize_round.specs.Invariant.{Recalls, IsUnmarked, Web, Alive, Rooted, BuiltFor, Strict}
-use Rattle.stabilize_round.specs.Moves.{Quiet, IsLeast, Enqueues, computed, StepMain, changed, StepChange}
+use Rattle.stabilize_round.specs.Moves.{Quiet, IsLeast, Enqueues, CallIsDue, computed, StepMain, changed, StepChange}
 use Rattle.stabilize_round.specs.Rebuilding.{Remade, remade, builds_of, Rebuild, IsBuiltAnew}
 use Rattle.stabilize_round.specs.Wire.{linked, newly, rooted, IsIt, Link, levelled, Level, raised, Raise, finished, Finish, heaped, Schedule}
 use Rattle.stabilize_round.specs.Wire.{spent, dropped, Drop, swept, Sweep}
@@ -82,13 +82,13 @@ abbrev pub called_more : State → ℕ → State
 called_more s calls' = record s { calls = calls' }
 
 -- how a round stops that is refused: as it is; with a bind whose scope died and that couldn't be built, or wasn't yet; or with calls of a least
--- point's function whose result couldn't be kept
+-- point's function, which was due, whose result couldn't be kept
 pub data Stops (F : Functions) (z : Start) (s t : State) : Type 0 where
   as_it_is : t ≡ s → Stops F z s t
   unbuilt : {b : NodeId} {now : Outcome} {m : Remade} → Rebuild F z s b now m → m.graph.built b ≡ None
       → RoseAtMost s.builds (builds_of now) m.builds → t ≡ remade s m → Stops F z s t
-  unkept : {n : NodeId} {r : Row} {kids : List NodeId} {calls' : ℕ} → Quiet s → IsLeast s (main n) → s.graph.row n ≡ Some r
-      → taken_by s.graph n r.def ≡ Some kids → RoseAtMost s.calls (cost_at s.graph n) calls' → t ≡ called_more s calls' → Stops F z s t
+  unkept : {n : NodeId} {r : Row} {calls' : ℕ} → Quiet s → IsLeast s (main n) → s.graph.row n ≡ Some r
+      → CallIsDue s n r.def → RoseAtMost s.calls (cost_at s.graph n) calls' → t ≡ called_more s calls' → Stops F z s t
 
 -- any number of moves
 abbrev pub Moves : Functions → Start → State → State → Type 0

@@ -29,6 +29,14 @@ pub record Enqueues (s : State) (heap heap' : Point → Bool) (May Must : Point 
   pub new : (q : Point) → heap' q ≡ true → (heap q ≡ true) ⊎ (May q × (s.settled q ≡ false))
   pub told : (q : Point) → Must q → (heap' q ≡ true) ⊎ (s.settled q ≡ true)
 
+-- a node's function is due: its children show these values, and there is a reason to call it on them
+pub record CallIsDue (s : State) (n : NodeId) (def : Def) : Type 0 where
+  pub kids : List NodeId
+  pub values : List Value
+  pub takes : taken_by s.graph n def ≡ Some kids
+  pub shows : gathered (by_sight (shown s.graph s.out)) (refs kids) ≡ Values values
+  pub reason : Reason s.last s.never s.settled s.stale n kids values
+
 -- what a node's function was last called on, after its main was computed anew: it was called, with a reason, or that stays
 abbrev pub Calls : Functions → State → NodeId → Def → Option Call → Bool → Type 0
 Calls F s n def last' false = (last' ≡ s.last n)

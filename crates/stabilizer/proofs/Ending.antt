@@ -40,8 +40,8 @@ use Rattle.node_outcomes.specs.Computing.{seen, seen_of, has_part}
 use Rattle.node_outcomes.specs.Meaning.{Meaning}
 use Rattle.node_outcomes.specs.Row.{settled_in, is_never, cutoff_in, outcome_in}
 use Rattle.node_outcomes.specs.declared.row.Progress.{Progress}
-use Rattle.stabilize_round.specs.Calling as reason
-use Rattle.stabilize_round.specs.Calling.{Reason, cost_at, costs_of}
+use Rattle.stabilize_round.specs.Calling.{cost_at, costs_of}
+use Rattle.stabilize_round.proofs.Reasons.{reason_more, since_start}
 use Rattle.stabilize_round.specs.Closing.{next_start}
 use Rattle.stabilize_round.specs.Counts.{RoseBy}
 use Rattle.stabilize_round.specs.Ended.{RootsAre, Ended}
@@ -67,7 +67,7 @@ use Rattle.wiring.specs.declared.work.Work.{Work}
 use Rattle.wiring.proofs.Agreeing.{no_freeze}
 use Rattle.wiring.proofs.Deciding.{decides_needed}
 use Rattle.stabilizer.specs.Kept.{graph_in, PartsKept}
-use Rattle.stabilizer.specs.Round.{WasForced, WasCalledIn, IsUpToDateIn, IsUpToDate, IsReady, AreRooted, last_of, last_call, cutoff_at, died_by}
+use Rattle.stabilizer.specs.Round.{settled_by, WasCalledIn, IsUpToDateIn, IsUpToDate, IsReady, AreRooted, last_of, last_call, cutoff_at, died_by}
 use Rattle.stabilizer.specs.declared.parts.Parts.{Parts}
 use Rattle.stabilizer.proofs.Beginning.{Begun, BegunOf, main_there}
 use Rattle.stabilizer.proofs.Counting.{within}
@@ -531,31 +531,25 @@ module _ (M : Meaning) (old mid : Parts) (before after : Counts) (first : PartsK
           from_root l.1 (subst (λ (y : Point). Reaches (Depends F G D) y p) l.2 way)
       is_met p (invariant.from_held {h} held row stand way) = from_held ((b.held h).0 held) row stand way
 
+      settled_then : (q : Point) → t.settled q ≡ true → settled_by old.work.round next q ≡ true
+      settled_then q settled = sym (ap (λ (k : ℕ). settled_in k (at work.rows q)) same_round) ∙ (sym (stands.settled q) ∙ settled)
+
       was_called : (n : NodeId) → HasCalled F z G D t.root t.settled t.last n → WasCalledIn F G D old.work next observed n
       was_called n c = record {
-        row = c.row;
-        nodes = c.kids;
-        values = c.values;
+        due = record {
+          row = c.row;
+          nodes = c.kids;
+          values = c.values;
+          is_row = c.is_row;
+          takes = c.takes;
+          gives = c.gives;
+          reason = reason_more settled_then (since_start (b.last n) b.never (b.stale n) c.reason);
+          met = is_met (main n) c.met;
+        };
         result = c.result;
-        is_row = c.is_row;
-        takes = c.takes;
         answers = c.answers;
-        gives = c.gives;
-        reason = by_reason c.kids c.values c.reason;
         is_last = last_is n c.row c.is_row ∙ c.is_last;
-        met = is_met (main n) c.met;
       }
-        where
-          by_reason : (kids : List NodeId) (values : List Value) → Reason z.last z.never t.settled z.stale n kids values
-              → ((c : Call) → last_call old.work n ≡ Some c → c.arguments ≡ values → ⊥) ⊎ WasForced old.work next kids
-          by_reason kids values (reason.other differs) = inl (λ k e. differs k (b.last n ∙ e))
-          by_reason kids values (reason.forced {kid} a never settled) = inr (
-            kid,
-            a,
-            sym (b.never kid) ∙ never,
-            sym (ap (λ (k : ℕ). settled_in k (at work.rows (main kid))) same_round) ∙ (sym (stands.settled (main kid)) ∙ settled),
-          )
-          by_reason kids values (reason.made_stale marked) = absurd (let x = b.stale n in cc)
 
       in_state : (n : NodeId) → Among n work.ran.items → Among n t.ran
       in_state n a = subst (λ (ns : List NodeId). Among n ns) (sym stands.ran) (among_reverse n work.ran.items a)
@@ -564,7 +558,7 @@ module _ (M : Meaning) (old mid : Parts) (before after : Counts) (first : PartsK
       called n a = was_called n (ended.ran n (in_state n a))
 
       -- and its scope stands
-      called_standing : (n : NodeId) → Among n work.ran.items → (c : WasCalledIn F G D old.work next observed n) × ScopeStands F G c.row.scope
+      called_standing : (n : NodeId) → Among n work.ran.items → (c : WasCalledIn F G D old.work next observed n) × ScopeStands F G c.due.row.scope
       unfolding was_called
       called_standing n a =
           let c = ended.ran n (in_state n a) in

@@ -10,7 +10,6 @@ use Rattle.inc_terms.specs.Graph.{Graph, Row}
 use Rattle.inc_terms.specs.Local.{shown_of, Sees}
 use Rattle.inc_terms.specs.Term.{Functions}
 use Rattle.inc_terms.specs.Within.{Given}
-use Rattle.inc_terms.specs.Work.{taken_by}
 use Rattle.inc_terms.proofs.Local.{main_sees}
 use Rattle.necessity.specs.Need.{Roots, KeepsRoots}
 use Rattle.node_arena.specs.Arena.{Arena, row_at}
@@ -18,18 +17,20 @@ use Rattle.node_outcomes.specs.Computing.{seen}
 use Rattle.node_outcomes.specs.Meaning.{Meaning}
 use Rattle.point_map.specs.Rows.{at}
 use Rattle.stabilize_round.specs.Calling.{costs_of}
+use Rattle.stabilize_round.specs.Calls.{WasDue}
 use Rattle.stabilize_round.specs.Counts.{RoseAtMost}
-use Rattle.stabilize_round.specs.Invariant.{Invariant, MetNow}
+use Rattle.stabilize_round.specs.Invariant.{Invariant}
 use Rattle.stabilize_round.specs.Machine.{called_more}
 use Rattle.stabilize_round.specs.State.{State}
 use Rattle.stabilize_round.proofs.Calls.{refused_calls}
+use Rattle.stabilize_round.proofs.Reasons.{reason_more, since_start}
 use Rattle.stabilize_round.proofs.Runs.{refused_keeps}
 use Rattle.wiring.specs.Kept.{IsKept}
 use Rattle.wiring.specs.Stands.{Hand, Stands, Counts}
 use Rattle.wiring.specs.declared.refused.Refused.{Refused}
 use Rattle.wiring.specs.declared.work.Work.{Work}
 use Rattle.stabilizer.specs.Kept.{graph_in}
-use Rattle.stabilizer.specs.Round.{AreRooted, OnlyRoots, Pauses, HasCalledMet, ShowsStill, IsLeftBy, cutoff_at}
+use Rattle.stabilizer.specs.Round.{AreRooted, OnlyRoots, Pauses, WasDueIn, HasCalledMet, ShowsStill, IsLeftBy, cutoff_at, settled_by, left_by, died_by}
 use Rattle.stabilizer.specs.declared.parts.Parts.{Parts}
 use Rattle.stabilizer.proofs.Beginning.{Begun, main_there}
 use Rattle.stabilizer.proofs.Ending.{cutoff_live, seen_case}
@@ -42,8 +43,10 @@ use Rattle.stabilizer.proofs.Stopped.{IsLeftOver, stops_leave_over}
 -- no function was called
 pub none_called : (F : Functions) (old new : Parts) (observed : List NodeId) (count : ℕ) → HasCalledMet F old new observed count count
 none_called F old new observed count = record {
-  few = record { nodes = []; once = tt; callers = λ n among. absurd among; count = record { kept = omega arith; within = omega arith } };
-  met = λ n among. absurd among;
+  nodes = [];
+  once = tt;
+  due = λ n among. absurd among;
+  count = record { kept = omega arith; within = omega arith };
 }
 
 -- what keeps roots adds none
@@ -141,22 +144,27 @@ module _ (M : Meaning) (old new : Parts) (before after : Counts) (e : Refused) (
   paused_called nodes observed only rooted =
       let c = refused_calls F b.start b.state k.before u b.entry k.moves k.stops in
       record {
-        few = record {
-          nodes = c.0;
-          once = c.1;
-          callers = λ n a. let m = c.3 n a in record {
-            row = m.0;
-            nodes = m.1;
-            is_row = ap (λ (G : Graph). G.row n) (sym stands.graph) ∙ m.2;
-            takes = ap (λ (G : Graph). taken_by G n m.0.def) (sym stands.graph) ∙ m.3;
-          };
-          count = subst (λ (x : ℕ). RoseAtMost before.calls (costs_of (graph_in new) c.0) x) (ap (λ (x : Counts). x.calls) stands.counts)
-              (subst (λ (x : ℕ). RoseAtMost x (costs_of (graph_in new) c.0) u.calls) b.calls
-              (subst (λ (G : Graph). RoseAtMost b.start.calls (costs_of G c.0) u.calls) stands.graph c.2));
-        };
-        met = λ n a. met_as F old new before after b k.left u stands nodes observed only rooted (main n)
-            (subst (λ (D : NodeId → Option NodeId). MetNow F b.start (graph_in new) D u.root (main n)) (paused_died M old new before after e p)
-            (subst (λ (G : Graph). MetNow F b.start G u.died u.root (main n)) stands.graph (c.3 n a).4));
+        nodes = c.0;
+        once = c.1;
+        due = λ n a. due_then n
+            (subst (λ (D : NodeId → Option NodeId). WasDue F b.start (graph_in new) D u.root u.settled n) (paused_died M old new before after e p)
+            (subst (λ (G : Graph). WasDue F b.start G u.died u.root u.settled n) stands.graph (c.3 n a)));
+        count = subst (λ (x : ℕ). RoseAtMost before.calls (costs_of (graph_in new) c.0) x) (ap (λ (x : Counts). x.calls) stands.counts)
+            (subst (λ (x : ℕ). RoseAtMost x (costs_of (graph_in new) c.0) u.calls) b.calls
+            (subst (λ (G : Graph). RoseAtMost b.start.calls (costs_of G c.0) u.calls) stands.graph c.2));
+      }
+    where
+      due_then : (n : NodeId) → WasDue F b.start (graph_in new) (died_by old new) u.root u.settled n
+          → WasDueIn F (left_by old new) (died_by old new) old.work (settled_by new.work.round new.work) (nodes ++ observed) n
+      due_then n d = record {
+        row = d.row;
+        nodes = d.kids;
+        values = d.values;
+        is_row = d.is_row;
+        takes = d.takes;
+        gives = d.gives;
+        reason = reason_more (λ q settled. sym (stands.settled q) ∙ settled) (since_start (b.last n) b.never (b.stale n) d.reason);
+        met = met_as F old new before after b k.left u stands nodes observed only rooted (main n) d.met;
       }
 
   -- ---- what is left of the nodes

@@ -191,13 +191,13 @@ left_kept arena old new kept rows graph round roots deaths lists = kept_same are
     (λ p h. kept.heap p (subst (λ (g : NecessaryPart). Holds g.heap p) graph h)) round roots deaths lists
 
 pub uncomputed_kept : (arena : Arena) (old mid : Work) (n : NodeId) (before after : ℕ) → IsKept arena old → KeepsRest old mid
-    → NotComputed (graph_at arena old) (noted old.rows old.ran.items before) (noted mid.rows mid.ran.items after) n → IsKept arena mid
+    → NotComputed (graph_at arena old) old.round (noted old.rows old.ran.items before) (noted mid.rows mid.ran.items after) n → IsKept arena mid
 uncomputed_kept arena old mid n before after kept rest c =
     left_kept arena old mid kept c.rows rest.graph rest.round rest.roots rest.deaths rest.lists
 
 -- the main is left as it was
 pub main_left : (arena : Arena) (old mid : Work) (n : NodeId) (before after : Counts) → KeepsRest old mid
-    → NotComputed (graph_at arena old) (noted old.rows old.ran.items before.calls) (noted mid.rows mid.ran.items after.calls) n
+    → NotComputed (graph_at arena old) old.round (noted old.rows old.ran.items before.calls) (noted mid.rows mid.ran.items after.calls) n
     → IsOfBuilds before after → MainIsLeft arena old mid n before after
 main_left arena old mid n before after rest c more = record {
   rows = c.rows;

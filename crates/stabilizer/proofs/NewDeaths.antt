@@ -166,7 +166,7 @@ new_stop F z t u (unbuilt {b} {now} {m} move none count e) n k dead = by_new k
     by_new : NewAt F t n → u.died n ≡ None
     by_new (none_yet died row) = ap (λ (x : State). x.died n) e ∙ (move.deaths.earlier n row ∙ died)
     by_new (lives h) = absurd (let x = row_lasts F z t b now m move n h in let y = dead_then in cc)
-new_stop F z t u (unkept quiet taken at takes count e) n k dead =
+new_stop F z t u (unkept quiet taken at due count e) n k dead =
     ap (λ (x : State). x.died n) e ∙ undied F t n k (sym (ap (λ (x : State). x.graph.row n) e) ∙ dead)
 
 -- ---- nodes that are new
@@ -198,7 +198,7 @@ pub there_still : (F : Functions) (z : Start) (t u : State) → Stops F z t u �
 there_still F z t u (as_it_is e) n k = ap (λ (x : State). x.graph.row n) e ∙ k.is_row
 there_still F z t u (unbuilt {b} {now} {m} move none count e) n k =
     ap (λ (x : State). x.graph.row n) e ∙ row_lasts F z t b now m move n k
-there_still F z t u (unkept quiet taken at takes count e) n k = ap (λ (x : State). x.graph.row n) e ∙ k.is_row
+there_still F z t u (unkept quiet taken at due count e) n k = ap (λ (x : State). x.graph.row n) e ∙ k.is_row
 
 -- ---- those who died
 

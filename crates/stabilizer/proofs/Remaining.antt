@@ -73,7 +73,7 @@ module _ (F : Functions) (z : Start) where
       → (u.settled (main n) ≡ true) ⊎ (u.out (main n) ≡ s.out (main n))
   stopped_out s t u n r run (as_it_is e) row given = subst (λ (x : State). (x.settled (main n) ≡ true) ⊎ (x.out (main n) ≡ s.out (main n))) (sym e)
       (moves_out s t n r run (ap (λ (x : State). x.graph.row n) (sym e) ∙ row) given)
-  stopped_out s t u n r run (unkept quiet taken at takes count e) row given =
+  stopped_out s t u n r run (unkept quiet taken at due count e) row given =
       subst (λ (x : State). (x.settled (main n) ≡ true) ⊎ (x.out (main n) ≡ s.out (main n))) (sym e)
       (moves_out s t n r run (ap (λ (x : State). x.graph.row n) (sym e) ∙ row) given)
   stopped_out s t u n r run (unbuilt {b} {now} {m} move none count e) row given =

@@ -7,18 +7,15 @@ use Rattle.inc_value.specs.declared.node.NodeId.{NodeId}
 use Rattle.inc_value.specs.declared.node.Point.{Point}
 use Rattle.inc_value.specs.Choice.{Among, here}
 use Rattle.inc_terms.specs.Depend.{main}
-use Rattle.inc_terms.specs.Graph.{Graph}
-use Rattle.inc_terms.specs.Work.{taken_by}
 use Rattle.inc_terms.specs.Term.{Functions}
 use Rattle.inc_terms.proofs.Plan.{among_left, among_map}
 use Rattle.necessity.specs.Need.{Roots, root_times, KeepsRoots, OneRootMore}
 use Rattle.node_arena.specs.Arena.{Arena}
-use Rattle.node_outcomes.specs.Computing.{HasCalledSome}
 use Rattle.node_outcomes.specs.Meaning.{Meaning}
 use Rattle.stabilize_round.specs.Calling.{cost_at}
 use Rattle.stabilize_round.specs.Counts.{RoseAtMost}
 use Rattle.stabilize_round.specs.Machine.{Move, Moves, as_it_is, unkept, called_more}
-use Rattle.stabilize_round.specs.Moves.{Quiet, IsLeast}
+use Rattle.stabilize_round.specs.Moves.{Quiet}
 use Rattle.stabilize_round.specs.State.{State, count}
 use Rattle.stabilize_round.proofs.Machine.{moves_keep}
 use Rattle.stabilize_round.proofs.Parts.{bool_cases}
@@ -32,9 +29,9 @@ use Rattle.wiring.specs.Wiring.{PutsRoots, RootRefused}
 use Rattle.wiring.specs.declared.refused.Refused.{Refused}
 use Rattle.wiring.specs.declared.refused.Refused.TheVariants.{Memory}
 use Rattle.wiring.specs.declared.work.Work.{Work}
-use Rattle.stabilizer.specs.Kept.{PartsKept, graph_in}
+use Rattle.stabilizer.specs.Kept.{PartsKept}
 use Rattle.stabilizer.specs.Round.{IsInRound, RootsMore, OnlyRoots, Settles, Pauses, SettleRefused}
-use Rattle.stabilizer.specs.Stepping.{Steps, StepRefused, StepStops, as_it_was, unbuilt, wiring, StepFalls, left_to_settle, IsOfBuilds}
+use Rattle.stabilizer.specs.Stepping.{HasCalledDue, Steps, StepRefused, StepStops, as_it_was, unbuilt, wiring, StepFalls, left_to_settle}
 use Rattle.stabilizer.specs.declared.parts.Parts.{Parts}
 use Rattle.stabilizer.proofs.Began.{round_on}
 use Rattle.stabilizer.proofs.EveryPoint.{every_point, every_node, covers}
@@ -204,9 +201,7 @@ settle_stops M old mid new before between after e first idle next z s begun st =
     F = M.functions
 
     stops_there : (u : State) → Moves F z s u → counts_of u ≡ between → Stands new.arena new.work between None u → Quiet u
-        → (after ≡ between) ⊎ ((n : NodeId) × IsLeast u (main n) × HasCalledSome (graph_in new) n between.calls after.calls
-        × IsOfBuilds between after)
-        → e ≡ Memory → Pauses F z s new after e
+        → (after ≡ between) ⊎ HasCalledDue u between after → e ≡ Memory → Pauses F z s new after e
     stops_there u run counts stands quiet (inl same) is = record {
       before = u;
       state = u;
@@ -220,18 +215,15 @@ settle_stops M old mid new before between after e first idle next z s begun st =
       );
     }
     stops_there u run counts stands quiet (inr c) is =
-        let caller = c.2.caller in
         record {
           before = u;
           state = called_more u after.calls;
           left = None;
           moves = run;
-          stops = unkept quiet c.1 (ap (λ (G : Graph). G.row c.0) stands.graph ∙ caller.is_row)
-              (ap (λ (G : Graph). taken_by G c.0 caller.row.def) stands.graph ∙ caller.takes)
-              (subst (λ (G : Graph). RoseAtMost u.calls (cost_at G c.0) after.calls) (sym stands.graph)
-              (subst (λ (k : ℕ). RoseAtMost k (cost_at (graph_in new) c.0) after.calls) (sym (ap (λ (x : Counts). x.calls) counts)) c.2.count)) refl;
-          stands = more_calls new after u stands (ap (λ (x : Counts). x.builds) counts ∙ sym c.3.builds) (ap (λ (x : Counts). x.adds) counts
-              ∙ sym c.3.adds);
+          stops = unkept quiet c.least c.is_row c.due
+              (subst (λ (k : ℕ). RoseAtMost k (cost_at u.graph c.node) after.calls) (sym (ap (λ (x : Counts). x.calls) counts)) c.count) refl;
+          stands = more_calls new after u stands (ap (λ (x : Counts). x.builds) counts ∙ sym c.rest.builds) (ap (λ (x : Counts). x.adds) counts
+              ∙ sym c.rest.adds);
           told = inl (refl, subst (λ (x : Refused). TellsWhy F (called_more u after.calls) new.work None x) (sym is) no_memory);
         }
 

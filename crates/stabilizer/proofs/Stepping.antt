@@ -17,9 +17,9 @@ use Rattle.necessary_graph.specs.Part.{NecessaryPart, Needed}
 use Rattle.node_arena.specs.Arena.{Arena}
 use Rattle.inc_terms.specs.Graph.{Graph}
 use Rattle.wiring.specs.Graph.{graph_at}
-use Rattle.node_outcomes.specs.Computing.{CallsSeen, HasCalledSome}
+use Rattle.node_outcomes.specs.Computing.{CallsSeen, IsSeenDue}
 use Rattle.stabilize_round.specs.Calling.{cost_at}
-use Rattle.stabilize_round.specs.Counts.{RoseBy}
+use Rattle.stabilize_round.specs.Counts.{RoseBy, RoseAtMost}
 use Rattle.stabilize_round.specs.Invariant.{Invariant}
 use Rattle.stabilize_round.specs.Moves.{Quiet, IsLeast, StepMain, computed, calls_of}
 use Rattle.stabilize_round.proofs.Parts.{bool_cases}
@@ -32,7 +32,7 @@ use Rattle.node_outcomes.specs.Row.{settled_in}
 use Rattle.stabilizer.specs.Settling.{IsSettled}
 use Rattle.wiring.specs.Stands.{Stands, Counts}
 use Rattle.stabilizer.specs.Dying.{TakesLeast}
-use Rattle.stabilizer.specs.Stepping.{IsOfBuilds, MainIsSettled, MainIsLeft, Steps, StepRefused, as_it_was}
+use Rattle.stabilizer.specs.Stepping.{IsOfBuilds, MainIsSettled, MainIsLeft, HasCalledDue, Steps, StepRefused, as_it_was}
 use Rattle.stabilizer.specs.declared.parts.Parts.{Parts}
 use Rattle.wiring.specs.declared.refused.Refused.{Refused}
 use Rattle.wiring.specs.declared.refused.Refused.TheVariants.{Memory}
@@ -40,7 +40,7 @@ use Rattle.wiring.specs.Wiring.{KeepsGraph}
 use Rattle.wiring.specs.declared.work.Work.{Work}
 use Rattle.stabilizer.proofs.Carrying.{needed_now, needed_before, heap_graph, back_kept}
 use Rattle.stabilizer.proofs.Settling.{settled_stands, settled_enqueues, counted}
-use Rattle.wiring.proofs.Sight.{row_is, own_sees, keeps_answers, looks, calls_are}
+use Rattle.wiring.proofs.Sight.{row_is, own_sees, keeps_answers, looks, calls_are, due_is}
 use Rattle.wiring.proofs.Holding.{graph_rows, died_same}
 
 zero_or_more : (n : ℕ) → (n ≡ 0) ⊎ (0 < n)
@@ -171,7 +171,7 @@ module _ (M : Meaning) (old new : Parts) (g : NecessaryPart) (p : Point) (n : No
         own = own_sees s arena old.work before kept st F n m.computed.row m.computed.is_row
             ∙ m.computed.own (keeps_answers s arena old.work before kept st F z inv)
             (looks s arena old.work before kept st F z inv quiet n least m.computed.row m.computed.is_row);
-        calls = calls_are s arena old.work before kept st F n m.computed.row.def m.computed.kept m.last m.called m.computed.is_kept
+        calls = calls_are s arena old.work before kept st n m.computed.kept m.computed.is_kept F m.computed.row.def m.last m.called
             (subst (λ (G : Graph). CallsSeen F G n old.work.round old.work.rows m.computed.row.def m.computed.kept.last m.last m.called) (sym st.graph)
             m.computed.calls);
         count = subst (λ (H : Graph). RoseBy s.calls (calls_of m.called (cost_at H n)) after.calls) (sym st.graph)
@@ -263,15 +263,19 @@ module _ (arena : Arena) (old mid : Work) (g g' : NecessaryPart) (p : Point) (n 
 
   -- the counts stayed, or some calls of the main's function were made
   left_count : (s : State) → Stands arena old before None s → IsLeast s (main n)
-      → (after ≡ before) ⊎ ((k : NodeId) × IsLeast s (main k) × HasCalledSome (graph_at arena back) k before.calls after.calls × IsOfBuilds before after)
+      → (after ≡ before) ⊎ HasCalledDue s before after
   left_count s st least = elim left.count [
     | inl same_count ↦ inl (counts_same before after same_count left.rest)
-    | inr k ↦ inr (
-      n,
-      least,
-      subst (λ (G : Graph). HasCalledSome G n before.calls after.calls) (sym (graph_rows arena old back left.rows left.roots)) k,
-      left.rest,
-    )
+    | inr k ↦ inr (record {
+      node = n;
+      row = k.row;
+      least = least;
+      is_row = ap (λ (G : Graph). G.row n) st.graph ∙ k.is_row;
+      due = due_is s arena old before kept st n k.kept k.is_kept k.row.def
+          (subst (λ (G : Graph). IsSeenDue G n old.round old.rows k.row.def) (sym st.graph) k.due);
+      count = subst (λ (G : Graph). RoseAtMost before.calls (cost_at G n) after.calls) (sym st.graph) k.count;
+      rest = left.rest;
+    })
   ]
 
   need_then : (x : Option ℕ) → at old.graph.heap p ≡ x → is_some x ≡ true → Needed old.graph p
@@ -306,9 +310,7 @@ module _ (M : Meaning) (old mid new : Parts) (g g' : NecessaryPart) (p : Point) 
       as_it_was
       (subst (λ (a : Arena). Stands a new.work before None s) (sym arena_is) (subst (λ (w : Work). Stands old.arena w before None s) (sym work_is)
       (refused_stands old.arena old.work mid.work g g' p n before after kept was rest c left rest' put s st)))
-      (subst (λ (G : Graph). (after ≡ before) ⊎ ((k : NodeId) × IsLeast s (main k) × HasCalledSome G k before.calls after.calls × IsOfBuilds before after))
-      (sym (ap (λ (a : Arena). graph_at a new.work) arena_is ∙ ap (λ (w : Work). graph_at old.arena w) work_is))
-      (left_count old.arena old.work mid.work g g' p n before after kept was rest c left rest' put s st least))
+      (left_count old.arena old.work mid.work g g' p n before after kept was rest c left rest' put s st least)
       memory
 
 -- the nodes stay where only what is kept beside them may be other

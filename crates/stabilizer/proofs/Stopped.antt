@@ -82,7 +82,7 @@ module _ (F : Functions) (z : Start) (s : State) (given : AllGiven F z s) (t : S
   kills_left : (u : State) → Stops F z t u → Kills s u
   kills_left u (as_it_is e) = subst (λ (x : State). Kills s x) (sym e) kills_run
   kills_left u (unbuilt {b} {now} {m} move none count e) = subst (λ (x : State). Kills s x) (sym e) (kills_stopped b now m move)
-  kills_left u (unkept quiet taken at takes count e) = subst (λ (x : State). Kills s x) (sym e) kills_run
+  kills_left u (unkept quiet taken at due count e) = subst (λ (x : State). Kills s x) (sym e) kills_run
 
 -- ---- all that is left of the nodes
 
@@ -273,5 +273,5 @@ stops_build F z s t u entry given run (unbuilt {b} {now} {m} move none count e) 
   subst (λ (x : State). BuildsLeft F z s x (Some b)) (sym e)
       (builds_stopped F z s entry given t (moves_keep F z s t run (entry_holds F z s entry)) run b now m move none),
 )
-stops_build F z s t u entry given run (unkept {calls'} quiet taken at takes count e) =
+stops_build F z s t u entry given run (unkept {calls'} quiet taken at due count e) =
     (None, subst (λ (x : State). BuildsLeft F z s x None) (sym e) (called_on F z s t calls' (moves_build F z s t entry given run)))

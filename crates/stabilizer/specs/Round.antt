@@ -1,5 +1,5 @@
 -- What stands between rounds, and what a round leaves.
-use Rattle.std.specs.Prelude.{◌≡◌, ◌⊎◌, ◌↔◌, ◌+◌, ◌<◌, ◌≤◌, ◌++◌, ℕ, Bool, true, List, [], ◌∷◌, map, length, Option, None, Some}
+use Rattle.std.specs.Prelude.{◌≡◌, ◌⊎◌, ◌↔◌, ◌+◌, ◌<◌, ◌≤◌, ◌++◌, ℕ, Bool, true, false, List, [], ◌∷◌, map, length, Option, None, Some}
 use Rattle.inc_value.specs.declared.node.NodeId.{NodeId}
 use Rattle.inc_value.specs.declared.node.Part.TheVariants.{Main}
 use Rattle.inc_value.specs.declared.node.Point.{Point}
@@ -26,14 +26,14 @@ use Rattle.node_arena.specs.Graph.{AllCallFit}
 use Rattle.point_map.specs.Rows.{at}
 use Rattle.stabilize_round.specs.Calls.{arguments_of}
 use Rattle.inc_terms.specs.Work.{taken_by}
-use Rattle.stabilize_round.specs.Calling.{IsAnswer, cost_at, costs_of}
+use Rattle.stabilize_round.specs.Calling.{Reason, IsAnswer, cost_at, costs_of}
 use Rattle.stabilize_round.specs.Counts.{RoseBy, RoseAtMost}
 use Rattle.stabilize_round.specs.Laws.{GraphStays}
 use Rattle.stabilize_round.specs.Invariant.{Rooted}
 use Rattle.stabilize_round.specs.Runs.{LeftDiffers, IsBuiltRight}
 use Rattle.stabilize_round.specs.Machine.{Entry, Moves, Stops, called_more}
 use Rattle.stabilize_round.specs.State.{State, Start, Call, count}
-use Rattle.node_outcomes.specs.Computing.{seen, IsCallerAt}
+use Rattle.node_outcomes.specs.Computing.{seen}
 use Rattle.height_order.specs.Chains.{ReadsWith, StartsAt, EndsAt}
 use Rattle.stabilizer.specs.Building.{LeavesNoRoom, StopsBuilding}
 use Rattle.stabilizer.specs.Kept.{graph_in, PartsKept}
@@ -94,9 +94,9 @@ left_by old new = left_by_call (graph_in old) (graph_in new)
 abbrev pub died_by : Parts → Parts → NodeId → Option NodeId
 died_by old new = died_in (graph_in old) (graph_in new)
 
--- a child of cutoff Never was settled in the round that began so: the function was called even on the values of its last call
-abbrev pub WasForced : Work → Work → List NodeId → Type 0
-WasForced old new nodes = (k : NodeId) × Among k nodes × (never_at old k ≡ true) × (settled_in old.round (at new.rows (main k)) ≡ true)
+-- the points of these rows that were settled in the round of that number, as a test
+abbrev pub settled_by : ℕ → Work → Point → Bool
+settled_by round work p = settled_in round (at work.rows p)
 
 -- what is kept beside a graph: what is needed is held for these observers, each node's last arguments are kept, and who has cutoff Never
 pub record StoodBeside (before : Beside) (work : Work) (observers : List Observed) : Type 0 where
@@ -114,32 +114,29 @@ pub record ComesBack (points : List Point) : Type 0 where
   pub once : NoRepeats front
   pub long : 2 ≤ length points
 
--- a round that was refused made at most the calls that it takes to compute each of some live maps and folds once
-pub record HasCalledFew (G : Graph) (before after : ℕ) : Type 0 where
-  pub nodes : List NodeId
-  pub once : NoRepeats nodes
-  pub callers : (n : NodeId) → Among n nodes → IsCallerAt G n
-  pub count : RoseAtMost before (costs_of G nodes) after
-
 module _ (F : Functions) (G : Graph) (died : NodeId → Option NodeId) where
   -- a point is met by a round: reached from where these nodes are observed, or from what was needed before
   abbrev pub IsMetIn : Work → List NodeId → Point → Type 0
   IsMetIn old observed p = Met F G died observed (λ (q : Point). part.Needed old.graph q) p
 
-  -- a node's function was called: it is met, its children give these values, of which it wasn't the last call before unless it was forced, and it
-  -- is now
-  pub record WasCalledIn (old new : Work) (observed : List NodeId) (n : NodeId) : Type 0 where
+  -- a node's function was due: the node is met, its children give these values, and either it wasn't called on these last before the round, or a child
+  -- of cutoff Never was settled in it; none was made stale
+  pub record WasDueIn (old : Work) (settled : Point → Bool) (observed : List NodeId) (n : NodeId) : Type 0 where
     pub row : Row
     pub nodes : List NodeId
     pub values : List Value
-    pub result : Value
     pub is_row : G.row n ≡ Some row
     pub takes : taken_by G n row.def ≡ Some nodes
     pub gives : GiveAll F G nodes values
-    pub reason : ((c : Call) → last_call old n ≡ Some c → c.arguments ≡ values → ⊥) ⊎ WasForced old new nodes
-    pub is_last : last_call new n ≡ Some (record { arguments = values; result = result })
-    pub answers : IsAnswer F row.def values result
+    pub reason : Reason (last_call old) (never_at old) settled (λ (m : NodeId). false) n nodes values
     pub met : IsMetIn old observed (main n)
+
+  -- it was called, and that is its last call now
+  pub record WasCalledIn (old new : Work) (observed : List NodeId) (n : NodeId) : Type 0 where
+    pub due : WasDueIn old (settled_by old.round new) observed n
+    pub result : Value
+    pub is_last : last_call new n ≡ Some (record { arguments = due.values; result = result })
+    pub answers : IsAnswer F due.row.def due.values result
 
   -- after a round that was accepted, with these nodes observed; need, links and last calls are those of the graph after it, in which nobody is known
   -- to have died. Of a node that lives its cutoff stays, and its last call where its function wasn't called, but for a node that takes no call: a
@@ -177,10 +174,12 @@ module _ (F : Functions) (G : Graph) (died : NodeId → Option NodeId) where
   IsLawfulIn old observed (Cycle points) = IsListedIn old observed points.items × ComesBack points.items
   IsLawfulIn old observed e = Unit {0}
 
-  -- a refused round made few calls, and each of these nodes is met, where these are observed
-  pub record HasCalledMetIn (old : Work) (observed : List NodeId) (before after : ℕ) : Type 0 where
-    pub few : HasCalledFew G before after
-    pub met : (n : NodeId) → Among n few.nodes → IsMetIn old observed (main n)
+  -- a refused round made at most the calls that it takes to compute each of some live maps and folds once, all of which were due, where these are observed
+  pub record HasCalledMetIn (old new : Work) (observed : List NodeId) (before after : ℕ) : Type 0 where
+    pub nodes : List NodeId
+    pub once : NoRepeats nodes
+    pub due : (n : NodeId) → Among n nodes → WasDueIn old (settled_by new.round new) observed n
+    pub count : RoseAtMost before (costs_of G nodes) after
 
   -- what is shown of a node is what was before, or what it gives
   abbrev pub ShowsStillIn : Work → Work → NodeId → Type 0
@@ -230,7 +229,7 @@ module _ (F : Functions) (old new : Parts) where
   IsLawful observed e = IsLawfulIn F (left_by old new) (died_by old new) old.work observed e × IsFullBy old.arena new.arena e
 
   abbrev pub HasCalledMet : List NodeId → ℕ → ℕ → Type 0
-  HasCalledMet observed before after = HasCalledMetIn F (left_by old new) (died_by old new) old.work observed before after
+  HasCalledMet observed before after = HasCalledMetIn F (left_by old new) (died_by old new) old.work new.work observed before after
 
   abbrev pub ShowsStill : NodeId → Type 0
   ShowsStill n = ShowsStillIn F (left_by old new) (died_by old new) old.work new.work n

@@ -12,8 +12,8 @@ use Rattle.point_map.specs.Rows.{at, Holds, KeepsRows}
 use Rattle.node_arena.specs.Arena.{Arena, row_at}
 use Rattle.node_arena.specs.RightSide.{RightSide}
 use Rattle.stabilize_round.specs.Calling.{cost_at}
-use Rattle.stabilize_round.specs.Counts.{RoseBy, number_of}
-use Rattle.stabilize_round.specs.Moves.{Quiet, IsLeast, calls_of}
+use Rattle.stabilize_round.specs.Counts.{RoseBy, RoseAtMost, number_of}
+use Rattle.stabilize_round.specs.Moves.{Quiet, IsLeast, CallIsDue, calls_of}
 use Rattle.stabilize_round.specs.Machine.{Moves, Stops}
 use Rattle.stabilize_round.specs.State.{State, Start, Call}
 use Rattle.inc_value.specs.Choice.{Reaches}
@@ -34,7 +34,6 @@ use Rattle.wiring.specs.Stands.{Stands, Counts, Hand}
 use Rattle.stabilizer.specs.Building.{StopsBuilding}
 use Rattle.stabilizer.specs.Dying.{TakesLeast, StandsBefore}
 use Rattle.stabilizer.specs.Giving.{GivesLive, GivesFew, StopsFull}
-use Rattle.stabilizer.specs.Kept.{graph_in}
 use Rattle.stabilizer.specs.Rebuilding.{IsToBuild, BuildsAnew}
 use Rattle.stabilizer.specs.declared.parts.Parts.{Parts}
 use Rattle.wiring.specs.declared.refused.Refused.{Refused}
@@ -56,7 +55,7 @@ pub record MainIsSettled (F : Functions) (arena : Arena) (old new : Work) (n : N
   pub count : RoseBy before.calls (calls_of called (cost_at (graph_at arena old) n)) after.calls
   pub rest : IsOfBuilds before after
 
--- without memory a main stays as it was; some of the calls that it takes may have been made
+-- without memory a main stays as it was; where its function was due, some of the calls that it takes may have been made
 pub record MainIsLeft (arena : Arena) (old new : Work) (n : NodeId) (before after : Counts) : Type 0 where
   pub rows : KeepsRows old.rows new.rows
   pub graph : new.graph ≡ old.graph
@@ -66,7 +65,7 @@ pub record MainIsLeft (arena : Arena) (old new : Work) (n : NodeId) (before afte
   pub ran : new.ran.items ≡ old.ran.items
   pub retries : new.retries ≡ old.retries
   pub round : new.round ≡ old.round
-  pub count : (after.calls ≡ before.calls) ⊎ HasCalledSome (graph_at arena old) n before.calls after.calls
+  pub count : (after.calls ≡ before.calls) ⊎ HasCalledSome (graph_at arena old) n old.round old.rows before.calls after.calls
   pub rest : IsOfBuilds before after
 
 -- the points in the scope of a bind that wait for its change are in the worklist, and none else
@@ -150,12 +149,21 @@ Steps M old new before after =
     (z : Start) (s : State) → IsRoundOf M z s → Quiet s → Stands old.arena old.work before None s
     → (t : State) × Step M.functions z s t × Stands new.arena new.work after None t
 
--- where a step stops that is refused: as it was, but for some of the calls of a least point's function; where a bind couldn't be built; or where points get
+-- the function of a least point was due, and some of the calls were made that it takes
+pub record HasCalledDue (s : State) (before after : Counts) : Type 0 where
+  pub node : NodeId
+  pub row : Row
+  pub least : IsLeast s (main node)
+  pub is_row : s.graph.row node ≡ Some row
+  pub due : CallIsDue s node row.def
+  pub count : RoseAtMost before.calls (cost_at s.graph node) after.calls
+  pub rest : IsOfBuilds before after
+
+-- where a step stops that is refused: as it was, but for some of the calls of a least point's function, which was due; where a bind couldn't be built; or where points get
 -- their links, of which one was refused, or had no memory
 pub data StepStops (F : Functions) (z : Start) (s : State) (new : Parts) (before after : Counts) (e : Refused) : Type 0 where
   as_it_was : Stands new.arena new.work before None s
-      → (after ≡ before) ⊎ ((n : NodeId) × IsLeast s (main n) × HasCalledSome (graph_in new) n before.calls after.calls × IsOfBuilds before after) → e ≡ Memory
-      → StepStops F z s new before after e
+      → (after ≡ before) ⊎ HasCalledDue s before after → e ≡ Memory → StepStops F z s new before after e
   unbuilt : {r t : State} {count : ℕ} → Moves F z s r → Stops F z r t → Stands new.arena new.work after None t → after.calls ≡ before.calls
       → s.given ≤ count → StopsBuilding count new.arena e → StepStops F z s new before after e
   wiring : {t : State} {left : Option Hand} → Moves F z s t → Stands new.arena new.work after left t → after.calls ≡ before.calls → TellsWhy F t new.work left e

@@ -1,6 +1,6 @@
 -- What is seen of points by their rows is what the state shows.
 use Rattle.std.proofs.Common.{◌≡◌, inl, inr, ℕ, Bool, true, false, List, [], ◌∷◌, map, Option, None, Some, refl, sym, ap, subst, ◌∙◌}
-use Rattle.std.specs.Prelude.{is_some, IsSome, slice_index_or, ◌==◌, ◌&&◌, if◌then◌else◌}
+use Rattle.std.specs.Prelude.{is_some, IsSome, slice_index_or, option_and_then, ◌==◌, if◌then◌else◌}
 use Rattle.std.proofs.lemmas.Option.{none-some}
 use Rattle.inc_value.specs.declared.node.NodeId.{NodeId}
 use Rattle.inc_value.specs.declared.node.Part.TheVariants.{Main, Change}
@@ -18,56 +18,24 @@ use Rattle.inc_terms.specs.Evaluate.{Stands as StandsIn}
 use Rattle.inc_terms.specs.Graph.{Graph, Row, Def, kids}
 use Rattle.inc_terms.specs.Local.{shown, shown_of, by_sight, see_right, own_right, own, Exact, HasRun}
 use Rattle.inc_terms.specs.Term.{Functions, refs}
-use Rattle.point_map.specs.Rows.{Rows, at}
+use Rattle.point_map.specs.Rows.{at}
 use Rattle.node_arena.specs.declared.arena.Entry.{Entry}
 use Rattle.node_arena.specs.Arena.{Arena, row_at, row_of}
 use Rattle.wiring.specs.Graph.{graph_at}
 use Rattle.inc_terms.specs.Work.{taken_by}
 use Rattle.stabilize_round.specs.Invariant.{Invariant}
 use Rattle.stabilize_round.specs.Laws as law
-use Rattle.stabilize_round.specs.Moves.{Quiet, IsLeast, Calls}
+use Rattle.stabilize_round.specs.Moves.{Quiet, IsLeast, CallIsDue, Calls}
 use Rattle.stabilize_round.specs.State.{State, Start, Call}
 use Rattle.stabilize_round.proofs.Ready.{ready, own_among}
 use Rattle.stabilize_round.specs.Calling as why
 use Rattle.stabilize_round.specs.Calling.{Reason, other, made_stale}
-use Rattle.node_outcomes.specs.Computing.{IsForced, IsForcedBy, CallsSeen, KeepsAnswers, LooksAtSeen, seen, seen_of, seen_together, has_part}
+use Rattle.node_outcomes.specs.Computing.{ReasonIn, IsSeenDue, CallsSeen, last_in, KeepsAnswers, LooksAtSeen, seen, seen_of, seen_together, has_part}
 use Rattle.wiring.specs.Kept.{IsKept}
-use Rattle.node_outcomes.specs.Row.{is_never, never_in, settled_in, passes_in, outcome_in}
+use Rattle.node_outcomes.specs.Row.{never_in, settled_in, outcome_in}
 use Rattle.wiring.specs.Stands.{Stands, Counts}
 use Rattle.node_outcomes.specs.declared.row.Progress.{Progress}
 use Rattle.wiring.specs.declared.work.Work.{Work}
-
--- two tests are passed, or one of two
-and_apart : (a b : Bool) → (a && b) ≡ true → (a ≡ true) × (b ≡ true)
-and_apart true b h = (refl, h)
-and_apart false b h = absurd (cc)
-
-and_both : (a b : Bool) → a ≡ true → b ≡ true → (a && b) ≡ true
-and_both true b a_is b_is = b_is
-and_both false b a_is b_is = absurd (cc)
-
--- one of the nodes that force, and what one forces
-one_of_forced : (round : ℕ) (rows : Rows Progress) (ns : List NodeId) → IsForcedBy round rows ns
-    → (m : NodeId) × Among m ns × (passes_in round (at rows (main m)) ≡ true)
-one_of_forced round rows [] h = absurd (cc)
-one_of_forced round rows (n ∷ ns) h = by_test (passes_in round (at rows (main n))) refl (λ later. one_of_forced round rows ns later)
-  where
-    by_test : (b : Bool) → passes_in round (at rows (main n)) ≡ b
-        → (IsForcedBy round rows ns → (m : NodeId) × Among m ns × (passes_in round (at rows (main m)) ≡ true))
-        → (m : NodeId) × Among m (n ∷ ns) × (passes_in round (at rows (main m)) ≡ true)
-    by_test true is later = (n, inl refl, is)
-    by_test false is later = let k = later (rw is at h) in (k.0, inr k.1, k.2)
-
-one_forces : (round : ℕ) (rows : Rows Progress) (ns : List NodeId) (m : NodeId) → Among m ns → passes_in round (at rows (main m)) ≡ true
-    → IsForcedBy round rows ns
-one_forces round rows [] m a h = absurd a
-one_forces round rows (n ∷ ns) m (inl e) h =
-    let here : passes_in round (at rows (main n)) ≡ true = subst (λ (x : NodeId). passes_in round (at rows (main x)) ≡ true) e h in rw here refl
-one_forces round rows (n ∷ ns) m (inr a) h = by_test (passes_in round (at rows (main n))) refl (one_forces round rows ns m a h)
-  where
-    by_test : (b : Bool) → passes_in round (at rows (main n)) ≡ b → IsForcedBy round rows ns → IsForcedBy round rows (n ∷ ns)
-    by_test true is later = rw is refl
-    by_test false is later = rw is later
 
 some_def : (e : Entry) (b : Bool) (r : Row) → ◌≡◌ {A = Option Row} (if b then Some (row_of e.row) else None) (Some r)
     → (d : declared.Def) × (r.def ≡ def_of d)
@@ -289,51 +257,60 @@ module _ (s : State) (arena : Arena) (work : Work) (counts : Counts) (kept : IsK
     pub looks : LooksAtSeen work.rows (graph_at arena work) n r.def
     looks = record { kids = kids_known; choice = choice; right = right_seen }
 
-  -- who is forced by rows is forced in the state
-  settled_never : (m : NodeId) (x : Option Progress) → at work.rows (main m) ≡ x → never_in x ≡ true → s.never m ≡ true
-  settled_never m None e h = absurd (cc)
-  settled_never m (Some k) e h = st.never m k e ∙ h
+  -- a node has cutoff Never in the state that has it by rows; so it is by rows of what was settled
+  never_is : (m : NodeId) (x : Option Progress) → at work.rows (main m) ≡ x → never_in x ≡ true → s.never m ≡ true
+  never_is m None e h = absurd (cc)
+  never_is m (Some k) e h = st.never m k e ∙ h
 
-  never_settled : (m : NodeId) (x : Option Progress) → at work.rows (main m) ≡ x → s.never m ≡ true → settled_in work.round x ≡ true
-      → passes_in work.round x ≡ true
-  never_settled m None e never settled = settled
-  never_settled m (Some k) e never settled = and_both (is_never k.cutoff) (k.settled == work.round) (sym (st.never m k e) ∙ never) settled
+  never_seen : (m : NodeId) (x : Option Progress) → at work.rows (main m) ≡ x → s.never m ≡ true → settled_in work.round x ≡ true → never_in x ≡ true
+  never_seen m None e never settled = absurd (cc)
+  never_seen m (Some k) e never settled = sym (st.never m k e) ∙ never
 
-  forced : (ns : List NodeId) → IsForcedBy work.round work.rows ns → IsForced s.never s.settled ns
-  forced ns f =
-      let a = one_of_forced work.round work.rows ns f in
-      let b = and_apart (never_in (at work.rows (main a.0))) (settled_in work.round (at work.rows (main a.0))) a.2 in
-      (a.0, a.1, settled_never a.0 (at work.rows (main a.0)) refl b.0, st.settled (main a.0) ∙ b.1)
+  module _ (n : NodeId) (k : Progress) (row : at work.rows (main n) ≡ Some k) where
+    last_is : last_in work.rows n ≡ s.last n
+    last_is = ap (option_and_then (λ (x : Progress). x.last)) row ∙ sym (st.last n k row)
 
-  forced_seen : (ns : List NodeId) → IsForced s.never s.settled ns → IsForcedBy work.round work.rows ns
-  forced_seen ns f = one_forces work.round work.rows ns f.0 f.1
-      (never_settled f.0 (at work.rows (main f.0)) refl f.2 (sym (st.settled (main f.0)) ∙ f.3))
+    -- a reason by rows is one in the state
+    reason_is : (ns : List NodeId) (values : List Value) → ReasonIn work.round work.rows n ns values → Reason s.last s.never s.settled s.stale n ns values
+    reason_is ns values (other differs) = other (λ c l a. differs c (last_is ∙ l) a)
+    reason_is ns values (why.forced {kid} a never settled) =
+        why.forced {kid = kid} a (never_is kid (at work.rows (main kid)) refl never) (st.settled (main kid) ∙ settled)
+    reason_is ns values (made_stale marked) = absurd (cc)
 
-  -- a function was called on these values, isn't forced, and its node isn't marked: there is no reason to call it
-  no_reason : (n : NodeId) (ns : List NodeId) (values : List Value) → Reason s.last s.never s.settled s.stale n ns values → (c : Call) → s.last n ≡ Some c
-      → c.arguments ≡ values → (IsForced s.never s.settled ns → ⊥) → ⊥
-  no_reason n ns values (other differs) c is same free = differs c is same
-  no_reason n ns values (why.forced {kid} a never settled) c is same free = free (kid, a, never, settled)
-  no_reason n ns values (made_stale marked) c is same free = let x = st.stale n in absurd (cc)
+    -- and the other way round, as none was made stale
+    reason_seen : (ns : List NodeId) (values : List Value) → Reason s.last s.never s.settled s.stale n ns values → ReasonIn work.round work.rows n ns values
+    reason_seen ns values (other differs) = other (λ c l a. differs c (sym last_is ∙ l) a)
+    reason_seen ns values (why.forced {kid} a never settled) =
+        let done = sym (st.settled (main kid)) ∙ settled in
+        why.forced {kid = kid} a (never_seen kid (at work.rows (main kid)) refl never done) done
+    reason_seen ns values (made_stale marked) = absurd (let x = st.stale n in cc)
 
-  -- a call that was seen is a call
-  pub calls_are : (F : Functions) (n : NodeId) (def : Def) (k : Progress) (last' : Option Call) (called : Bool)
-      → at work.rows (main n) ≡ Some k → CallsSeen F s.graph n work.round work.rows def k.last last' called → Calls F s n def last' called
-  calls_are F n def k last' false row c = (
-    c.0 ∙ sym (st.last n k row),
-    λ ns values e g.
-        let x = c.1 ns values e (sym (sees_together ns) ∙ g) in (x.0, st.last n k row ∙ x.1, x.2, λ f. no_reason n ns values f (x.0) (st.last n k row ∙ x.1) x.2 (λ a. x.3 (forced_seen ns a))),
-  )
-  calls_are F n def k last' true row (ns, values, result, takes, show, reason, is_last, answers) = (
-    ns,
-    values,
-    result,
-    takes,
-    sees_together ns ∙ show,
-    elim reason [
-      | inl differs ↦ other (λ c l a. differs c (sym (st.last n k row) ∙ l) a)
-      | inr f ↦ let a = forced ns f in why.forced {kid = a.0} a.1 a.2 a.3
-    ],
-    is_last,
-    answers,
-  )
+    -- what is seen due is due
+    pub due_is : (def : Def) → IsSeenDue s.graph n work.round work.rows def → CallIsDue s n def
+    due_is def due = record {
+      kids = due.nodes;
+      values = due.values;
+      takes = due.takes;
+      shows = sees_together due.nodes ∙ due.shows;
+      reason = reason_is due.nodes due.values due.reason;
+    }
+
+    -- a call that was seen is a call
+    pub calls_are : (F : Functions) (def : Def) (last' : Option Call) (called : Bool)
+        → CallsSeen F s.graph n work.round work.rows def k.last last' called → Calls F s n def last' called
+    calls_are F def last' false c = (
+      c.0 ∙ sym (st.last n k row),
+      λ ns values e g.
+          let x = c.1 ns values e (sym (sees_together ns) ∙ g) in
+          (x.0, st.last n k row ∙ x.1, x.2, λ reason. x.3 (reason_seen ns values reason)),
+    )
+    calls_are F def last' true (due, result, is_last, answers) = (
+      due.nodes,
+      due.values,
+      result,
+      due.takes,
+      sees_together due.nodes ∙ due.shows,
+      reason_is due.nodes due.values due.reason,
+      is_last,
+      answers,
+    )

@@ -33,7 +33,8 @@ pub returns-in-Err-clause-few : goal.returns-in-Err-clause-few
 returns-in-Err-clause-few g c cause is = rw (← c.self.view_is)
     (few_in (functions_of g.F.Functions c.self.inside.functions) (left_by c.self.inside.parts c.run.new.parts) (died_by c.self.inside.parts c.run.new.parts)
     c.self.inside.functions c.self.inside.parts c.self.inside.observers.items
-    c.self.inside.rooted c.self.inside.refused (g.F.Functions.calls c.self.inside.functions) (g.F.Functions.calls c.run.new.functions)
+    c.self.inside.rooted c.self.inside.refused c.run.new.functions c.run.new.parts c.self.inside.rooted c.in-Err.refused
+    (g.F.Functions.calls c.self.inside.functions) (g.F.Functions.calls c.run.new.functions)
     (rw c.deref.ensures.value at c.in-Err.ensures.few))
 
 pub returns-in-Ok-clause-left : goal.returns-in-Ok-clause-left
