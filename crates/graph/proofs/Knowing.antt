@@ -116,7 +116,7 @@ module _ (F F' : Functions) (known : FnRef → Bool) (values : (f : FnRef) → I
 
 -- ---- of a keeper
 
-module _ {named named' : List ℕ → Option FnRef} (known known' : FnRef → Bool) (value value' : FnRef → List Value → Value) (right right' : FnRef → RightSide)
+module _ (named named' : List ℕ → Option FnRef) (known known' : FnRef → Bool) (value value' : FnRef → List Value → Value) (right right' : FnRef → RightSide)
     (keeps : KeepsMeanings named named' known known' value value' right right') (laws : FunctionLaws (meaning value' right') known' (ids_of right')) (parts : Parts)
     (fit : AllFit known right parts.arena) (fit' : AllFit known' right' parts.arena) where
   abbrev before : Functions

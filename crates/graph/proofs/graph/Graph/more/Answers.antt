@@ -19,7 +19,7 @@ invariant_of-self g c =
     c.self.invariant.3 in (
       c.self.invariant.0,
       sound_more (meaning_of g.F.Functions f) M' c.self.inside.parts c.self.inside.observers.items c.self.inside.rooted c.self.inside.refused
-          c.self.invariant.1 (rw (← c.self.view_is) at c.in-Ok.ensures.unbroken) (ready_more (g.F.Functions.known f) (g.F.Functions.known f') (g.F.Functions.value f) (g.F.Functions.value f')
+          c.self.invariant.1 (rw (← c.self.view_is) at c.in-Ok.ensures.unbroken) (ready_more (g.F.Functions.named f) (g.F.Functions.named f') (g.F.Functions.known f) (g.F.Functions.known f') (g.F.Functions.value f) (g.F.Functions.value f')
           (g.F.Functions.right f) (g.F.Functions.right f') m.keeps_meanings laws c.self.inside.parts c.self.invariant.3.all fit.all),
       m.sound,
       fit,
