@@ -8,7 +8,7 @@ use Rattle.inc_value.specs.declared.node.Point.{Point}
 use Rattle.inc_value.specs.Choice.{Among}
 use Rattle.inc_terms.specs.Depend.{main, change}
 use Rattle.inc_terms.proofs.Plan.{among_left, among_right}
-use Rattle.point_map.specs.Rows.{Place, at, row_in, same_point}
+use Rattle.point_map.specs.Rows.{Place, row_in, same_point}
 use Rattle.point_map.proofs.Places.{same_point_eq}
 use Rattle.necessity.proofs.Counts.{split}
 use Rattle.necessary_graph.specs.Part.{NecessaryPart, Needed, IsInStep}

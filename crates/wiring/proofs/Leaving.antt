@@ -3,7 +3,6 @@ use Rattle.std.proofs.Common.{◌≡◌, ◌⊎◌, inl, inr, ◌<◌, ◌++◌,
 use Rattle.inc_value.specs.declared.node.Point.{Point}
 use Rattle.inc_value.specs.Choice.{here, Among, Reaches}
 use Rattle.inc_terms.specs.Term.{Functions}
-use Rattle.point_map.specs.Rows.{at}
 use Rattle.necessary_graph.specs.Part.{NecessaryPart, Needed}
 use Rattle.node_arena.specs.Arena.{Arena}
 use Rattle.stabilize_round.specs.Invariant.{Invariant}

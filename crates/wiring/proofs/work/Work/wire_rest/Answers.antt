@@ -6,7 +6,6 @@ use Rattle.inc_value.specs.declared.node.Point.{Point}
 use Rattle.inc_value.specs.Choice.{Among}
 use Rattle.inc_terms.specs.Depend.{main, subject_of}
 use Rattle.inc_terms.specs.Graph.{kids}
-use Rattle.point_map.specs.Rows.{at}
 use Rattle.necessary_graph.specs.Part.{Needed}
 use Rattle.node_arena.specs.Arena.{NamesGiven}
 use Rattle.node_outcomes.specs.Row.{stage_in}
