@@ -1,5 +1,6 @@
 -- What a keeper's functions mean, as the engine's definitions take it.
-use Rattle.std.specs.Prelude.{◌≡◌, Bool, List}
+use Rattle.std.specs.Prelude.{◌≡◌, ◌⊎◌, ℕ, Bool, List, Result, Ok, Err}
+use Rattle.inc_value.specs.Counts.{raised}
 use Rattle.inc_value.specs.declared.function.FnRef.{FnRef}
 use Rattle.inc_value.specs.declared.node.NodeId.{NodeId}
 use Rattle.inc_terms.specs.Term.{Functions}
@@ -12,6 +13,11 @@ pub record Meaning : Type 0 where
   pub functions : Functions
   pub known : FnRef → Bool
   pub ids : FnRef → List NodeId
+
+-- the count of calls that found no memory: it stays where a call was answered, and a refused one raises it by one, or had the want of memory elsewhere
+abbrev pub WantsFollow : {T E : Type 0} → Result T E → ℕ → ℕ → Type 0
+WantsFollow (Ok v) old new = new ≡ old
+WantsFollow (Err e) old new = (new ≡ old) ⊎ (new ≡ raised old)
 
 module _ {F More : Type 0} (keeper : Ghosts F More) where
   -- what a keeper's functions give

@@ -7,7 +7,7 @@ ghost use Rattle.inc_terms.specs.Evaluate.{folded};
 ghost use Rattle.point_map.specs.Rows.{Holds};
 ghost use Rattle.stabilize_round.specs.Counts.{RoseBy, RoseAtMost};
 ghost use Rattle.node_outcomes.specs.Computing.{AllShow, Calls, FoldFits, noted, value_shown};
-ghost use Rattle.node_outcomes.specs.Meaning.{KeepsFunctions};
+ghost use Rattle.node_outcomes.specs.Meaning.{KeepsFunctions, WantsFollow};
 
 use crate::row::{Progress, keep_fold, keep_map, main_point};
 use crate::sight::{value_of, values_shown};
@@ -37,6 +37,7 @@ pub(crate) fn call_map<F: Functions>(
         (noted rows.old ran.old.items (F.calls functions.old)) (noted rows.new ran.new.items (F.calls functions.new))
         node (filter_map (value_shown rows.old) kids.now) 1 result }
     ensures functions { KeepsFunctions F.Functions functions.old functions.new }
+    ensures wants { WantsFollow result (F.wants functions.old) (F.wants functions.new) }
 {
     match kids {
         [kid] => call_on_one(alloc, rows, ran, functions, node, f, *kid),
@@ -65,6 +66,7 @@ fn call_on_one<F: Functions>(
         (noted rows.old ran.old.items (F.calls functions.old)) (noted rows.new ran.new.items (F.calls functions.new))
         node (filter_map (value_shown rows.old) (kid ∷ [])) 1 result }
     ensures functions { KeepsFunctions F.Functions functions.old functions.new }
+    ensures wants { WantsFollow result (F.wants functions.old) (F.wants functions.new) }
 {
     let arguments = match value_of(alloc, rows, kid) {
         Ok(value) => [value],
@@ -96,6 +98,7 @@ fn call_on_two<F: Functions>(
         (noted rows.old ran.old.items (F.calls functions.old)) (noted rows.new ran.new.items (F.calls functions.new))
         node (filter_map (value_shown rows.old) (first ∷ second ∷ [])) 1 result }
     ensures functions { KeepsFunctions F.Functions functions.old functions.new }
+    ensures wants { WantsFollow result (F.wants functions.old) (F.wants functions.new) }
 {
     let one = match value_of(alloc, rows, first) {
         Ok(value) => value,
@@ -132,6 +135,7 @@ fn call_on_all<F: Functions>(
         (noted rows.old ran.old.items (F.calls functions.old)) (noted rows.new ran.new.items (F.calls functions.new))
         node (filter_map (value_shown rows.old) kids.now) 1 result }
     ensures functions { KeepsFunctions F.Functions functions.old functions.new }
+    ensures wants { WantsFollow result (F.wants functions.old) (F.wants functions.new) }
 {
     let arguments = match values_shown(alloc, rows, kids) {
         Ok(arguments) => arguments,
@@ -161,6 +165,7 @@ fn call_on<F: Functions>(
         (noted rows.old ran.old.items (F.calls functions.old)) (noted rows.new ran.new.items (F.calls functions.new))
         node arguments.now 1 result }
     ensures functions { KeepsFunctions F.Functions functions.old functions.new }
+    ensures wants { WantsFollow result (F.wants functions.old) (F.wants functions.new) }
 {
     if ran.reserve(1).is_err() {
         return Err(AllocError);
@@ -205,6 +210,7 @@ pub(crate) fn call_fold<F: Functions>(
         node (filter_map (value_shown rows.old) kids.now)
         (length (filter_map (value_shown rows.old) kids.now)) result }
     ensures functions { KeepsFunctions F.Functions functions.old functions.new }
+    ensures wants { WantsFollow result (F.wants functions.old) (F.wants functions.new) }
 {
     let arguments = match values_shown(alloc, rows, kids) {
         Ok(arguments) => arguments,
@@ -235,6 +241,7 @@ fn fold_on<F: Functions>(
         (noted rows.old ran.old.items (F.calls functions.old)) (noted rows.new ran.new.items (F.calls functions.new))
         node arguments.now (length arguments.now) result }
     ensures functions { KeepsFunctions F.Functions functions.old functions.new }
+    ensures wants { WantsFollow result (F.wants functions.old) (F.wants functions.new) }
 {
     if ran.reserve(1).is_err() {
         return Err(AllocError);
@@ -277,6 +284,7 @@ fn fold<F: Functions>(
     ensures calls { OnOk result (RoseBy (F.calls functions.old) (length values.now) (F.calls functions.new)) }
     ensures few { OnErr result (RoseAtMost (F.calls functions.old) (length values.now) (F.calls functions.new)) }
     ensures functions { KeepsFunctions F.Functions functions.old functions.new }
+    ensures wants { WantsFollow result (F.wants functions.old) (F.wants functions.new) }
 {
     let mut result = match initial.copy(alloc) {
         Ok(copy) => copy,
@@ -308,6 +316,7 @@ fn call_with<F: Functions>(
     ensures calls { OnOk result (RoseBy (F.calls functions.old) 1 (F.calls functions.new)) }
     ensures few { OnErr result (RoseAtMost (F.calls functions.old) 1 (F.calls functions.new)) }
     ensures functions { KeepsFunctions F.Functions functions.old functions.new }
+    ensures wants { WantsFollow result (F.wants functions.old) (F.wants functions.new) }
 {
     let arguments = match second.copy(alloc) {
         Ok(copy) => [first, copy],

@@ -13,7 +13,7 @@ ghost use Rattle.node_arena.specs.Sound.{IsSound};
 ghost use Rattle.node_outcomes.specs.Choosing.{held_in};
 ghost use Rattle.node_outcomes.specs.Computing.{CallComputes, Ends, IsKnown, KeepsTypes};
 ghost use Rattle.node_outcomes.specs.Computing.{FoldFits, ShowsValue, noted};
-ghost use Rattle.node_outcomes.specs.Meaning.{functions_of, KeepsFunctions};
+ghost use Rattle.node_outcomes.specs.Meaning.{functions_of, KeepsFunctions, WantsFollow};
 
 use crate::call::{call_fold, call_map};
 use crate::choosing::right_side;
@@ -48,6 +48,7 @@ pub fn compute<F: Functions>(
         (held_in arena.now rows.old roots.now) round (noted rows.old ran.old.items (F.calls functions.old))
         (noted rows.new ran.new.items (F.calls functions.new)) node result }
     ensures functions { KeepsFunctions F.Functions functions.old functions.new }
+    ensures wants { WantsFollow result (F.wants functions.old) (F.wants functions.new) }
 {
     let row = arena.get(node).unwrap();
     match &row.def {
@@ -99,6 +100,7 @@ fn compute_map<F: Functions>(
         (noted rows.old ran.old.items (F.calls functions.old))
         (noted rows.new ran.new.items (F.calls functions.new)) node (Map f.now kids.now) kids.now 1 result }
     ensures functions { KeepsFunctions F.Functions functions.old functions.new }
+    ensures wants { WantsFollow result (F.wants functions.old) (F.wants functions.new) }
 {
     match known_outcome(alloc, rows, round, node, kids) {
         Ok(Some(outcome)) => Ok(outcome),
@@ -130,6 +132,7 @@ fn compute_fold<F: Functions>(
         (noted rows.new ran.new.items (F.calls functions.new)) node (Fold f.now initial.now kids.now) kids.now
         (length kids.now) result }
     ensures functions { KeepsFunctions F.Functions functions.old functions.new }
+    ensures wants { WantsFollow result (F.wants functions.old) (F.wants functions.new) }
 {
     match known_outcome(alloc, rows, round, node, kids) {
         Ok(Some(outcome)) => Ok(outcome),

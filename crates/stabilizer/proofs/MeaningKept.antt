@@ -1,11 +1,15 @@
 -- What steps leave of a keeper's functions, which builds count.
-use Rattle.std.proofs.Common.{◌≡◌, refl, sym, ap, ◌∙◌}
+use Rattle.std.proofs.Common.{◌≡◌, ◌⊎◌, inl, ℕ, Result, Ok, Err, refl, sym, ap, subst, ◌∙◌}
+use Rattle.std.specs.Result.{IsErrAnd}
+use Rattle.inc_value.specs.Counts.{raised}
 use Rattle.std.proofs.Math.Path.{fun_ext}
 use Rattle.node_arena.proofs.SameMeanings.{same_itself, same_on}
 use Rattle.node_arena.specs.Arena.{Arena, row_at}
 use Rattle.node_arena.specs.declared.functions.Functions.{Ghosts}
 use Rattle.node_outcomes.specs.Meaning.{meaning_of}
-use Rattle.stabilizer.specs.Kept.{KeepsMeaning, StaysFlat}
+use Rattle.wiring.specs.declared.refused.Refused.{Refused}
+use Rattle.wiring.specs.declared.refused.Refused.TheVariants as refused
+use Rattle.stabilizer.specs.Kept.{KeepsMeaning, StaysFlat, WantsTell}
 
 module _ {F More : Type 0} (keeper : Ghosts F More) where
   -- where nothing is called all is kept
@@ -13,6 +17,8 @@ module _ {F More : Type 0} (keeper : Ghosts F More) where
   nothing_meant functions sound = record {
     sound = sound;
     same = same_itself (keeper.named functions) (keeper.known functions) (keeper.value functions) (keeper.right functions);
+    taken = refl;
+    most = refl;
   }
 
   -- what was kept of functions, and is kept on, is kept
@@ -20,6 +26,8 @@ module _ {F More : Type 0} (keeper : Ghosts F More) where
   meaning_on first mid last h k = record {
     sound = k.sound;
     same = same_on h.same k.same;
+    taken = k.taken ∙ h.taken;
+    most = k.most ∙ h.most;
   }
 
   -- kept functions mean what they meant
@@ -32,3 +40,19 @@ pub stays_flat : (old mid new : Arena) → StaysFlat old mid → StaysFlat mid n
 stays_flat old mid new first then none =
     let same = first none in
     then (λ n r row. none n r (ap (λ (a : Arena). row_at a n) (sym same) ∙ row)) ∙ same
+
+-- where no call finds no memory nothing tells of it
+pub wants_stay : {T : Type 0} (r : Result T Refused) (old new : ℕ) → new ≡ old → WantsTell r old new
+wants_stay (Ok v) old new same = same
+wants_stay (Err e) old new same = inl same
+
+-- what a refusal tells is told from an earlier count too, where that stayed till then
+pub wants_from : (e : Refused) (first mid last : ℕ) → mid ≡ first → (last ≡ mid) ⊎ ((e ≡ refused.Memory) × (last ≡ raised mid))
+    → (last ≡ first) ⊎ ((e ≡ refused.Memory) × (last ≡ raised first))
+wants_from e first mid last same h = subst (λ (k : ℕ). (last ≡ k) ⊎ ((e ≡ refused.Memory) × (last ≡ raised k))) same h
+
+-- a refusal that is handed on tells what it told
+pub wants_handed : {T : Type 0} (r : Result T Refused) (e : Refused) (old new : ℕ) → IsErrAnd r (λ x. x ≡ e)
+    → (new ≡ old) ⊎ ((e ≡ refused.Memory) × (new ≡ raised old)) → WantsTell r old new
+wants_handed (Ok v) e old new is h = absurd is
+wants_handed (Err x) e old new is h = subst (λ y. (new ≡ old) ⊎ ((y ≡ refused.Memory) × (new ≡ raised old))) (sym is) h

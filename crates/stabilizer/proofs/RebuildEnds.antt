@@ -188,6 +188,7 @@ module _ {K More : Type 0} (keeper : Ghosts K More) (fs : K) where
       → SidesFit known right old.arena → RebuildStays keeper fs fs old (roomy old deaths old.work.roots same (λ p. refl) dying items) b
   roomy_stays old deaths same dying items b own quiet sound fit = record {
     calls = refl;
+    wants = refl;
     own = λ r e. e;
     there = own;
     ran = refl;
@@ -258,6 +259,7 @@ module _ {K More : Type 0} (keeper : Ghosts K More) (fs : K) where
     pub dead_stays : RebuildStays keeper fs fs first dead b
     dead_stays = record {
       calls = refl;
+      wants = refl;
       own = λ r e. same_row ∙ (ap (λ (a : Arena). row_at a b) h.arena ∙ e);
       there = own_dead;
       ran = h.died.ran ∙ (h.cuts.ran ∙ h.ran);
@@ -282,6 +284,7 @@ module _ {K More : Type 0} (keeper : Ghosts K More) (fs : K) where
       pub ready_stays : RebuildStays keeper fs fs first ready b
       ready_stays = record {
         calls = refl;
+        wants = refl;
         own = dead_stays.own;
         there = dead_stays.there;
         ran = dead_stays.ran;
@@ -381,6 +384,7 @@ module _ {K More : Type 0} (keeper : Ghosts K More) (fs : K) where
         pub grown_stays : RebuildStays keeper fs fs' first grown b
         grown_stays = record {
           calls = w.calls;
+          wants = w.wants;
           own = own_row;
           there = there_grown;
           ran = w.grew.ran ∙ dead_stays.ran;
@@ -438,6 +442,7 @@ module _ {K More : Type 0} (keeper : Ghosts K More) (fs : K) where
           pub root_stays : RebuildStays keeper fs fs' first rooted b
           root_stays = record {
             calls = w.calls;
+            wants = w.wants;
             own = own_row;
             there = there_grown;
             ran = grown_stays.ran;

@@ -1,5 +1,6 @@
 -- What the parts keep between any two calls, and what a keeper of functions counted.
-use Rattle.std.specs.Prelude.{◌≡◌, ◌↔◌, ◌<◌, min, [], Some}
+use Rattle.std.specs.Prelude.{◌≡◌, ◌⊎◌, ◌↔◌, ◌<◌, ℕ, min, [], Some, Result, Ok, Err}
+use Rattle.inc_value.specs.Counts.{raised}
 use Rattle.inc_value.specs.declared.node.NodeId.{NodeId}
 use Rattle.inc_terms.specs.Graph.{Graph, Row}
 use Rattle.scopes.specs.Scopes.{Scopes, StandsIn}
@@ -10,6 +11,8 @@ use Rattle.stabilize_round.specs.Counts.{last_count}
 use Rattle.wiring.specs.Graph.{graph_at}
 use Rattle.wiring.specs.Kept.{IsKept, IsBind}
 use Rattle.wiring.specs.Stands.{Counts}
+use Rattle.wiring.specs.declared.refused.Refused.{Refused}
+use Rattle.wiring.specs.declared.refused.Refused.TheVariants as refused
 use Rattle.stabilizer.specs.declared.parts.Parts.{Parts}
 
 -- the nodes of parts as a graph
@@ -39,6 +42,11 @@ pub record PartsKept (parts : Parts) : Type 0 where
   pub scopes : KeepsScopes parts.arena parts.scopes
   pub dying : parts.dying.items ≡ []
 
+-- the count of calls that found no memory: it stays, but that a call which finds none refuses what it was called for, as want of memory, and is counted
+abbrev pub WantsTell : {T : Type 0} → Result T Refused → ℕ → ℕ → Type 0
+WantsTell (Ok v) old new = new ≡ old
+WantsTell (Err e) old new = (new ≡ old) ⊎ ((e ≡ refused.Memory) × (new ≡ raised old))
+
 module _ {F More : Type 0} (keeper : Ghosts F More) where
   -- the calls, builds and nodes that were added which a keeper counted; the last two stand still at the last value that a count can show
   abbrev pub counts_by : F → Counts
@@ -48,8 +56,10 @@ module _ {F More : Type 0} (keeper : Ghosts F More) where
     adds = min (keeper.tally s).adds last_count;
   }
 
-  -- the keeper is still sound and means what it meant
+  -- the keeper is still sound and means what it meant. No function more was taken
   pub record KeepsMeaning (old new : F) : Type 0 where
     pub sound : keeper.is_sound new
     pub same : SameMeaning (keeper.named old) (keeper.named new) (keeper.known old) (keeper.known new) (keeper.value old) (keeper.value new)
         (keeper.right old) (keeper.right new)
+    pub taken : (keeper.tally new).taken ≡ (keeper.tally old).taken
+    pub most : (keeper.tally new).most ≡ (keeper.tally old).most

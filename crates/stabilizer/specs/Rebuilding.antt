@@ -87,6 +87,7 @@ module _ {K More : Type 0} (keeper : Ghosts K More) (fs fs' : K) where
   -- what stays where a bind is built anew, or couldn't be
   pub record RebuildStays (old new : Parts) (n : NodeId) : Type 0 where
     pub calls : keeper.calls fs' ≡ keeper.calls fs
+    pub wants : keeper.wants fs' ≡ keeper.wants fs
     pub own : (r : Row) → row_at old.arena n ≡ Some r → row_at new.arena n ≡ Some r
     pub there : Holds new.work.rows (change n)
     pub ran : new.ran ≡ old.ran

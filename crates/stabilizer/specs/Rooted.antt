@@ -29,6 +29,7 @@ module _ {K More : Type 0} (keeper : Ghosts K More) (fs fs' : K) where
     pub meaning : KeepsMeaning keeper fs fs'
     pub fit : SidesFit (keeper.known fs') (keeper.right fs') new.arena
     pub calls : keeper.calls fs' ≡ keeper.calls fs
+    pub wants : keeper.wants fs' ≡ keeper.wants fs
     pub tally : keeper.tally fs' ≡ one_built (new.arena.given - old.arena.given) (keeper.tally fs)
 
   -- there was room for a root, the right side of the value was built, and the bind has its root

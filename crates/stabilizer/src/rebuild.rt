@@ -86,6 +86,7 @@ impl Parts {
             (counts_by F.Functions functions.old) (counts_by F.Functions functions.new)) }
         ensures gives { OnOk result (GivesLive self.old.arena.given 0 self.new.arena) }
         ensures calls { F.calls functions.new ≡ F.calls functions.old }
+        ensures wants { F.wants functions.new ≡ F.wants functions.old }
         ensures settled { OnOk result (settled_in self.new.work.round (at self.new.work.rows (change node)) ≡ true) }
         ensures own { (r : ARow) → row_at self.old.arena node ≡ Some r → row_at self.new.arena node ≡ Some r }
         ensures there { Holds self.new.work.rows (change node) }
@@ -323,6 +324,7 @@ impl Parts {
             ≤ self.old.arena.given + (F.right functions.old recipe.now.function).size }
         ensures tally { F.tally functions.new ≡ one_built (self.new.arena.given - self.old.arena.given) (F.tally functions.old) }
         ensures calls { F.calls functions.new ≡ F.calls functions.old }
+        ensures wants { F.wants functions.new ≡ F.wants functions.old }
         ensures fit { SidesFit (F.known functions.new) (F.right functions.new) self.new.arena }
         ensures functions { KeepsMeaning F.Functions functions.old functions.new }
     {

@@ -17,7 +17,7 @@ ghost use Rattle.node_outcomes.specs.Meaning.{functions_of, meaning_of};
 ghost use Rattle.node_outcomes.specs.Row.{settled_in, outcome_in};
 ghost use Rattle.wiring.specs.Kept.{IsKept};
 ghost use Rattle.wiring.specs.Wiring.{PutsRoots, RootRefused};
-ghost use Rattle.stabilizer.specs.Kept.{PartsKept, KeepsMeaning, StaysFlat, counts_by};
+ghost use Rattle.stabilizer.specs.Kept.{PartsKept, KeepsMeaning, StaysFlat, WantsTell, counts_by};
 ghost use Rattle.stabilizer.specs.Rebuilding.{BuildRefused};
 ghost use Rattle.stabilizer.specs.Round.{IsReady, AreRooted, IsUpToDate, IsLawful, LeavesTried, HasCalledMet, ShowsStill};
 ghost use Rattle.stabilizer.specs.Round.{cutoff_at, left_by, IsLeftBy, BuildsAll, BuildsAllBut};
@@ -66,6 +66,7 @@ impl Stabilizer {
         ensures falls { IfOk result (λ more. IsTrue more → StepFalls (meaning_of F.Functions functions.old)
             parts.old parts.new (counts_by F.Functions functions.old)) }
         ensures stays { RoundStays F.Functions functions.old functions.new parts.old parts.new }
+        ensures wants { WantsTell result (F.wants functions.old) (F.wants functions.new) }
     {
         let Some(p) = parts.work.graph.pop_least() else {
             return Ok(false);
@@ -125,6 +126,7 @@ impl Stabilizer {
             → BuildsAllBut (functions_of F.Functions functions.old) parts.old parts.new (roots.now ++ observed) e) }
         ensures ran { OnErr result (parts.new.ran ≡ parts.old.ran) }
         ensures functions { KeepsMeaning F.Functions functions.old functions.new }
+        ensures wants { WantsTell result (F.wants functions.old) (F.wants functions.new) }
         ensures flat { StaysFlat parts.old.arena parts.new.arena }
     {
         let Some(next) = parts.work.round.checked_add(1) else {
@@ -180,6 +182,7 @@ fn settle_all<F: Functions>(parts: &mut Parts, functions: &mut F) -> Result<(), 
     ensures round { parts.new.work.round ≡ parts.old.work.round }
     ensures ran { parts.new.ran ≡ parts.old.ran }
     ensures functions { KeepsMeaning F.Functions functions.old functions.new }
+    ensures wants { WantsTell result (F.wants functions.old) (F.wants functions.new) }
     ensures flat { StaysFlat parts.old.arena parts.new.arena }
 {
     while Stabilizer::step(parts, functions)? {}
@@ -205,6 +208,7 @@ fn step_main<F: Functions>(
     ensures rest { parts.new ≡ record parts.old { work = parts.new.work } }
     ensures kept { PartsKept parts.new }
     ensures functions { KeepsMeaning F.Functions functions.old functions.new }
+    ensures wants { WantsTell result (F.wants functions.old) (F.wants functions.new) }
     ensures flat { StaysFlat parts.old.arena parts.new.arena }
 {
     let computed = compute(
@@ -247,6 +251,7 @@ fn step_change<F: Functions>(
         (counts_by F.Functions functions.old) (counts_by F.Functions functions.new)) }
     ensures quiet { OnOk result (parts.new.work.todo.items ≡ []) }
     ensures stays { RoundStays F.Functions functions.old functions.new parts.old parts.new }
+    ensures wants { F.wants functions.new ≡ F.wants functions.old }
 {
     match turn_change(parts, functions, node) {
         Ok(()) => {}
@@ -283,6 +288,7 @@ fn turn_change<F: Functions>(
     ensures there { Holds parts.new.work.rows (change node) }
     ensures quiet { OnErr result (parts.new.work.todo.items ≡ []) }
     ensures stays { RoundStays F.Functions functions.old functions.new parts.old parts.new }
+    ensures wants { F.wants functions.new ≡ F.wants functions.old }
 {
     let Some(row) = parts.arena.get(node) else {
         return Ok(());

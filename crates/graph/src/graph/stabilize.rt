@@ -1,5 +1,6 @@
 //! One call that brings what is observed up to date.
-ghost use Rattle.std.specs.Prelude.{◌≡◌, ◌↔◌, Some, OnOk, OnErr, IfErr, IsErrOf, length, ◌≤◌, ◌+◌};
+ghost use Rattle.std.specs.Prelude.{◌≡◌, ◌⊎◌, ◌↔◌, Some, OnOk, OnErr, IfErr, IsErrOf, length, ◌≤◌, ◌+◌};
+ghost use Rattle.inc_value.specs.Counts.{raised};
 ghost use Rattle.inc_value.specs.declared.node.NodeId.{NodeId};
 ghost use Rattle.node_arena.specs.Arena.{live};
 ghost use Rattle.node_arena.specs.Meanings.{SameNames, SameKnown, SameValues};
@@ -9,7 +10,7 @@ ghost use Rattle.stabilize_round.specs.Counts.{RoseBy};
 ghost use Rattle.stabilizer.specs.Giving.{GivesLive, GivesFew, HasBuilt, StopsFull};
 ghost use Rattle.stabilizer.specs.Weights.{SidesFit};
 ghost use Rattle.node_outcomes.specs.Meaning.{functions_of, meaning_of};
-ghost use Rattle.stabilizer.specs.Kept.{KeepsMeaning, counts_by};
+ghost use Rattle.stabilizer.specs.Kept.{KeepsMeaning, WantsTell, counts_by};
 ghost use Rattle.stabilizer.specs.Kept.{HasNoBinds};
 ghost use Rattle.graph.specs.Few.{IdsAreFew, IsFilled};
 ghost use Rattle.graph.specs.Inside.{CanStabilize, BringsUpToDate, calls_in, IsNextRound, IsRefusedLawfully, WasTried};
@@ -38,7 +39,8 @@ pub struct Round<'a> {
 
 impl<F: Functions> Graph<F> {
     /// Brings all that is observed up to date. A refusal breaks the graph: every later call but `broken`, `owner`,
-    /// `functions` and `into_functions` is refused.
+    /// `round`, `fits`, `functions` and `into_functions` is refused. Where it is refused for want of memory, the functions'
+    /// count of wants tells whether it was a function that found none.
     pub fn stabilize(&mut self) -> Result<(), StabilizeFault>
         ensures broken { (cause : ACause) → IsErrOf result (StabilizeFault.Broken cause) ↔ IsBroken self.old cause }
         ensures brought { OnOk result (Stabilizes (functions_of F.Functions self.old.functions) self.old self.new) }
@@ -58,6 +60,12 @@ impl<F: Functions> Graph<F> {
         ensures lives { OnOk result (self.new.nodes.given ≤ self.old.nodes.given + live self.new.nodes) }
         ensures flat { HasNoBinds self.old.nodes → self.new.nodes ≡ self.old.nodes }
         ensures calls_grow { F.calls self.old.functions ≤ F.calls self.new.functions }
+        ensures wants { OnOk result (F.wants self.new.functions ≡ F.wants self.old.functions) }
+        ensures wanted { OnErr result ((F.wants self.new.functions ≡ F.wants self.old.functions)
+            ⊎ (IsErrOf result (StabilizeFault.Refused kept.Memory)
+            × (F.wants self.new.functions ≡ raised (F.wants self.old.functions)))) }
+        ensures taken { (F.tally self.new.functions).taken ≡ (F.tally self.old.functions).taken }
+        ensures most { (F.tally self.new.functions).most ≡ (F.tally self.old.functions).most }
         ensures unchanged { (cause : ACause) → IsErrOf result (StabilizeFault.Broken cause) → self.new ≡ self.old }
         ensures names { SameNames (F.named self.old.functions) (F.named self.new.functions) }
         ensures known { SameKnown (F.known self.old.functions) (F.known self.new.functions) }
@@ -132,6 +140,7 @@ fn run<F: Functions>(
     ensures flat { HasNoBinds parts.old.arena → KeepsNodes parts.old parts.new }
     ensures fit { SidesFit (F.known functions.new) (F.right functions.new) parts.new.arena }
     ensures functions { KeepsMeaning F.Functions functions.old functions.new }
+    ensures wants { WantsTell result (F.wants functions.old) (F.wants functions.new) }
 {
     let roots = nodes_in_use(alloc, observers, rooted)?;
     Stabilizer::run(parts, functions, &roots)

@@ -16,4 +16,5 @@ loop-value-preserved g c =
       type = given.typed;
       calls = rose_on inv.calls given.calls;
       functions = functions_on g.F.Functions _ _ _ inv.functions given.functions;
+      wants = given.wants ∙ inv.wants;
     }

@@ -12,4 +12,5 @@ invariant-loop-value g l = record {
   type : type_of l.result ≡ l.f.sig.gives;
   calls : RoseBy (g.F.Functions.calls l.fn.functions) l.value-index (g.F.Functions.calls l.functions);
   functions : KeepsFunctions g.F.Functions l.fn.functions l.functions;
+  wants : g.F.Functions.wants l.functions ≡ g.F.Functions.wants l.fn.functions;
 }

@@ -9,6 +9,7 @@ use Rattle.node_outcomes.specs.Computing.{noted}
 use Rattle.node_arena.specs.RightSideLaws.{ids_of}
 use Rattle.node_outcomes.specs.Meaning.{functions_of}
 use Rattle.node_outcomes.proofs.Computing.{holder_computes, pair_computes, pair_ends, map_fits, map_gives, map_base, fold_fits, fold_gives, fold_base, call_ends, holds_value}
+use Rattle.node_outcomes.proofs.Keeping.{no_want}
 use Rattle.node_outcomes.proofs.Pairs.{ShowsRight, pair_of}
 use Rattle.node_outcomes.proofs.outcome.compute.Goals as goal
 
@@ -97,3 +98,6 @@ returns-in-None-clause-computed g c =
     let d = c.unwrap-row.result.now.def in
     pair_computes F c.args.arena.now c.args.roots.now c.args.round old c.args.node row c.requires.types c.requires.arena is_row d refl (pair_of d c.in-If.is) Invalid
     (subst (λ (x : Option NodeId). ShowsRight c.args.rows.now x Invalid) (sym c.in-None.is ∙ c.right_side.ensures) refl)
+
+pub returns-in-Some-clause-wants : goal.returns-in-Some-clause-wants
+returns-in-Some-clause-wants g c = no_want c.shown.result (g.F.Functions.wants c.args.functions.now)

@@ -5,7 +5,7 @@ use Rattle.stabilizer.specs.Giving.{StopsFull}
 use Rattle.stabilizer.specs.Round.{SettleRefused}
 use Rattle.stabilizer.proofs.Giving.{none_gives}
 use Rattle.stabilizer.proofs.GivingSteps.{gives_next, few_next, full_next}
-use Rattle.stabilizer.proofs.MeaningKept.{meaning_on, nothing_meant, means_still, stays_flat}
+use Rattle.stabilizer.proofs.MeaningKept.{meaning_on, nothing_meant, means_still, stays_flat, wants_handed, wants_from}
 use Rattle.stabilizer.proofs.Rounding.{exit_is, on_err, no_step, next_step, less_left, step_stops}
 use Rattle.stabilizer.proofs.stabilizer.settle_all.Goals as goal
 
@@ -16,6 +16,7 @@ loop-init g c = record {
   fit = c.requires.fit;
   gives = none_gives c.args.parts.now.arena.given c.args.parts.now.arena (omega arith);
   functions = nothing_meant g.F.Functions c.args.functions.now c.requires.sound;
+  wants = refl;
   flat = λ none. refl;
 }
 
@@ -34,6 +35,7 @@ loop-preserved g c = record {
       (c.in_ok-step.ensures.stepped c.if-branch.true) (c.in_ok-step.ensures.settled c.if-branch.true);
   flat = stays_flat c.args.parts.now.arena c.loop.parts.arena c.step.new.parts.arena c.loop.invariant.flat c.step.ensures.stays.flat;
   functions = meaning_on g.F.Functions _ _ _ c.loop.invariant.functions c.step.ensures.stays.functions;
+  wants = c.in_ok-step.ensures.wants ∙ c.loop.invariant.wants;
 }
 
 pub loop-smaller : goal.loop-smaller
@@ -92,6 +94,11 @@ returns-in_err-step-clause-round g c = c.step.ensures.stays.round ∙ c.loop.inv
 pub returns-in_err-step-clause-ran : goal.returns-in_err-step-clause-ran
 returns-in_err-step-clause-ran g c = c.step.ensures.stays.ran ∙ c.loop.invariant.so.ran
 
+pub returns-in_err-step-clause-wants : goal.returns-in_err-step-clause-wants
+returns-in_err-step-clause-wants g c =
+    wants_handed c.from_residual.result c.in_err-step.field-0.0 _ _ c.from_residual.ensures.1
+    (wants_from c.in_err-step.field-0.0 _ _ _ c.loop.invariant.wants c.in_err-step.ensures.wants)
+
 pub returns-in_err-step-clause-functions : goal.returns-in_err-step-clause-functions
 returns-in_err-step-clause-functions g c = meaning_on g.F.Functions _ _ _ c.loop.invariant.functions c.step.ensures.stays.functions
 
@@ -130,6 +137,9 @@ returns-clause-round g c = c.step.ensures.stays.round ∙ c.loop.invariant.so.ro
 
 pub returns-clause-ran : goal.returns-clause-ran
 returns-clause-ran g c = c.step.ensures.stays.ran ∙ c.loop.invariant.so.ran
+
+pub returns-clause-wants : goal.returns-clause-wants
+returns-clause-wants g c = c.in_ok-step.ensures.wants ∙ c.loop.invariant.wants
 
 pub returns-clause-functions : goal.returns-clause-functions
 returns-clause-functions g c = meaning_on g.F.Functions _ _ _ c.loop.invariant.functions c.step.ensures.stays.functions

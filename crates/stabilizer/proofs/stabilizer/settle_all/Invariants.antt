@@ -1,3 +1,4 @@
+use Rattle.std.proofs.Common.{◌≡◌}
 use Rattle.stabilizer.specs.Giving.{GivesLive}
 use Rattle.stabilizer.specs.Weights.{SidesFit}
 use Rattle.node_outcomes.specs.Meaning.{meaning_of}
@@ -13,6 +14,7 @@ invariant-loop g l = record {
       (counts_by g.F.Functions l.functions);
   fit : SidesFit (g.F.Functions.known l.functions) (g.F.Functions.right l.functions) l.parts.arena;
   functions : KeepsMeaning g.F.Functions l.fn.functions l.functions;
+  wants : g.F.Functions.wants l.functions ≡ g.F.Functions.wants l.fn.functions;
   gives : GivesLive l.fn.parts.arena.given 0 l.parts.arena;
   flat : StaysFlat l.fn.parts.arena l.parts.arena;
 }

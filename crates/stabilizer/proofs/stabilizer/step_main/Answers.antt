@@ -1,4 +1,6 @@
+use Rattle.std.proofs.Common.{ap, inl, inr, refl}
 use Rattle.node_arena.proofs.RightSides.{fit_lists_given}
+use Rattle.node_arena.specs.RightSide.{Tally}
 use Rattle.node_outcomes.specs.Meaning.{functions_of}
 use Rattle.wiring.specs.declared.work.Work.{Work}
 use Rattle.stabilizer.specs.Kept.{counts_by}
@@ -30,7 +32,18 @@ returns-in-Err-clause-kept g c =
 pub returns-in-Err-clause-functions : goal.returns-in-Err-clause-functions
 returns-in-Err-clause-functions g c =
     let k = c.compute-computed.ensures.functions in
-    record { sound = k.sound; same = k.same }
+    record {
+      sound = k.sound;
+      same = k.same;
+      taken = ap (λ (t : Tally). t.taken) k.tally;
+      most = ap (λ (t : Tally). t.most) k.tally;
+    }
+
+pub returns-in-Err-clause-wants : goal.returns-in-Err-clause-wants
+returns-in-Err-clause-wants g c = elim c.in-Err.ensures.wants [
+  | inl same ↦ inl same
+  | inr rose ↦ inr (refl, rose)
+]
 
 pub returns-in-Err-clause-refused : goal.returns-in-Err-clause-refused
 returns-in-Err-clause-refused g c =
@@ -67,4 +80,9 @@ returns-in-Ok-clause-kept g c =
 pub returns-in-Ok-clause-functions : goal.returns-in-Ok-clause-functions
 returns-in-Ok-clause-functions g c =
     let k = c.compute-computed.ensures.functions in
-    record { sound = k.sound; same = k.same }
+    record {
+      sound = k.sound;
+      same = k.same;
+      taken = ap (λ (t : Tally). t.taken) k.tally;
+      most = ap (λ (t : Tally). t.most) k.tally;
+    }

@@ -1,4 +1,4 @@
-use Rattle.std.proofs.Common.{◌≡◌, ℕ, Some, length, sym, ap, subst, ◌∙◌, arith}
+use Rattle.std.proofs.Common.{◌≡◌, inl, inr, ℕ, Some, length, sym, ap, subst, ◌∙◌, arith}
 use Rattle.node_outcomes.specs.Meaning.{Meaning, functions_of, meaning_of}
 use Rattle.stabilize_round.specs.Invariant.{Rooted}
 use Rattle.graph.specs.Inside.{CanStabilize}
@@ -80,6 +80,12 @@ returns-in-Err-clause-rose g c is =
     let rose = (full_by (g.F.Functions.right c.run.new.functions) c.run.new.parts.arena (counts_by g.F.Functions c.self.inside.functions)
     (counts_by g.F.Functions c.run.new.functions) c.in-Err.refused c.in-Err.ensures.full (let e = c.cause_of-cause.ensures in cc)).0 in
     rw (← c.self.view_is) rose
+
+pub returns-in-Err-clause-wanted : goal.returns-in-Err-clause-wanted
+returns-in-Err-clause-wanted g c = rw (← c.self.view_is) (elim c.in-Err.ensures.wants [
+  | inl same ↦ inl same
+  | inr rose ↦ inr ((let e = rw rose.0 at c.cause_of-cause.ensures in cc), rose.1)
+])
 
 pub returns-in-Ok-clause-lives : goal.returns-in-Ok-clause-lives
 returns-in-Ok-clause-lives g c =

@@ -1,4 +1,4 @@
-use Rattle.std.proofs.Common.{List, subst, ◌∙◌, arith}
+use Rattle.std.proofs.Common.{List, refl, subst, ◌∙◌, arith}
 use Rattle.inc_value.specs.declared.node.NodeId.{NodeId}
 use Rattle.inc_value.specs.Choice.{Among}
 use Rattle.inc_terms.specs.Within.{Given}
@@ -6,6 +6,7 @@ use Rattle.node_outcomes.specs.Meaning.{functions_of, meaning_of}
 use Rattle.stabilizer.specs.Kept.{counts_by}
 use Rattle.graph.specs.Standing.{in_use}
 use Rattle.stabilizer.proofs.Giving.{none_few}
+use Rattle.stabilizer.proofs.MeaningKept.{wants_stay}
 use Rattle.graph.proofs.Observing.{all_of}
 use Rattle.graph.proofs.Sound.{ready_built}
 use Rattle.graph.proofs.Stabilizing.{on_ok, on_err, err_as, on_both, if_err, rest_given, all_right, all_lawful, all_few, all_built, all_built_but, can_again}
@@ -73,6 +74,9 @@ pub returns-in_err-roots-clause-left : goal.returns-in_err-roots-clause-left
 returns-in_err-roots-clause-left g c =
     left_same (functions_of g.F.Functions c.args.functions.now) c.args.parts.now (counts_by g.F.Functions c.args.functions.now) c.requires.can.ready.kept.work
     (ready_built (meaning_of g.F.Functions c.args.functions.now) c.args.parts.now c.requires.can.ready)
+
+pub returns-in_err-roots-clause-wants : goal.returns-in_err-roots-clause-wants
+returns-in_err-roots-clause-wants g c = wants_stay c.from_residual.result _ _ refl
 
 pub returns-in_err-roots-clause-spends : goal.returns-in_err-roots-clause-spends
 returns-in_err-roots-clause-spends g c =

@@ -40,6 +40,7 @@ returns-in_err-root-clause-refused g c =
       meaning = b.functions;
       fit = b.fit;
       calls = b.calls;
+      wants = b.wants;
       tally = b.tally;
     } in
     if_refusal (GetsNoRoot K fs c.build.new.functions old c.build.new.self c.args.bind c.args.recipe.now.function) e
@@ -59,6 +60,7 @@ returns-clause-root g c =
         meaning = b.functions;
         fit = b.fit;
         calls = b.calls;
+        wants = b.wants;
         tally = b.tally;
       };
       root = c.in_ok-root.root;

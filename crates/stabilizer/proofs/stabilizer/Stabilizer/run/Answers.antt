@@ -14,7 +14,7 @@ use Rattle.stabilizer.proofs.BuiltFor.{paused_built}
 use Rattle.stabilizer.proofs.Giving.{none_few}
 use Rattle.stabilizer.proofs.Lawful.{paused_lawful}
 use Rattle.stabilizer.proofs.Leftover.{none_called, only_still, paused_cutoffs, paused_shows, paused_called, paused_left}
-use Rattle.stabilizer.proofs.MeaningKept.{nothing_meant, means_still}
+use Rattle.stabilizer.proofs.MeaningKept.{nothing_meant, means_still, wants_stay, wants_handed}
 use Rattle.stabilizer.proofs.Paused.{none_paused, roots_paused, roots_full, steps_paused}
 use Rattle.stabilizer.proofs.Rounding.{on_err, exit_is}
 use Rattle.stabilizer.proofs.Tried.{paused_tried}
@@ -167,6 +167,9 @@ returns-in_err-put_roots-clause-unbuilt g c =
     (roots_paused M c.args.parts.now counts c.requires.ready c.put_roots.new.work e c.in_err-put_roots.ensures.refused c.put_roots.ensures.kept)
     c.args.roots.now observed c.put_roots.ensures.roots looks)
 
+pub returns-in_err-put_roots-clause-wants : goal.returns-in_err-put_roots-clause-wants
+returns-in_err-put_roots-clause-wants g c = wants_stay c.from_residual.result _ _ refl
+
 pub returns-in_err-put_roots-clause-functions : goal.returns-in_err-put_roots-clause-functions
 returns-in_err-put_roots-clause-functions g c = nothing_meant g.F.Functions c.args.functions.now c.requires.sound
 
@@ -293,6 +296,11 @@ returns-in_err-settle_all-clause-fit g c = c.settle_all.ensures.fit
 
 pub returns-in_err-settle_all-clause-ran : goal.returns-in_err-settle_all-clause-ran
 returns-in_err-settle_all-clause-ran g c = on_err c.from_residual-in_err-settle_all.result c.settle_all.ensures.ran
+
+pub returns-in_err-settle_all-clause-wants : goal.returns-in_err-settle_all-clause-wants
+returns-in_err-settle_all-clause-wants g c =
+    wants_handed c.from_residual-in_err-settle_all.result c.in_err-settle_all.field-0.0 _ _ c.from_residual-in_err-settle_all.ensures.1
+    c.in_err-settle_all.ensures.wants
 
 pub returns-in_err-settle_all-clause-functions : goal.returns-in_err-settle_all-clause-functions
 returns-in_err-settle_all-clause-functions g c = c.settle_all.ensures.functions

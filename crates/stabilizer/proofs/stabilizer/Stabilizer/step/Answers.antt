@@ -20,6 +20,7 @@ use Rattle.stabilizer.specs.Staying.{RoundStays}
 use Rattle.stabilizer.proofs.Stepping.{not_empty, takes_least, steps, step_refused, main_back, arena_kept, popped_row, popped_needed, popped_taken, same_roots}
 use Rattle.stabilizer.proofs.stabilizer.Stabilizer.step.Given.{Over}
 use Rattle.stabilizer.proofs.stabilizer.Stabilizer.step.Goals.{After-step_change, After-step_main}
+use Rattle.stabilizer.proofs.MeaningKept.{wants_stay}
 use Rattle.stabilizer.proofs.stabilizer.Stabilizer.step.Goals as goal
 
 -- ---- a change
@@ -71,6 +72,9 @@ returns-in_err-step_change-in-Change-clause-spends g c =
     (left_few (meaning_of g.F.Functions c.args.functions.now) (g.F.Functions.right c.step_change.new.functions) old c.step_change.new.parts
     c.in-Some.p.node (counts_by g.F.Functions c.args.functions.now) (counts_by g.F.Functions c.step_change.new.functions)
     c.in_err-step_change-in-Change.field-0.0 c.in_err-step_change-in-Change.ensures.refused)
+
+pub returns-in_err-step_change-in-Change-clause-wants : goal.returns-in_err-step_change-in-Change-clause-wants
+returns-in_err-step_change-in-Change-clause-wants g c = wants_stay c.from_residual.result _ _ c.step_change.ensures.wants
 
 pub returns-in_err-step_change-in-Change-clause-full : goal.returns-in_err-step_change-in-Change-clause-full
 returns-in_err-step_change-in-Change-clause-full g c =
