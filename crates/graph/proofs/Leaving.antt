@@ -1,5 +1,5 @@
 -- What a round leaves that changes nothing.
-use Rattle.std.proofs.Common.{inl, ℕ, List, [], refl, sym, ap, ◌∙◌, arith}
+use Rattle.std.proofs.Common.{inl, ℕ, List, [], None, refl, sym, ap, ◌∙◌, arith}
 use Rattle.std.specs.Prelude.{is_some}
 use Rattle.inc_value.specs.declared.node.NodeId.{NodeId}
 use Rattle.inc_terms.specs.Term.{Functions}
@@ -36,6 +36,6 @@ left_same F parts counts kept rooted = record {
   rooted = rooted;
   roots = λ b r given row same. refl;
   born = λ n r late row. let given = kept.sound.given n (ap is_some row) in absurd (omega (arith, given, late));
-  builds = ([], tt, λ b among. absurd among, record { kept = omega arith; within = omega arith });
+  builds = (None, record { binds = []; once = tt; built = λ b among. absurd among; count = record { kept = omega arith; within = omega arith } });
   adds = (0, omega arith, record { kept = omega arith; most = omega arith; exact = λ below. omega arith });
 }

@@ -255,13 +255,14 @@ module _ {F : Type 0} (M : Functions) (functions functions' : F) (old new : Part
   stands_anew n a = record { bind = a.bind; row = a.row; given = a.given; is_row = a.is_row; inside = a.inside; there = a.there }
 
   pub leaves_nodes : round.IsLeftBy M old new before after
+      → (unbuilt : Option NodeId) × (refused' ≡ None → unbuilt ≡ None) × round.BuiltFew M old new unbuilt before after
       → LeavesNodes M (seen_as functions old observers rooted refused) (seen_as functions' new observers rooted' refused') before after
-  leaves_nodes l = record {
+  leaves_nodes l builds = record {
     dead = l.dead;
     fallen = l.fallen;
     killed = l.killed;
     roots = l.roots;
     born = λ n r late row. let b = l.born n r late row in (stands_anew n b.0, b.1);
-    builds = l.builds;
+    builds = builds;
     adds = l.adds;
   }

@@ -25,7 +25,7 @@ use Rattle.stabilize_round.specs.Calling.{Reason, IsAnswer, cost_at, costs_of}
 use Rattle.stabilize_round.specs.Calls.{arguments_of}
 use Rattle.stabilize_round.specs.Counts.{RoseBy, RoseAtMost}
 use Rattle.stabilize_round.specs.Laws.{GraphStays}
-use Rattle.stabilize_round.specs.Runs.{LeftDiffers, IsBuiltRight}
+use Rattle.stabilize_round.specs.Runs.{LeftDiffers, IsBuiltRight, BuildsFew}
 use Rattle.stabilize_round.specs.State.{Call}
 use Rattle.stabilizer.specs.Building.{LeavesNoRoom}
 use Rattle.wiring.specs.Stands.{Counts}
@@ -236,8 +236,8 @@ module _ {F : Type 0} where
 
   -- who died stood inside a bind whose left gives another outcome than it was built for, and inside one that is built for another outcome than before, or for
   -- nothing now. Who stood inside a bind that is built for another outcome than before, or for nothing now, is dead. A bind that is built for the same outcome has the same root; a new node stands inside a bind that is built for
-  -- another outcome than before, or for nothing. The count of builds rose by at most one for each of some binds, and of those that were given before each
-  -- had a left that gives another outcome than it was built for; and as many nodes were added as ids were given
+  -- another outcome than before, or for nothing. The count of builds rose by at most one for each of some binds that were built, of which one couldn't be
+  -- where the stabilize was refused, or none; and as many nodes were added as ids were given
   pub record LeavesNodes (M : Functions) (old new : Standing F) (before after : Counts) : Type 0 where
     pub dead : (n : NodeId) (r : Row) → row_at old.nodes n ≡ Some r → row_at new.nodes n ≡ None
         → (b : NodeId) × Inside (graph old) b n × LeftDiffers M (graph old) b
@@ -248,8 +248,8 @@ module _ {F : Type 0} where
         → outcome_of ((graph new).built b) ≡ outcome_of ((graph old).built b) → (graph new).built b ≡ (graph old).built b
     pub born : (n : NodeId) (r : Row) → old.nodes.given ≤ n.gen_ → row_at new.nodes n ≡ Some r
         → (a : StandsAnew old new n) × (((graph new).built a.bind ≡ None) ⊎ IsBuiltOther old new a.bind)
-    pub builds : (binds : List NodeId) × NoRepeats binds × ((b : NodeId) → Among b binds → Given old.nodes.given b → LeftDiffers M (graph old) b)
-        × RoseAtMost before.builds (length binds) after.builds
+    pub builds : (unbuilt : Option NodeId) × (IsUnbroken new → unbuilt ≡ None)
+        × BuildsFew M old.nodes.given (graph old) (graph new) unbuilt before.builds after.builds
     pub adds : (number : ℕ) × (new.nodes.given ≡ old.nodes.given + number) × RoseBy before.adds number after.adds
 
   -- ---- of a stabilize from one standing to another

@@ -1,5 +1,6 @@
 -- What a run of moves builds, adds and lets die.
-use Rattle.std.proofs.Common.{◌≡◌, ◌⊎◌, inl, inr, ℕ, ◌≤◌, ◌+◌, List, [], ◌∷◌, ◌++◌, Option, None, Some, refl, sym, subst, ap, ◌∙◌, arith}
+use Rattle.std.proofs.Common.{◌≡◌, ◌⊎◌, inl, inr, ℕ, ◌≤◌, ◌+◌, List, [], ◌∷◌, ◌++◌, length, Option, None, Some, refl, sym, subst, ap, ◌∙◌, arith}
+use Rattle.std.specs.Prelude.{IsSome}
 use Rattle.std.proofs.lemmas.Bool.{cases_lt}
 use Rattle.inc_value.specs.declared.function.FnKind.{FnKind}
 use Rattle.inc_value.specs.declared.function.FnRef.{FnRef}
@@ -7,11 +8,11 @@ use Rattle.inc_value.specs.declared.node.NodeId.{NodeId}
 use Rattle.inc_value.specs.declared.node.Point.{Point}
 use Rattle.inc_value.specs.declared.outcome.Outcome.{Outcome}
 use Rattle.inc_value.specs.declared.outcome.Outcome.TheVariants.{Val, Invalid}
-use Rattle.inc_value.specs.Choice.{Among, Reaches, here, step}
+use Rattle.inc_value.specs.Choice.{Among, NoRepeats, Reaches, here, step}
 use Rattle.inc_terms.specs.Term.{Functions}
 use Rattle.inc_terms.specs.Graph as graph
-use Rattle.inc_terms.specs.Graph.{Graph, Row, Def}
-use Rattle.inc_terms.specs.Evaluate.{NodeGives}
+use Rattle.inc_terms.specs.Graph.{Graph, Row, Built, Def}
+use Rattle.inc_terms.specs.Evaluate.{NodeGives, Stands}
 use Rattle.inc_terms.specs.Rebuild.{Inside, IsDue}
 use Rattle.inc_terms.specs.Rebuilding.{Moment, BuildStep}
 use Rattle.inc_terms.specs.Within.{Given, Fit, FunctionsWithin}
@@ -19,16 +20,16 @@ use Rattle.inc_terms.specs.Depend.{change, subject_of, died_in}
 use Rattle.inc_terms.proofs.Evaluation.{one_outcome}
 use Rattle.inc_terms.proofs.Within.{functions_within}
 use Rattle.inc_terms.proofs.Rebuild.{same_after, same_before}
-use Rattle.inc_terms.proofs.Depending.{subject_given}
+use Rattle.inc_terms.proofs.Depending.{subject_given, no_stand, kept_or_not, stands_after}
 use Rattle.inc_terms.proofs.Rebuilding.{building_kills}
-use Rattle.stabilize_round.specs.Counts.{RoseBy}
+use Rattle.stabilize_round.specs.Counts.{RoseBy, RoseAtMost}
 use Rattle.stabilize_round.specs.State.{State, Start}
 use Rattle.stabilize_round.specs.Invariant.{Invariant, MetNow, from_held}
 use Rattle.stabilize_round.specs.Rebuilding.{Remade, remade, builds_of, Rebuild, rebuilds, IsBuiltAnew}
 use Rattle.stabilize_round.specs.Machine.{Move, step_main, step_change, link, link_new, root, root_new, raise, finish, schedule, cut, rebuild}
 use Rattle.stabilize_round.specs.Machine.{level, spend, Moves, called_more, as_it_is, unbuilt, unkept}
 use Rattle.stabilize_round.specs.Runs.{built_by, built_in, LeftDiffers, BuildsAre, RunBuilds, IsBuiltRight, BuiltStays, RunAdds, RunKills}
-use Rattle.stabilize_round.specs.Runs.{NewNodesStand, DeathsAreKnown, RefusedKeeps}
+use Rattle.stabilize_round.specs.Runs.{RunBuildsFew, NewNodesStand, DeathsAreKnown, RefusedKeeps}
 use Rattle.stabilize_round.proofs.Counts.{none_yet, rose_on}
 use Rattle.stabilize_round.proofs.Points.{node_or_other}
 use Rattle.stabilize_round.proofs.Ready.{ready}
@@ -115,7 +116,7 @@ module _ (F : Functions) (z : Start) (s : State) (b : NodeId) (now : Outcome) (m
   left_given n r l f captures row def =
       subject_given F P Q fine s.graph made.graph move.given.names b now move.due move.rebuilt n r l row (ap (λ (d : Def). subject_of d) def)
 
-  gives_after : (n : NodeId) (o : Outcome) → P n → NodeGives F s.graph n o → NodeGives F made.graph n o
+  pub gives_after : (n : NodeId) (o : Outcome) → P n → NodeGives F s.graph n o → NodeGives F made.graph n o
   gives_after n o p g = same_after F P Q fine s.graph made.graph move.given.names b now move.due move.rebuilt n p o g
 
   gives_before : (n : NodeId) (o : Outcome) → P n → NodeGives F made.graph n o → NodeGives F s.graph n o
@@ -130,6 +131,38 @@ module _ (F : Functions) (z : Start) (s : State) (b : NodeId) (now : Outcome) (m
 
   pub bind_given : P b
   bind_given = move.given.names.live b move.due.row move.due.is_row
+
+  -- a given node that stands is outside the scope that dies, lives on, and stands on
+  pub outlives : (n : NodeId) (r : Row) → P n → s.graph.row n ≡ Some r → Stands F s.graph r.scope
+      → (Inside s.graph b n → ⊥) × (made.graph.row n ≡ Some r) × Stands F made.graph r.scope
+  outlives n r p row stands =
+      let out : Inside s.graph b n → ⊥ =
+      λ i. no_stand F P Q fine s.graph made.graph move.given.names b now move.due move.rebuilt n r i row stands in
+      let keeps = kept_or_not F P Q fine s.graph made.graph move.given.names b now move.due move.rebuilt n r p row stands in (
+        out,
+        elim (move.rebuilt.rows n p) [ inl h ↦ absurd (out h.0) | inr h ↦ h.1 ∙ row ],
+        stands_after F P Q fine s.graph made.graph move.given.names b now move.due move.rebuilt n r keeps row stands,
+      )
+
+  -- another bind that lives after it, and was built right, is built right
+  pub right_on : (n : NodeId) (r : Row) → P n → made.graph.row n ≡ Some r → (n ≡ b → ⊥) → IsBuiltRight F s.graph n
+      → IsBuiltRight F made.graph n
+  right_on n r p row ne h =
+      let was = lived n r p row in
+      let left = left_given n h.row h.left h.function h.captures h.is_row h.is_bind in
+      let before = was.1 in let mine = h.is_row in
+      let same : r ≡ h.row = cc in
+      record {
+        row = h.row;
+        left = h.left;
+        function = h.function;
+        captures = h.captures;
+        built = h.built;
+        is_row = row ∙ ap (λ (x : Row). Some x) same;
+        is_bind = h.is_bind;
+        is_built = move.rebuilt.built n p ne was.0 ∙ h.is_built;
+        gives = gives_after h.left h.built.outcome left h.gives;
+      }
 
   module _ (built : IsBuiltAnew F made.graph b move.due.function move.due.captures now) where
     abbrev due : IsDue F s.graph b now
@@ -233,7 +266,7 @@ row_before F z s t (step {b = u} m rest) n r p e = back kind
 pub run_grows : (F : Functions) (z : Start) (s t : State) → Moves F z s t → s.given ≤ t.given
 run_grows F z s t run = let c = run_adds F z s t run in let e = c.1 in omega arith
 
-few_builds : (o : Outcome) → builds_of o ≤ 1
+pub few_builds : (o : Outcome) → builds_of o ≤ 1
 few_builds (Val v) = omega arith
 few_builds Invalid = omega arith
 
@@ -453,40 +486,9 @@ taken_met F z s inv b now made move = elim (inv.met.needed (change b) (inv.web.h
 right_stays : (F : Functions) (z : Start) (s t : State) → Makes F z s t → (b : NodeId) (r : Row) → Given s.given b → t.graph.row b ≡ Some r
     → IsBuiltRight F s.graph b → IsBuiltRight F t.graph b
 right_stays F z s t k b r p row h = subst (λ (x : State). IsBuiltRight F x.graph b) (sym k.is)
-    (by_bind (ap (λ (x : State). x.graph.row b) (sym k.is) ∙ row))
-  where
-    by_bind : k.made.graph.row b ≡ Some r → IsBuiltRight F k.made.graph b
-    by_bind row' =
-        let was = lived F z s k.bind k.outcome k.made k.rebuild b r p row' in
-        let left = left_given F z s k.bind k.outcome k.made k.rebuild b h.row h.left h.function h.captures h.is_row h.is_bind in
-        let before = was.1 in let mine = h.is_row in
-        let same : r ≡ h.row = cc in
-        elim (node_or_other b k.bind) [
-          | inl is ↦ absurd (not_differing F s.graph b h (
-              let due = k.rebuild.due in
-              subst (λ (n : NodeId). LeftDiffers F s.graph n) (sym is) (record {
-                row = due.row;
-                left = due.left;
-                function = due.function;
-                captures = due.captures;
-                is_row = due.is_row;
-                is_bind = due.is_bind;
-                outcome = k.outcome;
-                gives = due.gives;
-                changed = due.changed;
-              })))
-          | inr ne ↦ record {
-            row = h.row;
-            left = h.left;
-            function = h.function;
-            captures = h.captures;
-            built = h.built;
-            is_row = row' ∙ ap (λ (x : Row). Some x) same;
-            is_bind = h.is_bind;
-            is_built = k.rebuild.rebuilt.built b p ne was.0 ∙ h.is_built;
-            gives = gives_after F z s k.bind k.outcome k.made k.rebuild h.left h.built.outcome left h.gives;
-          }
-        ]
+    (right_on F z s k.bind k.outcome k.made k.rebuild b r p (ap (λ (x : State). x.graph.row b) (sym k.is) ∙ row)
+    (λ is. not_differing F s.graph b h
+    (subst (λ (n : NodeId). LeftDiffers F s.graph n) (sym is) (due_differs F z s k.bind k.outcome k.made k.rebuild))) h)
 
 pub right_at_end : (F : Functions) (z : Start) (s t : State) → Moves F z s t → (b : NodeId) (r : Row) → Given s.given b → t.graph.row b ≡ Some r
     → IsBuiltRight F s.graph b → IsBuiltRight F t.graph b
@@ -541,6 +543,156 @@ built_on F z s t inv (step {b = u} m rest) b r p row =
     by_rest k (inr h) = inr h
     by_rest (inl k) (inl e) = inl (e ∙ ap (λ (G : Graph). G.built b) k.0.graph)
     by_rest (inr k) (inl e) = by_made k.0 e (node_or_other b k.0.bind)
+
+-- ---- how many are built
+
+-- a live bind that stands, and is built for what its left gives
+pub record Lasts (F : Functions) (G : Graph) (b : NodeId) (r : Row) (w : Built) : Type 0 where
+  pub row : G.row b ≡ Some r
+  pub stands : Stands F G r.scope
+  pub built : G.built b ≡ Some w
+  pub right : IsBuiltRight F G b
+
+-- it isn't due
+pub not_due : (F : Functions) (z : Start) (s : State) (b : NodeId) (r : Row) (w : Built) (c : NodeId) (now : Outcome) (made : Remade)
+    → Rebuild F z s c now made → Lasts F s.graph b r w → b ≡ c → ⊥
+not_due F z s b r w c now made move h is =
+    not_differing F s.graph b h.right (subst (λ (n : NodeId). LeftDiffers F s.graph n) (sym is) (due_differs F z s c now made move))
+
+-- and it lasts where another is built anew, or couldn't be
+pub lasts_on : (F : Functions) (z : Start) (s : State) (b : NodeId) (r : Row) (w : Built) (c : NodeId) (now : Outcome) (made : Remade)
+    → Rebuild F z s c now made → Lasts F s.graph b r w → Lasts F made.graph b r w
+lasts_on F z s b r w c now made move h =
+    let p = move.given.names.live b r h.row in
+    let on = outlives F z s c now made move b r p h.row h.stands in
+    let ne = not_due F z s b r w c now made move h in
+    record {
+      row = on.1;
+      stands = on.2;
+      built = move.rebuilt.built b p ne on.0 ∙ h.built;
+      right = right_on F z s c now made move b r p on.1 ne h.right;
+    }
+
+-- it lasts over moves
+lasts : (F : Functions) (z : Start) (s t : State) → Moves F z s t → (b : NodeId) (r : Row) (w : Built) → Lasts F s.graph b r w
+    → Lasts F t.graph b r w
+lasts F z s t here b r w h = h
+lasts F z s t (step {b = u} m rest) b r w h = lasts F z u t rest b r w (on (kind_of F z s u m))
+  where
+    on : Kind F z s u (built_by m) → Lasts F u.graph b r w
+    on (inl k) = subst (λ (G : Graph). Lasts F G b r w) (sym k.0.graph) h
+    on (inr k) = subst (λ (x : State). Lasts F x.graph b r w) (sym k.0.is)
+        (lasts_on F z s b r w k.0.bind k.0.outcome k.0.made k.0.rebuild h)
+
+-- a bind that was built anew does
+made_lasts : (F : Functions) (z : Start) (s t : State) (k : Makes F z s t) → Lasts F t.graph k.bind k.rebuild.due.row k.built.built
+made_lasts F z s t k =
+    let due = k.rebuild.due in
+    let on = outlives F z s k.bind k.outcome k.made k.rebuild k.bind due.row (bind_given F z s k.bind k.outcome k.made k.rebuild) due.is_row
+    due.stands in
+    subst (λ (x : State). Lasts F x.graph k.bind due.row k.built.built) (sym k.is) (record {
+      row = on.1;
+      stands = on.2;
+      built = k.built.is_built;
+      right = made_right F z s k.bind k.outcome k.made k.rebuild k.built due.row on.1;
+    })
+
+-- the binds that a run built for values: each lasts, and has a root; one that was given before had a left that differed
+pub record Few (F : Functions) (s t : State) : Type 0 where
+  pub binds : List NodeId
+  pub once : NoRepeats binds
+  pub due : (b : NodeId) → Among b binds → Given s.given b → LeftDiffers F s.graph b
+  pub last : (b : NodeId) → Among b binds → (r : Row) × (w : Built) × Lasts F t.graph b r w × IsSome w.root
+  pub count : RoseAtMost s.builds (length binds) t.builds
+
+module _ (F : Functions) (z : Start) (s u t : State) (rest : Moves F z u t) (next : Few F u t) where
+  due_on : Makes F z s u → (b : NodeId) → Among b next.binds → Given s.given b → LeftDiffers F s.graph b
+  due_on k b a p = differed F z s u k b p (next.due b a (later s.given u.given b (grows F z s u (k.bind ∷ []) (inr (k, refl))) p))
+
+  counted_on : (k : Makes F z s u) (o : Outcome) → k.outcome ≡ o → {n : ℕ} → RoseAtMost u.builds n t.builds
+      → RoseAtMost s.builds (builds_of o + n) t.builds
+  counted_on k o is count =
+      let e : u.builds ≡ k.made.builds = ap (λ (x : State). x.builds) k.is in
+      let first : RoseBy s.builds (builds_of o) k.made.builds = subst (λ (x : Outcome). RoseBy s.builds (builds_of x) k.made.builds) is k.count in
+      let a = first.kept in let b = first.most in let c = count.kept in let d = count.within in
+      record { kept = omega (arith, e, a, c); within = omega (arith, e, b, d) }
+
+  few_made : (k : Makes F z s u) (o : Outcome) → k.outcome ≡ o → Few F s t
+  few_made k Invalid is = record {
+    binds = next.binds;
+    once = next.once;
+    due = due_on k;
+    last = next.last;
+    count = let c = counted_on k Invalid is next.count in let a = c.within in record { kept = c.kept; within = omega (arith, a) };
+  }
+  few_made k (Val v) is = record {
+    binds = k.bind ∷ next.binds;
+    once = (twice, next.once);
+    due = λ b a p. elim a [
+      | inl e ↦ subst (λ (n : NodeId). LeftDiffers F s.graph n) (sym e) (due_differs F z s k.bind k.outcome k.made k.rebuild)
+      | inr after ↦ due_on k b after p
+    ];
+    last = λ b a. elim a [
+      | inl e ↦ subst (λ (n : NodeId). (r : Row) × (w : Built) × Lasts F t.graph n r w × IsSome w.root) (sym e) own
+      | inr after ↦ next.last b after
+    ];
+    count = let c = counted_on k (Val v) is next.count in let a = c.within in record { kept = c.kept; within = omega (arith, a) };
+  }
+    where
+      own : (r : Row) × (w : Built) × Lasts F t.graph k.bind r w × IsSome w.root
+      own =
+          let root = k.built.rooted.unfolds v (k.built.for_outcome ∙ is) in (
+            k.rebuild.due.row,
+            k.built.built,
+            lasts F z u t rest k.bind k.rebuild.due.row k.built.built (made_lasts F z s u k),
+            subst (λ (x : Option NodeId). IsSome x) (sym root.1) refl,
+          )
+
+      twice : Among k.bind next.binds → ⊥
+      twice a =
+          let p = later s.given u.given k.bind (grows F z s u (k.bind ∷ []) (inr (k, refl)))
+          (bind_given F z s k.bind k.outcome k.made k.rebuild) in
+          not_differing F u.graph k.bind (made_lasts F z s u k).right (next.due k.bind a p)
+
+few_on : (F : Functions) (z : Start) (s u t : State) → Moves F z u t → Few F u t → (binds : List NodeId) → Kind F z s u binds → Few F s t
+few_on F z s u t rest next binds (inr k) = few_made F z s u t rest next k.0 k.0.outcome refl
+few_on F z s u t rest next binds (inl k) = record {
+  binds = next.binds;
+  once = next.once;
+  due = λ b a p.
+      let g = k.0.given in
+      subst (λ (G : Graph). LeftDiffers F G b) k.0.graph (next.due b a (omega (arith, g, p)));
+  last = next.last;
+  count = rw k.0.builds at next.count;
+}
+
+pub run_few : (F : Functions) (z : Start) (s t : State) → Moves F z s t → Few F s t
+run_few F z s t here = record {
+  binds = [];
+  once = tt;
+  due = λ b a p. absurd a;
+  last = λ b a. absurd a;
+  count = record { kept = omega arith; within = omega arith };
+}
+run_few F z s t (step {b = u} m rest) = few_on F z s u t rest (run_few F z u t rest) (built_by m) (kind_of F z s u m)
+
+-- what lasts has a root, if it was built with one
+pub with_root : (F : Functions) (G : Graph) (b : NodeId) (r : Row) (w : Built) → Lasts F G b r w → IsSome w.root
+    → (right : IsBuiltRight F G b) × IsSome right.built.root
+with_root F G b r w h there =
+    let a = h.right.is_built in let k = h.built in
+    let same : w ≡ h.right.built = cc in
+    (h.right, subst (λ (x : Built). IsSome x.root) same there)
+
+pub run_builds_few : RunBuildsFew
+run_builds_few F z s t run =
+    let few = run_few F z s t run in
+    record {
+      binds = few.binds;
+      once = few.once;
+      built = λ b a. let l = few.last b a in record { due = few.due b a; now = inl (with_root F t.graph b l.0 l.1 l.2 l.3) };
+      count = few.count;
+    }
 
 pub built_stays : BuiltStays
 built_stays F z s t entry run b r p row = built_on F z s t (entry_holds F z s entry) run b r p row

@@ -1,11 +1,12 @@
 -- What a round leaves of the graph, wherever it stops.
-use Rattle.std.proofs.Common.{◌≡◌, ◌+◌, ◌⊎◌, inl, inr, ℕ, zero, suc, ◌<◌, ◌≤◌, List, [], ◌∷◌, ◌++◌, length, Option, None, Some, refl, sym, subst, ap, ◌∙◌, arith}
+use Rattle.std.proofs.Common.{◌≡◌, ◌+◌, ◌⊎◌, inl, inr, ℕ, zero, suc, ◌<◌, ◌≤◌, List, [], ◌∷◌, ◌++◌, Option, None, Some, refl, sym, subst, ap, ◌∙◌, arith}
 use Rattle.std.proofs.lemmas.Bool.{cases_lt}
+use Rattle.std.proofs.lemmas.Option.{none-some}
+use Rattle.std.specs.Prelude.{IsSome}
 use Rattle.inc_value.specs.declared.function.FnRef.{FnRef}
 use Rattle.inc_value.specs.declared.node.NodeId.{NodeId}
 use Rattle.inc_value.specs.declared.outcome.Outcome.{Outcome}
-use Rattle.inc_value.specs.declared.outcome.Outcome.TheVariants.{Val, Invalid}
-use Rattle.inc_value.specs.Choice.{Among, NoRepeats, here, step}
+use Rattle.inc_value.specs.Choice.{Among, here, step}
 use Rattle.inc_terms.specs.Term.{Functions}
 use Rattle.inc_terms.specs.Graph as graph
 use Rattle.inc_terms.specs.Graph.{Graph, Row, Built, present_def}
@@ -22,7 +23,7 @@ use Rattle.stabilize_round.specs.Ids.{AllGiven}
 use Rattle.stabilize_round.specs.Invariant.{Invariant, MetNow}
 use Rattle.stabilize_round.specs.Rebuilding.{Remade, remade, builds_of, Rebuild, rebuilds}
 use Rattle.stabilize_round.specs.Machine.{Moves, Stops, as_it_is, unbuilt, unkept}
-use Rattle.stabilize_round.specs.Runs.{built_by, built_in, LeftDiffers, BuildsAre, IsBuiltRight}
+use Rattle.stabilize_round.specs.Runs.{built_by, built_in, LeftDiffers, IsBuiltRight, BuildsFew}
 use Rattle.stabilize_round.specs.Counts.{RoseBy, RoseAtMost}
 use Rattle.stabilize_round.proofs.Counts.{rose_on}
 use Rattle.stabilize_round.specs.Stopped.{NewBindsBuilt, StandsAnew, IsBuiltOther, NewNodesInside, StopsLeave}
@@ -32,7 +33,8 @@ use Rattle.stabilize_round.proofs.Machine.{move_keeps, moves_keep}
 use Rattle.stabilize_round.proofs.Staying.{moves_give, moves_rest, stop_rest, rest_then}
 use Rattle.stabilize_round.proofs.Ids.{moves_given}
 use Rattle.stabilize_round.proofs.Runs.{Kind, kind_of, Makes, lived, bind_given, made_right, due_differs, differed, later, grows, row_before, run_grows}
-use Rattle.stabilize_round.proofs.Runs.{not_differing, run_adds, Known, known_on, right_at_end, built_on, run_builds}
+use Rattle.stabilize_round.proofs.Runs.{run_adds, Known, known_on, right_at_end, built_on, run_builds}
+use Rattle.stabilize_round.proofs.Runs.{outlives, gives_after, left_given, few_builds, Few, run_few, lasts_on, not_due, with_root, run_builds_few}
 
 -- ---- what was built in a run
 
@@ -393,44 +395,64 @@ module _ (F : Functions) (z : Start) (s : State) (given : AllGiven F z s) (t : S
 
 -- ---- what is counted
 
-abbrev BuildsFew : Functions → State → State → Type 0
-BuildsFew F s u = (binds : List NodeId) × NoRepeats binds × ((b : NodeId) → Among b binds → Given s.given b → LeftDiffers F s.graph b)
-    × RoseAtMost s.builds (length binds) u.builds
+-- but for one at most that couldn't be built
+abbrev AllFew : Functions → State → State → Type 0
+AllFew F s u = (unbuilt : Option NodeId) × BuildsFew F s.given s.graph u.graph unbuilt s.builds u.builds
 
-at_most_one : (o : Outcome) → builds_of o ≤ 1
-at_most_one (Val v) = omega arith
-at_most_one Invalid = omega arith
+module _ (F : Functions) (z : Start) (s t : State) (run : Moves F z s t) (c : NodeId) (now : Outcome) (m : Remade) (move : Rebuild F z t c now m)
+    (none : m.graph.built c ≡ None) (count : RoseAtMost t.builds (builds_of now) m.builds) where
+  few : Few F s t
+  few = run_few F z s t run
 
-builds_left : (F : Functions) (z : Start) (s t u : State) → Moves F z s t → Stops F z t u → BuildsFew F s u
-builds_left F z s t u run stop = by_stop stop
-  where
-    are : BuildsAre F s t (built_in run)
-    are = run_builds F z s t run
+  -- the bind that couldn't be built is due still
+  own_differs : LeftDiffers F m.graph c
+  own_differs =
+      let due = move.due in
+      let p = bind_given F z t c now m move in
+      let on = outlives F z t c now m move c due.row p due.is_row due.stands in
+      record {
+        row = due.row;
+        left = due.left;
+        function = due.function;
+        captures = due.captures;
+        is_row = on.1;
+        is_bind = due.is_bind;
+        outcome = now;
+        gives = gives_after F z t c now m move due.left now
+            (left_given F z t c now m move c due.row due.left due.function due.captures due.is_row due.is_bind) due.gives;
+        changed = λ w e o. none-some w (sym none ∙ e);
+      }
 
-    few : BuildsFew F s t
-    few = let x = are.few in let k = are.count.kept in let m = are.count.most in
-        (built_in run, are.once, are.due, record { kept = k; within = omega arith })
+  was_due : (b : NodeId) → Among b (c ∷ few.binds) → Given s.given b → LeftDiffers F s.graph b
+  was_due b (inr a) p = few.due b a p
+  was_due b (inl is) p = differed_run F z s t run b p (subst (λ (n : NodeId). LeftDiffers F t.graph n) (sym is) (due_differs F z t c now m move))
 
-    more : (c : NodeId) (now : Outcome) (m : Remade) → Rebuild F z t c now m → RoseAtMost t.builds (builds_of now) m.builds → BuildsFew F s (remade t m)
-    more c now m move count =
-        let x = few.3.kept in let y = few.3.within in let k = count.kept in let w = count.within in let o = at_most_one now in (
-          c ∷ built_in run,
-          ((λ a. not_differing F t.graph c (built_right F z s t run c move.due.row a move.due.is_row) (due_differs F z t c now m move)), are.once),
-          (λ b a p. elim a [
-            | inr h ↦ are.due b h p
-            | inl is ↦ subst (λ (n : NodeId). LeftDiffers F s.graph n) (sym is)
-                (back_to_start c (subst (λ (n : NodeId). Given s.given n) is p) (due_differs F z t c now m move))
-          ]),
-          record { kept = omega arith; within = omega arith },
-        )
-      where
-        back_to_start : (b : NodeId) → Given s.given b → LeftDiffers F t.graph b → LeftDiffers F s.graph b
-        back_to_start b p d = differed_run F z s t run b p d
+  is_now : (b : NodeId) → Among b (c ∷ few.binds)
+      → ((right : IsBuiltRight F m.graph b) × IsSome right.built.root) ⊎ ((Some c ≡ Some b) × (m.graph.built b ≡ None) × LeftDiffers F m.graph b)
+  is_now b (inr a) =
+      let l = few.last b a in
+      inl (with_root F m.graph b l.0 l.1 (lasts_on F z t b l.0 l.1 c now m move l.2) l.3)
+  is_now b (inl is) = inr (
+    ap (λ (n : NodeId). Some n) (sym is),
+    subst (λ (n : NodeId). m.graph.built n ≡ None) (sym is) none,
+    subst (λ (n : NodeId). LeftDiffers F m.graph n) (sym is) own_differs,
+  )
 
-    by_stop : Stops F z t u → BuildsFew F s u
-    by_stop (as_it_is e) = subst (λ (x : State). BuildsFew F s x) (sym e) few
-    by_stop (unbuilt {b} {now} {m} move none count e) = subst (λ (x : State). BuildsFew F s x) (sym e) (more b now m move count)
-    by_stop (unkept quiet taken at due count e) = subst (λ (x : State). BuildsFew F s x) (sym e) few
+  few_stopped : BuildsFew F s.given s.graph m.graph (Some c) s.builds m.builds
+  few_stopped = record {
+    binds = c ∷ few.binds;
+    once = ((λ a. let l = few.last c a in not_due F z t c l.0 l.1 c now m move l.2 refl), few.once);
+    built = λ b a. record { due = was_due b a; now = is_now b a };
+    count =
+        let x = few.count.kept in let y = few.count.within in let k = count.kept in let w = count.within in let o = few_builds now in
+        record { kept = omega (arith, x, k); within = omega (arith, y, w, o) };
+  }
+
+builds_left : (F : Functions) (z : Start) (s t u : State) → Moves F z s t → Stops F z t u → AllFew F s u
+builds_left F z s t u run (as_it_is e) = subst (λ (x : State). AllFew F s x) (sym e) (None, run_builds_few F z s t run)
+builds_left F z s t u run (unbuilt {b} {now} {m} move none count e) =
+    subst (λ (x : State). AllFew F s x) (sym e) (Some b, few_stopped F z s t run b now m move none count)
+builds_left F z s t u run (unkept quiet taken at due count e) = subst (λ (x : State). AllFew F s x) (sym e) (None, run_builds_few F z s t run)
 
 abbrev AddsMany : State → State → Type 0
 AddsMany s u = (number : ℕ) × (u.given ≡ s.given + number) × RoseBy s.adds number u.adds

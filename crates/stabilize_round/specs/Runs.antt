@@ -1,5 +1,5 @@
 -- What a run of moves builds, adds and lets die.
-use Rattle.std.specs.Prelude.{◌≡◌, ◌⊎◌, ◌≤◌, ◌+◌, ℕ, List, [], ◌∷◌, ◌++◌, length, None, Some}
+use Rattle.std.specs.Prelude.{◌≡◌, ◌⊎◌, ◌≤◌, ◌+◌, ℕ, List, [], ◌∷◌, ◌++◌, length, Option, None, Some, IsSome}
 use Rattle.inc_value.specs.declared.function.FnRef.{FnRef}
 use Rattle.inc_value.specs.declared.node.NodeId.{NodeId}
 use Rattle.inc_value.specs.declared.outcome.Outcome.{Outcome}
@@ -10,7 +10,7 @@ use Rattle.inc_terms.specs.Within.{Given}
 use Rattle.inc_terms.specs.Evaluate.{NodeGives}
 use Rattle.inc_terms.specs.Depend.{change, died_in}
 use Rattle.inc_terms.specs.Rebuilding.{Dies}
-use Rattle.stabilize_round.specs.Counts.{RoseBy}
+use Rattle.stabilize_round.specs.Counts.{RoseBy, RoseAtMost}
 use Rattle.stabilize_round.specs.State.{State, Start}
 use Rattle.stabilize_round.specs.Invariant.{Invariant, MetNow}
 use Rattle.stabilize_round.specs.Machine.{Entry, Move, rebuild, Moves, called_more, Stops}
@@ -64,6 +64,25 @@ pub record IsBuiltRight (F : Functions) (G : Graph) (b : NodeId) : Type 0 where
   pub is_bind : row.def ≡ Bind left function captures
   pub is_built : G.built b ≡ Some built
   pub gives : NodeGives F G left built.outcome
+
+-- a bind was built: it lives, with a root for what its left gives, or it is the one that couldn't be built, which is built for nothing though its left
+-- gives an outcome. One that was given before had a left that gave another outcome than it was built for
+pub record WasBuilt (F : Functions) (given : ℕ) (before after : Graph) (unbuilt : Option NodeId) (b : NodeId) : Type 0 where
+  pub due : Given given b → LeftDiffers F before b
+  pub now : ((right : IsBuiltRight F after b) × IsSome right.built.root)
+      ⊎ ((unbuilt ≡ Some b) × (after.built b ≡ None) × LeftDiffers F after b)
+
+-- a count rose by at most one for each of some binds, none twice, that were built
+pub record BuildsFew (F : Functions) (given : ℕ) (before after : Graph) (unbuilt : Option NodeId) (builds builds' : ℕ) : Type 0 where
+  pub binds : List NodeId
+  pub once : NoRepeats binds
+  pub built : (b : NodeId) → Among b binds → WasBuilt F given before after unbuilt b
+  pub count : RoseAtMost builds (length binds) builds'
+
+-- so does the count of builds in a run, and each of them could be built
+abbrev pub RunBuildsFew : Type 0
+RunBuildsFew =
+    (F : Functions) (z : Start) (s t : State) → Moves F z s t → BuildsFew F s.given s.graph t.graph None s.builds t.builds
 
 -- what a bind is built for that was given before and lives is as it was, or what its left gives; then its change is met
 abbrev pub BuiltStays : Type 0

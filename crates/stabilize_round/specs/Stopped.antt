@@ -1,16 +1,15 @@
 -- What a round leaves of the graph, wherever it stops.
-use Rattle.std.specs.Prelude.{◌≡◌, ◌⊎◌, ◌≤◌, ◌+◌, ℕ, Bool, List, length, None, Some}
+use Rattle.std.specs.Prelude.{◌≡◌, ◌⊎◌, ◌≤◌, ◌+◌, ℕ, Bool, List, Option, None, Some}
 use Rattle.inc_value.specs.declared.function.FnRef.{FnRef}
 use Rattle.inc_value.specs.declared.node.NodeId.{NodeId}
 use Rattle.inc_value.specs.declared.node.Point.{Point}
-use Rattle.inc_value.specs.Choice.{Among, NoRepeats}
 use Rattle.inc_terms.specs.Term.{Functions}
 use Rattle.inc_terms.specs.Graph.{Row}
 use Rattle.inc_terms.specs.Within.{Given}
 use Rattle.inc_terms.specs.Rebuild.{Inside}
 use Rattle.inc_terms.specs.Rebuilding.{outcome_of}
 use Rattle.inc_terms.specs.Depend.{change, died_in}
-use Rattle.stabilize_round.specs.Counts.{RoseBy, RoseAtMost}
+use Rattle.stabilize_round.specs.Counts.{RoseBy}
 use Rattle.stabilize_round.specs.State.{State, Start}
 use Rattle.stabilize_round.specs.Ids.{IsStartOf, AllGiven}
 use Rattle.stabilize_round.specs.Invariant.{MetNow}
@@ -18,7 +17,7 @@ use Rattle.stabilize_round.specs.Machine.{Entry, Moves, Stops}
 use Rattle.stabilize_round.specs.Closing.{closed, Close, next_start}
 use Rattle.stabilize_round.specs.Ended.{Ended}
 use Rattle.stabilize_round.specs.Laws.{GraphStays}
-use Rattle.stabilize_round.specs.Runs.{LeftDiffers, IsBuiltRight}
+use Rattle.stabilize_round.specs.Runs.{LeftDiffers, IsBuiltRight, BuildsFew}
 
 -- all stays given that a round speaks of, and so it does where the round stops
 abbrev pub GivenStays : Type 0
@@ -66,8 +65,8 @@ NewNodesInside =
 
 -- what a round leaves that stops: what is given stays, but for what dies; a node died since, by the graph before, a bind round it was built for another
 -- outcome than its left gives; its scope is known; a bind that is built for the same outcome has the same root; and a new node stands where a bind is
--- built for another outcome than before, or for nothing. The count of builds rose by at most one for each of some binds, none twice, and of those that
--- were given before each had a left that gives another outcome than it was built for; and as many nodes were added as ids were given
+-- built for another outcome than before, or for nothing. The count of builds rose by at most one for each of some binds that were built, but for one at
+-- most that couldn't be; and as many nodes were added as ids were given
 pub record IsLeft (F : Functions) (s u : State) : Type 0 where
   pub rest : GraphStays s.given u.given s.graph u.graph
   pub dead : (n : NodeId) (r : Row) → Given s.given n → s.graph.row n ≡ Some r → u.graph.row n ≡ None
@@ -77,8 +76,7 @@ pub record IsLeft (F : Functions) (s u : State) : Type 0 where
       → u.graph.built b ≡ s.graph.built b
   pub new : (n : NodeId) (r : Row) → s.given ≤ n.gen_ → u.graph.row n ≡ Some r
       → (a : StandsAnew s u n) × ((u.graph.built a.bind ≡ None) ⊎ IsBuiltOther s u a.bind)
-  pub builds : (binds : List NodeId) × NoRepeats binds × ((b : NodeId) → Among b binds → Given s.given b → LeftDiffers F s.graph b)
-      × RoseAtMost s.builds (length binds) u.builds
+  pub builds : (unbuilt : Option NodeId) × BuildsFew F s.given s.graph u.graph unbuilt s.builds u.builds
   pub adds : (number : ℕ) × (u.given ≡ s.given + number) × RoseBy s.adds number u.adds
 
 -- wherever a round stops

@@ -1,15 +1,16 @@
 -- What a round leaves of the nodes, in the parts' words.
-use Rattle.std.proofs.Common.{◌≡◌, Some, subst}
+use Rattle.std.proofs.Common.{◌≡◌, ℕ, Option, Some, subst}
 use Rattle.inc_value.specs.declared.node.NodeId.{NodeId}
-use Rattle.inc_terms.specs.Graph.{Row}
+use Rattle.inc_terms.specs.Graph.{Graph, Row}
 use Rattle.inc_terms.specs.Term.{Functions}
 use Rattle.inc_terms.specs.Within.{Given}
 use Rattle.node_arena.specs.Arena.{row_at}
+use Rattle.stabilize_round.specs.Runs.{BuildsFew}
 use Rattle.stabilize_round.specs.State.{State}
 use Rattle.stabilize_round.specs.Stopped.{StandsAnew}
 use Rattle.wiring.specs.Stands.{Counts, counts_of}
 use Rattle.stabilizer.specs.Kept.{graph_in}
-use Rattle.stabilizer.specs.Round.{IsLeftBy, StandsAnewBy}
+use Rattle.stabilizer.specs.Round.{IsLeftBy, BuiltFew, StandsAnewBy}
 use Rattle.stabilizer.specs.declared.parts.Parts.{Parts}
 use Rattle.stabilizer.proofs.Stopped.{IsLeftOver}
 
@@ -49,3 +50,14 @@ left_by_parts F old new before after s u graph given counts graph' given' counts
     left_as F old new before after s u live
     (subst (λ (x : State). IsLeftOver F (told_by s old before) x) (is_told_by u new after graph' given' counts')
     (subst (λ (x : State). IsLeftOver F x u) (is_told_by s old before graph given counts) k))
+
+-- so is what it says of the count of builds
+pub few_by_parts : (F : Functions) (old new : Parts) (before after : Counts) (unbuilt : Option NodeId) (s u : State) → s.graph ≡ graph_in old
+    → s.given ≡ old.arena.given → counts_of s ≡ before → u.graph ≡ graph_in new → counts_of u ≡ after
+    → BuildsFew F s.given s.graph u.graph unbuilt s.builds u.builds → BuiltFew F old new unbuilt before after
+few_by_parts F old new before after unbuilt s u graph given counts graph' counts' k =
+    subst (λ (c : Counts). BuildsFew F old.arena.given (graph_in old) (graph_in new) unbuilt before.builds c.builds) counts'
+    (subst (λ (c : Counts). BuildsFew F old.arena.given (graph_in old) (graph_in new) unbuilt c.builds u.builds) counts
+    (subst (λ (G : Graph). BuildsFew F old.arena.given (graph_in old) G unbuilt s.builds u.builds) graph'
+    (subst (λ (G : Graph). BuildsFew F old.arena.given G u.graph unbuilt s.builds u.builds) graph
+    (subst (λ (count : ℕ). BuildsFew F count s.graph u.graph unbuilt s.builds u.builds) given k))))

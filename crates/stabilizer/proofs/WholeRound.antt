@@ -15,6 +15,7 @@ use Rattle.stabilize_round.specs.Counts.{RoseBy}
 use Rattle.stabilize_round.specs.Machine.{Move, Moves, as_it_is}
 use Rattle.stabilize_round.specs.State.{State, count, all_retries}
 use Rattle.stabilize_round.proofs.Points.{count_append}
+use Rattle.stabilize_round.proofs.Runs.{run_builds_few}
 use Rattle.stabilize_round.proofs.Steps.{joined}
 use Rattle.std.specs.Prelude.{is_some}
 use Rattle.wiring.specs.Graph.{graph_at}
@@ -23,13 +24,13 @@ use Rattle.wiring.specs.Stands.{Stands, Counts}
 use Rattle.wiring.specs.Wiring.{PutsRoots}
 use Rattle.wiring.specs.declared.work.Work.{Work}
 use Rattle.stabilizer.specs.Kept.{PartsKept, graph_in}
-use Rattle.stabilizer.specs.Round.{IsReady, AreRooted, IsInRound, RootsMore, OnlyRoots, Settles, IsUpToDate, IsLeftBy, BuildsAll, left_by}
+use Rattle.stabilizer.specs.Round.{IsReady, AreRooted, IsInRound, RootsMore, OnlyRoots, Settles, IsUpToDate, IsLeftBy, BuiltFew, BuildsAll, left_by}
 use Rattle.stabilizer.specs.declared.parts.Parts.{Parts}
 use Rattle.stabilizer.proofs.Began.{round_on}
 use Rattle.stabilizer.proofs.Beginning.{Begun, BegunOf, begun_of}
 use Rattle.stabilizer.proofs.BuiltFor.{builds_by_parts}
 use Rattle.stabilizer.proofs.Ending.{counted, died_same, ready_end, up_end}
-use Rattle.stabilizer.proofs.LeftBy.{left_by_parts}
+use Rattle.stabilizer.proofs.LeftBy.{left_by_parts, few_by_parts}
 use Rattle.stabilizer.proofs.Released.{is_next}
 use Rattle.stabilizer.proofs.Stopped.{moves_build, stops_leave_over}
 
@@ -103,6 +104,13 @@ module _ (M : Meaning) (old : Parts) (rooted : Work) (before : Counts) (ready : 
           (t.2.graph ∙ ap (graph_at settled.arena) is) t.2.given t.2.counts
           (λ n x row. ready.kept.work.sound.given n (ap is_some row))
           (stops_leave_over F first.start first.state t.0 t.0 first.entry begins.round.given t.1 (as_it_is refl))
+
+      -- each bind could be built, and the count of builds rose by at most one for each of some that were
+      pub round_few : BuiltFew F old result None before after
+      round_few =
+          let t = last in
+          few_by_parts F old result before after None first.state t.0 first.stands.graph first.stands.given first.stands.counts
+          (t.2.graph ∙ ap (graph_at settled.arena) is) t.2.counts (run_builds_few F first.start first.state t.0 t.1)
 
       -- what binds are built for
       pub round_built : (nodes observed : List NodeId) → OnlyRoots old.work.graph.roots settled.work.graph.roots (map main nodes)

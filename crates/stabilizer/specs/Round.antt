@@ -30,7 +30,7 @@ use Rattle.stabilize_round.specs.Calling.{Reason, IsAnswer, cost_at, costs_of}
 use Rattle.stabilize_round.specs.Counts.{RoseBy, RoseAtMost}
 use Rattle.stabilize_round.specs.Laws.{GraphStays}
 use Rattle.stabilize_round.specs.Invariant.{Rooted}
-use Rattle.stabilize_round.specs.Runs.{LeftDiffers, IsBuiltRight}
+use Rattle.stabilize_round.specs.Runs.{LeftDiffers, IsBuiltRight, BuildsFew}
 use Rattle.stabilize_round.specs.Machine.{Entry, Moves, Stops, called_more}
 use Rattle.stabilize_round.specs.State.{State, Start, Call, count}
 use Rattle.node_outcomes.specs.Computing.{seen}
@@ -245,6 +245,10 @@ module _ (F : Functions) (old new : Parts) where
   abbrev pub BuildsAllBut : List NodeId → Refused → Type 0
   BuildsAllBut observed e = (unbuilt : Option NodeId) × BuildsRight observed unbuilt × ((b : NodeId) → unbuilt ≡ Some b → RefusesBuild e)
 
+  -- the count of builds rose by at most one for each of some binds that were built, of which this one couldn't be, or none
+  abbrev pub BuiltFew : Option NodeId → Counts → Counts → Type 0
+  BuiltFew unbuilt before after = BuildsFew F old.arena.given (graph_in old) (graph_in new) unbuilt before.builds after.builds
+
 -- ---- what a round leaves of the nodes, wherever it stops
 
 -- a live node that is new stands in the scope, or in one within it, of a bind that was there before, and lives
@@ -264,8 +268,8 @@ IsBuiltOtherBy old new b = outcome_of ((graph_in new).built b) ≡ outcome_of ((
 -- was built for, and inside one that is built for another outcome than before, or for nothing now. Who stood inside a bind that is built for another
 -- outcome than before, or for nothing now, is dead. A bind that is built for the same
 -- outcome has the same root, and each live bind that is built has one that reads back as its function's term at that, or none for Invalid; a new node
--- stands inside a bind that is built for another outcome than before, or for nothing. The count of builds rose by at most one for each of some binds, and
--- of those that were given before each had a left that gives another outcome than it was built for; and as many nodes were added as ids were given
+-- stands inside a bind that is built for another outcome than before, or for nothing. The count of builds rose by at most one for each of some binds that
+-- were built, of which one couldn't be, or none; and as many nodes were added as ids were given
 pub record IsLeftBy (F : Functions) (old new : Parts) (before after : Counts) : Type 0 where
   pub rest : GraphStays old.arena.given new.arena.given (graph_in old) (graph_in new)
   pub dead : (n : NodeId) (r : Row) → row_at old.arena n ≡ Some r → row_at new.arena n ≡ None
@@ -278,8 +282,7 @@ pub record IsLeftBy (F : Functions) (old new : Parts) (before after : Counts) : 
       → outcome_of ((graph_in new).built b) ≡ outcome_of ((graph_in old).built b) → (graph_in new).built b ≡ (graph_in old).built b
   pub born : (n : NodeId) (r : Row) → old.arena.given ≤ n.gen_ → row_at new.arena n ≡ Some r
       → (a : StandsAnewBy old new n) × (((graph_in new).built a.bind ≡ None) ⊎ IsBuiltOtherBy old new a.bind)
-  pub builds : (binds : List NodeId) × NoRepeats binds × ((b : NodeId) → Among b binds → Given old.arena.given b → LeftDiffers F (graph_in old) b)
-      × RoseAtMost before.builds (length binds) after.builds
+  pub builds : (unbuilt : Option NodeId) × BuiltFew F old new unbuilt before after
   pub adds : (number : ℕ) × (new.arena.given ≡ old.arena.given + number) × RoseBy before.adds number after.adds
 
 -- ---- what a refused round tried

@@ -20,7 +20,7 @@ ghost use Rattle.wiring.specs.Wiring.{PutsRoots, RootRefused};
 ghost use Rattle.stabilizer.specs.Kept.{PartsKept, KeepsMeaning, StaysFlat, WantsTell, counts_by};
 ghost use Rattle.stabilizer.specs.Rebuilding.{BuildRefused};
 ghost use Rattle.stabilizer.specs.Round.{IsReady, AreRooted, IsUpToDate, IsLawful, LeavesTried, HasCalledMet, ShowsStill};
-ghost use Rattle.stabilizer.specs.Round.{cutoff_at, left_by, IsLeftBy, BuildsAll, BuildsAllBut};
+ghost use Rattle.stabilizer.specs.Round.{cutoff_at, left_by, IsLeftBy, BuiltFew, BuildsAll, BuildsAllBut};
 ghost use Rattle.stabilizer.specs.Round.{IsInRound, RootsMore, OnlyRoots, Settles, SettleRefused};
 ghost use Rattle.stabilizer.specs.Stepping.{MainIsSettled, MainIsLeft, IsUnbuiltBind, IsBuiltFor, IsTurnedAwake, IsAsleep, IsTurned, ChangeIsSettled, ChangeIsLeft, SettlesLeast};
 ghost use Rattle.stabilizer.specs.Stepping.{Steps, StepRefused, StepStopsFull, StepFalls};
@@ -120,6 +120,8 @@ impl Stabilizer {
             → ShowsStill (functions_of F.Functions functions.old) parts.old parts.new n) }
         ensures left { IsLeftBy (functions_of F.Functions functions.old) parts.old parts.new
             (counts_by F.Functions functions.old) (counts_by F.Functions functions.new) }
+        ensures builds { OnOk result (BuiltFew (functions_of F.Functions functions.old) parts.old parts.new None
+            (counts_by F.Functions functions.old) (counts_by F.Functions functions.new)) }
         ensures built { OnOk result ((observed : List NodeId) → AreRooted parts.old.work observed
             → BuildsAll (functions_of F.Functions functions.old) parts.old parts.new (roots.now ++ observed)) }
         ensures unbuilt { IfErr result (λ e. (observed : List NodeId) → AreRooted parts.old.work observed

@@ -1,5 +1,5 @@
 //! One call that brings what is observed up to date.
-ghost use Rattle.std.specs.Prelude.{◌≡◌, ◌⊎◌, ◌↔◌, Some, OnOk, OnErr, IfErr, IsErrOf, length, ◌≤◌, ◌+◌};
+ghost use Rattle.std.specs.Prelude.{◌≡◌, ◌⊎◌, ◌↔◌, None, Some, OnOk, OnErr, IfErr, IsErrOf, length, ◌≤◌, ◌+◌};
 ghost use Rattle.inc_value.specs.Counts.{raised};
 ghost use Rattle.inc_value.specs.declared.node.NodeId.{NodeId};
 ghost use Rattle.node_arena.specs.Arena.{live};
@@ -8,6 +8,7 @@ ghost use Rattle.node_arena.specs.RightSide.{SameSides};
 ghost use Rattle.stabilize_round.specs.Calling.{costs_of};
 ghost use Rattle.stabilize_round.specs.Counts.{RoseBy};
 ghost use Rattle.stabilizer.specs.Giving.{GivesLive, GivesFew, HasBuilt, StopsFull};
+ghost use Rattle.stabilizer.specs.Round.{BuiltFew};
 ghost use Rattle.stabilizer.specs.Weights.{SidesFit};
 ghost use Rattle.node_outcomes.specs.Meaning.{functions_of, meaning_of};
 ghost use Rattle.stabilizer.specs.Kept.{KeepsMeaning, WantsTell, counts_by};
@@ -133,6 +134,8 @@ fn run<F: Functions>(
     ensures ran { OnErr result (KeepsCalled parts.old parts.new) }
     ensures left { LeavesParts (functions_of F.Functions functions.old) parts.old parts.new
         (counts_by F.Functions functions.old) (counts_by F.Functions functions.new) }
+    ensures builds { OnOk result (BuiltFew (functions_of F.Functions functions.old) parts.old parts.new None
+        (counts_by F.Functions functions.old) (counts_by F.Functions functions.new)) }
     ensures gives { OnOk result (GivesLive parts.old.arena.given 0 parts.new.arena) }
     ensures spends { OnErr result (GivesFew (F.right functions.new) parts.old.arena.given parts.new.arena) }
     ensures full { IfErr result (StopsFull (F.right functions.new) parts.new.arena

@@ -1,4 +1,4 @@
-use Rattle.std.proofs.Common.{◌≡◌, inl, inr, ℕ, Some, length, sym, ap, subst, ◌∙◌, arith}
+use Rattle.std.proofs.Common.{◌≡◌, inl, inr, ℕ, None, Some, length, refl, sym, ap, subst, ◌∙◌, arith}
 use Rattle.node_outcomes.specs.Meaning.{Meaning, functions_of, meaning_of}
 use Rattle.stabilize_round.specs.Invariant.{Rooted}
 use Rattle.graph.specs.Inside.{CanStabilize}
@@ -41,7 +41,8 @@ pub returns-in-Ok-clause-left : goal.returns-in-Ok-clause-left
 returns-in-Ok-clause-left g c unbroken = rw (← c.self.view_is)
     (leaves_nodes (functions_of g.F.Functions c.self.inside.functions) c.self.inside.functions c.run.new.functions c.self.inside.parts c.run.new.parts
     c.self.inside.observers.items c.self.inside.rooted c.len-self-inside.result c.self.inside.refused c.self.inside.refused
-    (counts_by g.F.Functions c.self.inside.functions) (counts_by g.F.Functions c.run.new.functions) c.run.ensures.left)
+    (counts_by g.F.Functions c.self.inside.functions) (counts_by g.F.Functions c.run.new.functions) c.run.ensures.left
+    (None, (λ e. refl), c.in-Ok.ensures.builds))
 
 pub returns-in-Ok-clause-flat : goal.returns-in-Ok-clause-flat
 returns-in-Ok-clause-flat g c no_binds = rw (← c.self.view_is) (c.run.ensures.flat (rw (← c.self.view_is) at no_binds))
@@ -50,7 +51,8 @@ pub returns-in-Err-clause-left : goal.returns-in-Err-clause-left
 returns-in-Err-clause-left g c unbroken = rw (← c.self.view_is)
     (leaves_nodes (functions_of g.F.Functions c.self.inside.functions) c.self.inside.functions c.run.new.functions c.self.inside.parts c.run.new.parts
     c.self.inside.observers.items c.self.inside.rooted c.self.inside.rooted c.self.inside.refused (Some c.in-Err.refused)
-    (counts_by g.F.Functions c.self.inside.functions) (counts_by g.F.Functions c.run.new.functions) c.run.ensures.left)
+    (counts_by g.F.Functions c.self.inside.functions) (counts_by g.F.Functions c.run.new.functions) c.run.ensures.left
+    (let b = c.run.ensures.left.builds in (b.0, (λ e. absurd (cc)), b.1)))
 
 pub returns-in-Err-clause-flat : goal.returns-in-Err-clause-flat
 returns-in-Err-clause-flat g c no_binds = rw (← c.self.view_is) (c.run.ensures.flat (rw (← c.self.view_is) at no_binds))

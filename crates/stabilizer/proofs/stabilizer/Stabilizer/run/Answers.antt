@@ -19,7 +19,7 @@ use Rattle.stabilizer.proofs.Paused.{none_paused, roots_paused, roots_full, step
 use Rattle.stabilizer.proofs.Rounding.{on_err, exit_is}
 use Rattle.stabilizer.proofs.Tried.{paused_tried}
 use Rattle.stabilizer.proofs.Released.{released_of}
-use Rattle.stabilizer.proofs.WholeRound.{in_round, round_calls, round_readies, round_rights, round_left, round_built}
+use Rattle.stabilizer.proofs.WholeRound.{in_round, round_calls, round_readies, round_rights, round_left, round_few, round_built}
 use Rattle.stabilizer.proofs.stabilizer.Stabilizer.run.Goals as goal
 
 -- ---- what is called
@@ -386,6 +386,24 @@ returns-clause-left g c =
     c.end_round.ensures.round ∙ (next_is c.checked_add.result _ (old.work.round + 1) c.in-Some.next c.checked_add.ensures c.in-Some.is
     ∙ ap (λ (k : ℕ). k + 1) (sym (c.settle_all.ensures.round ∙ c.put_roots.ensures.round))) in
     round_left M old c.put_roots.new.work before c.requires.ready c.in_ok-put_roots.ensures.wired settled after c.in_ok-settle_all.ensures.settled
+    c.settle_all.ensures.kept c.in_ok-settle_all.ensures.quiet c.in_ok-settle_all.ensures.empty end released c.end_round.ensures.step
+    c.end_round.ensures.ran
+    c.end_round.ensures.retries round c.end_round.ensures.rows c.end_round.ensures.right_sides c.end_round.ensures.pairs c.end_round.ensures.scoped
+    c.end_round.ensures.todo
+
+pub returns-clause-builds : goal.returns-clause-builds
+returns-clause-builds g c =
+    let M = meaning_of g.F.Functions c.args.functions.now in
+    let before = counts_by g.F.Functions c.args.functions.now in
+    let after = counts_by g.F.Functions c.settle_all.new.functions in
+    let old = c.args.parts.now in
+    let settled = c.settle_all.new.parts in
+    let end : Parts = record settled { work = c.end_round.new.self; ran = c.swap.new.x } in
+    let released = released_of settled.work (record settled.work { ran = c.swap.new.y }) c.end_round.new.self c.end_round.ensures.released in
+    let round : c.end_round.new.self.round ≡ settled.work.round + 1 =
+    c.end_round.ensures.round ∙ (next_is c.checked_add.result _ (old.work.round + 1) c.in-Some.next c.checked_add.ensures c.in-Some.is
+    ∙ ap (λ (k : ℕ). k + 1) (sym (c.settle_all.ensures.round ∙ c.put_roots.ensures.round))) in
+    round_few M old c.put_roots.new.work before c.requires.ready c.in_ok-put_roots.ensures.wired settled after c.in_ok-settle_all.ensures.settled
     c.settle_all.ensures.kept c.in_ok-settle_all.ensures.quiet c.in_ok-settle_all.ensures.empty end released c.end_round.ensures.step
     c.end_round.ensures.ran
     c.end_round.ensures.retries round c.end_round.ensures.rows c.end_round.ensures.right_sides c.end_round.ensures.pairs c.end_round.ensures.scoped
