@@ -38,4 +38,5 @@ left_same F parts counts kept rooted = record {
   born = λ n r late row. let given = kept.sound.given n (ap is_some row) in absurd (omega (arith, given, late));
   builds = (None, record { binds = []; once = tt; built = λ b among. absurd among; count = record { kept = omega arith; within = omega arith } });
   adds = (0, omega arith, record { kept = omega arith; most = omega arith; exact = λ below. omega arith });
+  inside = λ rooted. rooted;
 }

@@ -196,7 +196,7 @@ module _ (F : Functions) (z : Start) (s : State) (inv : Invariant F z s) (quiet 
 pub refused_calls : RefusedCalls
 refused_calls F z s t u entry run (as_it_is e) =
     subst (λ (x : State). CalledAtMost F z x) (sym e) (ran_alone F z t (moves_keep F z s t run (entry_holds F z s entry)))
-refused_calls F z s t u entry run (unbuilt {b} {now} {m} r none count e) =
+refused_calls F z s t u entry run (unbuilt {b} {now} {m} r none empty count e) =
     subst (λ (x : State). CalledAtMost F z x) (sym e)
     (ran_alone F z _ (rebuild_keeps F z t (moves_keep F z s t run (entry_holds F z s entry)) b now m r (inl none)))
 refused_calls F z s t u entry run (unkept {n} {r} {calls'} quiet taken row due count e) =

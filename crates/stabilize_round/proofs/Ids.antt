@@ -113,7 +113,7 @@ module _ (F : Functions) (z : Start) (s : State) (g : AllGiven F z s) where
 
   stop_given : (t : State) → Stops F z s t → AllGiven F z t
   stop_given t (as_it_is e) = at t s e g
-  stop_given t (unbuilt {b} {now} {m} r none count e) = at t _ e (remade_given b now m r)
+  stop_given t (unbuilt {b} {now} {m} r none empty count e) = at t _ e (remade_given b now m r)
   stop_given t (unkept quiet taken row due count e) = same t _ e refl refl refl refl g.stale g.last g.needed g.rooted
 
 pub moves_given : (F : Functions) (z : Start) (s t : State) → AllGiven F z s → Moves F z s t → AllGiven F z t
@@ -125,7 +125,7 @@ given_stays F z s t g = ((λ run. moves_given F z s t g run), (λ stop. stop_giv
 
 stop_grows : (F : Functions) (z : Start) (s t : State) → Stops F z s t → s.given ≤ t.given
 stop_grows F z s t (as_it_is e) = rw e (omega arith)
-stop_grows F z s t (unbuilt r none count e) = rw e (let k = r.nodes.given in omega arith)
+stop_grows F z s t (unbuilt r none empty count e) = rw e (let k = r.nodes.given in omega arith)
 stop_grows F z s t (unkept quiet taken row due count e) = rw e (omega arith)
 
 pub start_stays : StartStays

@@ -422,7 +422,7 @@ one_built = record { kept = omega arith; most = omega arith; exact = λ h. refl 
 
 pub built_anew : IsBuiltAnew functions after bind rebuilding.due.function rebuilding.due.captures (Val (Int (pos 2)))
 unfolding rebuilding due
-built_anew = record { built = built_after; is_built = is_built_after; for_outcome = refl; rooted = new_root }
+built_anew = record { built = built_after; is_built = is_built_after; for_outcome = refl; rooted = new_root; inside = λ n r row scope. refl }
 
 abbrev pub s4 : State
 s4 = remade s3 made

@@ -705,7 +705,7 @@ KeptApart F z u = (v : State) × Invariant F z v × (u ≡ called_more v u.calls
 pub refused_keeps : RefusedKeeps
 refused_keeps F z s t u entry run (as_it_is e) =
     subst (λ (x : State). KeptApart F z x) (sym e) (t, moves_keep F z s t run (entry_holds F z s entry), refl)
-refused_keeps F z s t u entry run (unbuilt {b} {now} {m} r none count e) =
+refused_keeps F z s t u entry run (unbuilt {b} {now} {m} r none empty count e) =
     let inv = moves_keep F z s t run (entry_holds F z s entry) in
     subst (λ (x : State). KeptApart F z x) (sym e) (remade t m, rebuild_keeps F z t inv b now m r (inl none), refl)
 refused_keeps F z s t u entry run (unkept {calls'} quiet taken row due count e) =

@@ -158,5 +158,5 @@ attached_stays F z s t (spend u k e) not n h = keep n s _ t e h
 
 pub stop_rest : (F : Functions) (z : Start) (s t : State) → Stops F z s t → GraphStays s.given t.given s.graph t.graph
 stop_rest F z s t (as_it_is e) = moved s _ t e (still s)
-stop_rest F z s t (unbuilt {b} {now} {m} r none count e) = moved s _ t e (rebuilt_rest F z s b now m r)
+stop_rest F z s t (unbuilt {b} {now} {m} r none empty count e) = moved s _ t e (rebuilt_rest F z s b now m r)
 stop_rest F z s t (unkept quiet taken row due count e) = moved s _ t e (still s)

@@ -20,7 +20,7 @@ use Rattle.inc_terms.proofs.Plan.{among_left, among_right, among_parts}
 use Rattle.inc_terms.proofs.Rebuilding.{inside_through, scope_given, apart, inside_before, inside_after}
 use Rattle.stabilize_round.specs.State.{State, Start}
 use Rattle.stabilize_round.specs.Ids.{AllGiven}
-use Rattle.stabilize_round.specs.Invariant.{Invariant, MetNow}
+use Rattle.stabilize_round.specs.Invariant.{Invariant, MetNow, ScopesRooted}
 use Rattle.stabilize_round.specs.Rebuilding.{Remade, remade, builds_of, Rebuild, rebuilds}
 use Rattle.stabilize_round.specs.Machine.{Moves, Stops, as_it_is, unbuilt, unkept}
 use Rattle.stabilize_round.specs.Runs.{built_by, built_in, LeftDiffers, IsBuiltRight, BuildsFew}
@@ -211,7 +211,7 @@ made_cause F z s b now made move n r p row dead = elim (move.rebuilt.rows n p) [
 stop_cause : (F : Functions) (z : Start) (s u : State) → Stops F z s u → (n : NodeId) (r : Row) → Given s.given n → s.graph.row n ≡ Some r
     → u.graph.row n ≡ None → HasCause F s n
 stop_cause F z s u (as_it_is e) n r p row dead = absurd (let x = sym (ap (λ (y : State). y.graph.row n) e) ∙ dead in cc)
-stop_cause F z s u (unbuilt {b} {now} {m} move none count e) n r p row dead =
+stop_cause F z s u (unbuilt {b} {now} {m} move none empty count e) n r p row dead =
     made_cause F z s b now m move n r p row (sym (ap (λ (y : State). y.graph.row n) e) ∙ dead)
 stop_cause F z s u (unkept quiet taken at due count e) n r p row dead = absurd (let x = sym (ap (λ (y : State). y.graph.row n) e) ∙ dead in cc)
 
@@ -263,7 +263,7 @@ stop_known F z s u (as_it_is e) n p dead = record {
   now = λ r row. absurd (let x = sym (ap (λ (y : State). y.graph.row n) e) ∙ dead in cc);
   earlier = λ row. ap (λ (y : State). y.died n) e;
 }
-stop_known F z s u (unbuilt {b} {now} {m} move none count e) n p dead = record {
+stop_known F z s u (unbuilt {b} {now} {m} move none empty count e) n p dead = record {
   now = λ r row. ap (λ (y : State). y.died n) e ∙ move.deaths.now n r row (sym (ap (λ (y : State). y.graph.row n) e) ∙ dead);
   earlier = λ row. ap (λ (y : State). y.died n) e ∙ move.deaths.earlier n row;
 }
@@ -382,12 +382,12 @@ module _ (F : Functions) (z : Start) (s : State) (given : AllGiven F z s) (t : S
 
   roots_left : (u : State) → Stops F z t u → RootsStay u
   roots_left u (as_it_is e) = subst (λ (x : State). RootsStay x) (sym e) roots_run
-  roots_left u (unbuilt {b} {now} {m} move none count e) = subst (λ (x : State). RootsStay x) (sym e) (roots_stopped b now m move none)
+  roots_left u (unbuilt {b} {now} {m} move none empty count e) = subst (λ (x : State). RootsStay x) (sym e) (roots_stopped b now m move none)
   roots_left u (unkept quiet taken at due count e) = subst (λ (x : State). RootsStay x) (sym e) roots_run
 
   new_left : (u : State) → Stops F z t u → NewStand u
   new_left u (as_it_is e) = subst (λ (x : State). NewStand x) (sym e) new_run
-  new_left u (unbuilt {b} {now} {m} move none count e) = subst (λ (x : State). NewStand x) (sym e) (new_stopped b now m move none)
+  new_left u (unbuilt {b} {now} {m} move none empty count e) = subst (λ (x : State). NewStand x) (sym e) (new_stopped b now m move none)
   new_left u (unkept {calls'} quiet taken at due count e) = subst (λ (x : State). NewStand x) (sym e) (λ n r le row. let a = new_run n r le row in (
     record { bind = a.0.bind; row = a.0.row; given = a.0.given; is_row = a.0.is_row; inside = a.0.inside; new = a.0.new },
     a.1,
@@ -450,7 +450,7 @@ module _ (F : Functions) (z : Start) (s t : State) (run : Moves F z s t) (c : No
 
 builds_left : (F : Functions) (z : Start) (s t u : State) → Moves F z s t → Stops F z t u → AllFew F s u
 builds_left F z s t u run (as_it_is e) = subst (λ (x : State). AllFew F s x) (sym e) (None, run_builds_few F z s t run)
-builds_left F z s t u run (unbuilt {b} {now} {m} move none count e) =
+builds_left F z s t u run (unbuilt {b} {now} {m} move none empty count e) =
     subst (λ (x : State). AllFew F s x) (sym e) (Some b, few_stopped F z s t run b now m move none count)
 builds_left F z s t u run (unkept quiet taken at due count e) = subst (λ (x : State). AllFew F s x) (sym e) (None, run_builds_few F z s t run)
 
@@ -462,10 +462,45 @@ adds_left F z s t u run stop = by_stop stop
   where
     by_stop : Stops F z t u → AddsMany s u
     by_stop (as_it_is e) = subst (λ (x : State). AddsMany s x) (sym e) (run_adds F z s t run)
-    by_stop (unbuilt {b} {now} {m} move none count e) = subst (λ (x : State). AddsMany s x) (sym e)
+    by_stop (unbuilt {b} {now} {m} move none empty count e) = subst (λ (x : State). AddsMany s x) (sym e)
         (let first = run_adds F z s t run in let n = move.nodes in let a = first.1 in let c = n.given in
         (first.0 + n.number, omega arith, rose_on first.2 n.adds))
     by_stop (unkept quiet taken at due count e) = subst (λ (x : State). AddsMany s x) (sym e) (run_adds F z s t run)
+
+-- ---- scopes
+
+-- where a bind is built anew, scopes are those of binds with roots still, if its own is
+scopes_made : (F : Functions) (z : Start) (s : State) (b : NodeId) (now : Outcome) (made : Remade) → Rebuild F z s b now made → ScopesRooted s.graph
+    → ((n : NodeId) (r : Row) → made.graph.row n ≡ Some r → r.scope ≡ Some b → (w : Built) × (made.graph.built b ≡ Some w) × IsSome w.root)
+    → ScopesRooted made.graph
+scopes_made F z s b now made move rooted own n r c row scope = elim (node_or_other c b) [
+  | inl is ↦ subst (λ (x : NodeId). (w : Built) × (made.graph.built x ≡ Some w) × IsSome w.root) (sym is)
+      (own n r row (scope ∙ ap (λ (x : NodeId). Some x) is))
+  | inr ne ↦ elim (cases_lt n.gen_ s.given) [
+    | inr le ↦ absurd (ne (let e : Some c ≡ Some b = sym scope ∙ (move.nodes.scope n r row le).0 in cc))
+    | inl lt ↦
+        let was = lived F z s b now made move n r lt row in
+        let w = rooted n r c was.1 scope in
+        let p = move.given.names.scope n r c was.1 scope in
+        (w.0, move.rebuilt.built c p ne (λ i. was.0 (nested was.1 scope i)) ∙ w.1, w.2)
+  ]
+]
+
+scopes_run : (F : Functions) (z : Start) (s t : State) → Moves F z s t → ScopesRooted s.graph → ScopesRooted t.graph
+scopes_run F z s t here h = h
+scopes_run F z s t (step {b = u} m rest) h = scopes_run F z u t rest (on (kind_of F z s u m))
+  where
+    on : Kind F z s u (built_by m) → ScopesRooted u.graph
+    on (inl k) = subst ScopesRooted (sym k.0.graph) h
+    on (inr k) = subst (λ (x : State). ScopesRooted x.graph) (sym k.0.is)
+        (scopes_made F z s k.0.bind k.0.outcome k.0.made k.0.rebuild h
+        (λ n r row scope. (k.0.built.built, k.0.built.is_built, k.0.built.inside n r row scope)))
+
+scopes_left : (F : Functions) (z : Start) (s t u : State) → Moves F z s t → Stops F z t u → ScopesRooted s.graph → ScopesRooted u.graph
+scopes_left F z s t u run (as_it_is e) h = subst (λ (x : State). ScopesRooted x.graph) (sym e) (scopes_run F z s t run h)
+scopes_left F z s t u run (unbuilt {b} {now} {m} move none empty count e) h = subst (λ (x : State). ScopesRooted x.graph) (sym e)
+    (scopes_made F z t b now m move (scopes_run F z s t run h) (λ n r row scope. absurd (empty n r row scope)))
+scopes_left F z s t u run (unkept quiet taken at due count e) h = subst (λ (x : State). ScopesRooted x.graph) (sym e) (scopes_run F z s t run h)
 
 pub stops_leave : StopsLeave
 stops_leave F z s t u entry given run stop = record {
@@ -476,6 +511,7 @@ stops_leave F z s t u entry given run stop = record {
   new = λ n r le row. new_left F z s given t inv run u stop n r le row;
   builds = builds_left F z s t u run stop;
   adds = adds_left F z s t u run stop;
+  inside = scopes_left F z s t u run stop;
 }
   where
     inv : Invariant F z t

@@ -1,5 +1,5 @@
 -- What holds before and after each step of a round.
-use Rattle.std.specs.Prelude.{◌≡◌, ◌⊎◌, Bool, ◌<◌, ◌≤◌, ◌+◌, ℕ, true, false, List, [], Option, None, Some}
+use Rattle.std.specs.Prelude.{◌≡◌, ◌⊎◌, Bool, ◌<◌, ◌≤◌, ◌+◌, ℕ, true, false, List, [], Option, None, Some, IsSome}
 use Rattle.inc_value.specs.declared.function.FnRef.{FnRef}
 use Rattle.inc_value.specs.declared.node.NodeId.{NodeId}
 use Rattle.inc_value.specs.declared.node.Part.TheVariants.{Change, Main}
@@ -57,6 +57,10 @@ Rooted F G =
     (n : NodeId) (r : Row) (l : NodeId) (f : FnRef) (captures : List NodeId) (w : Built) → G.row n ≡ Some r → r.def ≡ Bind l f captures
     → G.built n ≡ Some w
     → IsRooted F G n f captures w
+
+-- a node that stands in a scope stands in that of a bind that is built, and has a root
+abbrev pub ScopesRooted : Graph → Type 0
+ScopesRooted G = (n : NodeId) (r : Row) (b : NodeId) → G.row n ≡ Some r → r.scope ≡ Some b → (w : Built) × (G.built b ≡ Some w) × IsSome w.root
 
 -- a bind whose change has run is built for that outcome
 abbrev pub BuiltFor : Functions → State → Type 0

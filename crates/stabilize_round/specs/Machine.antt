@@ -81,12 +81,12 @@ pub data Move (F : Functions) (z : Start) (s t : State) : Type 0 where
 abbrev pub called_more : State → ℕ → State
 called_more s calls' = record s { calls = calls' }
 
--- how a round stops that is refused: as it is; with a bind whose scope died and that couldn't be built, or wasn't yet; or with calls of a least
--- point's function, which was due, whose result couldn't be kept
+-- how a round stops that is refused: as it is; with a bind whose scope died and that couldn't be built, where nobody stands in its scope; or with calls
+-- of a least point's function, which was due, whose result couldn't be kept
 pub data Stops (F : Functions) (z : Start) (s t : State) : Type 0 where
   as_it_is : t ≡ s → Stops F z s t
   unbuilt : {b : NodeId} {now : Outcome} {m : Remade} → Rebuild F z s b now m → m.graph.built b ≡ None
-      → RoseAtMost s.builds (builds_of now) m.builds → t ≡ remade s m → Stops F z s t
+      → ((n : NodeId) (r : Row) → m.graph.row n ≡ Some r → r.scope ≡ Some b → ⊥) → RoseAtMost s.builds (builds_of now) m.builds → t ≡ remade s m → Stops F z s t
   unkept : {n : NodeId} {r : Row} {calls' : ℕ} → Quiet s → IsLeast s (main n) → s.graph.row n ≡ Some r
       → CallIsDue s n r.def → RoseAtMost s.calls (cost_at s.graph n) calls' → t ≡ called_more s calls' → Stops F z s t
 

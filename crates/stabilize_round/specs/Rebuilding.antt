@@ -1,5 +1,5 @@
 -- A bind is built anew: its scope dies, and new nodes are made.
-use Rattle.std.specs.Prelude.{◌≡◌, ◌⊎◌, ◌≤◌, ◌+◌, ℕ, true, false, Bool, List, Option, None, Some}
+use Rattle.std.specs.Prelude.{◌≡◌, ◌⊎◌, ◌≤◌, ◌+◌, ℕ, true, false, Bool, List, Option, None, Some, IsSome}
 use Rattle.inc_value.specs.declared.function.FnRef.{FnRef}
 use Rattle.inc_value.specs.declared.node.NodeId.{NodeId}
 use Rattle.inc_value.specs.declared.node.Point.{Point}
@@ -100,9 +100,11 @@ abbrev pub rebuilds : {F : Functions} {z : Start} {s : State} {b : NodeId} {now 
     → Rebuilds F z.known z.ids s.given s.graph m.graph b now
 rebuilds r = record { laws = r.given.laws; names = r.given.names; due = r.due; rebuilt = r.rebuilt }
 
--- the bind is built for the outcome, with a root that reads back as its function's term at it, or with none for Invalid
+-- the bind is built for the outcome, with a root that reads back as its function's term at it, or with none for Invalid, and then nobody stands in its
+-- scope
 pub record IsBuiltAnew (F : Functions) (G : Graph) (b : NodeId) (f : FnRef) (captures : List NodeId) (now : Outcome) : Type 0 where
   pub built : Built
   pub is_built : G.built b ≡ Some built
   pub for_outcome : built.outcome ≡ now
   pub rooted : IsRooted F G b f captures built
+  pub inside : (n : NodeId) (r : Row) → G.row n ≡ Some r → r.scope ≡ Some b → IsSome built.root

@@ -12,7 +12,7 @@ use Rattle.inc_terms.specs.Depend.{change, died_in}
 use Rattle.stabilize_round.specs.Counts.{RoseBy}
 use Rattle.stabilize_round.specs.State.{State, Start}
 use Rattle.stabilize_round.specs.Ids.{IsStartOf, AllGiven}
-use Rattle.stabilize_round.specs.Invariant.{MetNow}
+use Rattle.stabilize_round.specs.Invariant.{MetNow, ScopesRooted}
 use Rattle.stabilize_round.specs.Machine.{Entry, Moves, Stops}
 use Rattle.stabilize_round.specs.Closing.{closed, Close, next_start}
 use Rattle.stabilize_round.specs.Ended.{Ended}
@@ -66,7 +66,7 @@ NewNodesInside =
 -- what a round leaves that stops: what is given stays, but for what dies; a node died since, by the graph before, a bind round it was built for another
 -- outcome than its left gives; its scope is known; a bind that is built for the same outcome has the same root; and a new node stands where a bind is
 -- built for another outcome than before, or for nothing. The count of builds rose by at most one for each of some binds that were built, but for one at
--- most that couldn't be; and as many nodes were added as ids were given
+-- most that couldn't be; and as many nodes were added as ids were given. Where each scope was that of a bind with a root, each is
 pub record IsLeft (F : Functions) (s u : State) : Type 0 where
   pub rest : GraphStays s.given u.given s.graph u.graph
   pub dead : (n : NodeId) (r : Row) → Given s.given n → s.graph.row n ≡ Some r → u.graph.row n ≡ None
@@ -78,6 +78,7 @@ pub record IsLeft (F : Functions) (s u : State) : Type 0 where
       → (a : StandsAnew s u n) × ((u.graph.built a.bind ≡ None) ⊎ IsBuiltOther s u a.bind)
   pub builds : (unbuilt : Option NodeId) × BuildsFew F s.given s.graph u.graph unbuilt s.builds u.builds
   pub adds : (number : ℕ) × (u.given ≡ s.given + number) × RoseBy s.adds number u.adds
+  pub inside : ScopesRooted s.graph → ScopesRooted u.graph
 
 -- wherever a round stops
 abbrev pub StopsLeave : Type 0

@@ -1,5 +1,5 @@
 -- A bind is built anew and its change is settled: the machine's moves, and the parts that stand for the state after them.
-use Rattle.std.proofs.Common.{◌≡◌, ◌≢◌, inl, inr, ℕ, ◌-◌, ◌<◌, Bool, true, false, ◌&&◌, List, [], Option, None, Some, refl, sym, ap, subst, ◌∙◌}
+use Rattle.std.proofs.Common.{◌≡◌, ◌≢◌, inl, inr, ℕ, ◌-◌, ◌<◌, Bool, true, false, ◌&&◌, List, [], Option, None, Some, refl, sym, ap, subst, ◌∙◌, IsSome}
 use Rattle.std.proofs.Common.{arith}
 use Rattle.std.proofs.lemmas.Grind.{common_steps}
 use Rattle.std.specs.Prelude.{is_some, reverse, option_map, ◌==◌}
@@ -223,11 +223,12 @@ module _ (s : State) (arena : Arena) (old new : Work) (counts : Counts) (st : St
 
 -- ---- the moves
 
--- a root that was given and reads back as the bind's function's term for the outcome, or none for Invalid
+-- a root that was given and reads back as the bind's function's term for the outcome, or none for Invalid, and then nobody stands in the scope
 pub record HasRoot (F : Functions) (arena : Arena) (b : NodeId) (f : FnRef) (captures : List NodeId) (now : Outcome)
     (root : Option NodeId) : Type 0 where
   pub given : (m : NodeId) → root ≡ Some m → Given arena.given m
   pub rooted : (G : Graph) → ((n : NodeId) → G.row n ≡ row_at arena n) → IsRooted F G b f captures (record { outcome = now; root = root })
+  pub inside : (n : NodeId) (r : Row) → row_at arena n ≡ Some r → r.scope ≡ Some b → IsSome root
 
 module _ (F : Functions) (z : Start) (t : State) (b : NodeId) (now : Outcome) (cut died grown : Parts) (counts : Counts)
     (a : IsAnew F z t b now cut died grown counts) (after : Counts) (calls : after.calls ≡ counts.calls)
@@ -281,6 +282,7 @@ module _ (F : Functions) (z : Start) (t : State) (b : NodeId) (now : Outcome) (c
     is_built = is_built;
     for_outcome = refl;
     rooted = has_root.rooted (graph_of grown.arena held) (λ n. refl);
+    inside = has_root.inside;
   }
 
   -- the count of builds rose by it

@@ -40,6 +40,7 @@ left_as F old new before after s u live k = record {
   born = λ n r le row. let a = k.left.new n r le row in (stands_by s u old new before after n a.0, a.1);
   builds = k.left.builds;
   adds = k.left.adds;
+  inside = k.left.inside;
 }
 
 -- what the machine says of the states is so of the parts that stand for them

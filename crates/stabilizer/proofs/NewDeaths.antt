@@ -158,7 +158,7 @@ undied F t n (lives k) dead = absurd (let x = k.is_row in cc)
 
 new_stop : (F : Functions) (z : Start) (t u : State) → Stops F z t u → (n : NodeId) → NewAt F t n → u.graph.row n ≡ None → u.died n ≡ None
 new_stop F z t u (as_it_is e) n k dead = undied F u n (subst (λ (x : State). NewAt F x n) (sym e) k) dead
-new_stop F z t u (unbuilt {b} {now} {m} move none count e) n k dead = by_new k
+new_stop F z t u (unbuilt {b} {now} {m} move none empty count e) n k dead = by_new k
   where
     dead_then : m.graph.row n ≡ None
     dead_then = sym (ap (λ (x : State). x.graph.row n) e) ∙ dead
@@ -196,7 +196,7 @@ born_run F z s t (step {b = u} m rest) n r none row = born_then F z s u t m rest
 -- and is there where the round stops
 pub there_still : (F : Functions) (z : Start) (t u : State) → Stops F z t u → (n : NodeId) → (k : Lasts F t.graph t.given n) → u.graph.row n ≡ Some k.row
 there_still F z t u (as_it_is e) n k = ap (λ (x : State). x.graph.row n) e ∙ k.is_row
-there_still F z t u (unbuilt {b} {now} {m} move none count e) n k =
+there_still F z t u (unbuilt {b} {now} {m} move none empty count e) n k =
     ap (λ (x : State). x.graph.row n) e ∙ row_lasts F z t b now m move n k
 there_still F z t u (unkept quiet taken at due count e) n k = ap (λ (x : State). x.graph.row n) e ∙ k.is_row
 

@@ -167,8 +167,9 @@ module _ (old cut dead : Parts) (b : NodeId) (same : cut.arena ≡ old.arena) (d
     named : Every (Given old.arena.given) captures
     named = (subst (λ (d : graph.Def). NamesGiven old.arena.given d) to.is_bind (kept.sound.names b to.row to.is_row)).2
 
-    nobody : IsEmpty dead.arena b
-    nobody n r row scope = elim (died.nodes n) [
+    -- nobody stands in its scope
+    pub scope_empty : IsEmpty dead.arena b
+    scope_empty n r row scope = elim (died.nodes n) [
       | inl h ↦ none-some r (sym h.1 ∙ row)
       | inr h ↦ h.0 (direct (sym h.1 ∙ row) scope)
     ]
@@ -205,7 +206,7 @@ module _ (old cut dead : Parts) (b : NodeId) (same : cut.arena ≡ old.arena) (d
       pub may_build : (known : FnRef → Bool) (right : FnRef → RightSide) → SidesFit known right old.arena
           → MayBuild (building_in b dead.arena) f.sig (right f) left captures
       may_build known right all = record {
-        empty = nobody;
+        empty = scope_empty;
         fit = λ x among. let k = (fits known right all).1 x among in
             (subst (λ (c : ℕ). x.node.gen_ < c) (sym dead_given) k.0, fits_still x.node x.ty k.1);
         left_given = subst (λ (c : ℕ). ValueWithin (Given c) left) (sym dead_given) of_type.within;
@@ -231,16 +232,19 @@ built_root known value' right arena b f captures left root type is = record {
     );
     rootless = λ e. absurd (cc);
   };
+  inside = λ n r row scope. refl;
 }
   where
     same_value : (v w : Value) → Val v ≡ Val w → v ≡ w
     same_value v w e = cc
 
 -- none is built for Invalid
-pub no_root_built : (F : Functions) (arena : Arena) (b : NodeId) (f : FnRef) (captures : List NodeId) → HasRoot F arena b f captures Invalid None
-no_root_built F arena b f captures = record {
+pub no_root_built : (F : Functions) (arena : Arena) (b : NodeId) (f : FnRef) (captures : List NodeId) → IsEmpty arena b
+    → HasRoot F arena b f captures Invalid None
+no_root_built F arena b f captures empty = record {
   given = λ m e. absurd (none-some m e);
   rooted = λ G rows. record { unfolds = λ v e. absurd (cc); rootless = λ e. refl };
+  inside = λ n r row scope. absurd (empty n r row scope);
 }
 
 -- ---- functions fit afterwards

@@ -19,7 +19,7 @@ use Rattle.necessity.specs.Need.{Roots, KeepsRoots}
 use Rattle.node_arena.specs.Arena.{Arena, row_at, IsLive}
 use Rattle.node_arena.specs.Building.{building_in}
 use Rattle.node_arena.specs.Graph.{AllCallFit}
-use Rattle.node_arena.specs.RightSide.{RightSide, MayBuild, IsRoot}
+use Rattle.node_arena.specs.RightSide.{RightSide, MayBuild, IsRoot, IsEmpty}
 use Rattle.node_arena.specs.RightSideLaws.{ids_of}
 use Rattle.node_arena.specs.Typing.{Fits}
 use Rattle.node_arena.specs.declared.functions.Functions.{Ghosts}
@@ -52,6 +52,7 @@ use Rattle.stabilizer.proofs.BuiltAnew.{IsRebuilt, HasRoot, run_settled}
 use Rattle.stabilizer.proofs.Giving.{none_gives, none_few}
 use Rattle.stabilizer.proofs.MeaningKept.{nothing_meant}
 use Rattle.stabilizer.proofs.RebuildAsks.{dead_fit, dead_given, bind_stays, is_bind_of, is_known, may_build, gives_type, fit_then, built_root, no_root_built}
+use Rattle.stabilizer.proofs.RebuildAsks.{scope_empty}
 use Rattle.stabilizer.proofs.RebuildCounts.{tally_adds, tally_builds, tally_rises}
 use Rattle.stabilizer.proofs.Rebuilds.{builds_anew, stops_unbuilt}
 use Rattle.stabilizer.proofs.RebuiltKept.{rebuilt_kept, roomy, roomy_kept, roomy_to, roomy_before, died_roomy, roots_roomy, none_grown, no_adds}
@@ -245,6 +246,10 @@ module _ {K More : Type 0} (keeper : Ghosts K More) (fs : K) where
     pub asks_own : IsBindOf dead.arena b f
     asks_own = is_bind_of old cut dead b h.cuts.arena h.died own_cut h.kept.work f captures given h.to
 
+    -- nobody stands in the bind's scope
+    asks_empty : IsEmpty dead.arena b
+    asks_empty = scope_empty old cut dead b h.cuts.arena h.died own_cut h.kept.work f captures given h.to
+
     pub asks_ready : (left : Value) → given ≡ Val left → MayBuild (building_in b dead.arena) f.sig (right f) left captures
     asks_ready left is = may_build old cut dead b h.cuts.arena h.died own_cut h.kept.work f captures given h.to left is known right h.fit
 
@@ -299,7 +304,7 @@ module _ {K More : Type 0} (keeper : Ghosts K More) (fs : K) where
       pub stops_roomless : (z : Start) (s : State) → IsRoundOf M z s → Quiet s → StandsBefore first before s b → StopsThere M b ready before z s
       stops_roomless z s begun quiet stands =
           stops_unbuilt M old cut ready ready b f captures given before h.kept.work h.to h.own h.cuts ready_died (none_grown ready b ready_kept.work)
-          ready_kept.work calls_fit before refl (no_adds dead.arena.given before.adds) (no_builds given before.builds) z s begun quiet
+          ready_kept.work calls_fit asks_empty before refl (no_adds dead.arena.given before.adds) (no_builds given before.builds) z s begun quiet
           (h.from before s stands)
 
       module _ (left : Value) (is : given ≡ Val left) {grown : Parts} {fs' : K} (w : WasBuilt keeper fs fs' ready grown b) where
@@ -323,11 +328,20 @@ module _ {K More : Type 0} (keeper : Ghosts K More) (fs : K) where
         calls_fit_then : AllCallFit known (ids_of right) grown.arena
         calls_fit_then = fit_then known (keeper.known fs') right (keeper.right fs') grown.arena w.meaning.same.known w.meaning.same.sides w.fit
 
+        -- where no new node lives, nobody stands in the bind's scope
+        none_stand : ((n : NodeId) → ready.arena.given ≤ n.gen_ → row_at grown.arena n ≡ None) → (n : NodeId) (r : Row) → row_at grown.arena n ≡ Some r
+            → r.scope ≡ Some b → ⊥
+        none_stand none n r row scope = elim (cases_lt n.gen_ ready.arena.given) [
+          | inl lt ↦ asks_empty n r (sym (w.grew.nodes n lt) ∙ row) scope
+          | inr le ↦ none-some r (sym (none n le) ∙ row)
+        ]
+
         -- a right side couldn't be built
-        pub stops_building : (z : Start) (s : State) → IsRoundOf M z s → Quiet s → StandsBefore first before s b → StopsThere M b grown after z s
-        stops_building z s begun quiet stands =
+        pub stops_building : ((n : NodeId) → ready.arena.given ≤ n.gen_ → row_at grown.arena n ≡ None) → (z : Start) (s : State) → IsRoundOf M z s
+            → Quiet s → StandsBefore first before s b → StopsThere M b grown after z s
+        stops_building none z s begun quiet stands =
             stops_unbuilt M old cut ready grown b f captures given before h.kept.work h.to h.own h.cuts ready_died w.grew w.kept.work calls_fit_then
-            after w.calls adds (at_most builds) z s begun quiet (h.from before s stands)
+            (none_stand none) after w.calls adds (at_most builds) z s begun quiet (h.from before s stands)
 
         -- the change's row is there
         pub there_grown : Holds grown.work.rows (change b)
@@ -339,10 +353,7 @@ module _ {K More : Type 0} (keeper : Ghosts K More) (fs : K) where
         module _ (none : (n : NodeId) → ready.arena.given ≤ n.gen_ → row_at grown.arena n ≡ None)
             (most : grown.arena.given ≤ ready.arena.given + (right f).size) where
           nobody : (n : NodeId) → IsInScope grown.arena b n → ⊥
-          nobody n s = elim (cases_lt n.gen_ ready.arena.given) [
-            | inl lt ↦ (asks_ready left is).empty n s.row (sym (w.grew.nodes n lt) ∙ s.is_row) s.scope
-            | inr le ↦ none-some s.row (sym (none n le) ∙ s.is_row)
-          ]
+          nobody n s = none_stand none n s.row s.is_row s.scope
 
           leaves_room : (k : ℕ) → k ≤ (right f).size → LeavesRoom (keeper.right fs') k grown.arena
           leaves_room k few = record {
@@ -480,7 +491,7 @@ module _ {K More : Type 0} (keeper : Ghosts K More) (fs : K) where
           (subst (λ (x : Refused). BuildRefused M right first (with_roots dead roomy) b before before x) (sym memory)
           (unbuilt {count = dead.arena.given} (stops_roomless roomy room) refl given_first tt (dead_few right) tt)))
       rootless_refused e (stopped {roomy} room built none stops few) =
-          unbuilt {count = dead.arena.given} (stops_building roomy room left is built) built.calls given_first stops
+          unbuilt {count = dead.arena.given} (stops_building roomy room left is built none) built.calls given_first stops
           (spends_few roomy room left is built none few) (spends_full roomy room left is built none few e stops)
 
     -- there is no right side of Invalid
@@ -490,7 +501,7 @@ module _ {K More : Type 0} (keeper : Ghosts K More) (fs : K) where
 
       has_none : HasRoot M.functions dead.arena b f captures given None
       has_none = subst (λ (o : Outcome). HasRoot M.functions dead.arena b f captures o None) (sym is)
-          (no_root_built M.functions dead.arena b f captures)
+          (no_root_built M.functions dead.arena b f captures asks_empty)
 
       run_none : (new : Work) → IsSettledOn dead.work new b given → IsRebuilt dead.work new b given None
       run_none new on =

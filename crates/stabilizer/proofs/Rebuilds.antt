@@ -14,6 +14,7 @@ use Rattle.inc_terms.proofs.Local.{reach_more}
 use Rattle.point_map.specs.Rows.{Holds}
 use Rattle.node_arena.specs.Arena.{Arena, row_at}
 use Rattle.node_arena.specs.Graph.{AllCallFit}
+use Rattle.node_arena.specs.RightSide.{IsEmpty}
 use Rattle.stabilize_round.specs.Counts.{RoseBy, RoseAtMost}
 use Rattle.stabilize_round.specs.Machine as move
 use Rattle.stabilize_round.specs.Machine.{Move, Moves, Stops}
@@ -84,16 +85,16 @@ module _ (M : Meaning) (old cut died grown : Parts) (b : NodeId) (f : FnRef) (ca
     }
 
     module _ (after : Counts) (calls : after.calls ≡ before.calls) (adds : RoseBy before.adds (grown.arena.given - died.arena.given) after.adds) where
-      -- the bind is built for nothing, and the round stops
-      stopped : (most : RoseAtMost before.builds (builds_of now) after.builds)
+      -- the bind is built for nothing, nobody stands in its scope, and the round stops
+      stopped : IsEmpty grown.arena b → (most : RoseAtMost before.builds (builds_of now) after.builds)
           → (ready stopped : State) × Reaches (Preparing F z (change b)) s ready × Stops F z ready stopped
           × Stands grown.arena grown.work after None stopped × (stopped.heap (change b) ≡ true)
-      stopped most = (
+      stopped empty most = (
         t,
         bare_state F z t b now cut died grown before is_anew after calls adds,
         found.1.prepared,
         move.unbuilt (bare_anew F z t b now cut died grown before is_anew after calls adds)
-            (unbuilt_now F z t b now cut died grown before is_anew)
+            (unbuilt_now F z t b now cut died grown before is_anew) empty
             (subst (λ (k : ℕ). RoseAtMost k (builds_of now) after.builds) (sym (ap (λ (c : Counts). c.builds) is_anew.stands.counts)) most) refl,
         bare_stands F z t b now cut died grown before is_anew after calls adds,
         bare_heap F z t b now cut died grown before is_anew after calls adds,
@@ -129,12 +130,12 @@ module _ (M : Meaning) (old cut died grown : Parts) (b : NodeId) (f : FnRef) (ca
         )
 
   -- where it couldn't be built
-  pub stops_unbuilt : (after : Counts) → after.calls ≡ before.calls → RoseBy before.adds (grown.arena.given - died.arena.given) after.adds
+  pub stops_unbuilt : IsEmpty grown.arena b → (after : Counts) → after.calls ≡ before.calls → RoseBy before.adds (grown.arena.given - died.arena.given) after.adds
       → RoseAtMost before.builds (builds_of now) after.builds
       → (z : Start) (s : State) → IsRoundOf M z s → Quiet s → StandsBefore old before s b
       → (ready stopped : State) × Reaches (Preparing M.functions z (change b)) s ready × Stops M.functions z ready stopped
       × Stands grown.arena grown.work after None stopped × (stopped.heap (change b) ≡ true)
-  stops_unbuilt after calls adds most z s begun quiet stands = stopped z s begun quiet stands after calls adds most
+  stops_unbuilt empty after calls adds most z s begun quiet stands = stopped z s begun quiet stands after calls adds empty most
 
   -- where it was
   pub builds_anew : (after : Counts) → after.calls ≡ before.calls → RoseBy before.adds (grown.arena.given - died.arena.given) after.adds

@@ -76,7 +76,7 @@ module _ (F : Functions) (z : Start) where
   stopped_out s t u n r run (unkept quiet taken at due count e) row given =
       subst (λ (x : State). (x.settled (main n) ≡ true) ⊎ (x.out (main n) ≡ s.out (main n))) (sym e)
       (moves_out s t n r run (ap (λ (x : State). x.graph.row n) (sym e) ∙ row) given)
-  stopped_out s t u n r run (unbuilt {b} {now} {m} move none count e) row given =
+  stopped_out s t u n r run (unbuilt {b} {now} {m} move none empty count e) row given =
       let there : Given t.given n = omega (arith, run_grows F z s t run, given) in
       let row' : m.graph.row n ≡ Some r = ap (λ (x : State). x.graph.row n) (sym e) ∙ row in
       let was = (lived F z t b now m move n r there row').1 in

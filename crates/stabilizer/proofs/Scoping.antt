@@ -76,7 +76,7 @@ module _ (F : Functions) (z : Start) (s : State) (given : AllGiven F z s) (t : S
   -- wherever it stops
   pub falls_left : (u : State) → Stops F z t u → Falls s u
   falls_left u (as_it_is e) = subst (λ (x : State). Falls s x) (sym e) falls_run
-  falls_left u (unbuilt {b} {now} {m} move none count e) = subst (λ (x : State). Falls s x) (sym e) (falls_stopped b now m move none)
+  falls_left u (unbuilt {b} {now} {m} move none empty count e) = subst (λ (x : State). Falls s x) (sym e) (falls_stopped b now m move none)
   falls_left u (unkept quiet taken at due count e) = subst (λ (x : State). Falls s x) (sym e) falls_run
 
 -- ---- new nodes

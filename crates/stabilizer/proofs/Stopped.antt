@@ -81,7 +81,7 @@ module _ (F : Functions) (z : Start) (s : State) (given : AllGiven F z s) (t : S
 
   kills_left : (u : State) → Stops F z t u → Kills s u
   kills_left u (as_it_is e) = subst (λ (x : State). Kills s x) (sym e) kills_run
-  kills_left u (unbuilt {b} {now} {m} move none count e) = subst (λ (x : State). Kills s x) (sym e) (kills_stopped b now m move)
+  kills_left u (unbuilt {b} {now} {m} move none empty count e) = subst (λ (x : State). Kills s x) (sym e) (kills_stopped b now m move)
   kills_left u (unkept quiet taken at due count e) = subst (λ (x : State). Kills s x) (sym e) kills_run
 
 -- ---- all that is left of the nodes
@@ -268,7 +268,7 @@ pub stops_build : (F : Functions) (z : Start) (s t u : State) → Entry F z s �
     → (refused : Option NodeId) × BuildsLeft F z s u refused
 stops_build F z s t u entry given run (as_it_is e) =
     (None, subst (λ (x : State). BuildsLeft F z s x None) (sym e) (moves_build F z s t entry given run))
-stops_build F z s t u entry given run (unbuilt {b} {now} {m} move none count e) = (
+stops_build F z s t u entry given run (unbuilt {b} {now} {m} move none empty count e) = (
   Some b,
   subst (λ (x : State). BuildsLeft F z s x (Some b)) (sym e)
       (builds_stopped F z s entry given t (moves_keep F z s t run (entry_holds F z s entry)) run b now m move none),

@@ -29,7 +29,7 @@ use Rattle.inc_terms.specs.Work.{taken_by}
 use Rattle.stabilize_round.specs.Calling.{Reason, IsAnswer, cost_at, costs_of}
 use Rattle.stabilize_round.specs.Counts.{RoseBy, RoseAtMost}
 use Rattle.stabilize_round.specs.Laws.{GraphStays}
-use Rattle.stabilize_round.specs.Invariant.{Rooted}
+use Rattle.stabilize_round.specs.Invariant.{Rooted, ScopesRooted}
 use Rattle.stabilize_round.specs.Runs.{LeftDiffers, IsBuiltRight, BuildsFew}
 use Rattle.stabilize_round.specs.Machine.{Entry, Moves, Stops, called_more}
 use Rattle.stabilize_round.specs.State.{State, Start, Call, count}
@@ -269,7 +269,7 @@ IsBuiltOtherBy old new b = outcome_of ((graph_in new).built b) ≡ outcome_of ((
 -- outcome than before, or for nothing now, is dead. A bind that is built for the same
 -- outcome has the same root, and each live bind that is built has one that reads back as its function's term at that, or none for Invalid; a new node
 -- stands inside a bind that is built for another outcome than before, or for nothing. The count of builds rose by at most one for each of some binds that
--- were built, of which one couldn't be, or none; and as many nodes were added as ids were given
+-- were built, of which one couldn't be, or none; and as many nodes were added as ids were given. Where each scope was that of a bind with a root, each is
 pub record IsLeftBy (F : Functions) (old new : Parts) (before after : Counts) : Type 0 where
   pub rest : GraphStays old.arena.given new.arena.given (graph_in old) (graph_in new)
   pub dead : (n : NodeId) (r : Row) → row_at old.arena n ≡ Some r → row_at new.arena n ≡ None
@@ -284,6 +284,7 @@ pub record IsLeftBy (F : Functions) (old new : Parts) (before after : Counts) : 
       → (a : StandsAnewBy old new n) × (((graph_in new).built a.bind ≡ None) ⊎ IsBuiltOtherBy old new a.bind)
   pub builds : (unbuilt : Option NodeId) × BuiltFew F old new unbuilt before after
   pub adds : (number : ℕ) × (new.arena.given ≡ old.arena.given + number) × RoseBy before.adds number after.adds
+  pub inside : ScopesRooted (graph_in old) → ScopesRooted (graph_in new)
 
 -- ---- what a refused round tried
 
