@@ -145,6 +145,7 @@ module _ (named named' : List ℕ → Option FnRef) (known known' : FnRef → Bo
     stands = h.stands;
     entry = entry_same before after known values_same terms_same h.start h.state
         (λ n r row. all_known n r (subst (λ (G : Graph). G.row n ≡ Some r) h.stands.graph row)) h.entry;
+    inside = h.inside;
     numbered = h.numbered;
     todo = h.todo;
     ran = h.ran;
@@ -158,5 +159,6 @@ sound_more M M' parts observers rooted refused fits still ready = record {
   earlier = fits.earlier;
   kept = fits.kept;
   built = ready_built M' parts (ready (fits.unbroken still).ready);
+  inside = fits.inside;
   unbroken = λ whole. let can = fits.unbroken whole in record { ready = ready can.ready; roots = can.roots; given = can.given; shown = can.shown };
 }

@@ -265,5 +265,4 @@ module _ {F : Type 0} (M : Functions) (functions functions' : F) (old new : Part
     born = λ n r late row. let b = l.born n r late row in (stands_anew n b.0, b.1);
     builds = builds;
     adds = l.adds;
-    inside = l.inside;
   }

@@ -81,6 +81,7 @@ sound_of functions M parts observers rooted refused fits = record {
   nodes = fits.kept.work.sound;
   scopes = fits.kept.work.scopes;
   built = fits.built;
+  inside = fits.inside;
   typed = roots_fit parts.arena parts.work fits.kept.work;
   whole = λ whole. let can = fits.unbroken whole in record {
     roots = can.roots;

@@ -129,6 +129,7 @@ module _ (M : Meaning) (old new : Parts) (observers : List Observer) (rooted : �
     earlier = sound.earlier;
     kept = (ready (sound.unbroken still).ready).kept;
     built = ready_built M new (ready (sound.unbroken still).ready);
+    inside = (ready (sound.unbroken still).ready).inside;
     unbroken = λ whole. let can = sound.unbroken whole in
         can_still M old new observers rooted can (ready can.ready) roots given
         (λ n among. rows n (can.given n (front_is_among observers rooted n among)));

@@ -62,6 +62,7 @@ module _ (M : Meaning) (old new : Parts) (observers : List Observer) (rooted : �
     earlier = sound.earlier;
     kept = (ready (sound.unbroken still).ready).kept;
     built = ready_built M new (ready (sound.unbroken still).ready);
+    inside = (ready (sound.unbroken still).ready).inside;
     unbroken = λ whole. let can = sound.unbroken whole in
         can_still M old new observers rooted can (ready can.ready) (λ p. ap (λ (r : Roots). root_times r p) roots)
         (omega (arith, given)) (λ n among. rows n (young_roots old.work (in_use (take rooted observers)) count can.roots low n among));

@@ -38,6 +38,7 @@ module _ (M : Meaning) (parts : Parts) (observers : List Observer) (rooted : ℕ
     earlier = let l = length-append observers (observing node ∷ []) in omega (arith, l, sound.earlier);
     kept = sound.kept;
     built = sound.built;
+    inside = sound.inside;
     unbroken = λ whole. let can = sound.unbroken whole in
         let front : take rooted (observers ++ observing node ∷ []) ≡ take rooted observers = take-append-le rooted observers (observing node ∷ []) sound.earlier in
         record {
@@ -86,6 +87,7 @@ module _ (M : Meaning) (old new : Parts) (observers : List Observer) (rooted pla
     earlier = let l = set_length observers place (ended node) in omega (arith, l, sound.earlier);
     kept = sound.kept;
     built = sound.built;
+    inside = sound.inside;
     unbroken = λ whole. let can = sound.unbroken whole in
         let front : take rooted (slice_set observers place (ended node)) ≡ take rooted observers = front_stays observers rooted place (ended node) later in
         record {
@@ -107,6 +109,7 @@ module _ (M : Meaning) (old new : Parts) (observers : List Observer) (rooted pla
     earlier = let l = set_length observers place (ended node) in omega (arith, l, sound.earlier);
     kept = (ready (sound.unbroken still).ready).kept;
     built = ready_built M new (ready (sound.unbroken still).ready);
+    inside = (ready (sound.unbroken still).ready).inside;
     unbroken = λ whole. let can = sound.unbroken whole in
         let out = front_out observers rooted place node below is in
         record {

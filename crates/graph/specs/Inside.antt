@@ -10,7 +10,7 @@ use Rattle.node_arena.specs.Arena.{row_at}
 use Rattle.node_outcomes.specs.Computing.{seen}
 use Rattle.node_outcomes.specs.Meaning.{Meaning}
 use Rattle.stabilize_round.specs.Calling.{costs_of}
-use Rattle.stabilize_round.specs.Invariant.{Rooted}
+use Rattle.stabilize_round.specs.Invariant.{Rooted, ScopesRooted}
 use Rattle.stabilizer.specs.Kept.{graph_in, PartsKept}
 use Rattle.stabilizer.specs.Round.{IsReady, AreRooted, IsUpToDate, IsLawful, LeavesTried, HasCalledMet, ShowsStill, IsLeftBy, cutoff_at, left_by}
 use Rattle.stabilizer.specs.Round.{BuildsAll, BuildsAllBut}
@@ -28,13 +28,14 @@ pub record CanStabilize (M : Meaning) (parts : Parts) (observers : List Observer
   pub given : (n : NodeId) → Among n (in_use observers) → Given parts.arena.given n
   pub shown : (n : NodeId) → Among n (in_use (take rooted observers)) → IsSome (seen parts.work.rows (main n))
 
--- what every graph keeps: its parts fit together, and each bind that is built has a root that reads back as its function's term, or none for Invalid;
--- also where a stabilize was refused
+-- what every graph keeps: its parts fit together, and each bind that is built has a root that reads back as its function's term, or none for Invalid,
+-- and then nobody stands in its scope; also where a stabilize was refused
 pub record FitsInside (M : Meaning) (parts : Parts) (observers : List Observer) (rooted : ℕ) (refused : Option Refused) : Type 0 where
   pub few : length observers ≤ 2 ^ 32 - 1
   pub earlier : rooted ≤ length observers
   pub kept : PartsKept parts
   pub built : Rooted M.functions (graph_in parts)
+  pub inside : ScopesRooted (graph_in parts)
   pub unbroken : refused ≡ None → CanStabilize M parts observers rooted
 
 -- ---- what a round does to the parts

@@ -11,7 +11,7 @@ use Rattle.node_arena.specs.Graph.{AllCallFit}
 use Rattle.node_arena.specs.Sound as arena
 use Rattle.node_arena.specs.Typing.{Fits}
 use Rattle.node_outcomes.specs.Meaning.{Meaning}
-use Rattle.stabilize_round.specs.Invariant.{Rooted}
+use Rattle.stabilize_round.specs.Invariant.{Rooted, ScopesRooted}
 use Rattle.graph.specs.Standing.{Standing, graph, shown_of, in_use, rooted_nodes, AreRooted, IsUnbroken}
 
 -- the root of a bind was given, and is of the type that the bind's function gives, or dead
@@ -29,13 +29,15 @@ module _ {F : Type 0} where
     pub given : (n : NodeId) → Among n (in_use s.observers) → Given s.nodes.given n
     pub shown : (n : NodeId) → Among n (rooted_nodes s) → IsSome (shown_of s n)
 
-  -- what every graph keeps, also one that is broken: each scope is that of a live bind, and each bind that is built for a value has a root that reads
-  -- back as its function's term at it and is of the type that this gives, or dead; one that is built for Invalid has none
+  -- what every graph keeps, also one that is broken: a node in a scope stands in that of a live bind that is built, and has a root; and each bind that is
+  -- built for a value has a root that reads back as its function's term at it and is of the type that this gives, or dead; one that is built for Invalid
+  -- has none
   pub record IsSound (M : Meaning) (s : Standing F) : Type 0 where
     pub few : length s.observers ≤ 2 ^ 32 - 1
     pub earlier : s.rooted ≤ length s.observers
     pub nodes : arena.IsSound s.nodes
     pub scopes : Scoped (graph s)
     pub built : Rooted M.functions (graph s)
+    pub inside : ScopesRooted (graph s)
     pub typed : RootsFit s.nodes (graph s)
     pub whole : IsUnbroken s → IsWhole M s

@@ -24,7 +24,6 @@ use Rattle.node_outcomes.specs.Row.{is_never}
 use Rattle.stabilize_round.specs.Calling.{Reason, IsAnswer, cost_at, costs_of}
 use Rattle.stabilize_round.specs.Calls.{arguments_of}
 use Rattle.stabilize_round.specs.Counts.{RoseBy, RoseAtMost}
-use Rattle.stabilize_round.specs.Invariant.{ScopesRooted}
 use Rattle.stabilize_round.specs.Laws.{GraphStays}
 use Rattle.stabilize_round.specs.Runs.{LeftDiffers, IsBuiltRight, BuildsFew}
 use Rattle.stabilize_round.specs.State.{Call}
@@ -236,9 +235,10 @@ module _ {F : Type 0} where
   IsBuiltOther old new b = outcome_of ((graph new).built b) ≡ outcome_of ((graph old).built b) → ⊥
 
   -- who died stood inside a bind whose left gives another outcome than it was built for, and inside one that is built for another outcome than before, or for
-  -- nothing now. Who stood inside a bind that is built for another outcome than before, or for nothing now, is dead. A bind that is built for the same outcome has the same root; a new node stands inside a bind that is built for
-  -- another outcome than before, or for nothing. The count of builds rose by at most one for each of some binds that were built, of which one couldn't be
-  -- where the stabilize was refused, or none; and as many nodes were added as ids were given. Where each scope was that of a bind with a root, each is
+  -- nothing now. Who stood inside a bind that is built for another outcome than before, or for nothing now, is dead. A bind that is built for the same
+  -- outcome has the same root; a new node stands inside a bind that is built for another outcome than before, or for nothing. The count of builds rose by
+  -- at most one for each of some binds that were built, of which one couldn't be where the stabilize was refused, or none; and as many nodes were added
+  -- as ids were given
   pub record LeavesNodes (M : Functions) (old new : Standing F) (before after : Counts) : Type 0 where
     pub dead : (n : NodeId) (r : Row) → row_at old.nodes n ≡ Some r → row_at new.nodes n ≡ None
         → (b : NodeId) × Inside (graph old) b n × LeftDiffers M (graph old) b
@@ -252,7 +252,6 @@ module _ {F : Type 0} where
     pub builds : (unbuilt : Option NodeId) × (IsUnbroken new → unbuilt ≡ None)
         × BuildsFew M old.nodes.given (graph old) (graph new) unbuilt before.builds after.builds
     pub adds : (number : ℕ) × (new.nodes.given ≡ old.nodes.given + number) × RoseBy before.adds number after.adds
-    pub inside : ScopesRooted (graph old) → ScopesRooted (graph new)
 
   -- ---- of a stabilize from one standing to another
 

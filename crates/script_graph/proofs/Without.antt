@@ -41,6 +41,7 @@ module _ {A : Type 0} where
     nodes = h.nodes;
     scopes = h.scopes;
     built = h.built;
+    inside = h.inside;
     typed = h.typed;
     whole = λ unbroken. whole_without W s (h.whole unbroken);
   }
@@ -161,7 +162,6 @@ module _ {A : Type 0} where
       born = λ n r late row. let b = l.born n r late row in (anew_without n b.0, b.1);
       builds = l.builds;
       adds = l.adds;
-      inside = l.inside;
     }
 
   tried_without : (s : Standing A) (points : List Point) → IsTried s points → IsTried (without_functions s) points

@@ -247,6 +247,7 @@ module _ (before arena : Arena) (old work : Work) (id : NodeId) (row : Row) (hei
       | inr ne ↦ inl (sym (rows.others p ne) ∙ e)
     ];
     roots = λ n r e. ap (λ (m : Rows NodeId). at m (change n)) round.roots;
+    outcomes = λ n was r there e. ap outcome_in (rows.others (change n) (older n (live_given before old kept n was there)));
     scoped = λ n b r e scope. record { row = r; is_row = row_now n r e; scope = scope; same = inl refl };
     entered = λ n b r e scope. (r, scoped_was n b r e scope, scope);
     deaths = round.deaths;
@@ -290,6 +291,7 @@ back_stays arena old work same = record {
   runs = λ n s r o e def is. (e, ap outcome_in (sym (same.rows (change n))) ∙ is);
   unsettled = λ p k e. inl (sym (same.rows p) ∙ e);
   roots = λ n r e. ap (λ (m : Rows NodeId). at m (change n)) same.round.roots;
+  outcomes = λ n was r there e. ap outcome_in (same.rows (change n));
   scoped = λ n b r e scope. record { row = r; is_row = e; scope = scope; same = inl refl };
   entered = λ n b r e scope. (r, e, scope);
   deaths = same.round.deaths;

@@ -4,6 +4,7 @@ use Rattle.std.proofs.Common.{◌∙◌, arith}
 use Rattle.std.specs.Prelude.{is_some, IsSome, reverse, ◌↔◌}
 use Rattle.std.proofs.lemmas.Bool.Decides.{nat_tests}
 use Rattle.std.proofs.lemmas.Option.{none-some, same_Some}
+use Rattle.inc_value.specs.declared.function.FnRef.{FnRef}
 use Rattle.inc_value.specs.declared.node.NodeId.{NodeId}
 use Rattle.inc_value.specs.declared.node.Part.{Part}
 use Rattle.inc_value.specs.declared.node.Part.TheVariants.{Main, Change}
@@ -36,7 +37,7 @@ use Rattle.node_outcomes.specs.Row.{outcome_in, settled_in, stage_of, never_in}
 use Rattle.stabilize_round.specs.State as machine
 use Rattle.stabilize_round.specs.State.{State, Start, count, planned, plan_at, live_plan, all_retries}
 use Rattle.stabilize_round.proofs.Freezing.{other_rests}
-use Rattle.stabilize_round.specs.Invariant.{Recalls, Rooted}
+use Rattle.stabilize_round.specs.Invariant.{Recalls, Rooted, ScopesRooted}
 use Rattle.stabilize_round.specs.Machine.{Entry as Begins}
 use Rattle.stabilize_round.proofs.Points.{among_count}
 use Rattle.stabilizer.specs.Between.{IsBetween, Stays, out_of}
@@ -226,6 +227,7 @@ module _ (M : Meaning) (parts : Parts) (ready : IsReady M parts) where
     ];
     answers = λ n r nodes k c row def e last. ready.entry.answers n r nodes c (row_now n r row)
         (subst (λ (G : Graph). taken_by G n r.def ≡ Some nodes) (sym ready.stands.graph) def) (ready.stands.last n k e ∙ last);
+    inside = ready.inside;
     built = λ n r o row e. subst (λ (G : Graph). IsBuilt F G n r.def o) ready.stands.graph
         (ready.entry.built n r o (row_now n r row) (ran_now (change n) o e));
     unsettled = λ p. sym (ready.stands.settled p) ∙ ready.entry.settled p;
@@ -388,6 +390,7 @@ between_is_ready M parts kept laws fit b = record {
   state = state_of (is_needed parts.work.graph) parts.arena parts.work;
   stands = stands_then M parts.arena parts.work b (is_needed parts.work.graph) exact;
   entry = entry_then M parts.arena parts.work b (is_needed parts.work.graph) exact;
+  inside = b.inside;
   numbered = b.numbered;
   todo = b.todo;
   ran = b.ran;
@@ -409,6 +412,12 @@ never_settled settled round e h = grind (arith, nat_tests)
 no_subject_unbuilt : (def : Def) (o : Option Outcome) (root : Option NodeId) → subject_of def ≡ None → built_by def o root ≡ None
 no_subject_unbuilt (graph.Bind l f caps) o root e = absurd (none-some l (sym e))
 no_subject_unbuilt _ o root e = refl
+
+-- what a bind is built for doesn't hang on its definition
+binds_alike : (l l' : NodeId) (f f' : FnRef) (ks ks' : List NodeId) (o : Option Outcome) (root : Option NodeId)
+    → built_by (Bind l f ks) o root ≡ built_by (Bind l' f' ks') o root
+binds_alike l l' f f' ks ks' None root = refl
+binds_alike l l' f f' ks ks' (Some o) root = refl
 
 module _ (F : Functions) (before arena : Arena) (old work : Work) (b : IsBetween F before old) (kept : IsKept arena work)
     (stays : Stays before arena old work) where
@@ -525,6 +534,27 @@ module _ (F : Functions) (before arena : Arena) (old work : Work) (b : IsBetween
     ]
   ]
 
+  -- a bind that lived and lives is built as it was
+  bind_as : (c : NodeId) (s s' : Row) (l l' : NodeId) (f f' : FnRef) (ks ks' : List NodeId) → row_at before c ≡ Some s → s.def ≡ Bind l f ks
+      → row_at arena c ≡ Some s' → s'.def ≡ Bind l' f' ks' → G'.built c ≡ G.built c
+  bind_as c s s' l l' f f' ks ks' was is row is' =
+      built_live work.rows work.roots c arena s' row
+      ∙ (ap (λ (d : Def). built_by d (out_of work (change c)) (at work.roots (change c))) is'
+      ∙ (binds_alike l' l f' f ks' ks (out_of work (change c)) (at work.roots (change c))
+      ∙ (ap (λ (o : Option Outcome). built_by (Bind l f ks) o (at work.roots (change c))) (stays.outcomes c s s' was row)
+      ∙ (ap (built_by (Bind l f ks) (out_of old (change c))) (stays.roots c s' row)
+      ∙ (sym (ap (λ (d : Def). built_by d (out_of old (change c)) (at old.roots (change c))) is)
+      ∙ sym (built_live old.rows old.roots c before s was))))))
+
+  -- scopes are those of binds with roots still
+  scopes_still : ScopesRooted G'
+  scopes_still n r c row scope =
+      let e = stays.entered n c r row scope in
+      let w = b.inside n e.0 c e.1 e.2 in
+      let s = b.kept.scopes n e.0 c e.1 e.2 in
+      let s' = kept.scopes n r c row scope in
+      (w.0, bind_as c s.0 s'.0 s.1 s'.1 s.2 s'.2 s.3 s'.3 s.4 s.5 s'.4 s'.5 ∙ w.1, w.2)
+
   pub between_stays : IsBetween F arena work
   between_stays = record {
     kept = kept;
@@ -537,6 +567,7 @@ module _ (F : Functions) (before arena : Arena) (old work : Work) (b : IsBetween
         | inr f ↦ inr (fresh_still p r need row same f)
       ]
     ];
+    inside = scopes_still;
     built = runs_still;
     answers = λ n r nodes k c row def e last. let w = stays.calls n r nodes k c row def e last in
         b.answers n r nodes k c w.0 def w.1 last;

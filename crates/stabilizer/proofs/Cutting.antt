@@ -11,6 +11,7 @@ use Rattle.node_outcomes.specs.Meaning.{Meaning}
 use Rattle.map_nodes.specs.declared.cutoff.Cutoff.{Cutoff}
 use Rattle.point_map.specs.Rows.{Rows, at, KeepsRows}
 use Rattle.node_arena.specs.Arena.{Arena}
+use Rattle.stabilize_round.specs.Invariant.{ScopesRooted}
 use Rattle.stabilize_round.specs.Machine.{Entry}
 use Rattle.stabilize_round.specs.State.{State, Start}
 use Rattle.stabilize_round.proofs.Points.{same_or_other, node_or_other}
@@ -171,6 +172,7 @@ module _ (old new : Parts) (id : NodeId) (c : Cutoff) (kept : PartsKept old) (w 
       state = state;
       stands = stands;
       entry = entry;
+      inside = subst ScopesRooted (sym (graph_rewritten arena old.work work (main id) (with_cutoff c) w (λ k is. refl) refl)) ready.inside;
       numbered = ready.numbered;
       todo = ready.todo;
       ran = ready.ran;

@@ -181,6 +181,7 @@ module _ (before arena : Arena) (old work : Work) (id : NodeId) (kept : IsKept b
     runs = λ n s r o e def is. (was_row n r e, ap outcome_in (sym (rows.others (change n) (node_left n r e))) ∙ is);
     unsettled = λ p k e. inl (was_kept p k (row_left p (ap is_some e)) e);
     roots = λ n r e. rights.others (change n) (node_left n r e);
+    outcomes = λ n was r there e. ap outcome_in (rows.others (change n) (node_left n r e));
     scoped = λ n b r e scope. record { row = r; is_row = row_now n r (unscoped n b r e scope).0 e; scope = scope; same = inl refl };
     entered = λ n b r e scope. (r, was_row n r e, scope);
     deaths = deaths;
@@ -338,6 +339,7 @@ module _ (old new : Parts) (kept : PartsKept old)
     runs = λ n s r o e def is. (e, is);
     unsettled = λ p k e. inl e;
     roots = λ n r e. refl;
+    outcomes = λ n was r there e. refl;
     scoped = λ n b r e scope. record { row = r; is_row = e; scope = scope; same = inl refl };
     entered = λ n b r e scope. (r, e, scope);
     deaths = refl;

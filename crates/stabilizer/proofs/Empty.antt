@@ -69,6 +69,7 @@ module _ (arena : Arena) (work : Work) (sound : IsSound arena) (step : IsInStep 
       links = λ p r need e q. absurd (none-some r (sym (nodes p.node) ∙ e));
       fresh = λ p r need e. absurd (none-some r (sym (nodes p.node) ∙ e));
       built = λ n r o e is. absurd (none-some r (sym (nodes n) ∙ e));
+      inside = λ n r b e scope. absurd (none-some r (sym (nodes n) ∙ e));
       answers = λ n r ns k c e def is last. absurd (none-some r (sym (nodes n) ∙ e));
       unsettled = λ p. ap (settled_in work.round) (rows p);
       deaths = undied;

@@ -48,7 +48,7 @@ use Rattle.stabilize_round.specs.Ended.{RootsAre, Ended}
 use Rattle.stabilize_round.specs.Freezing.{fires_at}
 use Rattle.stabilize_round.specs.Ids.{AllGiven}
 use Rattle.stabilize_round.specs.Invariant as invariant
-use Rattle.stabilize_round.specs.Invariant.{Invariant, MetNow, HasCalled, Recalls, IsUnmarked}
+use Rattle.stabilize_round.specs.Invariant.{Invariant, MetNow, HasCalled, Recalls, IsUnmarked, ScopesRooted}
 use Rattle.stabilize_round.specs.Machine.{Entry, Moves, Stops, as_it_is}
 use Rattle.stabilize_round.specs.Moves.{Quiet}
 use Rattle.stabilize_round.specs.State.{State, Start, Call, Full, count, planned, all_retries}
@@ -66,6 +66,7 @@ use Rattle.wiring.specs.Stands.{Stands, Counts, counts_of, Hand}
 use Rattle.wiring.specs.declared.work.Work.{Work}
 use Rattle.wiring.proofs.Agreeing.{no_freeze}
 use Rattle.wiring.proofs.Deciding.{decides_needed}
+use Rattle.wiring.specs.Graph.{graph_at}
 use Rattle.stabilizer.specs.Kept.{graph_in, PartsKept}
 use Rattle.stabilizer.specs.Round.{settled_by, WasCalledIn, IsUpToDateIn, IsUpToDate, IsReady, AreRooted, last_of, last_call, cutoff_at, died_by}
 use Rattle.stabilizer.specs.declared.parts.Parts.{Parts}
@@ -432,8 +433,9 @@ module _ (M : Meaning) (old mid : Parts) (before after : Counts) (first : PartsK
       given = stands.given;
     }
 
-    pub ready_next : FunctionLaws M.functions M.known M.ids → AllCallFit M.known M.ids arena → IsReady M next_parts
-    ready_next laws fit = record {
+    pub ready_next : FunctionLaws M.functions M.known M.ids → AllCallFit M.known M.ids arena → ScopesRooted (graph_in next_parts)
+        → IsReady M next_parts
+    ready_next laws fit inside = record {
       kept = record {
         work = kept_next F z t inv quiet arena work new after kept.work stands r in_step round;
         scopes = kept.scopes;
@@ -445,6 +447,7 @@ module _ (M : Meaning) (old mid : Parts) (before after : Counts) (first : PartsK
       state = rested t links' needed';
       stands = stands_next;
       entry = begins_again F z t inv quiet none still links' needed' is_shut;
+      inside = inside;
       todo = idle;
       ran = ran;
       numbered = omega (arith, round);
@@ -604,5 +607,6 @@ module _ (M : Meaning) (old mid : Parts) (before after : Counts) (first : PartsK
           (subst (λ (xs : List NodeId). IsUpToDateIn F G D G old.work next observed xs) (sym ran_is) up_next)
 
     pub ready_end : next ≡ end.work → FunctionLaws M.functions M.known M.ids → AllCallFit M.known M.ids arena
-        → IsReady M (record mid { work = end.work; ran = end.ran })
-    ready_end is laws fit = subst (λ (w : Work). IsReady M (record mid { work = w; ran = end.ran })) is (ready_next laws fit)
+        → ScopesRooted (graph_at arena end.work) → IsReady M (record mid { work = end.work; ran = end.ran })
+    ready_end is laws fit inside = subst (λ (w : Work). IsReady M (record mid { work = w; ran = end.ran })) is
+        (ready_next laws fit (subst (λ (w : Work). ScopesRooted (graph_at arena w)) (sym is) inside))

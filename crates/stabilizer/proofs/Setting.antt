@@ -272,6 +272,7 @@ module _ (before arena : Arena) (old work : Work) (id : NodeId) (v : Value) (kep
     ];
     unsettled = λ p k e. inl (sym (same_rows p) ∙ e);
     roots = λ n r row. ap (λ (m : Rows NodeId). at m (change n)) round.roots;
+    outcomes = λ n was r there row. ap outcome_in (same_rows (change n));
     scoped = stands_still;
     entered = λ n b r row scope. let w = row_was n r row in (w.was, w.is_was, w.scope ∙ scope);
     deaths = round.deaths;

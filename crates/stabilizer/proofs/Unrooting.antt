@@ -118,6 +118,7 @@ module _ (old : Work) (g : NecessaryPart) (id : NodeId) (off : IsUnrooted (rowle
       runs = λ n s r o row def is. (row, is);
       unsettled = λ p k e. inl e;
       roots = λ n r row. refl;
+      outcomes = λ n was r there row. refl;
       scoped = λ n b r row scope. record { row = r; is_row = row; scope = scope; same = inl refl };
       entered = λ n b r row scope. (r, row, scope);
       deaths = refl;

@@ -88,10 +88,6 @@ module _ (M : Meaning) (old : Parts) (rooted : Work) (before : Counts) (ready : 
       is : next ≡ end.work
       is = is_next settled.work end.work rows roots_same pairs scoped todo
 
-      pub round_readies : AllCallFit M.known M.ids settled.arena → IsReady M result
-      round_readies fit = ready_end M old settled before after ready.kept begins kept last.0 last.1 last.2 idle empty end r in_step ran
-          retries round is ready.laws fit
-
       pub round_calls : end.ran.items ≡ settled.work.ran.items → RoseBy before.calls (costs_of (left_by old result) end.ran.items) after.calls
       round_calls ran_is = subst (λ (G : Graph). RoseBy before.calls (costs_of G end.ran.items) after.calls) (ap (graph_at settled.arena) is)
           (subst (λ (ns : List NodeId). RoseBy before.calls (costs_of (graph_in settled) ns) after.calls) (sym ran_is) round_counts)
@@ -104,6 +100,10 @@ module _ (M : Meaning) (old : Parts) (rooted : Work) (before : Counts) (ready : 
           (t.2.graph ∙ ap (graph_at settled.arena) is) t.2.given t.2.counts
           (λ n x row. ready.kept.work.sound.given n (ap is_some row))
           (stops_leave_over F first.start first.state t.0 t.0 first.entry begins.round.given t.1 (as_it_is refl))
+
+      pub round_readies : AllCallFit M.known M.ids settled.arena → IsReady M result
+      round_readies fit = ready_end M old settled before after ready.kept begins kept last.0 last.1 last.2 idle empty end r in_step ran
+          retries round is ready.laws fit (round_left.inside ready.inside)
 
       -- each bind could be built, and the count of builds rose by at most one for each of some that were
       pub round_few : BuiltFew F old result None before after

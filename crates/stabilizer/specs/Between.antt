@@ -15,7 +15,7 @@ use Rattle.necessary_graph.specs.Part.{Needed}
 use Rattle.node_arena.specs.Arena.{Arena, row_at, with_value}
 use Rattle.inc_terms.specs.Work.{taken_by}
 use Rattle.stabilize_round.specs.State.{Call, count, all_retries}
-use Rattle.stabilize_round.specs.Invariant.{Recalls}
+use Rattle.stabilize_round.specs.Invariant.{Recalls, ScopesRooted}
 use Rattle.node_outcomes.specs.Computing.{KeepsAnswers}
 use Rattle.node_outcomes.specs.Meaning.{Meaning}
 use Rattle.wiring.specs.Graph.{graph_at, died_at}
@@ -35,7 +35,7 @@ abbrev pub out_of : Work → Point → Option Outcome
 out_of work p = outcome_in (at work.rows p)
 
 -- a needed point of a live node has all its links, and is in the heap, or agrees with what it is linked to; a bind whose change has run is built for the
--- outcome; nothing was settled, called or found final since the last round, and no node died
+-- outcome; each scope is that of a bind with a root; nothing was settled, called or found final since the last round, and no node died
 pub record IsBetween (F : Functions) (arena : Arena) (work : Work) : Type 0 where
   pub kept : IsKept arena work
   pub full : (p : Point) (k : Progress) → Needed work.graph p → at work.rows p ≡ Some k → k.stage ≡ Full
@@ -45,6 +45,7 @@ pub record IsBetween (F : Functions) (arena : Arena) (work : Work) : Type 0 wher
       → Holds work.graph.heap p ⊎ (Agrees F (graph_at arena work) (out_of work) p
       × Recalls (graph_at arena work) (shown (graph_at arena work) (out_of work)) (last_call work) p)
   pub built : (n : NodeId) (r : Row) (o : Outcome) → row_at arena n ≡ Some r → out_of work (change n) ≡ Some o → IsBuilt F (graph_at arena work) n r.def o
+  pub inside : ScopesRooted (graph_at arena work)
   pub answers : KeepsAnswers F (graph_at arena work) work.rows
   pub unsettled : (p : Point) → settled_in work.round (at work.rows p) ≡ false
   pub deaths : (n : NodeId) → died_at work n ≡ None
@@ -72,7 +73,7 @@ pub record StandsAs (arena : Arena) (n b : NodeId) (was : Row) : Type 0 where
 
 -- between rounds this may change: less may be needed, and what is so keeps its links, its row and its place in the heap; its node stays, or is a
 -- variable with another value and in the heap; what was called or has run was so before; no row is settled that wasn't; live binds keep their
--- roots; and the nodes in scopes stand there as they did, each as it is, but for variables
+-- roots, and live nodes the outcomes of their changes; and the nodes in scopes stand there as they did, each as it is, but for variables
 pub record Stays (before arena : Arena) (old work : Work) : Type 0 where
   pub needed : (p : Point) → Needed work.graph p → Needed old.graph p
   pub links : (p q : Point) → Needed work.graph p → times work.graph.links p q ≡ times old.graph.links p q
@@ -86,6 +87,7 @@ pub record Stays (before arena : Arena) (old work : Work) : Type 0 where
       → (row_at before n ≡ Some r) × (out_of old (change n) ≡ Some o)
   pub unsettled : (p : Point) (k : Progress) → at work.rows p ≡ Some k → (at old.rows p ≡ Some k) ⊎ (k.settled ≡ 0)
   pub roots : (n : NodeId) (r : Row) → row_at arena n ≡ Some r → at work.roots (change n) ≡ at old.roots (change n)
+  pub outcomes : (n : NodeId) (was r : Row) → row_at before n ≡ Some was → row_at arena n ≡ Some r → out_of work (change n) ≡ out_of old (change n)
   pub scoped : (n b : NodeId) (r : Row) → row_at before n ≡ Some r → r.scope ≡ Some b → StandsAs arena n b r
   pub entered : (n b : NodeId) (r : Row) → row_at arena n ≡ Some r → r.scope ≡ Some b
       → (was : Row) × (row_at before n ≡ Some was) × (was.scope ≡ Some b)

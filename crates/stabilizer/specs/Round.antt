@@ -50,7 +50,7 @@ use Rattle.node_outcomes.specs.declared.row.Progress.{Progress}
 use Rattle.wiring.specs.declared.work.Work.{Work}
 
 -- a round of these functions may begin: they promise what the laws of graphs ask, and those of nodes are known and list given nodes; the parts
--- stand for a state in which rounds begin, and its number isn't that of what was never settled
+-- stand for a state in which rounds begin, each scope is that of a bind with a root, and its number isn't that of what was never settled
 pub record IsReady (M : Meaning) (parts : Parts) : Type 0 where
   pub kept : PartsKept parts
   pub laws : FunctionLaws M.functions M.known M.ids
@@ -59,6 +59,7 @@ pub record IsReady (M : Meaning) (parts : Parts) : Type 0 where
   pub state : State
   pub stands : Stands parts.arena parts.work (counts_of state) None state
   pub entry : Entry M.functions start state
+  pub inside : ScopesRooted (graph_in parts)
   pub numbered : 0 < parts.work.round
   pub todo : parts.work.todo.items ≡ []
   pub ran : parts.work.ran.items ≡ []

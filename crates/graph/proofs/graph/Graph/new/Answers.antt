@@ -18,6 +18,7 @@ invariant_of-result g c =
         earlier = omega arith;
         kept = (c.new.ensures.ready M laws).kept;
         built = ready_built M c.new.result (c.new.ensures.ready M laws);
+        inside = (c.new.ensures.ready M laws).inside;
         unbroken = λ whole. record {
           ready = c.new.ensures.ready M laws;
           roots = c.new.ensures.roots;

@@ -106,6 +106,7 @@ invariant_of-self g c =
         earlier = omega (arith, same);
         kept = can.ready.kept;
         built = ready_built (meaning_of g.F.Functions c.run.new.functions) c.run.new.parts can.ready;
+        inside = can.ready.inside;
         unbroken = λ u. subst (λ (k : ℕ). CanStabilize (meaning_of g.F.Functions c.run.new.functions) c.run.new.parts
             c.self.inside.observers.items k) (sym same) can;
       },
@@ -122,6 +123,7 @@ invariant_of-self-in-Err g c = (
     kept = c.in-Err.ensures.kept;
     built = subst (λ (M : Meaning). Rooted M.functions (graph_in c.run.new.parts))
         (sym (means_still g.F.Functions c.self.inside.functions c.run.new.functions c.run.ensures.functions)) c.run.ensures.left.rooted;
+    inside = c.run.ensures.left.inside c.self.invariant.1.inside;
     unbroken = λ e. absurd (cc);
   },
   c.run.ensures.functions.sound,
