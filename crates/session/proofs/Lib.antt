@@ -3,6 +3,7 @@ mod Assigned
 mod Carried
 mod CarriageReturns
 mod Ended
+mod Endings
 mod Failing
 mod Following
 mod InTurn
