@@ -1,9 +1,10 @@
 //! A graph with the nodes that were made.
-ghost use Rattle.std.specs.Prelude.{◌≡◌, ◌≤◌, ◌+◌, ◌++◌, [], ◌∷◌, length, IfOk, OnOk, OnErr, IsErr, IsTrue, None, Some};
+ghost use Rattle.std.specs.Prelude.{◌≡◌, ◌≤◌, ◌+◌, ◌++◌, [], ◌∷◌, length, IfOk, IfErr, OnOk, OnErr, IsOk, IsErr, IsErrOf, IsTrue, None, Some};
 ghost use Rattle.incr_bench.specs.Shown.{node_in, number_in, shown_by};
+ghost use Rattle.incr_bench.specs.Status.{of_graph};
 
 use crate::fault::{Fault, of_graph, of_stabilize};
-use graph::{Cutoff, Graph};
+use graph::{Cutoff, Graph, GraphFault};
 use inc_value::{FnRef, NodeId, ObsId, Outcome, Ty, Value};
 use node_arena::Functions;
 use std::alloc::Global;
@@ -17,15 +18,21 @@ pub struct Live<F: Functions> {
     negation: FnRef,
 }
 
-/// Puts a node behind those that were made.
-fn append(nodes: &mut Vec<NodeId>, node: NodeId) -> Result<(), Fault>
-    ensures appended { OnOk result (nodes.new.items ≡ nodes.old.items ++ node ∷ []) }
+/// Puts the node that a graph made behind the others, or tells the graph's fault.
+fn append(nodes: &mut Vec<NodeId>, made: Result<NodeId, GraphFault>) -> Result<(), Fault>
+    ensures appended { OnOk result (IfOk made (λ node. nodes.new.items ≡ nodes.old.items ++ node ∷ [])) }
+    ensures made { OnOk result (IsOk made) }
     ensures longer { OnOk result (length nodes.new.items ≡ length nodes.old.items + 1) }
     ensures kept { OnErr result (nodes.new.items ≡ nodes.old.items) }
+    ensures refused { IsErrOf result Fault.Refused → IfErr made (λ fault. of_graph fault ≡ Fault.Refused) }
+    ensures stopped { IsErrOf result Fault.Refused → IsErr made }
 {
-    match nodes.push(node) {
-        Ok(()) => Ok(()),
-        Err(_) => Err(Fault::Memory),
+    match made {
+        Ok(node) => match nodes.push(node) {
+            Ok(()) => Ok(()),
+            Err(_) => Err(Fault::Memory),
+        },
+        Err(fault) => Err(of_graph(fault)),
     }
 }
 
@@ -99,10 +106,8 @@ impl<F: Functions> Live<F> {
         ensures grows { OnOk result (length self.new.nodes.items ≡ length self.old.nodes.items + 1) }
         ensures uncalled { self.new.graph.functions ≡ self.old.graph.functions }
     {
-        match self.graph.var(value) {
-            Ok(node) => append(&mut self.nodes, node),
-            Err(fault) => Err(of_graph(fault)),
-        }
+        let made = self.graph.var(value);
+        append(&mut self.nodes, made)
     }
 
     /// Whether the function is known.
@@ -113,17 +118,15 @@ impl<F: Functions> Live<F> {
     }
 
     /// Makes a node that applies a function to nodes. It is refused where the function isn't known.
-    fn map(&mut self, function: FnRef, kids: &[NodeId]) -> Result<(), Fault>
+    pub fn map(&mut self, function: FnRef, kids: &[NodeId]) -> Result<(), Fault>
         ensures grows { OnOk result (length self.new.nodes.items ≡ length self.old.nodes.items + 1) }
         ensures uncalled { self.new.graph.functions ≡ self.old.graph.functions }
     {
         if !self.knows(&function) {
             return Err(Fault::Refused);
         }
-        match self.graph.map(function, kids) {
-            Ok(node) => append(&mut self.nodes, node),
-            Err(fault) => Err(of_graph(fault)),
-        }
+        let made = self.graph.map(function, kids);
+        append(&mut self.nodes, made)
     }
 
     /// Makes the negation of a node.
@@ -136,33 +139,6 @@ impl<F: Functions> Live<F> {
         self.map(negation, &kids)
     }
 
-    /// Makes the sum of two nodes.
-    pub fn sum(&mut self, left: usize, right: usize) -> Result<(), Fault>
-        ensures grows { OnOk result (length self.new.nodes.items ≡ length self.old.nodes.items + 1) }
-        ensures uncalled { self.new.graph.functions ≡ self.old.graph.functions }
-    {
-        let kids = [self.node(left), self.node(right)];
-        self.map(Function::Add.reference(), &kids)
-    }
-
-    /// Makes the comparison of two nodes.
-    pub fn less(&mut self, left: usize, right: usize) -> Result<(), Fault>
-        ensures grows { OnOk result (length self.new.nodes.items ≡ length self.old.nodes.items + 1) }
-        ensures uncalled { self.new.graph.functions ≡ self.old.graph.functions }
-    {
-        let kids = [self.node(left), self.node(right)];
-        self.map(Function::Lt.reference(), &kids)
-    }
-
-    /// Makes the choice between two nodes.
-    pub fn pick(&mut self, test: usize, first: usize, second: usize) -> Result<(), Fault>
-        ensures grows { OnOk result (length self.new.nodes.items ≡ length self.old.nodes.items + 1) }
-        ensures uncalled { self.new.graph.functions ≡ self.old.graph.functions }
-    {
-        let kids = [self.node(test), self.node(first), self.node(second)];
-        self.map(Function::Pick.reference(), &kids)
-    }
-
     /// Makes the sum of all nodes that were made so far, as one fold. It is refused where the functions know no sum.
     pub fn sum_all(&mut self) -> Result<(), Fault>
         ensures grows { OnOk result (length self.new.nodes.items ≡ length self.old.nodes.items + 1) }
@@ -172,10 +148,8 @@ impl<F: Functions> Live<F> {
         if !self.knows(&add) {
             return Err(Fault::Refused);
         }
-        match self.graph.fold(add, Value::Int(0), &self.nodes) {
-            Ok(node) => append(&mut self.nodes, node),
-            Err(fault) => Err(of_graph(fault)),
-        }
+        let made = self.graph.fold(add, Value::Int(0), &self.nodes);
+        append(&mut self.nodes, made)
     }
 
     /// Makes a node that reads the first of two nodes of numbers where the test holds, else the second.
@@ -186,10 +160,8 @@ impl<F: Functions> Live<F> {
         let test = self.node(test);
         let yes = self.node(yes);
         let no = self.node(no);
-        match self.graph.if_(Ty::Int, test, yes, no) {
-            Ok(node) => append(&mut self.nodes, node),
-            Err(fault) => Err(of_graph(fault)),
-        }
+        let made = self.graph.if_(Ty::Int, test, yes, no);
+        append(&mut self.nodes, made)
     }
 
     /// Makes a node that reads the node of numbers to which another refers.
@@ -198,10 +170,8 @@ impl<F: Functions> Live<F> {
         ensures uncalled { self.new.graph.functions ≡ self.old.graph.functions }
     {
         let reference = self.node(reference);
-        match self.graph.join(Ty::Int, reference) {
-            Ok(node) => append(&mut self.nodes, node),
-            Err(fault) => Err(of_graph(fault)),
-        }
+        let made = self.graph.join(Ty::Int, reference);
+        append(&mut self.nodes, made)
     }
 
     /// Makes a bind on a node over captured ones, whose right sides a function makes that is known and lists no nodes.
@@ -212,10 +182,8 @@ impl<F: Functions> Live<F> {
         ensures uncalled { self.new.graph.functions ≡ self.old.graph.functions }
     {
         let left = self.node(left);
-        match self.graph.bind(left, side, captures) {
-            Ok(node) => append(&mut self.nodes, node),
-            Err(fault) => Err(of_graph(fault)),
-        }
+        let made = self.graph.bind(left, side, captures);
+        append(&mut self.nodes, made)
     }
 
     /// Observes a node.

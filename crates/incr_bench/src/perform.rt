@@ -1,5 +1,5 @@
 //! Runs that are timed.
-ghost use Rattle.std.specs.Prelude.{◌≡◌, [], IsTrue};
+ghost use Rattle.std.specs.Prelude.{◌≡◌, [], IfSome, IsTrue};
 ghost use Rattle.incr_bench.specs.Jobs.{IsWithin};
 ghost use Rattle.incr_bench.specs.Status.{SinksTell};
 ghost use Rattle.incr_bench.specs.declared.report.Ending.TheVariants.{Unwritten};
@@ -23,72 +23,44 @@ use std::alloc::Global;
 use std::time::Clock;
 use std_library::{Function, StdLib};
 
-/// Builds a graph of a shape without binds, and runs rounds over it.
-fn measure_filled<F: Counted, C: Clock>(
+/// Builds a graph of a shape, whose binds' right sides a function makes if it has some, and runs rounds over it.
+fn measure_built<F: Counted, C: Clock>(
     live: &mut Live<F>,
+    side: Option<FnRef>,
     clock: &C,
     job: Job,
 ) -> Result<Rounds, Fault>
     requires within { IsWithin job }
+    requires known { IfSome side (λ f. IsTrue (F.known live.old.graph.functions f)) }
+    requires lists_none { IfSome side (λ f. (F.right live.old.graph.functions f).ids ≡ []) }
 {
     let start = begin(clock);
-    fill(live, job.shape, job.size)?;
-    live.stabilize()?;
-    let building = since(clock, start);
-    measure(live, clock, job, building)
-}
-
-/// Measures a shape without binds over functions.
-fn measure_over<F: Counted, C: Clock>(
-    alloc: Global,
-    functions: F,
-    negation: FnRef,
-    clock: &C,
-    job: Job,
-) -> Result<Rounds, Fault>
-    requires within { IsWithin job }
-    requires sound { F.is_sound functions }
-{
-    let mut live = Live::new(alloc, functions, negation);
-    let rounds = measure_filled(&mut live, clock, job);
-    live.end();
-    rounds
-}
-
-/// Builds a graph of a shape of binds, and runs rounds over it.
-fn measure_bound<F: Counted, C: Clock>(
-    live: &mut Live<F>,
-    side: FnRef,
-    clock: &C,
-    job: Job,
-) -> Result<Rounds, Fault>
-    requires known { IsTrue (F.known live.old.graph.functions side) }
-    requires lists_none { (F.right live.old.graph.functions side).ids ≡ [] }
-{
-    let start = begin(clock);
-    match job.shape {
-        Shape::Nested => nested(live, side)?,
-        _ => bind(live, side)?,
+    match (side, job.shape) {
+        (Some(side), Shape::Nested) => nested(live, side)?,
+        (Some(side), _) => bind(live, side)?,
+        (None, shape) => fill(live, shape, job.size)?,
     }
     live.stabilize()?;
     let building = since(clock, start);
     measure(live, clock, job, building)
 }
 
-/// Measures a shape of binds over functions, of which one makes the right sides.
-fn measure_sides<F: Counted, C: Clock>(
+/// Measures a shape over functions, of which one makes the right sides if it has binds.
+fn measure_over<F: Counted, C: Clock>(
     alloc: Global,
     functions: F,
-    side: FnRef,
+    negation: FnRef,
+    side: Option<FnRef>,
     clock: &C,
     job: Job,
 ) -> Result<Rounds, Fault>
+    requires within { IsWithin job }
     requires sound { F.is_sound functions }
-    requires known { IsTrue (F.known functions side) }
-    requires lists_none { (F.right functions side).ids ≡ [] }
+    requires known { IfSome side (λ f. IsTrue (F.known functions f)) }
+    requires lists_none { IfSome side (λ f. (F.right functions f).ids ≡ []) }
 {
-    let mut live = Live::new(alloc, functions, Function::Neg.reference());
-    let rounds = measure_bound(&mut live, side, clock, job);
+    let mut live = Live::new(alloc, functions, negation);
+    let rounds = measure_built(&mut live, side, clock, job);
     live.end();
     rounds
 }
@@ -98,7 +70,14 @@ fn over_library<C: Clock>(alloc: Global, clock: &C, job: Job) -> Result<Rounds, 
     requires within { IsWithin job }
 {
     let functions = ScriptFns::new(alloc, StdLib::new());
-    measure_over(alloc, functions, Function::Neg.reference(), clock, job)
+    measure_over(
+        alloc,
+        functions,
+        Function::Neg.reference(),
+        None,
+        clock,
+        job,
+    )
 }
 
 /// Measures a shape of binds over the standard library.
@@ -108,7 +87,10 @@ fn over_sides<C: Clock>(alloc: Global, clock: &C, job: Job) -> Result<Rounds, Fa
     let mut functions = ScriptFns::new(alloc, StdLib::new());
     let nested = matches!(job.shape, Shape::Nested);
     match keep_sides(alloc, &mut functions, job.size, nested) {
-        Ok(side) => measure_sides(alloc, functions, side, clock, job),
+        Ok(side) => {
+            let negation = Function::Neg.reference();
+            measure_over(alloc, functions, negation, Some(side), clock, job)
+        }
         Err(fault) => {
             drop(functions);
             Err(fault)
@@ -130,7 +112,7 @@ fn over_box<C: Clock>(alloc: Global, clock: &C, job: Job) -> Result<Rounds, Faul
     }
     let mut functions = Closures::new(alloc);
     match functions.add_map(boxed) {
-        Ok(negation) => measure_over(alloc, functions, negation, clock, job),
+        Ok(negation) => measure_over(alloc, functions, negation, None, clock, job),
         Err((_, boxed)) => {
             drop(boxed);
             drop(functions);

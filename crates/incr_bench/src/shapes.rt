@@ -6,9 +6,10 @@ use crate::job::Shape;
 use crate::live::Live;
 use inc_value::{Base, FnRef, Value};
 use node_arena::Functions;
+use std_library::Function;
 
-/// How many negations the chain has that changes beside nodes at rest.
-const IDLE_CHAIN: usize = 10;
+/// How many negations a chain has that changes beside nodes at rest.
+const REST_CHAIN: usize = 10;
 
 /// One variable under a chain of negations, of which the last is observed.
 fn chain<F: Functions>(live: &mut Live<F>, size: usize) -> Result<(), Fault>
@@ -63,7 +64,8 @@ fn tree<F: Functions>(live: &mut Live<F>, size: usize) -> Result<(), Fault>
 {
     variables(live, size)?;
     for k in 1..size {
-        live.sum(2 * (k - 1), 2 * k - 1)?;
+        let kids = [live.node(2 * (k - 1)), live.node(2 * k - 1)];
+        live.map(Function::Add.reference(), &kids)?;
     }
     live.observe(2 * size - 2)
 }
@@ -85,19 +87,13 @@ fn cut<F: Functions>(live: &mut Live<F>, size: usize) -> Result<(), Fault>
     live.var(Value::Int(0))?;
     live.var(Value::Int(10))?;
     live.var(Value::Int(20))?;
-    live.less(1, 0)?;
+    let compared = [live.node(1), live.node(0)];
+    live.map(Function::Lt.reference(), &compared)?;
+    let kids = [live.node(4), live.node(2), live.node(3)];
     for _ in 0..size {
-        live.pick(4, 2, 3)?;
+        live.map(Function::Pick.reference(), &kids)?;
     }
     observe_all(live, 5, size)
-}
-
-/// The same, but the comparison tells its readers of each outcome.
-fn never<F: Functions>(live: &mut Live<F>, size: usize) -> Result<(), Fault>
-    ensures uncalled { live.new.graph.functions ≡ live.old.graph.functions }
-{
-    cut(live, size)?;
-    live.tell_all(4)
 }
 
 /// Nodes at rest: variables with their negations, every second one observed.
@@ -113,14 +109,6 @@ fn rest<F: Functions>(live: &mut Live<F>, size: usize) -> Result<(), Fault>
         }
     }
     Ok(())
-}
-
-/// A chain that changes, beside nodes at rest.
-fn idle<F: Functions>(live: &mut Live<F>, size: usize) -> Result<(), Fault>
-    ensures uncalled { live.new.graph.functions ≡ live.old.graph.functions }
-{
-    chain(live, IDLE_CHAIN)?;
-    rest(live, size)
 }
 
 /// A chain of negations of a node.
@@ -145,14 +133,6 @@ fn flip<F: Functions>(live: &mut Live<F>, size: usize) -> Result<(), Fault>
     chain_over(live, 1, size)?;
     live.choose(0, size + 1, 2 * size + 1)?;
     live.observe(2 * size + 2)
-}
-
-/// The same, beside nodes at rest.
-fn aside<F: Functions>(live: &mut Live<F>, size: usize) -> Result<(), Fault>
-    ensures uncalled { live.new.graph.functions ≡ live.old.graph.functions }
-{
-    flip(live, IDLE_CHAIN)?;
-    rest(live, size)
 }
 
 /// Variables, one that refers to the first of them, and a join over it, which is observed.
@@ -202,10 +182,19 @@ pub fn fill<F: Functions>(live: &mut Live<F>, shape: Shape, size: usize) -> Resu
         Shape::Tree => tree(live, size),
         Shape::Fold => folded(live, size),
         Shape::Cut => cut(live, size),
-        Shape::Never => never(live, size),
-        Shape::Idle => idle(live, size),
+        Shape::Never => {
+            cut(live, size)?;
+            live.tell_all(4)
+        }
+        Shape::Idle => {
+            chain(live, REST_CHAIN)?;
+            rest(live, size)
+        }
         Shape::Flip | Shape::Flipx => flip(live, size),
-        Shape::Aside => aside(live, size),
+        Shape::Aside => {
+            flip(live, REST_CHAIN)?;
+            rest(live, size)
+        }
         Shape::Switch => switch(live, size),
         Shape::Fan | Shape::Boxed => fan(live, size),
         Shape::Bind | Shape::Nested => Err(Fault::Refused),
