@@ -61,6 +61,7 @@ impl Value {
     }
 
     /// An equal value. Only a text needs memory.
+    #[inline]
     pub fn copy(&self, alloc: Global) -> Result<Value, AllocError>
         ensures ok { IfOk result (λ v. v ≡ self.now) }
         ensures scalar { type_of self.now ≢ Ty.Text → IsOk result }
