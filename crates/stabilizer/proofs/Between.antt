@@ -1,5 +1,5 @@
 -- Between rounds the parts alone tell whether a round may begin, and what calls made there may change of them.
-use Rattle.std.proofs.Common.{◌≡◌, ◌⊎◌, inl, inr, ℕ, zero, suc, ◌<◌, ◌==◌, Bool, true, false, [], ◌++◌, Option, None, Some, refl, sym, ap, subst}
+use Rattle.std.proofs.Common.{◌≡◌, ◌⊎◌, inl, inr, ℕ, zero, suc, ◌<◌, ◌==◌, Bool, true, false, [], ◌++◌, Option, None, Some, refl, sym, ap, subst, List}
 use Rattle.std.proofs.Common.{◌∙◌, arith}
 use Rattle.std.specs.Prelude.{is_some, IsSome, reverse, ◌↔◌}
 use Rattle.std.proofs.lemmas.Bool.Decides.{nat_tests}

@@ -43,7 +43,7 @@ use Rattle.wiring.specs.declared.work.Work.{Work}
 use Rattle.stabilizer.specs.Building.{HasGrown, StopsBuilding}
 use Rattle.stabilizer.specs.Dying.{IsBindNode, IsBindOf, IsCutOff, HasDied, StandsBefore}
 use Rattle.stabilizer.specs.Giving.{GivesLive, GivesFew, LeavesRoom, HasBuilt, StopsFull}
-use Rattle.stabilizer.specs.Kept.{PartsKept, KeepsMeaning, counts_by}
+use Rattle.stabilizer.specs.Kept.{PartsKept, counts_by}
 use Rattle.stabilizer.specs.Rebuilding.{IsToBuild, BuildsAnew, BuildRefused, as_it_was, unbuilt, IsSettledOn, IsToSettle, RebuildStays}
 use Rattle.stabilizer.specs.Rooted.{WasBuilt, GetsRoot, GetsNoRoot, no_room, stopped, with_roots}
 use Rattle.stabilizer.specs.Weights.{IsInScope, SidesFit}
