@@ -19,4 +19,5 @@ mod SameMakers
 mod Makers
 mod Grabbing
 mod Making
+mod Refused
 mod Room
